@@ -1,0 +1,10 @@
+pub mod CheckDigits
+pub mod Compared
+pub mod Cuts
+pub mod Digits
+pub mod Found
+pub mod Plain
+pub mod Refused
+pub mod Spelled
+pub mod Told
+pub mod Words

@@ -1,0 +1,5 @@
+use Rattle.std.proofs.Common.{◌≡◌, ◌++◌, take, string_bytes}
+use Rattle.epc_core.proofs.texts.push_digits.Given as goal
+
+abbrev pub invariant-loop-digit : goal.invariant-loop-digit
+invariant-loop-digit l = string_bytes l.text ≡ string_bytes l.initial.text ++ take l.digit-index l.digits

@@ -1,0 +1,234 @@
+//! The item of an EPC text.
+ghost use Rattle.std.specs.Prelude.{◌≡◌, ◌↔◌, ℕ, List, IfOk, IsSome, IfSome, string_bytes, Some, refl, nat_eq};
+ghost use Rattle.std.specs.Cmp as Cmp;
+ghost use Rattle.std.specs.Cmp.Lexicographic.{slice_cmp, pointwise, nat_list_cmp_total, nat_list_eq_equiv, texts_ties, texts_po};
+ghost use Rattle.std.specs.Cmp.Rules.{hashing};
+ghost use Rattle.std.proofs.Common.{rules};
+ghost use Rattle.std.specs.Ordering.{nat_cmp};
+ghost use Rattle.epc_core.specs.Keys.{hash_pieces};
+
+use crate::keys::form_of_key;
+use crate::plain_texts::fault_of;
+use crate::spellings::form_of;
+use crate::texts::push_digits;
+use std::alloc::{AllocError, Global};
+use std::cmp::Ordering;
+use std::hash::{Hash, Hasher};
+use std::marker::Model;
+use thiserror::Error;
+
+/// Why a text is no EPC text.
+#[derive(Debug, Drop, PartialEq, Eq, Error)]
+pub enum EpcFault {
+    /// Memory ran out.
+    #[error("memory ran out")]
+    NoMemory,
+    /// The text is empty.
+    #[error("an EPC text has at least 1 byte")]
+    Empty,
+    /// The text has more than 512 bytes.
+    #[error("an EPC text has at most 512 bytes")]
+    TooLong,
+    /// The byte at this place, from 0, is a space, a control byte or DEL.
+    #[error("byte {0} is a space or a control character")]
+    BadByte(usize),
+}
+
+/// The parts of an item's key.
+#[derive(Debug, Drop)]
+pub enum EpcForm {
+    /// A trade item: the 14 digits of its GTIN in ASCII, and its serial number, 1 to 20 characters.
+    Item { gtin: [u8; 14], serial: String },
+    /// A logistic unit: the 18 digits of its SSCC in ASCII.
+    Sscc([u8; 18]),
+    /// Any other item: its text, as it was read.
+    Other(String),
+}
+
+/// The item that an EPC text names.
+///
+/// Contracts see it as its key's bytes: `sgtin`, the GTIN-14 and the serial number, or `sscc` and the
+/// SSCC-18, or `uri` and the text, with one space between the words. Equality, order and hash are the
+/// key's; none of them builds it.
+#[derive(Debug, Drop)]
+pub struct Epc {
+    form: EpcForm,
+}
+
+impl Model for Epc {
+    ghost use Rattle.std.specs.Prelude.{List, ℕ};
+
+    ghost Value = { List ℕ };
+
+    ghost use Rattle.epc_core.specs.Forms.{key_of_form, IsForm};
+
+    ghost view = { λ e. key_of_form e.form };
+
+    ghost invariant = { λ e. IsForm e.form };
+}
+
+impl Epc {
+    ghost use Rattle.epc_core.specs.Reading.{reading, Gives};
+    ghost use Rattle.epc_core.specs.Spellings.{Spells, IsKey};
+    ghost use Rattle.epc_core.specs.Forms.{key_of_form, IsForm};
+
+    /// Reads an EPC text: an SGTIN or SSCC as an EPC URI (EPC Tag Data Standard, sections 6.3.1 and
+    /// 6.3.2) or as a Digital Link on `id.gs1.org`, or any other plain text as an opaque item.
+    ///
+    /// The faults are those of a text that isn't plain, the first that applies, or want of memory.
+    pub fn read(alloc: Global, text: &str) -> Result<Epc, EpcFault>
+        ensures gives { Gives result (reading text.now) }
+        ensures spells { IfOk result (λ e. Spells text.now e) }
+    {
+        if let Some(fault) = fault_of(text.as_bytes()) {
+            return Err(fault);
+        }
+        match form_of(alloc, text) {
+            Ok(form) => Ok(Epc { form }),
+            Err(_) => Err(EpcFault::NoMemory),
+        }
+    }
+
+    /// The key as a text. It fails only where memory runs out.
+    pub fn key(&self, alloc: Global) -> Result<String, AllocError>
+        ensures { IfOk result (λ k. string_bytes k ≡ self.now) }
+    {
+        let mut key = String::new(alloc);
+        match &self.form {
+            EpcForm::Item { gtin, serial } => {
+                key.push_str("sgtin ")?;
+                push_digits(&mut key, gtin)?;
+                key.push_str(" ")?;
+                key.push_str(serial.as_str())?;
+            }
+            EpcForm::Sscc(digits) => {
+                key.push_str("sscc ")?;
+                push_digits(&mut key, digits)?;
+            }
+            EpcForm::Other(text) => {
+                key.push_str("uri ")?;
+                key.push_str(text.as_str())?;
+            }
+        }
+        Ok(key)
+    }
+
+    /// The item with this key, or `None` where no text spells an item of this key. It fails only where
+    /// memory runs out.
+    pub fn from_key(alloc: Global, key: &str) -> Result<Option<Epc>, AllocError>
+        ensures found { IfOk result (λ item. IsSome item ↔ IsKey key.now) }
+        ensures same { IfOk result (λ item. IfSome item (λ e. e ≡ key.now)) }
+    {
+        match form_of_key(alloc, key)? {
+            Some(form) => Ok(Some(Epc { form })),
+            None => Ok(None),
+        }
+    }
+
+    /// The form of the item, which its key tells.
+    pub fn form(&self) -> &EpcForm
+        ensures key { key_of_form result.now ≡ self.now }
+        ensures form { IsForm result.now }
+        ensures is_key { IsKey self.now }
+    {
+        &self.form
+    }
+
+    /// An equal item. It fails only where memory runs out.
+    pub fn copy(&self, alloc: Global) -> Result<Epc, AllocError>
+        ensures { IfOk result (λ e. e ≡ self.now) }
+    {
+        let form = match &self.form {
+            EpcForm::Item { gtin, serial } => EpcForm::Item {
+                gtin: *gtin,
+                serial: String::from_str(alloc, serial.as_str())?,
+            },
+            EpcForm::Sscc(digits) => EpcForm::Sscc(*digits),
+            EpcForm::Other(text) => EpcForm::Other(String::from_str(alloc, text.as_str())?),
+        };
+        Ok(Epc { form })
+    }
+}
+
+impl PartialEq for Epc {
+    ghost eq = { pointwise nat_eq };
+
+    ghost laws = { Cmp.partial_equiv_from_equiv nat_list_eq_equiv };
+
+    fn eq(&self, other: &Epc) -> bool {
+        match (&self.form, &other.form) {
+            (
+                EpcForm::Item { gtin, serial },
+                EpcForm::Item {
+                    gtin: other_gtin,
+                    serial: other_serial,
+                },
+            ) => gtin == other_gtin && serial.as_str() == other_serial.as_str(),
+            (EpcForm::Sscc(digits), EpcForm::Sscc(others)) => digits == others,
+            (EpcForm::Other(text), EpcForm::Other(other)) => text.as_str() == other.as_str(),
+            _ => false,
+        }
+    }
+}
+
+impl Eq for Epc {
+    ghost laws = { nat_list_eq_equiv };
+}
+
+impl PartialOrd for Epc {
+    ghost partial_cmp = { λ x y. Some (slice_cmp nat_cmp x y) };
+
+    ghost laws = { texts_po };
+
+    fn partial_cmp(&self, other: &Epc) -> Option<Ordering> {
+        Some(self.cmp(other))
+    }
+}
+
+impl Ord for Epc {
+    ghost cmp = { slice_cmp nat_cmp };
+
+    ghost total = { nat_list_cmp_total };
+
+    ghost matches_partial_cmp = { λ x y. refl };
+
+    ghost matches_eq = { texts_ties };
+
+    fn cmp(&self, other: &Epc) -> Ordering {
+        match (&self.form, &other.form) {
+            (
+                EpcForm::Item { gtin, serial },
+                EpcForm::Item {
+                    gtin: other_gtin,
+                    serial: other_serial,
+                },
+            ) => match gtin.cmp(other_gtin) {
+                Ordering::Equal => serial.as_str().cmp(other_serial.as_str()),
+                decided => decided,
+            },
+            (EpcForm::Sscc(digits), EpcForm::Sscc(others)) => digits.cmp(others),
+            (EpcForm::Other(text), EpcForm::Other(other)) => text.as_str().cmp(other.as_str()),
+            (EpcForm::Item { .. }, _) => Ordering::Less,
+            (_, EpcForm::Item { .. }) => Ordering::Greater,
+            (EpcForm::Sscc(_), _) => Ordering::Less,
+            (_, EpcForm::Sscc(_)) => Ordering::Greater,
+        }
+    }
+}
+
+impl Hash for Epc {
+    ghost hash_input = { hash_pieces };
+
+    ghost respects_eq = { Prim.search (hashing, rules) };
+
+    fn hash<H: Hasher>(&self, state: &mut H) {
+        match &self.form {
+            EpcForm::Item { gtin, serial } => {
+                state.write(gtin);
+                serial.as_str().hash(state);
+            }
+            EpcForm::Sscc(digits) => state.write(digits),
+            EpcForm::Other(text) => text.as_str().hash(state),
+        }
+    }
+}

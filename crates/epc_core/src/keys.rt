@@ -1,0 +1,66 @@
+//! Items from their keys.
+ghost use Rattle.std.specs.Prelude.{◌≡◌, ℕ, ◌++◌, List, codes, IfOk};
+ghost use Rattle.epc_core.specs.Forms.{IsFormOfKey};
+
+use crate::items::EpcForm;
+use crate::numbers::is_checked;
+use crate::plain_texts::is_plain;
+use crate::spellings::{form_of, is_serial};
+use std::alloc::{AllocError, Global};
+
+/// The form of the item with this key, if there is one.
+pub(crate) fn form_of_key(alloc: Global, key: &str) -> Result<Option<EpcForm>, AllocError>
+    ensures { IfOk result (λ form. IsFormOfKey key.now form) }
+{
+    if let Some(rest) = key.strip_prefix("sgtin ") {
+        return item_of_key(alloc, rest);
+    }
+    if let Some(digits) = key.strip_prefix("sscc ") {
+        return Ok(sscc_of_key(digits));
+    }
+    match key.strip_prefix("uri ") {
+        Some(text) => other_of_key(alloc, text),
+        None => Ok(None),
+    }
+}
+
+/// The form of a trade item, from its key behind the first word.
+fn item_of_key(alloc: Global, rest: &str) -> Result<Option<EpcForm>, AllocError>
+    ensures { IfOk result (λ form. IsFormOfKey (codes "sgtin " ++ rest.now) form) }
+{
+    let Some((digits, serial)) = rest.split_once(' ') else {
+        return Ok(None);
+    };
+    if !is_checked(digits.as_bytes(), 14) || !is_serial(serial.as_bytes()) {
+        return Ok(None);
+    }
+    let mut gtin = [b'0'; 14];
+    gtin.copy_from_slice(digits.as_bytes());
+    let serial = String::from_str(alloc, serial)?;
+    Ok(Some(EpcForm::Item { gtin, serial }))
+}
+
+/// The form of a logistic unit, from its key behind the first word.
+fn sscc_of_key(digits: &str) -> Option<EpcForm>
+    ensures { IsFormOfKey (codes "sscc " ++ digits.now) result }
+{
+    if !is_checked(digits.as_bytes(), 18) {
+        return None;
+    }
+    let mut sscc = [b'0'; 18];
+    sscc.copy_from_slice(digits.as_bytes());
+    Some(EpcForm::Sscc(sscc))
+}
+
+/// The form of any other item, from its key behind the first word: a text that spells no number.
+fn other_of_key(alloc: Global, text: &str) -> Result<Option<EpcForm>, AllocError>
+    ensures { IfOk result (λ form. IsFormOfKey (codes "uri " ++ text.now) form) }
+{
+    if !is_plain(text) {
+        return Ok(None);
+    }
+    match form_of(alloc, text)? {
+        EpcForm::Other(text) => Ok(Some(EpcForm::Other(text))),
+        _ => Ok(None),
+    }
+}

@@ -1,0 +1,18 @@
+//! GS1 items: an EPC text is read into the one item that it names.
+//!
+//! Two texts name one item exactly where their keys are equal, so contracts see an [`Epc`] as its
+//! key's bytes.
+#![tactic(auto)]
+
+mod items;
+mod keys;
+pub mod laws;
+mod numbers;
+mod plain_texts;
+mod spellings;
+#[cfg(test)]
+mod tests;
+mod texts;
+
+pub use items::{Epc, EpcFault, EpcForm};
+pub use plain_texts::is_plain;
