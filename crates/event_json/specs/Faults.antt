@@ -1,0 +1,64 @@
+-- Why a document is refused. The JSON form of an event: GS1 EPCIS 2.0, section 9.
+use Rattle.std.specs.Prelude.{◌≡◌, ℕ, List, codes, Result, Ok, Err}
+use Rattle.event_json.specs.declared.doc_faults.DocField.{DocField}
+use Rattle.event_json.specs.declared.doc_faults.DocField.TheVariants as fields
+use Rattle.event_json.specs.declared.doc_faults.Flaw.{Flaw}
+use Rattle.event_json.specs.declared.doc_faults.CheckFault.{CheckFault}
+use Rattle.event_json.specs.declared.doc_faults.CheckFault.TheVariants as checks
+use Rattle.event_json.specs.declared.doc_faults.DocFault.{DocFault}
+use Rattle.event_json.specs.declared.doc_faults.ReadFault.{ReadFault}
+use Rattle.event_json.specs.declared.doc_faults.ReadFault.TheVariants as reads
+
+-- a field as its member is spelled
+abbrev pub name_of : DocField → List ℕ
+name_of fields.Document = codes "document"
+name_of fields.EventList = codes "eventList"
+name_of fields.Event = codes "event"
+name_of fields.Type = codes "type"
+name_of fields.ErrorDeclaration = codes "errorDeclaration"
+name_of fields.QuantityList = codes "quantityList"
+name_of fields.InputQuantityList = codes "inputQuantityList"
+name_of fields.OutputQuantityList = codes "outputQuantityList"
+name_of fields.EventId = codes "eventID"
+name_of fields.EventTime = codes "eventTime"
+name_of fields.EventTimeZoneOffset = codes "eventTimeZoneOffset"
+name_of fields.Action = codes "action"
+name_of fields.EpcList = codes "epcList"
+name_of fields.DestinationList = codes "destinationList"
+name_of fields.InputEpcList = codes "inputEPCList"
+name_of fields.OutputEpcList = codes "outputEPCList"
+name_of fields.TransformationId = codes "transformationID"
+
+-- one check after another: the first fault wins
+infixl 10 ◌>>=◌
+abbrev pub ◌>>=◌ : {A B E : Type 0} → Result A E → (A → Result B E) → Result B E
+(Ok x) >>= f = f x
+(Err e) >>= f = Err e
+
+-- what a check that takes no memory returned, seen by view, is what its definition finds
+abbrev pub Shows : {X Y E : Type 0} → (X → Y) → Result X E → Result Y E → Type 0
+Shows view (Ok x) found = found ≡ Ok (view x)
+Shows view (Err e) found = found ≡ Err e
+
+-- what a check returned is what its definition finds, unless memory ran out
+abbrev pub Fails : {Y : Type 0} → CheckFault → Result Y Flaw → Type 0
+Fails checks.NoMemory found = Unit {0}
+Fails (checks.Flaw flaw) found = found ≡ Err flaw
+
+abbrev pub Finds : {X : Type 0} → Result X CheckFault → Result X Flaw → Type 0
+Finds (Ok x) found = found ≡ Ok x
+Finds (Err e) found = Fails e found
+
+-- what a call returned is what the definition gives, unless memory ran out
+abbrev pub Refuses : {Y : Type 0} → ReadFault → Result Y DocFault → Type 0
+Refuses reads.NoMemory given = Unit {0}
+Refuses (reads.Doc fault) given = given ≡ Err fault
+
+abbrev pub Gives : {X : Type 0} → Result X ReadFault → Result X DocFault → Type 0
+Gives (Ok x) given = given ≡ Ok x
+Gives (Err e) given = Refuses e given
+
+-- what is found of the event of this number
+abbrev pub at_event : {A : Type 0} → ℕ → Result A Flaw → Result A DocFault
+at_event n (Ok x) = Ok x
+at_event n (Err flaw) = Err (record { event = n; field = flaw.field; kind = flaw.kind })

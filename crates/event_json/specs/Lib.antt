@@ -1,0 +1,9 @@
+pub mod Checks
+pub mod Documents
+pub mod EventReading
+pub mod Events
+pub mod Faults
+pub mod ItemLists
+pub mod Members
+pub mod Sites
+pub mod Texts

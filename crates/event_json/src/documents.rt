@@ -1,0 +1,156 @@
+//! Reading a document.
+
+ghost use Rattle.std.specs.Prelude.{◌≡◌, ◌≤◌, IsUtf8, OnOk, length, option_map};
+ghost use Rattle.serde_json.specs.View.{view, items_view};
+ghost use Rattle.event_json.specs.Documents.{whole, listed, event_list, few_events, numbered_event, events_of, document_of, text_document};
+ghost use Rattle.event_json.specs.Faults.{Shows, Gives};
+ghost use Rattle.event_json.specs.declared.doc_faults.DocField.TheVariants as fields;
+ghost use Rattle.event_json.specs.declared.doc_faults.DocFaultKind.TheVariants as kinds;
+
+use crate::checks::type_text;
+use crate::doc_faults::{CheckFault, DocFault, DocFaultKind, DocField, ReadFault};
+use crate::event_reading::event;
+use crate::event_types::EventType;
+use crate::events::Event;
+use crate::members::{member, member_named};
+use crate::sequences::Sequence;
+use crate::site_lists::Sites;
+use serde_json::Value;
+use std::alloc::Global;
+
+/// The most events that a document may have, skipped ones too.
+const LIMIT: usize = 1000;
+
+/// What a document says.
+#[derive(Debug, Drop)]
+pub struct Doc {
+    /// The events that weren't skipped, in order.
+    pub events: Sequence<Event>,
+    /// How many events were skipped, being of a type that isn't traced.
+    pub skipped: u64,
+}
+
+/// A fault of the document itself.
+fn whole(field: DocField, kind: DocFaultKind) -> DocFault
+    ensures { result ≡ whole field kind }
+{
+    DocFault {
+        event: 0,
+        field,
+        kind,
+    }
+}
+
+/// The event list of an EPCISDocument.
+#[tactic(auto, unfolding(crate::specs::Documents::listed))]
+fn listed(value: &Value) -> Option<&[Value]>
+    ensures { option_map (λ l. items_view l.now) result ≡ listed (view value.now) }
+{
+    let body = member_named(value, "epcisBody")?;
+    let list = member(body, DocField::EventList)?.as_array()?;
+    Some(list.as_slice())
+}
+
+/// The events of a document, one where it is a bare event.
+#[tactic(auto, unfolding(crate::specs::Documents::event_list))]
+fn event_list(value: &Value) -> Result<&[Value], DocFault>
+    ensures { Shows (λ l. items_view l.now) result (event_list (view value.now)) }
+{
+    let Some(text) = type_text(value) else {
+        return Err(whole(DocField::Document, DocFaultKind::NotDocument));
+    };
+    if text == "EPCISDocument" {
+        return match listed(value) {
+            Some(list) => Ok(list),
+            None => Err(whole(DocField::EventList, DocFaultKind::NotDocument)),
+        };
+    }
+    match EventType::named(text) {
+        Some(_) => Ok(std::slice::from_ref(value)),
+        None => Err(whole(DocField::Document, DocFaultKind::NotDocument)),
+    }
+}
+
+/// The event of this number, `None` where it is skipped.
+fn numbered_event(
+    alloc: Global,
+    sites: &Sites,
+    number: u64,
+    value: &Value,
+) -> Result<Option<Event>, ReadFault>
+    ensures { Gives result (numbered_event sites.now number (view value.now)) }
+{
+    match event(alloc, sites, value) {
+        Ok(found) => Ok(found),
+        Err(CheckFault::NoMemory) => Err(ReadFault::NoMemory),
+        Err(CheckFault::Flaw(flaw)) => Err(ReadFault::Doc(DocFault {
+            event: number,
+            field: flaw.field,
+            kind: flaw.kind,
+        })),
+    }
+}
+
+/// The events of a list, the first of them being number 1.
+fn each_event(alloc: Global, sites: &Sites, list: &[Value]) -> Result<Doc, ReadFault>
+    requires { length list.now ≤ 1000 }
+    ensures { Gives result (events_of sites.now (items_view list.now)) }
+{
+    let mut events = Vec::new(alloc);
+    let mut skipped = 0;
+    for (place, value) in list.iter().enumerate() {
+        match numbered_event(alloc, sites, place as u64 + 1, value)? {
+            Some(event) => events.push(event)?,
+            None => skipped += 1,
+        }
+    }
+    Ok(Doc {
+        events: Sequence::from_vec(events),
+        skipped,
+    })
+}
+
+/// Refuses a list of more than 1,000 events.
+#[tactic(auto, using(crate::proofs::Lists::items_count), unfolding(crate::specs::Documents::few_events))]
+fn check_count(list: &[Value]) -> Result<(), DocFault>
+    ensures checked { result ≡ few_events (items_view list.now) }
+    ensures few { OnOk result (length list.now ≤ 1000) }
+{
+    if list.len() > LIMIT {
+        Err(whole(DocField::EventList, DocFaultKind::TooManyEvents))
+    } else {
+        Ok(())
+    }
+}
+
+/// The events of a document's value.
+#[tactic(auto, unfolding(crate::specs::Documents::document_of))]
+fn document(alloc: Global, value: &Value, sites: &Sites) -> Result<Doc, ReadFault>
+    ensures { Gives result (document_of sites.now (view value.now)) }
+{
+    let list = event_list(value)?;
+    check_count(list)?;
+    each_event(alloc, sites, list)
+}
+
+/// The events of a document in the JSON form of GS1 EPCIS 2.0 (section 9), an EPCISDocument or one
+/// bare event, with destinations looked up among the sites; or its first fault.
+///
+/// # Errors
+/// `Doc` with the document's first fault, or `NoMemory`.
+#[tactic(auto, unfolding(crate::specs::Documents::text_document))]
+pub fn read_document(alloc: Global, bytes: &[u8], sites: &Sites) -> Result<Doc, ReadFault>
+    ensures text { IsUtf8 bytes.now → Gives result (text_document sites.now bytes.now) }
+    ensures bytes { (IsUtf8 bytes.now → ⊥) → Gives result (Err (whole fields.Document kinds.Syntax)) }
+{
+    match Value::from_slice(alloc, bytes) {
+        Ok(value) => document(alloc, &value, sites),
+        Err(error) => {
+            if error.is_memory() {
+                Err(ReadFault::NoMemory)
+            } else {
+                Err(ReadFault::Doc(whole(DocField::Document, DocFaultKind::Syntax)))
+            }
+        }
+    }
+}

@@ -1,0 +1,28 @@
+//! Sites of a supply chain, and the events of an EPCIS document captured at one of them.
+#![tactic(auto)]
+
+mod bodies;
+mod checks;
+mod copies;
+mod doc_faults;
+mod documents;
+mod event_reading;
+mod event_types;
+mod events;
+mod item_lists;
+mod members;
+mod sequences;
+mod site_lists;
+mod site_numbers;
+#[cfg(test)]
+mod tests;
+mod texts;
+
+pub use bodies::Body;
+pub use doc_faults::{DocFault, DocFaultKind, DocField, ReadFault};
+pub use documents::{Doc, read_document};
+pub use events::Event;
+pub use sequences::Sequence;
+pub use site_lists::{Sites, SitesFault};
+pub use site_numbers::SiteNo;
+pub use texts::PlainText;

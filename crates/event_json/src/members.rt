@@ -1,0 +1,98 @@
+//! The members of a JSON object.
+
+ghost use Rattle.std.specs.Prelude.{◌≡◌, option_map, IfOk, IsTrue};
+ghost use Rattle.serde_json.specs.View.{view, items_view};
+ghost use Rattle.event_json.specs.Events.{IsIdentifier};
+ghost use Rattle.event_json.specs.Faults.{Shows, Finds};
+ghost use Rattle.event_json.specs.Members.{member_named, member_of, text_of, plain_of, identifier_of, list_of};
+ghost use Rattle.event_json.specs.Texts.{is_plain};
+
+use crate::doc_faults::{CheckFault, DocFaultKind, DocField, Flaw};
+use crate::texts::PlainText;
+use serde_json::Value;
+use std::alloc::Global;
+
+/// The member of this name; one that is null counts as absent.
+pub fn member_named<'v>(value: &'v Value, name: &str) -> Option<&'v Value>
+    ensures { option_map (λ v. view v.now) result ≡ member_named name.now (view value.now) }
+{
+    match value.get(name) {
+        Some(found) if !found.is_null() => Some(found),
+        _ => None,
+    }
+}
+
+/// The member of this field.
+pub fn member<'v>(value: &'v Value, field: DocField) -> Option<&'v Value>
+    ensures { option_map (λ v. view v.now) result ≡ member_of field (view value.now) }
+{
+    member_named(value, field.name())
+}
+
+/// The text of a member that has to be there.
+pub fn text<'v>(value: &'v Value, field: DocField) -> Result<&'v str, Flaw>
+    ensures { Shows (λ s. s.now) result (text_of field (member_of field (view value.now))) }
+{
+    let Some(found) = member(value, field) else {
+        return Err(Flaw {
+            field,
+            kind: DocFaultKind::Missing,
+        });
+    };
+    match found.as_str() {
+        Some(text) => Ok(text),
+        None => Err(Flaw {
+            field,
+            kind: DocFaultKind::WrongShape,
+        }),
+    }
+}
+
+/// The plain text of a value.
+pub fn plain(alloc: Global, value: &Value, field: DocField) -> Result<PlainText, CheckFault>
+    ensures found { Finds result (plain_of field (view value.now)) }
+    ensures plain { IfOk result (λ t. IsTrue (is_plain t)) }
+{
+    let wrong = Flaw {
+        field,
+        kind: DocFaultKind::WrongShape,
+    };
+    let Some(text) = value.as_str() else {
+        return Err(CheckFault::Flaw(wrong));
+    };
+    match PlainText::read(alloc, text)? {
+        Some(plain) => Ok(plain),
+        None => Err(CheckFault::Flaw(wrong)),
+    }
+}
+
+/// The plain text of a member that may be absent.
+pub fn identifier(
+    alloc: Global,
+    value: &Value,
+    field: DocField,
+) -> Result<Option<PlainText>, CheckFault>
+    ensures found { Finds result (identifier_of field (member_of field (view value.now))) }
+    ensures plain { IfOk result IsIdentifier }
+{
+    match member(value, field) {
+        Some(found) => Ok(Some(plain(alloc, found, field)?)),
+        None => Ok(None),
+    }
+}
+
+/// The members of an array, none where it is absent.
+pub fn list<'v>(value: &'v Value, field: DocField) -> Result<&'v [Value], Flaw>
+    ensures { Shows (λ l. items_view l.now) result (list_of field (member_of field (view value.now))) }
+{
+    let Some(found) = member(value, field) else {
+        return Ok(&[]);
+    };
+    match found.as_array() {
+        Some(list) => Ok(list.as_slice()),
+        None => Err(Flaw {
+            field,
+            kind: DocFaultKind::WrongShape,
+        }),
+    }
+}

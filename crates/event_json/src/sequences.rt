@@ -1,0 +1,62 @@
+ghost use Rattle.std.specs.Prelude.{◌≡◌, ◌==◌, List, [], length};
+
+use std::alloc::Global;
+use std::marker::Model;
+
+/// A list of values, which contracts see as that list and nothing else.
+#[derive(Debug, Drop)]
+pub struct Sequence<T> {
+    values: Vec<T>,
+}
+
+impl<T> Model for Sequence<T> {
+    ghost Value = { List T };
+
+    ghost view = { λ s. s.values.items };
+}
+
+impl<T> Sequence<T> {
+    /// No values. Takes no memory.
+    pub fn new(alloc: Global) -> Sequence<T>
+        ensures { result ≡ [] }
+    {
+        Sequence {
+            values: Vec::new(alloc),
+        }
+    }
+
+    /// The values of a vector, in order. Takes no memory.
+    pub fn from_vec(values: Vec<T>) -> Sequence<T>
+        ensures { result ≡ values.items }
+    {
+        Sequence { values }
+    }
+
+    /// The vector of the values, in order. Takes no memory.
+    pub fn into_vec(self) -> Vec<T>
+        ensures { result.items ≡ self }
+    {
+        self.values
+    }
+
+    /// The values in order.
+    pub fn as_slice(&self) -> &[T]
+        ensures { result.now ≡ self.now }
+    {
+        self.values.as_slice()
+    }
+
+    /// How many values there are.
+    pub fn len(&self) -> usize
+        ensures { result ≡ length self.now }
+    {
+        self.values.len()
+    }
+
+    /// Whether there is no value.
+    pub fn is_empty(&self) -> bool
+        ensures { result ≡ (length self.now == 0) }
+    {
+        self.values.is_empty()
+    }
+}
