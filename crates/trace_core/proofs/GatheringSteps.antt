@@ -1,0 +1,108 @@
+-- The pairs that a site's events relate an item to, event by event, and what one more pair adds.
+use Rattle.std.proofs.Common.{◌≡◌, ◌==◌, ◌<◌, ◌≤◌, ◌+◌, ℕ, Bool, true, false, cond, not, ◌&&◌, ◌||◌, List, [], ◌∷◌, length, take, get_or, ◌↔◌, refl, sym, ap, ◌∙◌, subst, arith}
+use Rattle.std.proofs.lemmas.Map.Views.{btree_set_contains_iff}
+use Rattle.std.proofs.lemmas.Bool.Decides.{nat_tests}
+use Rattle.std.proofs.lemmas.List.{take_all}
+use Rattle.std.proofs.lemmas.List.Folds.{list_any_more}
+use Rattle.std.specs.BTreeSet.{BTreeSet, contains, Updates}
+use Rattle.std.specs.List.{list_any, Contains}
+use Rattle.event_json.specs.Events.{Content}
+use Rattle.trace_core.specs.declared.pairs.Pair.{Pair}
+use Rattle.trace_core.specs.Gathering.{is_in, shipped_by, joined_by, made_by, related_by}
+use Rattle.trace_core.specs.PairOrder.{pair_is_eq, pairs_total, pairs_exact}
+use Rattle.trace_core.specs.Pairs.{pair_cmp, same_item, lists, ships, takes_in, gives_out, make_id, same_id, ships_at, inside_at, is_related, IsRelated}
+use Rattle.trace_core.specs.Sites.{SiteEvents}
+use Rattle.trace_core.proofs.Booleans.{or_assoc, and_or, and_assoc, list_any-or, list_any-and_left, list_any-and_right, list_any-same, more_at_sites, more_inside}
+
+cond_or : (a b : Bool) → cond a true b ≡ (b || a)
+cond_or true true = refl
+cond_or true false = refl
+cond_or false true = refl
+cond_or false false = refl
+
+-- one more pair
+pub is_in-insert : (old new : BTreeSet Pair) (k : Pair) → Updates pair_cmp old new k true → (p : Pair) → is_in new p ≡ (is_in old p || (p.site == k.site && same_item k.item p.item))
+is_in-insert old new k h p = h.0 p ∙ cond_or _ (is_in old p) ∙ ap (λ b. is_in old p || b) (pair_is_eq k p)
+
+-- the related pairs are those that the events relate the item to, one by one
+pub is_related-by_events : (s : SiteEvents) (item : List ℕ) (p : Pair) → is_related s item p ≡ list_any (λ e. related_by s.me s.events item e.body p) s.events
+unfolding is_related ships_at inside_at
+is_related-by_events s item p =
+    let other = not (p.site == s.me) in
+    let own = p.site == s.me in
+    let same = same_item item p.item in
+    let ship : Content → Bool = λ e. ships item p.site e.body in
+    let take : Content → Bool = λ e. takes_in item e.body in
+    let give : Content → Bool = λ e. gives_out p.item e.body in
+    let join : Content → Bool = λ e. joined_by s.events e.body p.item in
+    let shipped : list_any (λ e. other && (ship e && same)) s.events ≡ ((other && list_any ship s.events) && same) =
+    list_any-and_left other (λ e. ship e && same) s.events ∙ ap (λ b. other && b) (list_any-and_right same ship s.events) ∙ sym (and_assoc other (list_any ship s.events) same) in
+    let made : list_any (λ e. own && (take e && (give e || join e))) s.events ≡ (own && (list_any (λ e. take e && give e) s.events || list_any (λ e. take e && join e) s.events)) =
+    list_any-and_left own (λ e. take e && (give e || join e)) s.events
+    ∙ ap (λ b. own && b) (list_any-same (λ e. take e && (give e || join e)) (λ e. (take e && give e) || (take e && join e)) (λ e. and_or (take e) (give e) (join e)) s.events
+    ∙ list_any-or (λ e. take e && give e) (λ e. take e && join e) s.events) in
+    sym (list_any-or (λ e. other && (ship e && same)) (λ e. own && (take e && (give e || join e))) s.events
+    ∙ ap (λ b. b || list_any (λ e. own && (take e && (give e || join e))) s.events) shipped
+    ∙ ap (λ b. ((other && list_any ship s.events) && same) || b) made)
+
+-- a list's item is one more of the items at the site
+pub one_more_item : (old cur new : BTreeSet Pair) (me : ℕ) (items : List (List ℕ)) (i : ℕ) (y x : List ℕ) → i < length items → y ≡ get_or items i y → x ≡ y
+    → Updates pair_cmp cur new (record { site = me; item = x }) true
+    → ((p : Pair) → is_in cur p ≡ (is_in old p || (p.site == me && lists (take i items) p.item)))
+    → (p : Pair) → is_in new p ≡ (is_in old p || (p.site == me && lists (take (i + 1) items) p.item))
+one_more_item old cur new me items i y x lt at copied upd so_far p =
+    let more : lists (take (i + 1) items) p.item ≡ (lists (take i items) p.item || same_item x p.item) =
+    list_any_more (λ j. same_item j p.item) items i y lt ∙ ap (λ z. lists (take i items) p.item || same_item z p.item) (sym at ∙ sym copied) in
+    is_in-insert cur new (record { site = me; item = x }) upd p
+    ∙ ap (λ b. b || (p.site == me && same_item x p.item)) (so_far p)
+    ∙ more_inside (is_in old p) (p.site == me) (lists (take i items) p.item) (same_item x p.item)
+    ∙ ap (λ b. is_in old p || (p.site == me && b)) (sym more)
+
+-- at another site
+elsewhere : (s me q : ℕ) (b : Bool) → (s ≡ me → ⊥) → (q == s && b) ≡ (not (q == me) && ((s == q) && b))
+elsewhere s me q b apart = grind (arith, nat_tests)
+
+-- at the own site
+not_here : (s me q : ℕ) (a b : Bool) → s ≡ me → (not (q == me) && (a && b)) ≡ (not (q == me) && ((a || (s == q)) && b))
+not_here s me q a b same = grind (arith, nat_tests)
+
+module _ (old cur : BTreeSet Pair) (me : ℕ) (item : List ℕ) (sites : List ℕ) (i s : ℕ) (lt : i < length sites) (at : s ≡ get_or sites i s)
+    (so_far : (p : Pair) → is_in cur p ≡ (is_in old p || (not (p.site == me) && (list_any (λ s. s == p.site) (take i sites) && same_item item p.item)))) where
+  more_sites : (q : ℕ) → list_any (λ s. s == q) (take (i + 1) sites) ≡ (list_any (λ s. s == q) (take i sites) || (s == q))
+  more_sites q = list_any_more (λ s. s == q) sites i s lt ∙ ap (λ t. list_any (λ s. s == q) (take i sites) || (t == q)) (sym at)
+
+  -- another site is one more of the sites
+  pub one_more_site : (new : BTreeSet Pair) (x : List ℕ) → x ≡ item → (s ≡ me → ⊥) → Updates pair_cmp cur new (record { site = s; item = x }) true
+      → (p : Pair) → is_in new p ≡ (is_in old p || (not (p.site == me) && (list_any (λ s. s == p.site) (take (i + 1) sites) && same_item item p.item)))
+  one_more_site new x copied apart upd p =
+      let a = list_any (λ s. s == p.site) (take i sites) in
+      let n = not (p.site == me) in
+      let same = same_item item p.item in
+      is_in-insert cur new (record { site = s; item = x }) upd p
+      ∙ ap (λ y. is_in cur p || (p.site == s && same_item y p.item)) copied
+      ∙ ap (λ b. b || (p.site == s && same)) (so_far p)
+      ∙ ap (λ b. (is_in old p || (n && (a && same))) || b) (elsewhere s me p.site same apart)
+      ∙ more_at_sites (is_in old p) a (s == p.site) n same
+      ∙ ap (λ b. is_in old p || (n && (b && same))) (sym (more_sites p.site))
+
+  -- the own site is passed over
+  pub own_site_passed : s ≡ me → (p : Pair) → is_in cur p ≡ (is_in old p || (not (p.site == me) && (list_any (λ s. s == p.site) (take (i + 1) sites) && same_item item p.item)))
+  own_site_passed here p =
+      let a = list_any (λ s. s == p.site) (take i sites) in
+      let n = not (p.site == me) in
+      let same = same_item item p.item in
+      so_far p
+      ∙ ap (λ b. is_in old p || b) (not_here s me p.site a same here)
+      ∙ ap (λ b. is_in old p || (n && (b && same))) (sym (more_sites p.site))
+
+-- the keys of a set that has what is related are the related pairs
+pub related_exact : (s : SiteEvents) (item : List ℕ) (set : BTreeSet Pair) (pairs : List Pair) → pairs ≡ set.keys → ((p : Pair) → is_in set p ≡ is_related s item p) → (p : Pair) → Contains pairs p ↔ IsRelated s item p
+related_exact s item set pairs keys related p =
+    let both = btree_set_contains_iff pairs_total pairs_exact set p in
+    (λ h. sym (related p) ∙ both.1 (subst (λ xs. Contains xs p) keys h), λ h. subst (λ xs. Contains xs p) (sym keys) (both.0 (related p ∙ h)))
+
+-- at the end of the events
+pub related_at_end : (s : SiteEvents) (item : List ℕ) (set : BTreeSet Pair) (pairs : List Pair) (events : List Content) (n : ℕ) → pairs ≡ set.keys → events ≡ s.events → length events ≤ n
+    → ((p : Pair) → is_in set p ≡ list_any (λ e. related_by s.me s.events item e.body p) (take n events)) → (p : Pair) → Contains pairs p ↔ IsRelated s item p
+related_at_end s item set pairs events n keys all past so_far = related_exact s item set pairs keys
+    (λ p. so_far p ∙ ap (list_any (λ e. related_by s.me s.events item e.body p)) (take_all n events past ∙ all) ∙ sym (is_related-by_events s item p))

@@ -1,0 +1,18 @@
+-- Related pairs of several sites, and what is reached by them.
+use Rattle.std.specs.Prelude.{◌≡◌, ◌≢◌, List, ◌++◌, Any, AllPairs, map}
+use Rattle.std.specs.Borrow.{Bor}
+use Rattle.trace_core.specs.declared.pairs.Pair.{Pair}
+use Rattle.trace_core.specs.Pairs.{IsRelated}
+use Rattle.trace_core.specs.Sites.{SiteEvents}
+
+-- one of the sites is that of p, and relates p's item to q
+abbrev pub Related : List SiteEvents → Pair → Pair → Type 0
+Related sites p q = Any (λ s. (s.me ≡ p.site) × IsRelated s p.item q) sites
+
+-- the sites that references point to
+abbrev pub sites_at : List (Bor SiteEvents) → List SiteEvents
+sites_at refs = map (λ r. r.now) refs
+
+-- no two of them are of one site
+abbrev pub AreApart : List (Bor SiteEvents) → Type 0
+AreApart refs = AllPairs (λ r s. r.now.me ≢ s.now.me) refs

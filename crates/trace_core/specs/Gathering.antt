@@ -1,0 +1,26 @@
+-- What one event adds to the pairs that an item is related to.
+use Rattle.std.specs.Prelude.{◌==◌, ℕ, Bool, not, ◌&&◌, ◌||◌, List}
+use Rattle.std.specs.List.{list_any}
+use Rattle.std.specs.BTreeSet.{BTreeSet, contains}
+use Rattle.event_json.specs.Events.{Content}
+use Rattle.event_json.specs.declared.bodies.Body.{Body}
+use Rattle.trace_core.specs.declared.pairs.Pair.{Pair}
+use Rattle.trace_core.specs.Pairs.{pair_cmp, same_item, ships, takes_in, gives_out, make_id, same_id}
+
+abbrev pub is_in : BTreeSet Pair → Pair → Bool
+is_in pairs p = contains pair_cmp pairs p
+
+-- shipped by this event
+abbrev pub shipped_by : ℕ → List ℕ → Body → Pair → Bool
+shipped_by me item body p = not (p.site == me) && (ships item p.site body && same_item item p.item)
+
+-- an output of a transformation that has this one's id
+abbrev pub joined_by : List Content → Body → List ℕ → Bool
+joined_by events body j = list_any (λ f. same_id (make_id body) (make_id f.body) && gives_out j f.body) events
+
+-- made by this event, or by one that is joined to it
+abbrev pub made_by : ℕ → List Content → List ℕ → Body → Pair → Bool
+made_by me events item body p = p.site == me && (takes_in item body && (gives_out p.item body || joined_by events body p.item))
+
+abbrev pub related_by : ℕ → List Content → List ℕ → Body → Pair → Bool
+related_by me events item body p = shipped_by me item body p || made_by me events item body p

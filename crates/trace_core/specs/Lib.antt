@@ -1,0 +1,13 @@
+pub mod Adding
+pub mod Chains
+pub mod Closures
+pub mod Contents
+pub mod Gathering
+pub mod HasTargets
+pub mod Laws
+pub mod Members
+pub mod PairOrder
+pub mod Pairs
+pub mod Relations
+pub mod Sites
+pub mod Targets

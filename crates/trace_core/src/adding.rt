@@ -1,0 +1,127 @@
+ghost use Rattle.std.specs.Prelude.{◌≡◌, Some, Ok, IfOk, IfErr, OnErr, length, take};
+ghost use Rattle.std.specs.List.{list_any};
+ghost use Rattle.trace_core.specs.Adding.{standing_among, with_fresh, adding, FaultOf};
+ghost use Rattle.trace_core.specs.Contents.{same_content};
+ghost use Rattle.trace_core.specs.Pairs.{same_id};
+
+use event_json::{Event, PlainText};
+use std::alloc::AllocError;
+use thiserror::Error;
+
+/// What became of the events of a document.
+#[derive(Clone, Copy, Debug, PartialEq, Eq)]
+pub struct Added {
+    /// How many were kept.
+    pub fresh: u64,
+    /// How many were there already, with equal content.
+    pub known: u64,
+}
+
+/// Why a document's events weren't added. Nothing was changed then.
+#[derive(Debug, Drop, PartialEq, Eq, Error)]
+pub enum AddFault {
+    /// Memory ran out.
+    #[error("memory ran out")]
+    NoMemory,
+    /// The event has the eventID of an event with other content.
+    #[error("the eventID of event {event} is taken")]
+    IdTaken {
+        /// The event's place in the list that was given, from 1.
+        event: u64,
+    },
+}
+
+/// How an event stands to the events so far.
+#[derive(Clone, Copy, Debug, PartialEq, Eq)]
+pub enum Standing {
+    /// It has no eventID, or one that none of them has.
+    Fresh,
+    /// It is one of them, by its eventID and its content.
+    Known,
+    /// One of them has its eventID, and none is equal to it.
+    Taken,
+}
+
+/// Adds the fresh ones among the given events. After a fault some of them may be there.
+pub fn append_fresh(events: &mut Vec<Event>, given: Vec<Event>) -> Result<Added, AddFault>
+    ensures front { take (length events.old.items) events.new.items ≡ events.old.items }
+    ensures ok { IfOk result (λ added. adding events.old.items given.items ≡ Ok (record { events = events.new.items; fresh = added.fresh; known = added.known })) }
+    ensures fault { IfErr result (λ fault. FaultOf (adding events.old.items given.items) fault) }
+{
+    let mut added = Added { fresh: 0, known: 0 };
+    for event in given {
+        match add_if_fresh(events, event) {
+            Ok(Standing::Fresh) => added.fresh += 1,
+            Ok(Standing::Known) => added.known += 1,
+            Ok(Standing::Taken) => {
+                return Err(AddFault::IdTaken {
+                    event: added.fresh + added.known + 1,
+                });
+            }
+            Err(_) => return Err(AddFault::NoMemory),
+        }
+    }
+    Ok(added)
+}
+
+/// Adds an event if it is fresh, and tells how it stood.
+fn add_if_fresh(events: &mut Vec<Event>, event: Event) -> Result<Standing, AllocError>
+    ensures standing { IfOk result (λ standing. standing ≡ standing_among events.old.items event) }
+    ensures ok { IfOk result (λ standing. events.new.items ≡ with_fresh events.old.items event standing) }
+    ensures err { OnErr result (events.new.items ≡ events.old.items) }
+{
+    let standing = standing_among(events, &event);
+    match standing {
+        Standing::Fresh => events.push(event)?,
+        Standing::Known | Standing::Taken => {}
+    }
+    Ok(standing)
+}
+
+/// How an event stands to the events so far.
+#[tactic(auto, unfolding(crate::specs::Adding::standing_among))]
+fn standing_among(events: &[Event], event: &Event) -> Standing
+    ensures { result ≡ standing_among events.now event.now }
+{
+    if !is_id_used(events, event) {
+        Standing::Fresh
+    } else if is_known(events, event) {
+        Standing::Known
+    } else {
+        Standing::Taken
+    }
+}
+
+/// Whether one of the events has the same content.
+fn is_known(events: &[Event], event: &Event) -> bool
+    ensures { result ≡ list_any (λ f. same_content f event.now) events.now }
+{
+    events.iter().any(|e| has_content(e, event))
+}
+
+/// Whether both have the same content.
+fn has_content(event: &Event, other: &Event) -> bool
+    ensures { result ≡ same_content event.now other.now }
+{
+    event.is_same(other)
+}
+
+/// Whether the event has an eventID, and one of the events has it too.
+fn is_id_used(events: &[Event], event: &Event) -> bool
+    ensures { result ≡ list_any (λ f. same_id f.id event.now.id) events.now }
+{
+    match event.id() {
+        Some(id) => events.iter().any(|e| has_id(e, id)),
+        None => false,
+    }
+}
+
+/// Whether the event has this eventID.
+fn has_id(event: &Event, id: &PlainText) -> bool
+    ensures { result ≡ same_id event.now.id (Some id.now) }
+{
+    match event.id() {
+        Some(own) => own.as_str() == id.as_str(),
+        None => false,
+    }
+}

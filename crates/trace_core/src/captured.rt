@@ -1,0 +1,107 @@
+ghost use Rattle.std.specs.Prelude.{◌≡◌, ◌↔◌, [], Ok, IfOk, IfErr, OnErr, Contains};
+ghost use Rattle.trace_core.specs.declared.pairs.Pair.{Pair};
+ghost use Rattle.trace_core.specs.Adding.{adding, FaultOf};
+ghost use Rattle.trace_core.specs.Pairs.{IsRelated, IsStrictlyAscending};
+
+use crate::adding::{AddFault, Added, append_fresh};
+use crate::gathering::gather;
+use crate::ordered_keys::keys_in_order;
+use crate::pairs::Pair;
+use epc_core::Epc;
+use event_json::{Event, Sequence, SiteNo};
+use std::alloc::{AllocError, Global};
+use std::collections::BTreeSet;
+use std::marker::Model;
+
+/// The events that a site has captured, in the order in which they came.
+#[derive(Debug, Drop)]
+pub struct Captured {
+    me: SiteNo,
+    events: Vec<Event>,
+}
+
+impl Model for Captured {
+    ghost use Rattle.trace_core.specs.Sites.{SiteEvents};
+
+    ghost Value = { SiteEvents };
+
+    ghost view = { λ c. record { me = c.me; events = c.events.items } };
+}
+
+impl Captured {
+    /// A site without events. Takes no memory.
+    pub fn new(alloc: Global, me: SiteNo) -> Captured
+        ensures { result ≡ record { me = me; events = [] } }
+    {
+        let events = Vec::new(alloc);
+        Captured { me, events }
+    }
+
+    /// The site's own number.
+    pub fn me(&self) -> SiteNo
+        ensures { result ≡ self.now.me }
+    {
+        self.me
+    }
+
+    /// The events in the order in which they were captured.
+    pub fn events(&self) -> &[Event]
+        ensures { result.now ≡ self.now.events }
+    {
+        self.events.as_slice()
+    }
+
+    /// Adds the events of a document, whole or not at all. Each is judged by those that stand so
+    /// far, earlier ones of the document among them: it is fresh, and kept, where it has no eventID
+    /// or a new one; it is known, and changes nothing, where one with equal content stands (GS1 EPCIS
+    /// 2.0, section 7.4: the eventID names one event).
+    ///
+    /// # Errors
+    /// `IdTaken` at the first event whose eventID stands with other content, and `NoMemory`. Nothing
+    /// is changed then.
+    pub fn add(&mut self, events: Sequence<Event>) -> Result<Added, AddFault>
+        ensures ok { IfOk result (λ added. adding self.old.events events
+            ≡ Ok (record { events = self.new.events; fresh = added.fresh; known = added.known })) }
+        ensures fault { IfErr result (λ fault. FaultOf (adding self.old.events events) fault) }
+        ensures unchanged { OnErr result (self.new ≡ self.old) }
+        ensures same_site { self.new.me ≡ self.old.me }
+    {
+        let before = self.events.len();
+        match append_fresh(&mut self.events, events.into_vec()) {
+            Ok(added) => Ok(added),
+            Err(fault) => {
+                self.events.truncate(before);
+                Err(fault)
+            }
+        }
+    }
+
+    /// The pairs that an item at this site is related to, ascending and without repeats: the item at
+    /// each other site that it was shipped to, and at this site each output of a transformation that
+    /// took it in, or of one with the same transformationID (GS1 EPCIS 2.0, section 7.4).
+    pub fn related(&self, item: &Epc) -> Result<Vec<Pair>, AllocError>
+        ensures ascending { IfOk result (λ pairs. IsStrictlyAscending pairs.items) }
+        ensures exact { IfOk result (λ pairs. (p : Pair) → Contains pairs.items p ↔ IsRelated self.now item.now p) }
+    {
+        let alloc = *self.events.allocator();
+        let mut pairs = BTreeSet::new(alloc);
+        for event in &self.events {
+            gather(alloc, self.me, &self.events, item, event.body(), &mut pairs)?;
+        }
+        keys_in_order(alloc, pairs)
+    }
+
+    /// An equal site.
+    pub fn copy(&self, alloc: Global) -> Result<Captured, AllocError>
+        ensures { IfOk result (λ c. c ≡ self.now) }
+    {
+        let mut events = Vec::new(alloc);
+        for event in &self.events {
+            events.push(event.copy(alloc)?)?;
+        }
+        Ok(Captured {
+            me: self.me,
+            events,
+        })
+    }
+}

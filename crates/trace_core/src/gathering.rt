@@ -1,0 +1,157 @@
+ghost use Rattle.std.specs.Prelude.{◌≡◌, ◌==◌, not, ◌&&◌, ◌||◌, OnOk, option_map};
+ghost use Rattle.std.specs.List.{list_any};
+ghost use Rattle.trace_core.specs.declared.pairs.Pair.{Pair};
+ghost use Rattle.trace_core.specs.Gathering.{is_in, related_by, shipped_by, joined_by};
+ghost use Rattle.trace_core.specs.Pairs.{same_item, takes_in, gives_out, lists, make_id, same_id};
+
+use crate::pairs::Pair;
+use epc_core::Epc;
+use event_json::{Body, Event, PlainText, Sequence, SiteNo};
+use std::alloc::{AllocError, Global};
+use std::collections::BTreeSet;
+
+/// Adds the pairs that an event of a site relates an item to.
+pub fn gather(
+    alloc: Global,
+    me: SiteNo,
+    events: &[Event],
+    item: &Epc,
+    body: &Body,
+    pairs: &mut BTreeSet<Pair>,
+) -> Result<(), AllocError>
+    ensures { OnOk result ((p : Pair) → is_in pairs.new p ≡ (is_in pairs.old p || related_by me events.now item.now body.now p)) }
+{
+    gather_shipped(alloc, me, item, body, pairs)?;
+    if takes_in(item, body) {
+        gather_outputs(alloc, me, body, pairs)?;
+        gather_joined(alloc, me, events, body, pairs)?;
+    }
+    Ok(())
+}
+
+/// Adds the item at each other site that it was shipped to.
+fn gather_shipped(
+    alloc: Global,
+    me: SiteNo,
+    item: &Epc,
+    body: &Body,
+    pairs: &mut BTreeSet<Pair>,
+) -> Result<(), AllocError>
+    ensures { OnOk result ((p : Pair) → is_in pairs.new p ≡ (is_in pairs.old p || shipped_by me item.now body.now p)) }
+{
+    if let Body::Ship { items, sites, .. } = body {
+        if lists(items, item) {
+            gather_at_sites(alloc, me, item, sites.as_slice(), pairs)?;
+        }
+    }
+    Ok(())
+}
+
+/// Adds the item at each of the sites but the own one.
+fn gather_at_sites(
+    alloc: Global,
+    me: SiteNo,
+    item: &Epc,
+    sites: &[SiteNo],
+    pairs: &mut BTreeSet<Pair>,
+) -> Result<(), AllocError>
+    ensures { OnOk result ((p : Pair) → is_in pairs.new p ≡ (is_in pairs.old p || (not (p.site == me) && (list_any (λ s. s == p.site) sites.now && same_item item.now p.item)))) }
+{
+    for site in sites {
+        if *site != me {
+            pairs.insert(Pair {
+                site: *site,
+                item: item.copy(alloc)?,
+            })?;
+        }
+    }
+    Ok(())
+}
+
+/// Adds the outputs of each Make that has the id of this one.
+fn gather_joined(
+    alloc: Global,
+    me: SiteNo,
+    events: &[Event],
+    body: &Body,
+    pairs: &mut BTreeSet<Pair>,
+) -> Result<(), AllocError>
+    ensures { OnOk result ((p : Pair) → is_in pairs.new p ≡ (is_in pairs.old p || (p.site == me && joined_by events.now body.now p.item))) }
+{
+    for event in events {
+        if is_same_make(body, event.body()) {
+            gather_outputs(alloc, me, event.body(), pairs)?;
+        }
+    }
+    Ok(())
+}
+
+/// Adds the outputs of a Make.
+fn gather_outputs(
+    alloc: Global,
+    me: SiteNo,
+    body: &Body,
+    pairs: &mut BTreeSet<Pair>,
+) -> Result<(), AllocError>
+    ensures { OnOk result ((p : Pair) → is_in pairs.new p ≡ (is_in pairs.old p || (p.site == me && gives_out p.item body.now))) }
+{
+    if let Body::Make { outs, .. } = body {
+        gather_items(alloc, me, outs.as_slice(), pairs)?;
+    }
+    Ok(())
+}
+
+/// Adds each of the items at a site.
+fn gather_items(
+    alloc: Global,
+    me: SiteNo,
+    items: &[Epc],
+    pairs: &mut BTreeSet<Pair>,
+) -> Result<(), AllocError>
+    ensures { OnOk result ((p : Pair) → is_in pairs.new p ≡ (is_in pairs.old p || (p.site == me && lists items.now p.item))) }
+{
+    for item in items {
+        pairs.insert(Pair {
+            site: me,
+            item: item.copy(alloc)?,
+        })?;
+    }
+    Ok(())
+}
+
+/// Whether it is a Make of which the item is an input.
+fn takes_in(item: &Epc, body: &Body) -> bool
+    ensures { result ≡ takes_in item.now body.now }
+{
+    match body {
+        Body::Make { ins, .. } => lists(ins, item),
+        _ => false,
+    }
+}
+
+/// Whether both are a Make, with equal ids.
+fn is_same_make(body: &Body, other: &Body) -> bool
+    ensures { result ≡ same_id (make_id body.now) (make_id other.now) }
+{
+    match (make_id(body), make_id(other)) {
+        (Some(id), Some(other_id)) => id.as_str() == other_id.as_str(),
+        _ => false,
+    }
+}
+
+/// The id of a Make, where it has one.
+fn make_id(body: &Body) -> Option<&PlainText>
+    ensures { option_map (λ t. t.now) result ≡ make_id body.now }
+{
+    match body {
+        Body::Make { id, .. } => id.as_ref(),
+        _ => None,
+    }
+}
+
+/// Whether the item is one of a list.
+fn lists(items: &Sequence<Epc>, item: &Epc) -> bool
+    ensures { result ≡ lists items.now item.now }
+{
+    items.as_slice().contains(item)
+}

@@ -1,0 +1,22 @@
+//! What a site's captured events relate, and what is reached through the events of several sites.
+//!
+//! A pair of a site and an item is related to another where an item was shipped from site to site,
+//! or made into another item at a site. Reach of a pair is all that chains of related pairs find.
+#![tactic(auto)]
+
+mod adding;
+mod captured;
+mod chains;
+mod closures;
+mod gathering;
+pub mod laws;
+mod ordered_keys;
+mod pairs;
+#[cfg(test)]
+mod tests;
+
+pub use adding::{AddFault, Added};
+pub use captured::Captured;
+pub use chains::reach;
+pub use closures::{Node, Relation, closure};
+pub use pairs::Pair;

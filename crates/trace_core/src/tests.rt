@@ -1,0 +1,142 @@
+mod makers;
+
+use crate::captured::Captured;
+use crate::laws;
+use makers::{BOTH_AS_E, X_AS_E, Y_AS_E, added, captured, make, part_of_t, reached, related, ship};
+use std::test::Fail;
+
+#[test]
+fn follows_a_transformation_and_a_shipment(rt: HostRuntime) -> Result<(), Fail> {
+    let alloc = rt.alloc();
+    let made = make(alloc, "x", "y")?;
+    let shipped = ship(alloc, "y", "b")?;
+    let a = captured(alloc, 0, &[&made, &shipped])?;
+    let pairs = reached(alloc, &[&a], 0, "x")?;
+    assert_eq!(rt; pairs.as_str(), "0 uri x; 0 uri y; 1 uri y; ");
+    let pairs = related(alloc, &a, "x")?;
+    assert_eq!(rt; pairs.as_str(), "0 uri y; ");
+    Ok(())
+}
+
+#[test]
+fn joins_parts_of_a_transformation_over_documents(rt: HostRuntime) -> Result<(), Fail> {
+    let alloc = rt.alloc();
+    let z = part_of_t(alloc, "outputEPCList", "z")?;
+    let x = part_of_t(alloc, "inputEPCList", "x")?;
+    let y = part_of_t(alloc, "outputEPCList", "y")?;
+    let a = captured(alloc, 0, &[&z, &x, &y])?;
+    let pairs = reached(alloc, &[&a], 0, "x")?;
+    assert_eq!(rt; pairs.as_str(), "0 uri x; 0 uri y; 0 uri z; ");
+    Ok(())
+}
+
+#[test]
+fn knows_an_event_again(rt: HostRuntime) -> Result<(), Fail> {
+    let alloc = rt.alloc();
+    let mut a = captured(alloc, 0, &[])?;
+    let answer = added(alloc, &mut a, X_AS_E)?;
+    assert_eq!(rt; answer.as_str(), "fresh 1 known 0");
+    let answer = added(alloc, &mut a, X_AS_E)?;
+    assert_eq!(rt; answer.as_str(), "fresh 0 known 1");
+    Ok(())
+}
+
+#[test]
+fn refuses_an_id_for_other_content(rt: HostRuntime) -> Result<(), Fail> {
+    let alloc = rt.alloc();
+    let mut a = captured(alloc, 0, &[X_AS_E])?;
+    let answer = added(alloc, &mut a, Y_AS_E)?;
+    assert_eq!(rt; answer.as_str(), "the eventID of event 1 is taken");
+    assert_eq!(rt; a.events().len(), 1);
+    Ok(())
+}
+
+#[test]
+fn leaves_a_refused_document_out_whole(rt: HostRuntime) -> Result<(), Fail> {
+    let alloc = rt.alloc();
+    let mut a = captured(alloc, 0, &[])?;
+    let answer = added(alloc, &mut a, BOTH_AS_E)?;
+    assert_eq!(rt; answer.as_str(), "the eventID of event 2 is taken");
+    assert_eq!(rt; a.events().len(), 0);
+    Ok(())
+}
+
+#[test]
+fn goes_round_a_cycle_of_two_sites(rt: HostRuntime) -> Result<(), Fail> {
+    let alloc = rt.alloc();
+    let a = captured(alloc, 0, &[&ship(alloc, "x", "b")?])?;
+    let b = captured(alloc, 1, &[&ship(alloc, "x", "a")?])?;
+    let pairs = reached(alloc, &[&a, &b], 1, "x")?;
+    assert_eq!(rt; pairs.as_str(), "0 uri x; 1 uri x; ");
+    Ok(())
+}
+
+#[test]
+fn meets_again_at_the_end_of_a_diamond(rt: HostRuntime) -> Result<(), Fail> {
+    let alloc = rt.alloc();
+    let to_b = ship(alloc, "x", "b")?;
+    let to_c = ship(alloc, "x", "c")?;
+    let to_d = ship(alloc, "x", "d")?;
+    let a = captured(alloc, 0, &[&to_b, &to_c])?;
+    let b = captured(alloc, 1, &[&to_d])?;
+    let c = captured(alloc, 2, &[&to_d])?;
+    let d = captured(alloc, 3, &[])?;
+    let pairs = reached(alloc, &[&a, &b, &c, &d], 0, "x")?;
+    assert_eq!(rt; pairs.as_str(), "0 uri x; 1 uri x; 2 uri x; 3 uri x; ");
+    Ok(())
+}
+
+#[test]
+fn stays_where_nothing_leads_on(rt: HostRuntime) -> Result<(), Fail> {
+    let alloc = rt.alloc();
+    let home = ship(alloc, "x", "a")?;
+    let outside = ship(alloc, "x", "elsewhere")?;
+    let a = captured(alloc, 0, &[&home, &outside])?;
+    let pairs = reached(alloc, &[&a], 0, "x")?;
+    assert_eq!(rt; pairs.as_str(), "0 uri x; ");
+    let pairs = reached(alloc, &[&a], 0, "unknown")?;
+    assert_eq!(rt; pairs.as_str(), "0 uri unknown; ");
+    Ok(())
+}
+
+#[test]
+fn copies_a_site(rt: HostRuntime) -> Result<(), Fail> {
+    let alloc = rt.alloc();
+    let b = captured(alloc, 1, &[X_AS_E])?;
+    let copy = b.copy(alloc)?;
+    assert_eq!(rt; copy.me(), b.me());
+    assert_eq!(rt; copy.events().len(), 1);
+    Ok(())
+}
+
+#[test]
+fn follows_a_long_chain_inside_a_site(rt: HostRuntime) -> Result<(), Fail> {
+    let alloc = rt.alloc();
+    let mut a = captured(alloc, 0, &[])?;
+    extend(alloc, &mut a)?;
+    let pairs = reached(alloc, &[&a], 0, "i0")?;
+    assert_eq!(rt; pairs.as_str().matches(';').count(), 201);
+    Ok(())
+}
+
+/// Adds transformations of i0 into i1, i1 into i2 and so on up to i200.
+fn extend(alloc: std::alloc::Global, captured: &mut Captured) -> Result<(), Fail> {
+    for step in 0..200u64 {
+        let input = format!(in alloc; "i{step}")?;
+        let output = format!(in alloc; "i{}", step + 1)?;
+        added(alloc, captured, &make(alloc, &input, &output)?)?;
+    }
+    Ok(())
+}
+
+#[test]
+fn laws_can_be_called() {
+    laws::reach_has_its_root();
+    laws::reach_is_closed();
+    laws::reach_is_least();
+    laws::reach_is_in_closed_list();
+    laws::chain_forms_agree();
+    laws::adding_appends();
+    laws::related_stays();
+    laws::reach_grows();
+}
