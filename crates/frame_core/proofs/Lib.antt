@@ -1,0 +1,5 @@
+pub mod Maps
+pub mod Numbering
+pub mod Orders
+pub mod Places
+pub mod Sums

@@ -1,0 +1,6 @@
+pub mod Entries
+pub mod Identifiers
+pub mod Numbers
+pub mod Outboxes
+pub mod Rows
+pub mod Unsignalled

@@ -1,0 +1,21 @@
+//! Numbered recall messages of a site: their frames, the outbox of those that are not signalled yet,
+//! and the messages of others that the site has ever handled.
+//!
+//! Contracts see the outbox and the seen messages as finite maps; [`entries`] keeps such a map as the
+//! vector of its entries.
+#![tactic(auto)]
+
+pub mod entries;
+mod frames;
+mod identifiers;
+mod outboxes;
+mod rows;
+mod seen_messages;
+#[cfg(test)]
+mod tests;
+
+pub use frames::{Frame, FrameView};
+pub use identifiers::{MsgId, RecallId};
+pub use outboxes::{LAST_NUMBER, NumberFault, Outbox};
+pub use rows::{Row, RowView};
+pub use seen_messages::{Noted, Seen};
