@@ -1,0 +1,4 @@
+pub mod Codes
+pub mod OwnRecalls
+pub mod Engagement
+pub mod Changes

@@ -1,0 +1,16 @@
+//! The diffusing computation of a recall at one site, after Dijkstra and Scholten, "Termination
+//! detection for diffusing computations", Information Processing Letters 11 (1980).
+//!
+//! Contracts see a [`Diffusion`] as the record of its finite maps and next numbers.
+#![tactic(auto)]
+
+mod diffusions;
+mod outcomes;
+mod own_recalls;
+mod parents;
+#[cfg(test)]
+mod tests;
+
+pub use diffusions::Diffusion;
+pub use outcomes::{Began, Received, Signalled};
+pub use own_recalls::Own;

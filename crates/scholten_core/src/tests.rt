@@ -1,0 +1,231 @@
+ghost use Rattle.std.specs.Ordering.{nat_cmp};
+ghost use Rattle.frame_core.specs.Entries.{IsAscending};
+
+use crate::{Began, Diffusion, Own, Received, Signalled};
+use epc_core::Epc;
+use event_json::SiteNo;
+use frame_core::{LAST_NUMBER, MsgId, NumberFault, RecallId, Row};
+use std::alloc::Global;
+use std::test::Fail;
+
+/// The site of a number, 0 for A.
+fn site(number: u64) -> Result<SiteNo, Fail> {
+    Ok(SiteNo::of(number).ok_or("no such site")?)
+}
+
+/// The message of this number that a site sends.
+fn message(sender: u64, number: u64) -> Result<MsgId, Fail> {
+    Ok(MsgId {
+        site: site(sender)?,
+        number,
+    })
+}
+
+/// The first recall of site A.
+fn first_recall() -> Result<RecallId, Fail> {
+    Ok(RecallId {
+        site: site(0)?,
+        number: 1,
+    })
+}
+
+/// A message for a site that the item x is recalled.
+fn told(alloc: Global, dest: u64) -> Result<(SiteNo, Epc), Fail> {
+    Ok((site(dest)?, Epc::read(alloc, "x")?))
+}
+
+/// The row of such a message.
+fn row(alloc: Global, dest: u64) -> Result<Row, Fail> {
+    Ok(Row {
+        dest: site(dest)?,
+        recall: first_recall()?,
+        item: Epc::read(alloc, "x")?,
+    })
+}
+
+/// Site A, which began the recall of x before, in a record that was read back.
+fn initiator(alloc: Global, rows: Vec<(u64, Row)>, ended: bool) -> Result<Diffusion, Fail>
+    requires { IsAscending nat_cmp rows.items }
+{
+    let mut own = Vec::new(alloc);
+    let root = Epc::read(alloc, "x")?;
+    own.push((1, Own { root, ended }))?;
+    Ok(Diffusion::restore(site(0)?, rows, Vec::new(alloc), Vec::new(alloc), own, 5, 2))
+}
+
+// Site D, told by B and by C, which tells E.
+#[test]
+fn a_site_is_engaged_until_its_messages_are_signalled(rt: HostRuntime) -> Result<(), Fail> {
+    let recall = first_recall()?;
+    let mut d = Diffusion::new(rt.alloc(), site(3)?);
+    let out = [told(rt.alloc(), 4)?];
+    assert_eq!(rt;
+        d.receive(message(1, 1)?, recall, &out),
+        Ok(Received::Owe { numbered: 1 })
+    );
+    assert_eq!(rt;
+        d.receive(message(2, 1)?, recall, &[]),
+        Ok(Received::SignalNow { numbered: 0 })
+    );
+    assert_eq!(rt;
+        d.receive(message(2, 1)?, recall, &out),
+        Ok(Received::Repeat)
+    );
+    assert_eq!(rt; d.deficit(recall), 1);
+    assert_eq!(rt; d.parent(recall), Some(message(1, 1)?));
+    assert_eq!(rt; d.signalled(1), Signalled::ParentDue(message(1, 1)?));
+    assert_eq!(rt; d.signalled(1), Signalled::Stale);
+    assert_eq!(rt;
+        d.receive(message(1, 2)?, recall, &[]),
+        Ok(Received::SignalNow { numbered: 0 })
+    );
+    assert_eq!(rt; d.deficit(recall), 0);
+    assert_eq!(rt;
+        (d.outbox().len(), d.seen().len(), d.parents().len()),
+        (0, 3, 0)
+    );
+    Ok(())
+}
+
+#[test]
+fn a_recall_ends_with_its_last_signal(rt: HostRuntime) -> Result<(), Fail> {
+    let recall = first_recall()?;
+    let mut a = Diffusion::new(rt.alloc(), site(0)?);
+    let out = [told(rt.alloc(), 1)?, told(rt.alloc(), 2)?];
+    let root = Epc::read(rt.alloc(), "x")?;
+    let began = a.begin(root, &out);
+    assert_eq!(rt;
+        began,
+        Ok(Began {
+            recall,
+            numbered: 2,
+            ended: false
+        })
+    );
+    assert_eq!(rt; a.signalled(3), Signalled::Stale);
+    assert_eq!(rt; a.signalled(2), Signalled::Cleared);
+    assert_eq!(rt;
+        a.receive(message(1, 1)?, recall, &out),
+        Ok(Received::SignalNow { numbered: 2 })
+    );
+    assert_eq!(rt;
+        (a.signalled(1), a.signalled(3)),
+        (Signalled::Cleared, Signalled::Cleared)
+    );
+    assert_eq!(rt; a.signalled(4), Signalled::Ended(recall));
+    Ok(())
+}
+
+#[test]
+fn a_recall_with_nobody_to_tell_has_ended(rt: HostRuntime) -> Result<(), Fail> {
+    let mut a = Diffusion::new(rt.alloc(), site(0)?);
+    let root = Epc::read(rt.alloc(), "x")?;
+    let recall = first_recall()?;
+    assert_eq!(rt;
+        a.begin(root, &[]),
+        Ok(Began {
+            recall,
+            numbered: 0,
+            ended: true
+        })
+    );
+    let want = Own {
+        root: Epc::read(rt.alloc(), "x")?,
+        ended: true,
+    };
+    assert_eq!(rt; a.own_recall(1), Some(&want));
+    assert_eq!(rt; (a.next_message(), a.next_recall()), (1, 2));
+    Ok(())
+}
+
+// No run leads to these records: an ended recall with a row, and a row at the next number.
+#[test]
+fn a_restored_record_goes_by_the_same_rules(rt: HostRuntime) -> Result<(), Fail> {
+    let recall = first_recall()?;
+    let rows = vec![in rt.alloc(); (5, row(rt.alloc(), 1)?)]?;
+    let mut a = initiator(rt.alloc(), rows, true)?;
+    assert_eq!(rt;
+        a.receive(message(1, 1)?, recall, &[]),
+        Ok(Received::Owe { numbered: 0 })
+    );
+    let out = [told(rt.alloc(), 2)?];
+    assert_eq!(rt;
+        a.receive(message(1, 2)?, recall, &out),
+        Ok(Received::SignalNow { numbered: 1 })
+    );
+    assert_eq!(rt; a.deficit(recall), 1);
+    let want = row(rt.alloc(), 2)?;
+    assert_eq!(rt; a.row(5), Some(want.view()));
+    let rows = vec![in rt.alloc(); (5, row(rt.alloc(), 1)?)]?;
+    let mut a = initiator(rt.alloc(), rows, true)?;
+    assert_eq!(rt; a.signalled(5), Signalled::Cleared);
+    Ok(())
+}
+
+#[test]
+fn spent_numbers_leave_all_as_it_was(rt: HostRuntime) -> Result<(), Fail> {
+    let recall = first_recall()?;
+    let spent = Err(NumberFault::NumbersSpent);
+    let mut d = at_last_number(rt.alloc(), site(3)?);
+    let one = [told(rt.alloc(), 4)?];
+    let two = [told(rt.alloc(), 4)?, told(rt.alloc(), 5)?];
+    assert_eq!(rt; d.receive(message(1, 1)?, recall, &two), spent);
+    assert_eq!(rt;
+        (d.next_message(), d.seen().len(), d.outbox().len()),
+        (LAST_NUMBER, 0, 0)
+    );
+    assert_eq!(rt;
+        d.receive(message(1, 1)?, recall, &one),
+        Ok(Received::Owe { numbered: 1 })
+    );
+    let want = row(rt.alloc(), 4)?;
+    assert_eq!(rt; d.row(4611686018427387904), Some(want.view()));
+    assert_eq!(rt; d.receive(message(1, 2)?, recall, &one), spent);
+    assert_eq!(rt;
+        (d.deficit(recall), d.seen().len(), d.parents().len()),
+        (1, 1, 1)
+    );
+    Ok(())
+}
+
+#[test]
+fn the_last_recall_is_begun_once(rt: HostRuntime) -> Result<(), Fail> {
+    let mut d = at_last_number(rt.alloc(), site(3)?);
+    let began = d.begin(Epc::read(rt.alloc(), "x")?, &[])?;
+    assert_eq!(rt; began.recall.number, 4611686018427387904);
+    let root = Epc::read(rt.alloc(), "x")?;
+    assert_eq!(rt; d.begin(root, &[]).err(), Some(NumberFault::NumbersSpent));
+    Ok(())
+}
+
+/// A site without recalls that has one number left for a message, and one for a recall.
+fn at_last_number(alloc: Global, me: SiteNo) -> Diffusion {
+    Diffusion::restore(
+        me,
+        Vec::new(alloc),
+        Vec::new(alloc),
+        Vec::new(alloc),
+        Vec::new(alloc),
+        LAST_NUMBER,
+        LAST_NUMBER,
+    )
+}
+
+#[test]
+fn a_copy_has_all_maps(rt: HostRuntime) -> Result<(), Fail> {
+    let recall = first_recall()?;
+    let rows = vec![in rt.alloc(); (2, row(rt.alloc(), 1)?)]?;
+    let mut a = initiator(rt.alloc(), rows, false)?;
+    a.receive(message(1, 1)?, recall, &[])?;
+    let mut copy = a.copy(rt.alloc())?;
+    assert_eq!(rt; copy.outbox(), a.outbox());
+    assert_eq!(rt; copy.own_recalls(), a.own_recalls());
+    assert_eq!(rt; copy.seen_under(message(1, 1)?), Some(recall));
+    assert_eq!(rt;
+        (copy.me(), copy.next_message(), copy.next_recall()),
+        (site(0)?, 5, 2)
+    );
+    assert_eq!(rt; copy.signalled(2), Signalled::Ended(recall));
+    assert_eq!(rt; a.deficit(recall), 1);
+    Ok(())
+}
