@@ -1,0 +1,25 @@
+use Rattle.std.proofs.Common.{rules}
+use Rattle.script_core.specs.Answer.{answer_of}
+use Rattle.script_core.proofs.sessions.Session.answer.Goals.{then-answer, else-answer}
+use Rattle.script_core.proofs.sessions.Session.answer.Goals as goal
+
+pub returns-clause-ok : goal.returns-clause-ok
+returns-clause-ok g c =
+    elim c.if-answer.branch [
+      | then-answer w ↦ rw w.self-is (record {
+        answer = answer_of c.in_ok-answer.answer;
+        takes = search rules;
+        pending = search rules;
+        lines = search rules;
+        refused = search rules;
+        written = search rules;
+      })
+      | else-answer w ↦ rw w.self-is (record {
+        answer = answer_of c.in_ok-answer.answer;
+        takes = search rules;
+        pending = search rules;
+        lines = search rules;
+        refused = search rules;
+        written = search rules;
+      })
+    ]

@@ -1,0 +1,11 @@
+pub mod Answer
+pub mod Comments
+pub mod Fields
+pub mod Lines
+pub mod Requests
+pub mod Runs
+pub mod Script
+pub mod Session
+pub mod State
+pub mod Words
+pub mod Writing

@@ -1,0 +1,36 @@
+ghost use Rattle.std.specs.Prelude.{◌≡◌, IfOk, map};
+ghost use Rattle.script_core.specs.Fields.{past_spaces, first_field, after_field, fields};
+
+use std::alloc::{AllocError, Global};
+
+/// What follows the spaces at the front.
+pub(crate) fn past_spaces(text: &str) -> &str
+    ensures { result.now ≡ past_spaces text.now }
+{
+    let mut rest = text;
+    while let Some(behind) = rest.strip_prefix(' ') {
+        rest = behind;
+    }
+    rest
+}
+
+/// The first field, empty where there is none, and what follows it and one space.
+pub(crate) fn split_field(text: &str) -> (&str, &str)
+    ensures field { result.0.now ≡ first_field text.now }
+    ensures rest { result.1.now ≡ after_field text.now }
+{
+    let text = past_spaces(text);
+    match text.split_once(' ') {
+        Some((field, rest)) => (field, rest),
+        None => (text, ""),
+    }
+}
+
+/// All fields in order.
+pub(crate) fn fields(alloc: Global, text: &str) -> Result<Vec<&str>, AllocError>
+    ensures { IfOk result (λ v. map (λ f. f.now) v.items ≡ fields text.now) }
+{
+    text.split(' ')
+        .filter(|field| !field.is_empty())
+        .collect(alloc)
+}

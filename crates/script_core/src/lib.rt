@@ -1,0 +1,20 @@
+//! Scripts: lines that a user writes to drive the tracer, and the answers to them.
+//!
+//! [`run_script`] reads a script in pieces and writes the answer to each line as the line is done.
+#![tactic(auto)]
+
+mod answers;
+mod faults;
+mod fields;
+mod lines;
+mod runs;
+mod scripts;
+mod sessions;
+mod tallies;
+#[cfg(test)]
+mod tests;
+mod writing;
+
+pub use faults::ScriptFault;
+pub use runs::run_script;
+pub use tallies::Tally;

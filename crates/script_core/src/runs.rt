@@ -1,0 +1,85 @@
+ghost use Rattle.std.specs.Prelude.{◌≡◌, ◌≢◌, ◌<◌, ◌≤◌, take, length, IfOk, IfErr, IfSome, MatchOption};
+ghost use Rattle.std.specs.Io.KnownBytes.{Keeps, Consumes, IsAtEnd};
+ghost use Rattle.script_core.specs.Runs.{IsDone, IsCutShort, IsWrittenInPart, Leaves};
+
+use crate::faults::ScriptFault;
+use crate::sessions::Session;
+use crate::tallies::Tally;
+use std::alloc::Global;
+use std::io::{ErrorKind, Read, Write};
+
+/// How often a reader is asked for a piece of a script.
+const MOST_READS: u64 = 16_777_216;
+
+/// The most bytes of a piece.
+const PIECE: usize = 8_192;
+
+/// Runs a script: reads it in pieces to its end, and writes the answer to each line as the line is
+/// done. The tally counts its lines and the refusals that were printed.
+///
+/// A script is lines ended by LF or CR LF; the last may lack it. A line has at most 16,777,216
+/// bytes before its LF, and the reader is asked at most 16,777,216 times, interrupted reads among
+/// them. After a fault the answers to the lines before were written, and nothing else; after
+/// [`ScriptFault::Write`] a beginning of the answers' text was.
+pub fn run_script<R: Read, W: Write>(
+    alloc: Global,
+    reader: &mut R,
+    writer: &mut W,
+) -> Result<Tally, ScriptFault>
+    // What was written is the answers to what was read.
+    ensures done { IfOk result (λ tally. IfSome (R.remaining reader.old) (λ input.
+        IsDone input (W.contents writer.old) (W.contents writer.new) tally)) }
+    // After a fault of the reader, of a limit or of memory whole lines were answered.
+    ensures cut_short { IfErr result (λ fault. fault ≢ ScriptFault.Write → IfSome (R.remaining reader.old) (λ input.
+        IsCutShort input (W.contents writer.old) (W.contents writer.new))) }
+    // After any fault a beginning of the answers' text was written.
+    ensures in_part { IfErr result (λ fault. IfSome (R.remaining reader.old) (λ input.
+        IsWrittenInPart input (W.contents writer.old) (W.contents writer.new))) }
+{
+    let mut buffer = vec![in alloc; 0u8; PIECE]?;
+    run_pieces(alloc, reader, writer, buffer.as_mut_slice())
+}
+
+/// Runs a script in pieces of at most the buffer's length.
+fn run_pieces<R: Read, W: Write>(
+    alloc: Global,
+    reader: &mut R,
+    writer: &mut W,
+    buffer: &mut [u8],
+) -> Result<Tally, ScriptFault>
+    requires { length buffer.old ≡ PIECE }
+    ensures done { IfOk result (λ tally. IfSome (R.remaining reader.old) (λ input.
+        IsDone input (W.contents writer.old) (W.contents writer.new) tally)) }
+    ensures fault { IfErr result (λ fault. Leaves (R.remaining reader.old) fault (W.contents writer.old) (W.contents writer.new)) }
+{
+    let mut session = Session::new(alloc);
+    for _ in 0..MOST_READS {
+        match read_once(reader, buffer)? {
+            None => {}
+            Some(0) => return session.finish(alloc, writer),
+            Some(count) => session.feed(alloc, &buffer[..count], writer)?,
+        }
+    }
+    Err(ScriptFault::TurnsSpent)
+}
+
+/// One read, and how many bytes it gave: 0 at the end, and `None` where it was interrupted.
+fn read_once<R: Read>(reader: &mut R, buffer: &mut [u8]) -> Result<Option<usize>, ScriptFault>
+    requires { 0 < length buffer.old }
+    ensures ok { IfOk result (λ read. MatchOption read (Keeps (R.remaining reader.old) (R.remaining reader.new))
+        (λ n. Consumes (R.remaining reader.old) (R.remaining reader.new) (take n buffer.new))) }
+    ensures bound { IfOk result (λ read. IfSome read (λ n. n ≤ length buffer.new)) }
+    ensures end { IfOk result (λ read. IfSome read (λ n. n ≡ 0 → IsAtEnd (R.remaining reader.new))) }
+    ensures err { IfErr result (λ fault. fault ≡ ScriptFault.Read) }
+{
+    match reader.read(buffer) {
+        Ok(count) => Ok(Some(count)),
+        Err(error) => {
+            if error.kind() == ErrorKind::Interrupted {
+                Ok(None)
+            } else {
+                Err(ScriptFault::Read)
+            }
+        }
+    }
+}

@@ -1,0 +1,201 @@
+ghost use Rattle.std.specs.Prelude.{◌≡◌, ◌≢◌, ℕ, ◌+◌, ◌^◌, ◌<◌, ◌≤◌, List, [], ◌∷◌, ◌++◌, Option, length, take, OnOk, IfOk, IfErr, vec_len, IfNone, IfSome};
+ghost use Rattle.std.specs.Str.Lines.{strip_carriage_return};
+ghost use Rattle.script_core.specs.Lines.{IsWithinLine, EndsAt};
+
+use crate::faults::ScriptFault;
+use crate::scripts::Script;
+use crate::tallies::Tally;
+use crate::writing::write_text;
+use std::alloc::Global;
+use std::io::Write;
+
+/// The most bytes of a line before its LF.
+pub(crate) const LONGEST_LINE: usize = 16_777_216;
+
+/// A script that is being read: what its lines so far left, and the beginning of the next line.
+#[derive(Debug, Drop)]
+pub(crate) struct Session {
+    pub(crate) script: Script,
+    pub(crate) lines: u64,
+    pub(crate) refused: u64,
+    pub(crate) pending: Vec<u8>,
+}
+
+impl Session {
+    ghost use Rattle.script_core.specs.State.{empty};
+    ghost use Rattle.script_core.specs.Session.{AnswersOne, FailsInOne, GoesOn, EndsEarly, Finishes, EndsInLast};
+
+    /// A session of which nothing was read.
+    pub(crate) fn new(alloc: Global) -> Session
+        ensures script { result.script ≡ empty }
+        ensures lines { result.lines ≡ 0 }
+        ensures refused { result.refused ≡ 0 }
+        ensures pending { result.pending.items ≡ [] }
+    {
+        Session {
+            script: Script::new(alloc),
+            lines: 0,
+            refused: 0,
+            pending: Vec::new(alloc),
+        }
+    }
+
+    /// Takes the next piece of the script, and writes the answer to each line that is whole now.
+    pub(crate) fn feed<W: Write>(
+        &mut self,
+        alloc: Global,
+        piece: &[u8],
+        writer: &mut W,
+    ) -> Result<(), ScriptFault>
+        requires lines { self.old.lines + length piece.now < 2 ^ 63 }
+        requires refused { self.old.refused ≤ self.old.lines }
+        ensures ok { OnOk result (GoesOn self.old piece.now self.new [] (W.contents writer.old) (W.contents writer.new)) }
+        ensures err { IfErr result (λ e. EndsEarly self.old piece.now e (W.contents writer.old) (W.contents writer.new)) }
+        ensures lines { self.new.lines ≤ self.old.lines + length piece.now }
+        ensures refused { self.new.refused ≤ self.new.lines }
+    {
+        let mut rest = piece;
+        while let Some(end) = line_end(rest) {
+            self.take_line(alloc, &rest[..end], writer)?;
+            rest = &rest[end + 1..];
+        }
+        self.hold(rest)
+    }
+
+    /// Takes a line of which these bytes and a LF were still to come.
+    fn take_line<W: Write>(
+        &mut self,
+        alloc: Global,
+        bytes: &[u8],
+        writer: &mut W,
+    ) -> Result<(), ScriptFault>
+        requires lines { self.old.lines < 2 ^ 63 }
+        requires refused { self.old.refused ≤ self.old.lines }
+        requires within { IsWithinLine bytes.now }
+        ensures ok { OnOk result (GoesOn self.old (bytes.now ++ 10 ∷ []) self.new [] (W.contents writer.old) (W.contents writer.new)) }
+        ensures err { IfErr result (λ e. EndsEarly self.old (bytes.now ++ 10 ∷ []) e (W.contents writer.old) (W.contents writer.new)) }
+        ensures lines { self.new.lines ≤ self.old.lines + 1 }
+        ensures refused { self.new.refused ≤ self.new.lines }
+    {
+        self.grow(bytes)?;
+        self.end_line(alloc, writer)
+    }
+
+    /// Keeps bytes of a line whose LF is still to come.
+    fn hold(&mut self, bytes: &[u8]) -> Result<(), ScriptFault>
+        requires within { IsWithinLine bytes.now }
+        ensures ok { OnOk result ((before : Option (List ℕ)) → GoesOn self.old bytes.now self.new [] before before) }
+        ensures err { IfErr result (λ e. (before : Option (List ℕ)) → EndsEarly self.old bytes.now e before before) }
+        ensures lines { self.new.lines ≡ self.old.lines }
+        ensures refused { self.new.refused ≡ self.old.refused }
+    {
+        self.grow(bytes)
+    }
+
+    /// Takes the last line, where it has no LF, and gives the tally.
+    pub(crate) fn finish<W: Write>(
+        mut self,
+        alloc: Global,
+        writer: &mut W,
+    ) -> Result<Tally, ScriptFault>
+        requires lines { self.lines < 2 ^ 63 }
+        requires refused { self.refused ≤ self.lines }
+        ensures ok { IfOk result (λ tally. Finishes self tally (W.contents writer.old) (W.contents writer.new)) }
+        ensures err { IfErr result (λ e. EndsInLast self e (W.contents writer.old) (W.contents writer.new)) }
+    {
+        let length = self.pending.len();
+        if length == 0 {
+            return Ok(self.tally());
+        }
+        self.answer(alloc, length, writer)?;
+        Ok(self.tally())
+    }
+
+    /// The lines taken and the refusals among their answers.
+    fn tally(&self) -> Tally
+        ensures lines { result.lines ≡ self.now.lines }
+        ensures refused { result.refused ≡ self.now.refused }
+    {
+        Tally {
+            lines: self.lines,
+            refused: self.refused,
+        }
+    }
+
+    /// Takes the pending bytes as a line that was ended by LF.
+    fn end_line<W: Write>(&mut self, alloc: Global, writer: &mut W) -> Result<(), ScriptFault>
+        requires lines { self.old.lines < 2 ^ 63 }
+        requires refused { self.old.refused ≤ self.old.lines }
+        ensures ok { OnOk result (AnswersOne self.old (strip_carriage_return self.old.pending.items) self.new
+            (W.contents writer.old) (W.contents writer.new)) }
+        ensures err { IfErr result (λ e. FailsInOne self.old (strip_carriage_return self.old.pending.items) e
+            (W.contents writer.old) (W.contents writer.new)) }
+        ensures lines { self.new.lines ≤ self.old.lines + 1 }
+        ensures refused { self.new.refused ≤ self.new.lines }
+    {
+        let length = content_len(self.pending.as_slice());
+        self.answer(alloc, length, writer)
+    }
+
+    /// Takes a front of the pending bytes as a line, writes its answer, and begins the next line.
+    fn answer<W: Write>(
+        &mut self,
+        alloc: Global,
+        length: usize,
+        writer: &mut W,
+    ) -> Result<(), ScriptFault>
+        requires within { length ≤ vec_len self.old.pending }
+        requires lines { self.old.lines < 2 ^ 63 }
+        requires refused { self.old.refused ≤ self.old.lines }
+        ensures ok { OnOk result (AnswersOne self.old (take length self.old.pending.items) self.new
+            (W.contents writer.old) (W.contents writer.new)) }
+        ensures err { IfErr result (λ e. FailsInOne self.old (take length self.old.pending.items) e
+            (W.contents writer.old) (W.contents writer.new)) }
+        ensures lines { self.new.lines ≤ self.old.lines + 1 }
+        ensures refused { self.new.refused ≤ self.new.lines }
+    {
+        let line = &self.pending[..length];
+        let answer = self.script.take_line(alloc, line)?;
+        write_text(writer, answer.text.as_bytes())?;
+        self.pending.clear();
+        self.lines += 1;
+        if answer.refused {
+            self.refused += 1;
+        }
+        Ok(())
+    }
+
+    /// Puts bytes without a LF behind the pending ones.
+    fn grow(&mut self, bytes: &[u8]) -> Result<(), ScriptFault>
+        ensures ok { OnOk result (self.new.pending.items ≡ self.old.pending.items ++ bytes.now) }
+        ensures err { IfErr result (λ e. e ≢ ScriptFault.Write) }
+        ensures script { self.new.script ≡ self.old.script }
+        ensures lines { self.new.lines ≡ self.old.lines }
+        ensures refused { self.new.refused ≡ self.old.refused }
+    {
+        if self.pending.len().saturating_add(bytes.len()) > LONGEST_LINE {
+            return Err(ScriptFault::LineTooLong);
+        }
+        self.pending.extend_from_slice(bytes)?;
+        Ok(())
+    }
+}
+
+/// The place of the first LF.
+fn line_end(bytes: &[u8]) -> Option<usize>
+    ensures none { IfNone result (IsWithinLine bytes.now) }
+    ensures some { IfSome result (λ end. EndsAt bytes.now end) }
+{
+    bytes.iter().position(|b| *b == b'\n')
+}
+
+/// How many bytes of a line that was ended by LF are its content: one CR at its end goes.
+fn content_len(line: &[u8]) -> usize
+    ensures within { result ≤ length line.now }
+    ensures content { take result line.now ≡ strip_carriage_return line.now }
+{
+    match line.last() {
+        Some(b'\r') => line.len() - 1,
+        _ => line.len(),
+    }
+}

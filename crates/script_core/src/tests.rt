@@ -1,0 +1,4 @@
+//! Scripts with answers written by hand, faults of readers and writers, and limits.
+
+mod answers;
+mod faults;
