@@ -1,0 +1,44 @@
+//! `recall`: traces recalled products through a supply chain.
+//!
+//! The program hands its words and the standard streams to [`run_command`], and ends with the
+//! status that it answers.
+#![tactic(auto)]
+
+mod command_lines;
+mod commands;
+mod statuses;
+#[cfg(test)]
+mod tests;
+
+use commands::run_command;
+use std::env;
+use std::io::{self, ErrorKind};
+use std::process::ExitCode;
+
+fn main(rt: HostRuntime) -> ExitCode {
+    let alloc = rt.alloc();
+    let words: Vec<String> = match words_of(&rt) {
+        Ok(words) => words,
+        Err(error) if error.kind() == ErrorKind::OutOfMemory => {
+            let _ = rt.eprintln("fault NoMemory");
+            return ExitCode::from(statuses::FAULT);
+        }
+        Err(_) => {
+            let _ = rt.eprintln("error: a word of the command line is not text");
+            return ExitCode::from(statuses::BAD_COMMAND_LINE);
+        }
+    };
+    let status = run_command(
+        alloc,
+        words.as_slice(),
+        &mut rt.stdin(),
+        &mut rt.stdout(),
+        &mut rt.stderr(),
+    );
+    ExitCode::from(status)
+}
+
+/// The words of the command line, the program's name first.
+fn words_of(rt: &HostRuntime) -> io::Result<Vec<String>> {
+    Ok(env::args(rt)?.collect(rt.alloc())?)
+}
