@@ -1,1 +1,1 @@
-pub mod Sim
+pub mod Ends

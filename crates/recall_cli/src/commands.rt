@@ -1,11 +1,13 @@
 //! What each command does.
 
-ghost use Rattle.std.specs.Prelude.{◌≡◌, ◌==◌, IfSome, if◌then◌else◌};
-ghost use Rattle.recall_cli.specs.Sim.{EndsAs};
+ghost use Rattle.std.specs.Prelude.{◌≡◌, ◌==◌, if◌then◌else◌};
+ghost use Rattle.std.specs.Io.KnownBytes.{Appends, Keeps};
+ghost use Rattle.script_core.specs.Writing.{AppendsBeginning};
+ghost use Rattle.recall_cli.specs.Ends.{Ends, RunsScript, HelpEnds, fault_line};
 
 use crate::command_lines::{self, Asked};
 use crate::statuses;
-use script_core::{ScriptFault, Tally, run_script};
+use script_core::{ScriptFault, Tally, run_script, write_text};
 use std::alloc::Global;
 use std::io::{Read, Write};
 
@@ -21,7 +23,10 @@ pub(crate) fn run_command<R: Read, W: Write, E: Write>(
     input: &mut R,
     output: &mut W,
     errors: &mut E,
-) -> u8 {
+) -> u8
+    ensures { Ends (record { input = R.remaining input.old; output = W.contents output.old; errors = E.contents errors.old })
+        (record { input = R.remaining input.new; output = W.contents output.new; errors = E.contents errors.new }) result }
+{
     match command_lines::read(alloc, words) {
         Ok(Asked::Sim) => sim(alloc, input, output, errors),
         Ok(Asked::Help(text)) => help(text.as_str(), output, errors),
@@ -40,7 +45,8 @@ fn sim<R: Read, W: Write, E: Write>(
     output: &mut W,
     errors: &mut E,
 ) -> u8
-    ensures { IfSome (R.remaining input.old) (λ script. EndsAs script (W.contents output.old) (W.contents output.new) result) }
+    ensures { RunsScript (record { input = R.remaining input.old; output = W.contents output.old; errors = E.contents errors.old })
+        (record { input = R.remaining input.new; output = W.contents output.new; errors = E.contents errors.new }) result }
 {
     match run_script(alloc, input, output) {
         Ok(tally) => status_of(tally),
@@ -60,31 +66,40 @@ fn status_of(tally: Tally) -> u8
 }
 
 /// Prints help.
-fn help<W: Write, E: Write>(text: &str, output: &mut W, errors: &mut E) -> u8 {
-    match output.write_all(text.as_bytes()) {
+fn help<W: Write, E: Write>(text: &str, output: &mut W, errors: &mut E) -> u8
+    ensures { HelpEnds text.now (W.contents output.old) (W.contents output.new) (E.contents errors.old) (E.contents errors.new) result }
+{
+    match write_text(output, text.as_bytes()) {
         Ok(()) => statuses::DONE,
-        Err(_) => fault(ScriptFault::Write, errors),
+        Err(cause) => fault(cause, errors),
     }
 }
 
 /// Prints a fault.
 fn fault<E: Write>(cause: ScriptFault, errors: &mut E) -> u8
-    ensures { result ≡ 3 }
+    ensures status { result ≡ 3 }
+    ensures told { AppendsBeginning (E.contents errors.old) (E.contents errors.new) (fault_line cause) }
 {
-    say(
-        errors,
-        match cause {
-            ScriptFault::NoMemory => "fault NoMemory\n",
-            ScriptFault::Read => "fault Read\n",
-            ScriptFault::Write => "fault Write\n",
-            ScriptFault::LineTooLong => "fault LineTooLong\n",
-            ScriptFault::TurnsSpent => "fault TurnsSpent\n",
-        },
-    );
+    say(errors, fault_line(cause));
     statuses::FAULT
 }
 
+/// The line that tells a fault.
+fn fault_line(cause: ScriptFault) -> &'static str
+    ensures { result.now ≡ fault_line cause }
+{
+    match cause {
+        ScriptFault::NoMemory => "fault NoMemory\n",
+        ScriptFault::Read => "fault Read\n",
+        ScriptFault::Write => "fault Write\n",
+        ScriptFault::LineTooLong => "fault LineTooLong\n",
+        ScriptFault::TurnsSpent => "fault TurnsSpent\n",
+    }
+}
+
 /// Writes to the error stream. Where that fails there is nobody left to tell.
-fn say<E: Write>(errors: &mut E, text: &str) {
-    let _ = errors.write_all(text.as_bytes());
+fn say<E: Write>(errors: &mut E, text: &str)
+    ensures { AppendsBeginning (E.contents errors.old) (E.contents errors.new) text.now }
+{
+    let _ = write_text(errors, text.as_bytes());
 }

@@ -2,6 +2,7 @@
 
 use crate::commands::run_command;
 use std::alloc::Global;
+use std::io::{self, Error, ErrorKind, Read, Write};
 use std::process::Abort;
 use std::test::Fail;
 
@@ -87,5 +88,78 @@ fn help_is_an_answer(rt: HostRuntime) -> Result<(), Fail> {
     assert_eq!(rt; run.status, 0);
     assert!(rt; run.errors.is_empty());
     assert!(rt; begins(run.output.as_slice(), "Runs a script"));
+    Ok(())
+}
+
+/// Fails at its first read or write.
+#[derive(Drop)]
+struct Broken;
+
+impl Read for Broken {
+    fn read(&mut self, _: &mut [u8]) -> io::Result<usize> {
+        Err(Error::from(ErrorKind::Other))
+    }
+}
+
+impl Write for Broken {
+    fn write(&mut self, _: &[u8]) -> io::Result<usize> {
+        Err(Error::from(ErrorKind::Other))
+    }
+
+    fn flush(&mut self) -> io::Result<()> {
+        Ok(())
+    }
+}
+
+#[test]
+fn a_fault_ends_with_3_and_its_line(rt: HostRuntime) -> Result<(), Fail> {
+    let alloc = rt.alloc();
+    let mut words = Vec::new(alloc);
+    words.push(String::from_str(alloc, "recall")?)?;
+    words.push(String::from_str(alloc, "sim")?)?;
+    let mut output = Vec::new(alloc);
+    let mut errors = Vec::new(alloc);
+    let status = run_command(
+        alloc,
+        words.as_slice(),
+        &mut Broken,
+        &mut output,
+        &mut errors,
+    );
+    assert_eq!(rt; status, 3);
+    assert!(rt; output.is_empty());
+    assert_eq!(rt; errors.as_slice(), b"fault Read\n".as_slice());
+
+    let mut script = b"reach A x\n".as_slice();
+    let mut errors = Vec::new(alloc);
+    let status = run_command(
+        alloc,
+        words.as_slice(),
+        &mut script,
+        &mut Broken,
+        &mut errors,
+    );
+    assert_eq!(rt; status, 3);
+    assert_eq!(rt; errors.as_slice(), b"fault Write\n".as_slice());
+    Ok(())
+}
+
+#[test]
+fn help_that_is_not_written_is_a_fault(rt: HostRuntime) -> Result<(), Fail> {
+    let alloc = rt.alloc();
+    let mut words = Vec::new(alloc);
+    words.push(String::from_str(alloc, "recall")?)?;
+    words.push(String::from_str(alloc, "--help")?)?;
+    let mut errors = Vec::new(alloc);
+    let mut input = b"".as_slice();
+    let status = run_command(
+        alloc,
+        words.as_slice(),
+        &mut input,
+        &mut Broken,
+        &mut errors,
+    );
+    assert_eq!(rt; status, 3);
+    assert_eq!(rt; errors.as_slice(), b"fault Write\n".as_slice());
     Ok(())
 }

@@ -1,2 +1,5 @@
 pub mod Apart
+pub mod OneAnswer
+pub mod ReaderLemmas
 pub mod SessionLemmas
+pub mod WholeLines

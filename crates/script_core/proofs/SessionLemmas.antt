@@ -1,57 +1,58 @@
 -- how a session stands to the input that it reads
-use Rattle.std.proofs.Common.{◌≡◌, ◌≢◌, ℕ, ◌+◌, ◌<◌, Bool, true, false, cond, List, [], ◌∷◌, ◌++◌, length, take, drop, refl, sym, ap, ◌∙◌, subst, append_assoc, length-append, append-nil, arith, Option, Some, None, IfSome, ⊎_elim, All, ◌==◌}
-use Rattle.std.specs.List.{slice_split, sum_by}
-use Rattle.std.specs.Str.Lines.{lines, lines_of_parts, strip_carriage_return}
-use Rattle.std.specs.Io.KnownBytes.{Appends, Keeps, Consumes, IsAtEnd}
+use Rattle.std.proofs.Common.{◌≡◌, ℕ, ◌+◌, ◌<◌, ◌≤◌, Bool, true, false, cond, List, [], ◌∷◌, ◌++◌, length, length-append, map, refl, sym, ap, ◌∙◌, subst, append_assoc, append-nil, arith, Option, Some, None, All, ⊎_elim}
+use Rattle.std.specs.List.{sum_by}
+use Rattle.std.specs.Str.Lines.{lines, strip_carriage_return}
+use Rattle.std.specs.Io.KnownBytes.{Appends, Keeps}
 use Rattle.std.proofs.KnownBytes.{Appends-nil, Appends-trans}
-use Rattle.std.proofs.lemmas.Bool.Decides.{nat_tests}
 use Rattle.std.proofs.lemmas.Grind.{flat_map-append}
+use Rattle.std.proofs.lemmas.List.{map-append}
 use Rattle.std.proofs.lemmas.List.Sums.{sum_by-append}
-use Rattle.std.proofs.lemmas.List.Elements.{All-append}
-use Rattle.std.proofs.lemmas.List.Splits.{slice_split_at, slice_split_none, length-slice_split}
-use Rattle.script_core.specs.Lines.{is_newline, IsWithinLine}
-use Rattle.script_core.specs.State.{State}
+use Rattle.std.proofs.lemmas.List.Elements.{All-append, All-push}
+use Rattle.script_core.specs.Lines.{is_newline, longest_line, IsWithinLine, IsLine, IsTooLong, LinesFit, with_newlines}
+use Rattle.script_core.specs.State.{State, empty}
 use Rattle.script_core.specs.Answer.{Said}
 use Rattle.script_core.specs.Script.{Takes}
-use Rattle.script_core.specs.State.{empty}
-use Rattle.script_core.specs.Runs.{Runs, text_of, refusals, AnswersFront, IsDone, IsCutShort, IsWrittenInPart, Leaves}
+use Rattle.script_core.specs.Runs.{Runs, text_of, refusals, Answered, IsWithinAnswers, StopsAt, Writes}
 use Rattle.script_core.specs.Writing.{AppendsBeginning}
-use Rattle.script_core.specs.Session.{Follows, GoesOn, EndsEarly, AnswersOne, FailsInOne, Finishes, FaultLeaves, EndsInLast}
+use Rattle.script_core.specs.Session.{Follows, GoesOn, LeavesMore, EndsEarly, AnswersOne, FailsToGrow, FailsInOne, Finishes, EndsInLast}
 use Rattle.script_core.specs.declared.sessions.Session.{Session}
 use Rattle.script_core.specs.declared.tallies.Tally.{Tally}
 use Rattle.script_core.specs.declared.faults.ScriptFault.{ScriptFault}
-use Rattle.script_core.specs.declared.faults.ScriptFault.TheVariants.{Write}
-
--- ---- lines
-
-parts_more : (p : List ℕ) (ps : List (List ℕ)) → 0 < length ps → lines_of_parts (p ∷ ps) ≡ strip_carriage_return p ∷ lines_of_parts ps
-parts_more p [] some = absurd (omega arith)
-parts_more p (q ∷ qs) some = refl
-
--- the first line of a text ends at its first LF
-pub lines_at : (p rest : List ℕ) → IsWithinLine p → lines (p ++ 10 ∷ rest) ≡ strip_carriage_return p ∷ lines rest
-lines_at p rest within =
-    ap lines_of_parts (slice_split_at is_newline p 10 rest within refl)
-    ∙ parts_more p (slice_split is_newline rest) (omega (arith, length-slice_split is_newline rest))
-
--- bytes without a LF are one line, and no bytes are none
-pub lines_last : (p : List ℕ) → IsWithinLine p → lines p ≡ cond (length p == 0) [] (p ∷ [])
-lines_last p within = ap lines_of_parts (slice_split_none is_newline p within)
+use Rattle.script_core.specs.declared.faults.ScriptFault.TheVariants as faults
+use Rattle.script_core.proofs.WholeLines.{lines_last, lines_whole, lines_fit, with_one_more, no_line, no_bytes, one_line}
 
 -- ---- answers
 
-pub Runs-snoc : (s : State) (ls : List (List ℕ)) (said : List Said) (t : State) (l : List ℕ) (a : Said) (u : State)
+Runs-snoc : (s : State) (ls : List (List ℕ)) (said : List Said) (t : State) (l : List ℕ) (a : Said) (u : State)
     → Runs s ls said t → Takes t l a u → Runs s (ls ++ l ∷ []) (said ++ a ∷ []) u
 Runs-snoc s [] said t l a u run one =
     (a, [], u, ap (λ xs. xs ++ a ∷ []) run.0, subst (λ z. Takes z l a u) run.1 one, (refl, refl))
 Runs-snoc s (k ∷ ls) said t l a u (b, more, next, is, first, rest) one =
     (b, more ++ a ∷ [], next, ap (λ xs. xs ++ a ∷ []) is, first, Runs-snoc next ls more t l a u rest one)
 
+-- one whole line more is answered
+answered_more : (whole : List (List ℕ)) (line : List ℕ) (answers more : List Said) (s : State) (a : Said) (t : State)
+    → Runs empty (map strip_carriage_return whole) (answers ++ more) s → Takes s (strip_carriage_return line) a t
+    → Runs empty (map strip_carriage_return (whole ++ line ∷ [])) (answers ++ (more ++ a ∷ [])) t
+answered_more whole line answers more s a t run one =
+    subst (λ ls. Runs empty ls (answers ++ (more ++ a ∷ [])) t) (sym (map-append strip_carriage_return whole (line ∷ [])))
+    (subst (λ xs. Runs empty (map strip_carriage_return whole ++ strip_carriage_return line ∷ []) xs t) (append_assoc answers more (a ∷ []))
+    (Runs-snoc empty (map strip_carriage_return whole) (answers ++ more) s (strip_carriage_return line) a t run one))
+
 refusals-append : (xs ys : List Said) → refusals (xs ++ ys) ≡ refusals xs + refusals ys
 refusals-append xs ys = sum_by-append (λ a. cond a.refused 1 0) xs ys
 
 one_more : (n : ℕ) (a : Said) (m : ℕ) → n ≡ m → cond a.refused (n + 1) n ≡ m + refusals (a ∷ [])
 one_more n a m e = elim a.refused as (λ b. cond b (n + 1) n ≡ m + sum_by (λ (c : Bool). cond c 1 0) (b ∷ [])) [ true ↦ omega arith | false ↦ omega arith ]
+
+-- the text of further answers comes behind
+pub text_more : (answers more : List Said) (before between after : Option (List ℕ))
+    → Appends before between (text_of answers) → Appends between after (text_of more) → Appends before after (text_of (answers ++ more))
+text_more answers more before between after written told =
+    subst (Appends before after) (sym (flat_map-append (λ a. a.text) answers more)) (Appends-trans before between after (text_of answers) (text_of more) written told)
+
+text_of_one : (a : Said) → text_of (a ∷ []) ≡ a.text
+text_of_one a = append-nil a.text
 
 -- ---- a session goes on
 
@@ -60,19 +61,24 @@ pub goes_start : (s : Session) (piece : List ℕ) (before : Option (List ℕ)) �
 goes_start s piece before input later answers follows =
     ([], subst (λ xs. Follows input s (piece ++ later) xs) (sym (append-nil answers)) follows, Appends-nil before)
 
+-- bytes that move from the piece to the pending ones
+moved : (pending bytes rest later : List ℕ) → pending ++ ((bytes ++ rest) ++ later) ≡ (pending ++ bytes) ++ (rest ++ later)
+moved pending bytes rest later = ap (λ xs. pending ++ xs) (append_assoc bytes rest later) ∙ sym (append_assoc pending bytes (rest ++ later))
+
 -- bytes without a LF move from the piece to the pending ones
 pub goes_grow : (old : Session) (piece : List ℕ) (s : Session) (bytes rest : List ℕ) (t : Session) (before after : Option (List ℕ))
-    → GoesOn old piece s (bytes ++ rest) before after → IsWithinLine bytes
+    → GoesOn old piece s (bytes ++ rest) before after → IsWithinLine bytes → length t.pending.items ≤ longest_line
     → t.pending.items ≡ s.pending.items ++ bytes → t.script ≡ s.script → t.lines ≡ s.lines → t.refused ≡ s.refused
     → GoesOn old piece t rest before after
-goes_grow old piece s bytes rest t before after goes within pending script lines_same refused_same input later answers follows =
+goes_grow old piece s bytes rest t before after goes within fits pending script lines_same refused_same input later answers follows =
     let (more, at, written) = goes input later answers follows in (
       more,
       record {
-        taken = at.taken;
-        front = at.front ∙ ap (λ xs. at.taken ++ lines xs) (ap (λ xs. s.pending.items ++ xs) (append_assoc bytes rest later) ∙ sym (append_assoc s.pending.items bytes (rest ++ later)) ∙ ap (λ xs. xs ++ (rest ++ later)) (sym pending));
-        answered = subst (λ z. Runs empty at.taken (answers ++ more) z) (sym script) at.answered;
-        within = subst IsWithinLine (sym pending) (All-append (λ b. is_newline b ≡ false) s.pending.items bytes at.within within);
+        whole = at.whole;
+        is = at.is ∙ ap (λ xs. with_newlines at.whole ++ xs) (moved s.pending.items bytes rest later ∙ ap (λ xs. xs ++ (rest ++ later)) (sym pending));
+        each = at.each;
+        pending = record { within = subst IsWithinLine (sym pending) (All-append (λ b. is_newline b ≡ false) s.pending.items bytes at.pending.within within); fits = fits };
+        answered = subst (λ z. Runs empty (map strip_carriage_return at.whole) (answers ++ more) z) (sym script) at.answered;
         lines = lines_same ∙ at.lines;
         refused = refused_same ∙ at.refused;
       },
@@ -85,73 +91,116 @@ pub goes_line : (old : Session) (piece : List ℕ) (s : Session) (rest : List �
     → GoesOn old piece t rest before after
 goes_line old piece s rest t before between after goes one input later answers follows =
     let (more, at, written) = goes input later answers follows in
-    let line = strip_carriage_return s.pending.items in (
+    let line = s.pending.items in (
       more ++ one.answer ∷ [],
       record {
-        taken = at.taken ++ line ∷ [];
-        front = at.front ∙ ap (λ xs. at.taken ++ xs) (lines_at s.pending.items (rest ++ later) at.within)
-            ∙ sym (append_assoc at.taken (line ∷ []) (lines (rest ++ later))) ∙ ap (λ xs. (at.taken ++ line ∷ []) ++ lines (xs ++ (rest ++ later))) (sym one.pending);
-        answered = subst (λ xs. Runs empty (at.taken ++ line ∷ []) xs t.script) (append_assoc answers more (one.answer ∷ []))
-            (Runs-snoc empty at.taken (answers ++ more) s.script line one.answer t.script at.answered one.takes);
-        within = subst IsWithinLine (sym one.pending) (λ k d small. absurd (omega arith));
-        lines = one.lines ∙ ap (λ n. n + 1) at.lines ∙ sym (length-append at.taken (line ∷ []));
+        whole = at.whole ++ line ∷ [];
+        is = at.is ∙ with_one_more at.whole line (rest ++ later) ∙ ap (λ xs. with_newlines (at.whole ++ line ∷ []) ++ (xs ++ (rest ++ later))) (sym one.pending);
+        each = All-push IsLine at.whole line at.each at.pending;
+        pending = subst IsLine (sym one.pending) no_line;
+        answered = answered_more at.whole line answers more s.script one.answer t.script at.answered one.takes;
+        lines = one.lines ∙ ap (λ n. n + 1) at.lines ∙ sym (length-append at.whole (line ∷ []));
         refused = one.refused ∙ one_more s.refused one.answer (refusals (answers ++ more)) at.refused
             ∙ sym (refusals-append (answers ++ more) (one.answer ∷ [])) ∙ ap refusals (append_assoc answers more (one.answer ∷ []));
       },
-      subst (Appends before after) (sym (flat_map-append (λ a. a.text) more (one.answer ∷ []) ∙ ap (λ xs. text_of more ++ xs) (append-nil one.answer.text)))
-          (Appends-trans _ _ _ _ _ written one.written),
+      text_more more (one.answer ∷ []) before between after written (subst (Appends between after) (sym (text_of_one one.answer)) one.written),
     )
 
 -- ---- a session ends early
 
-front_of : (input : List ℕ) (s : Session) (rest : List ℕ) (answers : List Said) → Follows input s rest answers → AnswersFront input answers
-front_of input s rest answers follows =
-    record { taken = follows.taken; left = lines (s.pending.items ++ rest); state = s.script; front = follows.front; answered = follows.answered }
+-- what a fault writes comes behind what was written before
+pub writes_after : (fault : ScriptFault) (before between after : Option (List ℕ)) (text more : List ℕ)
+    → Appends before between text → Writes fault between after more → Writes fault before after (text ++ more)
+writes_after faults.NoMemory before between after text more written told = Appends-trans before between after text more written told
+writes_after faults.Read before between after text more written told = Appends-trans before between after text more written told
+writes_after faults.Write before between after text more written (begin, end, parts, told) =
+    (text ++ begin, end, ap (λ xs. text ++ xs) parts ∙ sym (append_assoc text begin end), Appends-trans before between after text begin written told)
+writes_after faults.LineTooLong before between after text more written told = Appends-trans before between after text more written told
+writes_after faults.TurnsSpent before between after text more written told = Appends-trans before between after text more written told
 
-appends_all : (before after : Option (List ℕ)) (text : List ℕ) → Appends before after text → AppendsBeginning before after text
-appends_all before after text written = (text, [], sym (append-nil text), written)
+-- a fault that writes nothing
+writes_nothing : (fault : ScriptFault) (before after : Option (List ℕ)) → Appends before after [] → Writes fault before after []
+writes_nothing faults.NoMemory before after kept = kept
+writes_nothing faults.Read before after kept = kept
+writes_nothing faults.Write before after kept = ([], [], refl, kept)
+writes_nothing faults.LineTooLong before after kept = kept
+writes_nothing faults.TurnsSpent before after kept = kept
 
--- between two lines
-pub ends_between : (old : Session) (piece : List ℕ) (s : Session) (rest : List ℕ) (fault : ScriptFault) (before after : Option (List ℕ))
-    → GoesOn old piece s rest before after → EndsEarly old piece fault before after
-ends_between old piece s rest fault before after goes input later answers follows =
-    let (more, at, written) = goes input later answers follows in
-    (more, front_of input s (rest ++ later) (answers ++ more) at, appends_all before after (text_of more) written, λ _. written)
+-- further answers come behind those before
+pub leaves_after : (input : List ℕ) (left : Option (List ℕ)) (answers more : List Said) (fault : ScriptFault) (before between after : Option (List ℕ))
+    → Appends before between (text_of more) → LeavesMore input left (answers ++ more) fault between after → LeavesMore input left answers fault before after
+leaves_after input left answers more fault before between after written (further, stops, told) = (
+  more ++ further,
+  subst (StopsAt fault input left) (append_assoc answers more further) stops,
+  subst (Writes fault before after) (sym (flat_map-append (λ a. a.text) more further)) (writes_after fault before between after (text_of more) (text_of further) written told),
+)
 
-Appends-kept : (a b c : Option (List ℕ)) (bs : List ℕ) → Appends a b bs → Keeps b c → Appends a c bs
-Appends-kept None b c bs p q = tt
-Appends-kept (Some x) None c bs p q = absurd p
-Appends-kept (Some x) (Some y) None bs p q = absurd q
-Appends-kept (Some x) (Some y) (Some z) bs p q = q ∙ p
+-- nothing more was answered
+pub leaves_here : (input : List ℕ) (left : Option (List ℕ)) (answers : List Said) (fault : ScriptFault) (before after : Option (List ℕ))
+    → StopsAt fault input left answers → Appends before after [] → LeavesMore input left answers fault before after
+leaves_here input left answers fault before after stops kept =
+    ([], subst (StopsAt fault input left) (sym (append-nil answers)) stops, writes_nothing fault before after kept)
+
+-- the whole lines that were taken, before the pending bytes
+pub answered_before : (input : List ℕ) (s : Session) (rest : List ℕ) (answers : List Said) → Follows input s rest answers
+    → Answered input (s.pending.items ++ rest) answers
+answered_before input s rest answers at = record { whole = at.whole; state = s.script; is = at.is; each = at.each; answered = at.answered }
+
+Appends-kept : (a b : Option (List ℕ)) → Keeps a b → Appends a b []
+Appends-kept None b p = tt
+Appends-kept (Some x) None p = p
+Appends-kept (Some x) (Some y) p = p ∙ sym (append-nil x)
+
+-- the pending bytes can't grow
+pub ends_to_grow : (s : Session) (bytes rest : List ℕ) (fault : ScriptFault) (before : Option (List ℕ))
+    → IsWithinLine bytes → FailsToGrow s bytes fault → EndsEarly s (bytes ++ rest) fault before before
+ends_to_grow s bytes rest fault before within fails input later left answers at =
+    let before_all = answered_before input s ((bytes ++ rest) ++ later) answers at in
+    ⊎_elim (λ is. subst (λ f. LeavesMore input left answers f before before) (sym is)
+    (leaves_here input left answers faults.NoMemory before before (s.pending.items ++ ((bytes ++ rest) ++ later), before_all) (Appends-nil before)))
+    (λ too. subst (λ f. LeavesMore input left answers f before before) (sym too.0)
+    (leaves_here input left answers faults.LineTooLong before before
+    (record {
+      line = s.pending.items ++ bytes;
+      rest = rest ++ later;
+      too_long = record {
+        within = All-append (λ b. is_newline b ≡ false) s.pending.items bytes at.pending.within within;
+        exceeds = omega (arith, too.1, length-append s.pending.items bytes);
+      };
+      before = subst (λ xs. Answered input xs answers) (moved s.pending.items bytes rest later) before_all;
+    }) (Appends-nil before)))
+    fails
 
 -- within a line
-pub ends_in_line : (old : Session) (piece : List ℕ) (s : Session) (rest : List ℕ) (fault : ScriptFault) (before between after : Option (List ℕ))
+ends_in_line : (old : Session) (piece : List ℕ) (s : Session) (rest : List ℕ) (fault : ScriptFault) (before between after : Option (List ℕ))
     → GoesOn old piece s (10 ∷ rest) before between → FailsInOne s (strip_carriage_return s.pending.items) fault between after
     → EndsEarly old piece fault before after
-ends_in_line old piece s rest fault before between after goes fails input later answers follows =
+ends_in_line old piece s rest fault before between after goes fails input later left answers follows =
     let (more, at, written) = goes input later answers follows in
     let line = strip_carriage_return s.pending.items in
-    ⊎_elim (λ kept. let all = Appends-kept before between after (text_of more) written kept in
-    (more, front_of input s (10 ∷ (rest ++ later)) (answers ++ more) at, appends_all before after (text_of more) all, λ _. all))
-    (λ broken. let (is_write, answer, next, takes, (begin, end, parts, some)) = broken in (
-      more ++ answer ∷ [],
+    leaves_after input left answers more fault before between after written
+    (⊎_elim (λ kept. subst (λ f. LeavesMore input left (answers ++ more) f between after) (sym kept.0)
+    (leaves_here input left (answers ++ more) faults.NoMemory between after
+    (s.pending.items ++ (10 ∷ (rest ++ later)), answered_before input s (10 ∷ (rest ++ later)) (answers ++ more) at) (Appends-kept between after kept.1)))
+    (λ broken. let (is_write, answer, next, takes, (begin, end, parts, some)) = broken in
+    subst (λ f. LeavesMore input left (answers ++ more) f between after) (sym is_write) (
+      answer ∷ [],
       record {
-        taken = at.taken ++ line ∷ [];
+        taken = map strip_carriage_return at.whole ++ line ∷ [];
         left = lines (rest ++ later);
         state = next;
-        front = at.front ∙ ap (λ xs. at.taken ++ xs) (lines_at s.pending.items (rest ++ later) at.within) ∙ sym (append_assoc at.taken (line ∷ []) (lines (rest ++ later)));
-        answered = subst (λ xs. Runs empty (at.taken ++ line ∷ []) xs next) (append_assoc answers more (answer ∷ []))
-            (Runs-snoc empty at.taken (answers ++ more) s.script line answer next at.answered takes);
+        front = front_of input s (rest ++ later) (answers ++ more) at;
+        answered = Runs-snoc empty (map strip_carriage_return at.whole) (answers ++ more) s.script line answer next at.answered takes;
       },
-      (
-        text_of more ++ begin,
-        end,
-        flat_map-append (λ a. a.text) more (answer ∷ []) ∙ ap (λ xs. text_of more ++ xs) (append-nil answer.text ∙ parts) ∙ sym (append_assoc (text_of more) begin end),
-        Appends-trans before between after (text_of more) begin written some,
-      ),
-      λ other. absurd (other is_write),
+      (begin, end, text_of_one answer ∙ parts, some),
     ))
-    fails
+    fails) where
+      front_of : (input : List ℕ) (s : Session) (rest : List ℕ) (answers : List Said) (at : Follows input s (10 ∷ rest) answers)
+          → lines input ≡ (map strip_carriage_return at.whole ++ strip_carriage_return s.pending.items ∷ []) ++ lines rest
+      front_of input s rest answers at =
+          ap lines (at.is ∙ with_one_more at.whole s.pending.items rest)
+          ∙ lines_whole (at.whole ++ s.pending.items ∷ []) rest (All-push IsLine at.whole s.pending.items at.each at.pending)
+          ∙ ap (λ ls. ls ++ lines rest) (map-append strip_carriage_return at.whole (s.pending.items ∷ []))
 
 -- ---- one step after another
 
@@ -164,229 +213,114 @@ goes_trans old piece s front rest all t before between after first split second 
     let (further, there, told) = second input (rest ++ later) (answers ++ more) at' in (
       more ++ further,
       subst (λ xs. Follows input t (rest ++ later) xs) (append_assoc answers more further) there,
-      subst (Appends before after) (sym (flat_map-append (λ a. a.text) more further)) (Appends-trans before between after (text_of more) (text_of further) written told),
+      text_more more further before between after written told,
     )
 
 pub ends_trans : (old : Session) (piece : List ℕ) (s : Session) (front rest all : List ℕ) (fault : ScriptFault) (before between after : Option (List ℕ))
     → GoesOn old piece s all before between → all ≡ front ++ rest → EndsEarly s front fault between after → EndsEarly old piece fault before after
-ends_trans old piece s front rest all fault before between after first split second input later answers follows =
+ends_trans old piece s front rest all fault before between after first split second input later left answers follows =
     let (more, at, written) = first input later answers follows in
     let at' : Follows input s (front ++ (rest ++ later)) (answers ++ more) =
     subst (λ xs. Follows input s xs (answers ++ more)) (ap (λ xs. xs ++ later) split ∙ append_assoc front rest later) at in
-    let (further, there, (begin, end, parts, told), whole) = second input (rest ++ later) (answers ++ more) at' in (
-      more ++ further,
-      subst (AnswersFront input) (append_assoc answers more further) there,
-      (
-        text_of more ++ begin,
-        end,
-        flat_map-append (λ a. a.text) more further ∙ ap (λ xs. text_of more ++ xs) parts ∙ sym (append_assoc (text_of more) begin end),
-        Appends-trans before between after (text_of more) begin written told,
-      ),
-      λ other. subst (Appends before after) (sym (flat_map-append (λ a. a.text) more further)) (Appends-trans before between after (text_of more) (text_of further) written (whole other)),
-    )
+    leaves_after input left answers more fault before between after written (second input (rest ++ later) left (answers ++ more) at')
 
 -- bytes without a LF are held
 pub goes_held : (s : Session) (bytes : List ℕ) (t : Session) (before : Option (List ℕ))
-    → IsWithinLine bytes → t.pending.items ≡ s.pending.items ++ bytes → t.script ≡ s.script → t.lines ≡ s.lines → t.refused ≡ s.refused
+    → IsWithinLine bytes → length t.pending.items ≤ longest_line
+    → t.pending.items ≡ s.pending.items ++ bytes → t.script ≡ s.script → t.lines ≡ s.lines → t.refused ≡ s.refused
     → GoesOn s bytes t [] before before
-goes_held s bytes t before within pending script lines_same refused_same =
+goes_held s bytes t before within fits pending script lines_same refused_same =
     goes_grow s bytes s bytes [] t before before
     (subst (λ xs. GoesOn s bytes s xs before before) (sym (append-nil bytes)) (goes_start s bytes before))
-    within pending script lines_same refused_same
+    within fits pending script lines_same refused_same
+
+pub ends_held : (s : Session) (bytes : List ℕ) (fault : ScriptFault) (before : Option (List ℕ))
+    → IsWithinLine bytes → FailsToGrow s bytes fault → EndsEarly s bytes fault before before
+ends_held s bytes fault before within fails =
+    subst (λ xs. EndsEarly s xs fault before before) (append-nil bytes) (ends_to_grow s bytes [] fault before within fails)
 
 -- a line that ends at LF is taken
 pub goes_taken : (s : Session) (bytes : List ℕ) (held t : Session) (before after : Option (List ℕ))
-    → IsWithinLine bytes → held.pending.items ≡ s.pending.items ++ bytes → held.script ≡ s.script → held.lines ≡ s.lines → held.refused ≡ s.refused
+    → IsWithinLine bytes → length held.pending.items ≤ longest_line
+    → held.pending.items ≡ s.pending.items ++ bytes → held.script ≡ s.script → held.lines ≡ s.lines → held.refused ≡ s.refused
     → AnswersOne held (strip_carriage_return held.pending.items) t before after → GoesOn s (bytes ++ 10 ∷ []) t [] before after
-goes_taken s bytes held t before after within pending script lines_same refused_same one =
+goes_taken s bytes held t before after within fits pending script lines_same refused_same one =
     goes_line s (bytes ++ 10 ∷ []) held [] t before before after
-    (goes_grow s (bytes ++ 10 ∷ []) s bytes (10 ∷ []) held before before (goes_start s (bytes ++ 10 ∷ []) before) within pending script lines_same refused_same) one
+    (goes_grow s (bytes ++ 10 ∷ []) s bytes (10 ∷ []) held before before (goes_start s (bytes ++ 10 ∷ []) before) within fits pending script lines_same refused_same) one
 
 pub ends_taken : (s : Session) (bytes : List ℕ) (held : Session) (fault : ScriptFault) (before after : Option (List ℕ))
-    → IsWithinLine bytes → held.pending.items ≡ s.pending.items ++ bytes → held.script ≡ s.script → held.lines ≡ s.lines → held.refused ≡ s.refused
+    → IsWithinLine bytes → length held.pending.items ≤ longest_line
+    → held.pending.items ≡ s.pending.items ++ bytes → held.script ≡ s.script → held.lines ≡ s.lines → held.refused ≡ s.refused
     → FailsInOne held (strip_carriage_return held.pending.items) fault before after → EndsEarly s (bytes ++ 10 ∷ []) fault before after
-ends_taken s bytes held fault before after within pending script lines_same refused_same fails =
+ends_taken s bytes held fault before after within fits pending script lines_same refused_same fails =
     ends_in_line s (bytes ++ 10 ∷ []) held [] fault before before after
-    (goes_grow s (bytes ++ 10 ∷ []) s bytes (10 ∷ []) held before before (goes_start s (bytes ++ 10 ∷ []) before) within pending script lines_same refused_same) fails
-
-pub ends_here : (s : Session) (piece : List ℕ) (fault : ScriptFault) (before : Option (List ℕ)) → EndsEarly s piece fault before before
-ends_here s piece fault before = ends_between s piece s piece fault before before (goes_start s piece before)
+    (goes_grow s (bytes ++ 10 ∷ []) s bytes (10 ∷ []) held before before (goes_start s (bytes ++ 10 ∷ []) before) within fits pending script lines_same refused_same) fails
 
 -- ---- the end of the input
+
+all_lines : (input : List ℕ) (s : Session) (answers : List Said) (at : Follows input s [] answers)
+    → lines input ≡ map strip_carriage_return at.whole ++ lines s.pending.items
+all_lines input s answers at =
+    ap lines (at.is ∙ ap (λ xs. with_newlines at.whole ++ xs) (append-nil s.pending.items)) ∙ lines_whole at.whole s.pending.items at.each
+
+all_fit : (input : List ℕ) (s : Session) (answers : List Said) → Follows input s [] answers → LinesFit input
+all_fit input s answers at =
+    subst LinesFit (sym (at.is ∙ ap (λ xs. with_newlines at.whole ++ xs) (append-nil s.pending.items))) (lines_fit at.whole s.pending.items at.each at.pending)
+
+length_lines : (whole : List (List ℕ)) → length (map strip_carriage_return whole) ≡ length whole
+length_lines [] = refl
+length_lines (line ∷ whole) = omega (arith, length_lines whole)
 
 -- nothing is pending
 pub finishes_at_line : (s : Session) (tally : Tally) (before : Option (List ℕ)) → length s.pending.items ≡ 0
     → tally.lines ≡ s.lines → tally.refused ≡ s.refused → Finishes s tally before before
-finishes_at_line s tally before none lines_same refused_same input answers follows =
-    let at = follows in
-    let all : lines input ≡ at.taken = at.front ∙ ap (λ xs. at.taken ++ lines xs) (append-nil s.pending.items ∙ no_items s.pending.items none) ∙ append-nil at.taken in (
+finishes_at_line s tally before none lines_same refused_same input answers at =
+    let all : lines input ≡ map strip_carriage_return at.whole =
+    all_lines input s answers at ∙ ap (λ xs. map strip_carriage_return at.whole ++ lines xs) (no_bytes s.pending.items none) ∙ append-nil (map strip_carriage_return at.whole) in (
       [],
       s.script,
-      subst (λ ls. Runs empty ls (answers ++ []) s.script) (sym all) (subst (λ xs. Runs empty at.taken xs s.script) (sym (append-nil answers)) at.answered),
+      subst (λ ls. Runs empty ls (answers ++ []) s.script) (sym all) (subst (λ xs. Runs empty (map strip_carriage_return at.whole) xs s.script) (sym (append-nil answers)) at.answered),
       Appends-nil before,
-      lines_same ∙ at.lines ∙ ap length (sym all),
+      lines_same ∙ at.lines ∙ sym (length_lines at.whole) ∙ ap length (sym all),
       refused_same ∙ at.refused ∙ ap refusals (sym (append-nil answers)),
-    ) where
-      no_items : (xs : List ℕ) → length xs ≡ 0 → xs ≡ []
-      no_items [] e = refl
-      no_items (x ∷ xs) e = absurd (omega arith)
-
-whole : (p : List ℕ) → 0 < length p → cond (length p == 0) [] (p ∷ []) ≡ p ∷ []
-whole p some = grind (arith, nat_tests)
+      all_fit input s answers at,
+    )
 
 last_line : (input : List ℕ) (s : Session) (answers : List Said) (at : Follows input s [] answers) → 0 < length s.pending.items
-    → lines input ≡ at.taken ++ s.pending.items ∷ []
+    → lines input ≡ map strip_carriage_return at.whole ++ s.pending.items ∷ []
 last_line input s answers at some =
-    at.front ∙ ap (λ xs. at.taken ++ lines xs) (append-nil s.pending.items) ∙ ap (λ ls. at.taken ++ ls) (lines_last s.pending.items at.within ∙ whole s.pending.items some)
+    all_lines input s answers at ∙ ap (λ ls. map strip_carriage_return at.whole ++ ls) (lines_last s.pending.items at.pending.within ∙ one_line s.pending.items some)
 
 -- the pending bytes are the last line
 pub finishes_after_line : (s t : Session) (tally : Tally) (before after : Option (List ℕ)) → 0 < length s.pending.items
     → AnswersOne s s.pending.items t before after → tally.lines ≡ t.lines → tally.refused ≡ t.refused → Finishes s tally before after
-finishes_after_line s t tally before after some one lines_same refused_same input answers follows =
-    let at = follows in
+finishes_after_line s t tally before after some one lines_same refused_same input answers at =
+    let front = map strip_carriage_return at.whole in
     let all = last_line input s answers at some in (
       one.answer ∷ [],
       t.script,
-      subst (λ ls. Runs empty ls (answers ++ one.answer ∷ []) t.script) (sym all)
-          (Runs-snoc empty at.taken answers s.script s.pending.items one.answer t.script at.answered one.takes),
-      subst (Appends before after) (sym (append-nil one.answer.text)) one.written,
-      lines_same ∙ one.lines ∙ ap (λ n. n + 1) at.lines ∙ sym (length-append at.taken (s.pending.items ∷ [])) ∙ ap length (sym all),
+      subst (λ ls. Runs empty ls (answers ++ one.answer ∷ []) t.script) (sym all) (Runs-snoc empty front answers s.script s.pending.items one.answer t.script at.answered one.takes),
+      subst (Appends before after) (sym (text_of_one one.answer)) one.written,
+      lines_same ∙ one.lines ∙ ap (λ n. n + 1) (at.lines ∙ sym (length_lines at.whole)) ∙ sym (length-append front (s.pending.items ∷ [])) ∙ ap length (sym all),
       refused_same ∙ one.refused ∙ one_more s.refused one.answer (refusals answers) at.refused ∙ sym (refusals-append answers (one.answer ∷ [])),
+      all_fit input s answers at,
     )
 
 pub ends_in_last : (s : Session) (fault : ScriptFault) (before after : Option (List ℕ)) → 0 < length s.pending.items
     → FailsInOne s s.pending.items fault before after → EndsInLast s fault before after
-ends_in_last s fault before after some fails input answers follows =
-    let at = follows in
-    ⊎_elim (λ kept. let all = Appends-kept before before after [] (Appends-nil before) kept in
-    ([], subst (AnswersFront input) (sym (append-nil answers)) (front_of input s [] answers at), appends_all before after [] all, λ _. all))
-    (λ broken. let (is_write, answer, next, takes, (begin, end, parts, written)) = broken in (
+ends_in_last s fault before after some fails input left answers at =
+    ⊎_elim (λ kept. subst (λ f. LeavesMore input left answers f before after) (sym kept.0)
+    (leaves_here input left answers faults.NoMemory before after (s.pending.items ++ [], answered_before input s [] answers at) (Appends-kept before after kept.1)))
+    (λ broken. let (is_write, answer, next, takes, (begin, end, parts, written)) = broken in
+    subst (λ f. LeavesMore input left answers f before after) (sym is_write) (
       answer ∷ [],
       record {
-        taken = at.taken ++ s.pending.items ∷ [];
+        taken = map strip_carriage_return at.whole ++ s.pending.items ∷ [];
         left = [];
         state = next;
-        front = last_line input s answers at some ∙ sym (append-nil (at.taken ++ s.pending.items ∷ []));
-        answered = Runs-snoc empty at.taken answers s.script s.pending.items answer next at.answered takes;
+        front = last_line input s answers at some ∙ sym (append-nil (map strip_carriage_return at.whole ++ s.pending.items ∷ []));
+        answered = Runs-snoc empty (map strip_carriage_return at.whole) answers s.script s.pending.items answer next at.answered takes;
       },
-      (begin, end, append-nil answer.text ∙ parts, written),
-      λ other. absurd (other is_write),
+      (begin, end, text_of_one answer ∙ parts, written),
     ))
     fails
-
--- ---- a reader
-
--- Of what the reader had at first, where that is known, the session has come as far as the reader has, and the answers are written.
-abbrev pub HasRead : Option (List ℕ) → Option (List ℕ) → Session → Option (List ℕ) → Option (List ℕ) → Type 0
-HasRead first now session before after =
-    IfSome first (λ input. (rest : List ℕ) × (now ≡ Some rest) × ((answers : List Said) × Follows input session rest answers × Appends before after (text_of answers)))
-
-pub has_read_none : (first : Option (List ℕ)) (s : Session) (before : Option (List ℕ))
-    → s.script ≡ empty → s.lines ≡ 0 → s.refused ≡ 0 → s.pending.items ≡ [] → HasRead first first s before before
-has_read_none None s before script lines_none refused_none pending = tt
-has_read_none (Some input) s before script lines_none refused_none pending = (
-  input,
-  refl,
-  (
-    [],
-    record {
-      taken = [];
-      front = ap (λ xs. lines (xs ++ input)) (sym pending);
-      answered = (refl, script);
-      within = subst IsWithinLine (sym pending) (λ k d small. absurd (omega arith));
-      lines = lines_none;
-      refused = refused_none;
-    },
-    Appends-nil before,
-  ),
-)
-
-pub has_read_kept : (first now new : Option (List ℕ)) (s : Session) (before after : Option (List ℕ))
-    → HasRead first now s before after → Keeps now new → HasRead first new s before after
-has_read_kept None now new s before after read kept = tt
-has_read_kept (Some input) now new s before after (rest, is, more) kept = (rest, same new (subst (λ o. Keeps o new) is kept), more) where
-  same : (o : Option (List ℕ)) → Keeps (Some rest) o → o ≡ Some rest
-  same None none = absurd none
-  same (Some xs) e = ap Some e
-
-consumed : (rest piece : List ℕ) (new : Option (List ℕ)) → Consumes (Some rest) new piece → (later : List ℕ) × (new ≡ Some later) × (rest ≡ piece ++ later)
-consumed rest piece None none = absurd none
-consumed rest piece (Some later) e = (later, refl, e)
-
-pub has_read_more : (first now new : Option (List ℕ)) (s : Session) (piece : List ℕ) (t : Session) (before between after : Option (List ℕ))
-    → HasRead first now s before between → Consumes now new piece → GoesOn s piece t [] between after → HasRead first new t before after
-has_read_more None now new s piece t before between after read took goes = tt
-has_read_more (Some input) now new s piece t before between after (rest, is, (answers, at, written)) took goes =
-    let (later, now_later, split) = consumed rest piece new (subst (λ o. Consumes o new piece) is took) in
-    let (more, there, told) = goes input later answers (subst (λ xs. Follows input s xs answers) split at) in
-    (later, now_later, (answers ++ more, there, subst (Appends before after) (sym (flat_map-append (λ a. a.text) answers more)) (Appends-trans before between after _ _ written told)))
-
-left_at : (input : List ℕ) (answers : List Said) (fault : ScriptFault) (before between after : Option (List ℕ))
-    → Appends before between (text_of answers) → FaultLeaves input answers fault between after
-    → IsWrittenInPart input before after × (fault ≢ Write → IsCutShort input before after)
-left_at input answers fault before between after written (more, front, (begin, end, parts, told), whole_lines) = (
-  (
-    answers ++ more,
-    front,
-    (
-      text_of answers ++ begin,
-      end,
-      flat_map-append (λ a. a.text) answers more ∙ ap (λ xs. text_of answers ++ xs) parts ∙ sym (append_assoc (text_of answers) begin end),
-      Appends-trans before between after (text_of answers) begin written told,
-    ),
-  ),
-  λ other. (answers ++ more, front, subst (Appends before after) (sym (flat_map-append (λ a. a.text) answers more)) (Appends-trans before between after _ _ written (whole_lines other))),
-)
-
-pub leaves_in_piece : (first now new : Option (List ℕ)) (s : Session) (piece : List ℕ) (fault : ScriptFault) (before between after : Option (List ℕ))
-    → HasRead first now s before between → Consumes now new piece → EndsEarly s piece fault between after → Leaves first fault before after
-leaves_in_piece None now new s piece fault before between after read took ends = tt
-leaves_in_piece (Some input) now new s piece fault before between after (rest, is, (answers, at, written)) took ends =
-    let (later, now_later, split) = consumed rest piece new (subst (λ o. Consumes o new piece) is took) in
-    left_at input answers fault before between after written (ends input later answers (subst (λ xs. Follows input s xs answers) split at))
-
-pub leaves_between : (first now : Option (List ℕ)) (s : Session) (fault : ScriptFault) (before after : Option (List ℕ))
-    → HasRead first now s before after → Leaves first fault before after
-leaves_between None now s fault before after read = tt
-leaves_between (Some input) now s fault before after (rest, is, (answers, at, written)) =
-    left_at input answers fault before after after written (ends_here s rest fault after input [] answers (subst (λ xs. Follows input s xs answers) (sym (append-nil rest)) at))
-
-at_end : (rest : List ℕ) (new : Option (List ℕ)) → new ≡ Some rest → IsAtEnd new → rest ≡ []
-at_end rest new is ended = subst IsAtEnd is ended
-
-pub leaves_in_last : (first now : Option (List ℕ)) (s : Session) (fault : ScriptFault) (before between after : Option (List ℕ))
-    → HasRead first now s before between → IsAtEnd now → EndsInLast s fault between after → Leaves first fault before after
-leaves_in_last None now s fault before between after read ended ends = tt
-leaves_in_last (Some input) now s fault before between after (rest, is, (answers, at, written)) ended ends =
-    left_at input answers fault before between after written (ends input answers (subst (λ xs. Follows input s xs answers) (at_end rest now is ended) at))
-
-pub done_at_end : (first now : Option (List ℕ)) (s : Session) (tally : Tally) (before between after : Option (List ℕ))
-    → HasRead first now s before between → IsAtEnd now → Finishes s tally between after → IfSome first (λ input. IsDone input before after tally)
-done_at_end None now s tally before between after read ended finishes = tt
-done_at_end (Some input) now s tally before between after (rest, is, (answers, at, written)) ended finishes =
-    let (more, state, all, told, lines_all, refused_all) = finishes input answers (subst (λ xs. Follows input s xs answers) (at_end rest now is ended) at) in
-    record {
-      answers = answers ++ more;
-      state = state;
-      answered = all;
-      written = subst (Appends before after) (sym (flat_map-append (λ a. a.text) answers more)) (Appends-trans before between after _ _ written told);
-      lines = lines_all;
-      refused = refused_all;
-    }
-
--- nothing was read
-pub leaves_nothing : (first : Option (List ℕ)) (fault : ScriptFault) (before : Option (List ℕ)) → Leaves first fault before before
-leaves_nothing None fault before = tt
-leaves_nothing (Some input) fault before =
-    let none : AnswersFront input [] = record { taken = []; left = lines input; state = empty; front = refl; answered = (refl, refl) } in
-    (([], none, ([], [], refl, Appends-nil before)), λ _. ([], none, Appends-nil before))
-
-pub leaves_in_part : (first : Option (List ℕ)) (fault : ScriptFault) (before after : Option (List ℕ)) → Leaves first fault before after
-    → IfSome first (λ input. IsWrittenInPart input before after)
-leaves_in_part None fault before after leaves = tt
-leaves_in_part (Some input) fault before after leaves = leaves.0
-
-pub leaves_cut_short : (first : Option (List ℕ)) (fault : ScriptFault) (before after : Option (List ℕ)) → Leaves first fault before after
-    → fault ≢ Write → IfSome first (λ input. IsCutShort input before after)
-leaves_cut_short None fault before after leaves other = tt
-leaves_cut_short (Some input) fault before after leaves other = leaves.1 other

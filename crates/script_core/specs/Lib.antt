@@ -1,6 +1,7 @@
 pub mod Answer
 pub mod Comments
 pub mod Fields
+pub mod Laws
 pub mod Lines
 pub mod Requests
 pub mod Runs

@@ -1,14 +1,14 @@
-use Rattle.std.specs.Prelude.{◌≡◌, ◌≢◌, ℕ, List, [], ◌∷◌, ◌++◌, length, count_by, Option, IfSome}
+use Rattle.std.specs.Prelude.{◌≡◌, ℕ, List, [], ◌∷◌, ◌++◌, length, map, All, count_by, Option, Some}
 use Rattle.std.specs.List.{flat_map}
-use Rattle.std.specs.Str.Lines.{lines}
+use Rattle.std.specs.Str.Lines.{lines, strip_carriage_return}
 use Rattle.std.specs.Io.KnownBytes.{Appends}
-use Rattle.script_core.specs.State.{State}
 use Rattle.script_core.specs.Answer.{Said}
+use Rattle.script_core.specs.Lines.{IsLine, IsTooLong, LinesFit, with_newlines}
 use Rattle.script_core.specs.Script.{Takes}
-use Rattle.script_core.specs.State.{empty}
+use Rattle.script_core.specs.State.{State, empty}
 use Rattle.script_core.specs.Writing.{AppendsBeginning}
 use Rattle.script_core.specs.declared.faults.ScriptFault.{ScriptFault}
-use Rattle.script_core.specs.declared.faults.ScriptFault.TheVariants.{Write}
+use Rattle.script_core.specs.declared.faults.ScriptFault.TheVariants as faults
 use Rattle.script_core.specs.declared.tallies.Tally.{Tally}
 
 -- in state s these lines are answered so, one after another, and t is the state that they leave
@@ -25,14 +25,6 @@ text_of answers = flat_map (λ a. a.text) answers
 abbrev pub refusals : List Said → ℕ
 refusals answers = count_by (λ a. a.refused) answers
 
--- lines at the front of a script were taken, with these answers
-pub record AnswersFront (input : List ℕ) (answers : List Said) : Type 0 where
-  pub taken : List (List ℕ)
-  pub left : List (List ℕ)
-  pub state : State
-  pub front : lines input ≡ taken ++ left
-  pub answered : Runs empty taken answers state
-
 -- the script was answered to its end
 pub record IsDone (input : List ℕ) (old new : Option (List ℕ)) (tally : Tally) : Type 0 where
   pub answers : List Said
@@ -41,15 +33,61 @@ pub record IsDone (input : List ℕ) (old new : Option (List ℕ)) (tally : Tall
   pub written : Appends old new (text_of answers)
   pub lines : tally.lines ≡ length (lines input)
   pub refused : tally.refused ≡ refusals answers
+  pub fits : LinesFit input
 
--- whole lines at the front of the script were answered, and nothing else was written
-abbrev pub IsCutShort : List ℕ → Option (List ℕ) → Option (List ℕ) → Type 0
-IsCutShort input old new = (answers : List Said) × AnswersFront input answers × Appends old new (text_of answers)
+-- ---- what a fault leaves
 
--- a beginning of the text of the answers to lines at the front of the script was written
-abbrev pub IsWrittenInPart : List ℕ → Option (List ℕ) → Option (List ℕ) → Type 0
-IsWrittenInPart input old new = (answers : List Said) × AnswersFront input answers × AppendsBeginning old new (text_of answers)
+-- the script is whole lines that were answered so, and the rest
+pub record Answered (input rest : List ℕ) (answers : List Said) : Type 0 where
+  pub whole : List (List ℕ)
+  pub state : State
+  pub is : input ≡ with_newlines whole ++ rest
+  pub each : All IsLine whole
+  pub answered : Runs empty (map strip_carriage_return whole) answers state
 
--- What a fault leaves of a run, where the bytes that the reader had at first are known.
-abbrev pub Leaves : Option (List ℕ) → ScriptFault → Option (List ℕ) → Option (List ℕ) → Type 0
-Leaves first fault before after = IfSome first (λ input. IsWrittenInPart input before after × (fault ≢ Write → IsCutShort input before after))
+-- the reader left this of the script, and all whole lines before it were answered so
+pub record IsLeft (input : List ℕ) (left : Option (List ℕ)) (answers : List Said) : Type 0 where
+  pub begun : List ℕ
+  pub rest : List ℕ
+  pub has : left ≡ Some rest
+  pub is_begun : IsLine begun
+  pub before : Answered input (begun ++ rest) answers
+
+-- a line of the script is too long, and all lines before it were answered so
+pub record IsBeforeLongLine (input : List ℕ) (answers : List Said) : Type 0 where
+  pub line : List ℕ
+  pub rest : List ℕ
+  pub too_long : IsTooLong line
+  pub before : Answered input (line ++ rest) answers
+
+-- whole lines at the front of the script were answered so
+abbrev pub IsBetweenLines : List ℕ → List Said → Type 0
+IsBetweenLines input answers = (rest : List ℕ) × Answered input rest answers
+
+-- lines at the front of the script were answered so, the last of them in part
+pub record IsWithinAnswers (input : List ℕ) (answers : List Said) : Type 0 where
+  pub taken : List (List ℕ)
+  pub left : List (List ℕ)
+  pub state : State
+  pub front : lines input ≡ taken ++ left
+  pub answered : Runs empty taken answers state
+
+-- where in the script a fault ends its run, and which answers were given before
+abbrev pub StopsAt : ScriptFault → List ℕ → Option (List ℕ) → List Said → Type 0
+StopsAt faults.NoMemory input left answers = IsBetweenLines input answers
+StopsAt faults.Read input left answers = IsLeft input left answers
+StopsAt faults.Write input left answers = IsWithinAnswers input answers
+StopsAt faults.LineTooLong input left answers = IsBeforeLongLine input answers
+StopsAt faults.TurnsSpent input left answers = IsLeft input left answers
+
+-- the writer's fault leaves a beginning of the text, any other fault all of it
+abbrev pub Writes : ScriptFault → Option (List ℕ) → Option (List ℕ) → List ℕ → Type 0
+Writes faults.NoMemory old new text = Appends old new text
+Writes faults.Read old new text = Appends old new text
+Writes faults.Write old new text = AppendsBeginning old new text
+Writes faults.LineTooLong old new text = Appends old new text
+Writes faults.TurnsSpent old new text = Appends old new text
+
+-- What a fault leaves of a run: the answers before it, written. `left` is what the reader still has, where that is known.
+abbrev pub Leaves : ScriptFault → List ℕ → Option (List ℕ) → Option (List ℕ) → Option (List ℕ) → Type 0
+Leaves fault input left before after = (answers : List Said) × StopsAt fault input left answers × Writes fault before after (text_of answers)

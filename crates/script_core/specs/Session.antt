@@ -1,26 +1,25 @@
-use Rattle.std.specs.Prelude.{◌≡◌, ◌≢◌, ◌+◌, ◌⊎◌, ℕ, List, [], ◌++◌, All, false, length, Option, if◌then◌else◌}
-use Rattle.std.specs.Str.Lines.{lines}
+use Rattle.std.specs.Prelude.{◌≡◌, ◌+◌, ◌<◌, ◌⊎◌, ℕ, List, [], ◌++◌, All, length, map, Option, if◌then◌else◌}
+use Rattle.std.specs.Str.Lines.{lines, strip_carriage_return}
 use Rattle.std.specs.Io.KnownBytes.{Appends, Keeps}
-use Rattle.script_core.specs.Lines.{IsWithinLine}
-use Rattle.script_core.specs.State.{State}
 use Rattle.script_core.specs.Answer.{Said}
+use Rattle.script_core.specs.Lines.{IsLine, LinesFit, longest_line, with_newlines}
+use Rattle.script_core.specs.Runs.{Runs, text_of, refusals, StopsAt, Writes}
 use Rattle.script_core.specs.Script.{Takes}
-use Rattle.script_core.specs.State.{empty}
-use Rattle.script_core.specs.Runs.{Runs, text_of, refusals, AnswersFront}
+use Rattle.script_core.specs.State.{State, empty}
 use Rattle.script_core.specs.Writing.{AppendsBeginning}
 use Rattle.script_core.specs.declared.sessions.Session.{Session}
 use Rattle.script_core.specs.declared.tallies.Tally.{Tally}
 use Rattle.script_core.specs.declared.faults.ScriptFault.{ScriptFault}
-use Rattle.script_core.specs.declared.faults.ScriptFault.TheVariants.{Write}
+use Rattle.script_core.specs.declared.faults.ScriptFault.TheVariants.{NoMemory, Write, LineTooLong}
 
--- Of the input the lines before the pending bytes were taken, with these answers; the pending bytes begin the
--- next line, and rest follows them.
+-- The input is whole lines, which were taken with these answers, the pending bytes, which begin the next line, and the rest.
 pub record Follows (input : List ℕ) (session : Session) (rest : List ℕ) (answers : List Said) : Type 0 where
-  pub taken : List (List ℕ)
-  pub front : lines input ≡ taken ++ lines (session.pending.items ++ rest)
-  pub answered : Runs empty taken answers session.script
-  pub within : IsWithinLine session.pending.items
-  pub lines : session.lines ≡ length taken
+  pub whole : List (List ℕ)
+  pub is : input ≡ with_newlines whole ++ (session.pending.items ++ rest)
+  pub each : All IsLine whole
+  pub pending : IsLine session.pending.items
+  pub answered : Runs empty (map strip_carriage_return whole) answers session.script
+  pub lines : session.lines ≡ length whole
   pub refused : session.refused ≡ refusals answers
 
 -- The session goes on from the piece to the rest of it, and the answers are written.
@@ -29,15 +28,16 @@ GoesOn old piece new rest before after =
     (input later : List ℕ) (answers : List Said) → Follows input old (piece ++ later) answers
     → (more : List Said) × Follows input new (rest ++ later) (answers ++ more) × Appends before after (text_of more)
 
--- What a fault leaves: by a writer's fault the writing ended within the text of answers, by any other fault at the end of a line's answer.
-abbrev pub FaultLeaves : List ℕ → List Said → ScriptFault → Option (List ℕ) → Option (List ℕ) → Type 0
-FaultLeaves input answers fault before after =
-    (more : List Said) × AnswersFront input (answers ++ more) × AppendsBeginning before after (text_of more) × (fault ≢ Write → Appends before after (text_of more))
+-- What a fault leaves, where these answers were written before.
+abbrev pub LeavesMore : List ℕ → Option (List ℕ) → List Said → ScriptFault → Option (List ℕ) → Option (List ℕ) → Type 0
+LeavesMore input left answers fault before after =
+    (more : List Said) × StopsAt fault input left (answers ++ more) × Writes fault before after (text_of more)
 
 -- The session ends early, somewhere in the piece.
 abbrev pub EndsEarly : Session → List ℕ → ScriptFault → Option (List ℕ) → Option (List ℕ) → Type 0
 EndsEarly old piece fault before after =
-    (input later : List ℕ) (answers : List Said) → Follows input old (piece ++ later) answers → FaultLeaves input answers fault before after
+    (input later : List ℕ) (left : Option (List ℕ)) (answers : List Said) → Follows input old (piece ++ later) answers
+    → LeavesMore input left answers fault before after
 
 -- One line was taken, its answer was written, and nothing is pending.
 pub record AnswersOne (old : Session) (line : List ℕ) (new : Session) (before after : Option (List ℕ)) : Type 0 where
@@ -48,18 +48,24 @@ pub record AnswersOne (old : Session) (line : List ℕ) (new : Session) (before 
   pub refused : new.refused ≡ (if answer.refused then old.refused + 1 else old.refused)
   pub written : Appends before after answer.text
 
+-- The bytes can't be put behind the pending ones: memory ran out, or the line would be too long.
+abbrev pub FailsToGrow : Session → List ℕ → ScriptFault → Type 0
+FailsToGrow session bytes fault = (fault ≡ NoMemory) ⊎ ((fault ≡ LineTooLong) × (longest_line < length session.pending.items + length bytes))
+
 -- Nothing was written, or by a writer's fault a beginning of the line's answer.
 abbrev pub FailsInOne : Session → List ℕ → ScriptFault → Option (List ℕ) → Option (List ℕ) → Type 0
 FailsInOne old line fault before after =
-    Keeps before after ⊎ ((fault ≡ Write) × (answer : Said) × (next : State) × Takes old.script line answer next × AppendsBeginning before after answer.text)
+    ((fault ≡ NoMemory) × Keeps before after)
+    ⊎ ((fault ≡ Write) × (answer : Said) × (next : State) × Takes old.script line answer next × AppendsBeginning before after answer.text)
 
 -- The session is at the end of the input: its last line is answered, and the tally counts all lines.
 abbrev pub Finishes : Session → Tally → Option (List ℕ) → Option (List ℕ) → Type 0
 Finishes session tally before after =
     (input : List ℕ) (answers : List Said) → Follows input session [] answers
     → (more : List Said) × (state : State) × Runs empty (lines input) (answers ++ more) state × Appends before after (text_of more)
-    × (tally.lines ≡ length (lines input)) × (tally.refused ≡ refusals (answers ++ more))
+    × (tally.lines ≡ length (lines input)) × (tally.refused ≡ refusals (answers ++ more)) × LinesFit input
 
 -- The session ends early in its last line, behind which the input has nothing.
 abbrev pub EndsInLast : Session → ScriptFault → Option (List ℕ) → Option (List ℕ) → Type 0
-EndsInLast session fault before after = (input : List ℕ) (answers : List Said) → Follows input session [] answers → FaultLeaves input answers fault before after
+EndsInLast session fault before after =
+    (input : List ℕ) (left : Option (List ℕ)) (answers : List Said) → Follows input session [] answers → LeavesMore input left answers fault before after

@@ -36,6 +36,13 @@ impl Answer {
         })
     }
 
+    /// The refusal of a line that asks for sites before at least two of them stand.
+    pub(crate) fn no_world(alloc: Global) -> Result<Answer, AllocError>
+        ensures { IfOk result (λ a. answer_of a ≡ refused (codes "NoWorld")) }
+    {
+        Answer::refused(alloc, "NoWorld")
+    }
+
     /// The refusal of a line at a site that doesn't exist.
     pub(crate) fn no_site(alloc: Global, name: &str) -> Result<Answer, AllocError>
         ensures { IfOk result (λ a. answer_of a ≡ refused (codes "NoSite " ++ name.now)) }

@@ -6,6 +6,7 @@
 mod answers;
 mod faults;
 mod fields;
+pub mod laws;
 mod lines;
 mod runs;
 mod scripts;
@@ -18,3 +19,4 @@ mod writing;
 pub use faults::ScriptFault;
 pub use runs::run_script;
 pub use tallies::Tally;
+pub use writing::write_text;

@@ -1,6 +1,6 @@
-ghost use Rattle.std.specs.Prelude.{◌≡◌, ◌≢◌, ◌<◌, ◌≤◌, take, length, IfOk, IfErr, IfSome, MatchOption};
+ghost use Rattle.std.specs.Prelude.{◌≡◌, ◌<◌, ◌≤◌, take, length, IfOk, IfErr, IfSome, MatchOption};
 ghost use Rattle.std.specs.Io.KnownBytes.{Keeps, Consumes, IsAtEnd};
-ghost use Rattle.script_core.specs.Runs.{IsDone, IsCutShort, IsWrittenInPart, Leaves};
+ghost use Rattle.script_core.specs.Runs.{IsDone, Leaves};
 
 use crate::faults::ScriptFault;
 use crate::sessions::Session;
@@ -19,8 +19,12 @@ const PIECE: usize = 8_192;
 ///
 /// A script is lines ended by LF or CR LF; the last may lack it. A line has at most 16,777,216
 /// bytes before its LF, and the reader is asked at most 16,777,216 times, interrupted reads among
-/// them. After a fault the answers to the lines before were written, and nothing else; after
-/// [`ScriptFault::Write`] a beginning of the answers' text was.
+/// them.
+///
+/// What a fault leaves: [`ScriptFault::Read`] and [`ScriptFault::TurnsSpent`] the answers to all whole
+/// lines that were read, [`ScriptFault::LineTooLong`] those to all lines before the first that is too
+/// long, [`ScriptFault::NoMemory`] those to whole lines at the front, and [`ScriptFault::Write`] a
+/// beginning of the answers' text.
 pub fn run_script<R: Read, W: Write>(
     alloc: Global,
     reader: &mut R,
@@ -29,12 +33,9 @@ pub fn run_script<R: Read, W: Write>(
     // What was written is the answers to what was read.
     ensures done { IfOk result (λ tally. IfSome (R.remaining reader.old) (λ input.
         IsDone input (W.contents writer.old) (W.contents writer.new) tally)) }
-    // After a fault of the reader, of a limit or of memory whole lines were answered.
-    ensures cut_short { IfErr result (λ fault. fault ≢ ScriptFault.Write → IfSome (R.remaining reader.old) (λ input.
-        IsCutShort input (W.contents writer.old) (W.contents writer.new))) }
-    // After any fault a beginning of the answers' text was written.
-    ensures in_part { IfErr result (λ fault. IfSome (R.remaining reader.old) (λ input.
-        IsWrittenInPart input (W.contents writer.old) (W.contents writer.new))) }
+    // After a fault the answers before it were written.
+    ensures fault { IfErr result (λ fault. IfSome (R.remaining reader.old) (λ input.
+        Leaves fault input (R.remaining reader.new) (W.contents writer.old) (W.contents writer.new))) }
 {
     let mut buffer = vec![in alloc; 0u8; PIECE]?;
     run_pieces(alloc, reader, writer, buffer.as_mut_slice())
@@ -50,7 +51,8 @@ fn run_pieces<R: Read, W: Write>(
     requires { length buffer.old ≡ PIECE }
     ensures done { IfOk result (λ tally. IfSome (R.remaining reader.old) (λ input.
         IsDone input (W.contents writer.old) (W.contents writer.new) tally)) }
-    ensures fault { IfErr result (λ fault. Leaves (R.remaining reader.old) fault (W.contents writer.old) (W.contents writer.new)) }
+    ensures fault { IfErr result (λ fault. IfSome (R.remaining reader.old) (λ input.
+        Leaves fault input (R.remaining reader.new) (W.contents writer.old) (W.contents writer.new))) }
 {
     let mut session = Session::new(alloc);
     for _ in 0..MOST_READS {
@@ -70,7 +72,7 @@ fn read_once<R: Read>(reader: &mut R, buffer: &mut [u8]) -> Result<Option<usize>
         (λ n. Consumes (R.remaining reader.old) (R.remaining reader.new) (take n buffer.new))) }
     ensures bound { IfOk result (λ read. IfSome read (λ n. n ≤ length buffer.new)) }
     ensures end { IfOk result (λ read. IfSome read (λ n. n ≡ 0 → IsAtEnd (R.remaining reader.new))) }
-    ensures err { IfErr result (λ fault. fault ≡ ScriptFault.Read) }
+    ensures err { IfErr result (λ fault. (fault ≡ ScriptFault.Read) × Keeps (R.remaining reader.old) (R.remaining reader.new)) }
 {
     match reader.read(buffer) {
         Ok(count) => Ok(Some(count)),

@@ -95,7 +95,7 @@ impl Script {
         ensures { IfOk result (λ a. says (answer_of a) self.new ≡ capture_outcome self.old name.now document.now) }
     {
         if !self.sites.ready() {
-            return Answer::refused(alloc, "NoWorld");
+            return Answer::no_world(alloc);
         }
         self.fixed = true;
         match self.sites.find(name) {
@@ -127,7 +127,7 @@ impl Script {
         ensures { IfOk result (λ a. ReachWhere self.old name.now item.now (is_ready self.old) (says (answer_of a) self.new)) }
     {
         if !self.sites.ready() {
-            return Answer::refused(alloc, "NoWorld");
+            return Answer::no_world(alloc);
         }
         self.fixed = true;
         match self.sites.find(name) {

@@ -1,6 +1,6 @@
-ghost use Rattle.std.specs.Prelude.{◌≡◌, ◌≢◌, ℕ, ◌+◌, ◌^◌, ◌<◌, ◌≤◌, List, [], ◌∷◌, ◌++◌, Option, length, take, OnOk, IfOk, IfErr, vec_len, IfNone, IfSome};
+ghost use Rattle.std.specs.Prelude.{◌≡◌, ℕ, ◌+◌, ◌^◌, ◌<◌, ◌≤◌, List, [], ◌∷◌, ◌++◌, Option, length, take, OnOk, IfOk, IfErr, vec_len, IfNone, IfSome};
 ghost use Rattle.std.specs.Str.Lines.{strip_carriage_return};
-ghost use Rattle.script_core.specs.Lines.{IsWithinLine, EndsAt};
+ghost use Rattle.script_core.specs.Lines.{IsWithinLine, EndsAt, longest_line};
 
 use crate::faults::ScriptFault;
 use crate::scripts::Script;
@@ -23,7 +23,7 @@ pub(crate) struct Session {
 
 impl Session {
     ghost use Rattle.script_core.specs.State.{empty};
-    ghost use Rattle.script_core.specs.Session.{AnswersOne, FailsInOne, GoesOn, EndsEarly, Finishes, EndsInLast};
+    ghost use Rattle.script_core.specs.Session.{AnswersOne, FailsInOne, FailsToGrow, GoesOn, EndsEarly, Finishes, EndsInLast};
 
     /// A session of which nothing was read.
     pub(crate) fn new(alloc: Global) -> Session
@@ -167,8 +167,8 @@ impl Session {
 
     /// Puts bytes without a LF behind the pending ones.
     fn grow(&mut self, bytes: &[u8]) -> Result<(), ScriptFault>
-        ensures ok { OnOk result (self.new.pending.items ≡ self.old.pending.items ++ bytes.now) }
-        ensures err { IfErr result (λ e. e ≢ ScriptFault.Write) }
+        ensures ok { OnOk result ((length self.new.pending.items ≤ longest_line) × (self.new.pending.items ≡ self.old.pending.items ++ bytes.now)) }
+        ensures err { IfErr result (λ e. FailsToGrow self.old bytes.now e) }
         ensures script { self.new.script ≡ self.old.script }
         ensures lines { self.new.lines ≡ self.old.lines }
         ensures refused { self.new.refused ≡ self.old.refused }

@@ -7,7 +7,7 @@ use std::io::{ErrorKind, Write};
 
 /// Writes all of a text. An interrupted write is made again; after any other fault a beginning of
 /// the text was written.
-pub(crate) fn write_text<W: Write>(writer: &mut W, text: &[u8]) -> Result<(), ScriptFault>
+pub fn write_text<W: Write>(writer: &mut W, text: &[u8]) -> Result<(), ScriptFault>
     ensures ok { OnOk result (Appends (W.contents writer.old) (W.contents writer.new) text.now) }
     ensures err { OnErr result (AppendsBeginning (W.contents writer.old) (W.contents writer.new) text.now) }
     ensures fault { IfErr result (λ e. e ≡ ScriptFault.Write) }

@@ -164,3 +164,83 @@ fn a_line_has_a_limit(rt: HostRuntime) -> Result<(), Fail> {
     assert!(rt; written.is_empty());
     Ok(())
 }
+
+/// Interrupts each other read, or all of them, and gives one byte at a time.
+#[derive(Drop)]
+struct Interrupted<'a> {
+    rest: &'a [u8],
+    always: bool,
+    asked: u64,
+}
+
+impl Read for Interrupted<'_> {
+    fn read(&mut self, buffer: &mut [u8]) -> io::Result<usize> {
+        self.asked = self.asked.wrapping_add(1);
+        if self.always || self.asked % 2 == 1 {
+            return Err(Error::from(ErrorKind::Interrupted));
+        }
+        let count = self.rest.len().min(buffer.len()).min(1);
+        let (front, rest) = self.rest.split_at(count);
+        let (into, _) = buffer.split_at_mut(count);
+        into.copy_from_slice(front);
+        self.rest = rest;
+        Ok(count)
+    }
+}
+
+/// Interrupts each other write, and takes one byte at a time.
+#[derive(Drop)]
+struct Halting {
+    written: Vec<u8>,
+    asked: u64,
+}
+
+impl Write for Halting {
+    fn write(&mut self, bytes: &[u8]) -> io::Result<usize> {
+        self.asked = self.asked.wrapping_add(1);
+        if self.asked % 2 == 1 {
+            return Err(Error::from(ErrorKind::Interrupted));
+        }
+        let (front, _) = bytes.split_at(bytes.len().min(1));
+        self.written.extend_from_slice(front)?;
+        Ok(front.len())
+    }
+
+    fn flush(&mut self) -> io::Result<()> {
+        Ok(())
+    }
+}
+
+#[test]
+fn interrupted_reads_and_writes_are_made_again(rt: HostRuntime) -> Result<(), Fail> {
+    let alloc = rt.alloc();
+    let mut reader = Interrupted {
+        rest: SCRIPT.as_bytes(),
+        always: false,
+        asked: 0,
+    };
+    let mut writer = Halting {
+        written: Vec::new(alloc),
+        asked: 0,
+    };
+    let tally = run_script(alloc, &mut reader, &mut writer)?;
+    assert_eq!(rt; tally.lines, 5);
+    assert_eq!(rt; tally.refused, 1);
+    assert_eq!(rt; writer.written.as_slice(), ALL.as_bytes());
+    Ok(())
+}
+
+#[test]
+fn a_reader_is_asked_a_limited_number_of_times(rt: HostRuntime) -> Result<(), Fail> {
+    let mut reader = Interrupted {
+        rest: SCRIPT.as_bytes(),
+        always: true,
+        asked: 0,
+    };
+    let mut written = Vec::new(rt.alloc());
+    let outcome = run_script(rt.alloc(), &mut reader, &mut written);
+    assert!(rt; outcome == Err(ScriptFault::TurnsSpent));
+    assert_eq!(rt; reader.asked, 16_777_216);
+    assert!(rt; written.is_empty());
+    Ok(())
+}

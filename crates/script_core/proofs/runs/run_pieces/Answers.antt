@@ -2,7 +2,8 @@ use Rattle.std.proofs.Common.{◌≡◌, ◌*◌, ◌+◌, ◌≤◌, ℕ, List,
 use Rattle.std.specs.Io.KnownBytes.{Keeps, Consumes, IsAtEnd}
 use Rattle.std.proofs.lemmas.Result.{err_from_is_err_and, MatchResult-weaker}
 use Rattle.script_core.specs.Session.{GoesOn, EndsEarly}
-use Rattle.script_core.proofs.SessionLemmas.{HasRead, goes_start, has_read_none, has_read_kept, has_read_more, leaves_between, leaves_in_piece, leaves_in_last, done_at_end}
+use Rattle.script_core.proofs.SessionLemmas.{goes_start}
+use Rattle.script_core.proofs.ReaderLemmas.{HasRead, has_read_none, has_read_kept, has_read_more, leaves_at_read, leaves_spent, leaves_in_piece, leaves_in_last, done_at_end}
 use Rattle.script_core.proofs.runs.run_pieces.Goals.{in-None, in-Some+in_ok-feed-in-Some}
 use Rattle.script_core.proofs.runs.run_pieces.Goals as goal
 
@@ -32,7 +33,7 @@ loop-init g c =
 pub returns-in_err-read_once-clause-fault : goal.returns-in_err-read_once-clause-fault
 returns-in_err-read_once-clause-fault g c =
     let p = err_from_is_err_and c.from_residual.result c.from_residual.ensures.1 in
-    rw (p.1, p.2) (leaves_between _ _ _ _ _ _ c.loop.invariant.read)
+    rw (p.1, p.2) (leaves_at_read _ _ _ _ _ _ _ c.loop.invariant.read c.in_err-read_once.ensures.err)
 
 -- at the end the reader gave no bytes
 pub returns-in-Some-eq0-clause-done : goal.returns-in-Some-eq0-clause-done
@@ -75,4 +76,4 @@ loop-preserved g c =
     ]
 
 pub returns-clause-fault : goal.returns-clause-fault
-returns-clause-fault g c = leaves_between _ _ _ _ _ _ c.loop.invariant.read
+returns-clause-fault g c = leaves_spent _ _ _ _ _ c.loop.invariant.read

@@ -1,5 +1,5 @@
 use Rattle.std.proofs.Common.{◌≡◌, ◌*◌, ◌≤◌, length}
-use Rattle.script_core.proofs.SessionLemmas.{HasRead}
+use Rattle.script_core.proofs.ReaderLemmas.{HasRead}
 use Rattle.script_core.proofs.runs.run_pieces.Given as goal
 
 -- the session has come as far as the reader

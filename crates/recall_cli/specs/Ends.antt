@@ -1,0 +1,70 @@
+-- How a command ends: with which status, and what it leaves on its streams.
+use Rattle.std.specs.Prelude.{◌≡◌, ◌⊎◌, ◌==◌, ℕ, List, Option, IfSome, codes, if◌then◌else◌}
+use Rattle.std.specs.Io.KnownBytes.{Appends, Keeps}
+use Rattle.script_core.specs.Runs.{IsDone, Leaves}
+use Rattle.script_core.specs.Writing.{AppendsBeginning}
+use Rattle.script_core.specs.declared.faults.ScriptFault.{ScriptFault}
+use Rattle.script_core.specs.declared.faults.ScriptFault.TheVariants as faults
+use Rattle.script_core.specs.declared.tallies.Tally.{Tally}
+
+-- what the input still has, and what the output and the error stream hold, where they tell it
+pub record Streams : Type 0 where
+  pub input : Option (List ℕ)
+  pub output : Option (List ℕ)
+  pub errors : Option (List ℕ)
+
+-- the line that tells a fault
+abbrev pub fault_line : ScriptFault → List ℕ
+fault_line faults.NoMemory = codes "fault NoMemory\n"
+fault_line faults.Read = codes "fault Read\n"
+fault_line faults.Write = codes "fault Write\n"
+fault_line faults.LineTooLong = codes "fault LineTooLong\n"
+fault_line faults.TurnsSpent = codes "fault TurnsSpent\n"
+
+-- the script was answered to its end: status 0 where nothing was refused, else 1
+pub record ScriptDone (script : List ℕ) (before after : Streams) (status : ℕ) : Type 0 where
+  pub tally : Tally
+  pub done : IsDone script before.output after.output tally
+  pub silent : Keeps before.errors after.errors
+  pub status_is : status ≡ (if tally.refused == 0 then 0 else 1)
+
+-- a fault ended it: status 3, and its line on the error stream, as far as that takes it
+pub record ScriptFailed (script : List ℕ) (before after : Streams) (status : ℕ) : Type 0 where
+  pub fault : ScriptFault
+  pub leaves : Leaves fault script after.input before.output after.output
+  pub told : AppendsBeginning before.errors after.errors (fault_line fault)
+  pub status_is : status ≡ 3
+
+-- a script was run
+abbrev pub RunsScript : Streams → Streams → ℕ → Type 0
+RunsScript before after status = IfSome before.input (λ script. ScriptDone script before after status ⊎ ScriptFailed script before after status)
+
+-- help was printed: status 0; or printing failed: status 3, and the fault's line on the error stream
+abbrev pub HelpEnds : List ℕ → Option (List ℕ) → Option (List ℕ) → Option (List ℕ) → Option (List ℕ) → ℕ → Type 0
+HelpEnds text output output_after errors errors_after status =
+    ((status ≡ 0) × Appends output output_after text × Keeps errors errors_after)
+    ⊎ ((status ≡ 3) × AppendsBeginning output output_after text × AppendsBeginning errors errors_after (fault_line faults.Write))
+
+pub record Helps (before after : Streams) (status : ℕ) : Type 0 where
+  pub text : List ℕ
+  pub unread : Keeps before.input after.input
+  pub ends : HelpEnds text before.output after.output before.errors after.errors status
+
+-- the command line is bad: status 2, and what is wrong with it on the error stream
+pub record IsMistaken (before after : Streams) (status : ℕ) : Type 0 where
+  pub text : List ℕ
+  pub unread : Keeps before.input after.input
+  pub unwritten : Keeps before.output after.output
+  pub told : AppendsBeginning before.errors after.errors text
+  pub status_is : status ≡ 2
+
+-- memory ran out before the command was known: status 3, and that line on the error stream
+pub record LacksMemory (before after : Streams) (status : ℕ) : Type 0 where
+  pub unread : Keeps before.input after.input
+  pub unwritten : Keeps before.output after.output
+  pub told : AppendsBeginning before.errors after.errors (fault_line faults.NoMemory)
+  pub status_is : status ≡ 3
+
+-- how a command line ends
+abbrev pub Ends : Streams → Streams → ℕ → Type 0
+Ends before after status = RunsScript before after status ⊎ (Helps before after status ⊎ (IsMistaken before after status ⊎ LacksMemory before after status))
