@@ -1,5 +1,7 @@
 pub mod Apart
+pub mod ContentLaws
 pub mod Each
 pub mod Gathered
 pub mod Lists
+pub mod Plain
 pub mod SiteLemmas

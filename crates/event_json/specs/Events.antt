@@ -1,8 +1,8 @@
 -- The events that are kept: GS1 EPCIS 2.0, sections 7.4.2 (ObjectEvent) and 7.4.6 (TransformationEvent).
-use Rattle.std.specs.Prelude.{◌≡◌, ◌≤◌, ◌<◌, ◌+◌, ◌*◌, ◌^◌, ℕ, ℤ, pos, neg_ℤ, ◌≤ℤ◌, ◌<ℤ◌, List, length, Option, None, IfSome, IsTrue}
+use Rattle.std.specs.Prelude.{◌≡◌, ◌≤◌, ◌<◌, ◌+◌, ◌*◌, ◌^◌, ℕ, ℤ, pos, neg_ℤ, ◌≤ℤ◌, ◌<ℤ◌, List, length, Option, None, IfSome}
 use Rattle.event_json.specs.declared.bodies.Body.{Body}
 use Rattle.event_json.specs.declared.bodies.Body.TheVariants.{Note, Ship, Make}
-use Rattle.event_json.specs.Texts.{is_plain}
+use Rattle.epc_core.specs.Spellings.{IsPlain}
 
 -- an event as a site keeps it: its eventID, its instant in nanoseconds from 1970 in UTC, and what it says of its items
 pub record Content : Type 0 where
@@ -12,7 +12,7 @@ pub record Content : Type 0 where
 
 -- where there is one it is plain
 abbrev pub IsIdentifier : Option (List ℕ) → Type 0
-IsIdentifier id = IfSome id (λ t. IsTrue (is_plain t))
+IsIdentifier id = IfSome id IsPlain
 
 -- the seconds of an instant, by the floor, fit a signed 64 bit number
 abbrev pub IsInstant : ℤ → Type 0

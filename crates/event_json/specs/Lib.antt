@@ -1,4 +1,5 @@
 pub mod Checks
+pub mod Contents
 pub mod Documents
 pub mod EventReading
 pub mod Events

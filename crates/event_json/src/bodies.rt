@@ -1,8 +1,6 @@
 ghost use Rattle.std.specs.Prelude.{◌≡◌, ◌↔◌, IsTrue, IfOk};
 
-use crate::copies::{
-    copy_id, copy_items, copy_sites, copy_texts, same_id, same_items, same_sites, same_texts,
-};
+use crate::copies::{copy_id, same_id, same_items, same_sites, same_texts};
 use crate::sequences::Sequence;
 use crate::site_numbers::SiteNo;
 use crate::texts::PlainText;
@@ -37,21 +35,21 @@ impl Body {
     {
         match self {
             Body::Note { items } => Ok(Body::Note {
-                items: copy_items(alloc, items)?,
+                items: items.copy(alloc)?,
             }),
             Body::Ship {
                 items,
                 sites,
                 outside,
             } => Ok(Body::Ship {
-                items: copy_items(alloc, items)?,
-                sites: copy_sites(alloc, sites)?,
-                outside: copy_texts(alloc, outside)?,
+                items: items.copy(alloc)?,
+                sites: sites.copy(alloc)?,
+                outside: outside.copy(alloc)?,
             }),
             Body::Make { id, ins, outs } => Ok(Body::Make {
                 id: copy_id(alloc, id)?,
-                ins: copy_items(alloc, ins)?,
-                outs: copy_items(alloc, outs)?,
+                ins: ins.copy(alloc)?,
+                outs: outs.copy(alloc)?,
             }),
         }
     }

@@ -1,43 +1,42 @@
-//! Copies of the lists that an event has, and whether two of them are equal.
+//! Copies of the parts of an event, and whether two of them are equal.
 
-ghost use Rattle.std.specs.Prelude.{◌≡◌, ◌↔◌, IsTrue, IfOk, length};
+ghost use Rattle.std.specs.Prelude.{◌≡◌, ◌↔◌, IsTrue, IfOk};
 
-use crate::sequences::Sequence;
+use crate::events::Event;
 use crate::site_numbers::SiteNo;
 use crate::texts::PlainText;
 use epc_core::Epc;
 use std::alloc::{AllocError, Global};
 
-/// Equal items.
-pub fn copy_items(alloc: Global, items: &Sequence<Epc>) -> Result<Sequence<Epc>, AllocError>
-    ensures { IfOk result (λ s. s ≡ items.now) }
-{
-    let mut copies = Vec::new(alloc);
-    for item in items.as_slice() {
-        copies.push(item.copy(alloc)?)?;
-    }
-    Ok(Sequence::from_vec(copies))
+/// A value of which an equal one can be made.
+pub trait Copyable: Drop {
+    /// An equal value.
+    fn copied(&self, alloc: Global) -> Result<Self, AllocError>
+        ensures { IfOk result (λ value. value ≡ self.now) };
 }
 
-/// Equal sites.
-pub fn copy_sites(alloc: Global, sites: &Sequence<SiteNo>) -> Result<Sequence<SiteNo>, AllocError>
-    ensures { IfOk result (λ s. s ≡ sites.now) }
-{
-    Ok(Sequence::from_vec(Vec::from_slice(alloc, sites.as_slice())?))
+impl Copyable for Epc {
+    fn copied(&self, alloc: Global) -> Result<Epc, AllocError> {
+        self.copy(alloc)
+    }
 }
 
-/// Equal texts.
-pub fn copy_texts(
-    alloc: Global,
-    texts: &Sequence<PlainText>,
-) -> Result<Sequence<PlainText>, AllocError>
-    ensures { IfOk result (λ s. s ≡ texts.now) }
-{
-    let mut copies = Vec::new(alloc);
-    for text in texts.as_slice() {
-        copies.push(text.copy(alloc)?)?;
+impl Copyable for SiteNo {
+    fn copied(&self, _alloc: Global) -> Result<SiteNo, AllocError> {
+        Ok(*self)
     }
-    Ok(Sequence::from_vec(copies))
+}
+
+impl Copyable for PlainText {
+    fn copied(&self, alloc: Global) -> Result<PlainText, AllocError> {
+        self.copy(alloc)
+    }
+}
+
+impl Copyable for Event {
+    fn copied(&self, alloc: Global) -> Result<Event, AllocError> {
+        self.copy(alloc)
+    }
 }
 
 /// Equal text, where there is one.

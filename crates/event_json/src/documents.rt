@@ -1,6 +1,6 @@
 //! Reading a document.
 
-ghost use Rattle.std.specs.Prelude.{◌≡◌, ◌≤◌, IsUtf8, OnOk, length, option_map};
+ghost use Rattle.std.specs.Prelude.{◌≡◌, ◌≤◌, IsUtf8, IfOk, OnOk, length, option_map};
 ghost use Rattle.serde_json.specs.View.{view, items_view};
 ghost use Rattle.event_json.specs.Documents.{whole, listed, event_list, few_events, numbered_event, events_of, document_of, text_document};
 ghost use Rattle.event_json.specs.Faults.{Shows, Gives};
@@ -16,7 +16,7 @@ use crate::members::{member, member_named};
 use crate::sequences::Sequence;
 use crate::site_lists::Sites;
 use serde_json::Value;
-use std::alloc::Global;
+use std::alloc::{AllocError, Global};
 
 /// The most events that a document may have, skipped ones too.
 const LIMIT: usize = 1000;
@@ -28,6 +28,18 @@ pub struct Doc {
     pub events: Sequence<Event>,
     /// How many events were skipped, being of a type that isn't traced.
     pub skipped: u64,
+}
+
+impl Doc {
+    /// An equal document.
+    pub fn copy(&self, alloc: Global) -> Result<Doc, AllocError>
+        ensures { IfOk result (λ doc. doc ≡ self.now) }
+    {
+        Ok(Doc {
+            events: self.events.copy(alloc)?,
+            skipped: self.skipped,
+        })
+    }
 }
 
 /// A fault of the document itself.

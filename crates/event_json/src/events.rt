@@ -1,4 +1,5 @@
 ghost use Rattle.std.specs.Prelude.{◌≡◌, ◌↔◌, IsTrue, IfOk, option_map};
+ghost use Rattle.event_json.specs.Contents.{same_content};
 ghost use Rattle.event_json.specs.Events.{IsIdentifier, IsInstant, IsBody};
 
 use crate::bodies::Body;
@@ -77,6 +78,14 @@ impl Event {
 
     /// Whether the two have the same eventID, instant and body, with the lists in the same order.
     pub fn is_same(&self, other: &Event) -> bool
+        ensures test { result ≡ same_content self.now other.now }
+        ensures same { IsTrue result ↔ (self.now ≡ other.now) }
+    {
+        self.has_parts_of(other)
+    }
+
+    /// Whether the parts of the two are the same.
+    fn has_parts_of(&self, other: &Event) -> bool
         ensures { IsTrue result ↔ (self.now ≡ other.now) }
     {
         same_id(&self.id, &other.id)

@@ -19,6 +19,7 @@ mod tests;
 mod texts;
 
 pub use bodies::Body;
+pub use copies::Copyable;
 pub use doc_faults::{DocFault, DocFaultKind, DocField, ReadFault};
 pub use documents::{Doc, read_document};
 pub use events::Event;

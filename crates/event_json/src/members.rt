@@ -1,14 +1,14 @@
 //! The members of a JSON object.
 
-ghost use Rattle.std.specs.Prelude.{◌≡◌, option_map, IfOk, IsTrue};
+ghost use Rattle.std.specs.Prelude.{◌≡◌, option_map, IfOk};
+ghost use Rattle.epc_core.specs.Spellings.{IsPlain};
 ghost use Rattle.serde_json.specs.View.{view, items_view};
 ghost use Rattle.event_json.specs.Events.{IsIdentifier};
 ghost use Rattle.event_json.specs.Faults.{Shows, Finds};
 ghost use Rattle.event_json.specs.Members.{member_named, member_of, text_of, plain_of, identifier_of, list_of};
-ghost use Rattle.event_json.specs.Texts.{is_plain};
 
 use crate::doc_faults::{CheckFault, DocFaultKind, DocField, Flaw};
-use crate::texts::PlainText;
+use crate::texts::{PlainText, passes_as_plain};
 use serde_json::Value;
 use std::alloc::Global;
 
@@ -51,7 +51,7 @@ pub fn text<'v>(value: &'v Value, field: DocField) -> Result<&'v str, Flaw>
 /// The plain text of a value.
 pub fn plain(alloc: Global, value: &Value, field: DocField) -> Result<PlainText, CheckFault>
     ensures found { Finds result (plain_of field (view value.now)) }
-    ensures plain { IfOk result (λ t. IsTrue (is_plain t)) }
+    ensures plain { IfOk result IsPlain }
 {
     let wrong = Flaw {
         field,
@@ -60,10 +60,10 @@ pub fn plain(alloc: Global, value: &Value, field: DocField) -> Result<PlainText,
     let Some(text) = value.as_str() else {
         return Err(CheckFault::Flaw(wrong));
     };
-    match PlainText::read(alloc, text)? {
-        Some(plain) => Ok(plain),
-        None => Err(CheckFault::Flaw(wrong)),
+    if !passes_as_plain(text) {
+        return Err(CheckFault::Flaw(wrong));
     }
+    Ok(PlainText::of(alloc, text)?)
 }
 
 /// The plain text of a member that may be absent.

@@ -1,6 +1,7 @@
-ghost use Rattle.std.specs.Prelude.{◌≡◌, ◌==◌, List, [], length};
+ghost use Rattle.std.specs.Prelude.{◌≡◌, ◌==◌, List, [], length, IfOk};
 
-use std::alloc::Global;
+use crate::copies::Copyable;
+use std::alloc::{AllocError, Global};
 use std::marker::Model;
 
 /// A list of values, which contracts see as that list and nothing else.
@@ -36,7 +37,8 @@ impl<T> Sequence<T> {
     pub fn into_vec(self) -> Vec<T>
         ensures { result.items ≡ self }
     {
-        self.values
+        let Sequence { values } = self;
+        values
     }
 
     /// The values in order.
@@ -58,5 +60,18 @@ impl<T> Sequence<T> {
         ensures { result ≡ (length self.now == 0) }
     {
         self.values.is_empty()
+    }
+}
+
+impl<T: Copyable> Sequence<T> {
+    /// An equal list.
+    pub fn copy(&self, alloc: Global) -> Result<Sequence<T>, AllocError>
+        ensures { IfOk result (λ s. s ≡ self.now) }
+    {
+        let mut copies = Vec::new(alloc);
+        for value in self.as_slice() {
+            copies.push(value.copied(alloc)?)?;
+        }
+        Ok(Sequence::from_vec(copies))
     }
 }

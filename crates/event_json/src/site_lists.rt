@@ -6,7 +6,7 @@ ghost use Rattle.event_json.specs.Texts.{is_plain};
 ghost use Rattle.event_json.specs.Sites.{Site, is_name_byte, is_site_name, named, addressed, repeats, sites_fault, AreSites, IsCause};
 
 use crate::site_numbers::SiteNo;
-use crate::texts::{PlainText, is_plain};
+use crate::texts::{PlainText, passes_as_plain};
 use std::alloc::{AllocError, AllocFailed, Global};
 use std::marker::Model;
 use thiserror::Error;
@@ -186,7 +186,7 @@ fn are_plain(texts: &[&str]) -> bool
     ensures { result ≡ list_all is_plain (map (λ t. t.now) texts.now) }
 {
     for text in texts {
-        if !is_plain(*text) {
+        if !passes_as_plain(*text) {
             return false;
         }
     }

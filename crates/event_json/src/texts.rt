@@ -1,31 +1,17 @@
-ghost use Rattle.std.specs.Prelude.{◌≡◌, ◌↔◌, ℕ, IsTrue, IfOk, Some, None, string_bytes, if◌then◌else◌};
-ghost use Rattle.std.specs.List.{list_all};
-ghost use Rattle.epc_core.specs.Items.{is_plain_byte};
+ghost use Rattle.std.specs.Prelude.{◌≡◌, ◌↔◌, IsTrue, IfOk, IfSome, IsSome};
+ghost use Rattle.epc_core.specs.Spellings.{IsPlain};
 ghost use Rattle.event_json.specs.Texts.{is_plain};
 
+use epc_core::is_plain;
 use std::alloc::{AllocError, Global};
 use std::marker::Model;
 
-/// Whether a text is plain: 1 to 512 bytes, none of them a space, a control byte or DEL.
-pub fn is_plain(text: &str) -> bool
-    ensures { result ≡ is_plain text.now }
+/// Whether a text is plain, as the definitions test it.
+pub fn passes_as_plain(text: &str) -> bool
+    ensures test { result ≡ is_plain text.now }
+    ensures plain { IsTrue result ↔ IsPlain text.now }
 {
-    let bytes = text.as_bytes();
-    1 <= bytes.len() && bytes.len() <= 512 && are_plain_bytes(bytes)
-}
-
-/// Whether a plain text may have each of the bytes.
-fn are_plain_bytes(bytes: &[u8]) -> bool
-    ensures { result ≡ list_all is_plain_byte bytes.now }
-{
-    bytes.iter().all(|b| is_plain_byte(*b))
-}
-
-/// Whether a plain text may have this byte.
-fn is_plain_byte(b: u8) -> bool
-    ensures { result ≡ is_plain_byte b }
-{
-    b >= 33 && b != 127
+    is_plain(text)
 }
 
 /// A plain text: 1 to 512 bytes, none of them a space, a control byte or DEL.
@@ -35,20 +21,21 @@ pub struct PlainText {
 }
 
 impl Model for PlainText {
-    ghost use Rattle.std.specs.Prelude.{List, ℕ, IsTrue, string_bytes};
-    ghost use Rattle.event_json.specs.Texts.{is_plain};
+    ghost use Rattle.std.specs.Prelude.{List, ℕ, string_bytes};
+    ghost use Rattle.epc_core.specs.Spellings.{IsPlain};
 
     ghost Value = { List ℕ };
 
     ghost view = { λ t. string_bytes t.text };
 
-    ghost invariant = { λ t. IsTrue (is_plain (string_bytes t.text)) };
+    ghost invariant = { λ t. IsPlain (string_bytes t.text) };
 }
 
 impl PlainText {
     /// The text, `None` where it isn't plain.
     pub fn read(alloc: Global, text: &str) -> Result<Option<PlainText>, AllocError>
-        ensures value { IfOk result (λ t. t ≡ (if is_plain text.now then Some text.now else None)) }
+        ensures plain { IfOk result (λ t. IsSome t ↔ IsPlain text.now) }
+        ensures value { IfOk result (λ t. IfSome t (λ own. own ≡ text.now)) }
     {
         if !is_plain(text) {
             return Ok(None);
@@ -58,7 +45,7 @@ impl PlainText {
 
     /// A text that is known to be plain.
     pub(crate) fn of(alloc: Global, text: &str) -> Result<PlainText, AllocError>
-        requires { IsTrue (is_plain text.now) }
+        requires { IsPlain text.now }
         ensures { IfOk result (λ t. t ≡ text.now) }
     {
         Ok(PlainText {
@@ -69,7 +56,7 @@ impl PlainText {
     /// The text.
     pub fn as_str(&self) -> &str
         ensures value { result.now ≡ self.now }
-        ensures plain { IsTrue (is_plain self.now) }
+        ensures plain { IsPlain self.now }
     {
         self.text.as_str()
     }
@@ -101,7 +88,7 @@ impl PartialEq for PlainText {
     ghost laws = { Cmp.partial_equiv_from_equiv nat_list_eq_equiv };
 
     fn eq(&self, other: &PlainText) -> bool {
-        self.as_str() == other.as_str()
+        self.text == other.text
     }
 }
 
