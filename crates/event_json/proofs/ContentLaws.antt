@@ -1,5 +1,5 @@
 -- The test of an event's content says what it means.
-use Rattle.std.proofs.Common.{◌≡◌, ◌==◌, ℕ, ℤ, Bool, true, false, ◌&&◌, List, [], ◌∷◌, Option, Some, None, refl, ap, ◌∙◌}
+use Rattle.std.proofs.Common.{◌≡◌, ℕ, ℤ, List, Option, Some, None, refl, ap, ◌∙◌}
 use mathlib.Core.Bool.{false≢true}
 use Rattle.std.specs.Bool.{Decides}
 use Rattle.std.specs.Cmp.Lexicographic.{pointwise}
@@ -9,7 +9,7 @@ use Rattle.std.proofs.lemmas.Slice.Eq.{bytes_eq-Decides, slice_eq-Decides}
 use Rattle.event_json.specs.Events.{Content}
 use Rattle.event_json.specs.declared.bodies.Body.{Body}
 use Rattle.event_json.specs.declared.bodies.Body.TheVariants.{Note, Ship, Make}
-use Rattle.event_json.specs.Contents.{same_text, same_texts, same_option, same_body, same_content}
+use Rattle.event_json.specs.Contents.{same_texts, same_option, same_body, same_content}
 
 texts_decides : (xs ys : List (List ℕ)) → Decides (same_texts xs ys) (xs ≡ ys)
 texts_decides xs ys = slice_eq-Decides (λ a b. bytes_eq-Decides a b) xs ys _ refl

@@ -1,5 +1,5 @@
 -- The test of a plain text says what it means.
-use Rattle.std.proofs.Common.{◌≡◌, ℕ, List, Bool, true, false, Option, Some, None, refl, ap}
+use Rattle.std.proofs.Common.{◌≡◌, ℕ, List, true, Option, Some, None, refl, ap}
 use mathlib.Core.Bool.{false≢true}
 use Rattle.std.specs.Prelude.{is_none}
 use Rattle.std.specs.Bool.{Decides}

@@ -27,8 +27,20 @@ fn documents(rt: HostRuntime) -> Result<(), Fail> {
             "NotDocument event 0 field eventList",
         ),
         (
+            r#"{"type":"EPCISDocument","epcisBody":{"eventList":{}}}"#,
+            "NotDocument event 0 field eventList",
+        ),
+        (
             r#"{"type":"EPCISDocument","epcisBody":{"eventList":[]}}"#,
             "read 0 skipped 0",
+        ),
+        (
+            r#"{"type":"TransactionEvent","type":"X"}"#,
+            "NotDocument event 0 field document",
+        ),
+        (
+            r#"{"type":"X","type":"TransactionEvent"}"#,
+            "read 0 skipped 1",
         ),
     ] {
         assert_eq!(rt; outcome(rt.alloc(), text.as_bytes())?.as_str(), want);
@@ -68,10 +80,17 @@ fn object_events(rt: HostRuntime) -> Result<(), Fail> {
         ),
         (r#","errorDeclaration":null"#, "read 1 skipped 0"),
         (
-            r#","quantityList":[{}]"#,
+            r#","destinationList":[{"type":"location","destination":"b"}],"quantityList":[{}]"#,
             "Quantities event 1 field quantityList",
         ),
-        (r#","quantityList":[]"#, "read 1 skipped 0"),
+        (
+            r#","destinationList":[{"type":"location","destination":"b"}],"quantityList":[]"#,
+            "read 1 skipped 0",
+        ),
+        (
+            r#","inputEPCList":5,"inputQuantityList":[1],"transformationID":5"#,
+            "read 1 skipped 0",
+        ),
         (
             r#","quantityList":{}"#,
             "WrongShape event 1 field quantityList",
@@ -146,6 +165,10 @@ fn lists(rt: HostRuntime) -> Result<(), Fail> {
 fn transformations(rt: HostRuntime) -> Result<(), Fail> {
     for (members, want) in [
         ("", "read 1 skipped 0"),
+        (
+            r#","action":5,"epcList":5,"quantityList":[1],"destinationList":5"#,
+            "read 1 skipped 0",
+        ),
         (
             r#","outputQuantityList":[1]"#,
             "Quantities event 1 field outputQuantityList",

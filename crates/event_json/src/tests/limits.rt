@@ -32,7 +32,10 @@ fn nested(alloc: Global, arrays: u32) -> Result<String, AllocError> {
 #[test]
 fn of_events(rt: HostRuntime) -> Result<(), Fail> {
     let skipped = "{\"type\":\"TransactionEvent\"}";
+    let note = object(rt.alloc(), "")?;
     for (event, count, want) in [
+        (note.as_str(), 1000, "read 1000 skipped 0"),
+        (note.as_str(), 1001, "TooManyEvents event 0 field eventList"),
         (skipped, 1000, "read 0 skipped 1000"),
         (skipped, 1001, "TooManyEvents event 0 field eventList"),
         ("5", 1001, "TooManyEvents event 0 field eventList"),
@@ -46,11 +49,12 @@ fn of_events(rt: HostRuntime) -> Result<(), Fail> {
 
 #[test]
 fn of_items(rt: HostRuntime) -> Result<(), Fail> {
-    for (count, want) in [
-        (1000, "read 1 skipped 0"),
-        (1001, "TooManyEpcs event 1 field epcList"),
+    for (item, count, want) in [
+        ("\"x\"", 1000, "read 1 skipped 0"),
+        ("\"x\"", 1001, "TooManyEpcs event 1 field epcList"),
+        ("5", 1001, "TooManyEpcs event 1 field epcList"),
     ] {
-        let items = repeated(rt.alloc(), "\"x\"", count)?;
+        let items = repeated(rt.alloc(), item, count)?;
         let member = format!(in rt.alloc(); ",\"epcList\":[{items}]")?;
         let text = object(rt.alloc(), member.as_str())?;
         assert_eq!(rt; outcome(rt.alloc(), text.as_bytes())?.as_str(), want);
@@ -66,6 +70,21 @@ fn of_destinations(rt: HostRuntime) -> Result<(), Fail> {
     ] {
         let items = repeated(rt.alloc(), "{\"destination\":\"b\"}", count)?;
         let member = format!(in rt.alloc(); ",\"destinationList\":[{items}]")?;
+        let text = object(rt.alloc(), member.as_str())?;
+        assert_eq!(rt; outcome(rt.alloc(), text.as_bytes())?.as_str(), want);
+    }
+    Ok(())
+}
+
+#[test]
+fn of_texts(rt: HostRuntime) -> Result<(), Fail> {
+    // 512 and 513 bytes, the commas among them
+    for (piece, count, want) in [
+        ("xx", 171, "read 1 skipped 0"),
+        ("x", 257, "WrongShape event 1 field eventID"),
+    ] {
+        let id = repeated(rt.alloc(), piece, count)?;
+        let member = format!(in rt.alloc(); ",\"eventID\":\"{id}\"")?;
         let text = object(rt.alloc(), member.as_str())?;
         assert_eq!(rt; outcome(rt.alloc(), text.as_bytes())?.as_str(), want);
     }
