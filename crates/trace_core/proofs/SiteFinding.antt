@@ -1,44 +1,59 @@
--- The site of a number among sites of which no two have one number.
-use Rattle.std.proofs.Common.{◌≡◌, ◌≢◌, ℕ, ◌<◌, ◌≤◌, ◌+◌, ◌↔◌, List, [], ◌∷◌, map, length, take, get_or, refl, sym, ap, ◌∙◌, subst, ⊎_elim, arith}
+-- What the sites relate a pair to, one site after another.
+use Rattle.std.proofs.Common.{◌≡◌, ℕ, ◌<◌, ◌≤◌, ◌+◌, ◌↔◌, List, [], ◌∷◌, ◌++◌, map, length, take, get_or, refl, sym, ap, ◌∙◌, subst, inl, inr, ⊎_elim, arith}
+use mathlib.Core.Logic.{◌⊎◌}
 use Rattle.std.specs.Borrow.{Bor}
-use Rattle.std.specs.List.{All, Any, Contains}
-use Rattle.std.proofs.lemmas.Bool.{cases_order}
-use Rattle.std.proofs.lemmas.List.Elements.{All-map, All-more}
-use Rattle.std.proofs.lemmas.List.{get_or-map, length-map, get_or_default, take_all}
+use Rattle.std.specs.List.{Any, Contains}
+use Rattle.std.proofs.lemmas.List.Elements.{Contains-append_left, Contains-append_right, Contains-append_cases, Contains-push_cases}
+use Rattle.std.proofs.lemmas.List.Quantifiers.{Any-push}
+use Rattle.std.proofs.lemmas.List.{map_more, take_all}
 use Rattle.trace_core.specs.declared.pairs.Pair.{Pair}
-use Rattle.trace_core.specs.Chains.{Related, sites_at, AreApart}
+use Rattle.trace_core.specs.Chains.{Related, RelatesFrom, sites_at}
 use Rattle.trace_core.specs.Members.{contains_none}
 use Rattle.trace_core.specs.Pairs.{IsRelated}
 use Rattle.trace_core.specs.Sites.{SiteEvents}
 
-module _ (refs : List (Bor SiteEvents)) (p q : Pair) where
-  in_refs : (k : ℕ) → k < length (sites_at refs) → k < length refs
-  in_refs k lt = omega (arith, length-map refs (λ r. r.now))
+-- a property of some element, where one stands at the end
+any_push : {X : Type 0} (P : X → Type 0) (xs : List X) (y : X) → Any P (xs ++ y ∷ []) ↔ (Any P xs ⊎ P y)
+any_push P xs y = (
+  λ (k, x, lt, e, h). ⊎_elim (λ (j, below, is). inl (j, x, below, is, h)) (λ last. inr (subst P (sym last) h)) (Contains-push_cases xs y x (k, lt, e)),
+  λ either. ⊎_elim
+      (λ (k, x, lt, e, h). let at = Contains-append_left xs (y ∷ []) x (k, lt, e) in (at.0, x, at.1, at.2, h))
+      (λ h. Any-push P xs y h)
+      either,
+)
 
-  -- one of the sites, as the references have it
-  at_ref : (k : ℕ) (s : SiteEvents) (d : Bor SiteEvents) → k < length (sites_at refs) → get_or (sites_at refs) k s ≡ s → (get_or refs k d).now ≡ s
-  at_ref k s d lt e = sym (get_or-map (λ r. r.now) refs k d s (in_refs k lt)) ∙ e
+module _ (refs : List (Bor SiteEvents)) (p : Pair) where
+  -- the targets are what the first n sites relate p to
+  abbrev pub AreTargetsOf : ℕ → List Pair → Type 0
+  AreTargetsOf n targets = (q : Pair) → Contains targets q ↔ Related (sites_at (take n refs)) p q
 
-  pub found_site : (i : ℕ) (r : Bor SiteEvents) → AreApart refs → i < length refs → r ≡ get_or refs i r → r.now.me ≡ p.site → IsRelated r.now p.item q ↔ Related (sites_at refs) p q
-  found_site i r apart lt at here = (
-    λ related. (i, r.now, omega (arith, length-map refs (λ r. r.now)), get_or-map (λ r. r.now) refs i r r.now lt ∙ sym (ap (λ x. x.now) at), (here, related)),
-    λ (k, s, below, e, (same, related)).
-        let is : (get_or refs k r).now ≡ s = at_ref k s r below e in
-        let its_number : (get_or refs k r).now.me ≡ (get_or refs i r).now.me = ap (λ (x : SiteEvents). x.me) is ∙ same ∙ sym here ∙ ap (λ (x : Bor SiteEvents). x.now.me) at in
-        ⊎_elim
-        (λ k_is. subst (λ x. IsRelated x p.item q) (sym is ∙ ap (λ n. (get_or refs n r).now) k_is ∙ sym (ap (λ (x : Bor SiteEvents). x.now) at)) related)
-        (λ other. absurd (⊎_elim (λ before. apart k i r before lt its_number) (λ after. apart i k r after (in_refs k below) (sym its_number)) other))
-        (cases_order k i),
-  )
+  pub no_sites : (targets : List Pair) → targets ≡ [] → AreTargetsOf 0 targets
+  no_sites targets none q = (λ h. absurd (contains_none q (subst (λ xs. Contains xs q) none h)), λ related. absurd (omega (arith, related.2)))
 
-  -- where no site has the number
-  pub no_site : (n : ℕ) → length refs ≤ n → All (λ r. r.now.me ≢ p.site) (take n refs) → Contains [] q ↔ Related (sites_at refs) p q
-  no_site n past none = (
-    λ h. absurd (contains_none q h),
-    λ (k, s, below, e, (same, related)).
-        absurd (All-map (λ (x : SiteEvents). x.me ≢ p.site) (λ (r : Bor SiteEvents). r.now) refs (subst (All (λ r. r.now.me ≢ p.site)) (take_all n refs past) none) k s below (ap (λ (x : SiteEvents). x.me) e ∙ same)),
-  )
+  pub one_more : (i : ℕ) (r : Bor SiteEvents) (old new : List Pair) → i < length refs → r ≡ get_or refs i r → AreTargetsOf i old
+      → ((q : Pair) → Contains new q ↔ (Contains old q ⊎ RelatesFrom r.now p q)) → AreTargetsOf (i + 1) new
+  one_more i r old new lt at so_far added q =
+      let more : sites_at (take (i + 1) refs) ≡ sites_at (take i refs) ++ r.now ∷ [] =
+      map_more (λ r. r.now) refs i r lt ∙ ap (λ (x : Bor SiteEvents). sites_at (take i refs) ++ x.now ∷ []) (sym at) in
+      let pushed = any_push (λ s. RelatesFrom s p q) (sites_at (take i refs)) r.now in (
+        λ h. subst (λ sites. Related sites p q) (sym more) (pushed.1 (⊎_elim (λ before. inl ((so_far q).0 before)) (λ here. inr here) ((added q).0 h))),
+        λ related. (added q).1 (⊎_elim (λ before. inl ((so_far q).1 before)) (λ here. inr here) (pushed.0 (subst (λ sites. Related sites p q) more related))),
+      )
 
-  -- one more site that has another number
-  pub none_more : (i : ℕ) (r : Bor SiteEvents) → i < length refs → r ≡ get_or refs i r → (r.now.me ≢ p.site) → All (λ r. r.now.me ≢ p.site) (take i refs) → All (λ r. r.now.me ≢ p.site) (take (i + 1) refs)
-  none_more i r lt at other none = All-more (λ r. r.now.me ≢ p.site) refs i r lt none (subst (λ (x : Bor SiteEvents). x.now.me ≢ p.site) at other)
+  pub all_sites : (n : ℕ) (targets : List Pair) → length refs ≤ n → AreTargetsOf n targets → (q : Pair) → Contains targets q ↔ Related (sites_at refs) p q
+  all_sites n targets past so_far q = subst (λ rs. Contains targets q ↔ Related (sites_at rs) p q) (take_all n refs past) (so_far q)
+
+-- a site that relates a pair to these
+pub related_added : (s : SiteEvents) (p : Pair) (old more new : List Pair) → new ≡ old ++ more → s.me ≡ p.site → ((q : Pair) → Contains more q ↔ IsRelated s p.item q)
+    → (q : Pair) → Contains new q ↔ (Contains old q ⊎ RelatesFrom s p q)
+related_added s p old more new appended same exact q = (
+  λ h. ⊎_elim (λ before. inl before) (λ new. inr (same, (exact q).0 new)) (Contains-append_cases old more q (subst (λ xs. Contains xs q) appended h)),
+  λ either. subst (λ xs. Contains xs q) (sym appended) (⊎_elim
+      (λ before. Contains-append_left old more q before)
+      (λ here. Contains-append_right old more q ((exact q).1 here.1))
+      either),
+)
+
+-- a site of another number adds nothing
+pub nothing_added : (s : SiteEvents) (p : Pair) (old : List Pair) → (s.me ≡ p.site → ⊥) → (q : Pair) → Contains old q ↔ (Contains old q ⊎ RelatesFrom s p q)
+nothing_added s p old other q = (λ h. inl h, λ either. ⊎_elim (λ before. before) (λ here. absurd (other here.0)) either)

@@ -1,7 +1,8 @@
-ghost use Rattle.std.specs.Prelude.{◌≡◌, ◌≢◌, ◌↔◌, IfOk, AllPairs, Contains};
+ghost use mathlib.Core.Logic.{◌⊎◌};
+ghost use Rattle.std.specs.Prelude.{◌≡◌, ◌↔◌, IfOk, OnOk, Contains};
 ghost use Rattle.trace_core.specs.declared.pairs.Pair.{Pair};
 ghost use Rattle.trace_core.specs.Pairs.{IsStrictlyAscending};
-ghost use Rattle.trace_core.specs.Chains.{Related, sites_at, AreApart};
+ghost use Rattle.trace_core.specs.Chains.{Related, RelatesFrom, sites_at};
 ghost use Rattle.trace_core.specs.Relations.{Reaches};
 
 use crate::captured::Captured;
@@ -19,11 +20,10 @@ impl Node for Pair {
     }
 }
 
-/// The related pairs of several sites, of which no two have one number.
+/// The related pairs of several sites.
 #[derive(Drop)]
 struct RelatedPairs<'a> {
     sites: &'a [&'a Captured],
-    ghost apart: { AreApart sites.now },
 }
 
 impl Relation<Pair> for RelatedPairs<'_> {
@@ -38,21 +38,33 @@ impl Relation<Pair> for RelatedPairs<'_> {
     ghost has_targets = { λ r p q h. has_targets (sites_at r.sites.now) p q h };
 
     fn targets(&self, alloc: Global, node: &Pair) -> Result<Vec<Pair>, AllocError> {
+        let mut targets = Vec::new(alloc);
         for site in self.sites {
-            if site.me() == node.site {
-                return site.related(&node.item);
-            }
+            add_related(site, node, &mut targets)?;
         }
-        Ok(Vec::new(alloc))
+        Ok(targets)
     }
 }
 
+/// Adds the pairs that a site relates a pair to. There are none where the pair is at another site.
+fn add_related(
+    site: &Captured,
+    node: &Pair,
+    targets: &mut Vec<Pair>,
+) -> Result<(), AllocError>
+    ensures { OnOk result ((p : Pair) → Contains targets.new.items p ↔ (Contains targets.old.items p ⊎ RelatesFrom site.now node.now p)) }
+{
+    if site.me() == node.site {
+        targets.append(&mut site.related(&node.item)?)?;
+    }
+    Ok(())
+}
+
 /// All that chains of related pairs reach from a pair, itself among them, ascending and without
-/// repeats. Each step of a chain is a related pair of the site at which it begins, by that site's
-/// captured events. No two of the sites may have one number; a pair at a site that isn't among them
-/// leads no further.
+/// repeats. Each step of a chain is a related pair of the site at which it begins, by the events of
+/// any of the given sites that has that number. A pair at a site that isn't among them leads no
+/// further.
 pub fn reach(alloc: Global, sites: &[&Captured], root: &Pair) -> Result<Vec<Pair>, AllocError>
-    requires { AreApart sites.now }
     ensures ascending { IfOk result (λ pairs. IsStrictlyAscending pairs.items) }
     ensures reached { IfOk result (λ pairs. (p : Pair) → Contains pairs.items p ↔ Reaches (Related (sites_at sites.now)) root.now p) }
 {

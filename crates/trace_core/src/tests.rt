@@ -1,8 +1,10 @@
 mod makers;
 
-use crate::captured::Captured;
 use crate::laws;
-use makers::{BOTH_AS_E, X_AS_E, Y_AS_E, added, captured, make, part_of_t, reached, related, ship};
+use makers::{
+    LATER_X_AS_E, X_AS_E, Y_AS_E, added, captured, chain, document, make, part_of_t, reached, related,
+    ship,
+};
 use std::test::Fail;
 
 #[test]
@@ -10,7 +12,10 @@ fn follows_a_transformation_and_a_shipment(rt: HostRuntime) -> Result<(), Fail> 
     let alloc = rt.alloc();
     let made = make(alloc, "x", "y")?;
     let shipped = ship(alloc, "y", "b")?;
-    let a = captured(alloc, 0, &[&made, &shipped])?;
+    let both = document(alloc, &[&made, &shipped])?;
+    let mut a = captured(alloc, 0, &[])?;
+    let answer = added(alloc, &mut a, &both)?;
+    assert_eq!(rt; answer.as_str(), "fresh 2 known 0");
     let pairs = reached(alloc, &[&a], 0, "x")?;
     assert_eq!(rt; pairs.as_str(), "0 uri x; 0 uri y; 1 uri y; ");
     let pairs = related(alloc, &a, "x")?;
@@ -19,11 +24,24 @@ fn follows_a_transformation_and_a_shipment(rt: HostRuntime) -> Result<(), Fail> 
 }
 
 #[test]
-fn joins_parts_of_a_transformation_over_documents(rt: HostRuntime) -> Result<(), Fail> {
+fn joins_an_input_and_an_output_over_documents(rt: HostRuntime) -> Result<(), Fail> {
     let alloc = rt.alloc();
-    let z = part_of_t(alloc, "outputEPCList", "z")?;
-    let x = part_of_t(alloc, "inputEPCList", "x")?;
-    let y = part_of_t(alloc, "outputEPCList", "y")?;
+    let mut a = captured(alloc, 0, &[])?;
+    let answer = added(alloc, &mut a, &part_of_t(alloc, r#""x""#, "")?)?;
+    assert_eq!(rt; answer.as_str(), "fresh 1 known 0");
+    let answer = added(alloc, &mut a, &part_of_t(alloc, "", r#""y""#)?)?;
+    assert_eq!(rt; answer.as_str(), "fresh 1 known 0");
+    let pairs = reached(alloc, &[&a], 0, "x")?;
+    assert_eq!(rt; pairs.as_str(), "0 uri x; 0 uri y; ");
+    Ok(())
+}
+
+#[test]
+fn joins_three_parts_of_a_transformation_over_documents(rt: HostRuntime) -> Result<(), Fail> {
+    let alloc = rt.alloc();
+    let z = part_of_t(alloc, "", r#""z""#)?;
+    let x = part_of_t(alloc, r#""x""#, "")?;
+    let y = part_of_t(alloc, "", r#""y""#)?;
     let a = captured(alloc, 0, &[&z, &x, &y])?;
     let pairs = reached(alloc, &[&a], 0, "x")?;
     assert_eq!(rt; pairs.as_str(), "0 uri x; 0 uri y; 0 uri z; ");
@@ -38,6 +56,9 @@ fn knows_an_event_again(rt: HostRuntime) -> Result<(), Fail> {
     assert_eq!(rt; answer.as_str(), "fresh 1 known 0");
     let answer = added(alloc, &mut a, X_AS_E)?;
     assert_eq!(rt; answer.as_str(), "fresh 0 known 1");
+    let answer = added(alloc, &mut a, &document(alloc, &[X_AS_E, &ship(alloc, "x", "b")?])?)?;
+    assert_eq!(rt; answer.as_str(), "fresh 1 known 1");
+    assert_eq!(rt; a.events().len(), 2);
     Ok(())
 }
 
@@ -47,6 +68,8 @@ fn refuses_an_id_for_other_content(rt: HostRuntime) -> Result<(), Fail> {
     let mut a = captured(alloc, 0, &[X_AS_E])?;
     let answer = added(alloc, &mut a, Y_AS_E)?;
     assert_eq!(rt; answer.as_str(), "the eventID of event 1 is taken");
+    let answer = added(alloc, &mut a, LATER_X_AS_E)?;
+    assert_eq!(rt; answer.as_str(), "the eventID of event 1 is taken");
     assert_eq!(rt; a.events().len(), 1);
     Ok(())
 }
@@ -55,7 +78,7 @@ fn refuses_an_id_for_other_content(rt: HostRuntime) -> Result<(), Fail> {
 fn leaves_a_refused_document_out_whole(rt: HostRuntime) -> Result<(), Fail> {
     let alloc = rt.alloc();
     let mut a = captured(alloc, 0, &[])?;
-    let answer = added(alloc, &mut a, BOTH_AS_E)?;
+    let answer = added(alloc, &mut a, &document(alloc, &[X_AS_E, Y_AS_E])?)?;
     assert_eq!(rt; answer.as_str(), "the eventID of event 2 is taken");
     assert_eq!(rt; a.events().len(), 0);
     Ok(())
@@ -110,22 +133,23 @@ fn copies_a_site(rt: HostRuntime) -> Result<(), Fail> {
 }
 
 #[test]
-fn follows_a_long_chain_inside_a_site(rt: HostRuntime) -> Result<(), Fail> {
+fn follows_the_events_of_all_that_were_given_for_a_site(rt: HostRuntime) -> Result<(), Fail> {
     let alloc = rt.alloc();
-    let mut a = captured(alloc, 0, &[])?;
-    extend(alloc, &mut a)?;
-    let pairs = reached(alloc, &[&a], 0, "i0")?;
-    assert_eq!(rt; pairs.as_str().matches(';').count(), 201);
+    let made = captured(alloc, 0, &[&make(alloc, "x", "y")?])?;
+    let shipped = captured(alloc, 0, &[&ship(alloc, "x", "b")?])?;
+    let pairs = reached(alloc, &[&made, &shipped], 0, "x")?;
+    assert_eq!(rt; pairs.as_str(), "0 uri x; 0 uri y; 1 uri x; ");
     Ok(())
 }
 
-/// Adds transformations of i0 into i1, i1 into i2 and so on up to i200.
-fn extend(alloc: std::alloc::Global, captured: &mut Captured) -> Result<(), Fail> {
-    for step in 0..200u64 {
-        let input = format!(in alloc; "i{step}")?;
-        let output = format!(in alloc; "i{}", step + 1)?;
-        added(alloc, captured, &make(alloc, &input, &output)?)?;
-    }
+#[test]
+fn follows_a_long_chain_inside_a_site(rt: HostRuntime) -> Result<(), Fail> {
+    let alloc = rt.alloc();
+    let front = chain(alloc, 0, 1000)?;
+    let back = chain(alloc, 1000, 2000)?;
+    let a = captured(alloc, 0, &[&front, &back])?;
+    let pairs = reached(alloc, &[&a], 0, "i0")?;
+    assert_eq!(rt; pairs.as_str().matches(';').count(), 2001);
     Ok(())
 }
 

@@ -16,9 +16,21 @@ pub const X_AS_E: &str =
 pub const Y_AS_E: &str =
     r#"{"type":"ObjectEvent","eventTime":"2024-05-01T08:00:00Z","eventTimeZoneOffset":"+00:00","eventID":"e","action":"OBSERVE","epcList":["y"]}"#;
 
-/// The same events in one document.
-pub const BOTH_AS_E: &str =
-    r#"{"type":"EPCISDocument","epcisBody":{"eventList":[{"type":"ObjectEvent","eventTime":"2024-05-01T08:00:00Z","eventTimeZoneOffset":"+00:00","eventID":"e","action":"OBSERVE","epcList":["x"]},{"type":"ObjectEvent","eventTime":"2024-05-01T08:00:00Z","eventTimeZoneOffset":"+00:00","eventID":"e","action":"OBSERVE","epcList":["y"]}]}}"#;
+/// The event of x whose eventID is e, a second later.
+pub const LATER_X_AS_E: &str =
+    r#"{"type":"ObjectEvent","eventTime":"2024-05-01T08:00:01Z","eventTimeZoneOffset":"+00:00","eventID":"e","action":"OBSERVE","epcList":["x"]}"#;
+
+/// A document of some events.
+pub fn document(alloc: Global, events: &[&str]) -> Result<String, AllocError> {
+    let mut list = String::new(alloc);
+    for event in events {
+        if !list.is_empty() {
+            list.push(',')?;
+        }
+        list.push_str(event)?;
+    }
+    format!(in alloc; r#"{{"type":"EPCISDocument","epcisBody":{{"eventList":[{list}]}}}}"#)
+}
 
 /// A shipment of an item to a destination.
 pub fn ship(alloc: Global, item: &str, to: &str) -> Result<String, AllocError> {
@@ -34,10 +46,22 @@ pub fn make(alloc: Global, input: &str, output: &str) -> Result<String, AllocErr
     )
 }
 
-/// A part of transformation t: its input or its output.
-pub fn part_of_t(alloc: Global, list: &str, item: &str) -> Result<String, AllocError> {
+/// A document of transformations of one item into the next, from i and a number up to another one.
+pub fn chain(alloc: Global, first: u64, last: u64) -> Result<String, AllocError> {
+    let mut events = Vec::new(alloc);
+    for step in first..last {
+        let input = format!(in alloc; "i{step}")?;
+        let output = format!(in alloc; "i{}", step + 1)?;
+        events.push(make(alloc, &input, &output)?)?;
+    }
+    let events: Vec<&str> = events.iter().map(|e| e.as_str()).collect(alloc)?;
+    document(alloc, &events)
+}
+
+/// A part of transformation t, with the texts of its lists of inputs and of outputs.
+pub fn part_of_t(alloc: Global, inputs: &str, outputs: &str) -> Result<String, AllocError> {
     format!(in alloc;
-        r#"{{"type":"TransformationEvent","eventTime":"2024-05-01T08:00:00Z","eventTimeZoneOffset":"+00:00","transformationID":"t","{list}":["{item}"]}}"#
+        r#"{{"type":"TransformationEvent","eventTime":"2024-05-01T08:00:00Z","eventTimeZoneOffset":"+00:00","transformationID":"t","inputEPCList":[{inputs}],"outputEPCList":[{outputs}]}}"#
     )
 }
 
@@ -61,18 +85,13 @@ pub fn added(alloc: Global, captured: &mut Captured, document: &str) -> Result<S
     Ok(answer)
 }
 
-/// What an item at a site reaches by the events of the sites A, B and so on, shown.
+/// What an item at a site reaches by the events of some sites, shown.
 pub fn reached(
     alloc: Global,
     sites: &[&Captured],
     number: u64,
     item: &str,
 ) -> Result<String, Fail> {
-    for (i, captured) in sites.iter().enumerate() {
-        if captured.me().number() != i as u64 {
-            return Err(Fail::from("the sites are out of order"));
-        }
-    }
     let root = Pair {
         site: SiteNo::of(number).ok_or("there is no such site")?,
         item: Epc::read(alloc, item)?,

@@ -1,7 +1,6 @@
-use Rattle.std.proofs.Common.{◌≢◌, take}
-use Rattle.std.specs.List.{All}
+use Rattle.trace_core.proofs.SiteFinding.{AreTargetsOf}
 use Rattle.trace_core.proofs.chains.RelatedPairsRelationPair.targets.Given as goal
 
--- none of the sites so far has the node's number
+-- what the sites so far relate the node to
 abbrev pub invariant-loop-site : goal.invariant-loop-site
-invariant-loop-site l = All (λ r. r.now.me ≢ l.node.site) (take l.site-index l.site-items)
+invariant-loop-site l = AreTargetsOf l.site-items l.node l.site-index l.targets.items
