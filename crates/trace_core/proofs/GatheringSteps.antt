@@ -1,18 +1,18 @@
 -- The pairs that a site's events relate an item to, event by event, and what one more pair adds.
-use Rattle.std.proofs.Common.{◌≡◌, ◌==◌, ◌<◌, ◌≤◌, ◌+◌, ℕ, Bool, true, false, cond, not, ◌&&◌, ◌||◌, List, [], ◌∷◌, length, take, get_or, ◌↔◌, refl, sym, ap, ◌∙◌, subst, arith}
+use Rattle.std.proofs.Common.{◌≡◌, ◌==◌, ◌<◌, ◌≤◌, ◌+◌, ℕ, Bool, true, false, cond, not, ◌&&◌, ◌||◌, List, length, take, get_or, ◌↔◌, refl, sym, ap, ◌∙◌, subst, arith}
 use Rattle.std.proofs.lemmas.Map.Views.{btree_set_contains_iff}
 use Rattle.std.proofs.lemmas.Bool.Decides.{nat_tests}
 use Rattle.std.proofs.lemmas.List.{take_all}
 use Rattle.std.proofs.lemmas.List.Folds.{list_any_more}
-use Rattle.std.specs.BTreeSet.{BTreeSet, contains, Updates}
+use Rattle.std.specs.BTreeSet.{BTreeSet, Updates}
 use Rattle.std.specs.List.{list_any, Contains}
 use Rattle.event_json.specs.Events.{Content}
 use Rattle.trace_core.specs.declared.pairs.Pair.{Pair}
-use Rattle.trace_core.specs.Gathering.{is_in, shipped_by, joined_by, made_by, related_by}
+use Rattle.trace_core.specs.Gathering.{is_in, joined_by, related_by}
 use Rattle.trace_core.specs.PairOrder.{pair_is_eq, pairs_total, pairs_exact}
-use Rattle.trace_core.specs.Pairs.{pair_cmp, same_item, lists, ships, takes_in, gives_out, make_id, same_id, ships_at, inside_at, is_related, IsRelated}
+use Rattle.trace_core.specs.Pairs.{pair_cmp, same_item, lists, ships, takes_in, gives_out, ships_at, inside_at, is_related, IsRelated}
 use Rattle.trace_core.specs.Sites.{SiteEvents}
-use Rattle.trace_core.proofs.Booleans.{or_assoc, and_or, and_assoc, list_any-or, list_any-and_left, list_any-and_right, list_any-same, more_at_sites, more_inside}
+use Rattle.trace_core.proofs.Booleans.{and_or, and_assoc, list_any-or, list_any-and_left, list_any-and_right, list_any-same, more_at_sites, more_inside}
 
 cond_or : (a b : Bool) → cond a true b ≡ (b || a)
 cond_or true true = refl

@@ -1,5 +1,5 @@
 -- What a search has found: everything reached, and nothing else.
-use Rattle.std.proofs.Common.{◌≡◌, ℕ, ◌+◌, ◌-◌, ◌≤◌, ◌<◌, Bool, true, false, cond, List, [], ◌∷◌, ◌++◌, length, ◌↔◌, refl, sym, ap, ◌∙◌, subst, inl, inr, ⊎_elim, arith, length-append}
+use Rattle.std.proofs.Common.{◌≡◌, ◌+◌, ◌-◌, ◌≤◌, ◌<◌, true, List, [], ◌∷◌, ◌++◌, length, ◌↔◌, refl, sym, ap, ◌∙◌, subst, inl, inr, ⊎_elim, arith, length-append}
 use mathlib.Core.Bool.{false≢true}
 use mathlib.Core.Logic.{◌⊎◌}
 use Rattle.std.specs.BTreeMap.{is_at}
@@ -13,7 +13,7 @@ use Rattle.std.proofs.lemmas.List.Elements.{Contains-append_left, Contains-appen
 use Rattle.std.proofs.lemmas.Map.Keys.{IsDistinct-from_sorted}
 use Rattle.std.proofs.lemmas.Map.Lookups.{CmpEqualImpliesEq}
 use Rattle.std.proofs.lemmas.Map.Made.{length-le_from_is_member}
-use Rattle.std.proofs.lemmas.Map.Views.{btree_set_contains_iff, list_any-from_Contains, Contains-from_any, tells_apart}
+use Rattle.std.proofs.lemmas.Map.Views.{btree_set_contains_iff, list_any-from_Contains, tells_apart}
 use Rattle.trace_core.specs.Closures.{IsFound, NotesAll}
 use Rattle.trace_core.specs.Members.{contains_here, contains_cases, contains_none}
 use Rattle.trace_core.specs.Relations.{Reaches, ReachedFrom}

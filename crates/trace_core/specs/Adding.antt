@@ -1,5 +1,5 @@
 -- What becomes of the events of a document, one after another (GS1 EPCIS 2.0, section 7.4: the eventID names one event).
-use Rattle.std.specs.Prelude.{◌≡◌, ℕ, suc, ◌+◌, Bool, not, if◌then◌else◌, List, [], ◌∷◌, ◌++◌, Result, Ok, Err, ⊤}
+use Rattle.std.specs.Prelude.{◌≡◌, ℕ, suc, not, if◌then◌else◌, List, [], ◌∷◌, ◌++◌, Result, Ok, Err, ⊤}
 use Rattle.std.specs.List.{list_any}
 use Rattle.event_json.specs.Events.{Content}
 use Rattle.trace_core.specs.declared.adding.AddFault.{AddFault}

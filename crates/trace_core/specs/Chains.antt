@@ -1,5 +1,5 @@
 -- Related pairs of several sites, and what is reached by them.
-use Rattle.std.specs.Prelude.{◌≡◌, ◌≢◌, List, ◌++◌, Any, AllPairs, map}
+use Rattle.std.specs.Prelude.{◌≡◌, ◌≢◌, List, Any, AllPairs, map}
 use Rattle.std.specs.Borrow.{Bor}
 use Rattle.trace_core.specs.declared.pairs.Pair.{Pair}
 use Rattle.trace_core.specs.Pairs.{IsRelated}

@@ -1,5 +1,5 @@
 -- What a search for the nodes that a relation reaches has noted.
-use Rattle.std.specs.Prelude.{◌≡◌, ℕ, ◌+◌, List, [], length, Contains, IsTrue}
+use Rattle.std.specs.Prelude.{◌≡◌, ◌+◌, List, length, Contains, IsTrue}
 use Rattle.std.specs.declared.cmp.Ordering.{Ordering}
 use mathlib.Core.Logic.{◌⊎◌}
 use Rattle.std.specs.BTreeSet.{BTreeSet, contains, IsOrdered, btree_set_len}

@@ -1,6 +1,6 @@
 -- Related pairs of a site, from GS1 EPCIS 2.0, section 7.4 (core event types): an ObjectEvent with destinations ships its items, and a
 -- TransformationEvent makes outputs from inputs. Transformation events with equal transformationID are parts of one transformation.
-use Rattle.std.specs.Prelude.{◌≡◌, ◌==◌, ℕ, Bool, true, false, not, ◌&&◌, ◌||◌, IsTrue, List, Option, Some, None, nat_eq}
+use Rattle.std.specs.Prelude.{◌==◌, ℕ, Bool, false, not, ◌&&◌, ◌||◌, IsTrue, List, Option, Some, None, nat_eq}
 use Rattle.std.specs.List.{list_any}
 use Rattle.std.specs.List.Sorted.{IsStrictlySortedBy}
 use Rattle.std.specs.declared.cmp.Ordering.{Ordering}

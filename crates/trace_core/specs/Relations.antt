@@ -1,5 +1,5 @@
 -- Chains of any relation.
-use Rattle.std.specs.Prelude.{◌≡◌, ℕ, zero, suc, ◌-◌, ⊤, List, [], ◌∷◌, length, Some, slice_get, Contains}
+use Rattle.std.specs.Prelude.{◌≡◌, ℕ, zero, suc, ⊤, List, [], ◌∷◌, Contains}
 
 -- each one is related to the next
 abbrev pub IsChain : {X : Type 0} → (X → X → Type 0) → List X → Type 0

@@ -2,8 +2,8 @@ mod makers;
 
 use crate::laws;
 use makers::{
-    LATER_X_AS_E, X_AS_E, Y_AS_E, added, captured, chain, document, make, part_of_t, reached, related,
-    ship,
+    LATER_X_AS_E, X_AS_E, Y_AS_E, added, captured, chain, document, make, part_of_t, reached,
+    related, ship,
 };
 use std::test::Fail;
 
@@ -27,9 +27,11 @@ fn follows_a_transformation_and_a_shipment(rt: HostRuntime) -> Result<(), Fail> 
 fn joins_an_input_and_an_output_over_documents(rt: HostRuntime) -> Result<(), Fail> {
     let alloc = rt.alloc();
     let mut a = captured(alloc, 0, &[])?;
-    let answer = added(alloc, &mut a, &part_of_t(alloc, r#""x""#, "")?)?;
+    let x = part_of_t(alloc, r#""x""#, "")?;
+    let y = part_of_t(alloc, "", r#""y""#)?;
+    let answer = added(alloc, &mut a, &x)?;
     assert_eq!(rt; answer.as_str(), "fresh 1 known 0");
-    let answer = added(alloc, &mut a, &part_of_t(alloc, "", r#""y""#)?)?;
+    let answer = added(alloc, &mut a, &y)?;
     assert_eq!(rt; answer.as_str(), "fresh 1 known 0");
     let pairs = reached(alloc, &[&a], 0, "x")?;
     assert_eq!(rt; pairs.as_str(), "0 uri x; 0 uri y; ");
@@ -56,7 +58,9 @@ fn knows_an_event_again(rt: HostRuntime) -> Result<(), Fail> {
     assert_eq!(rt; answer.as_str(), "fresh 1 known 0");
     let answer = added(alloc, &mut a, X_AS_E)?;
     assert_eq!(rt; answer.as_str(), "fresh 0 known 1");
-    let answer = added(alloc, &mut a, &document(alloc, &[X_AS_E, &ship(alloc, "x", "b")?])?)?;
+    let shipped = ship(alloc, "x", "b")?;
+    let both = document(alloc, &[X_AS_E, &shipped])?;
+    let answer = added(alloc, &mut a, &both)?;
     assert_eq!(rt; answer.as_str(), "fresh 1 known 1");
     assert_eq!(rt; a.events().len(), 2);
     Ok(())
@@ -78,7 +82,8 @@ fn refuses_an_id_for_other_content(rt: HostRuntime) -> Result<(), Fail> {
 fn leaves_a_refused_document_out_whole(rt: HostRuntime) -> Result<(), Fail> {
     let alloc = rt.alloc();
     let mut a = captured(alloc, 0, &[])?;
-    let answer = added(alloc, &mut a, &document(alloc, &[X_AS_E, Y_AS_E])?)?;
+    let both = document(alloc, &[X_AS_E, Y_AS_E])?;
+    let answer = added(alloc, &mut a, &both)?;
     assert_eq!(rt; answer.as_str(), "the eventID of event 2 is taken");
     assert_eq!(rt; a.events().len(), 0);
     Ok(())

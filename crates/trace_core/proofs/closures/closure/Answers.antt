@@ -3,7 +3,7 @@ use Rattle.std.specs.List.{Contains}
 use Rattle.std.proofs.lemmas.Result.{IfOk-weaker}
 use Rattle.trace_core.specs.Relations.{ReachedFrom}
 use Rattle.std.proofs.lemmas.List.{nil_from_length}
-use Rattle.trace_core.proofs.SearchSteps.{search_begins, search_goes_on, search_ends, found_le, fewer_left}
+use Rattle.trace_core.proofs.SearchSteps.{search_begins, search_goes_on, search_ends, fewer_left}
 use Rattle.trace_core.proofs.closures.closure.Goals as goal
 
 pub loop-node-init : goal.loop-node-init

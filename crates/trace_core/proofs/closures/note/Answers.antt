@@ -1,6 +1,6 @@
 use Rattle.std.proofs.Common.{not, ◌+◌, cond, sym, ap, ◌∙◌}
 use Rattle.std.specs.BTreeSet.{btree_set_len}
-use Rattle.trace_core.proofs.SearchSteps.{notes_new, notes_present}
+use Rattle.trace_core.proofs.SearchSteps.{notes_new}
 use Rattle.trace_core.proofs.closures.note.Goals as goal
 
 pub returns-in_ok-insert : goal.returns-in_ok-insert
