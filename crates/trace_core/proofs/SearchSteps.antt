@@ -22,12 +22,13 @@ use Rattle.trace_core.proofs.ChainLaws.{reached_start, reached_step, reached_hol
 only_one : {K : Type 0} (x y : K) → Contains (x ∷ []) y → x ≡ y
 only_one x y h = ⊎_elim (λ e. e) (λ none. absurd (contains_none y none)) (contains_cases x y [] h)
 
--- what is reached from one start
-pub from_one_start : {K : Type 0} (R : K → K → Type 0) (starts : List K) (x root n : K) → starts ≡ x ∷ [] → x ≡ root → ReachedFrom R starts n ↔ Reaches R root n
-from_one_start R starts x root n one copied = (
-  λ (s, at, reaches). subst (λ z. Reaches R z n) (sym (only_one x s (subst (λ xs. Contains xs s) one at)) ∙ copied) reaches,
-  λ reaches. (x, subst (λ xs. Contains xs x) (sym one) (contains_here x []), subst (λ z. Reaches R z n) (sym copied) reaches),
-)
+-- what is reached where the root alone was put among the starts
+pub from_one_start : {K : Type 0} (R : K → K → Type 0) (none starts : List K) (x root n : K) → none ≡ [] → starts ≡ none ++ x ∷ [] → x ≡ root → ReachedFrom R starts n ↔ Reaches R root n
+from_one_start R none starts x root n empty pushed copied =
+    let one : starts ≡ x ∷ [] = pushed ∙ ap (λ xs. xs ++ x ∷ []) empty in (
+      λ (s, at, reaches). subst (λ z. Reaches R z n) (sym (only_one x s (subst (λ xs. Contains xs s) one at)) ∙ copied) reaches,
+      λ reaches. (x, subst (λ xs. Contains xs x) (sym one) (contains_here x []), subst (λ z. Reaches R z n) (sym copied) reaches),
+    )
 
 module _ {K : Type 0} (cmp : K → K → Ordering) where
   pub notes_none : (found : BTreeSet K) (waiting : List K) → NotesAll cmp found found waiting waiting []
