@@ -1,3 +1,4 @@
+pub mod Deficits
 pub mod Maps
 pub mod Numbering
 pub mod Orders

@@ -13,11 +13,11 @@ use Rattle.std.proofs.lemmas.Cmp.{tied_back, alike_right}
 use Rattle.std.proofs.lemmas.List.Sorted.{searchable_from_sorted}
 use Rattle.frame_core.specs.Entries.{IsAscending, Stands, Belongs, without}
 
-first : (a b : Bool) → T (a && b) → T a
+pub first : (a b : Bool) → T (a && b) → T a
 first true b p = tt
 first false b p = p
 
-second : (a b : Bool) → T (a && b) → T b
+pub second : (a b : Bool) → T (a && b) → T b
 second true b p = p
 second false b p = absurd p
 
@@ -78,7 +78,7 @@ module _ {K X : Type 0} {R : K → K → Ordering} (o : IsTotalOrder R) where
   without_in k (e ∷ es) (suc i) h = rw (greater_back o e.0 k h.0) (ap (λ ys. e ∷ ys) (without_in k es i h.1))
 
   -- keys above a key that ties with k are greater than k
-  above_tied : (x k : K) (es : List (K × X)) → R x k ≡ Equal → T (below_all R x es) → Belongs R k es zero
+  pub above_tied : (x k : K) (es : List (K × X)) → R x k ≡ Equal → T (below_all R x es) → Belongs R k es zero
   above_tied x k [] t h = tt
   above_tied x k (e ∷ es) t h = (greater_back o k e.0 (sym (o.congr x k e.0 t) ∙ less _ (first _ _ h)), above_tied x k es t (second _ _ h))
 

@@ -1,5 +1,6 @@
 pub mod Entries
 pub mod Identifiers
+pub mod Laws
 pub mod Numbers
 pub mod Outboxes
 pub mod Rows

@@ -8,6 +8,7 @@
 pub mod entries;
 mod frames;
 mod identifiers;
+pub mod laws;
 mod outboxes;
 mod rows;
 mod seen_messages;

@@ -1,0 +1,198 @@
+-- What numbering messages and clearing a row do to the deficits of recalls, and where a recall has rows.
+use Rattle.std.proofs.Common.{◌≡◌, ◌≢◌, ℕ, ◌+◌, ◌≤◌, Bool, true, false, cond, not, ◌||◌, List, [], ◌∷◌, map, length, Option, Some, None, refl, sym, ap, subst, ◌∙◌, arith}
+use Rattle.std.specs.Cmp.{IsTotalOrder, nat_cmp_total}
+use Rattle.std.specs.Ordering.{is_eq, nat_cmp, eq_by_cmp}
+use Rattle.std.specs.declared.cmp.Ordering.{Ordering}
+use Rattle.std.specs.declared.cmp.Ordering.TheVariants.{Less, Equal, Greater}
+use Rattle.std.specs.List.{count_by, list_any}
+use Rattle.std.specs.FinMap.{FinMap, IsAntisymmetric, nat_cmp-IsAntisymmetric, find, put, get, insert, remove, entries, entries_sorted, get-entries, entries-insert, entries-from_sorted, from_sorted, same_entries_map}
+use Rattle.std.specs.FinMap.Entries.{by_order}
+use Rattle.std.proofs.lemmas.List.Sums.{sum_by-cons}
+use Rattle.std.proofs.lemmas.Bool.{false_from_ne_true}
+use Rattle.std.proofs.lemmas.Cmp.{tied_itself, tied_back}
+use Rattle.frame_core.specs.Numbers.{Recall}
+use Rattle.frame_core.specs.declared.rows.Row.{Row}
+use Rattle.frame_core.specs.Entries.{IsAscending, without}
+use Rattle.frame_core.specs.Identifiers.{same_recall}
+use Rattle.frame_core.specs.Outboxes.{row_for, numbered, rows_of, has_rows}
+use Rattle.frame_core.specs.Laws.{IsRowOf, AreUnused}
+use Rattle.frame_core.proofs.Maps.{get_apart, without_sorted, ascending_without}
+use Rattle.frame_core.proofs.Places.{first, second, above_tied, find_in, without_in}
+use Rattle.frame_core.proofs.Numbering.{one_recall, same_recall_itself}
+
+-- what fails a test adds nothing, and what passes it adds one
+not_counted : (n : ℕ) {b : Bool} → b ≡ false → cond b 1 0 + n ≡ n
+not_counted n is = ap (λ b. cond b 1 0 + n) is ∙ omega arith
+
+counted : (n : ℕ) {b : Bool} → b ≡ true → cond b 1 0 + n ≡ 1 + n
+counted n is = ap (λ b. cond b 1 0 + n) is
+
+-- how often a test passes at what is found
+abbrev passed : {X : Type 0} → (X → Bool) → Option X → ℕ
+passed p None = 0
+passed p (Some x) = cond (p x) 1 0
+
+-- how many values of entries pass a test
+abbrev passing : {K X : Type 0} → (X → Bool) → List (K × X) → ℕ
+passing p es = count_by p (map (λ e. e.1) es)
+
+module _ {K X : Type 0} (p : X → Bool) where
+  passing_more : (e : K × X) (es : List (K × X)) → passing p (e ∷ es) ≡ cond (p e.1) 1 0 + passing p es
+  passing_more e es = sum_by-cons (λ x. cond (p x) 1 0) e.1 (map (λ e. e.1) es)
+
+  -- a new key adds its value
+  passing_put : (R : K → K → Ordering) (k : K) (v : X) (es : List (K × X)) → find R k es ≡ None → passing p (put R k v es) ≡ cond (p v) 1 0 + passing p es
+  passing_put R k v [] none = passing_more (k, v) []
+  passing_put R k v (e ∷ es) none =
+      elim (R k e.0) as (λ r. cond (is_eq r) (Some e.1) (find R k es) ≡ None → passing p (by_order r ((k, v) ∷ e ∷ es) ((e.0, v) ∷ es) (e ∷ put R k v es)) ≡ cond (p v) 1 0 + passing p (e ∷ es)) [
+        | Less ↦ λ h. passing_more (k, v) (e ∷ es)
+        | Equal ↦ λ h. cc
+        | Greater ↦ λ h. omega (arith, passing_more e (put R k v es), passing_put R k v es h, passing_more e es)
+      ] none
+
+  -- a key that goes takes its value along
+  passing_without : {R : K → K → Ordering} (o : IsTotalOrder R) (k : K) (es : List (K × X)) → IsAscending R es → passing p (without R k es) + passed p (find R k es) ≡ passing p es
+  passing_without o k [] up = refl
+  passing_without {R} o k (e ∷ es) up =
+      elim (R k e.0) as (λ r. R k e.0 ≡ r → passing p (cond (not (is_eq r)) (e ∷ without R k es) (without R k es)) + passed p (cond (is_eq r) (Some e.1) (find R k es)) ≡ passing p (e ∷ es)) [
+        | Less ↦ λ t. omega (arith, passing_more e (without R k es), passing_without o k es (second _ _ up), passing_more e es)
+        | Equal ↦ λ t.
+            let rest : es ≡ without R k es = without_in o k es 0 (above_tied o e.0 k es (tied_back o k e.0 t) (first _ _ up)) in
+            omega (arith, ap (passing p) rest, passing_more e es)
+        | Greater ↦ λ t. omega (arith, passing_more e (without R k es), passing_without o k es (second _ _ up), passing_more e es)
+      ] refl
+
+  -- where no value passes, none is counted
+  none_counted : (es : List (K × X)) → list_any p (map (λ e. e.1) es) ≡ false → passing p es ≡ 0
+  none_counted [] none = refl
+  none_counted (e ∷ es) none =
+      elim (p e.1) as (λ b. p e.1 ≡ b → (b || list_any p (map (λ e. e.1) es)) ≡ false → passing p (e ∷ es) ≡ 0) [
+        | true ↦ λ t h. cc
+        | false ↦ λ t h. passing_more e es ∙ not_counted (passing p es) t ∙ none_counted es h
+      ] refl none
+
+  -- and where one does, one is
+  some_counted : (es : List (K × X)) → list_any p (map (λ e. e.1) es) ≡ true → 1 ≤ passing p es
+  some_counted [] some = cc
+  some_counted (e ∷ es) some =
+      elim (p e.1) as (λ b. p e.1 ≡ b → (b || list_any p (map (λ e. e.1) es)) ≡ true → 1 ≤ passing p (e ∷ es)) [
+        | true ↦ λ t h. omega (arith, passing_more e es, counted (passing p es) t)
+        | false ↦ λ t h. omega (arith, passing_more e es, some_counted es h)
+      ] refl some
+
+-- an entry among those of an ascending list is found, and passes
+pub record IsPassing {K X : Type 0} (R : K → K → Ordering) (p : X → Bool) (es : List (K × X)) : Type 0 where
+  pub key : K
+  pub value : X
+  pub found : find R key es ≡ Some value
+  pub passes : p value ≡ true
+
+module _ {K X : Type 0} {R : K → K → Ordering} (o : IsTotalOrder R) (p : X → Bool) where
+  -- what is found behind the first entry is found
+  later_found : (e : K × X) (es : List (K × X)) → IsAscending R (e ∷ es) → IsPassing R p es → IsPassing R p (e ∷ es)
+  later_found e es up later =
+      elim (R later.key e.0) as (λ r. R later.key e.0 ≡ r → IsPassing R p (e ∷ es)) [
+        | Less ↦ λ t. record { key = later.key; value = later.value; found = ap (λ r. cond (is_eq r) (Some e.1) (find R later.key es)) t ∙ later.found; passes = later.passes }
+        | Equal ↦ λ t.
+            let absent : find R later.key es ≡ None = find_in o later.key es 0 (above_tied o e.0 later.key es (tied_back o later.key e.0 t) (first _ _ up)) in
+            let present : find R later.key es ≡ Some later.value = later.found in
+            cc
+        | Greater ↦ λ t. record { key = later.key; value = later.value; found = ap (λ r. cond (is_eq r) (Some e.1) (find R later.key es)) t ∙ later.found; passes = later.passes }
+      ] refl
+
+  -- a value that passes has a key under which it is found
+  found_passing : (es : List (K × X)) → IsAscending R es → list_any p (map (λ e. e.1) es) ≡ true → IsPassing R p es
+  found_passing [] up some = cc
+  found_passing (e ∷ es) up some =
+      elim (p e.1) as (λ b. p e.1 ≡ b → (b || list_any p (map (λ e. e.1) es)) ≡ true → IsPassing R p (e ∷ es)) [
+        | true ↦ λ t h. record { key = e.0; value = e.1; found = ap (λ r. cond (is_eq r) (Some e.1) (find R e.0 es)) (tied_itself o e.0); passes = t }
+        | false ↦ λ t h. later_found e es up (found_passing es (second _ _ up) h)
+      ] refl some
+
+  -- a value that is found and passes is one that passes
+  passing_found : (es : List (K × X)) (q : K) (x : X) → find R q es ≡ Some x → p x ≡ true → list_any p (map (λ e. e.1) es) ≡ true
+  passing_found [] q x is passes = cc
+  passing_found (e ∷ es) q x is passes =
+      elim (eq_by_cmp R q e.0) as (λ b. cond b (Some e.1) (find R q es) ≡ Some x → (p e.1 || list_any p (map (λ e. e.1) es)) ≡ true) [
+        | true ↦ λ here. let same : e.1 ≡ x = cc in ap (λ y. p y || list_any p (map (λ e. e.1) es)) same ∙ ap (λ b. b || list_any p (map (λ e. e.1) es)) passes
+        | false ↦ λ later. elim (p e.1) as (λ b. (b || list_any p (map (λ e. e.1) es)) ≡ true) [ true ↦ refl | false ↦ passing_found es q x later passes ]
+      ] is
+
+-- the entries of a map without a key
+entries_removed : (m : FinMap nat_cmp Row) (n : ℕ) → entries (remove m n) ≡ without nat_cmp n (entries m)
+entries_removed m n =
+    let whole : from_sorted {R = nat_cmp} (entries m) ≡ m = same_entries_map _ _ (entries-from_sorted nat_cmp (entries m) (entries_sorted m)) in
+    ap (λ k. entries (remove k n)) (sym whole)
+    ∙ ap entries (sym (without_sorted nat_cmp_total nat_cmp-IsAntisymmetric (entries m) n (entries_sorted m)))
+    ∙ entries-from_sorted nat_cmp (without nat_cmp n (entries m)) (ascending_without nat_cmp_total nat_cmp-IsAntisymmetric (entries m) n (entries_sorted m))
+
+-- a recall has rows exactly where a row of it is found
+pub rows_are_found : (rows : FinMap nat_cmp Row) (r : Recall) → has_rows rows r ≡ true → IsRowOf rows r
+rows_are_found rows r some =
+    let one = found_passing nat_cmp_total (λ row. same_recall row.recall r) (entries rows) (entries_sorted rows) some in
+    record { number = one.key; row = one.value; stands = get-entries rows one.key ∙ one.found; of_recall = one_recall one.value.recall r one.passes }
+
+pub found_rows : (rows : FinMap nat_cmp Row) (r : Recall) → IsRowOf rows r → has_rows rows r ≡ true
+found_rows rows r one =
+    passing_found nat_cmp_total (λ row. same_recall row.recall r) (entries rows) one.number one.row
+      (sym (get-entries rows one.number) ∙ one.stands)
+      (subst (λ (z : Recall). same_recall z r ≡ true) (sym one.of_recall) (same_recall_itself r))
+
+-- a recall without rows has no deficit, and the other way round
+pub no_deficit : (rows : FinMap nat_cmp Row) (r : Recall) → has_rows rows r ≡ false → rows_of rows r ≡ 0
+no_deficit rows r none = none_counted (λ row. same_recall row.recall r) (entries rows) none
+
+pub no_rows_left : (rows : FinMap nat_cmp Row) (r : Recall) → rows_of rows r ≡ 0 → has_rows rows r ≡ false
+no_rows_left rows r zero_of =
+    elim (has_rows rows r) as (λ b. has_rows rows r ≡ b → b ≡ false) [
+      | true ↦ λ t. absurd (omega (arith, some_counted (λ row. same_recall row.recall r) (entries rows) t, zero_of))
+      | false ↦ λ t. refl
+    ] refl
+
+-- another recall is not the same
+other_recall : (a b : Recall) → a ≢ b → same_recall a b ≡ false
+other_recall a b ne = false_from_ne_true (same_recall a b) (λ t. ne (one_recall a b t))
+
+-- a message under an unused number
+inserted : (rows : FinMap nat_cmp Row) (n : ℕ) (x : Row) (r : Recall) → get rows n ≡ None → rows_of (insert rows n x) r ≡ cond (same_recall x.recall r) 1 0 + rows_of rows r
+inserted rows n x r none =
+    ap (passing (λ row. same_recall row.recall r)) (entries-insert nat_cmp_total rows n x)
+    ∙ passing_put (λ row. same_recall row.recall r) nat_cmp n x (entries rows) (sym (get-entries rows n) ∙ none)
+
+-- the numbers after it are unused still
+unused_after : (rows : FinMap nat_cmp Row) (n : ℕ) (x : Row) → AreUnused rows n → AreUnused (insert rows n x) (n + 1)
+unused_after rows n x unused q le = get_apart nat_cmp_total nat_cmp-IsAntisymmetric rows n x q (λ same. omega arith) ∙ unused q (omega arith)
+
+pub deficit_rises : (rows : FinMap nat_cmp Row) (n : ℕ) (r : Recall) (out : List (ℕ × List ℕ)) → AreUnused rows n → rows_of (numbered rows n r out) r ≡ rows_of rows r + length out
+deficit_rises rows n r [] unused = omega arith
+deficit_rises rows n r (pair ∷ out) unused =
+    let next = insert rows n (row_for r pair) in
+    let later : rows_of (numbered next (n + 1) r out) r ≡ rows_of next r + length out = deficit_rises next (n + 1) r out (unused_after rows n (row_for r pair) unused) in
+    let first_one : rows_of next r ≡ 1 + rows_of rows r = inserted rows n (row_for r pair) r (unused n (omega arith)) ∙ counted (rows_of rows r) (same_recall_itself r) in
+    omega (arith, later, first_one)
+
+pub other_deficit_stays : (rows : FinMap nat_cmp Row) (n : ℕ) (r other : Recall) (out : List (ℕ × List ℕ)) → AreUnused rows n → other ≢ r → rows_of (numbered rows n r out) other ≡ rows_of rows other
+other_deficit_stays rows n r other [] unused ne = refl
+other_deficit_stays rows n r other (pair ∷ out) unused ne =
+    other_deficit_stays (insert rows n (row_for r pair)) (n + 1) r other out (unused_after rows n (row_for r pair) unused) ne
+    ∙ inserted rows n (row_for r pair) other (unused n (omega arith))
+    ∙ not_counted (rows_of rows other) (other_recall r other (λ same. ne (sym same)))
+
+-- what a row that goes takes from each deficit
+cleared : (rows : FinMap nat_cmp Row) (n : ℕ) (x : Row) (r : Recall) → get rows n ≡ Some x → rows_of (remove rows n) r + cond (same_recall x.recall r) 1 0 ≡ rows_of rows r
+cleared rows n x r is =
+    let test : Row → Bool = λ row. same_recall row.recall r in
+    let fewer : rows_of (remove rows n) r ≡ passing test (without nat_cmp n (entries rows)) = ap (passing test) (entries_removed rows n) in
+    let all : passing test (without nat_cmp n (entries rows)) + passed test (find nat_cmp n (entries rows)) ≡ rows_of rows r = passing_without test nat_cmp_total n (entries rows) (entries_sorted rows) in
+    let here : passed test (find nat_cmp n (entries rows)) ≡ cond (same_recall x.recall r) 1 0 = ap (passed test) (sym (get-entries rows n) ∙ is) in
+    omega (arith, fewer, all, here)
+
+pub deficit_falls : (rows : FinMap nat_cmp Row) (n : ℕ) (x : Row) → get rows n ≡ Some x → rows_of (remove rows n) x.recall + 1 ≡ rows_of rows x.recall
+deficit_falls rows n x is =
+    let own : ◌≡◌ {A = ℕ} (cond (same_recall x.recall x.recall) 1 0) 1 = ap (λ b. cond b 1 0) (same_recall_itself x.recall) in
+    omega (arith, cleared rows n x x.recall is, own)
+
+pub other_deficit_left : (rows : FinMap nat_cmp Row) (n : ℕ) (x : Row) (other : Recall) → get rows n ≡ Some x → other ≢ x.recall → rows_of (remove rows n) other ≡ rows_of rows other
+other_deficit_left rows n x other is ne =
+    let none : ◌≡◌ {A = ℕ} (cond (same_recall x.recall other) 1 0) 0 = ap (λ b. cond b 1 0) (other_recall x.recall other (λ same. ne (sym same))) in
+    omega (arith, cleared rows n x other is, none)
