@@ -2,3 +2,4 @@ pub mod Codes
 pub mod OwnRecalls
 pub mod Engagement
 pub mod Changes
+pub mod Laws
