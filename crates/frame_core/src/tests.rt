@@ -140,3 +140,55 @@ fn a_frame_is_lent_and_copied(rt: HostRuntime) -> Result<(), Fail> {
     assert!(rt; frames[0] != frames[1]);
     Ok(())
 }
+
+// No run leads to this record: a row at the next number. The message that gets it writes it over.
+#[test]
+fn a_restored_row_is_written_over(rt: HostRuntime) -> Result<(), Fail> {
+    let (b, c, first) = (site(1)?, site(2)?, recall(1)?);
+    let rows = vec![in rt.alloc();
+        (2, row(rt.alloc(), b, first, "x")?),
+        (5, row(rt.alloc(), b, first, "y")?)
+    ]?;
+    let mut outbox = Outbox::restore(rows, 5);
+    assert_eq!(rt; outbox.number(c, first, Epc::read(rt.alloc(), "z")?), Ok(5));
+    let want = [
+        (2, row(rt.alloc(), b, first, "x")?),
+        (5, row(rt.alloc(), c, first, "z")?),
+    ];
+    assert_eq!(rt; outbox.rows(), want.as_slice());
+    assert_eq!(rt; (outbox.rows_of(first), outbox.next_number()), (2, 6));
+    Ok(())
+}
+
+// With allocations refused (rt try --test --fail-alloc 1..) these see what want of memory leaves.
+#[test]
+fn a_row_without_memory_changes_nothing(rt: HostRuntime) -> Result<(), Fail> {
+    let (b, first) = (site(1)?, recall(1)?);
+    let mut outbox = Outbox::new(rt.alloc());
+    outbox.number(b, first, Epc::read(rt.alloc(), "x")?)?;
+    let before = outbox.copy(rt.alloc())?;
+    match outbox.number(b, first, Epc::read(rt.alloc(), "y")?) {
+        Ok(number) => assert_eq!(rt; (number, outbox.rows_of(first)), (2, 2)),
+        Err(fault) => {
+            assert_eq!(rt; fault, NumberFault::NoMemory);
+            assert_eq!(rt; outbox.rows(), before.rows());
+            assert_eq!(rt; outbox.next_number(), 2);
+        }
+    }
+    Ok(())
+}
+
+#[test]
+fn a_message_without_memory_stays_fresh(rt: HostRuntime) -> Result<(), Fail> {
+    let first = recall(1)?;
+    let message = MsgId {
+        site: site(1)?,
+        number: 1,
+    };
+    let mut seen = Seen::new(rt.alloc());
+    match seen.note(message, first) {
+        Ok(noted) => assert_eq!(rt; noted, Noted::Fresh),
+        Err(_) => assert_eq!(rt; seen.recall_of(message), None),
+    }
+    Ok(())
+}

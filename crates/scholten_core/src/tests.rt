@@ -53,6 +53,17 @@ fn initiator(alloc: Global, rows: Vec<(u64, Row)>, ended: bool) -> Result<Diffus
     Ok(Diffusion::restore(site(0)?, rows, Vec::new(alloc), Vec::new(alloc), own, 5, 2))
 }
 
+/// Whether two sites keep the same.
+fn is_same(one: &Diffusion, other: &Diffusion) -> bool {
+    one.me() == other.me()
+        && one.outbox() == other.outbox()
+        && one.seen() == other.seen()
+        && one.parents() == other.parents()
+        && one.own_recalls() == other.own_recalls()
+        && one.next_message() == other.next_message()
+        && one.next_recall() == other.next_recall()
+}
+
 // Site D, told by B and by C, which tells E.
 #[test]
 fn a_site_is_engaged_until_its_messages_are_signalled(rt: HostRuntime) -> Result<(), Fail> {
@@ -84,6 +95,59 @@ fn a_site_is_engaged_until_its_messages_are_signalled(rt: HostRuntime) -> Result
         (d.outbox().len(), d.seen().len(), d.parents().len()),
         (0, 3, 0)
     );
+    Ok(())
+}
+
+// The second message finds the site engaged, though it has messages of its own to number.
+#[test]
+fn the_first_sender_stays_the_parent(rt: HostRuntime) -> Result<(), Fail> {
+    let recall = first_recall()?;
+    let mut d = Diffusion::new(rt.alloc(), site(3)?);
+    let out = [told(rt.alloc(), 4)?];
+    d.receive(message(1, 1)?, recall, &out)?;
+    assert_eq!(rt;
+        d.receive(message(2, 1)?, recall, &out),
+        Ok(Received::SignalNow { numbered: 1 })
+    );
+    assert_eq!(rt;
+        (d.parent(recall), d.deficit(recall)),
+        (Some(message(1, 1)?), 2)
+    );
+    let before = d.copy(rt.alloc())?;
+    assert_eq!(rt;
+        d.receive(message(2, 1)?, recall, &out),
+        Ok(Received::Repeat)
+    );
+    assert_eq!(rt; d.signalled(3), Signalled::Stale);
+    assert!(rt; is_same(&d, &before));
+    assert_eq!(rt;
+        (d.signalled(2), d.deficit(recall)),
+        (Signalled::Cleared, 1)
+    );
+    assert_eq!(rt; d.signalled(1), Signalled::ParentDue(message(1, 1)?));
+    assert_eq!(rt; d.seen(), before.seen());
+    Ok(())
+}
+
+#[test]
+fn each_recall_has_its_own_deficit(rt: HostRuntime) -> Result<(), Fail> {
+    let first = first_recall()?;
+    let second = RecallId {
+        site: site(1)?,
+        number: 1,
+    };
+    let mut d = Diffusion::new(rt.alloc(), site(3)?);
+    let one = [told(rt.alloc(), 4)?];
+    let two = [told(rt.alloc(), 4)?, told(rt.alloc(), 5)?];
+    d.receive(message(1, 1)?, first, &one)?;
+    assert_eq!(rt;
+        d.receive(message(1, 2)?, second, &two),
+        Ok(Received::Owe { numbered: 2 })
+    );
+    assert_eq!(rt; (d.deficit(first), d.deficit(second)), (1, 2));
+    assert_eq!(rt; d.signalled(1), Signalled::ParentDue(message(1, 1)?));
+    assert_eq!(rt; (d.deficit(first), d.deficit(second)), (0, 2));
+    assert_eq!(rt; d.parent(second), Some(message(1, 2)?));
     Ok(())
 }
 
@@ -165,26 +229,76 @@ fn a_restored_record_goes_by_the_same_rules(rt: HostRuntime) -> Result<(), Fail>
 #[test]
 fn spent_numbers_leave_all_as_it_was(rt: HostRuntime) -> Result<(), Fail> {
     let recall = first_recall()?;
-    let spent = Err(NumberFault::NumbersSpent);
+    let mut d = at_last_number(rt.alloc(), site(3)?);
+    let two = [told(rt.alloc(), 4)?, told(rt.alloc(), 5)?];
+    let before = d.copy(rt.alloc())?;
+    assert_eq!(rt;
+        d.receive(message(1, 1)?, recall, &two),
+        Err(NumberFault::NumbersSpent)
+    );
+    let began = d.begin(Epc::read(rt.alloc(), "x")?, &two).err();
+    assert_eq!(rt; began, Some(NumberFault::NumbersSpent));
+    assert!(rt; is_same(&d, &before));
+    Ok(())
+}
+
+#[test]
+fn the_last_message_is_numbered_once(rt: HostRuntime) -> Result<(), Fail> {
+    let recall = first_recall()?;
     let mut d = at_last_number(rt.alloc(), site(3)?);
     let one = [told(rt.alloc(), 4)?];
-    let two = [told(rt.alloc(), 4)?, told(rt.alloc(), 5)?];
-    assert_eq!(rt; d.receive(message(1, 1)?, recall, &two), spent);
-    assert_eq!(rt;
-        (d.next_message(), d.seen().len(), d.outbox().len()),
-        (LAST_NUMBER, 0, 0)
-    );
     assert_eq!(rt;
         d.receive(message(1, 1)?, recall, &one),
         Ok(Received::Owe { numbered: 1 })
     );
     let want = row(rt.alloc(), 4)?;
     assert_eq!(rt; d.row(4611686018427387904), Some(want.view()));
-    assert_eq!(rt; d.receive(message(1, 2)?, recall, &one), spent);
+    let before = d.copy(rt.alloc())?;
     assert_eq!(rt;
-        (d.deficit(recall), d.seen().len(), d.parents().len()),
-        (1, 1, 1)
+        d.receive(message(1, 2)?, recall, &one),
+        Err(NumberFault::NumbersSpent)
     );
+    assert!(rt; is_same(&d, &before));
+    // No number is wanted here.
+    assert_eq!(rt;
+        d.receive(message(1, 2)?, recall, &[]),
+        Ok(Received::SignalNow { numbered: 0 })
+    );
+    Ok(())
+}
+
+// With allocations refused (rt try --test --fail-alloc 1..) these see what want of memory leaves.
+#[test]
+fn a_message_without_memory_changes_nothing(rt: HostRuntime) -> Result<(), Fail> {
+    let recall = first_recall()?;
+    let out = [told(rt.alloc(), 4)?];
+    let mut d = Diffusion::new(rt.alloc(), site(3)?);
+    for number in [1, 2] {
+        let before = d.copy(rt.alloc())?;
+        let message = message(1, number)?;
+        match d.receive(message, recall, &out) {
+            Ok(_) => assert_eq!(rt; d.seen_under(message), Some(recall)),
+            Err(fault) => {
+                assert_eq!(rt; fault, NumberFault::NoMemory);
+                assert!(rt; is_same(&d, &before));
+            }
+        }
+    }
+    Ok(())
+}
+
+#[test]
+fn a_recall_without_memory_changes_nothing(rt: HostRuntime) -> Result<(), Fail> {
+    let out = [told(rt.alloc(), 4)?];
+    let mut d = Diffusion::new(rt.alloc(), site(3)?);
+    let before = d.copy(rt.alloc())?;
+    match d.begin(Epc::read(rt.alloc(), "x")?, &out) {
+        Ok(began) => assert_eq!(rt; d.deficit(began.recall), 1),
+        Err(fault) => {
+            assert_eq!(rt; fault, NumberFault::NoMemory);
+            assert!(rt; is_same(&d, &before));
+        }
+    }
     Ok(())
 }
 
