@@ -174,6 +174,7 @@ impl Outbox {
         ensures next { result ≡ self.now.next }
         ensures in_range { IsNextNumber result }
     {
+        // The invariant keeps it from 1 to 2^62 + 1.
         self.next
     }
 

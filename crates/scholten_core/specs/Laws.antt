@@ -90,3 +90,31 @@ SeenStaysSeen =
 -- a signal forgets no message
 abbrev pub SignalForgetsNothing : Type 0
 SignalForgetsNothing = (e : Engagement) (n : ℕ) → (signalled e n).0.seen ≡ e.seen
+
+-- Rows.
+
+-- the site is engaged for the recall, or is its live initiator
+abbrev pub IsOwned : Engagement → Recall → Type 0
+IsOwned e r = IsSome (get e.parents r) ⊎ IsTrue (is_live e r)
+
+-- the site has rows of such recalls alone
+abbrev pub RowsHaveAnOwner : Engagement → Type 0
+RowsHaveAnOwner e = (n : ℕ) (x : Row) → get e.outbox n ≡ Some x → IsOwned e x.recall
+
+-- to begin a recall under an unused number keeps that
+abbrev pub BeginningKeepsOwners : Type 0
+BeginningKeepsOwners =
+    (e : Engagement) (root : List ℕ) (out : List (ℕ × List ℕ))
+    → get e.own e.next_recall ≡ None → RowsHaveAnOwner e → RowsHaveAnOwner (begun e root out)
+
+-- so does a message
+abbrev pub MessagesKeepOwners : Type 0
+MessagesKeepOwners = (e : Engagement) (m : Message) (r : Recall) (out : List (ℕ × List ℕ)) → RowsHaveAnOwner e → RowsHaveAnOwner (received e m r out).0
+
+-- and a signal
+abbrev pub SignalsKeepOwners : Type 0
+SignalsKeepOwners = (e : Engagement) (n : ℕ) → RowsHaveAnOwner e → RowsHaveAnOwner (signalled e n).0
+
+-- then a site that is neither engaged for a recall nor its live initiator has a deficit of zero
+abbrev pub NeutralSitesHaveNoDeficit : Type 0
+NeutralSitesHaveNoDeficit = (e : Engagement) (r : Recall) → RowsHaveAnOwner e → get e.parents r ≡ None → IsFalse (is_live e r) → rows_of e.outbox r ≡ 0

@@ -272,6 +272,7 @@ impl Diffusion {
         ensures next { result ≡ self.now.next_recall }
         ensures in_range { IsNextNumber result }
     {
+        // The invariant keeps it from 1 to 2^62 + 1.
         self.next_recall
     }
 

@@ -1,7 +1,7 @@
 //! Laws of engagement, for proofs of the crates above. Each is a function with an empty body whose
 //! contract is the law.
 
-ghost use Rattle.scholten_core.specs.Laws.{ParentStands, OtherParentsStand, ParentIsGone, OtherParentsStay, FirstParentStays, NewParentIsReceived, ParentGoesLast, EndIsRecorded, OtherRecallsStay, EndedStaysEnded, EndedNeverEnds, ReceivedIsSeen, SeenStaysSeen, SignalForgetsNothing};
+ghost use Rattle.scholten_core.specs.Laws.{ParentStands, OtherParentsStand, ParentIsGone, OtherParentsStay, FirstParentStays, NewParentIsReceived, ParentGoesLast, EndIsRecorded, OtherRecallsStay, EndedStaysEnded, EndedNeverEnds, ReceivedIsSeen, SeenStaysSeen, SignalForgetsNothing, BeginningKeepsOwners, MessagesKeepOwners, SignalsKeepOwners, NeutralSitesHaveNoDeficit};
 
 /// To insert or to remove a parent changes what is found for its recall, and for no other.
 pub fn parents_are_found()
@@ -36,4 +36,13 @@ pub fn seen_is_for_good()
     ensures received { ReceivedIsSeen }
     ensures stays { SeenStaysSeen }
     ensures signalled { SignalForgetsNothing }
+{}
+
+/// A site that is neither engaged for a recall nor its live initiator has no unsignalled message of
+/// it: each change keeps this.
+pub fn neutral_sites_have_no_deficit()
+    ensures begun { BeginningKeepsOwners }
+    ensures received { MessagesKeepOwners }
+    ensures signalled { SignalsKeepOwners }
+    ensures none { NeutralSitesHaveNoDeficit }
 {}
