@@ -5,7 +5,7 @@ use Rattle.std.specs.Ordering.{is_eq, nat_cmp, eq_by_cmp}
 use Rattle.std.specs.declared.cmp.Ordering.{Ordering}
 use Rattle.std.specs.declared.cmp.Ordering.TheVariants.{Less, Equal, Greater}
 use Rattle.std.specs.List.{count_by, list_any}
-use Rattle.std.specs.FinMap.{FinMap, IsAntisymmetric, nat_cmp-IsAntisymmetric, find, put, get, insert, remove, entries, entries_sorted, get-entries, entries-insert, entries-from_sorted, from_sorted, same_entries_map}
+use Rattle.std.specs.FinMap.{FinMap, nat_cmp-IsAntisymmetric, find, put, get, insert, remove, entries, entries_sorted, get-entries, entries-insert, entries-from_sorted, from_sorted, same_entries_map}
 use Rattle.std.specs.FinMap.Entries.{by_order}
 use Rattle.std.proofs.lemmas.List.Sums.{sum_by-cons}
 use Rattle.std.proofs.lemmas.Bool.{false_from_ne_true}
@@ -135,8 +135,8 @@ rows_are_found rows r some =
 pub found_rows : (rows : FinMap nat_cmp Row) (r : Recall) → IsRowOf rows r → has_rows rows r ≡ true
 found_rows rows r one =
     passing_found nat_cmp_total (λ row. same_recall row.recall r) (entries rows) one.number one.row
-      (sym (get-entries rows one.number) ∙ one.stands)
-      (subst (λ (z : Recall). same_recall z r ≡ true) (sym one.of_recall) (same_recall_itself r))
+    (sym (get-entries rows one.number) ∙ one.stands)
+    (subst (λ (z : Recall). same_recall z r ≡ true) (sym one.of_recall) (same_recall_itself r))
 
 -- a recall without rows has no deficit, and the other way round
 pub no_deficit : (rows : FinMap nat_cmp Row) (r : Recall) → has_rows rows r ≡ false → rows_of rows r ≡ 0

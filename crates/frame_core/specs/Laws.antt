@@ -2,7 +2,7 @@
 --
 -- A deficit falls and rises as in Dijkstra and Scholten, "Termination detection for diffusing computations",
 -- Information Processing Letters 11 (1980), section 2: by one for each message, and by one for each signal.
-use Rattle.std.specs.Prelude.{◌≡◌, ◌≢◌, ◌⊎◌, ◌↔◌, ℕ, ◌+◌, ◌<◌, ◌≤◌, IsTrue, IsFalse, List, length, get_or, Option, Some, None}
+use Rattle.std.specs.Prelude.{◌≡◌, ◌≢◌, ◌⊎◌, ◌↔◌, ℕ, ◌+◌, ◌<◌, ◌≤◌, IsTrue, IsFalse, List, length, get_or, Some, None}
 use Rattle.std.specs.Ordering.{nat_cmp}
 use Rattle.std.specs.FinMap.{FinMap, get, insert, remove}
 use Rattle.frame_core.specs.declared.rows.Row.{Row}

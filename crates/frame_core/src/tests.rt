@@ -147,7 +147,7 @@ fn a_restored_row_is_written_over(rt: HostRuntime) -> Result<(), Fail> {
     let (b, c, first) = (site(1)?, site(2)?, recall(1)?);
     let rows = vec![in rt.alloc();
         (2, row(rt.alloc(), b, first, "x")?),
-        (5, row(rt.alloc(), b, first, "y")?)
+        (5, row(rt.alloc(), b, first, "y")?),
     ]?;
     let mut outbox = Outbox::restore(rows, 5);
     assert_eq!(rt; outbox.number(c, first, Epc::read(rt.alloc(), "z")?), Ok(5));
