@@ -1,11 +1,14 @@
 -- How a command ends: with which status, and what it leaves on its streams.
-use Rattle.std.specs.Prelude.{◌≡◌, ◌⊎◌, ◌==◌, ℕ, List, Option, IfSome, codes, if◌then◌else◌}
+use Rattle.std.specs.Prelude.{◌≡◌, ◌⊎◌, ◌==◌, ℕ, List, Option, IfSome, IsTrue, codes, if◌then◌else◌}
+use Rattle.std.specs.Global.{Global}
+use Rattle.std.specs.declared.string.String.{String}
 use Rattle.std.specs.Io.KnownBytes.{Appends, Keeps}
 use Rattle.script_core.specs.Runs.{IsDone, Leaves}
 use Rattle.script_core.specs.Writing.{AppendsBeginning}
 use Rattle.script_core.specs.declared.faults.ScriptFault.{ScriptFault}
 use Rattle.script_core.specs.declared.faults.ScriptFault.TheVariants as faults
 use Rattle.script_core.specs.declared.tallies.Tally.{Tally}
+use Rattle.recall_cli.specs.Words.{asks_help}
 
 -- what the input still has, and what the output and the error stream hold, where they tell it
 pub record Streams : Type 0 where
@@ -45,7 +48,9 @@ HelpEnds text output output_after errors errors_after status =
     ((status ≡ 0) × Appends output output_after text × Keeps errors errors_after)
     ⊎ ((status ≡ 3) × AppendsBeginning output output_after text × AppendsBeginning errors errors_after (fault_line faults.Write))
 
-pub record Helps (before after : Streams) (status : ℕ) : Type 0 where
+-- a word asks for help, and that was the answer
+pub record Helps (words : List (String Global)) (before after : Streams) (status : ℕ) : Type 0 where
+  pub asked : IsTrue (asks_help words)
   pub text : List ℕ
   pub unread : Keeps before.input after.input
   pub ends : HelpEnds text before.output after.output before.errors after.errors status
@@ -66,5 +71,5 @@ pub record LacksMemory (before after : Streams) (status : ℕ) : Type 0 where
   pub status_is : status ≡ 3
 
 -- how a command line ends
-abbrev pub Ends : Streams → Streams → ℕ → Type 0
-Ends before after status = RunsScript before after status ⊎ (Helps before after status ⊎ (IsMistaken before after status ⊎ LacksMemory before after status))
+abbrev pub Ends : List (String Global) → Streams → Streams → ℕ → Type 0
+Ends words before after status = RunsScript before after status ⊎ (Helps words before after status ⊎ (IsMistaken before after status ⊎ LacksMemory before after status))

@@ -1,5 +1,8 @@
 //! What the words of a command line ask for.
 
+ghost use Rattle.std.specs.Prelude.{◌≡◌, IfOk};
+ghost use Rattle.recall_cli.specs.Words.{is_help_word, asks_help, HelpIsAsked};
+
 use clap::error::ErrorKind;
 use clap::{ArgMatches, Command, Error};
 use std::alloc::{AllocError, Global};
@@ -27,12 +30,15 @@ const EXAMPLE: &str =
 const SIM_EXAMPLE: &str =
     "Lines of a script:\n  site <name> <address>..     a site, and the destination texts that stand for it\n  capture <site> <json>       captures an EPCIS document, or one bare event, at a site\n  reach <site> <epc>          the pairs of site and item that an item at a site reaches\n  # ..                        a comment\n\nExample:\n  printf 'site A a\\nsite B b\\nreach A x\\n' | recall sim";
 
-/// Reads the words of a command line, the program's name first.
-pub(crate) fn read(alloc: Global, words: &[String]) -> Result<Asked, AllocError> {
+/// Reads the words of a command line, the program's name first. Help is answered only where a word
+/// asks for it.
+pub(crate) fn read(alloc: Global, words: &[String]) -> Result<Asked, AllocError>
+    ensures { IfOk result (HelpIsAsked words.now) }
+{
     let command = recall(alloc)?;
     match command.try_get_matches_from(words) {
         Ok(matches) => Ok(of_matches(&matches)),
-        Err(error) => of_error(alloc, &error),
+        Err(error) => of_error(alloc, words, &error),
     }
 }
 
@@ -48,19 +54,36 @@ fn recall<'a>(alloc: Global) -> Result<Command<'a>, AllocError> {
         .subcommand(sim)
 }
 
-fn of_matches(matches: &ArgMatches) -> Asked {
+fn of_matches(matches: &ArgMatches) -> Asked
+    ensures { result ≡ Asked.Sim }
+{
     let _ = matches.subcommand();
     Asked::Sim
 }
 
-fn of_error(alloc: Global, error: &Error) -> Result<Asked, AllocError> {
+fn of_error(alloc: Global, words: &[String], error: &Error) -> Result<Asked, AllocError>
+    ensures { IfOk result (HelpIsAsked words.now) }
+{
     if error.kind() == ErrorKind::OutOfMemory {
         return Err(AllocError);
     }
     let text = error.to_string(alloc)?;
-    if error.use_stderr() {
+    if error.use_stderr() || !asks_help(words) {
         Ok(Asked::Mistake(text))
     } else {
         Ok(Asked::Help(text))
     }
+}
+
+/// Whether one of the words asks for help.
+fn asks_help(words: &[String]) -> bool
+    ensures { result ≡ asks_help words.now }
+{
+    words.iter().any(|word| is_help_word(word.as_str()))
+}
+
+fn is_help_word(word: &str) -> bool
+    ensures { result ≡ is_help_word word.now }
+{
+    word == "help" || word == "--help" || word == "-h"
 }

@@ -24,7 +24,7 @@ pub(crate) fn run_command<R: Read, W: Write, E: Write>(
     output: &mut W,
     errors: &mut E,
 ) -> u8
-    ensures { Ends (record { input = R.remaining input.old; output = W.contents output.old; errors = E.contents errors.old })
+    ensures { Ends words.now (record { input = R.remaining input.old; output = W.contents output.old; errors = E.contents errors.old })
         (record { input = R.remaining input.new; output = W.contents output.new; errors = E.contents errors.new }) result }
 {
     match command_lines::read(alloc, words) {

@@ -1,4 +1,4 @@
-pub mod Apart
+pub mod InOrder
 pub mod OneAnswer
 pub mod ReaderLemmas
 pub mod SessionLemmas

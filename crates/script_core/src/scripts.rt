@@ -156,7 +156,6 @@ fn tell_reach(
     captured: &[Captured],
     root: &Pair,
 ) -> Result<Answer, AllocError>
-    requires { AreInOrder captured.now }
     ensures { IfOk result (λ a. IsReachText sites.now captured.now root.now (answer_of a)) }
 {
     let each = borrowed(alloc, captured)?;

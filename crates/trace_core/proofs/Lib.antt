@@ -1,7 +1,7 @@
 pub mod AddingSteps
 pub mod Booleans
 pub mod ChainLaws
-pub mod ContentLaws
+pub mod EventIds
 pub mod GatheringSteps
 pub mod Growing
 pub mod SearchSteps

@@ -6,7 +6,7 @@ use Rattle.trace_core.specs.declared.adding.AddFault.{AddFault}
 use Rattle.trace_core.specs.declared.adding.AddFault.TheVariants.{NoMemory, IdTaken}
 use Rattle.trace_core.specs.declared.adding.Standing.{Standing}
 use Rattle.trace_core.specs.declared.adding.Standing.TheVariants.{Fresh, Known, Taken}
-use Rattle.trace_core.specs.Contents.{same_content}
+use Rattle.event_json.specs.Contents.{same_content}
 use Rattle.trace_core.specs.Pairs.{same_id}
 
 -- how an event stands to the events so far: fresh without an eventID, or with one that none of them has; known where one of them is equal to it;

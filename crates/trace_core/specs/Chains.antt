@@ -1,5 +1,5 @@
 -- Related pairs of several sites, and what is reached by them.
-use Rattle.std.specs.Prelude.{◌≡◌, ◌≢◌, List, Any, AllPairs, map}
+use Rattle.std.specs.Prelude.{◌≡◌, List, Any, map}
 use Rattle.std.specs.Borrow.{Bor}
 use Rattle.trace_core.specs.declared.pairs.Pair.{Pair}
 use Rattle.trace_core.specs.Pairs.{IsRelated}
@@ -16,7 +16,3 @@ Related sites p q = Any (λ s. RelatesFrom s p q) sites
 -- the sites that references point to
 abbrev pub sites_at : List (Bor SiteEvents) → List SiteEvents
 sites_at refs = map (λ r. r.now) refs
-
--- no two of them are of one site
-abbrev pub AreApart : List (Bor SiteEvents) → Type 0
-AreApart refs = AllPairs (λ r s. r.now.me ≢ s.now.me) refs

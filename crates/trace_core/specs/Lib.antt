@@ -1,7 +1,6 @@
 pub mod Adding
 pub mod Chains
 pub mod Closures
-pub mod Contents
 pub mod Gathering
 pub mod HasTargets
 pub mod Laws

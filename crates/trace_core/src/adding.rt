@@ -1,7 +1,7 @@
 ghost use Rattle.std.specs.Prelude.{◌≡◌, Some, Ok, IfOk, IfErr, OnErr, length, take};
 ghost use Rattle.std.specs.List.{list_any};
 ghost use Rattle.trace_core.specs.Adding.{standing_among, with_fresh, adding, FaultOf};
-ghost use Rattle.trace_core.specs.Contents.{same_content};
+ghost use Rattle.event_json.specs.Contents.{same_content};
 ghost use Rattle.trace_core.specs.Pairs.{same_id};
 
 use event_json::{Event, PlainText};
@@ -92,18 +92,11 @@ fn standing_among(events: &[Event], event: &Event) -> Standing
     }
 }
 
-/// Whether one of the events has the same content.
+/// Whether one of the events is the same.
 fn is_known(events: &[Event], event: &Event) -> bool
     ensures { result ≡ list_any (λ f. same_content f event.now) events.now }
 {
-    events.iter().any(|e| has_content(e, event))
-}
-
-/// Whether both have the same content.
-fn has_content(event: &Event, other: &Event) -> bool
-    ensures { result ≡ same_content event.now other.now }
-{
-    event.is_same(other)
+    events.iter().any(|e| e.is_same(event))
 }
 
 /// Whether the event has an eventID, and one of the events has it too.

@@ -3,7 +3,7 @@ use Rattle.std.proofs.lemmas.List.{set-get_or}
 use Rattle.std.proofs.lemmas.Result.{IfOk-weaker}
 use Rattle.trace_core.specs.Adding.{adding}
 use Rattle.script_core.specs.Script.{added_at}
-use Rattle.script_core.proofs.Apart.{events_there}
+use Rattle.script_core.proofs.InOrder.{events_there}
 use Rattle.script_core.proofs.scripts.add_at.Goals as goal
 
 -- events that are refused leave the site's as they were

@@ -5,11 +5,7 @@ use Rattle.trace_core.specs.Relations.{Reaches}
 use Rattle.trace_core.specs.declared.pairs.Pair.{Pair}
 use Rattle.script_core.specs.Answer.{done}
 use Rattle.script_core.specs.Words.{pairs_text}
-use Rattle.script_core.proofs.Apart.{are_apart}
 use Rattle.script_core.proofs.scripts.tell_reach.Goals as goal
-
-pub reach-requires : goal.reach-requires
-reach-requires c = are_apart c.args.captured.now c.as_slice.result.now c.requires (ap sites_at c.as_slice.ensures.value ∙ c.in_ok-each.ensures)
 
 pub returns : goal.returns
 returns c =

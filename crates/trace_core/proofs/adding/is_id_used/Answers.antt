@@ -1,5 +1,5 @@
 use Rattle.std.proofs.Common.{sym}
-use Rattle.trace_core.proofs.ContentLaws.{no_id_used}
+use Rattle.trace_core.proofs.EventIds.{no_id_used}
 use Rattle.trace_core.proofs.adding.is_id_used.Goals as goal
 
 pub returns-in-None : goal.returns-in-None
