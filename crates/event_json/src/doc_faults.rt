@@ -121,6 +121,11 @@ impl DocField {
 }
 
 impl fmt::Display for DocField {
+    ghost use Rattle.std.specs.Prelude.{Some};
+    ghost use Rattle.event_json.specs.Faults.{name_of};
+
+    ghost output = { λ field. Some (name_of field) };
+
     fn fmt<W: fmt::Write>(&self, f: &mut fmt::Formatter<W>) -> fmt::Result {
         f.write_str(self.name())
     }
