@@ -1,21 +1,18 @@
 -- a line has one answer
-use Rattle.std.proofs.Common.{◌≡◌, ℕ, Bool, true, false, List, [], ◌∷◌, refl, sym, ap, ◌∙◌, subst, Option, Some, None, Ok, Err}
+use Rattle.std.proofs.Common.{◌≡◌, ℕ, Bool, true, false, List, [], ◌∷◌, sym, ap, ◌∙◌, subst, Option, Some, None, Ok, Err}
 use Rattle.std.specs.Prelude.{Contains, ◌↔◌, Result}
 use Rattle.std.specs.BTreeSet.{BTreeSet}
-use Rattle.std.specs.BTreeSet as sets
 use Rattle.std.proofs.lemmas.Bool.Decides.{same_from_decides}
 use Rattle.std.proofs.lemmas.Map.Lookups.{btree_set_from_contains}
 use Rattle.std.proofs.lemmas.Map.Views.{btree_set_contains_iff}
 use Rattle.epc_core.specs.declared.items.EpcFault.{EpcFault}
 use Rattle.event_json.specs.Sites.{Site, named}
-use Rattle.trace_core.specs.Chains.{Related}
 use Rattle.trace_core.specs.PairOrder.{pairs_exact, pairs_total}
-use Rattle.trace_core.specs.Pairs.{pair_cmp, IsStrictlyAscending}
-use Rattle.trace_core.specs.Relations.{Reaches}
+use Rattle.trace_core.specs.Pairs.{IsStrictlyAscending}
 use Rattle.trace_core.specs.Sites.{SiteEvents}
 use Rattle.trace_core.specs.declared.pairs.Pair.{Pair}
 use Rattle.epc_core.specs.Reading.{reading}
-use Rattle.script_core.specs.State.{State, empty}
+use Rattle.script_core.specs.State.{State}
 use Rattle.script_core.specs.Answer.{Said, done}
 use Rattle.script_core.specs.Words.{pairs_text}
 use Rattle.script_core.specs.Requests.{Request, request_of}

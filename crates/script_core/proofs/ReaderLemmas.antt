@@ -1,12 +1,12 @@
 -- how a session stands to the reader that feeds it
-use Rattle.std.proofs.Common.{◌≡◌, ℕ, List, [], ◌++◌, refl, sym, ap, subst, append-nil, arith, Option, Some, None, IfSome}
+use Rattle.std.proofs.Common.{◌≡◌, ℕ, List, [], ◌++◌, refl, sym, ap, subst, arith, Option, Some, None, IfSome}
 use Rattle.std.specs.Io.KnownBytes.{Appends, Keeps, Consumes, IsAtEnd}
 use Rattle.std.proofs.KnownBytes.{Appends-nil}
 use Rattle.std.proofs.lemmas.Grind.{flat_map-append}
 use Rattle.script_core.specs.Lines.{IsLine}
 use Rattle.script_core.specs.State.{empty}
 use Rattle.script_core.specs.Answer.{Said}
-use Rattle.script_core.specs.Runs.{text_of, StopsAt, Writes, Leaves, IsLeft, IsDone}
+use Rattle.script_core.specs.Runs.{text_of, Writes, Leaves, IsLeft, IsDone}
 use Rattle.script_core.specs.Session.{Follows, GoesOn, LeavesMore, EndsEarly, Finishes, EndsInLast}
 use Rattle.script_core.specs.declared.sessions.Session.{Session}
 use Rattle.script_core.specs.declared.tallies.Tally.{Tally}

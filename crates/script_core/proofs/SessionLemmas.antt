@@ -1,5 +1,5 @@
 -- how a session stands to the input that it reads
-use Rattle.std.proofs.Common.{◌≡◌, ℕ, ◌+◌, ◌<◌, ◌≤◌, Bool, true, false, cond, List, [], ◌∷◌, ◌++◌, length, length-append, map, refl, sym, ap, ◌∙◌, subst, append_assoc, append-nil, arith, Option, Some, None, All, ⊎_elim}
+use Rattle.std.proofs.Common.{◌≡◌, ℕ, ◌+◌, ◌<◌, ◌≤◌, Bool, true, false, cond, List, [], ◌∷◌, ◌++◌, length, length-append, map, refl, sym, ap, ◌∙◌, subst, append_assoc, append-nil, arith, Option, Some, None, ⊎_elim}
 use Rattle.std.specs.List.{sum_by}
 use Rattle.std.specs.Str.Lines.{lines, strip_carriage_return}
 use Rattle.std.specs.Io.KnownBytes.{Appends, Keeps}
@@ -8,12 +8,11 @@ use Rattle.std.proofs.lemmas.Grind.{flat_map-append}
 use Rattle.std.proofs.lemmas.List.{map-append}
 use Rattle.std.proofs.lemmas.List.Sums.{sum_by-append}
 use Rattle.std.proofs.lemmas.List.Elements.{All-append, All-push}
-use Rattle.script_core.specs.Lines.{is_newline, longest_line, IsWithinLine, IsLine, IsTooLong, LinesFit, with_newlines}
+use Rattle.script_core.specs.Lines.{is_newline, longest_line, IsWithinLine, IsLine, LinesFit, with_newlines}
 use Rattle.script_core.specs.State.{State, empty}
 use Rattle.script_core.specs.Answer.{Said}
 use Rattle.script_core.specs.Script.{Takes}
-use Rattle.script_core.specs.Runs.{Runs, text_of, refusals, Answered, IsWithinAnswers, StopsAt, Writes}
-use Rattle.script_core.specs.Writing.{AppendsBeginning}
+use Rattle.script_core.specs.Runs.{Runs, text_of, refusals, Answered, StopsAt, Writes}
 use Rattle.script_core.specs.Session.{Follows, GoesOn, LeavesMore, EndsEarly, AnswersOne, FailsToGrow, FailsInOne, Finishes, EndsInLast}
 use Rattle.script_core.specs.declared.sessions.Session.{Session}
 use Rattle.script_core.specs.declared.tallies.Tally.{Tally}

@@ -1,4 +1,4 @@
-use Rattle.std.proofs.Common.{ℕ, not, ◌==◌, length, rules, lit<, ap, ◌∙◌}
+use Rattle.std.proofs.Common.{not, ◌==◌, length, rules, lit<, ap, ◌∙◌}
 use borrow.Author.Tests.{tests}
 use Rattle.std.specs.Str.Iter.{split_text, split_has_more, split_pattern}
 use Rattle.std.proofs.lemmas.Iterator.Consumers.{map_from_collect, YieldsList-from_filter}

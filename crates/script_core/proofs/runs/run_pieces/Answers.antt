@@ -1,9 +1,8 @@
-use Rattle.std.proofs.Common.{◌≡◌, ◌*◌, ◌+◌, ◌≤◌, ℕ, List, Option, [], Some, None, length, length-take, take, subst, arith, rules, sym, ap, ◌∙◌, refl, MatchOption, IfSome}
+use Rattle.std.proofs.Common.{◌≡◌, ℕ, List, Option, [], Some, None, length-take, take, subst, arith, rules, refl, MatchOption, IfSome}
 use Rattle.std.specs.Io.KnownBytes.{Keeps, Consumes, IsAtEnd}
 use Rattle.std.proofs.lemmas.Result.{err_from_is_err_and, MatchResult-weaker}
-use Rattle.script_core.specs.Session.{GoesOn, EndsEarly}
 use Rattle.script_core.proofs.SessionLemmas.{goes_start}
-use Rattle.script_core.proofs.ReaderLemmas.{HasRead, has_read_none, has_read_kept, has_read_more, leaves_at_read, leaves_spent, leaves_in_piece, leaves_in_last, done_at_end}
+use Rattle.script_core.proofs.ReaderLemmas.{has_read_none, has_read_kept, has_read_more, leaves_at_read, leaves_spent, leaves_in_piece, leaves_in_last, done_at_end}
 use Rattle.script_core.proofs.runs.run_pieces.Goals.{in-None, in-Some+in_ok-feed-in-Some}
 use Rattle.script_core.proofs.runs.run_pieces.Goals as goal
 

@@ -1,4 +1,4 @@
-use Rattle.std.proofs.Common.{◌≡◌, ◌*◌, ◌≤◌, length}
+use Rattle.std.proofs.Common.{◌*◌, ◌≤◌}
 use Rattle.script_core.proofs.ReaderLemmas.{HasRead}
 use Rattle.script_core.proofs.runs.run_pieces.Given as goal
 
