@@ -75,9 +75,9 @@ pub parent_goes_last : (e : Engagement) (n : ℕ) (x : Row) (p : Message)
 parent_goes_last e n x p is due =
     let left : Engagement = record e { outbox = remove e.outbox n } in
     subst (λ row. (at_row e n row).1 ≡ ParentDue p → (get e.parents x.recall ≡ Some p) × (rows_of (at_row e n row).0.outbox x.recall ≡ 0))
-      (sym is)
-      (λ h. settled_due left x.recall (has_rows left.outbox x.recall) (get left.parents x.recall) (is_live left x.recall) p refl refl h)
-      due
+    (sym is)
+    (λ h. settled_due left x.recall (has_rows left.outbox x.recall) (get left.parents x.recall) (is_live left x.recall) p refl refl h)
+    due
 
 -- Own recalls.
 

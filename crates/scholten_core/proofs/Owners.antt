@@ -98,10 +98,10 @@ pub received_owners : (e : Engagement) (m : Message) (r : Recall) (out : List (�
 received_owners e m r out owned =
     let next = noted e m r out in
     let all : (q : ℕ) (x : Row) → get next.outbox q ≡ Some x → (x.recall ≡ r) ⊎ IsOwned next x.recall =
-        λ q x is. elim (numbered_origin e.outbox e.next_message r out q x is) [
-          | inl before ↦ inr (owned q x before)
-          | inr new ↦ inl (ap (λ (row : Row). row.recall) (new.row (0, [])))
-        ] in
+    λ q x is. elim (numbered_origin e.outbox e.next_message r out q x is) [
+      | inl before ↦ inr (owned q x before)
+      | inr new ↦ inl (ap (λ (row : Row). row.recall) (new.row (0, [])))
+    ] in
     elim (get e.seen m) as (λ s. RowsHaveAnOwner (at_first e m r out s).0) [
       | Some before ↦ owned
       | None ↦ engaged_owners next m r (length out) (has_rows next.outbox r) (get next.parents r) (is_live next r) refl refl refl all
