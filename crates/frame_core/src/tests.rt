@@ -160,7 +160,7 @@ fn a_restored_row_is_written_over(rt: HostRuntime) -> Result<(), Fail> {
     Ok(())
 }
 
-// With allocations refused (rt try --test --fail-alloc 1..) these see what want of memory leaves.
+// With allocations refused (rt try --test --fail-alloc N) these see what want of memory leaves.
 #[test]
 fn a_row_without_memory_changes_nothing(rt: HostRuntime) -> Result<(), Fail> {
     let (b, first) = (site(1)?, recall(1)?);

@@ -64,6 +64,16 @@ fn is_same(one: &Diffusion, other: &Diffusion) -> bool {
         && one.next_recall() == other.next_recall()
 }
 
+/// Receives a message of site B for the first recall.
+fn receives(d: &mut Diffusion, number: u64, out: &[(SiteNo, Epc)]) -> Result<Received, Fail> {
+    Ok(d.receive(message(1, number)?, first_recall()?, out)?)
+}
+
+/// Begins a recall of x.
+fn begins(d: &mut Diffusion, alloc: Global, out: &[(SiteNo, Epc)]) -> Result<Began, Fail> {
+    Ok(d.begin(Epc::read(alloc, "x")?, out)?)
+}
+
 // Site D, told by B and by C, which tells E.
 #[test]
 fn a_site_is_engaged_until_its_messages_are_signalled(rt: HostRuntime) -> Result<(), Fail> {
@@ -98,56 +108,43 @@ fn a_site_is_engaged_until_its_messages_are_signalled(rt: HostRuntime) -> Result
     Ok(())
 }
 
-// The second message finds the site engaged, though it has messages of its own to number.
+// The second message finds the site engaged, though it has a message of its own to number.
 #[test]
 fn the_first_sender_stays_the_parent(rt: HostRuntime) -> Result<(), Fail> {
-    let recall = first_recall()?;
     let mut d = Diffusion::new(rt.alloc(), site(3)?);
     let out = [told(rt.alloc(), 4)?];
-    d.receive(message(1, 1)?, recall, &out)?;
-    assert_eq!(rt;
-        d.receive(message(2, 1)?, recall, &out),
-        Ok(Received::SignalNow { numbered: 1 })
-    );
-    assert_eq!(rt;
-        (d.parent(recall), d.deficit(recall)),
-        (Some(message(1, 1)?), 2)
-    );
+    let first = receives(&mut d, 1, &out)?;
+    let second = receives(&mut d, 2, &out)?;
+    assert_eq!(rt; first, Received::Owe { numbered: 1 });
+    assert_eq!(rt; second, Received::SignalNow { numbered: 1 });
+    let due = Signalled::ParentDue(message(1, 1)?);
+    assert_eq!(rt; (d.signalled(2), d.signalled(1)), (Signalled::Cleared, due));
+    Ok(())
+}
+
+#[test]
+fn a_repeat_and_a_stale_signal_change_nothing(rt: HostRuntime) -> Result<(), Fail> {
+    let mut d = Diffusion::new(rt.alloc(), site(3)?);
+    receives(&mut d, 1, &[])?;
     let before = d.copy(rt.alloc())?;
+    let again = receives(&mut d, 1, &[])?;
     assert_eq!(rt;
-        d.receive(message(2, 1)?, recall, &out),
-        Ok(Received::Repeat)
+        (again, d.signalled(1)),
+        (Received::Repeat, Signalled::Stale)
     );
-    assert_eq!(rt; d.signalled(3), Signalled::Stale);
     assert!(rt; is_same(&d, &before));
-    assert_eq!(rt;
-        (d.signalled(2), d.deficit(recall)),
-        (Signalled::Cleared, 1)
-    );
-    assert_eq!(rt; d.signalled(1), Signalled::ParentDue(message(1, 1)?));
-    assert_eq!(rt; d.seen(), before.seen());
     Ok(())
 }
 
 #[test]
 fn each_recall_has_its_own_deficit(rt: HostRuntime) -> Result<(), Fail> {
-    let first = first_recall()?;
-    let second = RecallId {
-        site: site(1)?,
-        number: 1,
-    };
-    let mut d = Diffusion::new(rt.alloc(), site(3)?);
-    let one = [told(rt.alloc(), 4)?];
-    let two = [told(rt.alloc(), 4)?, told(rt.alloc(), 5)?];
-    d.receive(message(1, 1)?, first, &one)?;
-    assert_eq!(rt;
-        d.receive(message(1, 2)?, second, &two),
-        Ok(Received::Owe { numbered: 2 })
-    );
-    assert_eq!(rt; (d.deficit(first), d.deficit(second)), (1, 2));
-    assert_eq!(rt; d.signalled(1), Signalled::ParentDue(message(1, 1)?));
-    assert_eq!(rt; (d.deficit(first), d.deficit(second)), (0, 2));
-    assert_eq!(rt; d.parent(second), Some(message(1, 2)?));
+    let mut a = Diffusion::new(rt.alloc(), site(0)?);
+    let out = [told(rt.alloc(), 1)?, told(rt.alloc(), 2)?];
+    let first = begins(&mut a, rt.alloc(), &out[..1])?.recall;
+    let second = begins(&mut a, rt.alloc(), &out)?.recall;
+    assert_eq!(rt; (a.deficit(first), a.deficit(second)), (1, 2));
+    assert_eq!(rt; a.signalled(1), Signalled::Ended(first));
+    assert_eq!(rt; (a.deficit(first), a.deficit(second)), (0, 2));
     Ok(())
 }
 
@@ -227,79 +224,79 @@ fn a_restored_record_goes_by_the_same_rules(rt: HostRuntime) -> Result<(), Fail>
 }
 
 #[test]
+fn the_last_message_is_numbered_once(rt: HostRuntime) -> Result<(), Fail> {
+    let mut d = at_last_number(rt.alloc(), site(3)?);
+    let one = [told(rt.alloc(), 4)?];
+    assert_eq!(rt; receives(&mut d, 1, &one)?, Received::Owe { numbered: 1 });
+    let want = row(rt.alloc(), 4)?;
+    assert_eq!(rt; d.row(4611686018427387904), Some(want.view()));
+    assert!(rt; has_no_number(&mut d, rt.alloc(), 2, &one)?);
+    Ok(())
+}
+
+// One number is left, and two are wanted.
+#[test]
 fn spent_numbers_leave_all_as_it_was(rt: HostRuntime) -> Result<(), Fail> {
-    let recall = first_recall()?;
     let mut d = at_last_number(rt.alloc(), site(3)?);
     let two = [told(rt.alloc(), 4)?, told(rt.alloc(), 5)?];
+    assert!(rt; has_no_number(&mut d, rt.alloc(), 1, &two)?);
     let before = d.copy(rt.alloc())?;
-    assert_eq!(rt;
-        d.receive(message(1, 1)?, recall, &two),
-        Err(NumberFault::NumbersSpent)
-    );
     let began = d.begin(Epc::read(rt.alloc(), "x")?, &two).err();
     assert_eq!(rt; began, Some(NumberFault::NumbersSpent));
     assert!(rt; is_same(&d, &before));
     Ok(())
 }
 
+/// Whether a message of site B finds the numbers spent, and changes nothing.
+fn has_no_number(
+    d: &mut Diffusion,
+    alloc: Global,
+    number: u64,
+    out: &[(SiteNo, Epc)],
+) -> Result<bool, Fail> {
+    let before = d.copy(alloc)?;
+    let answer = d.receive(message(1, number)?, first_recall()?, out);
+    Ok(answer == Err(NumberFault::NumbersSpent) && is_same(d, &before))
+}
+
+// With allocations refused (rt try --test --fail-alloc N) this sees what want of memory leaves.
 #[test]
-fn the_last_message_is_numbered_once(rt: HostRuntime) -> Result<(), Fail> {
-    let recall = first_recall()?;
-    let mut d = at_last_number(rt.alloc(), site(3)?);
-    let one = [told(rt.alloc(), 4)?];
-    assert_eq!(rt;
-        d.receive(message(1, 1)?, recall, &one),
-        Ok(Received::Owe { numbered: 1 })
-    );
-    let want = row(rt.alloc(), 4)?;
-    assert_eq!(rt; d.row(4611686018427387904), Some(want.view()));
+fn want_of_memory_changes_nothing(rt: HostRuntime) -> Result<(), Fail> {
+    let mut d = Diffusion::new(rt.alloc(), site(3)?);
+    let out = [told(rt.alloc(), 4)?];
+    let root = Epc::read(rt.alloc(), "x")?;
     let before = d.copy(rt.alloc())?;
-    assert_eq!(rt;
-        d.receive(message(1, 2)?, recall, &one),
-        Err(NumberFault::NumbersSpent)
-    );
-    assert!(rt; is_same(&d, &before));
-    // No number is wanted here.
-    assert_eq!(rt;
-        d.receive(message(1, 2)?, recall, &[]),
-        Ok(Received::SignalNow { numbered: 0 })
-    );
+    assert!(rt; begins_or_stays(&mut d, &before, root, &out));
+    let before = d.copy(rt.alloc())?;
+    assert!(rt; receives_or_stays(&mut d, &before, message(1, 1)?, &out)?);
     Ok(())
 }
 
-// With allocations refused (rt try --test --fail-alloc 1..) these see what want of memory leaves.
-#[test]
-fn a_message_without_memory_changes_nothing(rt: HostRuntime) -> Result<(), Fail> {
-    let recall = first_recall()?;
-    let out = [told(rt.alloc(), 4)?];
-    let mut d = Diffusion::new(rt.alloc(), site(3)?);
-    for number in [1, 2] {
-        let before = d.copy(rt.alloc())?;
-        let message = message(1, number)?;
-        match d.receive(message, recall, &out) {
-            Ok(_) => assert_eq!(rt; d.seen_under(message), Some(recall)),
-            Err(fault) => {
-                assert_eq!(rt; fault, NumberFault::NoMemory);
-                assert!(rt; is_same(&d, &before));
-            }
-        }
+/// Begins a recall, or else has no memory and changes nothing.
+fn begins_or_stays(
+    d: &mut Diffusion,
+    before: &Diffusion,
+    root: Epc,
+    out: &[(SiteNo, Epc)],
+) -> bool {
+    match d.begin(root, out) {
+        Ok(began) => d.deficit(began.recall) == began.numbered,
+        Err(fault) => fault == NumberFault::NoMemory && is_same(d, before),
     }
-    Ok(())
 }
 
-#[test]
-fn a_recall_without_memory_changes_nothing(rt: HostRuntime) -> Result<(), Fail> {
-    let out = [told(rt.alloc(), 4)?];
-    let mut d = Diffusion::new(rt.alloc(), site(3)?);
-    let before = d.copy(rt.alloc())?;
-    match d.begin(Epc::read(rt.alloc(), "x")?, &out) {
-        Ok(began) => assert_eq!(rt; d.deficit(began.recall), 1),
-        Err(fault) => {
-            assert_eq!(rt; fault, NumberFault::NoMemory);
-            assert!(rt; is_same(&d, &before));
-        }
-    }
-    Ok(())
+/// Receives a message, or else has no memory and changes nothing.
+fn receives_or_stays(
+    d: &mut Diffusion,
+    before: &Diffusion,
+    message: MsgId,
+    out: &[(SiteNo, Epc)],
+) -> Result<bool, Fail> {
+    let recall = first_recall()?;
+    Ok(match d.receive(message, recall, out) {
+        Ok(_) => d.seen_under(message) == Some(recall),
+        Err(fault) => fault == NumberFault::NoMemory && is_same(d, before),
+    })
 }
 
 #[test]
