@@ -211,3 +211,12 @@ fn sites_may_be_added_until_another_line_is_taken(rt: HostRuntime) -> Result<(),
         2,
     )
 }
+
+#[test]
+fn a_seventeenth_site_is_refused(rt: HostRuntime) -> Result<(), Fail> {
+    let alloc = rt.alloc();
+    let text =
+        "site A\nsite B\nsite C\nsite D\nsite E\nsite F\nsite G\nsite H\nsite I\nsite J\nsite K\nsite L\nsite M\nsite N\nsite O\nsite P\nsite Q\nreach P x\n";
+    let expected = "refused BadSite TooMany\npair P uri x\npairs 1\n";
+    answers_are(&rt, alloc, text, expected, 1)
+}
