@@ -1,5 +1,5 @@
 -- What stays of a site's parents, own recalls and seen messages under each change.
-use Rattle.std.proofs.Common.{◌≡◌, ◌≢◌, ◌⊎◌, inl, inr, ℕ, ◌==◌, Bool, true, false, not, ◌&&◌, List, length, Option, Some, None, refl, sym, ap, subst, ◌∙◌}
+use Rattle.std.proofs.Common.{◌≡◌, ◌≢◌, inl, inr, ℕ, ◌==◌, Bool, true, false, not, ◌&&◌, List, length, Option, Some, None, refl, sym, ap, subst, ◌∙◌}
 use Rattle.std.specs.Prelude.{option_map, is_some, IsSome}
 use Rattle.std.specs.Ordering.{nat_cmp}
 use Rattle.std.specs.Cmp.{nat_cmp_total}
@@ -8,11 +8,10 @@ use Rattle.frame_core.specs.Numbers.{Recall, Message}
 use Rattle.frame_core.specs.Outboxes.{rows_of, has_rows}
 use Rattle.frame_core.specs.declared.rows.Row.{Row}
 use Rattle.frame_core.proofs.Deficits.{no_deficit, no_rows_left}
-use Rattle.frame_core.proofs.Maps.{one_key, get_here, get_apart, get_gone, get_left}
+use Rattle.frame_core.proofs.Maps.{one_key, get_here, get_apart}
 use Rattle.frame_core.proofs.Orders.{recall_total, recall_exact, message_total, message_exact}
 use Rattle.scholten_core.specs.declared.own_recalls.Own.{Own}
-use Rattle.scholten_core.specs.declared.outcomes.Signalled.{Signalled}
-use Rattle.scholten_core.specs.declared.outcomes.Signalled.TheVariants.{Stale, Cleared, ParentDue, Ended}
+use Rattle.scholten_core.specs.declared.outcomes.Signalled.TheVariants.{ParentDue, Ended}
 use Rattle.scholten_core.specs.OwnRecalls.{is_open, with_end, ended_at}
 use Rattle.scholten_core.specs.Engagement.{Engagement, is_live}
 use Rattle.scholten_core.specs.Changes.{noted, engaged, at_first, received, settled, at_row, signalled}

@@ -1,5 +1,5 @@
 -- Where a row of a recall stands, the site is engaged for the recall or is its live initiator: each change keeps that.
-use Rattle.std.proofs.Common.{◌≡◌, ◌≢◌, ◌⊎◌, inl, inr, ℕ, ◌+◌, ◌<◌, ◌==◌, Bool, true, false, not, ◌&&◌, List, [], length, Option, Some, None, refl, sym, ap, subst, ◌∙◌, arith}
+use Rattle.std.proofs.Common.{◌≡◌, ◌≢◌, ◌⊎◌, inl, inr, ℕ, ◌<◌, ◌==◌, Bool, true, false, not, ◌&&◌, List, [], length, Option, Some, None, refl, sym, ap, subst, ◌∙◌, arith}
 use Rattle.std.specs.Prelude.{is_some}
 use Rattle.std.specs.Ordering.{nat_cmp}
 use Rattle.std.specs.Cmp.{nat_cmp_total}
@@ -13,7 +13,7 @@ use Rattle.frame_core.proofs.Maps.{one_key, get_here, get_apart, get_gone, get_l
 use Rattle.frame_core.proofs.Numbering.{numbered_origin}
 use Rattle.frame_core.proofs.Orders.{recall_total, recall_exact}
 use Rattle.scholten_core.specs.declared.own_recalls.Own.{Own}
-use Rattle.scholten_core.specs.OwnRecalls.{is_open, ended_at}
+use Rattle.scholten_core.specs.OwnRecalls.{is_open}
 use Rattle.scholten_core.specs.Engagement.{Engagement, is_live}
 use Rattle.scholten_core.specs.Changes.{next_own, begun, noted, engaged, at_first, received, settled, at_row, signalled}
 use Rattle.scholten_core.specs.Laws.{IsOwned, RowsHaveAnOwner}

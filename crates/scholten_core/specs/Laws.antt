@@ -2,7 +2,7 @@
 --
 -- After Dijkstra and Scholten, "Termination detection for diffusing computations", Information Processing
 -- Letters 11 (1980), section 2: an engaged site keeps its engagement edge until its deficit is zero.
-use Rattle.std.specs.Prelude.{◌≡◌, ◌≢◌, ◌⊎◌, ℕ, ◌<◌, IsTrue, IsFalse, IsSome, List, Option, Some, None, option_map, true}
+use Rattle.std.specs.Prelude.{◌≡◌, ◌≢◌, ◌⊎◌, ℕ, ◌==◌, IsTrue, IsFalse, IsSome, List, length, Some, None, option_map}
 use Rattle.std.specs.Ordering.{nat_cmp}
 use Rattle.std.specs.FinMap.{FinMap, get, insert, remove}
 use Rattle.frame_core.specs.Numbers.{Recall, Message}
@@ -54,6 +54,14 @@ ParentGoesLast =
     → (get e.parents x.recall ≡ Some parent) × (rows_of (signalled e n).0.outbox x.recall ≡ 0)
 
 -- Own recalls.
+
+-- a recall that is begun is found under the next number, and has ended where nobody is told
+abbrev pub BegunIsFound : Type 0
+BegunIsFound = (e : Engagement) (root : List ℕ) (out : List (ℕ × List ℕ)) → get (begun e root out).own e.next_recall ≡ Some (record { root = root; ended = length out == 0 })
+
+-- and all others are as before
+abbrev pub OthersStayAtBeginning : Type 0
+OthersStayAtBeginning = (e : Engagement) (root : List ℕ) (out : List (ℕ × List ℕ)) (q : ℕ) → q ≢ e.next_recall → get (begun e root out).own q ≡ get e.own q
 
 -- a recall whose end is recorded has ended, and its root is as before
 abbrev pub EndIsRecorded : Type 0

@@ -1,7 +1,7 @@
 //! Laws of engagement, for proofs of the crates above. Each is a function with an empty body whose
 //! contract is the law.
 
-ghost use Rattle.scholten_core.specs.Laws.{ParentStands, OtherParentsStand, ParentIsGone, OtherParentsStay, FirstParentStays, NewParentIsReceived, ParentGoesLast, EndIsRecorded, OtherRecallsStay, EndedStaysEnded, EndedNeverEnds, ReceivedIsSeen, SeenStaysSeen, SignalForgetsNothing, BeginningKeepsOwners, MessagesKeepOwners, SignalsKeepOwners, NeutralSitesHaveNoDeficit};
+ghost use Rattle.scholten_core.specs.Laws.{ParentStands, OtherParentsStand, ParentIsGone, OtherParentsStay, FirstParentStays, NewParentIsReceived, ParentGoesLast, BegunIsFound, OthersStayAtBeginning, EndIsRecorded, OtherRecallsStay, EndedStaysEnded, EndedNeverEnds, ReceivedIsSeen, SeenStaysSeen, SignalForgetsNothing, BeginningKeepsOwners, MessagesKeepOwners, SignalsKeepOwners, NeutralSitesHaveNoDeficit};
 
 /// To insert or to remove a parent changes what is found for its recall, and for no other.
 pub fn parents_are_found()
@@ -9,6 +9,12 @@ pub fn parents_are_found()
     ensures others_stand { OtherParentsStand }
     ensures gone { ParentIsGone }
     ensures others_stay { OtherParentsStay }
+{}
+
+/// To begin a recall changes what is found under the next number, and of no other recall.
+pub fn begun_recalls_are_found()
+    ensures begun { BegunIsFound }
+    ensures others { OthersStayAtBeginning }
 {}
 
 /// To record an end changes what is found of its recall, and of no other.
