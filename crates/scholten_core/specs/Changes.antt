@@ -9,13 +9,14 @@ use Rattle.std.specs.FinMap.{get, insert, remove}
 use Rattle.frame_core.specs.declared.rows.Row.{Row}
 use Rattle.frame_core.specs.Numbers.{Recall, Message}
 use Rattle.frame_core.specs.Outboxes.{numbered, has_rows}
+use Rattle.scholten_core.specs.declared.own_recalls.Own.{Own}
 use Rattle.scholten_core.specs.declared.outcomes.Began.{Began}
 use Rattle.scholten_core.specs.declared.outcomes.Received.{Received}
 use Rattle.scholten_core.specs.declared.outcomes.Received.TheVariants.{Repeat, Owe, SignalNow}
 use Rattle.scholten_core.specs.declared.outcomes.Signalled.{Signalled}
 use Rattle.scholten_core.specs.declared.outcomes.Signalled.TheVariants.{Stale, Cleared, ParentDue, Ended}
-use Rattle.scholten_core.specs.OwnRecalls.{ended_at}
-use Rattle.scholten_core.specs.Engagement.{Engagement, is_live}
+use Rattle.scholten_core.specs.OwnRecalls.{with_end}
+use Rattle.scholten_core.specs.Engagement.{Engagement, live_own}
 
 -- The site starts the computation: the recall takes the next number, and its messages are numbered, each for a
 -- destination and an item, in order. Where there is nobody to tell, it has ended.
@@ -46,19 +47,19 @@ noted e m r out = record e {
   next_message = e.next_message + length out;
 }
 
--- handed whether rows of the recall are left, its parent, and whether the site is its live initiator
-abbrev pub engaged : Engagement → Message → Recall → ℕ → Bool → Option Message → Bool → Engagement × Received
+-- handed whether rows of the recall are left, its parent, and the own recall where the site is its live initiator
+abbrev pub engaged : Engagement → Message → Recall → ℕ → Bool → Option Message → Option Own → Engagement × Received
 engaged e m r n false parent live = (e, SignalNow n)
 engaged e m r n true (Some first) live = (e, SignalNow n)
-engaged e m r n true None true = (e, SignalNow n)
-engaged e m r n true None false = (record e { parents = insert e.parents r m }, Owe n)
+engaged e m r n true None (Some own) = (e, SignalNow n)
+engaged e m r n true None None = (record e { parents = insert e.parents r m }, Owe n)
 
 -- handed the recall that the message was seen under before
 abbrev pub at_first : Engagement → Message → Recall → List (ℕ × List ℕ) → Option Recall → Engagement × Received
 at_first e m r out (Some before) = (e, Repeat)
 at_first e m r out None =
     let next = noted e m r out in
-    engaged next m r (length out) (has_rows next.outbox r) (get next.parents r) (is_live next r)
+    engaged next m r (length out) (has_rows next.outbox r) (get next.parents r) (live_own next r)
 
 abbrev pub received : Engagement → Message → Recall → List (ℕ × List ℕ) → Engagement × Received
 received e m r out = at_first e m r out (get e.seen m)
@@ -67,19 +68,19 @@ received e m r out = at_first e m r out (get e.seen m)
 -- recall's last row, the site is done with it: the parent goes, and its signal is due; at the live initiator the
 -- computation has ended.
 
--- handed whether rows of the recall are left, its parent, and whether the site is its live initiator
-abbrev pub settled : Engagement → Recall → Bool → Option Message → Bool → Engagement × Signalled
+-- handed whether rows of the recall are left, its parent, and the own recall where the site is its live initiator
+abbrev pub settled : Engagement → Recall → Bool → Option Message → Option Own → Engagement × Signalled
 settled e r true parent live = (e, Cleared)
 settled e r false (Some parent) live = (record e { parents = remove e.parents r }, ParentDue parent)
-settled e r false None true = (record e { own = ended_at e.own r.number (get e.own r.number) }, Ended r)
-settled e r false None false = (e, Cleared)
+settled e r false None (Some own) = (record e { own = insert e.own r.number (with_end own) }, Ended r)
+settled e r false None None = (e, Cleared)
 
 -- handed the row that the signal is for
 abbrev pub at_row : Engagement → ℕ → Option Row → Engagement × Signalled
 at_row e n None = (e, Stale)
 at_row e n (Some row) =
     let left = record e { outbox = remove e.outbox n } in
-    settled left row.recall (has_rows left.outbox row.recall) (get left.parents row.recall) (is_live left row.recall)
+    settled left row.recall (has_rows left.outbox row.recall) (get left.parents row.recall) (live_own left row.recall)
 
 abbrev pub signalled : Engagement → ℕ → Engagement × Signalled
 signalled e n = at_row e n (get e.outbox n)

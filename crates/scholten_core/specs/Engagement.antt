@@ -6,7 +6,7 @@
 -- edge. In this project each message has a number of its sender, a signal names the number that it answers, and
 -- every message but the engaging one is signalled at once, so of the edges that enter the site only the parent
 -- is kept.
-use Rattle.std.specs.Prelude.{ℕ, Bool, ◌==◌, ◌&&◌, refl}
+use Rattle.std.specs.Prelude.{ℕ, Bool, ◌==◌, if◌then◌else◌, is_some, Option, None, refl}
 use Rattle.std.specs.Ordering.{nat_cmp}
 use Rattle.std.specs.Coded.{Coded, code_by, coded×, coded_ℕ}
 use Rattle.std.specs.FinMap.{FinMap, code, get}
@@ -15,7 +15,7 @@ use Rattle.frame_core.specs.Numbers.{Recall, Message, coded_recall, coded_messag
 use Rattle.frame_core.specs.Identifiers.{recall_cmp, message_cmp}
 use Rattle.frame_core.specs.Unsignalled.{coded_row}
 use Rattle.scholten_core.specs.declared.own_recalls.Own.{Own}
-use Rattle.scholten_core.specs.OwnRecalls.{is_open}
+use Rattle.scholten_core.specs.OwnRecalls.{unless_ended}
 use Rattle.scholten_core.specs.Codes.{coded_own}
 
 pub record Engagement : Type 0 where
@@ -41,6 +41,10 @@ coded_engagement =
     (λ p. record { me = p.0; outbox = p.1.0; seen = p.1.1.0; parents = p.1.1.1.0; own = p.1.1.1.1.0; next_message = p.1.1.1.1.1.0; next_recall = p.1.1.1.1.1.1 })
     (λ _. refl)
 
--- the site began the recall, and hasn't recorded its end
+-- the site's own recall that r names, where the site began it and hasn't recorded its end
+abbrev pub live_own : Engagement → Recall → Option Own
+live_own e r = if e.me == r.site then unless_ended (get e.own r.number) else None
+
+-- the site is the live initiator of the recall
 abbrev pub is_live : Engagement → Recall → Bool
-is_live e r = (e.me == r.site) && is_open (get e.own r.number)
+is_live e r = is_some (live_own e r)
