@@ -1,5 +1,5 @@
 -- What numbering messages and clearing a row do to the deficits of recalls, and where a recall has rows.
-use Rattle.std.proofs.Common.{◌≡◌, ◌≢◌, ℕ, ◌+◌, ◌≤◌, Bool, true, false, cond, not, ◌||◌, List, [], ◌∷◌, map, length, Option, Some, None, refl, sym, ap, subst, ◌∙◌, arith}
+use Rattle.std.proofs.Common.{ltb, ◌≡◌, ◌≢◌, ℕ, ◌+◌, ◌≤◌, Bool, true, false, cond, not, ◌||◌, List, [], ◌∷◌, map, length, Option, Some, None, refl, sym, ap, subst, ◌∙◌, arith}
 use Rattle.std.specs.Cmp.{IsTotalOrder, nat_cmp_total}
 use Rattle.std.specs.Ordering.{is_eq, nat_cmp, eq_by_cmp}
 use Rattle.std.specs.declared.cmp.Ordering.{Ordering}
@@ -9,15 +9,15 @@ use Rattle.std.specs.FinMap.{FinMap, nat_cmp-IsAntisymmetric, find, put, get, in
 use Rattle.std.specs.FinMap.Entries.{by_order}
 use Rattle.std.proofs.lemmas.List.Sums.{sum_by-cons}
 use Rattle.std.proofs.lemmas.Bool.{false_from_ne_true}
-use Rattle.std.proofs.lemmas.Cmp.{tied_itself, tied_back}
+use Rattle.std.proofs.lemmas.Cmp.{tied_itself}
+use Rattle.std.proofs.lemmas.Bool.Decides.{nat_tests}
 use Rattle.frame_core.specs.Numbers.{Recall}
 use Rattle.frame_core.specs.declared.rows.Row.{Row}
-use Rattle.frame_core.specs.Entries.{IsAscending, without}
 use Rattle.frame_core.specs.Identifiers.{same_recall}
 use Rattle.frame_core.specs.Outboxes.{row_for, numbered, rows_of, has_rows}
 use Rattle.frame_core.specs.Laws.{IsRowOf, AreUnused}
 use Rattle.frame_core.proofs.Maps.{get_apart, without_sorted, ascending_without}
-use Rattle.frame_core.proofs.Places.{first, second, above_tied, find_in, without_in}
+use Rattle.frame_core.proofs.Ascending.{IsAscending, without, first, second, find_above, without_above}
 use Rattle.frame_core.proofs.Numbering.{one_recall, same_recall_itself}
 
 -- what fails a test adds nothing, and what passes it adds one
@@ -33,11 +33,15 @@ passed p None = 0
 passed p (Some x) = cond (p x) 1 0
 
 -- how many values of entries pass a test
-abbrev passing : {K X : Type 0} → (X → Bool) → List (K × X) → ℕ
+abbrev pub passing : {K X : Type 0} → (X → Bool) → List (K × X) → ℕ
 passing p es = count_by p (map (λ e. e.1) es)
 
+cond_at_most : (b : Bool) → cond b 1 0 ≤ 1
+cond_at_most true = omega arith
+cond_at_most false = omega arith
+
 module _ {K X : Type 0} (p : X → Bool) where
-  passing_more : (e : K × X) (es : List (K × X)) → passing p (e ∷ es) ≡ cond (p e.1) 1 0 + passing p es
+  pub passing_more : (e : K × X) (es : List (K × X)) → passing p (e ∷ es) ≡ cond (p e.1) 1 0 + passing p es
   passing_more e es = sum_by-cons (λ x. cond (p x) 1 0) e.1 (map (λ e. e.1) es)
 
   -- a new key adds its value
@@ -57,10 +61,15 @@ module _ {K X : Type 0} (p : X → Bool) where
       elim (R k e.0) as (λ r. R k e.0 ≡ r → passing p (cond (not (is_eq r)) (e ∷ without R k es) (without R k es)) + passed p (cond (is_eq r) (Some e.1) (find R k es)) ≡ passing p (e ∷ es)) [
         | Less ↦ λ t. omega (arith, passing_more e (without R k es), passing_without o k es (second _ _ up), passing_more e es)
         | Equal ↦ λ t.
-            let rest : es ≡ without R k es = without_in o k es 0 (above_tied o e.0 k es (tied_back o k e.0 t) (first _ _ up)) in
+            let rest : es ≡ without R k es = sym (without_above o e.0 k es t (first _ _ up)) in
             omega (arith, ap (passing p) rest, passing_more e es)
         | Greater ↦ λ t. omega (arith, passing_more e (without R k es), passing_without o k es (second _ _ up), passing_more e es)
       ] refl
+
+  -- no more pass than there are
+  pub passing_at_most : (es : List (K × X)) → passing p es ≤ length es
+  passing_at_most [] = omega arith
+  passing_at_most (e ∷ es) = omega (arith, passing_more e es, passing_at_most es, cond_at_most (p e.1))
 
   -- where no value passes, none is counted
   none_counted : (es : List (K × X)) → list_any p (map (λ e. e.1) es) ≡ false → passing p es ≡ 0
@@ -94,7 +103,7 @@ module _ {K X : Type 0} {R : K → K → Ordering} (o : IsTotalOrder R) (p : X �
       elim (R later.key e.0) as (λ r. R later.key e.0 ≡ r → IsPassing R p (e ∷ es)) [
         | Less ↦ λ t. record { key = later.key; value = later.value; found = ap (λ r. cond (is_eq r) (Some e.1) (find R later.key es)) t ∙ later.found; passes = later.passes }
         | Equal ↦ λ t.
-            let absent : find R later.key es ≡ None = find_in o later.key es 0 (above_tied o e.0 later.key es (tied_back o later.key e.0 t) (first _ _ up)) in
+            let absent : find R later.key es ≡ None = find_above o e.0 later.key es t (first _ _ up) in
             let present : find R later.key es ≡ Some later.value = later.found in
             cc
         | Greater ↦ λ t. record { key = later.key; value = later.value; found = ap (λ r. cond (is_eq r) (Some e.1) (find R later.key es)) t ∙ later.found; passes = later.passes }
@@ -150,11 +159,11 @@ no_rows_left rows r zero_of =
     ] refl
 
 -- another recall is not the same
-other_recall : (a b : Recall) → a ≢ b → same_recall a b ≡ false
+pub other_recall : (a b : Recall) → a ≢ b → same_recall a b ≡ false
 other_recall a b ne = false_from_ne_true (same_recall a b) (λ t. ne (one_recall a b t))
 
 -- a message under an unused number
-inserted : (rows : FinMap nat_cmp Row) (n : ℕ) (x : Row) (r : Recall) → get rows n ≡ None → rows_of (insert rows n x) r ≡ cond (same_recall x.recall r) 1 0 + rows_of rows r
+pub inserted : (rows : FinMap nat_cmp Row) (n : ℕ) (x : Row) (r : Recall) → get rows n ≡ None → rows_of (insert rows n x) r ≡ cond (same_recall x.recall r) 1 0 + rows_of rows r
 inserted rows n x r none =
     ap (passing (λ row. same_recall row.recall r)) (entries-insert nat_cmp_total rows n x)
     ∙ passing_put (λ row. same_recall row.recall r) nat_cmp n x (entries rows) (sym (get-entries rows n) ∙ none)
@@ -179,7 +188,7 @@ other_deficit_stays rows n r other (pair ∷ out) unused ne =
     ∙ not_counted (rows_of rows other) (other_recall r other (λ same. ne (sym same)))
 
 -- what a row that goes takes from each deficit
-cleared : (rows : FinMap nat_cmp Row) (n : ℕ) (x : Row) (r : Recall) → get rows n ≡ Some x → rows_of (remove rows n) r + cond (same_recall x.recall r) 1 0 ≡ rows_of rows r
+pub cleared : (rows : FinMap nat_cmp Row) (n : ℕ) (x : Row) (r : Recall) → get rows n ≡ Some x → rows_of (remove rows n) r + cond (same_recall x.recall r) 1 0 ≡ rows_of rows r
 cleared rows n x r is =
     let test : Row → Bool = λ row. same_recall row.recall r in
     let fewer : rows_of (remove rows n) r ≡ passing test (without nat_cmp n (entries rows)) = ap (passing test) (entries_removed rows n) in
@@ -196,3 +205,11 @@ pub other_deficit_left : (rows : FinMap nat_cmp Row) (n : ℕ) (x : Row) (other 
 other_deficit_left rows n x other is ne =
     let none : ◌≡◌ {A = ℕ} (cond (same_recall x.recall other) 1 0) 0 = ap (λ b. cond b 1 0) (other_recall x.recall other (λ same. ne (sym same))) in
     omega (arith, cleared rows n x other is, none)
+
+-- a recall has rows exactly where its deficit is above 0
+pub rows_from_deficit : (rows : FinMap nat_cmp Row) (r : Recall) → ltb 0 (rows_of rows r) ≡ has_rows rows r
+rows_from_deficit rows r =
+    elim (has_rows rows r) as (λ b. has_rows rows r ≡ b → ltb 0 (rows_of rows r) ≡ b) [
+      | true ↦ λ t. let some : 1 ≤ rows_of rows r = some_counted (λ row. same_recall row.recall r) (entries rows) t in grind (arith, nat_tests, some)
+      | false ↦ λ t. ap (ltb 0) (no_deficit rows r t)
+    ] refl

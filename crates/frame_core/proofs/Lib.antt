@@ -1,6 +1,7 @@
+pub mod Ascending
+pub mod Counting
 pub mod Deficits
 pub mod Maps
 pub mod Numbering
-pub mod Orders
-pub mod Places
 pub mod Sums
+pub mod Undoing

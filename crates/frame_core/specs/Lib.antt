@@ -1,7 +1,9 @@
-pub mod Entries
 pub mod Identifiers
 pub mod Laws
 pub mod Numbers
+pub mod Orders
 pub mod Outboxes
 pub mod Rows
+pub mod Counts
+pub mod Tables
 pub mod Unsignalled

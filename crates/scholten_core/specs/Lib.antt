@@ -2,4 +2,3 @@ pub mod Codes
 pub mod OwnRecalls
 pub mod Engagement
 pub mod Changes
-pub mod Laws

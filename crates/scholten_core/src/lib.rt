@@ -5,12 +5,8 @@
 #![tactic(auto)]
 
 mod diffusions;
-pub mod laws;
 mod outcomes;
 mod own_recalls;
-mod parents;
-#[cfg(test)]
-mod tests;
 
 pub use diffusions::Diffusion;
 pub use outcomes::{Began, Received, Signalled};

@@ -1,4 +1,4 @@
-use Rattle.frame_core.proofs.Orders.{message_total, message_exact}
+use Rattle.frame_core.specs.Orders.{message_total, message_exact}
 use Rattle.frame_core.proofs.laws.messages_are_ordered.Goals as goal
 
 pub returns : goal.returns

@@ -1,4 +1,4 @@
-use Rattle.frame_core.proofs.Orders.{recall_total, recall_exact}
+use Rattle.frame_core.specs.Orders.{recall_total, recall_exact}
 use Rattle.frame_core.proofs.Numbering.{one_recall, equal_recalls}
 use Rattle.frame_core.proofs.laws.recalls_are_ordered.Goals as goal
 
