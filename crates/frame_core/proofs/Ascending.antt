@@ -7,7 +7,7 @@ use Rattle.std.specs.declared.cmp.Ordering.{Ordering}
 use Rattle.std.specs.declared.cmp.Ordering.TheVariants.{Less, Equal, Greater}
 use Rattle.std.specs.List.{filter, AllByRecursion}
 use Rattle.std.specs.List.Sorted.{IsStrictlySortedBy}
-use Rattle.std.specs.Map.{keys_of, lookup, remove_entry}
+use Rattle.std.specs.Map.{keys_of, lookup, remove_entry, set_value}
 use Rattle.std.specs.BTreeMap.{insert_entry, is_at}
 use Rattle.std.specs.FinMap.{find, put, is_sorted}
 use Rattle.std.specs.FinMap.Entries.{below_all}
@@ -107,3 +107,19 @@ module _ {K X : Type 0} {R : K → K → Ordering} (o : IsTotalOrder R) where
       within : (fs : List (K × X)) → T (below_all R e.0 (fs ++ (k, v) ∷ rest)) → R e.0 k ≡ Less
       within [] h = less _ (first _ _ h)
       within (g ∷ fs) h = within fs (second _ _ h)
+
+  -- a value that is written over at its key
+  pub written : (k : K) (v x : X) (es : List (K × X)) → find R k es ≡ Some x → IsAscending R es → set_value (is_at (R k)) es v ≡ put R k v es
+  written k v x [] is up = cc
+  written k v x (e ∷ es) is up =
+      elim (R k e.0) as (λ r. R k e.0 ≡ r → cond (is_eq r) (Some e.1) (find R k es) ≡ Some x → set_value (is_at (R k)) (e ∷ es) v ≡ put R k v (e ∷ es)) [
+        | Less ↦ λ t h. let none : find R k es ≡ None = find_below e.0 k es t (first _ _ up) in cc
+        | Equal ↦ λ t h. rw t refl
+        | Greater ↦ λ t h. rw t (ap (λ ys. e ∷ ys) (written k v x es h (second _ _ up)))
+      ] refl is
+    where
+      find_below : (x k : K) (fs : List (K × X)) → R k x ≡ Less → T (below_all R x fs) → find R k fs ≡ None
+      find_below x k [] t h = refl
+      find_below x k (f ∷ fs) t h =
+          let below : R k f.0 ≡ Less = o.trans k x f.0 t (less _ (first _ _ h)) in
+          rw below (find_below x k fs t (second _ _ h))

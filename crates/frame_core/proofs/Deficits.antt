@@ -18,7 +18,7 @@ use Rattle.frame_core.specs.Outboxes.{row_for, numbered, rows_of, has_rows}
 use Rattle.frame_core.specs.Laws.{IsRowOf, AreUnused}
 use Rattle.frame_core.proofs.Maps.{get_apart, without_sorted, ascending_without}
 use Rattle.frame_core.proofs.Ascending.{IsAscending, without, first, second, find_above, without_above}
-use Rattle.frame_core.proofs.Numbering.{one_recall, same_recall_itself}
+use Rattle.frame_core.proofs.Numbering.{one_recall, same_recall_itself, numbered_told}
 
 -- what fails a test adds nothing, and what passes it adds one
 not_counted : (n : ℕ) {b : Bool} → b ≡ false → cond b 1 0 + n ≡ n
@@ -213,3 +213,13 @@ rows_from_deficit rows r =
       | true ↦ λ t. let some : 1 ≤ rows_of rows r = some_counted (λ row. same_recall row.recall r) (entries rows) t in grind (arith, nat_tests, some)
       | false ↦ λ t. ap (ltb 0) (no_deficit rows r t)
     ] refl
+
+-- a message stands once it is numbered, so that its recall has rows
+pub numbered_has_rows : (rows : FinMap nat_cmp Row) (n : ℕ) (r : Recall) (out : List (ℕ × List ℕ)) → 1 ≤ length out → has_rows (numbered rows n r out) r ≡ true
+numbered_has_rows rows n r [] some = absurd (omega (arith, some))
+numbered_has_rows rows n r (pair ∷ out) some = found_rows (numbered rows n r (pair ∷ out)) r (record {
+  number = n;
+  row = row_for r pair;
+  stands = numbered_told rows n r (pair ∷ out) 0 n pair (omega arith) (omega arith);
+  of_recall = refl;
+})

@@ -10,10 +10,10 @@ use Rattle.std.specs.declared.cmp.Ordering.TheVariants.{Less, Equal, Greater}
 use Rattle.std.specs.FinMap.{FinMap, IsAntisymmetric, find, put, get, insert, remove, empty, from_sorted, entries-from_sorted, get-from_sorted, same_entries_map, entries, empty_of_len, len-entries, entries-insert, get-insert, get-remove, same_map}
 use Rattle.std.specs.FinMap.Entries.{is_sorted-put, is_sorted-where_key, find-where_key}
 use Rattle.std.proofs.lemmas.Cmp.{tied_itself, alike_right, eq_by_cmp_equiv}
-use Rattle.frame_core.proofs.Ascending.{IsAscending, without, ascending_keys, looked_up, inserted, removed}
+use Rattle.frame_core.proofs.Ascending.{IsAscending, without, ascending_keys, looked_up, inserted, removed, written}
 use Rattle.frame_core.specs.Tables.{as_map, set_back}
 use Rattle.std.specs.BTreeMap.{BTreeMap, insert_entry, is_at, IsOrdered}
-use Rattle.std.specs.Map.{lookup, remove_entry}
+use Rattle.std.specs.Map.{lookup, remove_entry, set_value}
 
 -- no entries make no map
 pub none_sorted : {K X : Type 0} {R : K → K → Ordering} → from_sorted {X = X} {R = R} [] ≡ empty
@@ -134,3 +134,13 @@ succeeds (Err e) p q no_fault = absurd (no_fault q)
 -- a tree map without entries
 pub no_entries : {K X : Type 0} {R : K → K → Ordering} (m : BTreeMap K X) → m.entries ≡ [] → as_map R m ≡ empty
 no_entries {R = R} m none = ap (from_sorted {R = R}) none ∙ none_sorted
+
+-- a new key that is taken away again
+pub removed_again : {K X : Type 0} {R : K → K → Ordering} (o : IsTotalOrder R) (exact : IsAntisymmetric R) (m : FinMap R X) (k : K) (v : X) → get m k ≡ None → remove (insert m k v) k ≡ m
+removed_again o exact m k v none = ap (set_back (insert m k v) k) (sym none) ∙ insert_undone o exact m k v
+
+-- a value that is written through a borrow at its key
+pub map_written : {K X : Type 0} {R : K → K → Ordering} (o : IsTotalOrder R) (m n : BTreeMap K X) (k : K) (v x : X) → IsOrdered R m → get (as_map R m) k ≡ Some x → n.entries ≡ set_value (is_at (R k)) m.entries v → as_map R n ≡ insert (as_map R m) k v
+map_written {R = R} o m n k v x up has is =
+    let sorted = ascending_keys R m.entries up in
+    map_inserted o m n k v up (is ∙ written o k v x m.entries (sym (get-from_sorted R m.entries k sorted) ∙ has) sorted ∙ sym (inserted R k v m.entries))

@@ -175,11 +175,13 @@ impl Diffusion {
         ensures err { OnErr result (self.new ≡ self.old) }
     {
         tables::put(&mut self.parents, recall, message)?;
-        if self.note(message, recall, out).is_err() {
-            tables::take(&mut self.parents, recall);
-            return Err(AllocError);
+        match self.note(message, recall, out) {
+            Ok(()) => Ok(()),
+            Err(error) => {
+                tables::take(&mut self.parents, recall);
+                Err(error)
+            }
         }
-        Ok(())
     }
 
     /// Notes a message that wasn't seen, and numbers the messages that it gives rise to. A fault changes
@@ -196,11 +198,13 @@ impl Diffusion {
         ensures err { OnErr result (self.new ≡ self.old) }
     {
         self.seen.note(message, recall)?;
-        if self.outbox.number_all(self.alloc, recall, out).is_err() {
-            self.seen.forget(message);
-            return Err(AllocError);
+        match self.outbox.number_all(self.alloc, recall, out) {
+            Ok(()) => Ok(()),
+            Err(_) => {
+                self.seen.forget(message);
+                Err(AllocError)
+            }
         }
-        Ok(())
     }
 
     /// Takes the signal for a message of this site. Takes no memory.
@@ -240,9 +244,19 @@ impl Diffusion {
     fn is_engaged_by(&self, recall: RecallId, out: &[(SiteNo, Epc)]) -> bool
         ensures { result ≡ (has_rows (numbered self.now.outbox self.now.next_message recall out.now) recall && (is_none (map.get self.now.parents recall) && is_none (live_own self.now recall))) }
     {
-        (!out.is_empty() || self.outbox.has_rows(recall))
+        self.has_rows_after(recall, out)
             && self.parent(recall).is_none()
             && self.live_own(recall).is_none()
+    }
+
+    /// Whether a message of the recall is unsignalled once these are numbered.
+    fn has_rows_after(&self, recall: RecallId, out: &[(SiteNo, Epc)]) -> bool
+        ensures { result ≡ has_rows (numbered self.now.outbox self.now.next_message recall out.now) recall }
+    {
+        match out {
+            [] => self.outbox.has_rows(recall),
+            _ => true,
+        }
     }
 
     /// The site's own recall that this names, where its end isn't recorded.
