@@ -97,8 +97,8 @@ pub none_counted : (rows : FinMap nat_cmp Row) (counts : FinMap recall_cmp ℕ) 
 none_counted rows counts no_rows no_counts r =
     ap (λ m. count_in m r) no_counts ∙ ap (λ o. unwrap_or o 0) (get-empty recall_cmp r)
     ∙ sym (let few = few_rows rows r in
-        let length_of : length (entries rows) ≡ 0 = ap (λ m. length (entries m)) no_rows ∙ sym (len-entries (empty {X = Row} {R = nat_cmp})) ∙ len-empty nat_cmp Row in
-        omega (arith, few, length_of))
+    let length_of : length (entries rows) ≡ 0 = ap (λ m. length (entries m)) no_rows ∙ sym (len-entries (empty {X = Row} {R = nat_cmp})) ∙ len-empty nat_cmp Row in
+    omega (arith, few, length_of))
 
 -- before the first row nothing is counted
 pub counting_begins : (rows : FinMap nat_cmp Row) (counts : FinMap recall_cmp ℕ) (es : List (ℕ × Row)) → counts ≡ empty → es ≡ entries rows

@@ -74,11 +74,7 @@ impl Outbox {
     }
 
     /// The outbox of these rows, by number, with this next number.
-    pub fn restore(
-        alloc: Global,
-        rows: BTreeMap<u64, Row>,
-        next: u64,
-    ) -> Result<Outbox, AllocError>
+    pub fn restore(alloc: Global, rows: BTreeMap<u64, Row>, next: u64) -> Result<Outbox, AllocError>
         requires in_range { IsNextNumber next }
         ensures { IfOk result (λ outbox. outbox ≡ record { rows = as_map nat_cmp rows; next = next }) }
     {

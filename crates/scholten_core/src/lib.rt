@@ -7,6 +7,8 @@
 mod diffusions;
 mod outcomes;
 mod own_recalls;
+#[cfg(test)]
+mod tests;
 
 pub use diffusions::Diffusion;
 pub use outcomes::{Began, Received, Signalled};

@@ -17,10 +17,10 @@ undo-requires c = record {
 pub returns-in-Err-clause-err : goal.returns-in-Err-clause-err
 returns-in-Err-clause-err c =
     let own : as_map nat_cmp c.undo.new.map ≡ as_map nat_cmp c.self.inside.own =
-        c.undo.ensures
-        ∙ ap (λ m. set_back m c.self.inside.next_recall c.in_ok-before.before) c.in_ok-before.ensures.ok
-        ∙ ap (set_back (insert (as_map nat_cmp c.self.inside.own) c.self.inside.next_recall _) c.self.inside.next_recall) c.in_ok-before.ensures.old
-        ∙ insert_undone nat_cmp_total nat_cmp-IsAntisymmetric (as_map nat_cmp c.self.inside.own) c.self.inside.next_recall _ in
+    c.undo.ensures
+    ∙ ap (λ m. set_back m c.self.inside.next_recall c.in_ok-before.before) c.in_ok-before.ensures.ok
+    ∙ ap (set_back (insert (as_map nat_cmp c.self.inside.own) c.self.inside.next_recall _) c.self.inside.next_recall) c.in_ok-before.ensures.old
+    ∙ insert_undone nat_cmp_total nat_cmp-IsAntisymmetric (as_map nat_cmp c.self.inside.own) c.self.inside.next_recall _ in
     ap (λ (m : FinMap nat_cmp Own). let e : Engagement = record { me = c.self.inside.me; outbox = c.number_all.new.self.rows; seen = c.self.inside.seen; parents = as_map _ c.self.inside.parents; own = m; next_message = c.number_all.new.self.next; next_recall = c.self.inside.next_recall } in e) own
     ∙ ap (λ (u : Unsignalled). let e : Engagement = record { me = c.self.inside.me; outbox = u.rows; seen = c.self.inside.seen; parents = as_map _ c.self.inside.parents; own = as_map nat_cmp c.self.inside.own; next_message = u.next; next_recall = c.self.inside.next_recall } in e) c.in-Err.ensures.err
     ∙ c.self.view_is
