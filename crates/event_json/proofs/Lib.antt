@@ -3,5 +3,6 @@ pub mod ContentLaws
 pub mod Each
 pub mod Gathered
 pub mod Lists
+pub mod Carried
 pub mod Plain
 pub mod SiteLemmas
