@@ -5,4 +5,5 @@ pub mod Gathered
 pub mod Lists
 pub mod Carried
 pub mod Plain
+pub mod Listed
 pub mod SiteLemmas

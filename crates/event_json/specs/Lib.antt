@@ -7,4 +7,5 @@ pub mod Faults
 pub mod ItemLists
 pub mod Members
 pub mod Names
+pub mod Laws
 pub mod Sites

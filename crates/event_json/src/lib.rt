@@ -11,6 +11,7 @@ mod event_types;
 mod events;
 mod foreign_faults;
 mod item_lists;
+pub mod laws;
 mod members;
 mod passing;
 mod sequences;
