@@ -3,7 +3,6 @@ ghost use Rattle.std.specs.Prelude.{◌≡◌, ◌↔◌, ℕ, List, IfOk, IfErr
 ghost use Rattle.std.specs.Cmp as Cmp;
 ghost use Rattle.std.specs.Cmp.Lexicographic.{slice_cmp, pointwise, nat_list_cmp_total, nat_list_eq_equiv, texts_ties, texts_po, bytes_decides};
 ghost use Rattle.std.specs.Ordering.{nat_cmp};
-
 ghost use Rattle.std.specs.Hash as fed;
 ghost use Rattle.epc_core.specs.Forms.{SameForm, HasText};
 

@@ -53,10 +53,10 @@ unfolding same_body
 body_equiv =
     let texts = lists_equiv nat_list_eq_equiv in
     and_equiv (on_equiv kind_of nat_eq_equiv) (and_equiv (on_equiv id_of (options_equiv nat_list_eq_equiv))
-        (and_equiv (on_equiv sites_of nat_list_eq_equiv) (and_equiv (on_equiv goes_to texts) (on_equiv comes_from texts))))
+    (and_equiv (on_equiv sites_of nat_list_eq_equiv) (and_equiv (on_equiv goes_to texts) (on_equiv comes_from texts))))
 
 pub content_equiv : IsEquivalence same_content
 unfolding same_content
 content_equiv =
     and_equiv (on_equiv (λ e. e.id) (options_equiv nat_list_eq_equiv))
-        (and_equiv (on_equiv (λ e. e.instant) int_eq_equiv) (on_equiv (λ e. e.body) body_equiv))
+    (and_equiv (on_equiv (λ e. e.instant) int_eq_equiv) (on_equiv (λ e. e.body) body_equiv))

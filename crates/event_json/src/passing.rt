@@ -10,7 +10,9 @@ ghost use Rattle.event_json.specs.ItemLists.{epc_of, epcs_of, destination_of, de
 ghost use Rattle.event_json.specs.Members.{member_of, plain_of, identifier_of, each};
 ghost use Rattle.event_json.specs.Sites.{Site};
 
-use crate::checks::{check_action, check_offset, event_type, instant, without_declaration, without_quantities};
+use crate::checks::{
+    check_action, check_offset, event_type, instant, without_declaration, without_quantities,
+};
 use crate::doc_faults::{DocFault, DocFaultKind, DocField, Flaw};
 use crate::event_types::EventType;
 use crate::item_lists::check_limit;

@@ -79,7 +79,10 @@ pub(crate) fn place_addressed(entries: &[Entry], text: &str) -> Option<usize>
     entries.iter().position(|entry| entry.has_address(text))
 }
 
-pub(crate) fn copy_addresses(alloc: Global, addresses: &[PlainText]) -> Result<Vec<PlainText>, AllocError>
+pub(crate) fn copy_addresses(
+    alloc: Global,
+    addresses: &[PlainText],
+) -> Result<Vec<PlainText>, AllocError>
     ensures { IfOk result (λ v. v.items ≡ addresses.now) }
 {
     let mut copies = Vec::new(alloc);

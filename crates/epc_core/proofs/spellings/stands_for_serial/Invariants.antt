@@ -12,5 +12,5 @@ invariant-loop-byte l =
     × (goal.iterator-loop-byte).is_finite l.byte-iterator
     × (l.count ≤ 20)
     × (is_serial (percent_decode l.escaped)
-        ≡ (nat_le 1 (l.count + length (decoded_bytes l.byte-iterator))
-            && (nat_le (l.count + length (decoded_bytes l.byte-iterator)) 20 && list_all is_serial_byte (decoded_bytes l.byte-iterator))))
+    ≡ (nat_le 1 (l.count + length (decoded_bytes l.byte-iterator))
+    && (nat_le (l.count + length (decoded_bytes l.byte-iterator)) 20 && list_all is_serial_byte (decoded_bytes l.byte-iterator))))

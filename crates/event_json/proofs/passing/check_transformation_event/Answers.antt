@@ -10,6 +10,6 @@ returns c =
     let outs = c.in_ok-outs.ensures in
     let id = c.in_ok-has_id.ensures in
     let found = transformation_found _ head.0 ins.0 outs.0 id.0 (sym c.in_ok-without_declaration.ensures) (sym c.in_ok-without_quantities.ensures)
-        (sym c.in_ok-without_quantities-2.ensures) head.1 ins.1 outs.1 id.1 in
+    (sym c.in_ok-without_quantities-2.ensures) head.1 ins.1 outs.1 id.1 in
     let half = is_half id.0 ins.0 outs.0 _ _ _ _ id.2 ins.2 outs.2 c.is_half.ensures ∙ c.if-is_half.false in
     (record { id = head.0.id; instant = head.0.instant; body = Make id.0 ins.0 outs.0 }, found ∙ rw half refl)
