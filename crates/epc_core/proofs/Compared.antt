@@ -4,10 +4,7 @@ use Rattle.std.specs.Prelude.{nat_eq}
 use Rattle.std.specs.declared.cmp.Ordering.TheVariants.{Less, Equal, Greater}
 use Rattle.std.specs.Ordering.{ordering_then}
 use Rattle.std.specs.Cmp.Lexicographic.{slice_cmp, pointwise}
-use Rattle.std.specs.Hash as fed
-use Rattle.std.proofs.lemmas.List.{take_at, drop_at}
 use Rattle.epc_core.specs.Items.{sgtin_key}
-use Rattle.epc_core.specs.Keys.{hash_pieces}
 
 then_assoc : (a b c : Ordering) → ordering_then a (ordering_then b c) ≡ ordering_then (ordering_then a b) c
 then_assoc Less b c = refl
@@ -40,10 +37,3 @@ pointwise-append (c ∷ a) (d ∷ b) x y e = ap (λ t. nat_eq c d && t) (pointwi
 
 pub pointwise-sgtin_key : (a b x y : List ℕ) → length a ≡ 14 → length b ≡ 14 → pointwise nat_eq (sgtin_key a x) (sgtin_key b y) ≡ (pointwise nat_eq a b && pointwise nat_eq x y)
 pointwise-sgtin_key a b x y e f = pointwise-append a b (32 ∷ x) (32 ∷ y) (e ∙ sym f)
-
-pub hash_pieces-sgtin_key : (gtin serial : List ℕ) → length gtin ≡ 14 → hash_pieces (sgtin_key gtin serial) ≡ gtin ∷ fed.str serial
-hash_pieces-sgtin_key gtin serial e =
-    let front : take 14 (gtin ++ 32 ∷ serial) ≡ gtin = take_at gtin (32 ∷ serial) 14 e in
-    let back : drop 15 (gtin ++ 32 ∷ serial) ≡ serial =
-    ap (drop 15) (sym (append_assoc gtin (32 ∷ []) serial)) ∙ drop_at (gtin ++ 32 ∷ []) serial 15 (simp length-append (omega arith)) in
-    λ i. front i ∷ fed.str (back i)

@@ -13,11 +13,11 @@ use Rattle.epc_core.specs.Serials.{IsSerial, is_serial_byte}
 use Rattle.epc_core.specs.Items.{is_plain_byte, sgtin_key, parted, key_of}
 use Rattle.epc_core.specs.Spellings.{IsPlain, whole_number, Spells}
 use Rattle.epc_core.specs.Reading.{reading, fault_of}
-use Rattle.epc_core.specs.Laws.{GtinsAreSpelledTwice, SsccsAreSpelledTwice, SameForm}
+use Rattle.epc_core.specs.Laws.{GtinsAreSpelledTwice, SsccsAreSpelledTwice}
 use Rattle.epc_core.specs.declared.items.EpcFault.{EpcFault}
 use Rattle.epc_core.specs.declared.items.EpcForm.{EpcForm}
 use Rattle.epc_core.specs.declared.items.EpcForm.TheVariants.{Item, Sscc, Other}
-use Rattle.epc_core.specs.Forms.{key_of_form, IsForm}
+use Rattle.epc_core.specs.Forms.{key_of_form, IsForm, SameForm}
 use Rattle.epc_core.proofs.Digits.{all_append, all_parts}
 use Rattle.epc_core.proofs.Plain.{plain_from, plain_to, reading_plain}
 use Rattle.epc_core.proofs.Spelled.{spells_key, key_from, not_digit}

@@ -1,6 +1,7 @@
 -- Which keys there are: each has its first word and the parts of that form, and each such key has a text.
-use Rattle.std.proofs.Common.{◌≡◌, ◌≢◌, ◌⊎◌, inl, inr, ℕ, ◌*◌, Bool, true, false, ◌&&◌, List, [], ◌∷◌, ◌++◌, length, get_or, codes, Some, None, refl, sym, ap, ◌∙◌, subst, eqb, arith, length-append, string_bytes, String, Global}
+use Rattle.std.proofs.Common.{◌≡◌, ◌≢◌, ◌⊎◌, inl, inr, ℕ, ◌*◌, Bool, true, false, ◌&&◌, List, [], ◌∷◌, ◌++◌, length, get_or, codes, Option, Some, None, is_some, Result, Ok, Err, refl, sym, ap, ◌∙◌, subst, eqb, arith, length-append, string_bytes, String, Global}
 use Rattle.std.specs.List.{list_all, flat_map}
+use Rattle.std.specs.Result.{IfErr}
 use Rattle.std.proofs.lemmas.Bool.{true≢false, both_ways, and_parts, and_from}
 use Rattle.std.proofs.lemmas.Option.{none-some, some_pair_parts}
 use Rattle.std.proofs.lemmas.Bool.Decides.{nat_tests}
@@ -11,7 +12,7 @@ use Rattle.percent_encoding.specs.Percent.{percent_decode, percent_encode_byte}
 use Rattle.percent_encoding.proofs.PercentLemmas.{percent_decode-percent_encode_byte, percent_decode-nil, All-percent_encode_byte, IsEscapeByte}
 use Rattle.epc_core.specs.Numbers.{is_digit, IsChecked, is_checked}
 use Rattle.epc_core.specs.Serials.{IsSerial, is_serial, is_serial_byte, is_part_byte}
-use Rattle.epc_core.specs.Items.{is_plain_byte, parted, sgtin_key, sscc_key, uri_key, key_of}
+use Rattle.epc_core.specs.Items.{is_plain_byte, parted, sgtin_key, sscc_key, uri_key, number_key_of, key_of}
 use Rattle.epc_core.specs.Spellings.{IsPlain, SpellsNumber, Opaque, Spells, IsKey}
 use Rattle.epc_core.specs.declared.items.EpcForm.{EpcForm}
 use Rattle.epc_core.specs.declared.items.EpcForm.TheVariants.{Item, Sscc, Other}
@@ -19,7 +20,7 @@ use Rattle.epc_core.specs.Forms.{key_of_form, IsForm}
 use Rattle.epc_core.proofs.Cuts.{parted-append, parted_some}
 use Rattle.epc_core.proofs.Digits.{all_append}
 use Rattle.epc_core.proofs.Found.{serial_byte_small}
-use Rattle.epc_core.proofs.Spelled.{spells_key, key_from, not_digit, checked_from, checked_to, serial_from, serial_to}
+use Rattle.epc_core.proofs.Spelled.{spells_key, number_key_spelled, not_digit, checked_from, checked_to, serial_from, serial_to}
 
 -- ---- the parts of a key
 
@@ -173,25 +174,6 @@ key_of_form_is_key (Item gtin serial) h = key_of_item gtin (string_bytes serial)
 key_of_form_is_key (Sscc digits) h = key_of_sscc digits h
 key_of_form_is_key (Other text) h = (string_bytes text, h)
 
--- a text whose key has the first word `uri` is opaque
-pub other_is_text : (text kept : List ℕ) → IsPlain text → uri_key kept ≡ key_of text → (uri_key kept ≡ codes "uri " ++ text) × Spells kept (uri_key kept)
-other_is_text text kept plain e =
-    let spells = subst (Spells text) (sym e) (spells_key text plain) in
-    by spells.item
-  where
-    by : SpellsNumber text (uri_key kept) ⊎ Opaque text (uri_key kept) → (uri_key kept ≡ codes "uri " ++ text) × Spells kept (uri_key kept)
-    by (inl (inl (inl n))) = absurd (apart _ _ 0 refl n.names)
-    by (inl (inl (inr n))) = absurd (apart _ _ 0 refl n.names)
-    by (inl (inr (inl n))) = absurd (apart _ _ 0 refl n.names)
-    by (inl (inr (inr n))) = absurd (apart _ _ 0 refl n.names)
-    by (inr p) = (p.names, other_from_key text kept (subst (Spells text) (sym e) (spells_key text plain)))
-
--- a text whose key has another first word has no key with the word `uri`
-pub no_uri_key : (text key : List ℕ) → IsPlain text → key_of text ≡ key → eqb (get_or key 0 0) 117 ≡ false → IsKey (codes "uri " ++ text) → ⊥
-no_uri_key text key plain e other found =
-    let spells = other_from_key found.0 text found.1 in
-    apart key (uri_key text) 0 other (sym e ∙ key_from text (uri_key text) spells)
-
 -- ---- what the code reads of a key
 
 parts_parted : (rest : List ℕ) (p : SgtinParts rest) → parted 32 rest ≡ Some (p.gtin, p.serial)
@@ -213,13 +195,42 @@ item_found rest digits serial gtin kept cut checked allowed same also = (
   (subst (IsChecked 14) (sym same) (checked_from 14 digits checked), subst IsSerial (sym also) (serial_from serial allowed)),
 )
 
+pub parts_are_key : (rest digits serial : List ℕ) → parted 32 rest ≡ Some (digits, serial) → is_checked 14 digits ≡ true → is_serial serial ≡ true → IsKey (codes "sgtin " ++ rest)
+parts_are_key rest digits serial cut checked allowed =
+    let found = item_found rest digits serial digits serial cut checked allowed refl refl in
+    subst IsKey found.0 (key_of_item digits serial found.1.0 found.1.1)
+
 pub no_sscc : (digits : List ℕ) → is_checked 18 digits ≡ false → IsKey (codes "sscc " ++ digits) → ⊥
 no_sscc digits test found = both_ways _ test (checked_to 18 digits (sscc_from_key found.0 digits found.1))
 
-pub no_other : (text : List ℕ) (form : EpcForm) → ((kept : String Global) → form ≡ Other kept → ⊥) → IsPlain text → key_of_form form ≡ key_of text → IsKey (codes "uri " ++ text) → ⊥
-no_other text (Item gtin serial) not plain e = no_uri_key text _ plain (sym e) refl
-no_other text (Sscc digits) not plain e = no_uri_key text _ plain (sym e) refl
-no_other text (Other kept) not plain e = absurd (not kept refl)
+-- a plain text that spells no number has the key with the word `uri`
+pub other_is_key : (text : List ℕ) → IsPlain text → is_some (number_key_of text) ≡ false → Spells text (uri_key text)
+unfolding key_of
+other_is_key text plain none =
+    by (number_key_of text) refl
+  where
+    by : (o : Option (List ℕ)) → number_key_of text ≡ o → Spells text (uri_key text)
+    by None e =
+        let same : key_of text ≡ uri_key text = rw e refl in
+        subst (Spells text) same (spells_key text plain)
+    by (Some key) e = absurd (let some : is_some (number_key_of text) ≡ true = rw e refl in true≢false (sym some ∙ none))
+
+-- a text that spells a number has no key with the word `uri`
+pub number_is_no_other : (text : List ℕ) → is_some (number_key_of text) ≡ true → IsKey (codes "uri " ++ text) → ⊥
+number_is_no_other text some found =
+    by (number_key_of text) refl (other_from_key found.0 text found.1).item
+  where
+    by : (o : Option (List ℕ)) → number_key_of text ≡ o → SpellsNumber text (uri_key text) ⊎ Opaque text (uri_key text) → ⊥
+    by None e other = absurd (let none : is_some (number_key_of text) ≡ false = rw e refl in true≢false (sym some ∙ none))
+    by (Some key) e (inl (inl (inl n))) = absurd (apart _ _ 0 refl n.names)
+    by (Some key) e (inl (inl (inr n))) = absurd (apart _ _ 0 refl n.names)
+    by (Some key) e (inl (inr (inl n))) = absurd (apart _ _ 0 refl n.names)
+    by (Some key) e (inl (inr (inr n))) = absurd (apart _ _ 0 refl n.names)
+    by (Some key) e (inr p) = p.other key (number_key_spelled text key e)
+
+pub on_err : {T E P : Type 0} (r : Result T E) → P → IfErr r (λ _. P)
+on_err (Ok x) p = tt
+on_err (Err e) p = p
 
 pub not_plain : (text : List ℕ) → (IsPlain text → ⊥) → IsKey (codes "uri " ++ text) → ⊥
 not_plain text not found = not (other_from_key found.0 text found.1).plain

@@ -1,4 +1,4 @@
-use Rattle.std.specs.Prelude.{◌≡◌, ℕ, List, string_bytes, Option, MatchOption}
+use Rattle.std.specs.Prelude.{◌≡◌, ℕ, List, string_bytes, Option, MatchOption, ⊤}
 use Rattle.epc_core.specs.declared.items.EpcForm.{EpcForm}
 use Rattle.epc_core.specs.declared.items.EpcForm.TheVariants.{Item, Sscc, Other}
 use Rattle.epc_core.specs.Items.{sgtin_key, sscc_key, uri_key}
@@ -21,3 +21,16 @@ IsForm (Other text) = Spells (string_bytes text) (uri_key (string_bytes text))
 -- the form is the one of the item with this key, and there is none only where no text spells such an item
 abbrev pub IsFormOfKey : List ℕ → Option EpcForm → Type 0
 IsFormOfKey key found = MatchOption found (¬ IsKey key) (λ form. (key_of_form form ≡ key) × IsForm form)
+
+-- the forms hold the same digits and characters
+abbrev pub SameForm : EpcForm → EpcForm → Type 0
+SameForm (Item gtin serial) (Item other_gtin other_serial) = (gtin ≡ other_gtin) × (string_bytes serial ≡ string_bytes other_serial)
+SameForm (Sscc digits) (Sscc other) = digits ≡ other
+SameForm (Other text) (Other other) = string_bytes text ≡ string_bytes other
+SameForm form other = ⊥
+
+-- the form holds a text of any length, a serial number or the whole text, and not digits alone
+abbrev pub HasText : EpcForm → Type 0
+HasText (Item gtin serial) = ⊤
+HasText (Sscc digits) = ⊥
+HasText (Other text) = ⊤

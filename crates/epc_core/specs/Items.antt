@@ -1,4 +1,4 @@
-use Rattle.std.specs.Prelude.{ℕ, Bool, not, ◌&&◌, ◌==◌, nat_le, List, [], ◌∷◌, ◌++◌, codes, if◌then◌else◌, Option, Some, None, option_map, unwrap_or}
+use Rattle.std.specs.Prelude.{ℕ, Bool, not, ◌&&◌, ◌==◌, nat_le, List, [], ◌∷◌, ◌++◌, length, codes, if◌then◌else◌, Option, Some, None, option_map, unwrap_or}
 use Rattle.std.specs.List.{list_all}
 use Rattle.std.specs.Option.{option_or, option_and_then}
 use Rattle.epc_core.specs.Numbers.{are_parts, number_of, is_checked}
@@ -7,6 +7,10 @@ use Rattle.epc_core.specs.Serials.{serial_of, is_part_byte}
 -- a byte that a plain text may have: no control byte, no space, no DEL
 abbrev pub is_plain_byte : ℕ → Bool
 is_plain_byte b = nat_le 33 b && not (b == 127)
+
+-- whether a text is plain: 1 to 512 of these. `IsPlain` of Spellings.antt says the same as a fact.
+unfoldable pub is_plain : List ℕ → Bool
+is_plain text = nat_le 1 (length text) && (nat_le (length text) 512 && list_all is_plain_byte text)
 
 -- ---- keys
 

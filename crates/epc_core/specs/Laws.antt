@@ -1,8 +1,6 @@
-use Rattle.std.specs.Prelude.{◌≡◌, ◌↔◌, ℕ, ◌<◌, ◌≤◌, IsTrue, IsFalse, List, length, Err, string_bytes, slice_index, take}
+use Rattle.std.specs.Prelude.{◌≡◌, ◌↔◌, ℕ, ◌<◌, ◌≤◌, IsTrue, IsFalse, List, length, Err, slice_index, take}
 use Rattle.std.specs.List.{list_all}
 use Rattle.percent_encoding.specs.Percent.{percent_decode}
-use Rattle.epc_core.specs.declared.items.EpcForm.{EpcForm}
-use Rattle.epc_core.specs.declared.items.EpcForm.TheVariants.{Item, Sscc, Other}
 use Rattle.epc_core.specs.declared.items.EpcFault.TheVariants.{BadByte}
 use Rattle.epc_core.specs.Numbers.{IsChecked}
 use Rattle.epc_core.specs.Serials.{IsSerial, is_part_byte}
@@ -25,13 +23,6 @@ SsccsAreSpelledTwice = (company reference : List ℕ) (extension check : ℕ) �
     → IsChecked 18 (whole_number company extension reference check)
     → Spells (sscc_uri company extension reference) (sscc_key (whole_number company extension reference check))
     × Spells (sscc_link (whole_number company extension reference check)) (sscc_key (whole_number company extension reference check))
-
--- the forms hold the same digits and characters
-abbrev pub SameForm : EpcForm → EpcForm → Type 0
-SameForm (Item gtin serial) (Item other_gtin other_serial) = (gtin ≡ other_gtin) × (string_bytes serial ≡ string_bytes other_serial)
-SameForm (Sscc digits) (Sscc other) = digits ≡ other
-SameForm (Other text) (Other other) = string_bytes text ≡ string_bytes other
-SameForm form other = ⊥
 
 -- the place of the first byte that no plain text has
 pub record IsFirstBad (text : List ℕ) (place : ℕ) : Type 0 where

@@ -1,7 +1,6 @@
 pub mod Numbers
 pub mod Serials
 pub mod Items
-pub mod Keys
 pub mod Spellings
 pub mod Forms
 pub mod Reading

@@ -1,11 +1,10 @@
 //! The item of an EPC text.
-ghost use Rattle.std.specs.Prelude.{◌≡◌, ◌↔◌, ℕ, List, IfOk, IsSome, IfSome, string_bytes, Some, refl, nat_eq};
+ghost use Rattle.std.specs.Prelude.{◌≡◌, ◌↔◌, ℕ, List, IfOk, IfErr, IsSome, IfSome, string_bytes, Err, Some, refl, nat_eq, flat_map, fold};
 ghost use Rattle.std.specs.Cmp as Cmp;
-ghost use Rattle.std.specs.Cmp.Lexicographic.{slice_cmp, pointwise, nat_list_cmp_total, nat_list_eq_equiv, texts_ties, texts_po};
-ghost use Rattle.std.specs.Cmp.Rules.{hashing};
-ghost use Rattle.std.proofs.Common.{rules};
+ghost use Rattle.std.specs.Cmp.Lexicographic.{slice_cmp, pointwise, nat_list_cmp_total, nat_list_eq_equiv, texts_ties, texts_po, bytes_decides};
 ghost use Rattle.std.specs.Ordering.{nat_cmp};
-ghost use Rattle.epc_core.specs.Keys.{hash_pieces};
+ghost use Rattle.std.specs.Hash as fed;
+ghost use Rattle.epc_core.specs.Forms.{SameForm, HasText};
 
 use crate::keys::form_of_key;
 use crate::plain_texts::fault_of;
@@ -45,6 +44,24 @@ pub enum EpcForm {
     Other(String),
 }
 
+impl EpcForm {
+    /// The same form, with the same digits and characters. It fails only where memory runs out, and
+    /// of a logistic unit never.
+    pub fn copy(&self, alloc: Global) -> Result<EpcForm, AllocError>
+        ensures same { IfOk result (λ form. SameForm form self.now) }
+        ensures memory { IfErr result (λ _. HasText self.now) }
+    {
+        match self {
+            EpcForm::Item { gtin, serial } => Ok(EpcForm::Item {
+                gtin: *gtin,
+                serial: String::from_str(alloc, serial.as_str())?,
+            }),
+            EpcForm::Sscc(digits) => Ok(EpcForm::Sscc(*digits)),
+            EpcForm::Other(text) => Ok(EpcForm::Other(String::from_str(alloc, text.as_str())?)),
+        }
+    }
+}
+
 /// The item that an EPC text names.
 ///
 /// Contracts see it as its key's bytes: `sgtin`, the GTIN-14 and the serial number, or `sscc` and the
@@ -69,16 +86,18 @@ impl Model for Epc {
 
 impl Epc {
     ghost use Rattle.epc_core.specs.Reading.{reading, Gives};
-    ghost use Rattle.epc_core.specs.Spellings.{Spells, IsKey};
+    ghost use Rattle.epc_core.specs.Spellings.{IsPlain, Spells, IsKey};
     ghost use Rattle.epc_core.specs.Forms.{key_of_form, IsForm};
 
     /// Reads an EPC text: an SGTIN or SSCC as an EPC URI (EPC Tag Data Standard, sections 6.3.1 and
     /// 6.3.2) or as a Digital Link on `id.gs1.org`, or any other plain text as an opaque item.
     ///
-    /// The faults are those of a text that isn't plain, the first that applies, or want of memory.
+    /// The faults are those of a text that isn't plain, the first that applies, or want of memory,
+    /// which comes for plain texts alone.
     pub fn read(alloc: Global, text: &str) -> Result<Epc, EpcFault>
         ensures gives { Gives result (reading text.now) }
         ensures spells { IfOk result (λ e. Spells text.now e) }
+        ensures memory { result ≡ Err EpcFault.NoMemory → IsPlain text.now }
     {
         if let Some(fault) = fault_of(text.as_bytes()) {
             return Err(fault);
@@ -113,11 +132,12 @@ impl Epc {
         Ok(key)
     }
 
-    /// The item with this key, or `None` where no text spells an item of this key. It fails only where
-    /// memory runs out.
+    /// The item with this key, or `None` where no text spells an item of this key, which is found
+    /// without taking memory. It fails only where memory runs out, so for the key of an item alone.
     pub fn from_key(alloc: Global, key: &str) -> Result<Option<Epc>, AllocError>
         ensures found { IfOk result (λ item. IsSome item ↔ IsKey key.now) }
         ensures same { IfOk result (λ item. IfSome item (λ e. e ≡ key.now)) }
+        ensures memory { IfErr result (λ _. IsKey key.now) }
     {
         match form_of_key(alloc, key)? {
             Some(form) => Ok(Some(Epc { form })),
@@ -138,14 +158,7 @@ impl Epc {
     pub fn copy(&self, alloc: Global) -> Result<Epc, AllocError>
         ensures { IfOk result (λ e. e ≡ self.now) }
     {
-        let form = match &self.form {
-            EpcForm::Item { gtin, serial } => EpcForm::Item {
-                gtin: *gtin,
-                serial: String::from_str(alloc, serial.as_str())?,
-            },
-            EpcForm::Sscc(digits) => EpcForm::Sscc(*digits),
-            EpcForm::Other(text) => EpcForm::Other(String::from_str(alloc, text.as_str())?),
-        };
+        let form = self.form.copy(alloc)?;
         Ok(Epc { form })
     }
 }
@@ -216,19 +229,37 @@ impl Ord for Epc {
     }
 }
 
-impl Hash for Epc {
-    ghost hash_input = { hash_pieces };
+/// Feeds a hasher bytes, one after another.
+fn feed<H: Hasher>(state: &mut H, bytes: &[u8])
+    ensures { state.new ≡ fold H.write state.old (flat_map fed.u8 bytes.now) }
+{
+    for byte in bytes {
+        state.write_u8(*byte);
+    }
+}
 
-    ghost respects_eq = { Prim.search (hashing, rules) };
+/// A hasher is fed the key's bytes, one after another.
+impl Hash for Epc {
+    ghost hash_input = { flat_map fed.u8 };
+
+    ghost respects_eq = { (fed.same_Alike (flat_map fed.u8) bytes_decides).fed };
 
     fn hash<H: Hasher>(&self, state: &mut H) {
         match &self.form {
             EpcForm::Item { gtin, serial } => {
-                state.write(gtin);
-                serial.as_str().hash(state);
+                feed(state, b"sgtin ");
+                feed(state, gtin);
+                feed(state, b" ");
+                feed(state, serial.as_bytes());
             }
-            EpcForm::Sscc(digits) => state.write(digits),
-            EpcForm::Other(text) => text.as_str().hash(state),
+            EpcForm::Sscc(digits) => {
+                feed(state, b"sscc ");
+                feed(state, digits);
+            }
+            EpcForm::Other(text) => {
+                feed(state, b"uri ");
+                feed(state, text.as_bytes());
+            }
         }
     }
 }

@@ -1,16 +1,18 @@
 //! Items from their keys.
-ghost use Rattle.std.specs.Prelude.{◌≡◌, ℕ, ◌++◌, List, codes, IfOk};
+ghost use Rattle.std.specs.Prelude.{◌≡◌, ℕ, ◌++◌, List, codes, IfOk, IfErr};
 ghost use Rattle.epc_core.specs.Forms.{IsFormOfKey};
+ghost use Rattle.epc_core.specs.Spellings.{IsKey};
 
 use crate::items::EpcForm;
 use crate::numbers::is_checked;
 use crate::plain_texts::is_plain;
-use crate::spellings::{form_of, is_serial};
+use crate::spellings::{is_serial, spells_number};
 use std::alloc::{AllocError, Global};
 
 /// The form of the item with this key, if there is one.
 pub(crate) fn form_of_key(alloc: Global, key: &str) -> Result<Option<EpcForm>, AllocError>
-    ensures { IfOk result (λ form. IsFormOfKey key.now form) }
+    ensures form { IfOk result (λ form. IsFormOfKey key.now form) }
+    ensures memory { IfErr result (λ _. IsKey key.now) }
 {
     if let Some(rest) = key.strip_prefix("sgtin ") {
         return item_of_key(alloc, rest);
@@ -26,7 +28,8 @@ pub(crate) fn form_of_key(alloc: Global, key: &str) -> Result<Option<EpcForm>, A
 
 /// The form of a trade item, from its key behind the first word.
 fn item_of_key(alloc: Global, rest: &str) -> Result<Option<EpcForm>, AllocError>
-    ensures { IfOk result (λ form. IsFormOfKey (codes "sgtin " ++ rest.now) form) }
+    ensures form { IfOk result (λ form. IsFormOfKey (codes "sgtin " ++ rest.now) form) }
+    ensures memory { IfErr result (λ _. IsKey (codes "sgtin " ++ rest.now)) }
 {
     let Some((digits, serial)) = rest.split_once(' ') else {
         return Ok(None);
@@ -54,13 +57,12 @@ fn sscc_of_key(digits: &str) -> Option<EpcForm>
 
 /// The form of any other item, from its key behind the first word: a text that spells no number.
 fn other_of_key(alloc: Global, text: &str) -> Result<Option<EpcForm>, AllocError>
-    ensures { IfOk result (λ form. IsFormOfKey (codes "uri " ++ text.now) form) }
+    ensures form { IfOk result (λ form. IsFormOfKey (codes "uri " ++ text.now) form) }
+    ensures memory { IfErr result (λ _. IsKey (codes "uri " ++ text.now)) }
 {
-    if !is_plain(text) {
+    if !is_plain(text) || spells_number(text) {
         return Ok(None);
     }
-    match form_of(alloc, text)? {
-        EpcForm::Other(text) => Ok(Some(EpcForm::Other(text))),
-        _ => Ok(None),
-    }
+    let text = String::from_str(alloc, text)?;
+    Ok(Some(EpcForm::Other(text)))
 }

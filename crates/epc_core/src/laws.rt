@@ -3,8 +3,8 @@ ghost use Rattle.std.specs.Prelude.{◌≡◌, ◌↔◌, ℕ, ◌<◌, List, le
 ghost use Rattle.epc_core.specs.Items.{key_of};
 ghost use Rattle.epc_core.specs.Spellings.{IsPlain, Spells, IsKey};
 ghost use Rattle.epc_core.specs.Reading.{reading};
-ghost use Rattle.epc_core.specs.Forms.{key_of_form, IsForm};
-ghost use Rattle.epc_core.specs.Laws.{GtinsAreSpelledTwice, SsccsAreSpelledTwice, SameForm, BadBytesAreRefused};
+ghost use Rattle.epc_core.specs.Forms.{key_of_form, IsForm, SameForm};
+ghost use Rattle.epc_core.specs.Laws.{GtinsAreSpelledTwice, SsccsAreSpelledTwice, BadBytesAreRefused};
 ghost use Rattle.epc_core.specs.declared.items.EpcForm.{EpcForm};
 
 use crate::items::EpcFault;

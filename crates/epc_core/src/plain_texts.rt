@@ -1,7 +1,7 @@
 //! Plain texts, and the first reason why a text isn't plain.
 ghost use Rattle.std.specs.Prelude.{◌≡◌, ℕ, ◌↔◌, IsTrue, position, not};
 ghost use Rattle.std.specs.List.{list_all};
-ghost use Rattle.epc_core.specs.Items.{is_plain_byte};
+ghost use Rattle.epc_core.specs.Items.{is_plain_byte, is_plain};
 ghost use Rattle.epc_core.specs.Reading.{fault_of};
 ghost use Rattle.epc_core.specs.Spellings.{IsPlain};
 
@@ -12,10 +12,12 @@ const MOST_BYTES: usize = 512;
 
 /// Whether a text is plain: 1 to 512 bytes, no byte up to 0x20 (a control byte or a space) and no
 /// byte 0x7F (DEL).
+#[tactic(auto, unfolding(crate::specs::Items::is_plain))]
 pub fn is_plain(text: &str) -> bool
-    ensures { IsTrue result ↔ IsPlain text.now }
+    ensures test { result ≡ is_plain text.now }
+    ensures plain { IsTrue result ↔ IsPlain text.now }
 {
-    !text.is_empty() && text.len() <= MOST_BYTES && are_plain_bytes(text.as_bytes())
+    1 <= text.len() && text.len() <= MOST_BYTES && are_plain_bytes(text.as_bytes())
 }
 
 /// Whether a plain text may have each of these bytes.

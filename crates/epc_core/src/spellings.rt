@@ -1,9 +1,10 @@
 //! The four forms in which a text spells a GS1 item, and the item that it spells.
-ghost use Rattle.std.specs.Prelude.{◌≡◌, ℕ, List, IfOk, string_bytes, option_map};
+ghost use Rattle.std.specs.Prelude.{◌≡◌, ℕ, List, IfOk, string_bytes, option_map, is_some};
 ghost use Rattle.std.specs.List.{list_all};
 ghost use Rattle.std.specs.Option.{option_or};
+ghost use Rattle.percent_encoding.specs.Percent as percent;
 ghost use Rattle.epc_core.specs.Serials.{is_serial_byte, is_serial, serial_of, is_part_byte};
-ghost use Rattle.epc_core.specs.Items.{gtin_of_uri, gtin_of_link, sscc_of_uri, sscc_of_link, key_of};
+ghost use Rattle.epc_core.specs.Items.{gtin_of_uri, gtin_of_link, sscc_of_uri, sscc_of_link, number_key_of, key_of};
 ghost use Rattle.epc_core.specs.Forms.{key_of_form, IsForm};
 ghost use Rattle.epc_core.specs.Spellings.{IsPlain};
 
@@ -27,6 +28,18 @@ pub(crate) fn form_of(alloc: Global, text: &str) -> Result<EpcForm, AllocError>
         return Ok(EpcForm::Sscc(digits));
     }
     Ok(EpcForm::Other(String::from_str(alloc, text)?))
+}
+
+/// Whether a text spells a GTIN with a serial number, or an SSCC.
+pub(crate) fn spells_number(text: &str) -> bool
+    ensures { result ≡ is_some (number_key_of text.now) }
+{
+    if let Some(parts) = gtin_of_uri(text).or(gtin_of_link(text)) {
+        if stands_for_serial(parts.1) {
+            return true;
+        }
+    }
+    sscc_of_uri(text).or(sscc_of_link(text)).is_some()
 }
 
 /// The GTIN-14 and the escaped serial number in an SGTIN's EPC URI.
@@ -110,6 +123,20 @@ fn serial_of(alloc: Global, escaped: &str) -> Result<Option<String>, AllocError>
         return Ok(None);
     }
     Ok(String::from_utf8(serial).ok())
+}
+
+/// Whether an escaped text stands for a serial number.
+fn stands_for_serial(escaped: &str) -> bool
+    ensures { result ≡ is_serial (percent.percent_decode escaped.now) }
+{
+    let mut count: usize = 0;
+    for byte in percent_decode(escaped.as_bytes()) {
+        if count == 20 || !is_serial_byte(byte) {
+            return false;
+        }
+        count += 1;
+    }
+    count >= 1
 }
 
 /// Whether these are 1 to 20 of the 82 characters that a serial number may have.

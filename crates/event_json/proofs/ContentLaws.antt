@@ -2,14 +2,14 @@
 use Rattle.std.proofs.Common.{◌≡◌, ℕ, ℤ, List, Option, Some, None, refl, ap, ◌∙◌}
 use mathlib.Core.Bool.{false≢true}
 use Rattle.std.specs.Bool.{Decides}
+use Rattle.std.specs.Option.{option_eq}
 use Rattle.std.specs.Cmp.Lexicographic.{pointwise}
-use Rattle.std.specs.Ordering.{int_eq}
 use Rattle.std.proofs.lemmas.Bool.Decides.{Decides-and, Decides-eqb, Decides-int_eq, Decides-like}
 use Rattle.std.proofs.lemmas.Slice.Eq.{bytes_eq-Decides, slice_eq-Decides}
 use Rattle.event_json.specs.Events.{Content}
 use Rattle.event_json.specs.declared.bodies.Body.{Body}
 use Rattle.event_json.specs.declared.bodies.Body.TheVariants.{Note, Ship, Make}
-use Rattle.event_json.specs.Contents.{same_texts, same_option, same_body, same_content}
+use Rattle.event_json.specs.Contents.{same_text, same_texts, same_body, same_content}
 
 texts_decides : (xs ys : List (List ℕ)) → Decides (same_texts xs ys) (xs ≡ ys)
 texts_decides xs ys = slice_eq-Decides (λ a b. bytes_eq-Decides a b) xs ys _ refl
@@ -17,22 +17,23 @@ texts_decides xs ys = slice_eq-Decides (λ a b. bytes_eq-Decides a b) xs ys _ re
 sites_decides : (xs ys : List ℕ) → Decides (pointwise Rattle.std.specs.Prelude.nat_eq xs ys) (xs ≡ ys)
 sites_decides xs ys = slice_eq-Decides Decides-eqb xs ys _ refl
 
-option_decides : (a b : Option (List ℕ)) → Decides (same_option a b) (a ≡ b)
+option_decides : (a b : Option (List ℕ)) → Decides (option_eq same_text a b) (a ≡ b)
 option_decides None None = (λ _. refl, λ _. refl)
 option_decides None (Some b) = (λ h. absurd (false≢true h), λ e. cc)
 option_decides (Some a) None = (λ h. absurd (false≢true h), λ e. cc)
 option_decides (Some a) (Some b) = Decides-like _ (λ e. ap Some e) (λ e. cc) (bytes_eq-Decides a b)
 
-body_decides : (b c : Body) → Decides (same_body b c) (b ≡ c)
+pub body_decides : (b c : Body) → Decides (same_body b c) (b ≡ c)
+unfolding same_body
 body_decides (Note items) (Note items') = Decides-like _ (λ e. ap Note e) (λ e. cc) (texts_decides items items')
 body_decides (Note items) (Ship items' sites' outside') = (λ h. absurd (false≢true h), λ e. cc)
 body_decides (Note items) (Make id' ins' outs') = (λ h. absurd (false≢true h), λ e. cc)
 body_decides (Ship items sites outside) (Note items') = (λ h. absurd (false≢true h), λ e. cc)
-body_decides (Ship items sites outside) (Ship items' sites' outside') = Decides-like _ (λ e. cc) (λ e. (cc, (cc, cc))) (Decides-and _ _ (texts_decides items items') (Decides-and _ _ (sites_decides sites sites') (texts_decides outside outside')))
+body_decides (Ship items sites outside) (Ship items' sites' outside') = Decides-like _ (λ e. cc) (λ e. (cc, (cc, cc))) (Decides-and _ _ (sites_decides sites sites') (Decides-and _ _ (texts_decides outside outside') (texts_decides items items')))
 body_decides (Ship items sites outside) (Make id' ins' outs') = (λ h. absurd (false≢true h), λ e. cc)
 body_decides (Make id ins outs) (Note items') = (λ h. absurd (false≢true h), λ e. cc)
 body_decides (Make id ins outs) (Ship items' sites' outside') = (λ h. absurd (false≢true h), λ e. cc)
-body_decides (Make id ins outs) (Make id' ins' outs') = Decides-like _ (λ e. cc) (λ e. (cc, (cc, cc))) (Decides-and _ _ (option_decides id id') (Decides-and _ _ (texts_decides ins ins') (texts_decides outs outs')))
+body_decides (Make id ins outs) (Make id' ins' outs') = Decides-like _ (λ e. cc) (λ e. (cc, (cc, cc))) (Decides-and _ _ (option_decides id id') (Decides-and _ _ (texts_decides outs outs') (texts_decides ins ins')))
 
 same_parts : (e f : Content) → (e.id ≡ f.id) × ((e.instant ≡ f.instant) × (e.body ≡ f.body)) → e ≡ f
 same_parts e f h =

@@ -3,5 +3,7 @@ pub mod ContentLaws
 pub mod Each
 pub mod Gathered
 pub mod Lists
+pub mod Carried
 pub mod Plain
+pub mod Listed
 pub mod SiteLemmas

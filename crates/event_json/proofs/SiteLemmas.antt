@@ -2,14 +2,15 @@
 use Rattle.std.proofs.Common.{◌≡◌, ℕ, ◌<◌, Bool, true, false, cond, not, ◌||◌, ◌&&◌, List, [], ◌∷◌, ◌++◌, map, Option, Some, None, length, refl, sym, ap, ◌∙◌, arith, length-append}
 use Rattle.std.specs.Prelude.{nat_le, nat_lt, is_some, bytes_eq, flat_map}
 use Rattle.std.specs.List.{list_all, list_any}
+use Rattle.std.proofs.lemmas.Option.{same_Some}
 use Rattle.std.proofs.lemmas.List.{map-append}
 use Rattle.std.proofs.lemmas.List.Folds.{list_all-append}
 use Rattle.std.proofs.lemmas.Grind.{flat_map-append}
 use Rattle.std.proofs.lemmas.List.{append-nil}
 use Rattle.event_json.specs.declared.site_lists.SitesFault.{SitesFault}
-use Rattle.event_json.specs.declared.site_lists.SitesFault.TheVariants.{BadName, NameTaken, TooMany, BadAddress, AddressTaken}
-use Rattle.event_json.specs.Texts.{is_plain}
-use Rattle.event_json.specs.Sites.{Site, is_site_name, named, addressed, repeats, is_site, AreSites, sites_fault}
+use Rattle.event_json.specs.declared.site_lists.SitesFault.TheVariants.{NoMemory, BadName, NameTaken, TooMany, BadAddress, AddressTaken}
+use Rattle.epc_core.specs.Items.{is_plain}
+use Rattle.event_json.specs.Sites.{Site, is_site_name, named, addressed, repeats, is_site, AreSites, sites_fault, IsCause}
 use Rattle.event_json.proofs.Apart.{neither, no_or, any_same, any_mapped, any_flat, is_some-position, meets, repeats-append}
 
 -- a test that found no fault
@@ -42,6 +43,30 @@ free sites name addresses e =
     let sizes = neither (nat_le 16 (length sites)) (nat_lt 16 (length addresses)) c.0 in
     let taken = neither (list_any (λ a. is_some (addressed sites a)) addresses) (repeats addresses) f.0 in
     record { good_name = positive _ a.0; new_name = b.0; room = sizes.0; few = sizes.1; plain = positive _ d.0; new_addresses = taken.0; once = taken.1 }
+
+-- no want of memory is found
+not_memory : (b : Bool) (fault : SitesFault) (rest : Option SitesFault) → (fault ≡ NoMemory → ⊥) → cond b (Some fault) rest ≡ Some NoMemory → rest ≡ Some NoMemory
+not_memory true fault rest other e = absurd (other (same_Some fault NoMemory e))
+not_memory false fault rest other e = e
+
+no_memory_found : (sites : List Site) (name : List ℕ) (addresses : List (List ℕ)) → sites_fault sites name addresses ≡ Some NoMemory → ⊥
+unfolding sites_fault
+no_memory_found sites name addresses e =
+    let a = not_memory (not (is_site_name name)) BadName _ (λ q. cc) e in
+    let b = not_memory (is_some (named sites name)) NameTaken _ (λ q. cc) a in
+    let c = not_memory (nat_le 16 (length sites) || nat_lt 16 (length addresses)) TooMany _ (λ q. cc) b in
+    let d = not_memory (not (list_all is_plain addresses)) BadAddress _ (λ q. cc) c in
+    let f = not_memory (list_any (λ a. is_some (addressed sites a)) addresses || repeats addresses) AddressTaken None (λ q. cc) d in
+    let no : ⊥ = cc in no
+
+pub is_cause : (sites : List Site) (name : List ℕ) (addresses : List (List ℕ)) (fault : SitesFault) → sites_fault sites name addresses ≡ Some fault
+    → IsCause fault (sites_fault sites name addresses)
+is_cause sites name addresses NoMemory e = absurd (no_memory_found sites name addresses e)
+is_cause sites name addresses BadName e = e
+is_cause sites name addresses NameTaken e = e
+is_cause sites name addresses TooMany e = e
+is_cause sites name addresses BadAddress e = e
+is_cause sites name addresses AddressTaken e = e
 
 -- there is room for one more
 pub has_room : (sites : List Site) (name : List ℕ) (addresses : List (List ℕ)) → sites_fault sites name addresses ≡ None → length sites < 16

@@ -1,7 +1,9 @@
 -- Whether two events have the same content: the same eventID, instant and body, lists in order.
-use Rattle.std.specs.Prelude.{ℕ, Bool, true, false, ◌&&◌, List, Option, Some, None, nat_eq}
-use Rattle.std.specs.Ordering.{int_eq}
-use Rattle.std.specs.Cmp.Lexicographic.{pointwise}
+use Rattle.std.specs.Prelude.{ℕ, Bool, List, [], Option, None, nat_eq}
+use Rattle.std.specs.Option.{option_eq}
+use Rattle.std.specs.Ordering.{int_eq, on, eq_of_both}
+use Rattle.std.specs.Cmp.{IsEquivalence, and_equiv, on_equiv, nat_eq_equiv, int_eq_equiv}
+use Rattle.std.specs.Cmp.Lexicographic.{pointwise, lists_equiv, options_equiv, nat_list_eq_equiv}
 use Rattle.event_json.specs.Events.{Content}
 use Rattle.event_json.specs.declared.bodies.Body.{Body}
 use Rattle.event_json.specs.declared.bodies.Body.TheVariants.{Note, Ship, Make}
@@ -12,23 +14,49 @@ same_text = pointwise nat_eq
 abbrev pub same_texts : List (List ℕ) → List (List ℕ) → Bool
 same_texts = pointwise same_text
 
--- both none, or equal
-abbrev pub same_option : Option (List ℕ) → Option (List ℕ) → Bool
-same_option None None = true
-same_option None (Some b) = false
-same_option (Some a) None = false
-same_option (Some a) (Some b) = same_text a b
+-- which of the three a body is, and its parts; a part that it hasn't is empty
+abbrev pub kind_of : Body → ℕ
+kind_of (Note items) = 0
+kind_of (Ship items sites outside) = 1
+kind_of (Make id ins outs) = 2
 
-abbrev pub same_body : Body → Body → Bool
-same_body (Note items) (Note items') = same_texts items items'
-same_body (Note items) (Ship items' sites' outside') = false
-same_body (Note items) (Make id' ins' outs') = false
-same_body (Ship items sites outside) (Note items') = false
-same_body (Ship items sites outside) (Ship items' sites' outside') = same_texts items items' && (pointwise nat_eq sites sites' && same_texts outside outside')
-same_body (Ship items sites outside) (Make id' ins' outs') = false
-same_body (Make id ins outs) (Note items') = false
-same_body (Make id ins outs) (Ship items' sites' outside') = false
-same_body (Make id ins outs) (Make id' ins' outs') = same_option id id' && (same_texts ins ins' && same_texts outs outs')
+abbrev pub id_of : Body → Option (List ℕ)
+id_of (Note items) = None
+id_of (Ship items sites outside) = None
+id_of (Make id ins outs) = id
+
+abbrev pub sites_of : Body → List ℕ
+sites_of (Note items) = []
+sites_of (Ship items sites outside) = sites
+sites_of (Make id ins outs) = []
+
+abbrev pub goes_to : Body → List (List ℕ)
+goes_to (Note items) = []
+goes_to (Ship items sites outside) = outside
+goes_to (Make id ins outs) = outs
+
+abbrev pub comes_from : Body → List (List ℕ)
+comes_from (Note items) = items
+comes_from (Ship items sites outside) = items
+comes_from (Make id ins outs) = ins
+
+unfoldable pub same_body : Body → Body → Bool
+same_body = eq_of_both (on kind_of nat_eq) (eq_of_both (on id_of (option_eq same_text)) (eq_of_both (on sites_of (pointwise nat_eq))
+    (eq_of_both (on goes_to same_texts) (on comes_from same_texts))))
 
 unfoldable pub same_content : Content → Content → Bool
-same_content e f = same_option e.id f.id && (int_eq e.instant f.instant && same_body e.body f.body)
+same_content = eq_of_both (on (λ e. e.id) (option_eq same_text)) (eq_of_both (on (λ e. e.instant) int_eq) (on (λ e. e.body) same_body))
+
+-- both are equivalences, as `==` has to be
+pub body_equiv : IsEquivalence same_body
+unfolding same_body
+body_equiv =
+    let texts = lists_equiv nat_list_eq_equiv in
+    and_equiv (on_equiv kind_of nat_eq_equiv) (and_equiv (on_equiv id_of (options_equiv nat_list_eq_equiv))
+    (and_equiv (on_equiv sites_of nat_list_eq_equiv) (and_equiv (on_equiv goes_to texts) (on_equiv comes_from texts))))
+
+pub content_equiv : IsEquivalence same_content
+unfolding same_content
+content_equiv =
+    and_equiv (on_equiv (λ e. e.id) (options_equiv nat_list_eq_equiv))
+    (and_equiv (on_equiv (λ e. e.instant) int_eq_equiv) (on_equiv (λ e. e.body) body_equiv))

@@ -1,33 +1,15 @@
 -- Why a document is refused. The JSON form of an event: GS1 EPCIS 2.0, section 9.
-use Rattle.std.specs.Prelude.{◌≡◌, ℕ, List, codes, Result, Ok, Err}
+use Rattle.std.specs.Prelude.{◌≡◌, ℕ, Result, Ok, Err, ⊤}
+use Rattle.epc_core.specs.declared.items.EpcFault.{EpcFault}
+use Rattle.epc_core.specs.declared.items.EpcFault.TheVariants as epcs
 use Rattle.event_json.specs.declared.doc_faults.DocField.{DocField}
-use Rattle.event_json.specs.declared.doc_faults.DocField.TheVariants as fields
+use Rattle.event_json.specs.declared.doc_faults.DocFaultKind.TheVariants as kinds
 use Rattle.event_json.specs.declared.doc_faults.Flaw.{Flaw}
 use Rattle.event_json.specs.declared.doc_faults.CheckFault.{CheckFault}
 use Rattle.event_json.specs.declared.doc_faults.CheckFault.TheVariants as checks
 use Rattle.event_json.specs.declared.doc_faults.DocFault.{DocFault}
 use Rattle.event_json.specs.declared.doc_faults.ReadFault.{ReadFault}
 use Rattle.event_json.specs.declared.doc_faults.ReadFault.TheVariants as reads
-
--- a field as its member is spelled
-abbrev pub name_of : DocField → List ℕ
-name_of fields.Document = codes "document"
-name_of fields.EventList = codes "eventList"
-name_of fields.Event = codes "event"
-name_of fields.Type = codes "type"
-name_of fields.ErrorDeclaration = codes "errorDeclaration"
-name_of fields.QuantityList = codes "quantityList"
-name_of fields.InputQuantityList = codes "inputQuantityList"
-name_of fields.OutputQuantityList = codes "outputQuantityList"
-name_of fields.EventId = codes "eventID"
-name_of fields.EventTime = codes "eventTime"
-name_of fields.EventTimeZoneOffset = codes "eventTimeZoneOffset"
-name_of fields.Action = codes "action"
-name_of fields.EpcList = codes "epcList"
-name_of fields.DestinationList = codes "destinationList"
-name_of fields.InputEpcList = codes "inputEPCList"
-name_of fields.OutputEpcList = codes "outputEPCList"
-name_of fields.TransformationId = codes "transformationID"
 
 -- one check after another: the first fault wins
 infixl 10 ◌>>=◌
@@ -49,6 +31,16 @@ abbrev pub Finds : {X : Type 0} → Result X CheckFault → Result X Flaw → Ty
 Finds (Ok x) found = found ≡ Ok x
 Finds (Err e) found = Fails e found
 
+-- what a check that takes no memory and keeps nothing returned is whether its definition finds something, or else the fault
+abbrev pub Passes : {Y E : Type 0} → Result ⊤ E → Result Y E → Type 0
+Passes {Y} (Ok _) found = (y : Y) × (found ≡ Ok y)
+Passes (Err e) found = found ≡ Err e
+
+-- the same of a check that keeps what view shows of it
+abbrev pub PassesAs : {X Y E : Type 0} → (Y → X) → Result X E → Result Y E → Type 0
+PassesAs {X} {Y} view (Ok x) found = (y : Y) × (found ≡ Ok y) × (view y ≡ x)
+PassesAs view (Err e) found = found ≡ Err e
+
 -- what a call returned is what the definition gives, unless memory ran out
 abbrev pub Refuses : {Y : Type 0} → ReadFault → Result Y DocFault → Type 0
 Refuses reads.NoMemory given = Unit {0}
@@ -62,3 +54,10 @@ Gives (Err e) given = Refuses e given
 abbrev pub at_event : {A : Type 0} → ℕ → Result A Flaw → Result A DocFault
 at_event n (Ok x) = Ok x
 at_event n (Err flaw) = Err (record { event = n; field = flaw.field; kind = flaw.kind })
+
+-- why a text of this field wasn't read as an EPC, as a fault of a check
+abbrev pub check_fault_of : DocField → EpcFault → CheckFault
+check_fault_of field epcs.NoMemory = checks.NoMemory
+check_fault_of field epcs.Empty = checks.Flaw (record { field = field; kind = kinds.BadEpc })
+check_fault_of field epcs.TooLong = checks.Flaw (record { field = field; kind = kinds.BadEpc })
+check_fault_of field (epcs.BadByte place) = checks.Flaw (record { field = field; kind = kinds.BadEpc })

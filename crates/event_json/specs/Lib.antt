@@ -6,5 +6,6 @@ pub mod Events
 pub mod Faults
 pub mod ItemLists
 pub mod Members
+pub mod Names
+pub mod Laws
 pub mod Sites
-pub mod Texts

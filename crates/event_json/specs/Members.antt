@@ -5,8 +5,9 @@ use Rattle.serde_json.specs.Find.{get, as_null, as_str, as_array}
 use Rattle.event_json.specs.declared.doc_faults.DocField.{DocField}
 use Rattle.event_json.specs.declared.doc_faults.DocFaultKind.TheVariants.{Missing, WrongShape}
 use Rattle.event_json.specs.declared.doc_faults.Flaw.{Flaw}
-use Rattle.event_json.specs.Faults.{name_of, ◌>>=◌}
-use Rattle.event_json.specs.Texts.{is_plain}
+use Rattle.event_json.specs.Faults.{◌>>=◌}
+use Rattle.event_json.specs.Names.{field_name}
+use Rattle.epc_core.specs.Items.{is_plain}
 
 -- null counts as absent
 abbrev pub present : Data → Option Data
@@ -18,7 +19,7 @@ member_named name d = option_and_then present (get name d)
 
 -- the member of this field
 abbrev pub member_of : DocField → Data → Option Data
-member_of field d = member_named (name_of field) d
+member_of field d = member_named (field_name field) d
 
 -- a value, or the flaw where there is none
 abbrev pub or_flaw : {A : Type 0} → Flaw → Option A → Result A Flaw

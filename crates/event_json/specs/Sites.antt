@@ -1,6 +1,6 @@
 use Rattle.std.specs.Prelude.{ℕ, Bool, false, not, ◌&&◌, ◌||◌, ◌==◌, nat_le, nat_lt, if◌then◌else◌, List, [], ◌∷◌, length, Option, Some, None, is_some, position, bytes_eq, ◌≡◌, ◌≤◌, IsTrue, IsFalse, map, flat_map}
 use Rattle.std.specs.List.{list_all, list_any}
-use Rattle.event_json.specs.Texts.{is_plain}
+use Rattle.epc_core.specs.Items.{is_plain}
 use Rattle.event_json.specs.declared.site_lists.SitesFault.{SitesFault}
 use Rattle.event_json.specs.declared.site_lists.SitesFault.TheVariants.{NoMemory, BadName, NameTaken, TooMany, BadAddress, AddressTaken}
 
@@ -50,9 +50,9 @@ sites_fault sites name addresses =
     if not (list_all is_plain addresses) then Some BadAddress else
     if list_any (λ a. is_some (addressed sites a)) addresses || repeats addresses then Some AddressTaken else None
 
--- why a call was refused is what was found, unless memory ran out
+-- why a call was refused is what was found, and memory ran out only where nothing was found
 abbrev pub IsCause : SitesFault → Option SitesFault → Type 0
-IsCause NoMemory found = Unit {0}
+IsCause NoMemory found = found ≡ None
 IsCause BadName found = found ≡ Some BadName
 IsCause NameTaken found = found ≡ Some NameTaken
 IsCause TooMany found = found ≡ Some TooMany

@@ -1,6 +1,6 @@
-ghost use Rattle.std.specs.Prelude.{◌≡◌, ◌↔◌, IsTrue, IfOk};
+ghost use Rattle.std.specs.Prelude.{◌≡◌, IfOk};
 
-use crate::copies::{copy_id, same_id, same_items, same_sites, same_texts};
+use crate::copies::copy_id;
 use crate::sequences::Sequence;
 use crate::site_numbers::SiteNo;
 use crate::texts::PlainText;
@@ -53,15 +53,21 @@ impl Body {
             }),
         }
     }
+}
 
-    /// Whether the two say the same, with their lists in the same order.
-    pub fn is_same(&self, other: &Body) -> bool
-        ensures { IsTrue result ↔ (self.now ≡ other.now) }
-    {
+/// Two bodies are equal where they say the same, with their lists in the same order.
+impl PartialEq for Body {
+    ghost use Rattle.std.specs.Cmp as Cmp;
+    ghost use Rattle.event_json.specs.Contents.{same_body, body_equiv};
+
+    ghost eq = { same_body };
+
+    ghost laws = { Cmp.partial_equiv_from_equiv body_equiv };
+
+    #[tactic(auto, unfolding(crate::specs::Contents::same_body))]
+    fn eq(&self, other: &Body) -> bool {
         match (self, other) {
-            (Body::Note { items }, Body::Note { items: others }) => {
-                same_items(items.as_slice(), others.as_slice())
-            }
+            (Body::Note { items }, Body::Note { items: others }) => items == others,
             (
                 Body::Ship {
                     items,
@@ -73,11 +79,7 @@ impl Body {
                     sites: sites2,
                     outside: outside2,
                 },
-            ) => {
-                same_items(items.as_slice(), items2.as_slice())
-                    && same_sites(sites.as_slice(), sites2.as_slice())
-                    && same_texts(outside.as_slice(), outside2.as_slice())
-            }
+            ) => sites == sites2 && outside == outside2 && items == items2,
             (
                 Body::Make { id, ins, outs },
                 Body::Make {
@@ -85,12 +87,14 @@ impl Body {
                     ins: ins2,
                     outs: outs2,
                 },
-            ) => {
-                same_id(id, id2)
-                    && same_items(ins.as_slice(), ins2.as_slice())
-                    && same_items(outs.as_slice(), outs2.as_slice())
-            }
+            ) => id == id2 && outs == outs2 && ins == ins2,
             _ => false,
         }
     }
+}
+
+impl Eq for Body {
+    ghost use Rattle.event_json.specs.Contents.{body_equiv};
+
+    ghost laws = { body_equiv };
 }

@@ -87,7 +87,7 @@ pub fn without_quantities(value: &Value, field: DocField) -> Result<(), Flaw>
 
 /// The instant that a text names, in nanoseconds from 1970 in UTC.
 #[tactic(auto, unfolding(crate::specs::Checks::instant_of))]
-fn instant(text: &str) -> Result<i128, Flaw>
+pub fn instant(text: &str) -> Result<i128, Flaw>
     ensures value { result ≡ instant_of text.now }
     ensures fits { IfOk result IsInstant }
 {
@@ -125,7 +125,7 @@ fn is_offset(text: &str) -> bool
 
 /// Refuses a text that is no time zone offset.
 #[tactic(auto, unfolding(crate::specs::Checks::offset_checked))]
-fn check_offset(text: &str) -> Result<(), Flaw>
+pub fn check_offset(text: &str) -> Result<(), Flaw>
     ensures { result ≡ offset_checked text.now }
 {
     if is_offset(text) {

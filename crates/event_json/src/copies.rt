@@ -1,6 +1,6 @@
-//! Copies of the parts of an event, and whether two of them are equal.
+//! Copies of the parts of an event.
 
-ghost use Rattle.std.specs.Prelude.{◌≡◌, ◌↔◌, IsTrue, IfOk};
+ghost use Rattle.std.specs.Prelude.{◌≡◌, IfOk};
 
 use crate::events::Event;
 use crate::site_numbers::SiteNo;
@@ -46,37 +46,5 @@ pub fn copy_id(alloc: Global, id: &Option<PlainText>) -> Result<Option<PlainText
     match id {
         Some(text) => Ok(Some(text.copy(alloc)?)),
         None => Ok(None),
-    }
-}
-
-/// Whether two lists have the same items, in order.
-pub fn same_items(a: &[Epc], b: &[Epc]) -> bool
-    ensures { IsTrue result ↔ (a.now ≡ b.now) }
-{
-    a == b
-}
-
-/// Whether two lists have the same sites, in order.
-pub fn same_sites(a: &[SiteNo], b: &[SiteNo]) -> bool
-    ensures { IsTrue result ↔ (a.now ≡ b.now) }
-{
-    a == b
-}
-
-/// Whether two lists have the same texts, in order.
-pub fn same_texts(a: &[PlainText], b: &[PlainText]) -> bool
-    ensures { IsTrue result ↔ (a.now ≡ b.now) }
-{
-    a == b
-}
-
-/// Whether both are the same text, or none.
-pub fn same_id(a: &Option<PlainText>, b: &Option<PlainText>) -> bool
-    ensures { IsTrue result ↔ (a.now ≡ b.now) }
-{
-    match (a, b) {
-        (Some(x), Some(y)) => x.is_same(y),
-        (None, None) => true,
-        _ => false,
     }
 }

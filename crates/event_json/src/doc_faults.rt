@@ -1,58 +1,81 @@
 //! Why a document is refused.
 
 ghost use Rattle.std.specs.Prelude.{◌≡◌};
-ghost use Rattle.event_json.specs.Faults.{name_of};
+ghost use Rattle.event_json.specs.Names.{kind_name, field_name};
 
 use std::alloc::{AllocError, AllocFailed};
+use std::error::Error;
 use std::fmt;
-use thiserror::Error;
 
 /// The kinds of fault, numbered from 1.
-#[derive(Clone, Copy, Debug, PartialEq, Eq, Error)]
+#[derive(Clone, Copy, Debug, PartialEq, Eq)]
 pub enum DocFaultKind {
     /// The bytes are no JSON text in UTF-8, or it nests more than 127 deep.
-    #[error("Syntax")]
     Syntax = 1,
     /// The value is no EPCISDocument with a list of events, and no event of the standard.
-    #[error("NotDocument")]
     NotDocument = 2,
     /// The list has more than 1,000 events.
-    #[error("TooManyEvents")]
     TooManyEvents = 3,
     /// The event's type is wanting or is none of the standard's five.
-    #[error("NoType")]
     NoType = 4,
     /// A member that has to be there is absent or null.
-    #[error("Missing")]
     Missing = 5,
     /// A member is of another JSON type than it has to be, or its text isn't plain.
-    #[error("WrongShape")]
     WrongShape = 6,
     /// The event time is no instant.
-    #[error("Time")]
     Time = 7,
     /// The event's time zone offset isn't written as a sign, hours to 14, a colon and minutes.
-    #[error("Offset")]
     Offset = 8,
     /// The action is none of ADD, OBSERVE and DELETE.
-    #[error("Action")]
     Action = 9,
     /// A member of a list is no EPC text.
-    #[error("BadEpc")]
     BadEpc = 10,
     /// A list of items or destinations has more than 1,000 members.
-    #[error("TooManyEpcs")]
     TooManyEpcs = 11,
     /// The event has quantities, which aren't traced.
-    #[error("Quantities")]
     Quantities = 12,
     /// The event is declared to be in error, or retracts another.
-    #[error("ErrorDeclared")]
     ErrorDeclared = 13,
     /// A transformation without an id lacks its inputs or its outputs.
-    #[error("HalfTransformation")]
     HalfTransformation = 14,
 }
+
+impl DocFaultKind {
+    /// The kind by its name.
+    pub fn name(self) -> &'static str
+        ensures { result.now ≡ kind_name self }
+    {
+        match self {
+            DocFaultKind::Syntax => "Syntax",
+            DocFaultKind::NotDocument => "NotDocument",
+            DocFaultKind::TooManyEvents => "TooManyEvents",
+            DocFaultKind::NoType => "NoType",
+            DocFaultKind::Missing => "Missing",
+            DocFaultKind::WrongShape => "WrongShape",
+            DocFaultKind::Time => "Time",
+            DocFaultKind::Offset => "Offset",
+            DocFaultKind::Action => "Action",
+            DocFaultKind::BadEpc => "BadEpc",
+            DocFaultKind::TooManyEpcs => "TooManyEpcs",
+            DocFaultKind::Quantities => "Quantities",
+            DocFaultKind::ErrorDeclared => "ErrorDeclared",
+            DocFaultKind::HalfTransformation => "HalfTransformation",
+        }
+    }
+}
+
+impl fmt::Display for DocFaultKind {
+    ghost use Rattle.std.specs.Prelude.{Some};
+    ghost use Rattle.event_json.specs.Names.{kind_name};
+
+    ghost output = { λ kind. Some (kind_name kind) };
+
+    fn fmt<W: fmt::Write>(&self, f: &mut fmt::Formatter<W>) -> fmt::Result {
+        f.write_str(self.name())
+    }
+}
+
+impl Error for DocFaultKind {}
 
 /// The member at which a document is refused, or the document or event itself.
 #[derive(Clone, Copy, Debug, PartialEq, Eq)]
@@ -96,7 +119,7 @@ pub enum DocField {
 impl DocField {
     /// The field as its member is spelled.
     pub fn name(self) -> &'static str
-        ensures { result.now ≡ name_of self }
+        ensures { result.now ≡ field_name self }
     {
         match self {
             DocField::Document => "document",
@@ -122,9 +145,9 @@ impl DocField {
 
 impl fmt::Display for DocField {
     ghost use Rattle.std.specs.Prelude.{Some};
-    ghost use Rattle.event_json.specs.Faults.{name_of};
+    ghost use Rattle.event_json.specs.Names.{field_name};
 
-    ghost output = { λ field. Some (name_of field) };
+    ghost output = { λ field. Some (field_name field) };
 
     fn fmt<W: fmt::Write>(&self, f: &mut fmt::Formatter<W>) -> fmt::Result {
         f.write_str(self.name())
@@ -132,7 +155,7 @@ impl fmt::Display for DocField {
 }
 
 /// The first fault of a document.
-#[derive(Clone, Copy, Debug, PartialEq, Eq, Error)]
+#[derive(Clone, Copy, Debug, PartialEq, Eq, thiserror::Error)]
 #[error("{kind} event {event} field {field}")]
 pub struct DocFault {
     /// The event's place in the list, from 1 and with the skipped ones counted; 0 for the document.
@@ -144,7 +167,7 @@ pub struct DocFault {
 }
 
 /// Why no document was read.
-#[derive(Clone, Copy, Debug, PartialEq, Eq, Error)]
+#[derive(Clone, Copy, Debug, PartialEq, Eq, thiserror::Error)]
 pub enum ReadFault {
     /// Memory ran out.
     #[error("memory ran out")]

@@ -1,6 +1,6 @@
 //! Reading a document.
 
-ghost use Rattle.std.specs.Prelude.{◌≡◌, ◌≤◌, IsUtf8, IfOk, OnOk, length, option_map};
+ghost use Rattle.std.specs.Prelude.{◌≡◌, ◌≤◌, ◌<◌, IsUtf8, IsOk, IfOk, OnOk, Err, length, option_map};
 ghost use Rattle.serde_json.specs.View.{view, items_view};
 ghost use Rattle.event_json.specs.Documents.{whole, listed, event_list, few_events, numbered_event, events_of, document_of, text_document};
 ghost use Rattle.event_json.specs.Faults.{Shows, Gives};
@@ -12,7 +12,9 @@ use crate::doc_faults::{CheckFault, DocFault, DocFaultKind, DocField, ReadFault}
 use crate::event_reading::event;
 use crate::event_types::EventType;
 use crate::events::Event;
+use crate::foreign_faults::json_fault;
 use crate::members::{member, member_named};
+use crate::passing::check_events;
 use crate::sequences::Sequence;
 use crate::site_lists::Sites;
 use serde_json::Value;
@@ -135,13 +137,20 @@ fn check_count(list: &[Value]) -> Result<(), DocFault>
     }
 }
 
-/// The events of a document's value.
+/// The events of a document's value, with destinations looked up among the sites; or its first fault.
+///
+/// Each event is checked before the first is kept, so a fault is found without taking memory.
+///
+/// # Errors
+/// `Doc` with the document's first fault, or `NoMemory` where it has none.
 #[tactic(auto, unfolding(crate::specs::Documents::document_of))]
-fn document(alloc: Global, value: &Value, sites: &Sites) -> Result<Doc, ReadFault>
-    ensures { Gives result (document_of sites.now (view value.now)) }
+pub fn read_value(alloc: Global, value: &Value, sites: &Sites) -> Result<Doc, ReadFault>
+    ensures gives { Gives result (document_of sites.now (view value.now)) }
+    ensures memory { result ≡ Err ReadFault.NoMemory → IsOk (document_of sites.now (view value.now)) }
 {
     let list = event_list(value)?;
     check_count(list)?;
+    check_events(list)?;
     each_event(alloc, sites, list)
 }
 
@@ -149,20 +158,16 @@ fn document(alloc: Global, value: &Value, sites: &Sites) -> Result<Doc, ReadFaul
 /// bare event, with destinations looked up among the sites; or its first fault.
 ///
 /// # Errors
-/// `Doc` with the document's first fault, or `NoMemory`.
+/// `Doc` with the document's first fault, or `NoMemory`, which comes of no empty bytes; once the bytes
+/// are read as JSON, it comes only of a document that has no fault (`read_value`).
 #[tactic(auto, unfolding(crate::specs::Documents::text_document))]
 pub fn read_document(alloc: Global, bytes: &[u8], sites: &Sites) -> Result<Doc, ReadFault>
     ensures text { IsUtf8 bytes.now → Gives result (text_document sites.now bytes.now) }
     ensures bytes { (IsUtf8 bytes.now → ⊥) → Gives result (Err (whole fields.Document kinds.Syntax)) }
+    ensures memory { result ≡ Err ReadFault.NoMemory → 0 < length bytes.now }
 {
     match Value::from_slice(alloc, bytes) {
-        Ok(value) => document(alloc, &value, sites),
-        Err(error) => {
-            if error.is_memory() {
-                Err(ReadFault::NoMemory)
-            } else {
-                Err(ReadFault::Doc(whole(DocField::Document, DocFaultKind::Syntax)))
-            }
-        }
+        Ok(value) => read_value(alloc, &value, sites),
+        Err(error) => Err(json_fault(&error)),
     }
 }

@@ -1,9 +1,8 @@
-ghost use Rattle.std.specs.Prelude.{◌≡◌, ◌↔◌, IsTrue, IfOk, option_map};
-ghost use Rattle.event_json.specs.Contents.{same_content};
+ghost use Rattle.std.specs.Prelude.{◌≡◌, IfOk, option_map};
 ghost use Rattle.event_json.specs.Events.{IsIdentifier, IsInstant, IsBody};
 
 use crate::bodies::Body;
-use crate::copies::{copy_id, same_id};
+use crate::copies::copy_id;
 use crate::texts::PlainText;
 use std::alloc::{AllocError, Global};
 use std::marker::Model;
@@ -75,21 +74,26 @@ impl Event {
             body,
         })
     }
+}
 
-    /// Whether the two have the same eventID, instant and body, with the lists in the same order.
-    pub fn is_same(&self, other: &Event) -> bool
-        ensures test { result ≡ same_content self.now other.now }
-        ensures same { IsTrue result ↔ (self.now ≡ other.now) }
-    {
-        self.has_parts_of(other)
-    }
+/// Two events are equal where they have the same eventID, instant and body, with the lists in the
+/// same order.
+impl PartialEq for Event {
+    ghost use Rattle.std.specs.Cmp as Cmp;
+    ghost use Rattle.event_json.specs.Contents.{same_content, content_equiv};
 
-    /// Whether the parts of the two are the same.
-    fn has_parts_of(&self, other: &Event) -> bool
-        ensures { IsTrue result ↔ (self.now ≡ other.now) }
-    {
-        same_id(&self.id, &other.id)
-            && self.instant == other.instant
-            && self.body.is_same(&other.body)
+    ghost eq = { same_content };
+
+    ghost laws = { Cmp.partial_equiv_from_equiv content_equiv };
+
+    #[tactic(auto, unfolding(crate::specs::Contents::same_content))]
+    fn eq(&self, other: &Event) -> bool {
+        self.id == other.id && self.instant == other.instant && self.body == other.body
     }
+}
+
+impl Eq for Event {
+    ghost use Rattle.event_json.specs.Contents.{content_equiv};
+
+    ghost laws = { content_equiv };
 }

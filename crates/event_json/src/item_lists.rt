@@ -7,10 +7,11 @@ ghost use Rattle.event_json.specs.ItemLists.{limit_checked, epc_of, epcs_of, des
 ghost use Rattle.event_json.specs.Members.{each};
 
 use crate::doc_faults::{CheckFault, DocFaultKind, DocField, Flaw};
+use crate::foreign_faults::epc_fault;
 use crate::members::{list, member_named, plain};
 use crate::sequences::Sequence;
 use crate::texts::PlainText;
-use epc_core::{Epc, EpcFault};
+use epc_core::Epc;
 use serde_json::Value;
 use std::alloc::Global;
 
@@ -19,7 +20,7 @@ const LIMIT: usize = 1000;
 
 /// Refuses a list of more than 1,000 members.
 #[tactic(auto, using(crate::proofs::Lists::items_count), unfolding(crate::specs::ItemLists::limit_checked))]
-fn check_limit(list: &[Value], field: DocField) -> Result<(), Flaw>
+pub fn check_limit(list: &[Value], field: DocField) -> Result<(), Flaw>
     ensures checked { result ≡ limit_checked field (items_view list.now) }
     ensures few { OnOk result (length list.now ≤ 1000) }
 {
@@ -46,11 +47,7 @@ fn epc(alloc: Global, value: &Value, field: DocField) -> Result<Epc, CheckFault>
     };
     match Epc::read(alloc, text) {
         Ok(epc) => Ok(epc),
-        Err(EpcFault::NoMemory) => Err(CheckFault::NoMemory),
-        Err(_) => Err(CheckFault::Flaw(Flaw {
-            field,
-            kind: DocFaultKind::BadEpc,
-        })),
+        Err(fault) => Err(epc_fault(field, &fault)),
     }
 }
 

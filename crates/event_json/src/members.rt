@@ -8,7 +8,8 @@ ghost use Rattle.event_json.specs.Faults.{Shows, Finds};
 ghost use Rattle.event_json.specs.Members.{member_named, member_of, text_of, plain_of, identifier_of, list_of};
 
 use crate::doc_faults::{CheckFault, DocFaultKind, DocField, Flaw};
-use crate::texts::{PlainText, passes_as_plain};
+use crate::texts::PlainText;
+use epc_core::is_plain;
 use serde_json::Value;
 use std::alloc::Global;
 
@@ -60,7 +61,7 @@ pub fn plain(alloc: Global, value: &Value, field: DocField) -> Result<PlainText,
     let Some(text) = value.as_str() else {
         return Err(CheckFault::Flaw(wrong));
     };
-    if !passes_as_plain(text) {
+    if !is_plain(text) {
         return Err(CheckFault::Flaw(wrong));
     }
     Ok(PlainText::of(alloc, text)?)

@@ -75,3 +75,22 @@ impl<T: Copyable> Sequence<T> {
         Ok(Sequence::from_vec(copies))
     }
 }
+
+/// Two lists are equal where they have as many values and each equals the other's in its place.
+impl<T: PartialEq> PartialEq for Sequence<T> {
+    ghost use Rattle.std.specs.Cmp.Lexicographic.{pointwise, lists_per};
+
+    ghost eq = { pointwise T.eq };
+
+    ghost laws = { lists_per T.PartialEq.laws };
+
+    fn eq(&self, other: &Sequence<T>) -> bool {
+        self.as_slice() == other.as_slice()
+    }
+}
+
+impl<T: Eq> Eq for Sequence<T> {
+    ghost use Rattle.std.specs.Cmp.Lexicographic.{lists_equiv};
+
+    ghost laws = { lists_equiv T.Eq.laws };
+}

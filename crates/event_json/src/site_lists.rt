@@ -1,41 +1,66 @@
 //! The traced sites, each with the destination texts that stand for it.
 
-ghost use Rattle.std.specs.Prelude.{◌≡◌, ◌≢◌, ◌≤◌, ◌<◌, IfSome, is_some, ◌↔◌, ◌++◌, ◌∷◌, [], Some, None, IsTrue, IfOk, IfErr, OnOk, OnErr, map, length, slice_get, option_map, option_and_then, bytes_eq, string_bytes};
-ghost use Rattle.std.specs.List.{list_all, list_any};
-ghost use Rattle.event_json.specs.Texts.{is_plain};
-ghost use Rattle.event_json.specs.Sites.{Site, is_name_byte, is_site_name, named, addressed, repeats, sites_fault, AreSites, IsCause};
+ghost use Rattle.std.specs.Prelude.{◌≡◌, ◌≢◌, ◌≤◌, is_some, ◌↔◌, ◌++◌, ◌∷◌, [], Some, None, IsTrue, IfOk, IfErr, OnOk, OnErr, map, length, slice_get, option_map, option_and_then};
+ghost use Rattle.std.specs.List.{list_any};
+ghost use Rattle.event_json.specs.Names.{sites_fault_name};
+ghost use Rattle.event_json.specs.Sites.{named, addressed, sites_fault, AreSites, IsCause};
 
+use crate::site_checks::{are_plain, is_site_name, repeats};
+use crate::site_entries::{Entry, addresses_of, copy_entries, place_addressed, place_named};
 use crate::site_numbers::SiteNo;
-use crate::texts::{PlainText, passes_as_plain};
 use std::alloc::{AllocError, AllocFailed, Global};
+use std::error::Error;
+use std::fmt;
 use std::marker::Model;
-use thiserror::Error;
 
 /// The most sites, and the most addresses of a site.
 const LIMIT: usize = 16;
 
 /// Why a site isn't added.
-#[derive(Clone, Copy, Debug, PartialEq, Eq, Error)]
+#[derive(Clone, Copy, Debug, PartialEq, Eq)]
 pub enum SitesFault {
     /// Memory ran out.
-    #[error("memory ran out")]
     NoMemory,
     /// The name isn't 1 to 16 letters, digits, `_` or `-`.
-    #[error("BadName")]
     BadName,
     /// Another site has the name.
-    #[error("NameTaken")]
     NameTaken,
     /// There are 16 sites, or more than 16 addresses.
-    #[error("TooMany")]
     TooMany,
     /// An address isn't plain.
-    #[error("BadAddress")]
     BadAddress,
     /// An address stands twice, or is another site's.
-    #[error("AddressTaken")]
     AddressTaken,
 }
+
+impl SitesFault {
+    /// The fault by its name.
+    pub fn name(self) -> &'static str
+        ensures { result.now ≡ sites_fault_name self }
+    {
+        match self {
+            SitesFault::NoMemory => "NoMemory",
+            SitesFault::BadName => "BadName",
+            SitesFault::NameTaken => "NameTaken",
+            SitesFault::TooMany => "TooMany",
+            SitesFault::BadAddress => "BadAddress",
+            SitesFault::AddressTaken => "AddressTaken",
+        }
+    }
+}
+
+impl fmt::Display for SitesFault {
+    ghost use Rattle.std.specs.Prelude.{Some};
+    ghost use Rattle.event_json.specs.Names.{sites_fault_name};
+
+    ghost output = { λ fault. Some (sites_fault_name fault) };
+
+    fn fmt<W: fmt::Write>(&self, f: &mut fmt::Formatter<W>) -> fmt::Result {
+        f.write_str(self.name())
+    }
+}
+
+impl Error for SitesFault {}
 
 impl From<AllocError> for SitesFault {
     ghost use Rattle.event_json.specs.declared.site_lists.SitesFault.TheVariants.{NoMemory};
@@ -55,178 +80,6 @@ impl<T: Drop> From<AllocFailed<T>> for SitesFault {
     fn from(_error: AllocFailed<T>) -> SitesFault {
         SitesFault::NoMemory
     }
-}
-
-/// A site of the list.
-#[derive(Debug, Drop)]
-struct Entry {
-    name: String,
-    addresses: Vec<PlainText>,
-}
-
-impl Model for Entry {
-    ghost use Rattle.std.specs.Prelude.{string_bytes};
-    ghost use Rattle.event_json.specs.Sites.{Site};
-
-    ghost Value = { Site };
-
-    ghost view = { λ e. record { name = string_bytes e.name; addresses = e.addresses.items } };
-}
-
-impl Entry {
-    fn new(name: String, addresses: Vec<PlainText>) -> Entry
-        ensures { result ≡ record { name = string_bytes name; addresses = addresses.items } }
-    {
-        Entry { name, addresses }
-    }
-
-    fn name(&self) -> &str
-        ensures { result.now ≡ self.now.name }
-    {
-        self.name.as_str()
-    }
-
-    fn addresses(&self) -> &[PlainText]
-        ensures { result.now ≡ self.now.addresses }
-    {
-        self.addresses.as_slice()
-    }
-
-    fn has_address(&self, text: &str) -> bool
-        ensures { result ≡ list_any (λ a. bytes_eq a text.now) self.now.addresses }
-    {
-        self.addresses
-            .iter()
-            .any(|address| address.as_str() == text)
-    }
-
-    fn copy(&self, alloc: Global) -> Result<Entry, AllocError>
-        ensures { IfOk result (λ e. e ≡ self.now) }
-    {
-        let name = String::from_str(alloc, self.name.as_str())?;
-        let addresses = copy_addresses(alloc, self.addresses.as_slice())?;
-        Ok(Entry { name, addresses })
-    }
-}
-
-/// The place of the entry of this name.
-#[tactic(auto, unfolding(crate::specs::Sites::named))]
-fn place_named(entries: &[Entry], name: &str) -> Option<usize>
-    ensures value { result ≡ named entries.now name.now }
-    ensures within { IfSome result (λ place. place < length entries.now) }
-{
-    entries.iter().position(|entry| entry.name() == name)
-}
-
-/// The place of the entry that has this address.
-#[tactic(auto, unfolding(crate::specs::Sites::addressed))]
-fn place_addressed(entries: &[Entry], text: &str) -> Option<usize>
-    ensures value { result ≡ addressed entries.now text.now }
-    ensures within { IfSome result (λ place. place < length entries.now) }
-{
-    entries.iter().position(|entry| entry.has_address(text))
-}
-
-fn copy_addresses(alloc: Global, addresses: &[PlainText]) -> Result<Vec<PlainText>, AllocError>
-    ensures { IfOk result (λ v. v.items ≡ addresses.now) }
-{
-    let mut copies = Vec::new(alloc);
-    for address in addresses {
-        copies.push(address.copy(alloc)?)?;
-    }
-    Ok(copies)
-}
-
-fn copy_entries(alloc: Global, entries: &[Entry]) -> Result<Vec<Entry>, AllocError>
-    ensures { IfOk result (λ v. v.items ≡ entries.now) }
-{
-    let mut copies = Vec::new(alloc);
-    for entry in entries {
-        copies.push(entry.copy(alloc)?)?;
-    }
-    Ok(copies)
-}
-
-/// Copies of plain texts.
-fn addresses_of(alloc: Global, texts: &[&str]) -> Result<Vec<PlainText>, AllocError>
-    requires { IsTrue (list_all is_plain (map (λ t. t.now) texts.now)) }
-    ensures { IfOk result (λ v. v.items ≡ map (λ t. t.now) texts.now) }
-{
-    let mut addresses = Vec::new(alloc);
-    for text in texts {
-        addresses.push(PlainText::of(alloc, *text)?)?;
-    }
-    Ok(addresses)
-}
-
-/// Whether a site's name may have this byte.
-fn is_name_byte(b: u8) -> bool
-    ensures { result ≡ is_name_byte b }
-{
-    b.is_ascii_alphanumeric() || b == b'_' || b == b'-'
-}
-
-/// Whether a text is a site's name.
-fn is_site_name(text: &str) -> bool
-    ensures { result ≡ is_site_name text.now }
-{
-    let bytes = text.as_bytes();
-    1 <= bytes.len() && bytes.len() <= 16 && are_name_bytes(bytes)
-}
-
-/// Whether a site's name may have each of the bytes.
-fn are_name_bytes(bytes: &[u8]) -> bool
-    ensures { result ≡ list_all is_name_byte bytes.now }
-{
-    bytes.iter().all(|b| is_name_byte(*b))
-}
-
-/// Whether all texts are plain.
-fn are_plain(texts: &[&str]) -> bool
-    ensures { result ≡ list_all is_plain (map (λ t. t.now) texts.now) }
-{
-    for text in texts {
-        if !passes_as_plain(*text) {
-            return false;
-        }
-    }
-    true
-}
-
-/// Whether some text is an address of a site.
-fn some_addressed(sites: &Sites, texts: &[&str]) -> bool
-    ensures { result ≡ list_any (λ a. is_some (addressed sites.now a)) (map (λ t. t.now) texts.now) }
-{
-    for text in texts {
-        if sites.addressed(*text).is_some() {
-            return true;
-        }
-    }
-    false
-}
-
-/// Whether the text is among the others.
-fn is_among(text: &str, others: &[&str]) -> bool
-    ensures { result ≡ list_any (λ t. bytes_eq t text.now) (map (λ t. t.now) others.now) }
-{
-    for other in others {
-        if *other == text {
-            return true;
-        }
-    }
-    false
-}
-
-/// Whether some text stands twice.
-fn repeats(texts: &[&str]) -> bool
-    ensures { result ≡ repeats (map (λ t. t.now) texts.now) }
-{
-    for (place, text) in texts.iter().enumerate() {
-        if is_among(*text, &texts[place + 1..]) {
-            return true;
-        }
-    }
-    false
 }
 
 /// The traced sites, in the order of their numbers: at most 16, each with at most 16 addresses. No
@@ -352,7 +205,8 @@ impl Sites {
     ///
     /// # Errors
     /// The first of `BadName`, `NameTaken`, `TooMany`, `BadAddress` and `AddressTaken` that there is
-    /// cause for, or `NoMemory`. The sites then are as they were.
+    /// cause for, each found without taking memory, or `NoMemory` where there is cause for none. The
+    /// sites then are as they were.
     pub fn add(&mut self, name: &str, addresses: &[&str]) -> Result<SiteNo, SitesFault>
         ensures free { OnOk result (sites_fault self.old name.now (map (λ a. a.now) addresses.now) ≡ None) }
         ensures number { IfOk result (λ site. site ≡ length self.old) }
@@ -379,4 +233,16 @@ impl Sites {
         let sites = copy_entries(alloc, self.sites.as_slice())?;
         Ok(Sites { alloc, sites })
     }
+}
+
+/// Whether some text is an address of a site.
+fn some_addressed(sites: &Sites, texts: &[&str]) -> bool
+    ensures { result ≡ list_any (λ a. is_some (addressed sites.now a)) (map (λ t. t.now) texts.now) }
+{
+    for text in texts {
+        if sites.addressed(*text).is_some() {
+            return true;
+        }
+    }
+    false
 }

@@ -1,18 +1,9 @@
-ghost use Rattle.std.specs.Prelude.{◌≡◌, ◌↔◌, IsTrue, IfOk, IfSome, IsSome};
+ghost use Rattle.std.specs.Prelude.{◌≡◌, ◌↔◌, IfOk, IfSome, IsSome};
 ghost use Rattle.epc_core.specs.Spellings.{IsPlain};
-ghost use Rattle.event_json.specs.Texts.{is_plain};
 
 use epc_core::is_plain;
 use std::alloc::{AllocError, Global};
 use std::marker::Model;
-
-/// Whether a text is plain, as the definitions test it.
-pub fn passes_as_plain(text: &str) -> bool
-    ensures test { result ≡ is_plain text.now }
-    ensures plain { IsTrue result ↔ IsPlain text.now }
-{
-    is_plain(text)
-}
 
 /// A plain text: 1 to 512 bytes, none of them a space, a control byte or DEL.
 #[derive(Debug, Drop)]
@@ -68,13 +59,6 @@ impl PlainText {
         Ok(PlainText {
             text: String::from_str(alloc, self.text.as_str())?,
         })
-    }
-
-    /// Whether the two are the same text.
-    pub fn is_same(&self, other: &PlainText) -> bool
-        ensures { IsTrue result ↔ (self.now ≡ other.now) }
-    {
-        self.as_str() == other.as_str()
     }
 }
 

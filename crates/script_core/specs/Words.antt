@@ -2,7 +2,7 @@
 use Rattle.std.specs.Prelude.{ℕ, List, [], ◌∷◌, ◌++◌, codes, Option, Some, None, length, slice_get}
 use Rattle.std.specs.Fmt.{decimal}
 use Rattle.std.specs.List.{flat_map}
-use Rattle.event_json.specs.Faults.{name_of}
+use Rattle.event_json.specs.Names.{field_name}
 use Rattle.event_json.specs.Sites.{Site}
 use Rattle.event_json.specs.declared.doc_faults.DocFault.{DocFault}
 use Rattle.event_json.specs.declared.doc_faults.DocFaultKind.{DocFaultKind}
@@ -38,7 +38,7 @@ kind_name kinds.ErrorDeclared = codes "ErrorDeclared"
 kind_name kinds.HalfTransformation = codes "HalfTransformation"
 
 abbrev pub doc_fault_text : DocFault → List ℕ
-doc_fault_text fault = codes "Doc " ++ kind_name fault.kind ++ codes " event " ++ decimal fault.event ++ codes " field " ++ name_of fault.field
+doc_fault_text fault = codes "Doc " ++ kind_name fault.kind ++ codes " event " ++ decimal fault.event ++ codes " field " ++ field_name fault.field
 
 abbrev pub captured_text : ℕ → ℕ → ℕ → List ℕ
 captured_text fresh known skipped = codes "captured " ++ decimal fresh ++ codes " known " ++ decimal known ++ codes " skipped " ++ decimal skipped ++ 10 ∷ []

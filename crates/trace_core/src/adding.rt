@@ -96,7 +96,7 @@ fn standing_among(events: &[Event], event: &Event) -> Standing
 fn is_known(events: &[Event], event: &Event) -> bool
     ensures { result ≡ list_any (λ f. same_content f event.now) events.now }
 {
-    events.iter().any(|e| e.is_same(event))
+    events.iter().any(|e| *e == *event)
 }
 
 /// Whether the event has an eventID, and one of the events has it too.

@@ -19,5 +19,11 @@ returns-in-Ok c =
     let none : fault_of c.args.text.now ≡ None = ap fault_of (sym c.as_bytes.ensures.value) ∙ (sym c.fault_of.ensures ∙ c.in_default.is) in
     record {
       gives = reading_plain c.args.text.now none ∙ ap Ok (sym c.in-Ok.ensures.key);
+      memory = λ _. plain_from c.args.text.now none;
       spells = subst (Spells c.args.text.now) (sym c.in-Ok.ensures.key) (spells_key c.args.text.now (plain_from c.args.text.now none));
     }
+
+pub returns-in-Err-clause-memory : goal.returns-in-Err-clause-memory
+returns-in-Err-clause-memory c =
+    let none : fault_of c.args.text.now ≡ None = ap fault_of (sym c.as_bytes.ensures.value) ∙ (sym c.fault_of.ensures ∙ c.in_default.is) in
+    λ _. plain_from c.args.text.now none

@@ -1,10 +1,13 @@
 use Rattle.std.proofs.Common.{◌≡◌, ◌++◌, ◌∷◌, [], false, true, map, sym, ◌∙◌, arith, rules}
 use Rattle.event_json.specs.Sites.{Site}
-use Rattle.event_json.proofs.SiteLemmas.{has_room, free, one_more}
+use Rattle.event_json.proofs.SiteLemmas.{has_room, free, is_cause, one_more}
 use Rattle.event_json.proofs.site_lists.Sites.add.Goals as goal
 
 pub addresses_of-requires : goal.addresses_of-requires
 addresses_of-requires c = (free _ _ _ (sym c.fault_of.ensures ∙ c.in_default.is)).plain
+
+pub returns-in-Some-clause-cause : goal.returns-in-Some-clause-cause
+returns-in-Some-clause-cause c = is_cause c.args.self.now c.args.name.now _ _ (sym c.fault_of.ensures ∙ c.in-Some.is)
 
 pub returns-in_default-of-clause-cause : goal.returns-in_default-of-clause-cause
 returns-in_default-of-clause-cause c =

@@ -1,0 +1,5 @@
+use Rattle.event_json.proofs.ContentLaws.{body_decides, content_decides}
+use Rattle.event_json.proofs.laws.equal_is_same.Goals as goal
+
+pub returns : goal.returns
+returns c = (body_decides, content_decides)

@@ -1,0 +1,72 @@
+-- Laws of a document's reading: what any right definition of it meets, and together only this one.
+use Rattle.std.specs.Prelude.{◌≡◌, ◌↔◌, ℕ, zero, suc, ◌+◌, ◌<◌, ◌≤◌, ◌⊎◌, IsTrue, IsOk, List, [], ◌∷◌, length, slice_get, filter, filter_map, is_none, Option, Some, None, Ok, Err}
+use Rattle.serde_json.specs.Data.{Data, Items, no_items, item}
+use Rattle.event_json.specs.declared.bodies.Body.{Body}
+use Rattle.event_json.specs.declared.bodies.Body.TheVariants.{Note, Ship}
+use Rattle.event_json.specs.declared.doc_faults.Flaw.{Flaw}
+use Rattle.event_json.specs.declared.doc_faults.DocFault.{DocFault}
+use Rattle.event_json.specs.declared.documents.Doc.{Doc}
+use Rattle.event_json.specs.Contents.{same_body, same_content}
+use Rattle.event_json.specs.Documents.{event_list, events_of, document_of}
+use Rattle.event_json.specs.EventReading.{event_of, shipment}
+use Rattle.event_json.specs.Events.{Content}
+use Rattle.event_json.specs.Members.{count_of}
+use Rattle.event_json.specs.Sites.{Site, addressed}
+
+-- the member of an array at this place, from 0
+abbrev pub member_at : Items → ℕ → Option Data
+member_at no_items place = None
+member_at (item d ds) zero = Some d
+member_at (item d ds) (suc place) = member_at ds place
+
+-- the event at each place was read as it stands there, and the document has those that weren't skipped, in order, and
+-- the number of the others
+pub record IsRead (sites : List Site) (items : Items) (doc : Doc) : Type 0 where
+  pub found : List (Option Content)
+  pub counted : length found ≡ count_of items
+  pub each : (place : ℕ) (d : Data) → member_at items place ≡ Some d → (e : Option Content) × (slice_get found place ≡ Some e) × (event_of sites d ≡ Ok e)
+  pub kept : doc.events ≡ filter_map (λ e. e) found
+  pub skipped : doc.skipped ≡ length (filter is_none found)
+
+-- the fault is that of the first event that doesn't pass, told with its place from 1
+pub record IsFirstFault (sites : List Site) (items : Items) (fault : DocFault) : Type 0 where
+  pub place : ℕ
+  pub value : Data
+  pub flaw : Flaw
+  pub stands : member_at items place ≡ Some value
+  pub refused : event_of sites value ≡ Err flaw
+  pub before : (earlier : ℕ) (d : Data) → earlier < place → member_at items earlier ≡ Some d → IsOk (event_of sites d)
+  pub told : fault ≡ record { event = place + 1; field = flaw.field; kind = flaw.kind }
+
+abbrev pub EventsAreRead : Type 0
+EventsAreRead = (sites : List Site) (items : Items) (doc : Doc) → events_of sites items ≡ Ok doc → IsRead sites items doc
+
+abbrev pub FirstFaultIsTold : Type 0
+FirstFaultIsTold = (sites : List Site) (items : Items) (fault : DocFault) → events_of sites items ≡ Err fault → IsFirstFault sites items fault
+
+-- a list is read exactly where each of its events passes
+abbrev pub AllPass : Type 0
+AllPass = (sites : List Site) (items : Items) → IsOk (events_of sites items) ↔ ((place : ℕ) (d : Data) → member_at items place ≡ Some d → IsOk (event_of sites d))
+
+-- each event of a document is kept or skipped, and none is told twice
+abbrev pub EventsAreCounted : Type 0
+EventsAreCounted = (sites : List Site) (d : Data) (doc : Doc) → document_of sites d ≡ Ok doc
+    → (items : Items) × (event_list d ≡ Ok items) × (count_of items ≤ 1000) × (length doc.events + doc.skipped ≡ count_of items)
+
+-- each destination went to one of the two lists: to the sites where one of them has the address, as that site's number, and
+-- else to the outside texts, as it is; repeats are kept, and so is the order
+abbrev pub IsDealt : List Site → List (List ℕ) → List ℕ → List (List ℕ) → Type 0
+IsDealt sites [] traced outside = (traced ≡ []) × (outside ≡ [])
+IsDealt sites (text ∷ texts) traced outside =
+    ((site : ℕ) × (rest : List ℕ) × (addressed sites text ≡ Some site) × (traced ≡ site ∷ rest) × IsDealt sites texts rest outside)
+    ⊎ ((rest : List (List ℕ)) × (addressed sites text ≡ None) × (outside ≡ text ∷ rest) × IsDealt sites texts traced rest)
+
+-- items without a destination were seen, and those with some were shipped to all of them
+abbrev pub DestinationsAreDealt : Type 0
+DestinationsAreDealt = (sites : List Site) (items : List (List ℕ)) (text : List ℕ) (texts : List (List ℕ))
+    → (shipment sites items [] ≡ Note items)
+    × ((traced : List ℕ) × (outside : List (List ℕ)) × (shipment sites items (text ∷ texts) ≡ Ship items traced outside) × IsDealt sites (text ∷ texts) traced outside)
+
+-- the tests of `==` find what is equal
+abbrev pub EqualIsSame : Type 0
+EqualIsSame = ((b c : Body) → IsTrue (same_body b c) ↔ (b ≡ c)) × ((e f : Content) → IsTrue (same_content e f) ↔ (e ≡ f))

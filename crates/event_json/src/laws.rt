@@ -1,0 +1,32 @@
+//! Laws of the definitions, each of which a call ensures.
+ghost use Rattle.event_json.specs.Laws.{EventsAreRead, FirstFaultIsTold, AllPass, EventsAreCounted, DestinationsAreDealt, EqualIsSame};
+
+/// What is read of a list are its events, each at its place.
+pub fn events_are_read()
+    ensures { EventsAreRead }
+{}
+
+/// The fault of a list is that of its first event that doesn't pass.
+pub fn first_fault_is_told()
+    ensures { FirstFaultIsTold }
+{}
+
+/// A list is read exactly where each of its events passes.
+pub fn all_pass()
+    ensures { AllPass }
+{}
+
+/// Each event of a document is kept or skipped.
+pub fn events_are_counted()
+    ensures { EventsAreCounted }
+{}
+
+/// Each destination of a shipment is a traced site or an outside text, in order.
+pub fn destinations_are_dealt()
+    ensures { DestinationsAreDealt }
+{}
+
+/// Bodies and events that are compared as equal are the same, and only those.
+pub fn equal_is_same()
+    ensures { EqualIsSame }
+{}
