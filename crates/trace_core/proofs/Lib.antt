@@ -4,5 +4,11 @@ pub mod ChainLaws
 pub mod EventIds
 pub mod GatheringSteps
 pub mod Growing
+pub mod HasTargets
+pub mod Members
+pub mod PairLaws
+pub mod PairOrder
+pub mod PairTestsDecide
 pub mod SearchSteps
 pub mod SiteFinding
+pub mod Standings

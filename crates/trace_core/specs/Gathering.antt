@@ -5,7 +5,8 @@ use Rattle.std.specs.BTreeSet.{BTreeSet, contains}
 use Rattle.event_json.specs.Events.{Content}
 use Rattle.event_json.specs.declared.bodies.Body.{Body}
 use Rattle.trace_core.specs.declared.pairs.Pair.{Pair}
-use Rattle.trace_core.specs.Pairs.{pair_cmp, same_item, ships, takes_in, gives_out, make_id, same_id}
+use Rattle.trace_core.specs.Pairs.{pair_cmp, make_id}
+use Rattle.trace_core.specs.PairTests.{same_item, ships, takes_in, gives_out, same_id}
 
 abbrev pub is_in : BTreeSet Pair → Pair → Bool
 is_in pairs p = contains pair_cmp pairs p

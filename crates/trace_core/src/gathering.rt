@@ -2,7 +2,8 @@ ghost use Rattle.std.specs.Prelude.{◌≡◌, ◌==◌, not, ◌&&◌, ◌||◌
 ghost use Rattle.std.specs.List.{list_any};
 ghost use Rattle.trace_core.specs.declared.pairs.Pair.{Pair};
 ghost use Rattle.trace_core.specs.Gathering.{is_in, related_by, shipped_by, joined_by};
-ghost use Rattle.trace_core.specs.Pairs.{same_item, takes_in, gives_out, lists, make_id, same_id};
+ghost use Rattle.trace_core.specs.PairTests.{same_item, takes_in, gives_out, lists, same_id};
+ghost use Rattle.trace_core.specs.Pairs.{make_id};
 
 use crate::pairs::Pair;
 use epc_core::Epc;
