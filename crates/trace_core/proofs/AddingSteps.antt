@@ -26,7 +26,6 @@ stepwise so_far (e ∷ es) = decided (standing_among so_far e) (stepwise (so_far
   decided Known kept passed = then_with after_known passed
   decided Taken kept passed = Err 1
 
-
 -- what stepwise the rest makes, after so many fresh and known events
 abbrev pub counted_on : ℕ → ℕ → Result Addition ℕ → Result Addition ℕ
 counted_on f k (Ok a) = Ok (record { events = a.events; fresh = f + a.fresh; known = k + a.known })

@@ -1,5 +1,5 @@
 -- Further events only add pairs.
-use Rattle.std.proofs.Common.{◌≡◌, ℕ, ◌<◌, List, ◌++◌, length, get_or, sym, ◌∙◌, subst, inl, inr, ⊎_elim, arith}
+use Rattle.std.proofs.Common.{◌≡◌, ℕ, ◌<◌, List, length, get_or, sym, ◌∙◌, subst, inl, inr, ⊎_elim, arith}
 use Rattle.std.specs.List.{Any, AllZip, Contains}
 use Rattle.std.proofs.lemmas.List.{get_or_default}
 use Rattle.std.proofs.lemmas.List.Elements.{Contains-append_left, AllZip-get_or, length_all_zip}
@@ -18,12 +18,15 @@ any_widens P Q xs ys wider implies (k, x, lt, at, h) = let there = wider x (k, l
 pub related_widens : (old new : SiteEvents) → new.me ≡ old.me → ((e : Content) → Contains old.events e → Contains new.events e) → (item : List ℕ) (p : Pair) → IsRelated old item p → IsRelated new item p
 related_widens old new same wider item p h = ⊎_elim
     (λ (other, is, any). inl (λ here. other (here ∙ same), is, any_widens (λ e. Ships item p.site e.body) (λ e. Ships item p.site e.body) old.events new.events wider (λ e ships. ships) any))
-    (λ (here, any). inr (here ∙ sym same, any_widens
-    (λ e. TakesIn item e.body × Any (λ f. AreOneMake e f × GivesOut p.item f.body) old.events)
-    (λ e. TakesIn item e.body × Any (λ f. AreOneMake e f × GivesOut p.item f.body) new.events)
-    old.events new.events wider
-    (λ e (takes, gives). (takes, any_widens (λ f. AreOneMake e f × GivesOut p.item f.body) (λ f. AreOneMake e f × GivesOut p.item f.body) old.events new.events wider (λ f both. both) gives))
-    any))
+    (λ (here, any). inr (
+      here ∙ sym same,
+      any_widens
+          (λ e. TakesIn item e.body × Any (λ f. AreOneMake e f × GivesOut p.item f.body) old.events)
+          (λ e. TakesIn item e.body × Any (λ f. AreOneMake e f × GivesOut p.item f.body) new.events)
+          old.events new.events wider
+          (λ e (takes, gives). (takes, any_widens (λ f. AreOneMake e f × GivesOut p.item f.body) (λ f. AreOneMake e f × GivesOut p.item f.body) old.events new.events wider (λ f both. both) gives))
+          any,
+    ))
     h
 
 pub stays_related : (old new : SiteEvents) → IsExtendedTo old new → (item : List ℕ) (p : Pair) → IsRelated old item p → IsRelated new item p

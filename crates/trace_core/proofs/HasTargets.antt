@@ -1,5 +1,5 @@
 -- Each related pair is in the list of targets.
-use Rattle.std.proofs.Common.{◌≡◌, ℕ, List, map, sym, subst, ⊎_elim}
+use Rattle.std.proofs.Common.{ℕ, List, map, sym, subst, ⊎_elim}
 use Rattle.std.specs.List.{Contains}
 use Rattle.event_json.specs.Events.{Content}
 use Rattle.event_json.specs.declared.bodies.Body.{Body}

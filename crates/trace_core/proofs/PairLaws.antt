@@ -1,7 +1,7 @@
 -- Which events relate what.
-use Rattle.std.proofs.Common.{◌≡◌, ◌≢◌, ℕ, zero, suc, ◌<◌, List, [], ◌∷◌, ◌++◌, Option, Some, None, length, get_or, ◌↔◌, refl, sym, ap, ◌∙◌, subst, inl, inr, ⊎_elim, arith}
+use Rattle.std.proofs.Common.{◌≡◌, ℕ, zero, suc, List, [], ◌∷◌, ◌++◌, Option, Some, None, get_or, refl, sym, ap, ◌∙◌, subst, inl, inr, ⊎_elim, arith}
 use mathlib.Core.Logic.{◌⊎◌}
-use Rattle.std.specs.List.{Any, AllPairs, Contains}
+use Rattle.std.specs.List.{Any, Contains}
 use Rattle.std.proofs.lemmas.Bool.{cases_order}
 use Rattle.std.proofs.lemmas.List.{get_or_default}
 use Rattle.std.proofs.lemmas.List.Elements.{Contains-push_cases}
@@ -9,9 +9,8 @@ use Rattle.event_json.specs.Events.{Content}
 use Rattle.event_json.specs.declared.bodies.Body.{Body}
 use Rattle.event_json.specs.declared.bodies.Body.TheVariants.{Note, Ship, Make}
 use Rattle.trace_core.specs.declared.pairs.Pair.{Pair}
-use Rattle.trace_core.specs.Chains.{Related}
 use Rattle.trace_core.specs.Laws.{ShipRelates, MakeRelates, JoinedMakesRelate, AddsNothing, OthersAddNothing, HaveOwnNumbers, RelatedPairsAreOfTheirSite}
-use Rattle.trace_core.specs.Pairs.{Ships, TakesIn, GivesOut, make_id, HaveOneId, AreOneMake, IsMadeOf, IsRelated}
+use Rattle.trace_core.specs.Pairs.{Ships, TakesIn, GivesOut, make_id, AreOneMake, IsRelated}
 use Rattle.trace_core.specs.Sites.{SiteEvents}
 use Rattle.trace_core.proofs.Members.{contains_none}
 
@@ -25,8 +24,19 @@ make_relates s e id ins outs i j (k, lt, at) is takes gives =
 
 pub joined_makes_relate : JoinedMakesRelate
 joined_makes_relate s e f id ins outs ins' outs' i j (k, lt, at) (l, lt', at') is is' takes gives =
-    inr (refl, (k, e, lt, at, (subst (λ b. TakesIn i b) (sym is) takes,
-    (l, f, lt', at', (inr (id, ap make_id is, ap make_id is'), subst (λ b. GivesOut j b) (sym is') gives)))))
+    inr (
+      refl,
+      (
+        k,
+        e,
+        lt,
+        at,
+        (
+          subst (λ b. TakesIn i b) (sym is) takes,
+          (l, f, lt', at', (inr (id, ap make_id is, ap make_id is'), subst (λ b. GivesOut j b) (sym is') gives)),
+        ),
+      ),
+    )
 
 -- a body that ships nothing elsewhere, and takes in nothing or gives out nothing
 pub record IsIdle (me : ℕ) (body : Body) : Type 0 where

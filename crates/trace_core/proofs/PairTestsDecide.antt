@@ -1,5 +1,5 @@
 -- The tests of pairs decide the relation.
-use Rattle.std.proofs.Common.{◌≡◌, ◌==◌, ℕ, Bool, true, not, ◌&&◌, List, [], ◌∷◌, Option, Some, None, refl, sym, ap, ◌∙◌, subst, inl, inr, ⊎_elim}
+use Rattle.std.proofs.Common.{◌≡◌, ◌==◌, ℕ, Bool, true, List, Option, Some, None, refl, sym, ap, ◌∙◌, subst, inl, inr, ⊎_elim}
 use mathlib.Core.Logic.{◌⊎◌}
 use mathlib.Core.Bool.{false≢true}
 use Rattle.std.specs.Bool.{Decides}
@@ -11,7 +11,7 @@ use Rattle.event_json.specs.Events.{Content}
 use Rattle.event_json.specs.declared.bodies.Body.{Body}
 use Rattle.event_json.specs.declared.bodies.Body.TheVariants.{Note, Ship, Make}
 use Rattle.trace_core.specs.declared.pairs.Pair.{Pair}
-use Rattle.trace_core.specs.Pairs.{Ships, TakesIn, GivesOut, make_id, HaveOneId, AreOneMake, IsShipped, IsMadeOf, IsMade, IsRelated}
+use Rattle.trace_core.specs.Pairs.{Ships, TakesIn, GivesOut, make_id, HaveOneId, IsMadeOf, IsRelated}
 use Rattle.trace_core.specs.PairTests.{same_item, lists, ships, takes_in, gives_out, same_id, ships_at, inside_at, is_related}
 use Rattle.trace_core.specs.Sites.{SiteEvents}
 

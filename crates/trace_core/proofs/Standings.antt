@@ -1,9 +1,9 @@
 -- Events judged by place, and one after another by those that were kept.
-use Rattle.std.proofs.Common.{◌≡◌, ℕ, zero, suc, ◌+◌, ◌<◌, ◌≤◌, Bool, true, false, not, cond, ltb, if◌then◌else◌, List, [], ◌∷◌, ◌++◌, map, filter, count_by, take, length, ◌↔◌, Option, Some, None, Result, Ok, Err, option_map, refl, sym, ap, ◌∙◌, subst, inl, inr, ⊎_elim, append_assoc, length-append, arith}
+use Rattle.std.proofs.Common.{◌≡◌, ℕ, zero, suc, ◌+◌, ◌<◌, ◌≤◌, Bool, true, false, not, cond, ltb, if◌then◌else◌, List, [], ◌∷◌, ◌++◌, map, filter, count_by, take, length, ◌↔◌, Option, Some, None, Result, Ok, Err, option_map, refl, sym, ap, ◌∙◌, subst, ⊎_elim, append_assoc, length-append, arith}
 use Rattle.std.specs.List.{Any, Contains, list_any, enumerate_from, position, position_or_len}
 use Rattle.std.proofs.lemmas.Bool.{true≢false, lt-ltb, le-ltb, cases_lt}
 use Rattle.std.proofs.lemmas.Bool.Decides.{same_from_decides}
-use Rattle.std.proofs.lemmas.List.Elements.{Contains-append_left, Contains-append_right, Contains-append_cases, Contains-push}
+use Rattle.std.proofs.lemmas.List.Elements.{Contains-append_left, Contains-append_right, Contains-append_cases}
 use Rattle.std.proofs.lemmas.List.Sums.{sum_by-cons}
 use Rattle.event_json.specs.Events.{Content}
 use Rattle.event_json.specs.Contents.{same_content}
@@ -23,9 +23,10 @@ abbrev pub HaveSameMembers : {X : Type 0} → List X → List X → Type 0
 HaveSameMembers {X} xs ys = (x : X) → Contains xs x ↔ Contains ys x
 
 same_any : {X : Type 0} (p : X → Bool) (xs ys : List X) → HaveSameMembers xs ys → list_any p xs ≡ list_any p ys
-same_any p xs ys same = same_from_decides {P = list_any p ys ≡ true} _ _
-    (λ h. let w = list_any_witness p xs h in list_any_member p ys w.0 ((same w.0).0 w.1) w.2,
-    λ h. let w = list_any_witness p ys h in list_any_member p xs w.0 ((same w.0).1 w.1) w.2)
+same_any p xs ys same = same_from_decides {P = list_any p ys ≡ true} _ _ (
+  λ h. let w = list_any_witness p xs h in list_any_member p ys w.0 ((same w.0).0 w.1) w.2,
+  λ h. let w = list_any_witness p ys h in list_any_member p xs w.0 ((same w.0).1 w.1) w.2,
+)
     (λ h. h, λ h. h)
 
 -- an event stands alike among events that have the same members

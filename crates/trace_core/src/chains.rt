@@ -6,8 +6,8 @@ ghost use Rattle.trace_core.specs.Chains.{Related, RelatesFrom, sites_at};
 ghost use Rattle.trace_core.specs.Relations.{Reaches};
 
 use crate::captured::Captured;
-use crate::searches::{Relation, closure};
 use crate::pairs::Pair;
+use crate::searches::{Relation, closure};
 use std::alloc::{AllocError, Global};
 
 /// The related pairs of several sites.
