@@ -1,3 +1,4 @@
+pub mod AddedPairs
 pub mod AddingSteps
 pub mod Booleans
 pub mod ChainLaws
@@ -10,5 +11,7 @@ pub mod PairLaws
 pub mod PairOrder
 pub mod PairTestsDecide
 pub mod SearchSteps
+pub mod SetMembers
 pub mod SiteFinding
+pub mod SpreadSteps
 pub mod Standings

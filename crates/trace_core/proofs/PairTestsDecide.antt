@@ -18,7 +18,7 @@ use Rattle.trace_core.specs.Sites.{SiteEvents}
 never : {P : Type 0} → (P → ⊥) → {b : Bool} → (b ≡ true → ⊥) → Decides b P
 never refuted fails = (λ h. absurd (fails h), λ p. absurd (refuted p))
 
-any_decides : {X : Type 0} (p : X → Bool) (P : X → Type 0) → ((x : X) → Decides (p x) (P x)) → (xs : List X) → Decides (list_any p xs) (Any P xs)
+pub any_decides : {X : Type 0} (p : X → Bool) (P : X → Type 0) → ((x : X) → Decides (p x) (P x)) → (xs : List X) → Decides (list_any p xs) (Any P xs)
 any_decides p P each xs = (
   λ h. let w = Any-from_list_any p xs h in (w.0, w.1, w.2, w.3, (each w.1).0 w.4),
   λ (k, x, lt, at, h). list_any_at p xs k x lt (subst (λ z. p z ≡ true) (sym at) ((each x).1 h)),

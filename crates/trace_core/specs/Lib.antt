@@ -7,4 +7,5 @@ pub mod Pairs
 pub mod Relations
 pub mod Searches
 pub mod Sites
+pub mod Spreads
 pub mod Targets

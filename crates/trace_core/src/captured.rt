@@ -124,6 +124,18 @@ impl Captured {
         keys_in_order(alloc, pairs)
     }
 
+    /// The events.
+    pub(crate) fn events(&self) -> &[Event]
+        ensures { result.now ≡ self.now.events }
+    {
+        self.events.as_slice()
+    }
+
+    /// What the site's memory is taken from.
+    pub(crate) fn alloc(&self) -> Global {
+        *self.events.allocator()
+    }
+
     /// An equal site.
     pub fn copy(&self, alloc: Global) -> Result<Captured, AllocError>
         ensures { IfOk result (λ c. c ≡ self.now) }

@@ -34,7 +34,7 @@ impl Relation for RelatedPairs<'_> {
 }
 
 /// Adds the pairs that a site relates a pair to. There are none where the pair is at another site.
-fn add_related(site: &Captured, node: &Pair, targets: &mut Vec<Pair>) -> Result<(), AllocError>
+pub fn add_related(site: &Captured, node: &Pair, targets: &mut Vec<Pair>) -> Result<(), AllocError>
     ensures { OnOk result ((p : Pair) → Contains targets.new.items p ↔ (Contains targets.old.items p ⊎ RelatesFrom site.now node.now p)) }
 {
     if site.me() == node.site {

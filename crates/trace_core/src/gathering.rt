@@ -88,7 +88,7 @@ fn gather_joined(
 }
 
 /// Adds the outputs of a Make.
-fn gather_outputs(
+pub fn gather_outputs(
     alloc: Global,
     me: SiteNo,
     body: &Body,
@@ -121,7 +121,7 @@ fn gather_items(
 }
 
 /// Whether it is a Make of which the item is an input.
-fn takes_in(item: &Epc, body: &Body) -> bool
+pub fn takes_in(item: &Epc, body: &Body) -> bool
     ensures { result ≡ takes_in item.now body.now }
 {
     match body {
@@ -131,7 +131,7 @@ fn takes_in(item: &Epc, body: &Body) -> bool
 }
 
 /// Whether both are a Make, with equal ids.
-fn is_same_make(body: &Body, other: &Body) -> bool
+pub fn is_same_make(body: &Body, other: &Body) -> bool
     ensures { result ≡ same_id (make_id body.now) (make_id other.now) }
 {
     match (make_id(body), make_id(other)) {

@@ -12,6 +12,7 @@ pub mod laws;
 mod ordered_keys;
 mod pairs;
 mod searches;
+mod spreads;
 #[cfg(test)]
 mod tests;
 
