@@ -1,13 +1,9 @@
 -- a line has one answer
 use Rattle.std.proofs.Common.{◌≡◌, ℕ, Bool, true, false, List, [], ◌∷◌, sym, ap, ◌∙◌, subst, Option, Some, None, Ok, Err}
 use Rattle.std.specs.Prelude.{Contains, ◌↔◌, Result}
-use Rattle.std.specs.BTreeSet.{BTreeSet}
-use Rattle.std.proofs.lemmas.Bool.Decides.{same_from_decides}
-use Rattle.std.proofs.lemmas.Map.Lookups.{btree_set_from_contains}
-use Rattle.std.proofs.lemmas.Map.Views.{btree_set_contains_iff}
 use Rattle.epc_core.specs.declared.items.EpcFault.{EpcFault}
 use Rattle.event_json.specs.Sites.{Site, named}
-use Rattle.trace_core.specs.PairOrder.{pairs_exact, pairs_total}
+use Rattle.trace_core.proofs.PairOrder.{one_ascending}
 use Rattle.trace_core.specs.Pairs.{IsStrictlyAscending}
 use Rattle.trace_core.specs.Sites.{SiteEvents}
 use Rattle.trace_core.specs.declared.pairs.Pair.{Pair}
@@ -19,16 +15,6 @@ use Rattle.script_core.specs.Requests.{Request, request_of}
 use Rattle.script_core.specs.Requests as requests
 use Rattle.script_core.specs.Script.{Outcome, says, fixed, is_ready, IsReachText, ReachRead, ReachAt, ReachWhere, TakesRequest, Takes}
 use Rattle.script_core.specs.Runs.{Runs}
-
--- strictly ascending lists with the same pairs are one list
-pub one_ascending : (xs ys : List Pair) → IsStrictlyAscending xs → IsStrictlyAscending ys → ((p : Pair) → Contains xs p ↔ Contains ys p) → xs ≡ ys
-one_ascending xs ys a b same =
-    let s : BTreeSet Pair = record { keys = xs } in
-    let t : BTreeSet Pair = record { keys = ys } in
-    btree_set_from_contains pairs_total s t a b (λ q.
-    let of_s = btree_set_contains_iff pairs_total pairs_exact s q in
-    let of_t = btree_set_contains_iff pairs_total pairs_exact t q in
-    same_from_decides {P = Contains xs q} _ _ of_s (λ h. (same q).1 (of_t.0 h), λ m. of_t.1 ((same q).0 m))) pairs_exact
 
 one_reach_text : (sites : List Site) (captured : List SiteEvents) (root : Pair) (a b : Said) → IsReachText sites captured root a → IsReachText sites captured root b → a ≡ b
 one_reach_text sites captured root a b x y =

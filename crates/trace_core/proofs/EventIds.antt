@@ -2,7 +2,7 @@
 use Rattle.std.proofs.Common.{◌≡◌, ℕ, false, List, [], ◌∷◌, Option, Some, None, refl}
 use Rattle.std.specs.List.{list_any}
 use Rattle.event_json.specs.Events.{Content}
-use Rattle.trace_core.specs.Pairs.{same_id}
+use Rattle.trace_core.specs.PairTests.{same_id}
 
 same_id_none : (a : Option (List ℕ)) → same_id a None ≡ false
 same_id_none None = refl

@@ -9,9 +9,11 @@ use Rattle.std.specs.List.{list_any, Contains}
 use Rattle.event_json.specs.Events.{Content}
 use Rattle.trace_core.specs.declared.pairs.Pair.{Pair}
 use Rattle.trace_core.specs.Gathering.{is_in, joined_by, related_by}
-use Rattle.trace_core.specs.PairOrder.{pair_is_eq, pairs_total, pairs_exact}
-use Rattle.trace_core.specs.Pairs.{pair_cmp, same_item, lists, ships, takes_in, gives_out, ships_at, inside_at, is_related, IsRelated}
+use Rattle.trace_core.proofs.PairOrder.{pair_is_eq, pairs_total, pairs_exact}
+use Rattle.trace_core.specs.Pairs.{pair_cmp, IsRelated}
+use Rattle.trace_core.specs.PairTests.{same_item, lists, ships, takes_in, gives_out, ships_at, inside_at, is_related}
 use Rattle.trace_core.specs.Sites.{SiteEvents}
+use Rattle.trace_core.proofs.PairTestsDecide.{related_decides}
 use Rattle.trace_core.proofs.Booleans.{and_or, and_assoc, list_any-or, list_any-and_left, list_any-and_right, list_any-same, more_at_sites, more_inside}
 
 cond_or : (a b : Bool) → cond a true b ≡ (b || a)
@@ -99,7 +101,8 @@ module _ (old cur : BTreeSet Pair) (me : ℕ) (item : List ℕ) (sites : List �
 pub related_exact : (s : SiteEvents) (item : List ℕ) (set : BTreeSet Pair) (pairs : List Pair) → pairs ≡ set.keys → ((p : Pair) → is_in set p ≡ is_related s item p) → (p : Pair) → Contains pairs p ↔ IsRelated s item p
 related_exact s item set pairs keys related p =
     let both = btree_set_contains_iff pairs_total pairs_exact set p in
-    (λ h. sym (related p) ∙ both.1 (subst (λ xs. Contains xs p) keys h), λ h. subst (λ xs. Contains xs p) (sym keys) (both.0 (related p ∙ h)))
+    let decides = related_decides s item p in
+    (λ h. decides.0 (sym (related p) ∙ both.1 (subst (λ xs. Contains xs p) keys h)), λ h. subst (λ xs. Contains xs p) (sym keys) (both.0 (related p ∙ decides.1 h)))
 
 -- at the end of the events
 pub related_at_end : (s : SiteEvents) (item : List ℕ) (set : BTreeSet Pair) (pairs : List Pair) (events : List Content) (n : ℕ) → pairs ≡ set.keys → events ≡ s.events → length events ≤ n

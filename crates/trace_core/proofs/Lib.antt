@@ -1,8 +1,17 @@
+pub mod AddedPairs
 pub mod AddingSteps
 pub mod Booleans
 pub mod ChainLaws
 pub mod EventIds
 pub mod GatheringSteps
 pub mod Growing
+pub mod HasTargets
+pub mod Members
+pub mod PairLaws
+pub mod PairOrder
+pub mod PairTestsDecide
 pub mod SearchSteps
+pub mod SetMembers
 pub mod SiteFinding
+pub mod SpreadSteps
+pub mod Standings

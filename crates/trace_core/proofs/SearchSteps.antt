@@ -14,8 +14,8 @@ use Rattle.std.proofs.lemmas.Map.Keys.{IsDistinct-from_sorted}
 use Rattle.std.proofs.lemmas.Map.Lookups.{CmpEqualImpliesEq}
 use Rattle.std.proofs.lemmas.Map.Made.{length-le_from_is_member}
 use Rattle.std.proofs.lemmas.Map.Views.{btree_set_contains_iff, list_any-from_Contains, tells_apart}
-use Rattle.trace_core.specs.Closures.{IsFound, NotesAll}
-use Rattle.trace_core.specs.Members.{contains_here, contains_cases, contains_none}
+use Rattle.trace_core.specs.Searches.{IsFound, NotesAll}
+use Rattle.trace_core.proofs.Members.{contains_here, contains_cases, contains_none}
 use Rattle.trace_core.specs.Relations.{Reaches, ReachedFrom}
 use Rattle.trace_core.proofs.ChainLaws.{reached_start, reached_step, reached_holds}
 
@@ -116,10 +116,10 @@ module _ {K : Type 0} (cmp : K → K → Ordering) (R : K → K → Type 0) (sta
       }
 
   -- the targets of a node that was waiting are noted
-  pub search_goes_on : ((m n : K) → R m n → Contains targets n) → (found found' : BTreeSet K) (waiting rest waiting' : List K) (node : K) (nodes : List K)
-      → Searches cmp R starts targets found waiting → waiting ≡ rest ++ node ∷ [] → ((n : K) → Contains nodes n ↔ R node n) → NotesAll cmp found found' rest waiting' nodes
+  pub search_goes_on : (found found' : BTreeSet K) (waiting rest waiting' : List K) (node : K) (nodes : List K)
+      → Searches cmp R starts targets found waiting → waiting ≡ rest ++ node ∷ [] → ((n : K) → Contains nodes n ↔ R node n) → ((n : K) → Contains nodes n → Contains targets n) → NotesAll cmp found found' rest waiting' nodes
       → Searches cmp R starts targets found' waiting'
-  search_goes_on has found found' waiting rest waiting' node nodes so_far popped related noted =
+  search_goes_on found found' waiting rest waiting' node nodes so_far popped related has noted =
       let was_waiting : Contains waiting node = subst (λ xs. Contains xs node) (sym popped) (Contains-push rest node) in
       let still_waiting : (n : K) → Contains rest n → Contains waiting n = λ n h. subst (λ xs. Contains xs n) (sym popped) (Contains-append_left rest (node ∷ []) n h) in
       let node_reached = so_far.sound node (so_far.waiting_found node was_waiting) in
@@ -137,7 +137,7 @@ module _ {K : Type 0} (cmp : K → K → Ordering) (R : K → K → Type 0) (sta
             (so_far.followed n before))
             (λ new. inl new.1)
             (noted.found_only n h);
-        bounded = λ n h. ⊎_elim (λ before. so_far.bounded n before) (λ new. Contains-append_right starts targets n (has node n ((related n).0 new.0))) (noted.found_only n h);
+        bounded = λ n h. ⊎_elim (λ before. so_far.bounded n before) (λ new. Contains-append_right starts targets n (has n new.0)) (noted.found_only n h);
         ordered = noted.ordered so_far.ordered;
       }
 

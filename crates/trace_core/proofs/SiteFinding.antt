@@ -8,7 +8,7 @@ use Rattle.std.proofs.lemmas.List.Quantifiers.{Any-push}
 use Rattle.std.proofs.lemmas.List.{map_more, take_all}
 use Rattle.trace_core.specs.declared.pairs.Pair.{Pair}
 use Rattle.trace_core.specs.Chains.{Related, RelatesFrom, sites_at}
-use Rattle.trace_core.specs.Members.{contains_none}
+use Rattle.trace_core.proofs.Members.{contains_none}
 use Rattle.trace_core.specs.Pairs.{IsRelated}
 use Rattle.trace_core.specs.Sites.{SiteEvents}
 
@@ -57,3 +57,10 @@ related_added s p old more new appended same exact q = (
 -- a site of another number adds nothing
 pub nothing_added : (s : SiteEvents) (p : Pair) (old : List Pair) → (s.me ≡ p.site → ⊥) → (q : Pair) → Contains old q ↔ (Contains old q ⊎ RelatesFrom s p q)
 nothing_added s p old other q = (λ h. inl h, λ either. ⊎_elim (λ before. before) (λ here. absurd (other here.0)) either)
+
+-- what one site relates a pair to, where nothing stood before
+pub targets_of_one : (s : SiteEvents) (p : Pair) (none targets : List Pair) → none ≡ [] → ((q : Pair) → Contains targets q ↔ (Contains none q ⊎ RelatesFrom s p q)) → (q : Pair) → Contains targets q ↔ RelatesFrom s p q
+targets_of_one s p none targets empty added q = (
+  λ h. ⊎_elim (λ before. absurd (contains_none q (subst (λ xs. Contains xs q) empty before))) (λ related. related) ((added q).0 h),
+  λ related. (added q).1 (inr related),
+)

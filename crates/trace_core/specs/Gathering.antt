@@ -5,7 +5,8 @@ use Rattle.std.specs.BTreeSet.{BTreeSet, contains}
 use Rattle.event_json.specs.Events.{Content}
 use Rattle.event_json.specs.declared.bodies.Body.{Body}
 use Rattle.trace_core.specs.declared.pairs.Pair.{Pair}
-use Rattle.trace_core.specs.Pairs.{pair_cmp, same_item, ships, takes_in, gives_out, make_id, same_id}
+use Rattle.trace_core.specs.Pairs.{pair_cmp, make_id}
+use Rattle.trace_core.specs.PairTests.{same_item, ships, takes_in, gives_out, same_id}
 
 abbrev pub is_in : BTreeSet Pair → Pair → Bool
 is_in pairs p = contains pair_cmp pairs p
@@ -24,3 +25,11 @@ made_by me events item body p = p.site == me && (takes_in item body && (gives_ou
 
 abbrev pub related_by : ℕ → List Content → List ℕ → Body → Pair → Bool
 related_by me events item body p = shipped_by me item body p || made_by me events item body p
+
+-- one of the events takes the item into a transformation that has this one's id
+abbrev pub joins : List Content → List ℕ → Body → Bool
+joins events item body = list_any (λ f. takes_in item f.body && same_id (make_id f.body) (make_id body)) events
+
+-- related by an event that comes after the events: by itself, or as an output of what it is joined to
+abbrev pub added_by : ℕ → List Content → List ℕ → Body → Pair → Bool
+added_by me events item body p = related_by me events item body p || (joins events item body && (p.site == me && gives_out p.item body))

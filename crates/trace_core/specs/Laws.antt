@@ -1,11 +1,16 @@
--- Laws of reach and of adding events.
-use Rattle.std.specs.Prelude.{◌≡◌, ℕ, ◌↔◌, Bool, IsTrue, List, ◌++◌, Ok, Contains}
+-- Laws of related pairs, of reach and of adding events.
+use Rattle.std.specs.Prelude.{◌≡◌, ◌≢◌, ℕ, ◌↔◌, Bool, true, IsTrue, List, [], ◌∷◌, ◌++◌, Option, Some, None, Ok, Any, AllPairs, Contains}
 use Rattle.std.specs.List.{AllZip}
 use Rattle.event_json.specs.Events.{Content}
+use Rattle.event_json.specs.declared.bodies.Body.{Body}
+use Rattle.event_json.specs.declared.bodies.Body.TheVariants.{Note, Ship, Make}
+use Rattle.trace_core.specs.declared.adding.Standing.{Standing}
+use Rattle.trace_core.specs.declared.adding.Standing.TheVariants.{Fresh, Known, Taken}
 use Rattle.trace_core.specs.declared.pairs.Pair.{Pair}
-use Rattle.trace_core.specs.Adding.{Addition, adding}
+use Rattle.trace_core.specs.Adding.{Addition, adding, standing_among}
 use Rattle.trace_core.specs.Chains.{Related}
-use Rattle.trace_core.specs.Pairs.{IsRelated}
+use Rattle.trace_core.specs.PairTests.{is_related}
+use Rattle.trace_core.specs.Pairs.{IsStrictlyAscending, HaveOneId, IsRelated}
 use Rattle.trace_core.specs.Relations.{Reaches, Chain}
 use Rattle.trace_core.specs.Sites.{SiteEvents}
 
@@ -43,7 +48,64 @@ ChainFormsAgree = (sites : List SiteEvents) (root p : Pair) → Reaches (Related
 
 -- events of a document come after those that a site has
 abbrev pub AddingAppends : Type 0
-AddingAppends = (so_far given : List Content) (a : Addition) → adding so_far given ≡ Ok a → (more : List Content) × (a.events ≡ so_far ++ more)
+AddingAppends = (before given : List Content) (a : Addition) → adding before given ≡ Ok a → (more : List Content) × (a.events ≡ before ++ more)
+
+-- what a site has after a document is what it had and what it was given, each event once or more
+abbrev pub AddingKeepsAll : Type 0
+AddingKeepsAll = (before given : List Content) (a : Addition) → adding before given ≡ Ok a → (e : Content) → Contains a.events e ↔ Contains (before ++ given) e
+
+-- a fresh event has no eventID that another one has; a known one is among them, by its eventID; of a taken one the eventID is there, and it isn't
+abbrev pub StandingSays : List Content → Content → Standing → Type 0
+StandingSays events e Fresh = Any (λ f. HaveOneId f.id e.id) events → ⊥
+StandingSays events e Known = Any (λ f. HaveOneId f.id e.id) events × Contains events e
+StandingSays events e Taken = Any (λ f. HaveOneId f.id e.id) events × (Contains events e → ⊥)
+
+abbrev pub StandingIsRight : Type 0
+StandingIsRight = (events : List Content) (e : Content) → StandingSays events e (standing_among events e)
+
+-- an event stands alike among the given events before it and among those of them that were kept
+abbrev pub StandingByMembers : Type 0
+StandingByMembers = (xs ys : List Content) → ((x : Content) → Contains xs x ↔ Contains ys x) → (e : Content) → standing_among xs e ≡ standing_among ys e
+
+-- an item that was shipped to another site is related to itself there
+abbrev pub ShipRelates : Type 0
+ShipRelates =
+    (s : SiteEvents) (e : Content) (items : List (List ℕ)) (sites : List ℕ) (outside : List (List ℕ)) (item : List ℕ) (to : ℕ)
+    → Contains s.events e → e.body ≡ Ship items sites outside → Contains items item → Contains sites to → to ≢ s.me
+    → IsRelated s item (record { site = to; item = item })
+
+-- an input of a transformation is related to each output
+abbrev pub MakeRelates : Type 0
+MakeRelates =
+    (s : SiteEvents) (e : Content) (id : Option (List ℕ)) (ins outs : List (List ℕ)) (i j : List ℕ)
+    → Contains s.events e → e.body ≡ Make id ins outs → Contains ins i → Contains outs j
+    → IsRelated s i (record { site = s.me; item = j })
+
+-- so it is to the outputs of each transformation of the same id, whichever came first
+abbrev pub JoinedMakesRelate : Type 0
+JoinedMakesRelate =
+    (s : SiteEvents) (e f : Content) (id : List ℕ) (ins outs ins' outs' : List (List ℕ)) (i j : List ℕ)
+    → Contains s.events e → Contains s.events f → e.body ≡ Make (Some id) ins outs → f.body ≡ Make (Some id) ins' outs' → Contains ins i → Contains outs' j
+    → IsRelated s i (record { site = s.me; item = j })
+
+-- the event adds no pair to any site's
+abbrev pub AddsNothing : ℕ → Body → Type 0
+AddsNothing me body =
+    (events : List Content) (e : Content) → e.body ≡ body → (item : List ℕ) (q : Pair)
+    → IsRelated (record { me = me; events = events ++ e ∷ [] }) item q → IsRelated (record { me = me; events = events }) item q
+
+-- a note adds no pair; nor does a shipment to the own site or out of the traced ones, nor a transformation without an id and inputs or outputs
+abbrev pub OthersAddNothing : Type 0
+OthersAddNothing =
+    ((me : ℕ) (items : List (List ℕ)) → AddsNothing me (Note items))
+    × ((me : ℕ) (items outside : List (List ℕ)) → AddsNothing me (Ship items (me ∷ []) outside))
+    × ((me : ℕ) (items outside : List (List ℕ)) → AddsNothing me (Ship items [] outside))
+    × ((me : ℕ) (ins : List (List ℕ)) → AddsNothing me (Make None ins []))
+    × ((me : ℕ) (outs : List (List ℕ)) → AddsNothing me (Make None [] outs))
+
+-- the tests of pairs decide the relation
+abbrev pub PairTestsAgree : Type 0
+PairTestsAgree = (s : SiteEvents) (item : List ℕ) (q : Pair) → (is_related s item q ≡ true) ↔ IsRelated s item q
 
 -- what is related stays related once further events are captured
 abbrev pub RelatedStays : Type 0
@@ -52,3 +114,17 @@ RelatedStays = (old new : SiteEvents) → IsExtendedTo old new → (item : List 
 -- what is reached stays reached
 abbrev pub ReachGrows : Type 0
 ReachGrows = (old new : List SiteEvents) → AllZip IsExtendedTo old new → (root p : Pair) → Reaches (Related old) root p → Reaches (Related new) root p
+
+-- strictly ascending lists with the same pairs are one list
+abbrev pub AscendingListsAgree : Type 0
+AscendingListsAgree = (xs ys : List Pair) → IsStrictlyAscending xs → IsStrictlyAscending ys → ((p : Pair) → Contains xs p ↔ Contains ys p) → xs ≡ ys
+
+-- no two of the sites have one number
+abbrev pub HaveOwnNumbers : List SiteEvents → Type 0
+HaveOwnNumbers sites = AllPairs (λ s t. s.me ≢ t.me) sites
+
+-- in a list of sites that has one of each number, related pairs are those of the pair's site
+abbrev pub RelatedPairsAreOfTheirSite : Type 0
+RelatedPairsAreOfTheirSite =
+    (sites : List SiteEvents) → HaveOwnNumbers sites → (s : SiteEvents) → Contains sites s
+    → (p q : Pair) → s.me ≡ p.site → Related sites p q ↔ IsRelated s p.item q

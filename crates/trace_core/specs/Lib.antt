@@ -1,12 +1,11 @@
 pub mod Adding
 pub mod Chains
-pub mod Closures
 pub mod Gathering
-pub mod HasTargets
 pub mod Laws
-pub mod Members
-pub mod PairOrder
+pub mod PairTests
 pub mod Pairs
 pub mod Relations
+pub mod Searches
 pub mod Sites
+pub mod Spreads
 pub mod Targets

@@ -1,11 +1,11 @@
 -- Related pairs of a site, from GS1 EPCIS 2.0, section 7.4 (core event types): an ObjectEvent with destinations ships its items, and a
 -- TransformationEvent makes outputs from inputs. Transformation events with equal transformationID are parts of one transformation.
-use Rattle.std.specs.Prelude.{◌==◌, ℕ, Bool, false, not, ◌&&◌, ◌||◌, IsTrue, List, Option, Some, None, nat_eq}
-use Rattle.std.specs.List.{list_any}
+use Rattle.std.specs.Prelude.{◌≡◌, ◌≢◌, ℕ, List, Option, Some, None, Any, Contains}
 use Rattle.std.specs.List.Sorted.{IsStrictlySortedBy}
 use Rattle.std.specs.declared.cmp.Ordering.{Ordering}
 use Rattle.std.specs.Ordering.{nat_cmp, ordering_then}
-use Rattle.std.specs.Cmp.Lexicographic.{slice_cmp, pointwise}
+use Rattle.std.specs.Cmp.Lexicographic.{slice_cmp}
+use mathlib.Core.Logic.{◌⊎◌}
 use Rattle.event_json.specs.Events.{Content}
 use Rattle.event_json.specs.declared.bodies.Body.{Body}
 use Rattle.event_json.specs.declared.bodies.Body.TheVariants.{Note, Ship, Make}
@@ -20,31 +20,23 @@ pair_cmp p q = ordering_then (nat_cmp p.site q.site) (slice_cmp nat_cmp p.item q
 abbrev pub IsStrictlyAscending : List Pair → Type 0
 IsStrictlyAscending pairs = IsStrictlySortedBy pair_cmp pairs
 
--- whether two keys are of one item
-abbrev pub same_item : List ℕ → List ℕ → Bool
-same_item = pointwise nat_eq
-
--- whether the item is one of a list
-abbrev pub lists : List (List ℕ) → List ℕ → Bool
-lists items item = list_any (λ i. same_item i item) items
-
 -- a shipment of the item to the site
-abbrev pub ships : List ℕ → ℕ → Body → Bool
-ships item site (Note items) = false
-ships item site (Ship items sites outside) = lists items item && list_any (λ s. s == site) sites
-ships item site (Make id ins outs) = false
+abbrev pub Ships : List ℕ → ℕ → Body → Type 0
+Ships item site (Note items) = ⊥
+Ships item site (Ship items sites outside) = Contains items item × Contains sites site
+Ships item site (Make id ins outs) = ⊥
 
 -- the item is an input of a transformation
-abbrev pub takes_in : List ℕ → Body → Bool
-takes_in item (Note items) = false
-takes_in item (Ship items sites outside) = false
-takes_in item (Make id ins outs) = lists ins item
+abbrev pub TakesIn : List ℕ → Body → Type 0
+TakesIn item (Note items) = ⊥
+TakesIn item (Ship items sites outside) = ⊥
+TakesIn item (Make id ins outs) = Contains ins item
 
 -- the item is an output of a transformation
-abbrev pub gives_out : List ℕ → Body → Bool
-gives_out item (Note items) = false
-gives_out item (Ship items sites outside) = false
-gives_out item (Make id ins outs) = lists outs item
+abbrev pub GivesOut : List ℕ → Body → Type 0
+GivesOut item (Note items) = ⊥
+GivesOut item (Ship items sites outside) = ⊥
+GivesOut item (Make id ins outs) = Contains outs item
 
 -- the id of a transformation, where it has one
 abbrev pub make_id : Body → Option (List ℕ)
@@ -52,27 +44,26 @@ make_id (Note items) = None
 make_id (Ship items sites outside) = None
 make_id (Make id ins outs) = id
 
--- whether both have an id, and it is the same
-abbrev pub same_id : Option (List ℕ) → Option (List ℕ) → Bool
-same_id (Some a) (Some b) = pointwise nat_eq a b
-same_id (Some a) None = false
-same_id None b = false
+-- both have this id
+abbrev pub HaveOneId : Option (List ℕ) → Option (List ℕ) → Type 0
+HaveOneId a b = (id : List ℕ) × (a ≡ Some id) × (b ≡ Some id)
 
--- the site `me` shipped the item to another site
-unfoldable pub ships_at : ℕ → List Content → List ℕ → ℕ → Bool
-ships_at me events item site = not (site == me) && list_any (λ e. ships item site e.body) events
+-- one transformation: one event, or two of one transformationID
+abbrev pub AreOneMake : Content → Content → Type 0
+AreOneMake e f = (e ≡ f) ⊎ HaveOneId (make_id e.body) (make_id f.body)
 
--- i is an input and j an output of one transformation, or of two with equal id
-unfoldable pub inside_at : List Content → List ℕ → List ℕ → Bool
-inside_at events i j =
-    list_any (λ e. takes_in i e.body && gives_out j e.body) events
-    || list_any (λ e. takes_in i e.body && list_any (λ f. same_id (make_id e.body) (make_id f.body) && gives_out j f.body) events) events
+-- shipped: the pair is the item at another site, to which one of the events ships it
+abbrev pub IsShipped : SiteEvents → List ℕ → Pair → Type 0
+IsShipped s item q = (q.site ≢ s.me) × (q.item ≡ item) × Any (λ e. Ships item q.site e.body) s.events
 
--- whether the item at the site is related to the pair: the same item at a site that it was shipped to, or what was made of it at this site
-unfoldable pub is_related : SiteEvents → List ℕ → Pair → Bool
-is_related s item p =
-    (ships_at s.me s.events item p.site && same_item item p.item)
-    || (p.site == s.me && inside_at s.events item p.item)
+-- j is an output of a transformation of which i is an input
+abbrev pub IsMadeOf : List Content → List ℕ → List ℕ → Type 0
+IsMadeOf events i j = Any (λ e. TakesIn i e.body × Any (λ f. AreOneMake e f × GivesOut j f.body) events) events
 
+-- made: the pair is at this site, and its item is made of the item
+abbrev pub IsMade : SiteEvents → List ℕ → Pair → Type 0
+IsMade s item q = (q.site ≡ s.me) × IsMadeOf s.events item q.item
+
+-- the item at the site is related to the pair
 abbrev pub IsRelated : SiteEvents → List ℕ → Pair → Type 0
-IsRelated s item p = IsTrue (is_related s item p)
+IsRelated s item q = IsShipped s item q ⊎ IsMade s item q

@@ -2,7 +2,7 @@ ghost use Rattle.std.specs.Prelude.{◌≡◌, Some, Ok, IfOk, IfErr, OnErr, len
 ghost use Rattle.std.specs.List.{list_any};
 ghost use Rattle.trace_core.specs.Adding.{standing_among, with_fresh, adding, FaultOf};
 ghost use Rattle.event_json.specs.Contents.{same_content};
-ghost use Rattle.trace_core.specs.Pairs.{same_id};
+ghost use Rattle.trace_core.specs.PairTests.{same_id};
 
 use event_json::{Event, PlainText};
 use std::alloc::AllocError;
@@ -31,7 +31,7 @@ pub enum AddFault {
     },
 }
 
-/// How an event stands to the events so far.
+/// How an event stands among other events.
 #[derive(Clone, Copy, Debug, PartialEq, Eq)]
 pub enum Standing {
     /// It has no eventID, or one that none of them has.
@@ -65,7 +65,7 @@ pub fn append_fresh(events: &mut Vec<Event>, given: Vec<Event>) -> Result<Added,
 }
 
 /// Adds an event if it is fresh, and tells how it stood.
-fn add_if_fresh(events: &mut Vec<Event>, event: Event) -> Result<Standing, AllocError>
+pub fn add_if_fresh(events: &mut Vec<Event>, event: Event) -> Result<Standing, AllocError>
     ensures standing { IfOk result (λ standing. standing ≡ standing_among events.old.items event) }
     ensures ok { IfOk result (λ standing. events.new.items ≡ with_fresh events.old.items event standing) }
     ensures err { OnErr result (events.new.items ≡ events.old.items) }
@@ -80,7 +80,7 @@ fn add_if_fresh(events: &mut Vec<Event>, event: Event) -> Result<Standing, Alloc
 
 /// How an event stands to the events so far.
 #[tactic(auto, unfolding(crate::specs::Adding::standing_among))]
-fn standing_among(events: &[Event], event: &Event) -> Standing
+pub fn standing_among(events: &[Event], event: &Event) -> Standing
     ensures { result ≡ standing_among events.now event.now }
 {
     if !is_id_used(events, event) {

@@ -1,9 +1,9 @@
-ghost use Rattle.std.specs.Prelude.{◌≡◌, ◌↔◌, [], Ok, IfOk, IfErr, OnErr, Contains};
+ghost use Rattle.std.specs.Prelude.{◌≡◌, ◌↔◌, [], Ok, IfOk, IfErr, OnErr, Contains, length, take, slice_get, option_map};
 ghost use Rattle.trace_core.specs.declared.pairs.Pair.{Pair};
-ghost use Rattle.trace_core.specs.Adding.{adding, FaultOf};
+ghost use Rattle.trace_core.specs.Adding.{standing_among, with_fresh, adding, FaultOf};
 ghost use Rattle.trace_core.specs.Pairs.{IsRelated, IsStrictlyAscending};
 
-use crate::adding::{AddFault, Added, append_fresh};
+use crate::adding::{AddFault, Added, Standing, add_if_fresh, append_fresh, standing_among};
 use crate::gathering::gather;
 use crate::ordered_keys::keys_in_order;
 use crate::pairs::Pair;
@@ -44,16 +44,49 @@ impl Captured {
         self.me
     }
 
-    /// The events in the order in which they were captured.
-    pub fn events(&self) -> &[Event]
-        ensures { result.now ≡ self.now.events }
+    /// How many events were captured.
+    pub fn len(&self) -> usize
+        ensures { result ≡ length self.now.events }
     {
-        self.events.as_slice()
+        self.events.len()
     }
 
-    /// Adds the events of a document, whole or not at all. Each is judged by those that stand so
-    /// far, earlier ones of the document among them: it is fresh, and kept, where it has no eventID
-    /// or a new one; it is known, and changes nothing, where one with equal content stands (GS1 EPCIS
+    /// The event at a place, from 0, in the order in which they were captured.
+    pub fn event(&self, place: usize) -> Option<&Event>
+        ensures { option_map (λ e. e.now) result ≡ slice_get self.now.events place }
+    {
+        self.events.get(place)
+    }
+
+    /// How an event stands among the captured ones. Takes no memory.
+    pub fn standing(&self, event: &Event) -> Standing
+        ensures { result ≡ standing_among self.now.events event.now }
+    {
+        standing_among(&self.events, event)
+    }
+
+    /// Adds one event if it is fresh, and tells how it stood.
+    ///
+    /// # Errors
+    /// Want of memory. Nothing is changed then.
+    pub fn add_event(&mut self, event: Event) -> Result<Standing, AllocError>
+        ensures standing { IfOk result (λ standing. standing ≡ standing_among self.old.events event) }
+        ensures ok { IfOk result (λ standing. self.new ≡ record self.old { events = with_fresh self.old.events event standing }) }
+        ensures unchanged { OnErr result (self.new ≡ self.old) }
+    {
+        add_if_fresh(&mut self.events, event)
+    }
+
+    /// Takes back the last events, all but the first `kept`. Takes no memory.
+    pub fn truncate(&mut self, kept: usize)
+        ensures { self.new ≡ record self.old { events = take kept self.old.events } }
+    {
+        self.events.truncate(kept);
+    }
+
+    /// Adds the events of a document, whole or not at all. Each is judged by those that stand before
+    /// it, earlier ones of the document among them: it is fresh, and kept, where it has no eventID or
+    /// a new one; it is known, and changes nothing, where one with equal content stands (GS1 EPCIS
     /// 2.0, section 7.4: the eventID names one event).
     ///
     /// # Errors
@@ -89,6 +122,18 @@ impl Captured {
             gather(alloc, self.me, &self.events, item, event.body(), &mut pairs)?;
         }
         keys_in_order(alloc, pairs)
+    }
+
+    /// The events.
+    pub(crate) fn events(&self) -> &[Event]
+        ensures { result.now ≡ self.now.events }
+    {
+        self.events.as_slice()
+    }
+
+    /// What the site's memory is taken from.
+    pub(crate) fn alloc(&self) -> Global {
+        *self.events.allocator()
     }
 
     /// An equal site.

@@ -6,19 +6,9 @@ ghost use Rattle.trace_core.specs.Chains.{Related, RelatesFrom, sites_at};
 ghost use Rattle.trace_core.specs.Relations.{Reaches};
 
 use crate::captured::Captured;
-use crate::closures::{Node, Relation, closure};
 use crate::pairs::Pair;
+use crate::searches::{Relation, closure};
 use std::alloc::{AllocError, Global};
-
-impl Node for Pair {
-    ghost use Rattle.trace_core.specs.PairOrder.{pairs_exact};
-
-    ghost exact = { pairs_exact };
-
-    fn copy(&self, alloc: Global) -> Result<Pair, AllocError> {
-        Pair::copy(self, alloc)
-    }
-}
 
 /// The related pairs of several sites.
 #[derive(Drop)]
@@ -26,16 +16,13 @@ struct RelatedPairs<'a> {
     sites: &'a [&'a Captured],
 }
 
-impl Relation<Pair> for RelatedPairs<'_> {
+impl Relation for RelatedPairs<'_> {
     ghost use Rattle.trace_core.specs.Chains.{Related, sites_at};
     ghost use Rattle.trace_core.specs.Targets.{all_targets};
-    ghost use Rattle.trace_core.specs.HasTargets.{has_targets};
 
     ghost relates = { λ r. Related (sites_at r.sites.now) };
 
     ghost all_targets = { λ r. all_targets (sites_at r.sites.now) };
-
-    ghost has_targets = { λ r p q h. has_targets (sites_at r.sites.now) p q h };
 
     fn targets(&self, alloc: Global, node: &Pair) -> Result<Vec<Pair>, AllocError> {
         let mut targets = Vec::new(alloc);
@@ -47,7 +34,7 @@ impl Relation<Pair> for RelatedPairs<'_> {
 }
 
 /// Adds the pairs that a site relates a pair to. There are none where the pair is at another site.
-fn add_related(site: &Captured, node: &Pair, targets: &mut Vec<Pair>) -> Result<(), AllocError>
+pub fn add_related(site: &Captured, node: &Pair, targets: &mut Vec<Pair>) -> Result<(), AllocError>
     ensures { OnOk result ((p : Pair) → Contains targets.new.items p ↔ (Contains targets.old.items p ⊎ RelatesFrom site.now node.now p)) }
 {
     if site.me() == node.site {

@@ -2,7 +2,8 @@ ghost use Rattle.std.specs.Prelude.{◌≡◌, ◌==◌, not, ◌&&◌, ◌||◌
 ghost use Rattle.std.specs.List.{list_any};
 ghost use Rattle.trace_core.specs.declared.pairs.Pair.{Pair};
 ghost use Rattle.trace_core.specs.Gathering.{is_in, related_by, shipped_by, joined_by};
-ghost use Rattle.trace_core.specs.Pairs.{same_item, takes_in, gives_out, lists, make_id, same_id};
+ghost use Rattle.trace_core.specs.PairTests.{same_item, takes_in, gives_out, lists, same_id};
+ghost use Rattle.trace_core.specs.Pairs.{make_id};
 
 use crate::pairs::Pair;
 use epc_core::Epc;
@@ -87,7 +88,7 @@ fn gather_joined(
 }
 
 /// Adds the outputs of a Make.
-fn gather_outputs(
+pub fn gather_outputs(
     alloc: Global,
     me: SiteNo,
     body: &Body,
@@ -120,7 +121,7 @@ fn gather_items(
 }
 
 /// Whether it is a Make of which the item is an input.
-fn takes_in(item: &Epc, body: &Body) -> bool
+pub fn takes_in(item: &Epc, body: &Body) -> bool
     ensures { result ≡ takes_in item.now body.now }
 {
     match body {
@@ -130,7 +131,7 @@ fn takes_in(item: &Epc, body: &Body) -> bool
 }
 
 /// Whether both are a Make, with equal ids.
-fn is_same_make(body: &Body, other: &Body) -> bool
+pub fn is_same_make(body: &Body, other: &Body) -> bool
     ensures { result ≡ same_id (make_id body.now) (make_id other.now) }
 {
     match (make_id(body), make_id(other)) {

@@ -1,7 +1,7 @@
-//! Laws of reach and of adding events, for proofs of the crates above. Each is a function with an
+//! Laws of related pairs, of reach and of adding events, for proofs of the crates above. Each is a function with an
 //! empty body whose contract is the law.
 
-ghost use Rattle.trace_core.specs.Laws.{ReachHasItsRoot, ReachIsClosed, ReachIsLeast, ReachIsInClosedList, ChainFormsAgree, AddingAppends, RelatedStays, ReachGrows};
+ghost use Rattle.trace_core.specs.Laws.{ReachHasItsRoot, ReachIsClosed, ReachIsLeast, ReachIsInClosedList, ChainFormsAgree, AddingAppends, AddingKeepsAll, StandingIsRight, StandingByMembers, ShipRelates, MakeRelates, JoinedMakesRelate, OthersAddNothing, PairTestsAgree, RelatedStays, ReachGrows, AscendingListsAgree, RelatedPairsAreOfTheirSite};
 
 /// A pair reaches itself.
 pub fn reach_has_its_root()
@@ -33,6 +33,47 @@ pub fn adding_appends()
     ensures { AddingAppends }
 {}
 
+/// After adding a document's events the events are those that stood before and those given.
+pub fn adding_keeps_all()
+    ensures { AddingKeepsAll }
+{}
+
+/// What the standings of an event say of its eventID and of equal events.
+pub fn standing_is_right()
+    ensures { StandingIsRight }
+{}
+
+/// How an event stands depends on which events there are, and not on their order or number.
+pub fn standing_by_members()
+    ensures { StandingByMembers }
+{}
+
+/// A shipped item is related to itself at the other site.
+pub fn ship_relates()
+    ensures { ShipRelates }
+{}
+
+/// An input of a transformation is related to each of its outputs.
+pub fn make_relates()
+    ensures { MakeRelates }
+{}
+
+/// An input of a transformation is related to the outputs of each one with the same id.
+pub fn joined_makes_relate()
+    ensures { JoinedMakesRelate }
+{}
+
+/// What adds no pair: a note, a shipment to the own site or out of the traced sites, and a
+/// transformation without an id that lacks inputs or outputs.
+pub fn others_add_nothing()
+    ensures { OthersAddNothing }
+{}
+
+/// The tests of pairs decide the relation.
+pub fn pair_tests_agree()
+    ensures { PairTestsAgree }
+{}
+
 /// What is related stays related once further events are captured.
 pub fn related_stays()
     ensures { RelatedStays }
@@ -41,4 +82,14 @@ pub fn related_stays()
 /// What is reached stays reached once further events are captured.
 pub fn reach_grows()
     ensures { ReachGrows }
+{}
+
+/// Strictly ascending lists with the same pairs are one list.
+pub fn ascending_lists_agree()
+    ensures { AscendingListsAgree }
+{}
+
+/// Where each number has one site, related pairs are those of the pair's site.
+pub fn related_pairs_are_of_their_site()
+    ensures { RelatedPairsAreOfTheirSite }
 {}

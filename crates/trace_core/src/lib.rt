@@ -7,16 +7,16 @@
 mod adding;
 mod captured;
 mod chains;
-mod closures;
 mod gathering;
 pub mod laws;
 mod ordered_keys;
 mod pairs;
+mod searches;
+mod spreads;
 #[cfg(test)]
 mod tests;
 
-pub use adding::{AddFault, Added};
+pub use adding::{AddFault, Added, Standing};
 pub use captured::Captured;
 pub use chains::reach;
-pub use closures::{Node, Relation, closure};
 pub use pairs::Pair;

@@ -8,116 +8,138 @@ use event_json::{Doc, SiteNo, Sites, read_document};
 use std::alloc::{AllocError, Global};
 use std::test::Fail;
 
-/// An event of x whose eventID is e.
-pub const X_AS_E: &str =
-    r#"{"type":"ObjectEvent","eventTime":"2024-05-01T08:00:00Z","eventTimeZoneOffset":"+00:00","eventID":"e","action":"OBSERVE","epcList":["x"]}"#;
+/// An event of the tests.
+#[derive(Clone, Copy, Drop)]
+pub enum Told<'a> {
+    /// A shipment of an item to a destination.
+    Ship(&'a str, &'a str),
+    /// A transformation of one item into another.
+    Make(&'a str, &'a str),
+    /// A part of transformation t, with the texts of its lists of inputs and of outputs.
+    Part(&'a str, &'a str),
+    /// A note of an item at a second, with the eventID e.
+    Seen(&'a str, u64),
+}
 
-/// An event of y whose eventID is e.
-pub const Y_AS_E: &str =
-    r#"{"type":"ObjectEvent","eventTime":"2024-05-01T08:00:00Z","eventTimeZoneOffset":"+00:00","eventID":"e","action":"OBSERVE","epcList":["y"]}"#;
-
-/// The event of x whose eventID is e, a second later.
-pub const LATER_X_AS_E: &str =
-    r#"{"type":"ObjectEvent","eventTime":"2024-05-01T08:00:01Z","eventTimeZoneOffset":"+00:00","eventID":"e","action":"OBSERVE","epcList":["x"]}"#;
-
-/// A document of some events.
-pub fn document(alloc: Global, events: &[&str]) -> Result<String, AllocError> {
-    let mut list = String::new(alloc);
-    for event in events {
-        if !list.is_empty() {
-            list.push(',')?;
-        }
-        list.push_str(event)?;
+/// The answers to documents of site A, one after another, and how many events it has then.
+pub fn answers(alloc: Global, documents: &[&[Told<'_>]], wanted: &str) -> Result<bool, Fail> {
+    let mut site = Captured::new(alloc, site_of(0)?);
+    let mut text = String::new(alloc);
+    for document in documents {
+        let answer = match site.add(read(alloc, document)?.events) {
+            Ok(added) => format!(in alloc; "fresh {} known {}; ", added.fresh, added.known)?,
+            Err(fault) => format!(in alloc; "{fault}; ")?,
+        };
+        text.push_str(&answer)?;
     }
-    format!(in alloc; r#"{{"type":"EPCISDocument","epcisBody":{{"eventList":[{list}]}}}}"#)
+    let count = format!(in alloc; "{} events", site.len())?;
+    text.push_str(&count)?;
+    Ok(text.as_str() == wanted)
 }
 
-/// A shipment of an item to a destination.
-pub fn ship(alloc: Global, item: &str, to: &str) -> Result<String, AllocError> {
-    format!(in alloc;
-        r#"{{"type":"ObjectEvent","eventTime":"2024-05-01T08:00:00Z","eventTimeZoneOffset":"+00:00","action":"OBSERVE","epcList":["{item}"],"destinationList":[{{"type":"location","destination":"{to}"}}]}}"#
-    )
-}
-
-/// A transformation of one item into another.
-pub fn make(alloc: Global, input: &str, output: &str) -> Result<String, AllocError> {
-    format!(in alloc;
-        r#"{{"type":"TransformationEvent","eventTime":"2024-05-01T08:00:00Z","eventTimeZoneOffset":"+00:00","inputEPCList":["{input}"],"outputEPCList":["{output}"]}}"#
-    )
-}
-
-/// A document of transformations of one item into the next, from i and a number up to another one.
-pub fn chain(alloc: Global, first: u64, last: u64) -> Result<String, AllocError> {
-    let mut events = Vec::new(alloc);
-    for step in first..last {
-        let input = format!(in alloc; "i{step}")?;
-        let output = format!(in alloc; "i{}", step + 1)?;
-        events.push(make(alloc, &input, &output)?)?;
+/// Whether an item at a site reaches the pairs that are wanted, where site A has the first
+/// documents, site B the next, and so on.
+pub fn reaches(
+    alloc: Global,
+    documents: &[&[&[Told<'_>]]],
+    number: u64,
+    item: &str,
+    wanted: &str,
+) -> Result<bool, Fail> {
+    let mut sites = Vec::new(alloc);
+    for site in documents {
+        sites.push(captured(alloc, number_of(&sites), site)?)?;
     }
-    let events: Vec<&str> = events.iter().map(|e| e.as_str()).collect(alloc)?;
-    document(alloc, &events)
+    let refs: Vec<&Captured> = sites.iter().collect(alloc)?;
+    let root = Pair {
+        site: site_of(number)?,
+        item: Epc::read(alloc, item)?,
+    };
+    is_shown(alloc, &reach(alloc, &refs, &root)?, wanted)
 }
 
-/// A part of transformation t, with the texts of its lists of inputs and of outputs.
-pub fn part_of_t(alloc: Global, inputs: &str, outputs: &str) -> Result<String, AllocError> {
-    format!(in alloc;
-        r#"{{"type":"TransformationEvent","eventTime":"2024-05-01T08:00:00Z","eventTimeZoneOffset":"+00:00","transformationID":"t","inputEPCList":[{inputs}],"outputEPCList":[{outputs}]}}"#
-    )
+/// Whether an item at site A is related to the pairs that are wanted.
+pub fn relates(
+    alloc: Global,
+    documents: &[&[Told<'_>]],
+    item: &str,
+    wanted: &str,
+) -> Result<bool, Fail> {
+    let site = captured(alloc, 0, documents)?;
+    let item = Epc::read(alloc, item)?;
+    is_shown(alloc, &site.related(&item)?, wanted)
 }
 
 /// A site with the events of some documents.
-pub fn captured(alloc: Global, number: u64, documents: &[&str]) -> Result<Captured, Fail> {
-    let me = SiteNo::of(number).ok_or("there is no such site")?;
-    let mut captured = Captured::new(alloc, me);
+pub fn captured(alloc: Global, number: u64, documents: &[&[Told<'_>]]) -> Result<Captured, Fail> {
+    let mut captured = Captured::new(alloc, site_of(number)?);
     for document in documents {
         captured.add(read(alloc, document)?.events)?;
     }
     Ok(captured)
 }
 
-/// Adds a document, and shows the answer.
-pub fn added(alloc: Global, captured: &mut Captured, document: &str) -> Result<String, Fail> {
-    let doc = read(alloc, document)?;
-    let answer = match captured.add(doc.events) {
-        Ok(added) => format!(in alloc; "fresh {} known {}", added.fresh, added.known)?,
-        Err(fault) => format!(in alloc; "{fault}")?,
-    };
-    Ok(answer)
+/// A site with transformations of i0 into i1, of i1 into i2 and so on.
+pub fn chain(alloc: Global, steps: u64) -> Result<Captured, Fail> {
+    let mut site = Captured::new(alloc, site_of(0)?);
+    for step in 0..steps {
+        let input = format!(in alloc; "i{step}")?;
+        let output = format!(in alloc; "i{}", step + 1)?;
+        site.add(read(alloc, &[Told::Make(&input, &output)])?.events)?;
+    }
+    Ok(site)
 }
 
-/// What an item at a site reaches by the events of some sites, shown.
-pub fn reached(
-    alloc: Global,
-    sites: &[&Captured],
-    number: u64,
-    item: &str,
-) -> Result<String, Fail> {
-    let root = Pair {
-        site: SiteNo::of(number).ok_or("there is no such site")?,
-        item: Epc::read(alloc, item)?,
-    };
-    shown(alloc, &reach(alloc, sites, &root)?)
+fn number_of(sites: &[Captured]) -> u64 {
+    sites.len() as u64
 }
 
-/// What an item is related to, shown.
-pub fn related(alloc: Global, captured: &Captured, item: &str) -> Result<String, Fail> {
-    let item = Epc::read(alloc, item)?;
-    shown(alloc, &captured.related(&item)?)
+/// The site of a number.
+pub fn site_of(number: u64) -> Result<SiteNo, Fail> {
+    Ok(SiteNo::of(number).ok_or("there is no such site")?)
 }
 
-fn shown(alloc: Global, pairs: &[Pair]) -> Result<String, Fail> {
+fn is_shown(alloc: Global, pairs: &[Pair], wanted: &str) -> Result<bool, Fail> {
     let mut text = String::new(alloc);
     for pair in pairs {
         let key = pair.item.key(alloc)?;
         let part = format!(in alloc; "{} {key}; ", pair.site.number())?;
         text.push_str(&part)?;
     }
-    Ok(text)
+    Ok(text.as_str() == wanted)
 }
 
-fn read(alloc: Global, document: &str) -> Result<Doc, Fail> {
+/// A document of some events.
+pub fn read(alloc: Global, events: &[Told<'_>]) -> Result<Doc, Fail> {
+    let mut list = String::new(alloc);
+    for event in events {
+        if !list.is_empty() {
+            list.push(',')?;
+        }
+        list.push_str(&json(alloc, event)?)?;
+    }
+    let text = format!(in alloc;
+        r#"{{"type":"EPCISDocument","epcisBody":{{"eventList":[{list}]}}}}"#
+    )?;
     let sites = sites(alloc)?;
-    Ok(read_document(alloc, document.as_bytes(), &sites)?)
+    Ok(read_document(alloc, text.as_bytes(), &sites)?)
+}
+
+fn json(alloc: Global, event: &Told<'_>) -> Result<String, AllocError> {
+    match event {
+        Told::Ship(item, to) => format!(in alloc;
+            r#"{{"type":"ObjectEvent","eventTime":"2024-05-01T08:00:00Z","eventTimeZoneOffset":"+00:00","action":"OBSERVE","epcList":["{item}"],"destinationList":[{{"type":"location","destination":"{to}"}}]}}"#
+        ),
+        Told::Make(input, output) => format!(in alloc;
+            r#"{{"type":"TransformationEvent","eventTime":"2024-05-01T08:00:00Z","eventTimeZoneOffset":"+00:00","inputEPCList":["{input}"],"outputEPCList":["{output}"]}}"#
+        ),
+        Told::Part(inputs, outputs) => format!(in alloc;
+            r#"{{"type":"TransformationEvent","eventTime":"2024-05-01T08:00:00Z","eventTimeZoneOffset":"+00:00","transformationID":"t","inputEPCList":[{inputs}],"outputEPCList":[{outputs}]}}"#
+        ),
+        Told::Seen(item, second) => format!(in alloc;
+            r#"{{"type":"ObjectEvent","eventTime":"2024-05-01T08:00:0{second}Z","eventTimeZoneOffset":"+00:00","eventID":"e","action":"OBSERVE","epcList":["{item}"]}}"#
+        ),
+    }
 }
 
 fn sites(alloc: Global) -> Result<Sites, Fail> {

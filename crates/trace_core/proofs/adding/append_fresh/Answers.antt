@@ -1,7 +1,8 @@
-use Rattle.std.proofs.Common.{sym, ap, length, arith}
+use Rattle.std.proofs.Common.{sym, ap, ◌∙◌, length, arith}
 use Rattle.std.specs.Vec.Iter.{into_iter_items}
 use Rattle.std.proofs.lemmas.List.{nil_from_length}
 use Rattle.trace_core.proofs.AddingSteps.{told_fresh, told_known, told_taken, told_end, front_more}
+use Rattle.trace_core.proofs.Standings.{adding-stepwise}
 use Rattle.trace_core.proofs.adding.append_fresh.Goals as goal
 
 pub loop-event-preserved-in-Ok-Fresh : goal.loop-event-preserved-in-Ok-Fresh
@@ -33,7 +34,7 @@ loop-event-preserved c =
 pub returns-in-Ok-Taken-clause-fault : goal.returns-in-Ok-Taken-clause-fault
 returns-in-Ok-Taken-clause-fault c =
     let stands = rw c.in-Ok-Taken.field-0-is at c.in-Ok-Taken.ensures.standing in
-    told_taken _ _ _ _ _ _ _ c.in-Some.ensures.steps.0 c.loop-event.invariant.told (sym stands)
+    adding-stepwise c.args.events.now.items c.args.given.items ∙ told_taken _ _ _ _ _ _ _ c.in-Some.ensures.steps.0 c.loop-event.invariant.told (sym stands)
 
 pub returns-clause-ok : goal.returns-clause-ok
-returns-clause-ok c = told_end _ _ _ _ _ (nil_from_length (into_iter_items c.loop-event.event-iterator) (omega (arith, c.in-None.ensures.steps.0))) c.loop-event.invariant.told
+returns-clause-ok c = adding-stepwise c.args.events.now.items c.args.given.items ∙ told_end _ _ _ _ _ (nil_from_length (into_iter_items c.loop-event.event-iterator) (omega (arith, c.in-None.ensures.steps.0))) c.loop-event.invariant.told

@@ -2,7 +2,7 @@ use Rattle.std.proofs.Common.{◌≡◌, ◌==◌, not, ◌&&◌, ◌||◌, take
 use Rattle.std.specs.List.{list_any}
 use Rattle.trace_core.specs.declared.pairs.Pair.{Pair}
 use Rattle.trace_core.specs.Gathering.{is_in}
-use Rattle.trace_core.specs.Pairs.{same_item}
+use Rattle.trace_core.specs.PairTests.{same_item}
 use Rattle.trace_core.proofs.gathering.gather_at_sites.Given as goal
 
 -- the item at the sites so far

@@ -1,7 +1,7 @@
 use Rattle.std.proofs.Common.{◌≡◌, ◌==◌, ◌&&◌, ◌||◌, take}
 use Rattle.trace_core.specs.declared.pairs.Pair.{Pair}
 use Rattle.trace_core.specs.Gathering.{is_in}
-use Rattle.trace_core.specs.Pairs.{lists}
+use Rattle.trace_core.specs.PairTests.{lists}
 use Rattle.trace_core.proofs.gathering.gather_items.Given as goal
 
 -- the items so far, at the site

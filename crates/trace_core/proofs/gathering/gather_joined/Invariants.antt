@@ -2,7 +2,8 @@ use Rattle.std.proofs.Common.{◌≡◌, ◌==◌, ◌&&◌, ◌||◌, take}
 use Rattle.std.specs.List.{list_any}
 use Rattle.trace_core.specs.declared.pairs.Pair.{Pair}
 use Rattle.trace_core.specs.Gathering.{is_in}
-use Rattle.trace_core.specs.Pairs.{gives_out, make_id, same_id}
+use Rattle.trace_core.specs.PairTests.{gives_out, same_id}
+use Rattle.trace_core.specs.Pairs.{make_id}
 use Rattle.trace_core.proofs.gathering.gather_joined.Given as goal
 
 -- the outputs of the joined transformations so far

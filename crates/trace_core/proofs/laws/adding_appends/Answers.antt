@@ -1,4 +1,4 @@
-use Rattle.trace_core.proofs.Growing.{adding_appends_some}
+use Rattle.trace_core.proofs.Standings.{adding_appends_some}
 use Rattle.trace_core.proofs.laws.adding_appends.Goals as goal
 
 pub returns : goal.returns

@@ -1,0 +1,74 @@
+ghost use Rattle.std.specs.Prelude.{◌≡◌, ◌∷◌, [], List, Contains, ◌↔◌, IfOk, OnOk};
+ghost use Rattle.trace_core.specs.declared.pairs.Pair.{Pair};
+ghost use Rattle.trace_core.specs.Pairs.{pair_cmp, IsStrictlyAscending};
+ghost use Rattle.trace_core.specs.Relations.{ReachedFrom};
+ghost use Rattle.trace_core.specs.Searches.{NotesAll};
+
+use crate::ordered_keys::keys_in_order;
+use crate::pairs::Pair;
+use std::alloc::{AllocError, Global};
+use std::collections::BTreeSet;
+
+/// A relation of pairs with finitely many targets.
+pub trait Relation {
+    /// Which pairs a pair is related to.
+    ghost relates: { Self → Pair → Pair → Type 0 };
+
+    /// A list that has each target.
+    ghost all_targets: { Self → List Pair };
+
+    /// The pairs that a pair is related to, in any order.
+    fn targets(&self, alloc: Global, node: &Pair) -> Result<Vec<Pair>, AllocError>
+        ensures exact { IfOk result (λ targets. (q : Pair) → Contains targets.items q ↔ relates self.now node.now q) }
+        ensures bounded { IfOk result (λ targets. (q : Pair) → Contains targets.items q → Contains (all_targets self.now) q) };
+}
+
+/// All that chains of a relation reach from some pairs, these among them, ascending.
+pub fn closure<R: Relation>(
+    alloc: Global,
+    relation: &R,
+    starts: Vec<Pair>,
+) -> Result<Vec<Pair>, AllocError>
+    ensures ascending { IfOk result (λ nodes. IsStrictlyAscending nodes.items) }
+    ensures reached { IfOk result (λ nodes. (n : Pair) → Contains nodes.items n ↔ ReachedFrom (R.relates relation.now) starts.items n) }
+{
+    let mut found = BTreeSet::new(alloc);
+    let mut waiting = Vec::new(alloc);
+    note_all(alloc, &mut found, &mut waiting, starts)?;
+    while let Some(node) = waiting.pop() {
+        let targets = relation.targets(alloc, &node)?;
+        note_all(alloc, &mut found, &mut waiting, targets)?;
+    }
+    keys_in_order(alloc, found)
+}
+
+/// Notes pairs as found. Those that weren't found before are waiting.
+fn note_all(
+    alloc: Global,
+    found: &mut BTreeSet<Pair>,
+    waiting: &mut Vec<Pair>,
+    nodes: Vec<Pair>,
+) -> Result<(), AllocError>
+    ensures { OnOk result (NotesAll pair_cmp found.old found.new waiting.old.items waiting.new.items nodes.items) }
+{
+    for node in nodes {
+        note(alloc, found, waiting, node)?;
+    }
+    Ok(())
+}
+
+/// Notes a pair as found. It is waiting if it wasn't found before.
+fn note(
+    alloc: Global,
+    found: &mut BTreeSet<Pair>,
+    waiting: &mut Vec<Pair>,
+    node: Pair,
+) -> Result<(), AllocError>
+    ensures { OnOk result (NotesAll pair_cmp found.old found.new waiting.old.items waiting.new.items (node ∷ [])) }
+{
+    if !found.contains(&node) {
+        waiting.push(node.copy(alloc)?)?;
+        found.insert(node)?;
+    }
+    Ok(())
+}

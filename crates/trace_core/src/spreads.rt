@@ -1,0 +1,140 @@
+ghost use Rattle.std.specs.Prelude.{◌≡◌, ◌↔◌, ◌||◌, IfOk, OnOk, ℕ, List, Contains, map};
+ghost use Rattle.trace_core.specs.declared.pairs.Pair.{Pair};
+ghost use Rattle.trace_core.specs.Gathering.{is_in, added_by, joins};
+ghost use Rattle.trace_core.specs.Pairs.{IsStrictlyAscending};
+ghost use Rattle.trace_core.specs.Spreads.{AreAscendingItems, IsSpread, AreLooks, IsNewTarget};
+
+use crate::captured::Captured;
+use crate::chains::add_related;
+use crate::gathering::{gather, gather_outputs, is_same_make, takes_in};
+use crate::ordered_keys::keys_in_order;
+use crate::pairs::Pair;
+use crate::searches::{Relation, closure};
+use epc_core::Epc;
+use event_json::{Body, Event, SiteNo};
+use std::alloc::{AllocError, Global};
+use std::collections::BTreeSet;
+
+impl Captured {
+    /// The given items, and all that chains of related pairs reach from them inside this site,
+    /// ascending and without repeats.
+    pub fn spread(&self, items: &[Epc]) -> Result<Vec<Epc>, AllocError>
+        ensures ascending { IfOk result (λ found. AreAscendingItems found.items) }
+        ensures exact { IfOk result (λ found. (j : List ℕ) → Contains found.items j ↔ IsSpread self.now items.now j) }
+    {
+        let alloc = self.alloc();
+        let starts = pairs_at(alloc, self.me(), items)?;
+        let found = closure(alloc, &SitePairs { site: self }, starts)?;
+        items_at(alloc, self.me(), &found)
+    }
+
+    /// The spread of the given items, and how many looks it took. A look is one item taken from the
+    /// work list, or one output member of a transformation.
+    pub fn spread_counted(&self, items: &[Epc]) -> Result<(Vec<Epc>, u64), AllocError>
+        ensures ascending { IfOk result (λ counted. AreAscendingItems counted.0.items) }
+        ensures exact { IfOk result (λ counted. (j : List ℕ) → Contains counted.0.items j ↔ IsSpread self.now items.now j) }
+        ensures looks { IfOk result (λ counted. AreLooks self.now items.now counted.0.items counted.1) }
+    {
+        let found = self.spread(items)?;
+        let looks = found.len() as u64;
+        Ok((found, looks))
+    }
+
+    /// The targets of the pairs from an item that adding an event would give, and that aren't there
+    /// yet, ascending and without repeats.
+    pub fn new_targets(&self, event: &Event, item: &Epc) -> Result<Vec<Pair>, AllocError>
+        ensures ascending { IfOk result (λ pairs. IsStrictlyAscending pairs.items) }
+        ensures exact { IfOk result (λ pairs. (q : Pair) → Contains pairs.items q ↔ IsNewTarget self.now event.now item.now q) }
+    {
+        let alloc = self.alloc();
+        let mut pairs = BTreeSet::new(alloc);
+        gather_added(
+            alloc,
+            self.me(),
+            self.events(),
+            item,
+            event.body(),
+            &mut pairs,
+        )?;
+        let before = self.related(item)?;
+        for pair in &before {
+            pairs.remove(pair);
+        }
+        keys_in_order(alloc, pairs)
+    }
+}
+
+/// The related pairs of one site.
+#[derive(Drop)]
+struct SitePairs<'a> {
+    site: &'a Captured,
+}
+
+impl Relation for SitePairs<'_> {
+    ghost use Rattle.trace_core.specs.Chains.{RelatesFrom};
+    ghost use Rattle.trace_core.specs.Targets.{site_targets};
+
+    ghost relates = { λ r. RelatesFrom r.site.now };
+
+    ghost all_targets = { λ r. site_targets r.site.now };
+
+    fn targets(&self, alloc: Global, node: &Pair) -> Result<Vec<Pair>, AllocError> {
+        let mut targets = Vec::new(alloc);
+        add_related(self.site, node, &mut targets)?;
+        Ok(targets)
+    }
+}
+
+/// The items at a site.
+fn pairs_at(alloc: Global, me: SiteNo, items: &[Epc]) -> Result<Vec<Pair>, AllocError>
+    ensures { IfOk result (λ pairs. pairs.items ≡ map (λ i. record { site = me; item = i }) items.now) }
+{
+    let mut pairs = Vec::new(alloc);
+    for item in items {
+        pairs.push(Pair {
+            site: me,
+            item: item.copy(alloc)?,
+        })?;
+    }
+    Ok(pairs)
+}
+
+/// The items of those pairs that are at a site, ascending and without repeats.
+fn items_at(alloc: Global, me: SiteNo, pairs: &[Pair]) -> Result<Vec<Epc>, AllocError>
+    ensures ascending { IfOk result (λ items. AreAscendingItems items.items) }
+    ensures exact { IfOk result (λ items. (i : List ℕ) → Contains items.items i ↔ Contains pairs.now (record { site = me; item = i })) }
+{
+    let mut items = BTreeSet::new(alloc);
+    for pair in pairs {
+        if pair.site == me {
+            items.insert(pair.item.copy(alloc)?)?;
+        }
+    }
+    keys_in_order(alloc, items)
+}
+
+/// Adds the pairs that an item would be related to by one event more: those of the event, and its
+/// outputs where one of the events that are there takes the item into a transformation of its id.
+fn gather_added(
+    alloc: Global,
+    me: SiteNo,
+    events: &[Event],
+    item: &Epc,
+    body: &Body,
+    pairs: &mut BTreeSet<Pair>,
+) -> Result<(), AllocError>
+    ensures { OnOk result ((p : Pair) → is_in pairs.new p ≡ (is_in pairs.old p || added_by me events.now item.now body.now p)) }
+{
+    gather(alloc, me, events, item, body, pairs)?;
+    if joins(events, item, body) {
+        gather_outputs(alloc, me, body, pairs)?;
+    }
+    Ok(())
+}
+
+/// Whether one of the events takes the item into a transformation that has this one's id.
+fn joins(events: &[Event], item: &Epc, body: &Body) -> bool
+    ensures { result ≡ joins events.now item.now body.now }
+{
+    events.iter().any(|e| takes_in(item, e.body()) && is_same_make(e.body(), body))
+}
