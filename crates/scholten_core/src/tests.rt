@@ -1,3 +1,5 @@
+ghost use Rattle.std.specs.Prelude.{◌≤◌, length};
+
 use crate::{Diffusion, Own, Received, Signalled};
 use epc_core::Epc;
 use event_json::SiteNo;
@@ -45,97 +47,131 @@ fn initiator(alloc: Global, ended: bool) -> Result<Diffusion, Fail> {
     Ok(Diffusion::restore(alloc, site(0)?, rows, seen, parents, own, 5, 2)?)
 }
 
-/// Whether the site answers so to a message of the first recall, which makes it tell these.
-fn receives(
-    d: &mut Diffusion,
-    from: (u64, u64),
-    out: &[(SiteNo, Epc)],
-    answer: Received,
-) -> Result<bool, Fail> {
-    let (sender, number) = from;
-    Ok(d.receive(message(sender, number)?, first_recall()?, out)? == answer)
+/// Site D with nothing but one number left.
+fn nearly_spent(alloc: Global) -> Result<Diffusion, Fail> {
+    let (rows, seen) = (BTreeMap::new(alloc), BTreeMap::new(alloc));
+    let (parents, own) = (BTreeMap::new(alloc), BTreeMap::new(alloc));
+    Ok(Diffusion::restore(alloc, site(3)?, rows, seen, parents, own, LAST_NUMBER, 1)?)
 }
 
-// Site D, told by B and by C, which tells E.
+/// Site D, told by B and by C, which tells E: it is engaged until its message is signalled.
+fn is_engaged_once(d: &mut Diffusion, out: &[(SiteNo, Epc)]) -> Result<bool, Fail> {
+    let recall = first_recall()?;
+    let first = d.receive(message(1, 1)?, recall, out)?;
+    let second = d.receive(message(2, 1)?, recall, &[])?;
+    let again = d.receive(message(2, 1)?, recall, out)?;
+    let deficit = d.deficit(recall);
+    let due = d.signalled(1);
+    let stale = d.signalled(1);
+    let late = d.receive(message(1, 2)?, recall, &[])?;
+    let parent = message(1, 1)?;
+    Ok(
+        first == Received::Owe { numbered: 1 }
+            && second == Received::SignalNow { numbered: 0 }
+            && again == Received::Repeat
+            && deficit == 1
+            && due == Signalled::ParentDue(parent)
+            && stale == Signalled::Stale
+            && late == Received::SignalNow { numbered: 0 }
+            && (d.outbox().len(), d.seen().len(), d.parents().len()) == (0, 3, 0),
+    )
+}
+
 #[test]
 fn a_site_is_engaged_until_its_messages_are_signalled(rt: HostRuntime) -> Result<(), Fail> {
-    let mut d = Diffusion::new(rt.alloc(), site(3)?);
     let out = [told(rt.alloc(), 4)?];
-    assert!(rt; receives(&mut d, (1, 1), &out, Received::Owe { numbered: 1 })?);
-    assert!(rt; receives(&mut d, (2, 1), &[], Received::SignalNow { numbered: 0 })?);
-    assert!(rt; receives(&mut d, (2, 1), &out, Received::Repeat)?);
-    assert_eq!(rt; d.deficit(first_recall()?), 1);
-    assert_eq!(rt; d.signalled(1), Signalled::ParentDue(message(1, 1)?));
-    assert_eq!(rt; d.signalled(1), Signalled::Stale);
-    assert!(rt; receives(&mut d, (1, 2), &[], Received::SignalNow { numbered: 0 })?);
-    assert_eq!(rt;
-        (d.outbox().len(), d.seen().len(), d.parents().len()),
-        (0, 3, 0)
-    );
+    let mut d = Diffusion::new(rt.alloc(), site(3)?);
+    let engaged = is_engaged_once(&mut d, &out);
+    assert!(rt; engaged?);
     Ok(())
 }
 
-// The initiator's recall ends with the signal for its last message.
+/// Site A ends a recall of which it tells two sites with the signal for the second message.
+fn ends_with_last_signal(
+    a: &mut Diffusion,
+    root: Epc,
+    out: &[(SiteNo, Epc)],
+) -> Result<bool, Fail> {
+    let began = a.begin(root, out)?;
+    let (cleared, live) = (a.signalled(2), a.live_own(began.recall).is_some());
+    let (ended, still) = (a.signalled(1), a.live_own(began.recall).is_some());
+    Ok(
+        began.recall == first_recall()?
+            && (began.numbered, began.ended) == (2, false)
+            && (cleared, live) == (Signalled::Cleared, true)
+            && (ended, still) == (Signalled::Ended(began.recall), false),
+    )
+}
+
 #[test]
 fn a_recall_ends_with_its_last_signal(rt: HostRuntime) -> Result<(), Fail> {
-    let mut a = Diffusion::new(rt.alloc(), site(0)?);
     let out = [told(rt.alloc(), 1)?, told(rt.alloc(), 2)?];
-    let began = a.begin(Epc::read(rt.alloc(), "x")?, &out)?;
-    assert_eq!(rt;
-        (began.recall, began.numbered, began.ended),
-        (first_recall()?, 2, false)
-    );
-    assert_eq!(rt; a.signalled(2), Signalled::Cleared);
-    assert!(rt; a.live_own(began.recall).is_some());
-    assert_eq!(rt; a.signalled(1), Signalled::Ended(began.recall));
-    assert!(rt; a.copy(rt.alloc())?.live_own(began.recall).is_none());
+    let root = Epc::read(rt.alloc(), "x")?;
+    let mut a = Diffusion::new(rt.alloc(), site(0)?);
+    let ends = ends_with_last_signal(&mut a, root, &out);
+    assert!(rt; ends?);
     Ok(())
 }
 
 #[test]
 fn a_recall_with_nobody_to_tell_has_ended(rt: HostRuntime) -> Result<(), Fail> {
+    let root = Epc::read(rt.alloc(), "x")?;
     let mut a = Diffusion::new(rt.alloc(), site(0)?);
-    let began = a.begin(Epc::read(rt.alloc(), "x")?, &[])?;
-    assert!(rt; began.ended);
-    assert_eq!(rt;
-        (a.next_recall(), a.next_message(), a.own_recalls().len()),
-        (2, 1, 1)
-    );
+    let ended = a.begin(root, &[])?.ended;
+    assert!(rt; ended && a.next_recall() == 2 && a.next_message() == 1);
     Ok(())
 }
 
-// No run leads to these records. A live initiator is not engaged by a message of its own recall; one
-// whose recall has ended is, and that recall isn't ended again.
+/// Whether a site with its row 4 of the first recall answers so to a message of it, and to the signal for
+/// that row.
+fn answers(d: &mut Diffusion, taken: Received, cleared: Signalled) -> Result<bool, Fail> {
+    let received = d.receive(message(1, 1)?, first_recall()?, &[])?;
+    Ok(received == taken && d.signalled(4) == cleared)
+}
+
+// No run leads to these records: a live initiator isn't engaged by a message of its own recall; one whose
+// recall has ended is, and that recall isn't ended again.
 #[test]
 fn a_restored_initiator_follows_the_rules(rt: HostRuntime) -> Result<(), Fail> {
     let mut live = initiator(rt.alloc(), false)?;
-    assert!(rt; receives(&mut live, (1, 1), &[], Received::SignalNow { numbered: 0 })?);
-    assert_eq!(rt; live.signalled(4), Signalled::Ended(first_recall()?));
-    let mut ended = initiator(rt.alloc(), true)?;
-    assert_eq!(rt; ended.signalled(4), Signalled::Cleared);
+    let recall = first_recall()?;
+    let follows = answers(
+        &mut live,
+        Received::SignalNow { numbered: 0 },
+        Signalled::Ended(recall),
+    );
+    assert!(rt; follows?);
     Ok(())
 }
 
 #[test]
 fn an_ended_initiator_is_engaged_as_another_site(rt: HostRuntime) -> Result<(), Fail> {
     let mut ended = initiator(rt.alloc(), true)?;
-    assert!(rt; receives(&mut ended, (1, 1), &[], Received::Owe { numbered: 0 })?);
-    assert_eq!(rt; ended.parent(first_recall()?), Some(message(1, 1)?));
-    assert_eq!(rt; ended.signalled(4), Signalled::ParentDue(message(1, 1)?));
+    let parent = message(1, 1)?;
+    let follows = answers(
+        &mut ended,
+        Received::Owe { numbered: 0 },
+        Signalled::ParentDue(parent),
+    );
+    assert!(rt; follows?);
     Ok(())
 }
 
-// With one number left two messages have none, and nothing is noted.
+/// With one number left two messages have none, and nothing is noted; one message gets it.
+fn gives_last_number(d: &mut Diffusion, two: &[(SiteNo, Epc)]) -> Result<bool, Fail>
+    requires { 1 ≤ length two.now }
+{
+    let (from, recall) = (message(1, 1)?, first_recall()?);
+    let spent = d.receive(from, recall, two) == Err(NumberFault::NumbersSpent);
+    let unseen = d.seen_under(from).is_none();
+    Ok(spent && unseen && d.receive(from, recall, &two[..1])? == Received::Owe { numbered: 1 })
+}
+
 #[test]
 fn spent_numbers_change_nothing(rt: HostRuntime) -> Result<(), Fail> {
-    let alloc = rt.alloc();
-    let (seen, parents) = (BTreeMap::new(alloc), BTreeMap::new(alloc));
-    let (rows, own) = (BTreeMap::new(alloc), BTreeMap::new(alloc));
-    let mut d = Diffusion::restore(alloc, site(3)?, rows, seen, parents, own, LAST_NUMBER, 1)?;
-    let two = [told(alloc, 4)?, told(alloc, 5)?];
-    let refused = d.receive(message(1, 1)?, first_recall()?, &two);
-    assert_eq!(rt; refused, Err(NumberFault::NumbersSpent));
-    assert_eq!(rt; d.seen_under(message(1, 1)?), None);
-    assert!(rt; receives(&mut d, (1, 1), &two[..1], Received::Owe { numbered: 1 })?);
+    let two = [told(rt.alloc(), 4)?, told(rt.alloc(), 5)?];
+    let mut d = nearly_spent(rt.alloc())?;
+    let given = gives_last_number(&mut d, &two);
+    assert!(rt; given?);
     Ok(())
 }
