@@ -1,24 +1,25 @@
 -- What numbering messages and clearing a row do to the deficits of recalls, and where a recall has rows.
-use Rattle.std.proofs.Common.{◌≡◌, ◌≢◌, ℕ, ◌+◌, ◌≤◌, Bool, true, false, cond, not, ◌||◌, List, [], ◌∷◌, map, length, Option, Some, None, refl, sym, ap, subst, ◌∙◌, arith}
+use Rattle.std.proofs.Common.{◌≡◌, ◌≢◌, ℕ, ◌+◌, ◌≤◌, Bool, true, false, cond, not, ◌||◌, List, [], ◌∷◌, map, length, Option, Some, None, refl, sym, ap, ◌∙◌, arith}
 use Rattle.std.specs.Cmp.{IsTotalOrder, nat_cmp_total}
-use Rattle.std.specs.Ordering.{is_eq, nat_cmp, eq_by_cmp}
+use Rattle.std.specs.Prelude.{T}
+use Rattle.std.specs.Ordering.{is_eq, is_lt, nat_cmp, eq_by_cmp}
 use Rattle.std.specs.declared.cmp.Ordering.{Ordering}
 use Rattle.std.specs.declared.cmp.Ordering.TheVariants.{Less, Equal, Greater}
 use Rattle.std.specs.List.{count_by, list_any}
-use Rattle.std.specs.FinMap.{FinMap, nat_cmp-IsAntisymmetric, find, put, get, insert, remove, entries, entries_sorted, get-entries, entries-insert, entries-from_sorted, from_sorted, same_entries_map}
-use Rattle.std.specs.FinMap.Entries.{by_order}
+use Rattle.std.specs.FinMap.{FinMap, nat_cmp-IsAntisymmetric, find, put, get, insert, remove, entries, entries_sorted, is_sorted, get-entries, get-remove, entries-insert, from_sorted, entries-from_sorted, get-from_sorted, same_map}
+use Rattle.std.specs.FinMap.Entries.{by_order, below_all, where_key, is_sorted-where_key, find-where_key}
 use Rattle.std.proofs.lemmas.List.Sums.{sum_by-cons}
 use Rattle.std.proofs.lemmas.Bool.{false_from_ne_true}
-use Rattle.std.proofs.lemmas.Cmp.{tied_itself, tied_back}
+use Rattle.std.proofs.lemmas.Cmp.{tied_back, alike_right, eq_by_cmp_equiv}
 use Rattle.frame_core.specs.Numbers.{Recall}
 use Rattle.frame_core.specs.declared.rows.Row.{Row}
-use Rattle.frame_core.specs.Entries.{IsAscending, without}
 use Rattle.frame_core.specs.Identifiers.{same_recall}
 use Rattle.frame_core.specs.Outboxes.{row_for, numbered, rows_of, has_rows}
-use Rattle.frame_core.specs.Laws.{IsRowOf, AreUnused}
-use Rattle.frame_core.proofs.Maps.{get_apart, without_sorted, ascending_without}
-use Rattle.frame_core.proofs.Places.{first, second, above_tied, find_in, without_in}
-use Rattle.frame_core.proofs.Numbering.{one_recall, same_recall_itself}
+use Rattle.frame_core.specs.Laws.{IsRowOf, HasNoRows, AreUnused}
+use Rattle.frame_core.proofs.Found.{first, second, less, is_found, found_in}
+use Rattle.frame_core.proofs.Lookups.{get_apart}
+use Rattle.frame_core.proofs.Orders.{one_recall, equal_recalls, same_recall_itself}
+use Rattle.frame_core.proofs.Sums.{list_any-map}
 
 -- what fails a test adds nothing, and what passes it adds one
 not_counted : (n : ℕ) {b : Bool} → b ≡ false → cond b 1 0 + n ≡ n
@@ -50,16 +51,26 @@ module _ {K X : Type 0} (p : X → Bool) where
         | Greater ↦ λ h. omega (arith, passing_more e (put R k v es), passing_put R k v es h, passing_more e es)
       ] none
 
+  -- where all keys are above, none goes
+  none_goes : {R : K → K → Ordering} (o : IsTotalOrder R) (x k : K) (es : List (K × X)) → R x k ≡ Equal → T (below_all R x es) → where_key R (λ y. not (eq_by_cmp R k y)) es ≡ es
+  none_goes o x k [] tie up = refl
+  none_goes {R} o x k (e ∷ es) tie up =
+      let smaller : R k e.0 ≡ Less = sym (o.congr x k e.0 tie) ∙ less (R x e.0) (first (is_lt (R x e.0)) (below_all R x es) up) in
+      ap (λ r. cond (not (is_eq r)) (e ∷ where_key R (λ y. not (eq_by_cmp R k y)) es) (where_key R (λ y. not (eq_by_cmp R k y)) es)) smaller
+      ∙ ap (λ ys. e ∷ ys) (none_goes o x k es tie (second (is_lt (R x e.0)) (below_all R x es) up))
+
   -- a key that goes takes its value along
-  passing_without : {R : K → K → Ordering} (o : IsTotalOrder R) (k : K) (es : List (K × X)) → IsAscending R es → passing p (without R k es) + passed p (find R k es) ≡ passing p es
+  passing_without : {R : K → K → Ordering} (o : IsTotalOrder R) (k : K) (es : List (K × X)) → T (is_sorted R es) → passing p (where_key R (λ y. not (eq_by_cmp R k y)) es) + passed p (find R k es) ≡ passing p es
   passing_without o k [] up = refl
   passing_without {R} o k (e ∷ es) up =
-      elim (R k e.0) as (λ r. R k e.0 ≡ r → passing p (cond (not (is_eq r)) (e ∷ without R k es) (without R k es)) + passed p (cond (is_eq r) (Some e.1) (find R k es)) ≡ passing p (e ∷ es)) [
-        | Less ↦ λ t. omega (arith, passing_more e (without R k es), passing_without o k es (second _ _ up), passing_more e es)
+      let rest = where_key R (λ y. not (eq_by_cmp R k y)) es in
+      let later = passing_without o k es (second (below_all R e.0 es) (is_sorted R es) up) in
+      elim (R k e.0) as (λ r. R k e.0 ≡ r → passing p (cond (not (is_eq r)) (e ∷ rest) rest) + passed p (cond (is_eq r) (Some e.1) (find R k es)) ≡ passing p (e ∷ es)) [
+        | Less ↦ λ t. omega (arith, passing_more e rest, later, passing_more e es)
         | Equal ↦ λ t.
-            let rest : es ≡ without R k es = without_in o k es 0 (above_tied o e.0 k es (tied_back o k e.0 t) (first _ _ up)) in
-            omega (arith, ap (passing p) rest, passing_more e es)
-        | Greater ↦ λ t. omega (arith, passing_more e (without R k es), passing_without o k es (second _ _ up), passing_more e es)
+            let all : rest ≡ es = none_goes o e.0 k es (tied_back o k e.0 t) (first (below_all R e.0 es) (is_sorted R es) up) in
+            omega (arith, ap (passing p) all, passing_more e es)
+        | Greater ↦ λ t. omega (arith, passing_more e rest, later, passing_more e es)
       ] refl
 
   -- where no value passes, none is counted
@@ -80,63 +91,40 @@ module _ {K X : Type 0} (p : X → Bool) where
         | false ↦ λ t h. omega (arith, passing_more e es, some_counted es h)
       ] refl some
 
--- an entry among those of an ascending list is found, and passes
-pub record IsPassing {K X : Type 0} (R : K → K → Ordering) (p : X → Bool) (es : List (K × X)) : Type 0 where
-  pub key : K
-  pub value : X
-  pub found : find R key es ≡ Some value
-  pub passes : p value ≡ true
-
-module _ {K X : Type 0} {R : K → K → Ordering} (o : IsTotalOrder R) (p : X → Bool) where
-  -- what is found behind the first entry is found
-  later_found : (e : K × X) (es : List (K × X)) → IsAscending R (e ∷ es) → IsPassing R p es → IsPassing R p (e ∷ es)
-  later_found e es up later =
-      elim (R later.key e.0) as (λ r. R later.key e.0 ≡ r → IsPassing R p (e ∷ es)) [
-        | Less ↦ λ t. record { key = later.key; value = later.value; found = ap (λ r. cond (is_eq r) (Some e.1) (find R later.key es)) t ∙ later.found; passes = later.passes }
-        | Equal ↦ λ t.
-            let absent : find R later.key es ≡ None = find_in o later.key es 0 (above_tied o e.0 later.key es (tied_back o later.key e.0 t) (first _ _ up)) in
-            let present : find R later.key es ≡ Some later.value = later.found in
-            cc
-        | Greater ↦ λ t. record { key = later.key; value = later.value; found = ap (λ r. cond (is_eq r) (Some e.1) (find R later.key es)) t ∙ later.found; passes = later.passes }
-      ] refl
-
-  -- a value that passes has a key under which it is found
-  found_passing : (es : List (K × X)) → IsAscending R es → list_any p (map (λ e. e.1) es) ≡ true → IsPassing R p es
-  found_passing [] up some = cc
-  found_passing (e ∷ es) up some =
-      elim (p e.1) as (λ b. p e.1 ≡ b → (b || list_any p (map (λ e. e.1) es)) ≡ true → IsPassing R p (e ∷ es)) [
-        | true ↦ λ t h. record { key = e.0; value = e.1; found = ap (λ r. cond (is_eq r) (Some e.1) (find R e.0 es)) (tied_itself o e.0); passes = t }
-        | false ↦ λ t h. later_found e es up (found_passing es (second _ _ up) h)
-      ] refl some
-
-  -- a value that is found and passes is one that passes
-  passing_found : (es : List (K × X)) (q : K) (x : X) → find R q es ≡ Some x → p x ≡ true → list_any p (map (λ e. e.1) es) ≡ true
-  passing_found [] q x is passes = cc
-  passing_found (e ∷ es) q x is passes =
-      elim (eq_by_cmp R q e.0) as (λ b. cond b (Some e.1) (find R q es) ≡ Some x → (p e.1 || list_any p (map (λ e. e.1) es)) ≡ true) [
-        | true ↦ λ here. let same : e.1 ≡ x = cc in ap (λ y. p y || list_any p (map (λ e. e.1) es)) same ∙ ap (λ b. b || list_any p (map (λ e. e.1) es)) passes
-        | false ↦ λ later. elim (p e.1) as (λ b. (b || list_any p (map (λ e. e.1) es)) ≡ true) [ true ↦ refl | false ↦ passing_found es q x later passes ]
-      ] is
-
 -- the entries of a map without a key
-entries_removed : (m : FinMap nat_cmp Row) (n : ℕ) → entries (remove m n) ≡ without nat_cmp n (entries m)
+entries_removed : (m : FinMap nat_cmp Row) (n : ℕ) → entries (remove m n) ≡ where_key nat_cmp (λ y. not (eq_by_cmp nat_cmp n y)) (entries m)
 entries_removed m n =
-    let whole : from_sorted {R = nat_cmp} (entries m) ≡ m = same_entries_map _ _ (entries-from_sorted nat_cmp (entries m) (entries_sorted m)) in
-    ap (λ k. entries (remove k n)) (sym whole)
-    ∙ ap entries (sym (without_sorted nat_cmp_total nat_cmp-IsAntisymmetric (entries m) n (entries_sorted m)))
-    ∙ entries-from_sorted nat_cmp (without nat_cmp n (entries m)) (ascending_without nat_cmp_total nat_cmp-IsAntisymmetric (entries m) n (entries_sorted m))
+    let left = where_key nat_cmp (λ y. not (eq_by_cmp nat_cmp n y)) (entries m) in
+    let up = is_sorted-where_key nat_cmp (λ y. not (eq_by_cmp nat_cmp n y)) (entries m) (entries_sorted m) in
+    let same : from_sorted {R = nat_cmp} left ≡ remove m n =
+    same_map nat_cmp_total nat_cmp-IsAntisymmetric _ _ (λ q.
+    get-from_sorted nat_cmp left q up
+    ∙ find-where_key nat_cmp (λ y. not (eq_by_cmp nat_cmp n y)) q (λ x t. ap (λ r. not (is_eq r)) (sym (alike_right nat_cmp_total q x n t))) (entries m)
+    ∙ turned (eq_by_cmp nat_cmp n q) _ _
+    ∙ ap (λ b. cond b None (find nat_cmp q (entries m))) ((eq_by_cmp_equiv nat_cmp_total).symm n q)
+    ∙ ap (cond (eq_by_cmp nat_cmp q n) None) (sym (get-entries m q))
+    ∙ sym (get-remove nat_cmp_total m n q)) in
+    ap entries (sym same) ∙ entries-from_sorted nat_cmp left up
+  where
+    turned : {A : Type 0} (b : Bool) (x y : A) → cond (not b) x y ≡ cond b y x
+    turned true x y = refl
+    turned false x y = refl
 
 -- a recall has rows exactly where a row of it is found
 pub rows_are_found : (rows : FinMap nat_cmp Row) (r : Recall) → has_rows rows r ≡ true → IsRowOf rows r
 rows_are_found rows r some =
-    let one = found_passing nat_cmp_total (λ row. same_recall row.recall r) (entries rows) (entries_sorted rows) some in
-    record { number = one.key; row = one.value; stands = get-entries rows one.key ∙ one.found; of_recall = one_recall one.value.recall r one.passes }
+    let one = is_found nat_cmp_total (λ e. same_recall e.1.recall r) rows (sym (list_any-map (λ e. e.1) (λ row. same_recall row.recall r) (entries rows)) ∙ some) in
+    record { number = one.key; row = one.value; stands = one.found; of_recall = one_recall one.value.recall r one.passes }
 
 pub found_rows : (rows : FinMap nat_cmp Row) (r : Recall) → IsRowOf rows r → has_rows rows r ≡ true
 found_rows rows r one =
-    passing_found nat_cmp_total (λ row. same_recall row.recall r) (entries rows) one.number one.row
-    (sym (get-entries rows one.number) ∙ one.stands)
-    (subst (λ (z : Recall). same_recall z r ≡ true) (sym one.of_recall) (same_recall_itself r))
+    list_any-map (λ e. e.1) (λ row. same_recall row.recall r) (entries rows)
+    ∙ found_in nat_cmp_total (λ e. same_recall e.1.recall r) nat_cmp-IsAntisymmetric rows
+    (record { key = one.number; value = one.row; found = one.stands; passes = equal_recalls one.row.recall r one.of_recall })
+
+-- and it has none where no number has one
+pub no_row : (rows : FinMap nat_cmp Row) (r : Recall) → has_rows rows r ≡ false → HasNoRows rows r
+no_row rows r none n x stands of_recall = let some : has_rows rows r ≡ true = found_rows rows r (record { number = n; row = x; stands = stands; of_recall = of_recall }) in cc
 
 -- a recall without rows has no deficit, and the other way round
 pub no_deficit : (rows : FinMap nat_cmp Row) (r : Recall) → has_rows rows r ≡ false → rows_of rows r ≡ 0
@@ -182,8 +170,8 @@ other_deficit_stays rows n r other (pair ∷ out) unused ne =
 cleared : (rows : FinMap nat_cmp Row) (n : ℕ) (x : Row) (r : Recall) → get rows n ≡ Some x → rows_of (remove rows n) r + cond (same_recall x.recall r) 1 0 ≡ rows_of rows r
 cleared rows n x r is =
     let test : Row → Bool = λ row. same_recall row.recall r in
-    let fewer : rows_of (remove rows n) r ≡ passing test (without nat_cmp n (entries rows)) = ap (passing test) (entries_removed rows n) in
-    let all : passing test (without nat_cmp n (entries rows)) + passed test (find nat_cmp n (entries rows)) ≡ rows_of rows r = passing_without test nat_cmp_total n (entries rows) (entries_sorted rows) in
+    let fewer : rows_of (remove rows n) r ≡ passing test (where_key nat_cmp (λ y. not (eq_by_cmp nat_cmp n y)) (entries rows)) = ap (passing test) (entries_removed rows n) in
+    let all : passing test (where_key nat_cmp (λ y. not (eq_by_cmp nat_cmp n y)) (entries rows)) + passed test (find nat_cmp n (entries rows)) ≡ rows_of rows r = passing_without test nat_cmp_total n (entries rows) (entries_sorted rows) in
     let here : passed test (find nat_cmp n (entries rows)) ≡ cond (same_recall x.recall r) 1 0 = ap (passed test) (sym (get-entries rows n) ∙ is) in
     omega (arith, fewer, all, here)
 

@@ -1,4 +1,7 @@
 pub mod Deficits
+pub mod Found
+pub mod Known
+pub mod Lookups
 pub mod Maps
 pub mod Numbering
 pub mod Orders
