@@ -1,3 +1,8 @@
+pub mod Beginning
+pub mod Clearing
 pub mod Ends
-pub mod Engaging
+pub mod Fixing
+pub mod Live
 pub mod Owners
+pub mod Taking
+pub mod Telling
