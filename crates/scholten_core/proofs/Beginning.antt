@@ -1,7 +1,7 @@
 -- What beginning a recall leaves, and the rows that numbering adds.
-use Rattle.std.proofs.Common.{◌≡◌, inl, inr, ℕ, ◌+◌, ◌==◌, true, List, [], ◌∷◌, length, refl, sym, ap, ◌∙◌, arith}
+use Rattle.std.proofs.Common.{◌≡◌, inl, inr, ℕ, ◌+◌, ◌==◌, true, List, [], ◌∷◌, length, Some, refl, sym, ap, subst, ◌∙◌, arith}
 use Rattle.std.specs.Cmp.{nat_cmp_total}
-use Rattle.std.specs.FinMap.{nat_cmp-IsAntisymmetric, get}
+use Rattle.std.specs.FinMap.{nat_cmp-IsAntisymmetric, get, insert}
 use Rattle.std.proofs.lemmas.Bool.Decides.{nat_tests}
 use Rattle.frame_core.specs.Numbers.{Recall}
 use Rattle.frame_core.specs.Outboxes.{numbered}
@@ -10,7 +10,7 @@ use Rattle.frame_core.proofs.Numbering.{numbered_kept, numbered_above, numbered_
 use Rattle.scholten_core.specs.declared.own_recalls.Own.{Own}
 use Rattle.scholten_core.specs.Engagement.{Engagement}
 use Rattle.scholten_core.specs.Changes.{next_own, begun, began}
-use Rattle.scholten_core.specs.Effects.{AddsRows, Begins}
+use Rattle.scholten_core.specs.Effects.{AddsRows, IsBegun, Begins}
 use Rattle.scholten_core.specs.Replies.{TellsBegun}
 
 -- rows that are numbered are added, whatever else changes
@@ -32,6 +32,7 @@ nobody (x ∷ out) h = absurd (grind (arith, nat_tests))
 pub begun_begins : (e : Engagement) (root : List ℕ) (out : List (ℕ × List ℕ)) → Begins e (begun e root out) root out
 begun_begins e root out =
     let own : Own = record { root = root; ended = length out == 0 } in
+    let is_begun : IsBegun own root out = record { begun_with = refl; ends_at_once = (nobody out, λ empty. ap (λ (xs : List (ℕ × List ℕ)). length xs == 0) empty) } in
     record {
       me = refl;
       rows = adds_rows e (begun e root out) (next_own e) out refl refl;
@@ -40,10 +41,13 @@ begun_begins e root out =
       parent = λ q. refl;
       own_kept = λ k o ne is. get_apart nat_cmp_total nat_cmp-IsAntisymmetric e.own e.next_recall own k ne ∙ is;
       own_origin = λ k o is. elim (one_key nat_cmp_total nat_cmp-IsAntisymmetric k e.next_recall) [
-        | inl same ↦ inr same
+        | inl same ↦
+            let here : Some own ≡ Some o = sym (get_here nat_cmp_total nat_cmp-IsAntisymmetric e.own e.next_recall own) ∙ ap (get (insert e.own e.next_recall own)) (sym same) ∙ is in
+            let one : own ≡ o = cc in
+            inr (same, subst (λ (z : Own). IsBegun z root out) one is_begun)
         | inr ne ↦ inl (sym (get_apart nat_cmp_total nat_cmp-IsAntisymmetric e.own e.next_recall own k ne) ∙ is)
       ];
-      own_new = (own, get_here nat_cmp_total nat_cmp-IsAntisymmetric e.own e.next_recall own, refl, (nobody out, λ empty. ap (λ (xs : List (ℕ × List ℕ)). length xs == 0) empty));
+      own_new = (own, get_here nat_cmp_total nat_cmp-IsAntisymmetric e.own e.next_recall own, is_begun);
     }
 
 pub begun_tells : (e : Engagement) (root : List ℕ) (out : List (ℕ × List ℕ)) → TellsBegun e (begun e root out) (began e out)

@@ -87,12 +87,12 @@ module _ (old one two : Engagement) (root : List ℕ) (out : List (ℕ × List �
         let other = b.own_new in
         let h : Some mine.0 ≡ Some o = sym mine.1 ∙ ap (get one.own) (sym same) ∙ is in
         let eq : mine.0 ≡ o = cc in
-        let root_is : other.0.root ≡ mine.0.root = other.2 ∙ sym mine.2 in
-        let ended_is : other.0.ended ≡ mine.0.ended = flag other.0.ended mine.0.ended (λ e. mine.3.1 (other.3.0 e)) (λ e. other.3.1 (mine.3.0 e)) in
+        let root_is : other.0.root ≡ mine.0.root = other.2.begun_with ∙ sym mine.2.begun_with in
+        let ended_is : other.0.ended ≡ mine.0.ended = flag other.0.ended mine.0.ended (λ e. mine.2.ends_at_once.1 (other.2.ends_at_once.0 e)) (λ e. other.2.ends_at_once.1 (mine.2.ends_at_once.0 e)) in
         ap (get two.own) same ∙ other.1 ∙ (λ i. Some (record { root = root_is i; ended = ended_is i })) ∙ ap Some eq
     | inr ne ↦ elim (a.own_origin k o is) [
       | inl before ↦ b.own_kept k o ne before
-      | inr new ↦ absurd (ne new)
+      | inr new ↦ absurd (ne new.0)
     ]
   ]
 

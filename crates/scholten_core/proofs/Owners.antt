@@ -29,7 +29,7 @@ begins_owners old new root out c unused owned n x is = elim (c.rows.row_origin n
         known = ap (λ (r : Recall). get new.own r.number) fresh.recall ∙ own.1;
         unended = elim own.0.ended as (λ b. own.0.ended ≡ b → b ≡ false) [
           | false ↦ λ e. refl
-          | true ↦ λ e. let nobody : None ≡ Some (x.dest, x.item) = ap (λ xs. slice_get xs fresh.place) (sym (own.3.0 e)) ∙ fresh.message in cc
+          | true ↦ λ e. let nobody : None ≡ Some (x.dest, x.item) = ap (λ xs. slice_get xs fresh.place) (sym (own.2.ends_at_once.0 e)) ∙ fresh.message in cc
         ] refl;
       })
 ]

@@ -31,7 +31,12 @@ pub record AddsRows (old new : Engagement) (r : Recall) (out : List (ℕ × List
       → get new.outbox (old.next_message + place) ≡ Some (record { dest = pair.0; recall = r; item = pair.1 })
   pub next_message : new.next_message ≡ old.next_message + length out
 
--- A recall began, from an item: it has the next number, and ended at once where there is nobody to tell.
+-- an own recall that just began, from the root, with these messages: where there is nobody to tell it has ended
+pub record IsBegun (o : Own) (root : List ℕ) (out : List (ℕ × List ℕ)) : Type 0 where
+  pub begun_with : o.root ≡ root
+  pub ends_at_once : IsTrue o.ended ↔ (out ≡ [])
+
+-- A recall began from an item, and has the next number.
 pub record Begins (old new : Engagement) (root : List ℕ) (out : List (ℕ × List ℕ)) : Type 0 where
   pub me : new.me ≡ old.me
   pub rows : AddsRows old new (record { site = old.me; number = old.next_recall }) out
@@ -39,8 +44,8 @@ pub record Begins (old new : Engagement) (root : List ℕ) (out : List (ℕ × L
   pub seen : (p : Message) → get new.seen p ≡ get old.seen p
   pub parent : (q : Recall) → get new.parents q ≡ get old.parents q
   pub own_kept : (k : ℕ) (o : Own) → k ≢ old.next_recall → get old.own k ≡ Some o → get new.own k ≡ Some o
-  pub own_origin : (k : ℕ) (o : Own) → get new.own k ≡ Some o → (get old.own k ≡ Some o) ⊎ (k ≡ old.next_recall)
-  pub own_new : (o : Own) × (get new.own old.next_recall ≡ Some o) × (o.root ≡ root) × (IsTrue o.ended ↔ (out ≡ []))
+  pub own_origin : (k : ℕ) (o : Own) → get new.own k ≡ Some o → (get old.own k ≡ Some o) ⊎ ((k ≡ old.next_recall) × IsBegun o root out)
+  pub own_new : (o : Own) × (get new.own old.next_recall ≡ Some o) × IsBegun o root out
 
 -- A message of a recall was taken, which wasn't seen before.
 pub record Takes (old new : Engagement) (m : Message) (r : Recall) (out : List (ℕ × List ℕ)) : Type 0 where
