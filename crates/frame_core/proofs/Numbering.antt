@@ -50,3 +50,12 @@ numbered_origin m n r (pair ∷ out) q x is =
         | inr ne ↦ inl (sym (get_apart nat_cmp_total nat_cmp-IsAntisymmetric m n (row_for r pair) q ne) ∙ before)
       ]
     ]
+
+within : {A : Type 0} (xs : List A) (i : ℕ) (x : A) → slice_get xs i ≡ Some x → i < length xs
+within [] i x is = cc
+within (y ∷ xs) zero x is = omega arith
+within (y ∷ xs) (suc i) x is = omega (arith, within xs i x is)
+
+-- and a new one has a number below the next
+pub new_row_below : (n : ℕ) (r : Recall) (out : List (ℕ × List ℕ)) (q : ℕ) (x : Row) → IsNewRow n r out q x → q < n + length out
+new_row_below n r out q x new = omega (arith, new.number, within out new.place (x.dest, x.item) new.message)

@@ -8,6 +8,7 @@ use Rattle.frame_core.specs.Numbers.{Recall, Message}
 use Rattle.frame_core.specs.declared.rows.Row.{Row}
 use Rattle.frame_core.specs.Laws.{IsRowOf, HasNoRows}
 use Rattle.frame_core.proofs.Lookups.{one_key}
+use Rattle.frame_core.proofs.Numbering.{new_row_below}
 use Rattle.frame_core.proofs.Orders.{recall_total, recall_exact, message_total, message_exact}
 use Rattle.scholten_core.specs.declared.own_recalls.Own.{Own}
 use Rattle.scholten_core.specs.Engagement.{Engagement}
@@ -33,11 +34,6 @@ below_or_from (suc n) (suc k) = elim (below_or_from n k) [
   | inl below ↦ inl (omega (arith, below))
   | inr from ↦ inr (omega (arith, from))
 ]
-
-within : {A : Type 0} (xs : List A) (i : ℕ) (x : A) → slice_get xs i ≡ Some x → i < length xs
-within [] i x is = cc
-within (y ∷ xs) zero x is = omega arith
-within (y ∷ xs) (suc i) x is = omega (arith, within xs i x is)
 
 reached : {A : Type 0} (xs : List A) (i : ℕ) → i < length xs → (x : A) × (slice_get xs i ≡ Some x)
 reached [] i lt = absurd (omega (arith, lt))
@@ -67,7 +63,7 @@ module _ (old one two : Engagement) (r : Recall) (out : List (ℕ × List ℕ)) 
           told_there n x place said.0 (omega (arith, above)) said.1 is
       | inr past ↦ elim (a.row_origin n x is) [
         | inl before ↦ b.row_kept n x (inr (omega (arith, past, same_next))) before
-        | inr new ↦ absurd (omega (arith, past, new.number, within out new.place _ new.message, a.next_message))
+        | inr new ↦ absurd (omega (arith, past, new_row_below old.next_message r out n x new, a.next_message))
       ]
     ]
   ]
