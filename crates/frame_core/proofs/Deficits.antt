@@ -18,7 +18,7 @@ use Rattle.frame_core.specs.Outboxes.{row_for, numbered, rows_of, has_rows}
 use Rattle.frame_core.specs.Laws.{IsRowOf, HasNoRows, AreUnused}
 use Rattle.frame_core.proofs.Found.{first, second, less, is_found, found_in}
 use Rattle.frame_core.proofs.Lookups.{get_apart}
-use Rattle.frame_core.proofs.Orders.{one_recall, equal_recalls, same_recall_itself}
+use Rattle.frame_core.proofs.Sameness.{one_recall, equal_recalls, same_recall_itself}
 use Rattle.frame_core.proofs.Sums.{list_any-map}
 
 -- what fails a test adds nothing, and what passes it adds one

@@ -10,9 +10,10 @@ use Rattle.std.proofs.lemmas.Cmp.{tied_itself}
 use Rattle.frame_core.specs.Numbers.{Recall, Message}
 use Rattle.frame_core.specs.declared.rows.Row.{Row}
 use Rattle.frame_core.specs.Identifiers.{message_cmp, same_recall}
+use Rattle.frame_core.specs.Orders.{message_total, message_exact}
 use Rattle.frame_core.specs.Messages.{messages_sent, messages_seen, messages_known}
 use Rattle.frame_core.proofs.Found.{is_found, found_in}
-use Rattle.frame_core.proofs.Orders.{message_total, message_exact, one_recall, same_recall_itself, equal_recalls}
+use Rattle.frame_core.proofs.Sameness.{one_recall, same_recall_itself, equal_recalls}
 
 both : (a b : Bool) → (a && b) ≡ true → (a ≡ true) × (b ≡ true)
 both true b h = (refl, h)

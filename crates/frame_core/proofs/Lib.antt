@@ -4,6 +4,6 @@ pub mod Known
 pub mod Lookups
 pub mod Maps
 pub mod Numbering
-pub mod Orders
 pub mod Places
+pub mod Sameness
 pub mod Sums

@@ -3,6 +3,7 @@ pub mod Identifiers
 pub mod Laws
 pub mod Messages
 pub mod Numbers
+pub mod Orders
 pub mod Outboxes
 pub mod Rows
 pub mod Unsignalled

@@ -10,7 +10,7 @@ use Rattle.frame_core.specs.Outboxes.{has_rows}
 use Rattle.frame_core.specs.Laws.{HasNoRows}
 use Rattle.frame_core.proofs.Deficits.{rows_are_found, no_row}
 use Rattle.frame_core.proofs.Lookups.{one_key, get_here, get_apart, get_gone, get_left}
-use Rattle.frame_core.proofs.Orders.{recall_total, recall_exact}
+use Rattle.frame_core.specs.Orders.{recall_total, recall_exact}
 use Rattle.scholten_core.specs.declared.own_recalls.Own.{Own}
 use Rattle.scholten_core.specs.declared.outcomes.Signalled.TheVariants.{Stale}
 use Rattle.scholten_core.specs.OwnRecalls.{with_end}

@@ -9,7 +9,7 @@ use Rattle.frame_core.specs.declared.rows.Row.{Row}
 use Rattle.frame_core.specs.Laws.{IsRowOf, HasNoRows}
 use Rattle.frame_core.proofs.Lookups.{one_key}
 use Rattle.frame_core.proofs.Numbering.{new_row_below}
-use Rattle.frame_core.proofs.Orders.{recall_total, recall_exact, message_total, message_exact}
+use Rattle.frame_core.specs.Orders.{recall_total, recall_exact, message_total, message_exact}
 use Rattle.scholten_core.specs.declared.own_recalls.Own.{Own}
 use Rattle.scholten_core.specs.Engagement.{Engagement}
 use Rattle.scholten_core.specs.Effects.{AddsRows, Begins, Takes, Clears}

@@ -7,7 +7,7 @@ use Rattle.frame_core.specs.Outboxes.{has_rows}
 use Rattle.frame_core.specs.Laws.{IsRowOf}
 use Rattle.frame_core.proofs.Deficits.{rows_are_found, found_rows}
 use Rattle.frame_core.proofs.Lookups.{one_key, get_here, get_apart}
-use Rattle.frame_core.proofs.Orders.{recall_total, recall_exact, message_total, message_exact}
+use Rattle.frame_core.specs.Orders.{recall_total, recall_exact, message_total, message_exact}
 use Rattle.scholten_core.specs.declared.own_recalls.Own.{Own}
 use Rattle.scholten_core.specs.declared.outcomes.Received.TheVariants.{Repeat}
 use Rattle.scholten_core.specs.Engagement.{Engagement, live_own}

@@ -1,4 +1,5 @@
-use Rattle.frame_core.proofs.Orders.{message_total, message_exact, one_message, equal_messages, messages_alike}
+use Rattle.frame_core.specs.Orders.{message_total, message_exact}
+use Rattle.frame_core.proofs.Sameness.{one_message, equal_messages, messages_alike}
 use Rattle.frame_core.proofs.laws.messages_are_ordered.Goals as goal
 
 pub returns : goal.returns

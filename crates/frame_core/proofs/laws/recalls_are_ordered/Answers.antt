@@ -1,4 +1,5 @@
-use Rattle.frame_core.proofs.Orders.{recall_total, recall_exact, one_recall, equal_recalls, recalls_alike}
+use Rattle.frame_core.specs.Orders.{recall_total, recall_exact}
+use Rattle.frame_core.proofs.Sameness.{one_recall, equal_recalls, recalls_alike}
 use Rattle.frame_core.proofs.laws.recalls_are_ordered.Goals as goal
 
 pub returns : goal.returns

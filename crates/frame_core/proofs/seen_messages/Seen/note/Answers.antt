@@ -3,7 +3,7 @@ use Rattle.std.specs.FinMap.{insert, from_sorted}
 use Rattle.frame_core.specs.Entries.{IsAscending}
 use Rattle.frame_core.specs.Identifiers.{message_cmp}
 use Rattle.frame_core.proofs.Maps.{put_sorted, ascending_put}
-use Rattle.frame_core.proofs.Orders.{message_total, message_exact}
+use Rattle.frame_core.specs.Orders.{message_total, message_exact}
 use Rattle.frame_core.proofs.seen_messages.Seen.note.Goals as goal
 
 pub invariant_of-self-2 : goal.invariant_of-self-2

@@ -3,7 +3,7 @@ use Rattle.std.specs.FinMap.{insert, from_sorted}
 use Rattle.frame_core.specs.Entries.{IsAscending}
 use Rattle.frame_core.specs.Identifiers.{recall_cmp}
 use Rattle.frame_core.proofs.Maps.{put_sorted, ascending_put}
-use Rattle.frame_core.proofs.Orders.{recall_total, recall_exact}
+use Rattle.frame_core.specs.Orders.{recall_total, recall_exact}
 use Rattle.scholten_core.proofs.parents.Parents.insert.Goals as goal
 
 pub invariant_of-self-2 : goal.invariant_of-self-2

@@ -3,7 +3,7 @@ use Rattle.std.specs.FinMap.{remove, from_sorted}
 use Rattle.frame_core.specs.Entries.{IsAscending}
 use Rattle.frame_core.specs.Identifiers.{recall_cmp}
 use Rattle.frame_core.proofs.Maps.{without_sorted, ascending_without}
-use Rattle.frame_core.proofs.Orders.{recall_total, recall_exact}
+use Rattle.frame_core.specs.Orders.{recall_total, recall_exact}
 use Rattle.scholten_core.proofs.parents.Parents.remove.Goals as goal
 
 pub invariant_of-self : goal.invariant_of-self
