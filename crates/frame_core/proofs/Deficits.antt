@@ -1,25 +1,27 @@
 -- What numbering messages and clearing a row do to the deficits of recalls, and where a recall has rows.
-use Rattle.std.proofs.Common.{◌≡◌, ◌≢◌, ℕ, ◌+◌, ◌≤◌, Bool, true, false, cond, not, ◌||◌, List, [], ◌∷◌, map, length, Option, Some, None, refl, sym, ap, ◌∙◌, arith}
+use Rattle.std.proofs.Common.{ltb, ◌≡◌, ◌≢◌, ℕ, ◌+◌, ◌≤◌, Bool, true, false, cond, not, ◌||◌, List, [], ◌∷◌, map, length, Option, Some, None, refl, sym, ap, ◌∙◌, arith}
 use Rattle.std.specs.Cmp.{IsTotalOrder, nat_cmp_total}
-use Rattle.std.specs.Prelude.{T}
-use Rattle.std.specs.Ordering.{is_eq, is_lt, nat_cmp, eq_by_cmp}
+use Rattle.std.specs.Ordering.{is_eq, nat_cmp}
 use Rattle.std.specs.declared.cmp.Ordering.{Ordering}
 use Rattle.std.specs.declared.cmp.Ordering.TheVariants.{Less, Equal, Greater}
 use Rattle.std.specs.List.{count_by, list_any}
-use Rattle.std.specs.FinMap.{FinMap, nat_cmp-IsAntisymmetric, find, put, get, insert, remove, entries, entries_sorted, is_sorted, get-entries, get-remove, entries-insert, from_sorted, entries-from_sorted, get-from_sorted, same_map}
-use Rattle.std.specs.FinMap.Entries.{by_order, below_all, where_key, is_sorted-where_key, find-where_key}
+use Rattle.std.specs.FinMap.{FinMap, nat_cmp-IsAntisymmetric, find, put, get, insert, remove, entries, entries_sorted, get-entries, entries-insert, entries-from_sorted, from_sorted, same_entries_map}
+use Rattle.std.specs.FinMap.Entries.{by_order}
 use Rattle.std.proofs.lemmas.List.Sums.{sum_by-cons}
 use Rattle.std.proofs.lemmas.Bool.{false_from_ne_true}
-use Rattle.std.proofs.lemmas.Cmp.{tied_back, alike_right, eq_by_cmp_equiv}
+use Rattle.std.proofs.lemmas.Bool.Decides.{nat_tests}
 use Rattle.frame_core.specs.Numbers.{Recall}
 use Rattle.frame_core.specs.declared.rows.Row.{Row}
 use Rattle.frame_core.specs.Identifiers.{same_recall}
 use Rattle.frame_core.specs.Outboxes.{row_for, numbered, rows_of, has_rows}
 use Rattle.frame_core.specs.Laws.{IsRowOf, HasNoRows, AreUnused}
-use Rattle.frame_core.proofs.Found.{first, second, less, is_found, found_in}
+use Rattle.frame_core.proofs.Found.{is_found, found_in}
 use Rattle.frame_core.proofs.Lookups.{get_apart}
+use Rattle.frame_core.proofs.Maps.{without_sorted, ascending_without}
 use Rattle.frame_core.proofs.Sameness.{one_recall, equal_recalls, same_recall_itself}
 use Rattle.frame_core.proofs.Sums.{list_any-map}
+use Rattle.frame_core.proofs.Ascending.{IsAscending, without, first, second, without_above}
+use Rattle.frame_core.proofs.Numbering.{numbered_told}
 
 -- what fails a test adds nothing, and what passes it adds one
 not_counted : (n : ℕ) {b : Bool} → b ≡ false → cond b 1 0 + n ≡ n
@@ -34,11 +36,15 @@ passed p None = 0
 passed p (Some x) = cond (p x) 1 0
 
 -- how many values of entries pass a test
-abbrev passing : {K X : Type 0} → (X → Bool) → List (K × X) → ℕ
+abbrev pub passing : {K X : Type 0} → (X → Bool) → List (K × X) → ℕ
 passing p es = count_by p (map (λ e. e.1) es)
 
+cond_at_most : (b : Bool) → cond b 1 0 ≤ 1
+cond_at_most true = omega arith
+cond_at_most false = omega arith
+
 module _ {K X : Type 0} (p : X → Bool) where
-  passing_more : (e : K × X) (es : List (K × X)) → passing p (e ∷ es) ≡ cond (p e.1) 1 0 + passing p es
+  pub passing_more : (e : K × X) (es : List (K × X)) → passing p (e ∷ es) ≡ cond (p e.1) 1 0 + passing p es
   passing_more e es = sum_by-cons (λ x. cond (p x) 1 0) e.1 (map (λ e. e.1) es)
 
   -- a new key adds its value
@@ -51,27 +57,22 @@ module _ {K X : Type 0} (p : X → Bool) where
         | Greater ↦ λ h. omega (arith, passing_more e (put R k v es), passing_put R k v es h, passing_more e es)
       ] none
 
-  -- where all keys are above, none goes
-  none_goes : {R : K → K → Ordering} (o : IsTotalOrder R) (x k : K) (es : List (K × X)) → R x k ≡ Equal → T (below_all R x es) → where_key R (λ y. not (eq_by_cmp R k y)) es ≡ es
-  none_goes o x k [] tie up = refl
-  none_goes {R} o x k (e ∷ es) tie up =
-      let smaller : R k e.0 ≡ Less = sym (o.congr x k e.0 tie) ∙ less (R x e.0) (first (is_lt (R x e.0)) (below_all R x es) up) in
-      ap (λ r. cond (not (is_eq r)) (e ∷ where_key R (λ y. not (eq_by_cmp R k y)) es) (where_key R (λ y. not (eq_by_cmp R k y)) es)) smaller
-      ∙ ap (λ ys. e ∷ ys) (none_goes o x k es tie (second (is_lt (R x e.0)) (below_all R x es) up))
-
   -- a key that goes takes its value along
-  passing_without : {R : K → K → Ordering} (o : IsTotalOrder R) (k : K) (es : List (K × X)) → T (is_sorted R es) → passing p (where_key R (λ y. not (eq_by_cmp R k y)) es) + passed p (find R k es) ≡ passing p es
+  passing_without : {R : K → K → Ordering} (o : IsTotalOrder R) (k : K) (es : List (K × X)) → IsAscending R es → passing p (without R k es) + passed p (find R k es) ≡ passing p es
   passing_without o k [] up = refl
   passing_without {R} o k (e ∷ es) up =
-      let rest = where_key R (λ y. not (eq_by_cmp R k y)) es in
-      let later = passing_without o k es (second (below_all R e.0 es) (is_sorted R es) up) in
-      elim (R k e.0) as (λ r. R k e.0 ≡ r → passing p (cond (not (is_eq r)) (e ∷ rest) rest) + passed p (cond (is_eq r) (Some e.1) (find R k es)) ≡ passing p (e ∷ es)) [
-        | Less ↦ λ t. omega (arith, passing_more e rest, later, passing_more e es)
+      elim (R k e.0) as (λ r. R k e.0 ≡ r → passing p (cond (not (is_eq r)) (e ∷ without R k es) (without R k es)) + passed p (cond (is_eq r) (Some e.1) (find R k es)) ≡ passing p (e ∷ es)) [
+        | Less ↦ λ t. omega (arith, passing_more e (without R k es), passing_without o k es (second _ _ up), passing_more e es)
         | Equal ↦ λ t.
-            let all : rest ≡ es = none_goes o e.0 k es (tied_back o k e.0 t) (first (below_all R e.0 es) (is_sorted R es) up) in
-            omega (arith, ap (passing p) all, passing_more e es)
-        | Greater ↦ λ t. omega (arith, passing_more e rest, later, passing_more e es)
+            let rest : es ≡ without R k es = sym (without_above o e.0 k es t (first _ _ up)) in
+            omega (arith, ap (passing p) rest, passing_more e es)
+        | Greater ↦ λ t. omega (arith, passing_more e (without R k es), passing_without o k es (second _ _ up), passing_more e es)
       ] refl
+
+  -- no more pass than there are
+  pub passing_at_most : (es : List (K × X)) → passing p es ≤ length es
+  passing_at_most [] = omega arith
+  passing_at_most (e ∷ es) = omega (arith, passing_more e es, passing_at_most es, cond_at_most (p e.1))
 
   -- where no value passes, none is counted
   none_counted : (es : List (K × X)) → list_any p (map (λ e. e.1) es) ≡ false → passing p es ≡ 0
@@ -92,23 +93,12 @@ module _ {K X : Type 0} (p : X → Bool) where
       ] refl some
 
 -- the entries of a map without a key
-entries_removed : (m : FinMap nat_cmp Row) (n : ℕ) → entries (remove m n) ≡ where_key nat_cmp (λ y. not (eq_by_cmp nat_cmp n y)) (entries m)
+entries_removed : (m : FinMap nat_cmp Row) (n : ℕ) → entries (remove m n) ≡ without nat_cmp n (entries m)
 entries_removed m n =
-    let left = where_key nat_cmp (λ y. not (eq_by_cmp nat_cmp n y)) (entries m) in
-    let up = is_sorted-where_key nat_cmp (λ y. not (eq_by_cmp nat_cmp n y)) (entries m) (entries_sorted m) in
-    let same : from_sorted {R = nat_cmp} left ≡ remove m n =
-    same_map nat_cmp_total nat_cmp-IsAntisymmetric _ _ (λ q.
-    get-from_sorted nat_cmp left q up
-    ∙ find-where_key nat_cmp (λ y. not (eq_by_cmp nat_cmp n y)) q (λ x t. ap (λ r. not (is_eq r)) (sym (alike_right nat_cmp_total q x n t))) (entries m)
-    ∙ turned (eq_by_cmp nat_cmp n q) _ _
-    ∙ ap (λ b. cond b None (find nat_cmp q (entries m))) ((eq_by_cmp_equiv nat_cmp_total).symm n q)
-    ∙ ap (cond (eq_by_cmp nat_cmp q n) None) (sym (get-entries m q))
-    ∙ sym (get-remove nat_cmp_total m n q)) in
-    ap entries (sym same) ∙ entries-from_sorted nat_cmp left up
-  where
-    turned : {A : Type 0} (b : Bool) (x y : A) → cond (not b) x y ≡ cond b y x
-    turned true x y = refl
-    turned false x y = refl
+    let whole : from_sorted {R = nat_cmp} (entries m) ≡ m = same_entries_map _ _ (entries-from_sorted nat_cmp (entries m) (entries_sorted m)) in
+    ap (λ k. entries (remove k n)) (sym whole)
+    ∙ ap entries (sym (without_sorted nat_cmp_total nat_cmp-IsAntisymmetric (entries m) n (entries_sorted m)))
+    ∙ entries-from_sorted nat_cmp (without nat_cmp n (entries m)) (ascending_without nat_cmp_total nat_cmp-IsAntisymmetric (entries m) n (entries_sorted m))
 
 -- a recall has rows exactly where a row of it is found
 pub rows_are_found : (rows : FinMap nat_cmp Row) (r : Recall) → has_rows rows r ≡ true → IsRowOf rows r
@@ -138,11 +128,11 @@ no_rows_left rows r zero_of =
     ] refl
 
 -- another recall is not the same
-other_recall : (a b : Recall) → a ≢ b → same_recall a b ≡ false
+pub other_recall : (a b : Recall) → a ≢ b → same_recall a b ≡ false
 other_recall a b ne = false_from_ne_true (same_recall a b) (λ t. ne (one_recall a b t))
 
 -- a message under an unused number
-inserted : (rows : FinMap nat_cmp Row) (n : ℕ) (x : Row) (r : Recall) → get rows n ≡ None → rows_of (insert rows n x) r ≡ cond (same_recall x.recall r) 1 0 + rows_of rows r
+pub inserted : (rows : FinMap nat_cmp Row) (n : ℕ) (x : Row) (r : Recall) → get rows n ≡ None → rows_of (insert rows n x) r ≡ cond (same_recall x.recall r) 1 0 + rows_of rows r
 inserted rows n x r none =
     ap (passing (λ row. same_recall row.recall r)) (entries-insert nat_cmp_total rows n x)
     ∙ passing_put (λ row. same_recall row.recall r) nat_cmp n x (entries rows) (sym (get-entries rows n) ∙ none)
@@ -167,11 +157,11 @@ other_deficit_stays rows n r other (pair ∷ out) unused ne =
     ∙ not_counted (rows_of rows other) (other_recall r other (λ same. ne (sym same)))
 
 -- what a row that goes takes from each deficit
-cleared : (rows : FinMap nat_cmp Row) (n : ℕ) (x : Row) (r : Recall) → get rows n ≡ Some x → rows_of (remove rows n) r + cond (same_recall x.recall r) 1 0 ≡ rows_of rows r
+pub cleared : (rows : FinMap nat_cmp Row) (n : ℕ) (x : Row) (r : Recall) → get rows n ≡ Some x → rows_of (remove rows n) r + cond (same_recall x.recall r) 1 0 ≡ rows_of rows r
 cleared rows n x r is =
     let test : Row → Bool = λ row. same_recall row.recall r in
-    let fewer : rows_of (remove rows n) r ≡ passing test (where_key nat_cmp (λ y. not (eq_by_cmp nat_cmp n y)) (entries rows)) = ap (passing test) (entries_removed rows n) in
-    let all : passing test (where_key nat_cmp (λ y. not (eq_by_cmp nat_cmp n y)) (entries rows)) + passed test (find nat_cmp n (entries rows)) ≡ rows_of rows r = passing_without test nat_cmp_total n (entries rows) (entries_sorted rows) in
+    let fewer : rows_of (remove rows n) r ≡ passing test (without nat_cmp n (entries rows)) = ap (passing test) (entries_removed rows n) in
+    let all : passing test (without nat_cmp n (entries rows)) + passed test (find nat_cmp n (entries rows)) ≡ rows_of rows r = passing_without test nat_cmp_total n (entries rows) (entries_sorted rows) in
     let here : passed test (find nat_cmp n (entries rows)) ≡ cond (same_recall x.recall r) 1 0 = ap (passed test) (sym (get-entries rows n) ∙ is) in
     omega (arith, fewer, all, here)
 
@@ -184,3 +174,21 @@ pub other_deficit_left : (rows : FinMap nat_cmp Row) (n : ℕ) (x : Row) (other 
 other_deficit_left rows n x other is ne =
     let none : ◌≡◌ {A = ℕ} (cond (same_recall x.recall other) 1 0) 0 = ap (λ b. cond b 1 0) (other_recall x.recall other (λ same. ne (sym same))) in
     omega (arith, cleared rows n x other is, none)
+
+-- a recall has rows exactly where its deficit is above 0
+pub rows_from_deficit : (rows : FinMap nat_cmp Row) (r : Recall) → ltb 0 (rows_of rows r) ≡ has_rows rows r
+rows_from_deficit rows r =
+    elim (has_rows rows r) as (λ b. has_rows rows r ≡ b → ltb 0 (rows_of rows r) ≡ b) [
+      | true ↦ λ t. let some : 1 ≤ rows_of rows r = some_counted (λ row. same_recall row.recall r) (entries rows) t in grind (arith, nat_tests, some)
+      | false ↦ λ t. ap (ltb 0) (no_deficit rows r t)
+    ] refl
+
+-- a message stands once it is numbered, so that its recall has rows
+pub numbered_has_rows : (rows : FinMap nat_cmp Row) (n : ℕ) (r : Recall) (out : List (ℕ × List ℕ)) → 1 ≤ length out → has_rows (numbered rows n r out) r ≡ true
+numbered_has_rows rows n r [] some = absurd (omega (arith, some))
+numbered_has_rows rows n r (pair ∷ out) some = found_rows (numbered rows n r (pair ∷ out)) r (record {
+  number = n;
+  row = row_for r pair;
+  stands = numbered_told rows n r (pair ∷ out) 0 n pair refl (omega arith);
+  of_recall = refl;
+})

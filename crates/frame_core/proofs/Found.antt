@@ -1,27 +1,15 @@
 -- The entries of a map that pass a test are those that are found and pass.
-use Rattle.std.proofs.Common.{◌≡◌, Bool, true, false, cond, ◌&&◌, ◌||◌, List, [], ◌∷◌, Some, None, refl, sym, ap, ◌∙◌}
+use Rattle.std.proofs.Common.{◌≡◌, Bool, true, false, cond, ◌||◌, List, [], ◌∷◌, Some, None, refl, sym, ap, ◌∙◌}
 use Rattle.std.specs.Prelude.{T}
 use Rattle.std.specs.Cmp.{IsTotalOrder}
-use Rattle.std.specs.Ordering.{is_eq, is_lt}
+use Rattle.std.specs.Ordering.{is_eq}
 use Rattle.std.specs.declared.cmp.Ordering.{Ordering}
 use Rattle.std.specs.declared.cmp.Ordering.TheVariants.{Less, Equal, Greater}
 use Rattle.std.specs.List.{list_any}
 use Rattle.std.specs.FinMap.{FinMap, IsAntisymmetric, find, get, entries, entries_sorted, get-entries, is_sorted}
 use Rattle.std.specs.FinMap.Entries.{below_all}
-use Rattle.std.proofs.lemmas.Cmp.{tied_itself, tied_back}
-
-pub first : (a b : Bool) → T (a && b) → T a
-first true b p = tt
-first false b p = p
-
-pub second : (a b : Bool) → T (a && b) → T b
-second true b p = p
-second false b p = absurd p
-
-pub less : (o : Ordering) → T (is_lt o) → o ≡ Less
-less Less p = refl
-less Equal p = absurd p
-less Greater p = absurd p
+use Rattle.std.proofs.lemmas.Cmp.{tied_itself}
+use Rattle.frame_core.proofs.Ascending.{first, second, find_above}
 
 -- a key that is found in a map, with a value so that both pass
 pub record IsFound {K X : Type 0} {R : K → K → Ordering} (t : K × X → Bool) (m : FinMap R X) : Type 0 where
@@ -31,13 +19,6 @@ pub record IsFound {K X : Type 0} {R : K → K → Ordering} (t : K × X → Boo
   pub passes : t (key, value) ≡ true
 
 module _ {K X : Type 0} {R : K → K → Ordering} (o : IsTotalOrder R) where
-  -- a key that ties with one that is below all isn't found
-  pub not_above : (x q : K) (es : List (K × X)) → R x q ≡ Equal → T (below_all R x es) → find R q es ≡ None
-  not_above x q [] tie up = refl
-  not_above x q (e ∷ es) tie up =
-      let smaller : R q e.0 ≡ Less = sym (o.congr x q e.0 tie) ∙ less (R x e.0) (first (is_lt (R x e.0)) (below_all R x es) up) in
-      ap (λ r. cond (is_eq r) (Some e.1) (find R q es)) smaller ∙ not_above x q es tie (second (is_lt (R x e.0)) (below_all R x es) up)
-
   module _ (t : K × X → Bool) where
     in_entries : (es : List (K × X)) → T (is_sorted R es) → list_any t es ≡ true → (k : K) × (v : X) × (find R k es ≡ Some v) × (t (k, v) ≡ true)
     in_entries [] up some = cc
@@ -48,7 +29,7 @@ module _ {K X : Type 0} {R : K → K → Ordering} (o : IsTotalOrder R) where
               let later = in_entries es (second (below_all R e.0 es) (is_sorted R es) up) h in
               elim (R later.0 e.0) as (λ r. R later.0 e.0 ≡ r → (k : K) × (v : X) × (find R k (e ∷ es) ≡ Some v) × (t (k, v) ≡ true)) [
                 | Less ↦ λ apart. (later.0, later.1, ap (λ r. cond (is_eq r) (Some e.1) (find R later.0 es)) apart ∙ later.2, later.3)
-                | Equal ↦ λ tie. let twice : None ≡ Some later.1 = sym (not_above e.0 later.0 es (tied_back o later.0 e.0 tie) (first (below_all R e.0 es) (is_sorted R es) up)) ∙ later.2 in cc
+                | Equal ↦ λ tie. let twice : None ≡ Some later.1 = sym (find_above o e.0 later.0 es tie (first (below_all R e.0 es) (is_sorted R es) up)) ∙ later.2 in cc
                 | Greater ↦ λ apart. (later.0, later.1, ap (λ r. cond (is_eq r) (Some e.1) (find R later.0 es)) apart ∙ later.2, later.3)
               ] refl
         ] refl some

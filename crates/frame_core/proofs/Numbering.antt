@@ -1,9 +1,10 @@
 -- What numbering messages does to the rows of an outbox.
-use Rattle.std.proofs.Common.{◌≡◌, ◌⊎◌, inl, inr, ℕ, zero, suc, ◌+◌, ◌<◌, ◌≤◌, List, [], ◌∷◌, length, Some, refl, sym, ap, subst, ◌∙◌, arith}
+use Rattle.std.proofs.Common.{◌≡◌, ◌⊎◌, inl, inr, ℕ, zero, suc, ◌+◌, ◌<◌, ◌≤◌, drop, List, [], ◌∷◌, length, get_or, Some, refl, sym, ap, subst, ◌∙◌, arith}
 use Rattle.std.specs.Prelude.{slice_get}
 use Rattle.std.specs.Ordering.{nat_cmp}
 use Rattle.std.specs.Cmp.{nat_cmp_total}
 use Rattle.std.specs.FinMap.{FinMap, nat_cmp-IsAntisymmetric, get, insert}
+use Rattle.std.proofs.Math.Seq.{drop-cons}
 use Rattle.frame_core.specs.Numbers.{Recall}
 use Rattle.frame_core.specs.declared.rows.Row.{Row}
 use Rattle.frame_core.specs.Outboxes.{row_for, numbered}
@@ -59,3 +60,14 @@ within (y ∷ xs) (suc i) x is = omega (arith, within xs i x is)
 -- and a new one has a number below the next
 pub new_row_below : (n : ℕ) (r : Recall) (out : List (ℕ × List ℕ)) (q : ℕ) (x : Row) → IsNewRow n r out q x → q < n + length out
 new_row_below n r out q x new = omega (arith, new.number, within out new.place (x.dest, x.item) new.message)
+
+-- once the next message has its row, the rest is to be numbered
+pub numbered_next : (m : FinMap nat_cmp Row) (n i : ℕ) (r : Recall) (out : List (ℕ × List ℕ)) (pair : ℕ × List ℕ) → i < length out → pair ≡ get_or out i pair
+    → numbered (insert m (n + i) (row_for r pair)) (n + (i + 1)) r (drop (i + 1) out) ≡ numbered m (n + i) r (drop i out)
+numbered_next m n i r out pair lt is =
+    let at : n + (i + 1) ≡ (n + i) + 1 = omega arith in
+    let next : i + 1 ≡ suc i = omega arith in
+    let here : drop i out ≡ pair ∷ drop (suc i) out = drop-cons out i pair lt ∙ ap (λ p. p ∷ drop (suc i) out) (sym is) in
+    ap (λ k. numbered (insert m (n + i) (row_for r pair)) k r (drop (i + 1) out)) at
+    ∙ ap (λ k. numbered (insert m (n + i) (row_for r pair)) ((n + i) + 1) r (drop k out)) next
+    ∙ ap (numbered m (n + i) r) (sym here)

@@ -1,4 +1,3 @@
-pub mod Entries
 pub mod Identifiers
 pub mod Laws
 pub mod Messages
@@ -6,4 +5,6 @@ pub mod Numbers
 pub mod Orders
 pub mod Outboxes
 pub mod Rows
+pub mod Counts
+pub mod Tables
 pub mod Unsignalled

@@ -1,17 +1,18 @@
 //! Numbered recall messages of a site: their frames, the outbox of those that are not signalled yet,
 //! and the messages of others that the site has ever handled.
 //!
-//! Contracts see the outbox and the seen messages as finite maps; [`entries`] keeps such a map as the
-//! vector of its entries.
+//! Contracts see the outbox and the seen messages as finite maps. They are kept in `BTreeMap`s, by the
+//! calls of [`tables`], and lent as such.
 #![tactic(auto)]
 
-pub mod entries;
+mod counted_rows;
 mod frames;
 mod identifiers;
 pub mod laws;
 mod outboxes;
 mod rows;
 mod seen_messages;
+pub mod tables;
 #[cfg(test)]
 mod tests;
 

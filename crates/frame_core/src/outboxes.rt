@@ -1,19 +1,18 @@
-ghost use Rattle.std.specs.Prelude.{◌≡◌, ℕ, ◌+◌, ◌<◌, ◌≤◌, ◌^◌, ◌↔◌, length, option_map, Err, [], ◌∷◌, IfOk, OnOk, OnErr, IsFalse};
+ghost use Rattle.std.specs.Prelude.{◌≡◌, ◌+◌, ◌<◌, ◌^◌, ◌↔◌, length, option_map, Err, [], ◌∷◌, IfOk, OnOk, OnErr, IfErr, IsFalse};
 ghost use Rattle.std.specs.Ordering.{nat_cmp};
 ghost use Rattle.std.specs.FinMap as map;
-ghost use Rattle.frame_core.specs.Entries.{IsAscending};
 ghost use Rattle.frame_core.specs.Rows.{row_of};
-ghost use Rattle.frame_core.specs.Identifiers.{same_recall};
 ghost use Rattle.frame_core.specs.Outboxes.{numbered, rows_of, has_rows};
-ghost use Rattle.std.specs.List.{count_by, list_any};
+ghost use Rattle.frame_core.specs.Tables.{as_map};
 ghost use Rattle.frame_core.specs.Unsignalled.{IsNextNumber};
 
-use crate::entries;
+use crate::counted_rows::CountedRows;
 use crate::identifiers::RecallId;
 use crate::rows::{Row, RowView};
 use epc_core::Epc;
 use event_json::SiteNo;
 use std::alloc::{AllocError, Global};
+use std::collections::BTreeMap;
 use std::marker::Model;
 use thiserror::Error;
 
@@ -47,23 +46,20 @@ impl From<AllocError> for NumberFault {
 /// Messages are numbered one after another from 1 to [`LAST_NUMBER`], and no number comes twice.
 #[derive(Debug, Drop)]
 pub struct Outbox {
-    rows: Vec<(u64, Row)>,
+    rows: CountedRows,
     next: u64,
 }
 
 impl Model for Outbox {
-    ghost use Rattle.std.specs.Ordering.{nat_cmp};
-    ghost use Rattle.std.specs.FinMap as map;
-    ghost use Rattle.frame_core.specs.Entries.{IsAscending};
     ghost use Rattle.frame_core.specs.Unsignalled.{Unsignalled, coded_unsignalled, IsNextNumber};
 
     ghost Value = { Unsignalled };
 
     ghost coded = { coded_unsignalled };
 
-    ghost view = { λ o. record { rows = map.from_sorted o.rows.items; next = o.next } };
+    ghost view = { λ o. record { rows = o.rows.rows; next = o.next } };
 
-    ghost invariant = { λ o. IsAscending nat_cmp o.rows.items × IsNextNumber o.next };
+    ghost invariant = { λ o. IsNextNumber o.next };
 }
 
 impl Outbox {
@@ -72,18 +68,18 @@ impl Outbox {
         ensures { result ≡ record { rows = map.empty; next = 1 } }
     {
         Outbox {
-            rows: Vec::new(alloc),
+            rows: CountedRows::new(alloc),
             next: 1,
         }
     }
 
-    /// The outbox of these rows, by number, with this next number. Takes no memory.
-    pub fn restore(rows: Vec<(u64, Row)>, next: u64) -> Outbox
-        requires ascending { IsAscending nat_cmp rows.items }
+    /// The outbox of these rows, by number, with this next number.
+    pub fn restore(alloc: Global, rows: BTreeMap<u64, Row>, next: u64) -> Result<Outbox, AllocError>
         requires in_range { IsNextNumber next }
-        ensures { result ≡ record { rows = map.from_sorted rows.items; next = next } }
+        ensures { IfOk result (λ outbox. outbox ≡ record { rows = as_map nat_cmp rows; next = next }) }
     {
-        Outbox { rows, next }
+        let rows = CountedRows::of(alloc, rows)?;
+        Ok(Outbox { rows, next })
     }
 
     /// Numbers a message, and answers its number. A fault changes nothing.
@@ -100,32 +96,31 @@ impl Outbox {
             return Err(NumberFault::NumbersSpent);
         }
         let number = self.next;
-        entries::put(&mut self.rows, number, Row { dest, recall, item })?;
+        self.rows.put(number, Row { dest, recall, item })?;
         self.next = number + 1;
         Ok(number)
     }
 
-    /// This outbox after a message of the recall to each of these destinations was numbered, in order
-    /// from the next number on.
-    pub fn numbered(
-        &self,
+    /// Numbers a message of the recall to each of these destinations, in order from the next number on. A
+    /// fault changes nothing: what was numbered is taken away again.
+    pub fn number_all(
+        &mut self,
         alloc: Global,
         recall: RecallId,
         out: &[(SiteNo, Epc)],
-    ) -> Result<Outbox, NumberFault>
-        ensures rows { IfOk result (λ outbox. outbox.rows ≡ numbered self.now.rows self.now.next recall out.now) }
-        ensures next { IfOk result (λ outbox. outbox.next ≡ self.now.next + length out.now) }
+    ) -> Result<(), NumberFault>
+        ensures rows { OnOk result (self.new.rows ≡ numbered self.old.rows self.old.next recall out.now) }
+        ensures next { OnOk result (self.new.next ≡ self.old.next + length out.now) }
         // More rows are wanted than numbers are left.
-        ensures spent { (result ≡ Err NumberFault.NumbersSpent) ↔ (2 ^ 62 + 1 < self.now.next + length out.now) }
+        ensures spent { (result ≡ Err NumberFault.NumbersSpent) ↔ (2 ^ 62 + 1 < self.old.next + length out.now) }
+        ensures err { OnErr result (self.new ≡ self.old) }
     {
         if out.len() as u64 > self.numbers_left() {
             return Err(NumberFault::NumbersSpent);
         }
-        let mut outbox = self.copy(alloc)?;
-        for (dest, item) in out {
-            outbox.number(*dest, recall, item.copy(alloc)?)?;
-        }
-        Ok(outbox)
+        self.rows.put_all(alloc, self.next, recall, out)?;
+        self.next += out.len() as u64;
+        Ok(())
     }
 
     /// How many numbers are left.
@@ -139,7 +134,7 @@ impl Outbox {
     pub fn row(&self, number: u64) -> Option<RowView<'_>>
         ensures { option_map row_of result ≡ map.get self.now.rows number }
     {
-        match entries::get(&self.rows, number) {
+        match self.rows.get(number) {
             Some(row) => Some(row.view()),
             None => None,
         }
@@ -152,21 +147,21 @@ impl Outbox {
         ensures next { self.new.next ≡ self.old.next }
         ensures kept { IsFalse result → self.new ≡ self.old }
     {
-        entries::take(&mut self.rows, number).is_some()
+        self.rows.take(number).is_some()
     }
 
-    /// How many messages of a recall are unsignalled. Takes no memory.
+    /// How many messages of a recall are unsignalled. Takes no memory, and costs one look-up.
     pub fn rows_of(&self, recall: RecallId) -> u64
         ensures { result ≡ rows_of self.now.rows recall }
     {
-        count_of(&self.rows, recall)
+        self.rows.count(recall)
     }
 
-    /// Whether a message of a recall is unsignalled. Takes no memory.
+    /// Whether a message of a recall is unsignalled. Takes no memory, and costs one look-up.
     pub fn has_rows(&self, recall: RecallId) -> bool
         ensures { result ≡ has_rows self.now.rows recall }
     {
-        is_any_of(&self.rows, recall)
+        self.rows.count(recall) > 0
     }
 
     /// The number that the next message gets, or [`LAST_NUMBER`] + 1 where the numbers are spent.
@@ -178,45 +173,25 @@ impl Outbox {
         self.next
     }
 
-    /// The rows with their numbers, ascending by number.
-    pub fn rows(&self) -> &[(u64, Row)]
-        ensures { result.now ≡ map.entries self.now.rows }
+    /// The rows by number.
+    pub fn rows(&self) -> &BTreeMap<u64, Row>
+        ensures rows { as_map nat_cmp result.now ≡ self.now.rows }
+        ensures entries { result.now.entries ≡ map.entries self.now.rows }
     {
-        &self.rows
+        let rows = self.rows.by_number();
+        // The length tells the proof that the numbers ascend.
+        let _length = rows.len();
+        rows
     }
 
     /// An equal outbox.
     pub fn copy(&self, alloc: Global) -> Result<Outbox, AllocError>
         ensures { IfOk result (λ outbox. outbox ≡ self.now) }
     {
+        let rows = self.rows.copy(alloc)?;
         Ok(Outbox {
-            rows: copies(alloc, &self.rows)?,
+            rows,
             next: self.next,
         })
     }
-}
-
-/// How many of these rows are of a recall.
-fn count_of(rows: &[(u64, Row)], recall: RecallId) -> u64
-    ensures { result ≡ count_by (λ entry. same_recall entry.1.recall recall) rows.now }
-{
-    rows.iter().filter(|entry| entry.1.recall == recall).count() as u64
-}
-
-/// Whether one of these rows is of a recall.
-fn is_any_of(rows: &[(u64, Row)], recall: RecallId) -> bool
-    ensures { result ≡ list_any (λ entry. same_recall entry.1.recall recall) rows.now }
-{
-    rows.iter().any(|entry| entry.1.recall == recall)
-}
-
-/// Equal rows under the same numbers.
-fn copies(alloc: Global, rows: &[(u64, Row)]) -> Result<Vec<(u64, Row)>, AllocError>
-    ensures { IfOk result (λ copies. copies.items ≡ rows.now) }
-{
-    let mut copies = Vec::with_capacity(alloc, rows.len())?;
-    for (number, row) in rows {
-        copies.push((*number, row.copy(alloc)?))?;
-    }
-    Ok(copies)
 }

@@ -1,11 +1,12 @@
 ghost use Rattle.std.specs.Prelude.{◌≡◌, ◌≢◌, ◌↔◌, Ok, IfOk, IsSome};
 ghost use Rattle.std.specs.FinMap as map;
-ghost use Rattle.frame_core.specs.Entries.{IsAscending};
 ghost use Rattle.frame_core.specs.Identifiers.{message_cmp};
+ghost use Rattle.frame_core.specs.Tables.{as_map};
 
-use crate::entries;
 use crate::identifiers::{MsgId, RecallId};
+use crate::tables;
 use std::alloc::{AllocError, Global};
+use std::collections::BTreeMap;
 use std::marker::Model;
 
 /// Whether a message was seen before.
@@ -21,22 +22,20 @@ pub enum Noted {
 /// under. What is noted is kept for good.
 #[derive(Debug, Drop)]
 pub struct Seen {
-    messages: Vec<(MsgId, RecallId)>,
+    messages: BTreeMap<MsgId, RecallId>,
 }
 
 impl Model for Seen {
     ghost use Rattle.std.specs.FinMap as map;
-    ghost use Rattle.frame_core.specs.Entries.{IsAscending};
     ghost use Rattle.frame_core.specs.Identifiers.{message_cmp};
     ghost use Rattle.frame_core.specs.Numbers.{Recall, coded_message, coded_recall};
+    ghost use Rattle.frame_core.specs.Tables.{as_map};
 
     ghost Value = { map.FinMap message_cmp Recall };
 
     ghost coded = { map.code coded_message coded_recall };
 
-    ghost view = { λ s. map.from_sorted s.messages.items };
-
-    ghost invariant = { λ s. IsAscending message_cmp s.messages.items };
+    ghost view = { λ s. as_map message_cmp s.messages };
 }
 
 impl Seen {
@@ -45,14 +44,13 @@ impl Seen {
         ensures { result ≡ map.empty }
     {
         Seen {
-            messages: Vec::new(alloc),
+            messages: BTreeMap::new(alloc),
         }
     }
 
     /// These messages, each with the recall that it was seen under. Takes no memory.
-    pub fn restore(messages: Vec<(MsgId, RecallId)>) -> Seen
-        requires { IsAscending message_cmp messages.items }
-        ensures { result ≡ map.from_sorted messages.items }
+    pub fn restore(messages: BTreeMap<MsgId, RecallId>) -> Seen
+        ensures { result ≡ as_map message_cmp messages }
     {
         Seen { messages }
     }
@@ -67,21 +65,32 @@ impl Seen {
         if self.recall_of(message).is_some() {
             return Ok(Noted::Repeat);
         }
-        entries::put(&mut self.messages, message, recall)?;
+        tables::put(&mut self.messages, message, recall)?;
         Ok(Noted::Fresh)
+    }
+
+    /// Forgets a message that was noted just now, where the call that noted it finds no memory for the
+    /// rest of what it does. Takes no memory.
+    pub fn forget(&mut self, message: MsgId)
+        ensures { self.new ≡ map.remove self.old message }
+    {
+        tables::take(&mut self.messages, message);
     }
 
     /// The recall that a message was seen under, `None` where it was not seen.
     pub fn recall_of(&self, message: MsgId) -> Option<RecallId>
         ensures { result ≡ map.get self.now message }
     {
-        entries::get(&self.messages, message).copied()
+        tables::get(&self.messages, message).copied()
     }
 
-    /// The messages with their recalls, ascending by message.
-    pub fn messages(&self) -> &[(MsgId, RecallId)]
-        ensures { result.now ≡ map.entries self.now }
+    /// The messages with their recalls.
+    pub fn messages(&self) -> &BTreeMap<MsgId, RecallId>
+        ensures messages { as_map message_cmp result.now ≡ self.now }
+        ensures entries { result.now.entries ≡ map.entries self.now }
     {
+        // The length tells the proof that the messages ascend.
+        let _length = self.messages.len();
         &self.messages
     }
 
@@ -89,8 +98,7 @@ impl Seen {
     pub fn copy(&self, alloc: Global) -> Result<Seen, AllocError>
         ensures { IfOk result (λ seen. seen ≡ self.now) }
     {
-        Ok(Seen {
-            messages: entries::copies(alloc, &self.messages)?,
-        })
+        let messages = tables::copy(alloc, &self.messages)?;
+        Ok(Seen { messages })
     }
 }

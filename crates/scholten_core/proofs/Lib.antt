@@ -1,6 +1,5 @@
 pub mod Beginning
 pub mod Clearing
-pub mod Ends
 pub mod Fixing
 pub mod Live
 pub mod Owners

@@ -47,12 +47,16 @@ noted e m r out = record e {
   next_message = e.next_message + length out;
 }
 
+-- the message becomes the parent
+abbrev pub with_parent : Engagement → Recall → Message → Engagement
+with_parent e r m = record e { parents = insert e.parents r m }
+
 -- handed whether rows of the recall are left, its parent, and the own recall where the site is its live initiator
 abbrev pub engaged : Engagement → Message → Recall → ℕ → Bool → Option Message → Option Own → Engagement × Received
 engaged e m r n false parent live = (e, SignalNow n)
 engaged e m r n true (Some first) live = (e, SignalNow n)
 engaged e m r n true None (Some own) = (e, SignalNow n)
-engaged e m r n true None None = (record e { parents = insert e.parents r m }, Owe n)
+engaged e m r n true None None = (with_parent e r m, Owe n)
 
 -- handed the recall that the message was seen under before
 abbrev pub at_first : Engagement → Message → Recall → List (ℕ × List ℕ) → Option Recall → Engagement × Received

@@ -1,21 +1,21 @@
-ghost use Rattle.std.specs.Prelude.{◌≡◌, ℕ, ◌+◌, ◌<◌, ◌^◌, ◌↔◌, ◌⊎◌, length, option_map, Ok, Err, IfOk, OnOk, OnErr, IsSome, IsNone, is_none, not, ◌&&◌};
+ghost use Rattle.std.specs.Prelude.{◌≡◌, ◌+◌, ◌<◌, ◌≤◌, ◌^◌, ◌↔◌, ◌⊎◌, length, option_map, Ok, Err, None, IfOk, OnOk, OnErr, IsSome, IsNone, is_none, ◌&&◌};
 ghost use Rattle.std.specs.Ordering.{nat_cmp};
 ghost use Rattle.std.specs.FinMap as map;
-ghost use Rattle.frame_core.specs.Entries.{IsAscending};
 ghost use Rattle.frame_core.specs.Identifiers.{recall_cmp, message_cmp};
-ghost use Rattle.frame_core.specs.Outboxes.{rows_of, has_rows};
+ghost use Rattle.frame_core.specs.Outboxes.{numbered, rows_of, has_rows};
 ghost use Rattle.frame_core.specs.Rows.{row_of};
+ghost use Rattle.frame_core.specs.Tables.{as_map};
 ghost use Rattle.frame_core.specs.Unsignalled.{IsNextNumber};
-ghost use Rattle.scholten_core.specs.Engagement.{is_live};
-ghost use Rattle.scholten_core.specs.Changes.{began, begun, received, signalled};
+ghost use Rattle.scholten_core.specs.Engagement.{live_own};
+ghost use Rattle.scholten_core.specs.Changes.{began, begun, noted, with_parent, received, signalled};
 
 use crate::outcomes::{Began, Received, Signalled};
-use crate::own_recalls::{Own, OwnRecalls};
-use crate::parents::Parents;
+use crate::own_recalls::{Own, record_end};
 use epc_core::Epc;
 use event_json::SiteNo;
-use frame_core::{LAST_NUMBER, MsgId, NumberFault, Outbox, RecallId, Row, RowView, Seen};
+use frame_core::{LAST_NUMBER, MsgId, NumberFault, Outbox, RecallId, Row, RowView, Seen, tables};
 use std::alloc::{AllocError, Global};
+use std::collections::BTreeMap;
 use std::marker::Model;
 
 /// What one site keeps of the diffusing computations that pass it: its outbox, the messages that it has
@@ -27,13 +27,16 @@ pub struct Diffusion {
     me: SiteNo,
     outbox: Outbox,
     seen: Seen,
-    parents: Parents,
-    own: OwnRecalls,
+    parents: BTreeMap<RecallId, MsgId>,
+    own: BTreeMap<u64, Own>,
     next_recall: u64,
     alloc: Global,
 }
 
 impl Model for Diffusion {
+    ghost use Rattle.std.specs.Ordering.{nat_cmp};
+    ghost use Rattle.frame_core.specs.Identifiers.{recall_cmp};
+    ghost use Rattle.frame_core.specs.Tables.{as_map};
     ghost use Rattle.frame_core.specs.Unsignalled.{IsNextNumber};
     ghost use Rattle.scholten_core.specs.Engagement.{Engagement, coded_engagement};
 
@@ -41,7 +44,7 @@ impl Model for Diffusion {
 
     ghost coded = { coded_engagement };
 
-    ghost view = { λ d. record { me = d.me; outbox = d.outbox.rows; seen = d.seen; parents = d.parents; own = d.own; next_message = d.outbox.next; next_recall = d.next_recall } };
+    ghost view = { λ d. record { me = d.me; outbox = d.outbox.rows; seen = d.seen; parents = as_map recall_cmp d.parents; own = as_map nat_cmp d.own; next_message = d.outbox.next; next_recall = d.next_recall } };
 
     ghost invariant = { λ d. IsNextNumber d.next_recall };
 }
@@ -55,45 +58,45 @@ impl Diffusion {
             me,
             outbox: Outbox::new(alloc),
             seen: Seen::new(alloc),
-            parents: Parents::new(alloc),
-            own: OwnRecalls::new(alloc),
+            parents: BTreeMap::new(alloc),
+            own: BTreeMap::new(alloc),
             next_recall: 1,
             alloc,
         }
     }
 
-    /// The site `me` with just these maps, each ascending by key, and these next numbers. Takes no memory.
+    /// The site `me` with just these maps and these next numbers. The maps are taken as they are; memory
+    /// is taken for the deficits of the outbox's recalls.
     pub fn restore(
+        alloc: Global,
         me: SiteNo,
-        outbox: Vec<(u64, Row)>,
-        seen: Vec<(MsgId, RecallId)>,
-        parents: Vec<(RecallId, MsgId)>,
-        own: Vec<(u64, Own)>,
+        outbox: BTreeMap<u64, Row>,
+        seen: BTreeMap<MsgId, RecallId>,
+        parents: BTreeMap<RecallId, MsgId>,
+        own: BTreeMap<u64, Own>,
         next_message: u64,
         next_recall: u64,
-    ) -> Diffusion
-        requires outbox_ascends { IsAscending nat_cmp outbox.items }
-        requires seen_ascends { IsAscending message_cmp seen.items }
-        requires parents_ascend { IsAscending recall_cmp parents.items }
-        requires own_ascend { IsAscending nat_cmp own.items }
+    ) -> Result<Diffusion, AllocError>
         requires next_message_in_range { IsNextNumber next_message }
         requires next_recall_in_range { IsNextNumber next_recall }
-        ensures { result ≡ record { me = me; outbox = map.from_sorted outbox.items; seen = map.from_sorted seen.items; parents = map.from_sorted parents.items; own = map.from_sorted own.items; next_message = next_message; next_recall = next_recall } }
+        ensures { IfOk result (λ d. d ≡ record { me = me; outbox = as_map nat_cmp outbox; seen = as_map message_cmp seen; parents = as_map recall_cmp parents; own = as_map nat_cmp own; next_message = next_message; next_recall = next_recall }) }
     {
-        let alloc = *seen.allocator();
-        Diffusion {
+        let outbox = Outbox::restore(alloc, outbox, next_message)?;
+        Ok(Diffusion {
             me,
-            outbox: Outbox::restore(outbox, next_message),
+            outbox,
             seen: Seen::restore(seen),
-            parents: Parents::restore(parents),
-            own: OwnRecalls::restore(own),
+            parents,
+            own,
             next_recall,
             alloc,
-        }
+        })
     }
 
     /// Begins a recall of an item, and numbers a message for each destination and item, in order. With no
     /// message the recall has ended. A fault changes nothing.
+    ///
+    /// It costs the messages that it numbers, not the recalls that are kept.
     pub fn begin(&mut self, root: Epc, out: &[(SiteNo, Epc)]) -> Result<Began, NumberFault>
         ensures answer { IfOk result (λ answer. answer ≡ began self.old out.now) }
         ensures ok { OnOk result (self.new ≡ begun self.old root out.now) }
@@ -101,7 +104,7 @@ impl Diffusion {
         ensures spent { (result ≡ Err NumberFault.NumbersSpent) ↔ ((2 ^ 62 < self.old.next_recall) ⊎ (2 ^ 62 + 1 < self.old.next_message + length out.now)) }
         ensures err { OnErr result (self.new ≡ self.old) }
     {
-        if self.next_recall > LAST_NUMBER {
+        if self.next_recall > LAST_NUMBER || out.len() as u64 > self.outbox.numbers_left() {
             return Err(NumberFault::NumbersSpent);
         }
         let number = self.next_recall;
@@ -110,9 +113,11 @@ impl Diffusion {
             number,
         };
         let ended = out.is_empty();
-        let outbox = self.outbox.numbered(self.alloc, recall, out)?;
-        self.own.insert(number, Own { root, ended })?;
-        self.outbox = outbox;
+        let before = tables::put(&mut self.own, number, Own { root, ended })?;
+        if let Err(fault) = self.outbox.number_all(self.alloc, recall, out) {
+            tables::undo(&mut self.own, number, before);
+            return Err(fault);
+        }
         self.next_recall = number + 1;
         Ok(Began {
             recall,
@@ -123,6 +128,8 @@ impl Diffusion {
 
     /// Receives a message of a recall, and numbers a message for each destination and item, in order,
     /// unless it was seen before. A fault changes nothing.
+    ///
+    /// It costs the messages that it numbers, not those that are kept.
     pub fn receive(
         &mut self,
         message: MsgId,
@@ -141,18 +148,63 @@ impl Diffusion {
             return Ok(Received::Repeat);
         }
         let numbered = out.len() as u64;
-        let outbox = self.outbox.numbered(self.alloc, recall, out)?;
-        if !self.is_engaged_by(recall, &outbox) {
-            self.seen.note(message, recall)?;
-            self.outbox = outbox;
-            return Ok(Received::SignalNow { numbered });
+        if numbered > self.outbox.numbers_left() {
+            return Err(NumberFault::NumbersSpent);
         }
-        let mut parents = self.parents.copy(self.alloc)?;
-        parents.insert(recall, message)?;
+        if self.is_engaged_by(recall, out) {
+            self.engage(message, recall, out)?;
+            Ok(Received::Owe { numbered })
+        } else {
+            self.note(message, recall, out)?;
+            Ok(Received::SignalNow { numbered })
+        }
+    }
+
+    /// Notes a message that wasn't seen, numbers the messages that it gives rise to, and takes it as the
+    /// parent for its recall, which has none. A fault changes nothing.
+    fn engage(
+        &mut self,
+        message: MsgId,
+        recall: RecallId,
+        out: &[(SiteNo, Epc)],
+    ) -> Result<(), AllocError>
+        requires unseen { map.get self.old.seen message ≡ None }
+        requires no_parent { map.get self.old.parents recall ≡ None }
+        requires numbers { self.old.next_message + length out.now ≤ 2 ^ 62 + 1 }
+        ensures ok { OnOk result (self.new ≡ with_parent (noted self.old message recall out.now) recall message) }
+        ensures err { OnErr result (self.new ≡ self.old) }
+    {
+        tables::put(&mut self.parents, recall, message)?;
+        match self.note(message, recall, out) {
+            Ok(()) => Ok(()),
+            Err(error) => {
+                tables::take(&mut self.parents, recall);
+                Err(error)
+            }
+        }
+    }
+
+    /// Notes a message that wasn't seen, and numbers the messages that it gives rise to. A fault changes
+    /// nothing.
+    fn note(
+        &mut self,
+        message: MsgId,
+        recall: RecallId,
+        out: &[(SiteNo, Epc)],
+    ) -> Result<(), AllocError>
+        requires unseen { map.get self.old.seen message ≡ None }
+        requires numbers { self.old.next_message + length out.now ≤ 2 ^ 62 + 1 }
+        ensures ok { OnOk result (self.new ≡ noted self.old message recall out.now) }
+        ensures err { OnErr result (self.new ≡ self.old) }
+    {
         self.seen.note(message, recall)?;
-        self.outbox = outbox;
-        self.parents = parents;
-        Ok(Received::Owe { numbered })
+        match self.outbox.number_all(self.alloc, recall, out) {
+            Ok(()) => Ok(()),
+            Err(_) => {
+                self.seen.forget(message);
+                Err(AllocError)
+            }
+        }
     }
 
     /// Takes the signal for a message of this site. Takes no memory.
@@ -168,32 +220,56 @@ impl Diffusion {
         if self.outbox.has_rows(recall) {
             return Signalled::Cleared;
         }
-        if let Some(parent) = self.parents.get(recall) {
-            self.parents.remove(recall);
+        if let Some(parent) = self.parent(recall) {
+            tables::take(&mut self.parents, recall);
             return Signalled::ParentDue(parent);
         }
-        if self.me == recall.site && self.own.is_open(recall.number) {
-            self.own.end(recall.number);
+        if self.live_own(recall).is_some() {
+            record_end(&mut self.own, recall.number);
             return Signalled::Ended(recall);
         }
         Signalled::Cleared
     }
 
-    /// How many messages of a recall this site has sent that are not signalled. Takes no memory.
+    /// How many messages of a recall this site has sent that are not signalled. Takes no memory, and costs
+    /// one look-up.
     pub fn deficit(&self, recall: RecallId) -> u64
         ensures { result ≡ rows_of self.now.outbox recall }
     {
         self.outbox.rows_of(recall)
     }
 
-    /// Whether a message of a recall engages this site, where `outbox` has the messages that it gave
-    /// rise to: it then has messages that are not signalled, has no parent, and isn't the live initiator.
-    fn is_engaged_by(&self, recall: RecallId, outbox: &Outbox) -> bool
-        ensures { result ≡ (has_rows outbox.now.rows recall && (is_none (map.get self.now.parents recall) && not (is_live self.now recall))) }
+    /// Whether a message of a recall engages this site, where it gives rise to these messages: it then has
+    /// messages that are not signalled, has no parent, and isn't the live initiator.
+    fn is_engaged_by(&self, recall: RecallId, out: &[(SiteNo, Epc)]) -> bool
+        ensures { result ≡ (has_rows (numbered self.now.outbox self.now.next_message recall out.now) recall && (is_none (map.get self.now.parents recall) && is_none (live_own self.now recall))) }
     {
-        outbox.has_rows(recall)
-            && self.parents.get(recall).is_none()
-            && !(self.me == recall.site && self.own.is_open(recall.number))
+        self.has_rows_after(recall, out)
+            && self.parent(recall).is_none()
+            && self.live_own(recall).is_none()
+    }
+
+    /// Whether a message of the recall is unsignalled once these are numbered.
+    fn has_rows_after(&self, recall: RecallId, out: &[(SiteNo, Epc)]) -> bool
+        ensures { result ≡ has_rows (numbered self.now.outbox self.now.next_message recall out.now) recall }
+    {
+        match out {
+            [] => self.outbox.has_rows(recall),
+            _ => true,
+        }
+    }
+
+    /// The site's own recall that this names, where its end isn't recorded.
+    pub fn live_own(&self, recall: RecallId) -> Option<&Own>
+        ensures { option_map (λ own. own.now) result ≡ live_own self.now recall }
+    {
+        if self.me != recall.site {
+            return None;
+        }
+        match self.own_recall(recall.number) {
+            Some(own) if !own.ended => Some(own),
+            _ => None,
+        }
     }
 
     /// The site's own number.
@@ -203,9 +279,10 @@ impl Diffusion {
         self.me
     }
 
-    /// The messages that are not signalled, ascending by number.
-    pub fn outbox(&self) -> &[(u64, Row)]
-        ensures { result.now ≡ map.entries self.now.outbox }
+    /// The messages that are not signalled, by number.
+    pub fn outbox(&self) -> &BTreeMap<u64, Row>
+        ensures outbox { as_map nat_cmp result.now ≡ self.now.outbox }
+        ensures entries { result.now.entries ≡ map.entries self.now.outbox }
     {
         self.outbox.rows()
     }
@@ -217,9 +294,10 @@ impl Diffusion {
         self.outbox.row(number)
     }
 
-    /// The messages seen, each with the recall that it was seen under, ascending by message.
-    pub fn seen(&self) -> &[(MsgId, RecallId)]
-        ensures { result.now ≡ map.entries self.now.seen }
+    /// The messages seen, each with the recall that it was seen under.
+    pub fn seen(&self) -> &BTreeMap<MsgId, RecallId>
+        ensures seen { as_map message_cmp result.now ≡ self.now.seen }
+        ensures entries { result.now.entries ≡ map.entries self.now.seen }
     {
         self.seen.messages()
     }
@@ -231,32 +309,38 @@ impl Diffusion {
         self.seen.recall_of(message)
     }
 
-    /// The recalls that the site is engaged for, each with its parent, ascending by recall.
-    pub fn parents(&self) -> &[(RecallId, MsgId)]
-        ensures { result.now ≡ map.entries self.now.parents }
+    /// The recalls that the site is engaged for, each with its parent.
+    pub fn parents(&self) -> &BTreeMap<RecallId, MsgId>
+        ensures parents { as_map recall_cmp result.now ≡ self.now.parents }
+        ensures entries { result.now.entries ≡ map.entries self.now.parents }
     {
-        self.parents.entries()
+        // The length tells the proof that the recalls ascend.
+        let _length = self.parents.len();
+        &self.parents
     }
 
     /// The parent for a recall.
     pub fn parent(&self, recall: RecallId) -> Option<MsgId>
         ensures { result ≡ map.get self.now.parents recall }
     {
-        self.parents.get(recall)
+        tables::get(&self.parents, recall).copied()
     }
 
-    /// The recalls that the site began, ascending by number.
-    pub fn own_recalls(&self) -> &[(u64, Own)]
-        ensures { result.now ≡ map.entries self.now.own }
+    /// The recalls that the site began, by number.
+    pub fn own_recalls(&self) -> &BTreeMap<u64, Own>
+        ensures own { as_map nat_cmp result.now ≡ self.now.own }
+        ensures entries { result.now.entries ≡ map.entries self.now.own }
     {
-        self.own.entries()
+        // The length tells the proof that the numbers ascend.
+        let _length = self.own.len();
+        &self.own
     }
 
     /// The recall that the site began with this number.
     pub fn own_recall(&self, number: u64) -> Option<&Own>
         ensures { option_map (λ own. own.now) result ≡ map.get self.now.own number }
     {
-        self.own.get(number)
+        tables::get(&self.own, number)
     }
 
     /// The number that the next message gets, or [`LAST_NUMBER`] + 1 where the numbers are spent.
@@ -284,8 +368,8 @@ impl Diffusion {
             me: self.me,
             outbox: self.outbox.copy(alloc)?,
             seen: self.seen.copy(alloc)?,
-            parents: self.parents.copy(alloc)?,
-            own: self.own.copy(alloc)?,
+            parents: tables::copy(alloc, &self.parents)?,
+            own: tables::copy(alloc, &self.own)?,
             next_recall: self.next_recall,
             alloc,
         })

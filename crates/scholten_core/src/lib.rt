@@ -8,7 +8,6 @@ mod diffusions;
 pub mod laws;
 mod outcomes;
 mod own_recalls;
-mod parents;
 #[cfg(test)]
 mod tests;
 

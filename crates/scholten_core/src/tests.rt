@@ -1,11 +1,9 @@
-ghost use Rattle.std.specs.Ordering.{nat_cmp};
-ghost use Rattle.frame_core.specs.Entries.{IsAscending};
-
-use crate::{Began, Diffusion, Own, Received, Signalled};
+use crate::{Diffusion, Own, Received, Signalled};
 use epc_core::Epc;
 use event_json::SiteNo;
-use frame_core::{LAST_NUMBER, MsgId, NumberFault, RecallId, Row};
+use frame_core::{LAST_NUMBER, MsgId, NumberFault, RecallId, Row, tables};
 use std::alloc::Global;
+use std::collections::BTreeMap;
 use std::test::Fail;
 
 /// The site of a number, 0 for A.
@@ -34,73 +32,42 @@ fn told(alloc: Global, dest: u64) -> Result<(SiteNo, Epc), Fail> {
     Ok((site(dest)?, Epc::read(alloc, "x")?))
 }
 
-/// The row of such a message.
-fn row(alloc: Global, dest: u64) -> Result<Row, Fail> {
-    Ok(Row {
-        dest: site(dest)?,
-        recall: first_recall()?,
-        item: Epc::read(alloc, "x")?,
-    })
-}
-
-/// Site A, which began the recall of x before, in a record that was read back.
-fn initiator(alloc: Global, rows: Vec<(u64, Row)>, ended: bool) -> Result<Diffusion, Fail>
-    requires { IsAscending nat_cmp rows.items }
-{
-    let mut own = Vec::new(alloc);
+/// Site A with this own recall of x, which it begins next as number 2, and with a row of it for B at
+/// number 4.
+fn initiator(alloc: Global, ended: bool) -> Result<Diffusion, Fail> {
+    let (mut rows, mut own) = (BTreeMap::new(alloc), BTreeMap::new(alloc));
+    let (dest, item) = told(alloc, 1)?;
+    let recall = first_recall()?;
+    tables::put(&mut rows, 4, Row { dest, recall, item })?;
     let root = Epc::read(alloc, "x")?;
-    own.push((1, Own { root, ended }))?;
-    Ok(Diffusion::restore(site(0)?, rows, Vec::new(alloc), Vec::new(alloc), own, 5, 2))
+    tables::put(&mut own, 1, Own { root, ended })?;
+    let (seen, parents) = (BTreeMap::new(alloc), BTreeMap::new(alloc));
+    Ok(Diffusion::restore(alloc, site(0)?, rows, seen, parents, own, 5, 2)?)
 }
 
-/// Whether two sites keep the same.
-fn is_same(one: &Diffusion, other: &Diffusion) -> bool {
-    one.me() == other.me()
-        && one.outbox() == other.outbox()
-        && one.seen() == other.seen()
-        && one.parents() == other.parents()
-        && one.own_recalls() == other.own_recalls()
-        && one.next_message() == other.next_message()
-        && one.next_recall() == other.next_recall()
-}
-
-/// Receives a message of site B for the first recall.
-fn receives(d: &mut Diffusion, number: u64, out: &[(SiteNo, Epc)]) -> Result<Received, Fail> {
-    Ok(d.receive(message(1, number)?, first_recall()?, out)?)
-}
-
-/// Begins a recall of x.
-fn begins(d: &mut Diffusion, alloc: Global, out: &[(SiteNo, Epc)]) -> Result<Began, Fail> {
-    Ok(d.begin(Epc::read(alloc, "x")?, out)?)
+/// Whether the site answers so to a message of the first recall, which makes it tell these.
+fn receives(
+    d: &mut Diffusion,
+    from: (u64, u64),
+    out: &[(SiteNo, Epc)],
+    answer: Received,
+) -> Result<bool, Fail> {
+    let (sender, number) = from;
+    Ok(d.receive(message(sender, number)?, first_recall()?, out)? == answer)
 }
 
 // Site D, told by B and by C, which tells E.
 #[test]
 fn a_site_is_engaged_until_its_messages_are_signalled(rt: HostRuntime) -> Result<(), Fail> {
-    let recall = first_recall()?;
     let mut d = Diffusion::new(rt.alloc(), site(3)?);
     let out = [told(rt.alloc(), 4)?];
-    assert_eq!(rt;
-        d.receive(message(1, 1)?, recall, &out),
-        Ok(Received::Owe { numbered: 1 })
-    );
-    assert_eq!(rt;
-        d.receive(message(2, 1)?, recall, &[]),
-        Ok(Received::SignalNow { numbered: 0 })
-    );
-    assert_eq!(rt;
-        d.receive(message(2, 1)?, recall, &out),
-        Ok(Received::Repeat)
-    );
-    assert_eq!(rt; d.deficit(recall), 1);
-    assert_eq!(rt; d.parent(recall), Some(message(1, 1)?));
+    assert!(rt; receives(&mut d, (1, 1), &out, Received::Owe { numbered: 1 })?);
+    assert!(rt; receives(&mut d, (2, 1), &[], Received::SignalNow { numbered: 0 })?);
+    assert!(rt; receives(&mut d, (2, 1), &out, Received::Repeat)?);
+    assert_eq!(rt; d.deficit(first_recall()?), 1);
     assert_eq!(rt; d.signalled(1), Signalled::ParentDue(message(1, 1)?));
     assert_eq!(rt; d.signalled(1), Signalled::Stale);
-    assert_eq!(rt;
-        d.receive(message(1, 2)?, recall, &[]),
-        Ok(Received::SignalNow { numbered: 0 })
-    );
-    assert_eq!(rt; d.deficit(recall), 0);
+    assert!(rt; receives(&mut d, (1, 2), &[], Received::SignalNow { numbered: 0 })?);
     assert_eq!(rt;
         (d.outbox().len(), d.seen().len(), d.parents().len()),
         (0, 3, 0)
@@ -108,235 +75,67 @@ fn a_site_is_engaged_until_its_messages_are_signalled(rt: HostRuntime) -> Result
     Ok(())
 }
 
-// The second message finds the site engaged, though it has a message of its own to number.
-#[test]
-fn the_first_sender_stays_the_parent(rt: HostRuntime) -> Result<(), Fail> {
-    let mut d = Diffusion::new(rt.alloc(), site(3)?);
-    let out = [told(rt.alloc(), 4)?];
-    let first = receives(&mut d, 1, &out)?;
-    let second = receives(&mut d, 2, &out)?;
-    assert_eq!(rt; first, Received::Owe { numbered: 1 });
-    assert_eq!(rt; second, Received::SignalNow { numbered: 1 });
-    let due = Signalled::ParentDue(message(1, 1)?);
-    assert_eq!(rt; (d.signalled(2), d.signalled(1)), (Signalled::Cleared, due));
-    Ok(())
-}
-
-#[test]
-fn a_repeat_and_a_stale_signal_change_nothing(rt: HostRuntime) -> Result<(), Fail> {
-    let mut d = Diffusion::new(rt.alloc(), site(3)?);
-    receives(&mut d, 1, &[])?;
-    let before = d.copy(rt.alloc())?;
-    let again = receives(&mut d, 1, &[])?;
-    assert_eq!(rt;
-        (again, d.signalled(1)),
-        (Received::Repeat, Signalled::Stale)
-    );
-    assert!(rt; is_same(&d, &before));
-    Ok(())
-}
-
-#[test]
-fn each_recall_has_its_own_deficit(rt: HostRuntime) -> Result<(), Fail> {
-    let mut a = Diffusion::new(rt.alloc(), site(0)?);
-    let out = [told(rt.alloc(), 1)?, told(rt.alloc(), 2)?];
-    let first = begins(&mut a, rt.alloc(), &out[..1])?.recall;
-    let second = begins(&mut a, rt.alloc(), &out)?.recall;
-    assert_eq!(rt; (a.deficit(first), a.deficit(second)), (1, 2));
-    assert_eq!(rt; a.signalled(1), Signalled::Ended(first));
-    assert_eq!(rt; (a.deficit(first), a.deficit(second)), (0, 2));
-    Ok(())
-}
-
+// The initiator's recall ends with the signal for its last message.
 #[test]
 fn a_recall_ends_with_its_last_signal(rt: HostRuntime) -> Result<(), Fail> {
-    let recall = first_recall()?;
     let mut a = Diffusion::new(rt.alloc(), site(0)?);
     let out = [told(rt.alloc(), 1)?, told(rt.alloc(), 2)?];
-    let root = Epc::read(rt.alloc(), "x")?;
-    let began = a.begin(root, &out);
+    let began = a.begin(Epc::read(rt.alloc(), "x")?, &out)?;
     assert_eq!(rt;
-        began,
-        Ok(Began {
-            recall,
-            numbered: 2,
-            ended: false
-        })
+        (began.recall, began.numbered, began.ended),
+        (first_recall()?, 2, false)
     );
-    assert_eq!(rt; a.signalled(3), Signalled::Stale);
     assert_eq!(rt; a.signalled(2), Signalled::Cleared);
-    assert_eq!(rt;
-        a.receive(message(1, 1)?, recall, &out),
-        Ok(Received::SignalNow { numbered: 2 })
-    );
-    assert_eq!(rt;
-        (a.signalled(1), a.signalled(3)),
-        (Signalled::Cleared, Signalled::Cleared)
-    );
-    assert_eq!(rt; a.signalled(4), Signalled::Ended(recall));
+    assert!(rt; a.live_own(began.recall).is_some());
+    assert_eq!(rt; a.signalled(1), Signalled::Ended(began.recall));
+    assert!(rt; a.copy(rt.alloc())?.live_own(began.recall).is_none());
     Ok(())
 }
 
 #[test]
 fn a_recall_with_nobody_to_tell_has_ended(rt: HostRuntime) -> Result<(), Fail> {
     let mut a = Diffusion::new(rt.alloc(), site(0)?);
-    let root = Epc::read(rt.alloc(), "x")?;
-    let recall = first_recall()?;
+    let began = a.begin(Epc::read(rt.alloc(), "x")?, &[])?;
+    assert!(rt; began.ended);
     assert_eq!(rt;
-        a.begin(root, &[]),
-        Ok(Began {
-            recall,
-            numbered: 0,
-            ended: true
-        })
+        (a.next_recall(), a.next_message(), a.own_recalls().len()),
+        (2, 1, 1)
     );
-    let want = Own {
-        root: Epc::read(rt.alloc(), "x")?,
-        ended: true,
-    };
-    assert_eq!(rt; a.own_recall(1), Some(&want));
-    assert_eq!(rt; (a.next_message(), a.next_recall()), (1, 2));
     Ok(())
 }
 
-// No run leads to these records: an ended recall with a row, and a row at the next number.
+// No run leads to these records. A live initiator is not engaged by a message of its own recall; one
+// whose recall has ended is, and that recall isn't ended again.
 #[test]
-fn a_restored_record_goes_by_the_same_rules(rt: HostRuntime) -> Result<(), Fail> {
-    let recall = first_recall()?;
-    let rows = vec![in rt.alloc(); (5, row(rt.alloc(), 1)?)]?;
-    let mut a = initiator(rt.alloc(), rows, true)?;
-    assert_eq!(rt;
-        a.receive(message(1, 1)?, recall, &[]),
-        Ok(Received::Owe { numbered: 0 })
-    );
-    let out = [told(rt.alloc(), 2)?];
-    assert_eq!(rt;
-        a.receive(message(1, 2)?, recall, &out),
-        Ok(Received::SignalNow { numbered: 1 })
-    );
-    assert_eq!(rt; a.deficit(recall), 1);
-    let want = row(rt.alloc(), 2)?;
-    assert_eq!(rt; a.row(5), Some(want.view()));
-    let rows = vec![in rt.alloc(); (5, row(rt.alloc(), 1)?)]?;
-    let mut a = initiator(rt.alloc(), rows, true)?;
-    assert_eq!(rt; a.signalled(5), Signalled::Cleared);
+fn a_restored_initiator_follows_the_rules(rt: HostRuntime) -> Result<(), Fail> {
+    let mut live = initiator(rt.alloc(), false)?;
+    assert!(rt; receives(&mut live, (1, 1), &[], Received::SignalNow { numbered: 0 })?);
+    assert_eq!(rt; live.signalled(4), Signalled::Ended(first_recall()?));
+    let mut ended = initiator(rt.alloc(), true)?;
+    assert_eq!(rt; ended.signalled(4), Signalled::Cleared);
     Ok(())
 }
 
 #[test]
-fn the_last_message_is_numbered_once(rt: HostRuntime) -> Result<(), Fail> {
-    let mut d = at_last_number(rt.alloc(), site(3)?);
-    let one = [told(rt.alloc(), 4)?];
-    assert_eq!(rt; receives(&mut d, 1, &one)?, Received::Owe { numbered: 1 });
-    let want = row(rt.alloc(), 4)?;
-    assert_eq!(rt; d.row(4611686018427387904), Some(want.view()));
-    assert!(rt; has_no_number(&mut d, rt.alloc(), 2, &one)?);
+fn an_ended_initiator_is_engaged_as_another_site(rt: HostRuntime) -> Result<(), Fail> {
+    let mut ended = initiator(rt.alloc(), true)?;
+    assert!(rt; receives(&mut ended, (1, 1), &[], Received::Owe { numbered: 0 })?);
+    assert_eq!(rt; ended.parent(first_recall()?), Some(message(1, 1)?));
+    assert_eq!(rt; ended.signalled(4), Signalled::ParentDue(message(1, 1)?));
     Ok(())
 }
 
-// One number is left, and two are wanted.
+// With one number left two messages have none, and nothing is noted.
 #[test]
-fn spent_numbers_leave_all_as_it_was(rt: HostRuntime) -> Result<(), Fail> {
-    let mut d = at_last_number(rt.alloc(), site(3)?);
-    let two = [told(rt.alloc(), 4)?, told(rt.alloc(), 5)?];
-    assert!(rt; has_no_number(&mut d, rt.alloc(), 1, &two)?);
-    let before = d.copy(rt.alloc())?;
-    let began = d.begin(Epc::read(rt.alloc(), "x")?, &two).err();
-    assert_eq!(rt; began, Some(NumberFault::NumbersSpent));
-    assert!(rt; is_same(&d, &before));
-    Ok(())
-}
-
-/// Whether a message of site B finds the numbers spent, and changes nothing.
-fn has_no_number(
-    d: &mut Diffusion,
-    alloc: Global,
-    number: u64,
-    out: &[(SiteNo, Epc)],
-) -> Result<bool, Fail> {
-    let before = d.copy(alloc)?;
-    let answer = d.receive(message(1, number)?, first_recall()?, out);
-    Ok(answer == Err(NumberFault::NumbersSpent) && is_same(d, &before))
-}
-
-// With allocations refused (rt try --test --fail-alloc N) this sees what want of memory leaves.
-#[test]
-fn want_of_memory_changes_nothing(rt: HostRuntime) -> Result<(), Fail> {
-    let mut d = Diffusion::new(rt.alloc(), site(3)?);
-    let out = [told(rt.alloc(), 4)?];
-    let root = Epc::read(rt.alloc(), "x")?;
-    let before = d.copy(rt.alloc())?;
-    assert!(rt; begins_or_stays(&mut d, &before, root, &out));
-    let before = d.copy(rt.alloc())?;
-    assert!(rt; receives_or_stays(&mut d, &before, message(1, 1)?, &out)?);
-    Ok(())
-}
-
-/// Begins a recall, or else has no memory and changes nothing.
-fn begins_or_stays(
-    d: &mut Diffusion,
-    before: &Diffusion,
-    root: Epc,
-    out: &[(SiteNo, Epc)],
-) -> bool {
-    match d.begin(root, out) {
-        Ok(began) => d.deficit(began.recall) == began.numbered,
-        Err(fault) => fault == NumberFault::NoMemory && is_same(d, before),
-    }
-}
-
-/// Receives a message, or else has no memory and changes nothing.
-fn receives_or_stays(
-    d: &mut Diffusion,
-    before: &Diffusion,
-    message: MsgId,
-    out: &[(SiteNo, Epc)],
-) -> Result<bool, Fail> {
-    let recall = first_recall()?;
-    Ok(match d.receive(message, recall, out) {
-        Ok(_) => d.seen_under(message) == Some(recall),
-        Err(fault) => fault == NumberFault::NoMemory && is_same(d, before),
-    })
-}
-
-#[test]
-fn the_last_recall_is_begun_once(rt: HostRuntime) -> Result<(), Fail> {
-    let mut d = at_last_number(rt.alloc(), site(3)?);
-    let began = d.begin(Epc::read(rt.alloc(), "x")?, &[])?;
-    assert_eq!(rt; began.recall.number, 4611686018427387904);
-    let root = Epc::read(rt.alloc(), "x")?;
-    assert_eq!(rt; d.begin(root, &[]).err(), Some(NumberFault::NumbersSpent));
-    Ok(())
-}
-
-/// A site without recalls that has one number left for a message, and one for a recall.
-fn at_last_number(alloc: Global, me: SiteNo) -> Diffusion {
-    Diffusion::restore(
-        me,
-        Vec::new(alloc),
-        Vec::new(alloc),
-        Vec::new(alloc),
-        Vec::new(alloc),
-        LAST_NUMBER,
-        LAST_NUMBER,
-    )
-}
-
-#[test]
-fn a_copy_has_all_maps(rt: HostRuntime) -> Result<(), Fail> {
-    let recall = first_recall()?;
-    let rows = vec![in rt.alloc(); (2, row(rt.alloc(), 1)?)]?;
-    let mut a = initiator(rt.alloc(), rows, false)?;
-    a.receive(message(1, 1)?, recall, &[])?;
-    let mut copy = a.copy(rt.alloc())?;
-    assert_eq!(rt; copy.outbox(), a.outbox());
-    assert_eq!(rt; copy.own_recalls(), a.own_recalls());
-    assert_eq!(rt; copy.seen_under(message(1, 1)?), Some(recall));
-    assert_eq!(rt;
-        (copy.me(), copy.next_message(), copy.next_recall()),
-        (site(0)?, 5, 2)
-    );
-    assert_eq!(rt; copy.signalled(2), Signalled::Ended(recall));
-    assert_eq!(rt; a.deficit(recall), 1);
+fn spent_numbers_change_nothing(rt: HostRuntime) -> Result<(), Fail> {
+    let alloc = rt.alloc();
+    let (seen, parents) = (BTreeMap::new(alloc), BTreeMap::new(alloc));
+    let (rows, own) = (BTreeMap::new(alloc), BTreeMap::new(alloc));
+    let mut d = Diffusion::restore(alloc, site(3)?, rows, seen, parents, own, LAST_NUMBER, 1)?;
+    let two = [told(alloc, 4)?, told(alloc, 5)?];
+    let refused = d.receive(message(1, 1)?, first_recall()?, &two);
+    assert_eq!(rt; refused, Err(NumberFault::NumbersSpent));
+    assert_eq!(rt; d.seen_under(message(1, 1)?), None);
+    assert!(rt; receives(&mut d, (1, 1), &two[..1], Received::Owe { numbered: 1 })?);
     Ok(())
 }
