@@ -1,19 +1,18 @@
 -- The counts of recalls beside the rows: what raising, lowering, putting and taking leave.
-use Rattle.std.proofs.Common.{◌≡◌, ◌≢◌, inl, inr, ℕ, ◌+◌, ◌-◌, ◌<◌, ◌≤◌, Bool, true, false, cond, List, [], ◌∷◌, length, Option, Some, None, refl, sym, ap, subst, ◌∙◌, arith}
-use Rattle.std.specs.Prelude.{IsSome, unwrap_or, ◌++◌}
+use Rattle.std.proofs.Common.{◌≡◌, ◌≢◌, inl, inr, ℕ, ◌+◌, ◌-◌, ◌<◌, ◌≤◌, Bool, true, false, cond, List, ◌∷◌, length, Some, None, refl, sym, ap, subst, ◌∙◌, arith}
+use Rattle.std.specs.Prelude.{IsSome, unwrap_or}
 use Rattle.std.specs.Ordering.{nat_cmp}
 use Rattle.std.specs.Cmp.{nat_cmp_total}
 use Rattle.std.specs.FinMap.{FinMap, nat_cmp-IsAntisymmetric, get, insert, remove, entries, empty, len-entries, len-empty, get-empty, same_map}
 use Rattle.frame_core.specs.Numbers.{Recall}
 use Rattle.frame_core.specs.declared.rows.Row.{Row}
 use Rattle.frame_core.specs.Identifiers.{recall_cmp, same_recall}
-use Rattle.frame_core.specs.Counts.{Counted, count_in, AreCounted, KeepsCounts, IsRaised, IsLowered, undone, CanUndo}
+use Rattle.frame_core.specs.Counts.{count_in, AreCounted, KeepsCounts, IsRaised, IsLowered}
 use Rattle.frame_core.specs.Orders.{recall_total, recall_exact}
-use Rattle.frame_core.specs.Outboxes.{rows_of, row_for, numbered}
-use Rattle.frame_core.specs.Tables.{set_back}
+use Rattle.frame_core.specs.Outboxes.{rows_of}
 use Rattle.frame_core.proofs.Deficits.{inserted, cleared, passing, passing_more, passing_at_most, other_recall}
-use Rattle.frame_core.proofs.Maps.{one_key, get_here, get_apart, get_gone, get_left, remove_none, insert_undone}
-use Rattle.frame_core.proofs.Numbering.{same_recall_itself}
+use Rattle.frame_core.proofs.Lookups.{one_key, get_here, get_apart, get_gone, get_left}
+use Rattle.frame_core.proofs.Sameness.{same_recall_itself}
 
 is_one : {b : Bool} → b ≡ true → ◌≡◌ {A = ℕ} (cond b 1 0) 1
 is_one t = ap (λ b. cond b 1 0) t
@@ -51,9 +50,6 @@ counts_stay m r n q has = elim (one_key recall_total recall_exact q r) [
 pub has_count : (m : FinMap recall_cmp ℕ) (r : Recall) → 0 < count_in m r → get m r ≡ None → ⊥
 has_count m r some none = let zero_of : count_in m r ≡ 0 = ap (λ o. unwrap_or o 0) none in omega (arith, some, zero_of)
 
-pub count_there : (m : FinMap recall_cmp ℕ) (r : Recall) → 0 < count_in m r → IsSome (get m r)
-count_there m r some = elim (get m r) as (λ o. get m r ≡ o → IsSome o) [ None ↦ λ e. absurd (has_count m r some e) | Some n ↦ λ e. refl ] refl
-
 -- a recall has no more rows than there are
 pub few_rows : (rows : FinMap nat_cmp Row) (r : Recall) → rows_of rows r ≤ length (entries rows)
 few_rows rows r = passing_at_most (λ row. same_recall row.recall r) (entries rows)
@@ -84,10 +80,6 @@ counted_new rows counts counts' n x are none up r = omega (arith, are r, up r, i
 pub counted_over : (rows : FinMap nat_cmp Row) (counts counts' counts'' : FinMap recall_cmp ℕ) (n : ℕ) (x old : Row)
     → AreCounted rows counts → get rows n ≡ Some old → IsRaised counts x.recall counts' → IsLowered counts' old.recall counts'' → AreCounted (insert rows n x) counts''
 counted_over rows counts counts' counts'' n x old are is up down r = omega (arith, are r, up r, down r, put_over rows n old x r is)
-
-pub counted_back : (rows : FinMap nat_cmp Row) (counts counts' counts'' : FinMap recall_cmp ℕ) (q : Recall)
-    → AreCounted rows counts → IsRaised counts q counts' → IsLowered counts' q counts'' → AreCounted rows counts''
-counted_back rows counts counts' counts'' q are up down r = omega (arith, are r, up r, down r)
 
 pub counted_without : (rows : FinMap nat_cmp Row) (counts counts' : FinMap recall_cmp ℕ) (n : ℕ) (x : Row)
     → AreCounted rows counts → get rows n ≡ Some x → IsLowered counts x.recall counts' → AreCounted (remove rows n) counts'

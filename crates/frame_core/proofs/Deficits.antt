@@ -1,7 +1,7 @@
 -- What numbering messages and clearing a row do to the deficits of recalls, and where a recall has rows.
-use Rattle.std.proofs.Common.{ltb, ◌≡◌, ◌≢◌, ℕ, ◌+◌, ◌≤◌, Bool, true, false, cond, not, ◌||◌, List, [], ◌∷◌, map, length, Option, Some, None, refl, sym, ap, subst, ◌∙◌, arith}
+use Rattle.std.proofs.Common.{ltb, ◌≡◌, ◌≢◌, ℕ, ◌+◌, ◌≤◌, Bool, true, false, cond, not, ◌||◌, List, [], ◌∷◌, map, length, Option, Some, None, refl, sym, ap, ◌∙◌, arith}
 use Rattle.std.specs.Cmp.{IsTotalOrder, nat_cmp_total}
-use Rattle.std.specs.Ordering.{is_eq, nat_cmp, eq_by_cmp}
+use Rattle.std.specs.Ordering.{is_eq, nat_cmp}
 use Rattle.std.specs.declared.cmp.Ordering.{Ordering}
 use Rattle.std.specs.declared.cmp.Ordering.TheVariants.{Less, Equal, Greater}
 use Rattle.std.specs.List.{count_by, list_any}
@@ -9,16 +9,19 @@ use Rattle.std.specs.FinMap.{FinMap, nat_cmp-IsAntisymmetric, find, put, get, in
 use Rattle.std.specs.FinMap.Entries.{by_order}
 use Rattle.std.proofs.lemmas.List.Sums.{sum_by-cons}
 use Rattle.std.proofs.lemmas.Bool.{false_from_ne_true}
-use Rattle.std.proofs.lemmas.Cmp.{tied_itself}
 use Rattle.std.proofs.lemmas.Bool.Decides.{nat_tests}
 use Rattle.frame_core.specs.Numbers.{Recall}
 use Rattle.frame_core.specs.declared.rows.Row.{Row}
 use Rattle.frame_core.specs.Identifiers.{same_recall}
 use Rattle.frame_core.specs.Outboxes.{row_for, numbered, rows_of, has_rows}
-use Rattle.frame_core.specs.Laws.{IsRowOf, AreUnused}
-use Rattle.frame_core.proofs.Maps.{get_apart, without_sorted, ascending_without}
-use Rattle.frame_core.proofs.Ascending.{IsAscending, without, first, second, find_above, without_above}
-use Rattle.frame_core.proofs.Numbering.{one_recall, same_recall_itself, numbered_told}
+use Rattle.frame_core.specs.Laws.{IsRowOf, HasNoRows, AreUnused}
+use Rattle.frame_core.proofs.Found.{is_found, found_in}
+use Rattle.frame_core.proofs.Lookups.{get_apart}
+use Rattle.frame_core.proofs.Maps.{without_sorted, ascending_without}
+use Rattle.frame_core.proofs.Sameness.{one_recall, equal_recalls, same_recall_itself}
+use Rattle.frame_core.proofs.Sums.{list_any-map}
+use Rattle.frame_core.proofs.Ascending.{IsAscending, without, first, second, without_above}
+use Rattle.frame_core.proofs.Numbering.{numbered_told}
 
 -- what fails a test adds nothing, and what passes it adds one
 not_counted : (n : ℕ) {b : Bool} → b ≡ false → cond b 1 0 + n ≡ n
@@ -89,44 +92,6 @@ module _ {K X : Type 0} (p : X → Bool) where
         | false ↦ λ t h. omega (arith, passing_more e es, some_counted es h)
       ] refl some
 
--- an entry among those of an ascending list is found, and passes
-pub record IsPassing {K X : Type 0} (R : K → K → Ordering) (p : X → Bool) (es : List (K × X)) : Type 0 where
-  pub key : K
-  pub value : X
-  pub found : find R key es ≡ Some value
-  pub passes : p value ≡ true
-
-module _ {K X : Type 0} {R : K → K → Ordering} (o : IsTotalOrder R) (p : X → Bool) where
-  -- what is found behind the first entry is found
-  later_found : (e : K × X) (es : List (K × X)) → IsAscending R (e ∷ es) → IsPassing R p es → IsPassing R p (e ∷ es)
-  later_found e es up later =
-      elim (R later.key e.0) as (λ r. R later.key e.0 ≡ r → IsPassing R p (e ∷ es)) [
-        | Less ↦ λ t. record { key = later.key; value = later.value; found = ap (λ r. cond (is_eq r) (Some e.1) (find R later.key es)) t ∙ later.found; passes = later.passes }
-        | Equal ↦ λ t.
-            let absent : find R later.key es ≡ None = find_above o e.0 later.key es t (first _ _ up) in
-            let present : find R later.key es ≡ Some later.value = later.found in
-            cc
-        | Greater ↦ λ t. record { key = later.key; value = later.value; found = ap (λ r. cond (is_eq r) (Some e.1) (find R later.key es)) t ∙ later.found; passes = later.passes }
-      ] refl
-
-  -- a value that passes has a key under which it is found
-  found_passing : (es : List (K × X)) → IsAscending R es → list_any p (map (λ e. e.1) es) ≡ true → IsPassing R p es
-  found_passing [] up some = cc
-  found_passing (e ∷ es) up some =
-      elim (p e.1) as (λ b. p e.1 ≡ b → (b || list_any p (map (λ e. e.1) es)) ≡ true → IsPassing R p (e ∷ es)) [
-        | true ↦ λ t h. record { key = e.0; value = e.1; found = ap (λ r. cond (is_eq r) (Some e.1) (find R e.0 es)) (tied_itself o e.0); passes = t }
-        | false ↦ λ t h. later_found e es up (found_passing es (second _ _ up) h)
-      ] refl some
-
-  -- a value that is found and passes is one that passes
-  passing_found : (es : List (K × X)) (q : K) (x : X) → find R q es ≡ Some x → p x ≡ true → list_any p (map (λ e. e.1) es) ≡ true
-  passing_found [] q x is passes = cc
-  passing_found (e ∷ es) q x is passes =
-      elim (eq_by_cmp R q e.0) as (λ b. cond b (Some e.1) (find R q es) ≡ Some x → (p e.1 || list_any p (map (λ e. e.1) es)) ≡ true) [
-        | true ↦ λ here. let same : e.1 ≡ x = cc in ap (λ y. p y || list_any p (map (λ e. e.1) es)) same ∙ ap (λ b. b || list_any p (map (λ e. e.1) es)) passes
-        | false ↦ λ later. elim (p e.1) as (λ b. (b || list_any p (map (λ e. e.1) es)) ≡ true) [ true ↦ refl | false ↦ passing_found es q x later passes ]
-      ] is
-
 -- the entries of a map without a key
 entries_removed : (m : FinMap nat_cmp Row) (n : ℕ) → entries (remove m n) ≡ without nat_cmp n (entries m)
 entries_removed m n =
@@ -138,14 +103,18 @@ entries_removed m n =
 -- a recall has rows exactly where a row of it is found
 pub rows_are_found : (rows : FinMap nat_cmp Row) (r : Recall) → has_rows rows r ≡ true → IsRowOf rows r
 rows_are_found rows r some =
-    let one = found_passing nat_cmp_total (λ row. same_recall row.recall r) (entries rows) (entries_sorted rows) some in
-    record { number = one.key; row = one.value; stands = get-entries rows one.key ∙ one.found; of_recall = one_recall one.value.recall r one.passes }
+    let one = is_found nat_cmp_total (λ e. same_recall e.1.recall r) rows (sym (list_any-map (λ e. e.1) (λ row. same_recall row.recall r) (entries rows)) ∙ some) in
+    record { number = one.key; row = one.value; stands = one.found; of_recall = one_recall one.value.recall r one.passes }
 
 pub found_rows : (rows : FinMap nat_cmp Row) (r : Recall) → IsRowOf rows r → has_rows rows r ≡ true
 found_rows rows r one =
-    passing_found nat_cmp_total (λ row. same_recall row.recall r) (entries rows) one.number one.row
-    (sym (get-entries rows one.number) ∙ one.stands)
-    (subst (λ (z : Recall). same_recall z r ≡ true) (sym one.of_recall) (same_recall_itself r))
+    list_any-map (λ e. e.1) (λ row. same_recall row.recall r) (entries rows)
+    ∙ found_in nat_cmp_total (λ e. same_recall e.1.recall r) nat_cmp-IsAntisymmetric rows
+    (record { key = one.number; value = one.row; found = one.stands; passes = equal_recalls one.row.recall r one.of_recall })
+
+-- and it has none where no number has one
+pub no_row : (rows : FinMap nat_cmp Row) (r : Recall) → has_rows rows r ≡ false → HasNoRows rows r
+no_row rows r none n x stands of_recall = let some : has_rows rows r ≡ true = found_rows rows r (record { number = n; row = x; stands = stands; of_recall = of_recall }) in cc
 
 -- a recall without rows has no deficit, and the other way round
 pub no_deficit : (rows : FinMap nat_cmp Row) (r : Recall) → has_rows rows r ≡ false → rows_of rows r ≡ 0
@@ -220,6 +189,6 @@ numbered_has_rows rows n r [] some = absurd (omega (arith, some))
 numbered_has_rows rows n r (pair ∷ out) some = found_rows (numbered rows n r (pair ∷ out)) r (record {
   number = n;
   row = row_for r pair;
-  stands = numbered_told rows n r (pair ∷ out) 0 n pair (omega arith) (omega arith);
+  stands = numbered_told rows n r (pair ∷ out) 0 n pair refl (omega arith);
   of_recall = refl;
 })

@@ -1,8 +1,12 @@
 pub mod Ascending
 pub mod Counting
 pub mod Deficits
+pub mod Found
+pub mod Known
+pub mod Lookups
 pub mod Maps
 pub mod Noting
 pub mod Numbering
+pub mod Sameness
 pub mod Sums
 pub mod Undoing

@@ -1,17 +1,17 @@
--- Laws of finite maps: what is found after a change at its key and elsewhere, and maps made of ascending entries.
-use Rattle.std.proofs.Common.{◌≡◌, ◌≢◌, ◌⊎◌, inl, inr, Bool, true, false, cond, not, List, [], length, Option, Some, None, Result, Ok, Err, OnOk, OnErr, refl, sym, ap, subst, ◌∙◌}
+-- Finite maps made of ascending entries, and tree maps as finite maps.
+use Rattle.std.proofs.Common.{◌≡◌, inl, inr, Bool, true, false, cond, not, List, [], length, Option, Some, None, Result, Ok, Err, OnOk, OnErr, refl, sym, ap, subst, ◌∙◌}
 use Rattle.std.specs.Prelude.{is_some, option_map}
 use Rattle.std.specs.Borrow.{Bor}
 use Rattle.std.specs.Option.{option_copied}
 use Rattle.std.specs.Cmp.{IsTotalOrder}
 use Rattle.std.specs.Ordering.{is_eq, eq_by_cmp}
 use Rattle.std.specs.declared.cmp.Ordering.{Ordering}
-use Rattle.std.specs.declared.cmp.Ordering.TheVariants.{Less, Equal, Greater}
-use Rattle.std.specs.FinMap.{FinMap, IsAntisymmetric, find, put, get, insert, remove, empty, from_sorted, entries-from_sorted, get-from_sorted, same_entries_map, entries, empty_of_len, len-entries, entries-insert, get-insert, get-remove, same_map}
+use Rattle.std.specs.FinMap.{FinMap, IsAntisymmetric, find, put, get, insert, remove, empty, from_sorted, entries-from_sorted, get-from_sorted, same_entries_map, entries, empty_of_len, len-entries, entries-insert, get-remove, same_map}
 use Rattle.std.specs.FinMap.Entries.{is_sorted-put, is_sorted-where_key, find-where_key}
-use Rattle.std.proofs.lemmas.Cmp.{tied_itself, alike_right, eq_by_cmp_equiv}
+use Rattle.std.proofs.lemmas.Cmp.{alike_right, eq_by_cmp_equiv}
 use Rattle.frame_core.proofs.Ascending.{IsAscending, without, ascending_keys, looked_up, inserted, removed, written}
 use Rattle.frame_core.specs.Tables.{as_map, set_back}
+use Rattle.frame_core.proofs.Lookups.{one_key, get_here, get_apart, get_gone, get_left}
 use Rattle.std.specs.BTreeMap.{BTreeMap, insert_entry, is_at, IsOrdered}
 use Rattle.std.specs.Map.{lookup, remove_entry, set_value}
 
@@ -23,51 +23,13 @@ turned : {A : Type 0} (b : Bool) (x y : A) → cond (not b) x y ≡ cond b y x
 turned true x y = refl
 turned false x y = refl
 
--- two keys are one, or they are not
-pub one_key : {K : Type 0} {R : K → K → Ordering} (o : IsTotalOrder R) (exact : IsAntisymmetric R) (q k : K) → (q ≡ k) ⊎ (q ≢ k)
-one_key {R = R} o exact q k = elim (R q k) as (λ r. R q k ≡ r → (q ≡ k) ⊎ (q ≢ k)) [
-  | Less ↦ λ e. inr (λ same. let tie : R q k ≡ Equal = subst (λ z. R q z ≡ Equal) same (tied_itself o q) in cc)
-  | Equal ↦ λ e. inl (exact q k e)
-  | Greater ↦ λ e. inr (λ same. let tie : R q k ≡ Equal = subst (λ z. R q z ≡ Equal) same (tied_itself o q) in cc)
-] refl
-
-apart : {K : Type 0} {R : K → K → Ordering} (exact : IsAntisymmetric R) (q k : K) → q ≢ k → eq_by_cmp R q k ≡ false
-apart {R = R} exact q k ne = elim (R q k) as (λ r. R q k ≡ r → is_eq r ≡ false) [
-  | Less ↦ λ e. refl
-  | Equal ↦ λ e. absurd (ne (exact q k e))
-  | Greater ↦ λ e. refl
-] refl
-
 module _ {K X : Type 0} {R : K → K → Ordering} (o : IsTotalOrder R) (exact : IsAntisymmetric R) where
-  -- at its key a new value is found
-  pub get_here : (m : FinMap R X) (k : K) (v : X) → get (insert m k v) k ≡ Some v
-  get_here m k v = get-insert o m k v k ∙ ap (λ r. cond (is_eq r) (Some v) (get m k)) (tied_itself o k)
-
-  -- elsewhere what was found before
-  pub get_apart : (m : FinMap R X) (k : K) (v : X) (q : K) → q ≢ k → get (insert m k v) q ≡ get m q
-  get_apart m k v q ne = get-insert o m k v q ∙ ap (λ b. cond b (Some v) (get m q)) (apart exact q k ne)
-
-  -- what is removed is gone
-  pub get_gone : (m : FinMap R X) (k : K) → get (remove m k) k ≡ None
-  get_gone m k = get-remove o m k k ∙ ap (λ r. cond (is_eq r) None (get m k)) (tied_itself o k)
-
-  -- and the rest is left
-  pub get_left : (m : FinMap R X) (k q : K) → q ≢ k → get (remove m k) q ≡ get m q
-  get_left m k q ne = get-remove o m k q ∙ ap (λ b. cond b None (get m q)) (apart exact q k ne)
-
   -- to remove what isn't there changes nothing
   pub remove_none : (m : FinMap R X) (k : K) → get m k ≡ None → remove m k ≡ m
   remove_none m k none = same_map o exact _ _ (λ q. elim (one_key o exact q k) [
-    | inl same ↦ subst (λ z. get (remove m k) z ≡ get m z) (sym same) (get_gone m k ∙ sym none)
-    | inr ne ↦ get_left m k q ne
+    | inl same ↦ subst (λ z. get (remove m k) z ≡ get m z) (sym same) (get_gone o exact m k ∙ sym none)
+    | inr ne ↦ get_left o exact m k q ne
   ])
-
-  -- entries with a key's value written are the map with that value
-  pub put_sorted : (es : List (K × X)) (k : K) (v : X) → IsAscending R es → from_sorted {R = R} (put R k v es) ≡ insert (from_sorted es) k v
-  put_sorted es k v up = same_entries_map _ _ (entries-from_sorted R _ (is_sorted-put R o k v es up) ∙ sym (entries-insert o (from_sorted es) k v ∙ ap (put R k v) (entries-from_sorted R es up)))
-
-  pub ascending_put : (es : List (K × X)) (k : K) (v : X) → IsAscending R es → IsAscending R (put R k v es)
-  ascending_put es k v up = is_sorted-put R o k v es up
 
   pub ascending_without : (es : List (K × X)) (k : K) → IsAscending R es → IsAscending R (without R k es)
   ascending_without es k up = is_sorted-where_key R (λ x. not (eq_by_cmp R k x)) es up

@@ -1,5 +1,5 @@
 -- What noting a message answers.
-use Rattle.std.proofs.Common.{◌≡◌, ◌↔◌, Option, Some, None, Result, Ok, refl, sym, subst}
+use Rattle.std.proofs.Common.{◌≡◌, ◌↔◌, Option, None, Result, Ok, refl, subst}
 use Rattle.std.specs.Prelude.{IsSome}
 use Rattle.std.specs.declared.alloc.AllocError.{AllocError}
 use Rattle.frame_core.specs.declared.seen_messages.Noted.{Noted}

@@ -1,14 +1,14 @@
 -- Rows that were put one after another are taken away again, the last one first.
-use Rattle.std.proofs.Common.{◌≡◌, ◌≢◌, ℕ, zero, suc, ◌+◌, ◌<◌, List, [], ◌∷◌, ◌++◌, length, Option, Some, None, refl, sym, ap, subst, ◌∙◌, arith}
+use Rattle.std.proofs.Common.{◌≡◌, ◌≢◌, ℕ, suc, ◌+◌, ◌<◌, List, [], ◌∷◌, ◌++◌, length, Option, Some, None, sym, ap, subst, ◌∙◌, arith}
 use Rattle.std.specs.Prelude.{IsSome, IfSome}
 use Rattle.std.specs.Ordering.{nat_cmp}
 use Rattle.std.specs.Cmp.{nat_cmp_total}
-use Rattle.std.specs.FinMap.{FinMap, nat_cmp-IsAntisymmetric, get, insert, remove}
-use Rattle.frame_core.specs.Numbers.{Recall}
+use Rattle.std.specs.FinMap.{FinMap, nat_cmp-IsAntisymmetric, get, insert}
 use Rattle.frame_core.specs.declared.rows.Row.{Row}
 use Rattle.frame_core.specs.Counts.{Counted, KeepsCounts, undone, CanUndo}
 use Rattle.frame_core.specs.Tables.{set_back}
-use Rattle.frame_core.proofs.Maps.{get_here, get_apart, get_left, insert_undone}
+use Rattle.frame_core.proofs.Lookups.{get_apart, get_left}
+use Rattle.frame_core.proofs.Maps.{insert_undone}
 
 -- a key that is set back leaves the others
 pub set_back_apart : (rows : FinMap nat_cmp Row) (n : ℕ) (before : Option Row) (q : ℕ) → q ≢ n → get (set_back rows n before) q ≡ get rows q

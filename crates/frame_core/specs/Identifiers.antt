@@ -1,4 +1,4 @@
--- The orders of recalls and of messages: by site, then number.
+-- The orders of recalls and of messages, by site, then number, and when two are one.
 use Rattle.std.specs.Prelude.{Bool, ◌==◌, ◌&&◌}
 use Rattle.std.specs.Ordering.{nat_cmp, ordering_then}
 use Rattle.std.specs.declared.cmp.Ordering.{Ordering}
@@ -15,3 +15,7 @@ message_cmp a b = ordering_then (nat_cmp a.site b.site) (nat_cmp a.number b.numb
 -- whether the two are one recall
 abbrev pub same_recall : Recall → Recall → Bool
 same_recall a b = (a.site == b.site) && (a.number == b.number)
+
+-- whether the two are one message
+abbrev pub same_message : Message → Message → Bool
+same_message a b = (a.site == b.site) && (a.number == b.number)

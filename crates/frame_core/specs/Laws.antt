@@ -1,14 +1,16 @@
--- Laws of numbering, clearing and noting, of deficits, and of the orders of recalls and messages.
+-- Laws of numbering, of deficits, of the messages of a recall, and of the orders of recalls and messages.
 --
 -- A deficit falls and rises as in Dijkstra and Scholten, "Termination detection for diffusing computations",
 -- Information Processing Letters 11 (1980), section 2: by one for each message, and by one for each signal.
-use Rattle.std.specs.Prelude.{◌≡◌, ◌≢◌, ◌⊎◌, ◌↔◌, ℕ, ◌+◌, ◌<◌, ◌≤◌, IsTrue, IsFalse, List, length, get_or, Some, None}
+use Rattle.std.specs.Prelude.{◌≡◌, ◌≢◌, ◌⊎◌, ◌↔◌, ℕ, ◌+◌, ◌<◌, ◌≤◌, IsTrue, IsFalse, List, length, slice_get, Some, None}
 use Rattle.std.specs.Ordering.{nat_cmp}
-use Rattle.std.specs.FinMap.{FinMap, get, insert, remove}
+use Rattle.std.specs.FinMap.{FinMap, get, remove}
+use Rattle.std.specs.FinSet.{contains}
 use Rattle.frame_core.specs.declared.rows.Row.{Row}
 use Rattle.frame_core.specs.Numbers.{Recall, Message}
-use Rattle.frame_core.specs.Identifiers.{message_cmp, same_recall}
-use Rattle.frame_core.specs.Outboxes.{row_for, numbered, rows_of, has_rows}
+use Rattle.frame_core.specs.Identifiers.{message_cmp, same_recall, same_message}
+use Rattle.frame_core.specs.Messages.{messages_known}
+use Rattle.frame_core.specs.Outboxes.{numbered, rows_of, has_rows}
 
 -- numbering leaves the rows below the first number
 abbrev pub EarlierRowsStay : Type 0
@@ -25,15 +27,15 @@ LaterRowsStay =
 -- each message has its row, at its number
 abbrev pub EachMessageHasItsRow : Type 0
 EachMessageHasItsRow =
-    (rows : FinMap nat_cmp Row) (n : ℕ) (r : Recall) (out : List (ℕ × List ℕ)) (place : ℕ) (default : ℕ × List ℕ)
-    → place < length out → get (numbered rows n r out) (n + place) ≡ Some (row_for r (get_or out place default))
+    (rows : FinMap nat_cmp Row) (n : ℕ) (r : Recall) (out : List (ℕ × List ℕ)) (place : ℕ) (pair : ℕ × List ℕ)
+    → slice_get out place ≡ Some pair → get (numbered rows n r out) (n + place) ≡ Some (record { dest = pair.0; recall = r; item = pair.1 })
 
 -- the row x at the number q is that of one of the messages, numbered from n on
 pub record IsNewRow (n : ℕ) (r : Recall) (out : List (ℕ × List ℕ)) (q : ℕ) (x : Row) : Type 0 where
   pub place : ℕ
-  pub in_range : place < length out
   pub number : q ≡ n + place
-  pub row : (default : ℕ × List ℕ) → x ≡ row_for r (get_or out place default)
+  pub message : slice_get out place ≡ Some (x.dest, x.item)
+  pub recall : x.recall ≡ r
 
 -- a row afterwards was there before, or is that of one of the messages
 abbrev pub RowsAreOldOrNew : Type 0
@@ -41,25 +43,13 @@ RowsAreOldOrNew =
     (rows : FinMap nat_cmp Row) (n : ℕ) (r : Recall) (out : List (ℕ × List ℕ)) (q : ℕ) (x : Row)
     → get (numbered rows n r out) q ≡ Some x → (get rows q ≡ Some x) ⊎ IsNewRow n r out q x
 
--- a row that is cleared is gone
-abbrev pub ClearedRowIsGone : Type 0
-ClearedRowIsGone = (rows : FinMap nat_cmp Row) (n : ℕ) → get (remove rows n) n ≡ None
-
--- and all others stay
-abbrev pub OtherRowsStay : Type 0
-OtherRowsStay = (rows : FinMap nat_cmp Row) (n q : ℕ) → q ≢ n → get (remove rows n) q ≡ get rows q
-
--- a message that is noted is seen, under the recall that it was noted under
-abbrev pub NotedMessageIsSeen : Type 0
-NotedMessageIsSeen = (seen : FinMap message_cmp Recall) (m : Message) (r : Recall) → get (insert seen m r) m ≡ Some r
-
--- and all others are seen as before
-abbrev pub OtherMessagesStay : Type 0
-OtherMessagesStay = (seen : FinMap message_cmp Recall) (m : Message) (r : Recall) (q : Message) → q ≢ m → get (insert seen m r) q ≡ get seen q
-
 -- two recalls are the same where they are equal
 abbrev pub SameRecallsAreEqual : Type 0
 SameRecallsAreEqual = (a b : Recall) → IsTrue (same_recall a b) ↔ (a ≡ b)
+
+-- and so are two messages
+abbrev pub SameMessagesAreEqual : Type 0
+SameMessagesAreEqual = (a b : Message) → IsTrue (same_message a b) ↔ (a ≡ b)
 
 -- some number has a row of the recall
 pub record IsRowOf (rows : FinMap nat_cmp Row) (r : Recall) : Type 0 where
@@ -67,6 +57,10 @@ pub record IsRowOf (rows : FinMap nat_cmp Row) (r : Recall) : Type 0 where
   pub row : Row
   pub stands : get rows number ≡ Some row
   pub of_recall : row.recall ≡ r
+
+-- no number has one
+abbrev pub HasNoRows : FinMap nat_cmp Row → Recall → Type 0
+HasNoRows rows r = (n : ℕ) (x : Row) → get rows n ≡ Some x → x.recall ≢ r
 
 -- a recall has rows where some number has a row of it
 abbrev pub RowsAreFound : Type 0
@@ -103,3 +97,9 @@ abbrev pub SignalLeavesOtherDeficits : Type 0
 SignalLeavesOtherDeficits =
     (rows : FinMap nat_cmp Row) (n : ℕ) (x : Row) (other : Recall)
     → get rows n ≡ Some x → other ≢ x.recall → rows_of (remove rows n) other ≡ rows_of rows other
+
+-- a message is known of a recall where its row stands under the recall, or it was seen under the recall
+abbrev pub MessagesAreKnown : Type 0
+MessagesAreKnown =
+    (me : ℕ) (rows : FinMap nat_cmp Row) (seen : FinMap message_cmp Recall) (r : Recall) (m : Message)
+    → IsTrue (contains (messages_known me rows seen r) m) ↔ (((m.site ≡ me) × (x : Row) × (get rows m.number ≡ Some x) × (x.recall ≡ r)) ⊎ (get seen m ≡ Some r))

@@ -1,5 +1,6 @@
 pub mod Identifiers
 pub mod Laws
+pub mod Messages
 pub mod Numbers
 pub mod Orders
 pub mod Outboxes

@@ -1,22 +1,25 @@
-//! Laws of the outbox, the seen messages and the orders, for proofs of the crates above. Each is a
-//! function with an empty body whose contract is the law.
+//! Laws of the outbox, of the messages of a recall and of the orders, for proofs of the crates above.
+//! Each is a function with an empty body whose contract is the law.
 
-ghost use Rattle.std.specs.Cmp.{IsTotalOrder};
+ghost use Rattle.std.specs.Cmp.{IsTotalOrder, IsEquivalence};
 ghost use Rattle.std.specs.FinMap.{IsAntisymmetric};
-ghost use Rattle.frame_core.specs.Identifiers.{recall_cmp, message_cmp};
-ghost use Rattle.frame_core.specs.Laws.{EarlierRowsStay, LaterRowsStay, EachMessageHasItsRow, RowsAreOldOrNew, ClearedRowIsGone, OtherRowsStay, NotedMessageIsSeen, OtherMessagesStay, SameRecallsAreEqual, RowsAreFound, NoDeficitNoRows, MessagesRaiseTheDeficit, MessagesLeaveOtherDeficits, SignalLowersTheDeficit, SignalLeavesOtherDeficits};
+ghost use Rattle.frame_core.specs.Identifiers.{recall_cmp, message_cmp, same_recall, same_message};
+ghost use Rattle.frame_core.specs.Laws.{EarlierRowsStay, LaterRowsStay, EachMessageHasItsRow, RowsAreOldOrNew, SameRecallsAreEqual, SameMessagesAreEqual, RowsAreFound, NoDeficitNoRows, MessagesRaiseTheDeficit, MessagesLeaveOtherDeficits, SignalLowersTheDeficit, SignalLeavesOtherDeficits, MessagesAreKnown};
 
 /// Recalls are in a total order, in which only equal ones tie.
 pub fn recalls_are_ordered()
     ensures total { IsTotalOrder recall_cmp }
     ensures exact { IsAntisymmetric recall_cmp }
     ensures same { SameRecallsAreEqual }
+    ensures alike { IsEquivalence same_recall }
 {}
 
 /// Messages are in a total order, in which only equal ones tie.
 pub fn messages_are_ordered()
     ensures total { IsTotalOrder message_cmp }
     ensures exact { IsAntisymmetric message_cmp }
+    ensures same { SameMessagesAreEqual }
+    ensures alike { IsEquivalence same_message }
 {}
 
 /// Numbering gives each message its row, and leaves the rows of all other numbers.
@@ -25,18 +28,6 @@ pub fn numbering_adds_its_rows()
     ensures later { LaterRowsStay }
     ensures told { EachMessageHasItsRow }
     ensures origin { RowsAreOldOrNew }
-{}
-
-/// Clearing takes away the row of its number, and leaves all others.
-pub fn clearing_takes_one_row()
-    ensures gone { ClearedRowIsGone }
-    ensures left { OtherRowsStay }
-{}
-
-/// Noting adds its message to the seen ones, and leaves all others.
-pub fn noting_adds_one_message()
-    ensures noted { NotedMessageIsSeen }
-    ensures left { OtherMessagesStay }
 {}
 
 /// A recall has rows exactly where a row of it is found, and a deficit exactly where it has rows.
@@ -52,4 +43,10 @@ pub fn deficits_count_messages()
     ensures not_raised { MessagesLeaveOtherDeficits }
     ensures lowered { SignalLowersTheDeficit }
     ensures not_lowered { SignalLeavesOtherDeficits }
+{}
+
+/// A message of a recall is known at a site exactly where its row stands there under the recall, or it
+/// was seen there under the recall.
+pub fn messages_of_a_recall_are_known()
+    ensures { MessagesAreKnown }
 {}

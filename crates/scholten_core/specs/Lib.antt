@@ -2,3 +2,6 @@ pub mod Codes
 pub mod OwnRecalls
 pub mod Engagement
 pub mod Changes
+pub mod Effects
+pub mod Replies
+pub mod Laws

@@ -5,6 +5,7 @@
 #![tactic(auto)]
 
 mod diffusions;
+pub mod laws;
 mod outcomes;
 mod own_recalls;
 #[cfg(test)]

@@ -1,5 +1,5 @@
-use Rattle.std.proofs.Common.{◌≡◌, ℕ, ◌+◌, sym, ap, subst, ◌∙◌}
-use Rattle.std.specs.FinMap.{FinMap, insert}
+use Rattle.std.proofs.Common.{◌≡◌, ◌+◌, sym, ap, subst, ◌∙◌}
+use Rattle.std.specs.FinMap.{insert}
 use Rattle.frame_core.specs.Counts.{count_in, IsRaised, KeepsCounts}
 use Rattle.frame_core.specs.Identifiers.{recall_cmp}
 use Rattle.frame_core.specs.Tables.{as_map}

@@ -6,6 +6,6 @@ pub returns : goal.returns
 returns c = record {
   earlier = numbered_kept;
   later = numbered_above;
-  told = λ rows n r out place default lt. numbered_told rows n r out place (n + place) default lt refl;
+  told = λ rows n r out place pair is. numbered_told rows n r out place (n + place) pair is refl;
   origin = numbered_origin;
 }

@@ -1,4 +1,4 @@
-use Rattle.std.proofs.Common.{◌≡◌, Option, Some, None, refl, ◌∙◌}
+use Rattle.std.proofs.Common.{◌∙◌}
 use Rattle.frame_core.proofs.Maps.{map_found, lent_value}
 use Rattle.frame_core.proofs.tables.get.Goals as goal
 

@@ -1,9 +1,3 @@
-use Rattle.std.proofs.Common.{ap, ◌∙◌, ◌≡◌}
-use Rattle.std.specs.Ordering.{nat_cmp}
-use Rattle.std.specs.FinMap.{empty, from_sorted}
-use Rattle.frame_core.specs.Identifiers.{recall_cmp}
-use Rattle.frame_core.specs.Outboxes.{rows_of}
-use Rattle.frame_core.specs.Tables.{as_map}
 use Rattle.frame_core.proofs.Counting.{none_counted}
 use Rattle.frame_core.proofs.Maps.{no_entries}
 use Rattle.frame_core.proofs.counted_rows.CountedRows.new.Goals as goal

@@ -1,12 +1,10 @@
-use Rattle.std.proofs.Common.{◌≡◌, ◌++◌, ◌∷◌, [], ◌+◌, ◌<◌, IsSome, length, drop, refl, sym, ap, subst, ◌∙◌, arith}
-use Rattle.std.specs.Prelude.{Some}
-use Rattle.std.specs.Ordering.{nat_cmp}
+use Rattle.std.proofs.Common.{◌≡◌, ◌∷◌, [], ◌+◌, IsSome, length, drop, refl, sym, ap, subst, ◌∙◌, arith}
 use Rattle.std.specs.Cmp.{nat_cmp_total}
 use Rattle.std.specs.FinMap.{get, insert, nat_cmp-IsAntisymmetric}
 use Rattle.std.proofs.lemmas.List.{length-append}
 use Rattle.frame_core.specs.Counts.{CanUndo, undone}
 use Rattle.frame_core.specs.Outboxes.{numbered, row_for}
-use Rattle.frame_core.proofs.Maps.{get_here, get_apart}
+use Rattle.frame_core.proofs.Lookups.{get_here, get_apart}
 use Rattle.frame_core.proofs.Numbering.{numbered_next}
 use Rattle.frame_core.proofs.Undoing.{undone_put, can_still, can_push}
 use Rattle.frame_core.proofs.counted_rows.CountedRows.put_all.Goals as goal

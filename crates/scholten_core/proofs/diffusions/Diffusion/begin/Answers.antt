@@ -4,7 +4,8 @@ use Rattle.std.specs.Cmp.{nat_cmp_total}
 use Rattle.std.specs.FinMap.{FinMap, nat_cmp-IsAntisymmetric, get, insert}
 use Rattle.frame_core.specs.Tables.{as_map, set_back}
 use Rattle.frame_core.specs.Unsignalled.{Unsignalled}
-use Rattle.frame_core.proofs.Maps.{get_here, insert_undone}
+use Rattle.frame_core.proofs.Lookups.{get_here}
+use Rattle.frame_core.proofs.Maps.{insert_undone}
 use Rattle.scholten_core.specs.Engagement.{Engagement}
 use Rattle.scholten_core.specs.declared.own_recalls.Own.{Own}
 use Rattle.scholten_core.proofs.diffusions.Diffusion.begin.Goals as goal

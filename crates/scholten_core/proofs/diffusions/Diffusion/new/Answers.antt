@@ -1,10 +1,9 @@
-use Rattle.std.proofs.Common.{◌≡◌, ap, ◌∙◌}
+use Rattle.std.proofs.Common.{ap, ◌∙◌}
 use Rattle.std.specs.Ordering.{nat_cmp}
 use Rattle.std.specs.FinMap.{FinMap, empty}
 use Rattle.frame_core.specs.Identifiers.{recall_cmp}
 use Rattle.frame_core.specs.Numbers.{Message}
 use Rattle.frame_core.specs.Tables.{as_map}
-use Rattle.frame_core.specs.Unsignalled.{Unsignalled}
 use Rattle.frame_core.proofs.Maps.{no_entries}
 use Rattle.scholten_core.specs.Engagement.{Engagement}
 use Rattle.scholten_core.specs.declared.own_recalls.Own.{Own}

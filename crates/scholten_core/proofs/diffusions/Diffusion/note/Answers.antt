@@ -1,5 +1,5 @@
-use Rattle.std.proofs.Common.{◌≡◌, None, sym, ap, ◌∙◌}
-use Rattle.std.specs.FinMap.{FinMap, get, remove, insert}
+use Rattle.std.proofs.Common.{◌≡◌, None, ap, ◌∙◌}
+use Rattle.std.specs.FinMap.{FinMap, get, remove}
 use Rattle.frame_core.specs.Identifiers.{message_cmp}
 use Rattle.frame_core.specs.Numbers.{Recall}
 use Rattle.frame_core.specs.Orders.{message_total, message_exact}
