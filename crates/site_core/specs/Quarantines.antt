@@ -1,0 +1,52 @@
+-- What is quarantined at a site: for each recall a set of items.
+use Rattle.std.specs.Prelude.{◌≡◌, ◌≢◌, ℕ, Bool, List, [], ◌∷◌, Option, Some, None}
+use Rattle.std.specs.Ordering.{nat_cmp}
+use Rattle.std.specs.Cmp.Lexicographic.{slice_cmp}
+use Rattle.std.specs.declared.cmp.Ordering.{Ordering}
+use Rattle.std.specs.Coded.{Coded, coded_ℕ, coded_list}
+use Rattle.std.specs.FinMap as map
+use Rattle.std.specs.FinSet as set
+use Rattle.frame_core.specs.Identifiers.{recall_cmp}
+use Rattle.frame_core.specs.Numbers.{Recall, coded_recall}
+
+-- items by the bytes of their keys
+abbrev pub item_cmp : List ℕ → List ℕ → Ordering
+item_cmp i j = slice_cmp nat_cmp i j
+
+abbrev pub Items : Type 0
+Items = set.FinSet item_cmp
+
+abbrev pub Quarantine : Type 0
+Quarantine = map.FinMap recall_cmp Items
+
+abbrev pub coded_items : Coded Items
+coded_items = set.code (coded_list coded_ℕ)
+
+abbrev pub coded_quarantine : Coded Quarantine
+coded_quarantine = map.code coded_recall coded_items
+
+-- the items of an answer, none where there is none
+abbrev pub or_none : Option Items → Items
+or_none None = set.empty
+or_none (Some items) = items
+
+-- the items that are quarantined under the recall
+abbrev pub items_under : Quarantine → Recall → Items
+items_under q r = or_none (map.get q r)
+
+-- the item is quarantined under the recall
+abbrev pub held : Quarantine → Recall → List ℕ → Bool
+held q r i = set.contains (items_under q r) i
+
+-- with one more item under the recall
+abbrev pub with_item : Quarantine → Recall → List ℕ → Quarantine
+with_item q r i = map.insert q r (set.insert (items_under q r) i)
+
+-- with these items under the recall
+abbrev pub with_items : Quarantine → Recall → List (List ℕ) → Quarantine
+with_items q r [] = q
+with_items q r (i ∷ items) = with_items (with_item q r i) r items
+
+-- each recall that is kept has an item
+abbrev pub HasNoEmptySet : Quarantine → Type 0
+HasNoEmptySet q = (r : Recall) → map.get q r ≢ Some set.empty
