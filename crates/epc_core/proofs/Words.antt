@@ -73,19 +73,6 @@ other_from_key text known s =
         let same : known ≡ text = append_cancel_left (codes "uri ") _ _ p.names in
         subst (λ t. Spells t (uri_key known)) (sym same) s
 
--- a key has one of the three first words
-pub no_other_word : (text key : List ℕ) → ((rest : List ℕ) → key ≢ codes "sgtin " ++ rest) → ((rest : List ℕ) → key ≢ codes "sscc " ++ rest)
-    → ((rest : List ℕ) → key ≢ codes "uri " ++ rest) → Spells text key → ⊥
-no_other_word text key sgtin sscc uri s =
-    by s.item
-  where
-    by : SpellsNumber text key ⊎ Opaque text key → ⊥
-    by (inl (inl (inl n))) = sgtin _ n.names
-    by (inl (inl (inr n))) = sgtin _ n.names
-    by (inl (inr (inl n))) = sscc _ n.names
-    by (inl (inr (inr n))) = sscc _ n.names
-    by (inr p) = uri _ p.names
-
 -- ---- a text for each key
 
 -- a serial number with each character escaped
