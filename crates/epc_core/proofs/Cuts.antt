@@ -97,7 +97,3 @@ splits_none byte s r e small h = parted_lacks byte s (MatchOption-at_none _ _ e 
 pub strips_whole : (p s : List ℕ) (r : Option (Bor (List ℕ))) (x : Bor (List ℕ)) → r ≡ Some x
     → MatchOption r (FindsTextPrefix p s None) (λ y. StripsPrefix (FindsTextPrefix p) s y.now) → s ≡ p ++ x.now
 strips_whole p s r x e h = behind_some p s x.now (strips_some p s r x e h)
-
-pub strips_lacks : (p s : List ℕ) (r : Option (Bor (List ℕ))) → r ≡ None
-    → MatchOption r (FindsTextPrefix p s None) (λ y. StripsPrefix (FindsTextPrefix p) s y.now) → (rest : List ℕ) → s ≢ p ++ rest
-strips_lacks p s r e h = MatchOption-at_none _ _ e h

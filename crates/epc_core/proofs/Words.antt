@@ -1,5 +1,5 @@
 -- Which keys there are: each has its first word and the parts of that form, and each such key has a text.
-use Rattle.std.proofs.Common.{◌≡◌, ◌≢◌, ◌⊎◌, inl, inr, ℕ, ◌*◌, Bool, true, false, ◌&&◌, List, [], ◌∷◌, ◌++◌, length, get_or, codes, Option, Some, None, is_some, Result, Ok, Err, refl, sym, ap, ◌∙◌, subst, eqb, arith, length-append, string_bytes, String, Global}
+use Rattle.std.proofs.Common.{◌≡◌, ◌⊎◌, inl, inr, ℕ, ◌*◌, Bool, true, false, ◌&&◌, List, [], ◌∷◌, ◌++◌, length, get_or, codes, Option, Some, None, is_some, Result, Ok, Err, refl, sym, ap, ◌∙◌, subst, eqb, arith, length-append, string_bytes}
 use Rattle.std.specs.List.{list_all, flat_map}
 use Rattle.std.specs.Result.{IfErr}
 use Rattle.std.proofs.lemmas.Bool.{true≢false, both_ways, and_parts, and_from}
@@ -72,19 +72,6 @@ other_from_key text known s =
     by (inr p) =
         let same : known ≡ text = append_cancel_left (codes "uri ") _ _ p.names in
         subst (λ t. Spells t (uri_key known)) (sym same) s
-
--- a key has one of the three first words
-pub no_other_word : (text key : List ℕ) → ((rest : List ℕ) → key ≢ codes "sgtin " ++ rest) → ((rest : List ℕ) → key ≢ codes "sscc " ++ rest)
-    → ((rest : List ℕ) → key ≢ codes "uri " ++ rest) → Spells text key → ⊥
-no_other_word text key sgtin sscc uri s =
-    by s.item
-  where
-    by : SpellsNumber text key ⊎ Opaque text key → ⊥
-    by (inl (inl (inl n))) = sgtin _ n.names
-    by (inl (inl (inr n))) = sgtin _ n.names
-    by (inl (inr (inl n))) = sscc _ n.names
-    by (inl (inr (inr n))) = sscc _ n.names
-    by (inr p) = uri _ p.names
 
 -- ---- a text for each key
 

@@ -11,7 +11,8 @@ weighted weight next [] = 0
 weighted weight next (d ∷ ds) = weight * (d - 48) + weighted next weight ds
 
 -- `count` digits, the last of which checks the others: three times the digits in odd places from the left
--- and the digits in even places make a sum that 10 divides (GS1 General Specifications, section 7.9.1)
+-- and the digits in even places make a sum that 10 divides (GS1 General Specifications, check digit
+-- calculations for GS1 data structures)
 pub record IsChecked (count : ℕ) (digits : List ℕ) : Type 0 where
   pub counted : length digits ≡ count
   pub are_digits : IsTrue (list_all is_digit digits)

@@ -2,8 +2,8 @@ use Rattle.std.specs.Prelude.{ℕ, ◌≤◌, Bool, ◌&&◌, ◌||◌, ◌==◌
 use Rattle.std.specs.List.{list_all}
 use Rattle.percent_encoding.specs.Percent.{percent_decode}
 
--- the 82 characters of a serial number (GS1 General Specifications, figure 7.11-1; in the EPC Tag Data Standard
--- "GS1 AI Encodable Character Set 82", table A-1): letters, digits, `_`, and ! " % & ' ( ) * + , - . / : ; < = > ?
+-- the 82 characters of a serial number ("GS1 AI encodable character set 82" of the GS1 General Specifications and of
+-- the EPC Tag Data Standard): letters, digits, `_`, and ! " % & ' ( ) * + , - . / : ; < = > ?
 abbrev pub is_serial_byte : ℕ → Bool
 is_serial_byte b = (nat_le 65 b && nat_le b 90) || (nat_le 97 b && nat_le b 122) || b == 95 || b == 33 || b == 34
     || (nat_le 37 b && nat_le b 63)

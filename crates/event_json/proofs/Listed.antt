@@ -2,7 +2,7 @@
 use Rattle.std.proofs.Common.{◌≡◌, ◌↔◌, ◌⊎◌, inl, inr, ℕ, zero, suc, ◌+◌, ◌<◌, ◌≤◌, Bool, true, false, cond, List, [], ◌∷◌, length, Option, Some, None, Result, Ok, Err, refl, sym, ap, ◌∙◌, subst, arith, zero-add}
 use Rattle.std.specs.Prelude.{filter, filter_map, is_none, is_some, slice_get, IsOk, nat_lt, ◌==◌, ⊤}
 use Rattle.std.proofs.lemmas.Option.{same_Some}
-use Rattle.std.proofs.lemmas.Bool.{ltb-false, ne_eqb}
+use Rattle.std.proofs.lemmas.Bool.{ltb-false, ltb-true, ne_eqb}
 use Rattle.serde_json.specs.Data.{Data, Items, no_items, item}
 use Rattle.event_json.specs.declared.bodies.Body.TheVariants.{Note, Ship}
 use Rattle.event_json.specs.declared.doc_faults.DocField.TheVariants as fields
@@ -165,35 +165,65 @@ all_pass sites items =
 kept_or_skipped : (found : List (Option Content)) → length (filter_map (λ e. e) found) + length (filter is_none found) ≡ length found
 kept_or_skipped found = parted (λ e. e) found
 
-pub read_counted : (sites : List Site) (items : Items) (doc : Doc) → events_of sites items ≡ Ok doc → length doc.events + doc.skipped ≡ count_of items
+read_counted : (sites : List Site) (items : Items) (doc : Doc) → events_of sites items ≡ Ok doc → length doc.events + doc.skipped ≡ count_of items
 read_counted sites items doc h =
     let read = events_read sites items doc h in
     (λ i. length (read.kept i) + read.skipped i) ∙ (kept_or_skipped read.found ∙ read.counted)
 
-few : (items : Items) → few_events items ≡ Ok tt → count_of items ≤ 1000
+-- whether a list has few events
+few : (items : Items) → ((few_events items ≡ Ok tt) × (count_of items ≤ 1000)) ⊎ ((few_events items ≡ Err (whole fields.EventList kinds.TooManyEvents)) × (1000 < count_of items))
 unfolding few_events
-few items h =
+few items =
     by (nat_lt 1000 (count_of items)) refl
   where
-    by : (b : Bool) → nat_lt 1000 (count_of items) ≡ b → count_of items ≤ 1000
-    by false e = ltb-false _ _ e
-    by true e = absurd (let refused : few_events items ≡ Err (whole fields.EventList kinds.TooManyEvents) = rw e refl in let no : ⊥ = cc in no)
+    by : (b : Bool) → nat_lt 1000 (count_of items) ≡ b
+        → ((few_events items ≡ Ok tt) × (count_of items ≤ 1000)) ⊎ ((few_events items ≡ Err (whole fields.EventList kinds.TooManyEvents)) × (1000 < count_of items))
+    by false e = inl (rw e refl, ltb-false _ _ e)
+    by true e = inr (rw e refl, ltb-true _ _ e)
 
-steps : (sites : List Site) (d : Data) (list : Result Items DocFault) (doc : Doc) → event_list d ≡ list → (list >>= λ items. few_events items >>= λ _. events_of sites items) ≡ Ok doc
-    → (items : Items) × (event_list d ≡ Ok items) × (count_of items ≤ 1000) × (length doc.events + doc.skipped ≡ count_of items)
-steps sites d (Err fault) doc e h = absurd (let no : ⊥ = cc in no)
-steps sites d (Ok items) doc e h =
-    by (few_events items) refl h
-  where
-    by : (r : Result ⊤ DocFault) → few_events items ≡ r → (r >>= λ _. events_of sites items) ≡ Ok doc
-        → (its : Items) × (event_list d ≡ Ok its) × (count_of its ≤ 1000) × (length doc.events + doc.skipped ≡ count_of its)
-    by (Ok _) f g = (items, e, few items f, read_counted sites items doc g)
-    by (Err fault) f g = absurd (let no : ⊥ = cc in no)
-
-pub counted : (sites : List Site) (d : Data) (doc : Doc) → document_of sites d ≡ Ok doc
-    → (items : Items) × (event_list d ≡ Ok items) × (count_of items ≤ 1000) × (length doc.events + doc.skipped ≡ count_of items)
+pub read_of : (sites : List Site) (d : Data) (doc : Doc) → document_of sites d ≡ Ok doc
+    → (items : Items) × (event_list d ≡ Ok items) × (count_of items ≤ 1000) × (events_of sites items ≡ Ok doc) × (length doc.events + doc.skipped ≡ count_of items)
 unfolding document_of
-counted sites d doc h = steps sites d (event_list d) doc refl h
+read_of sites d doc h =
+    by (event_list d) refl
+  where
+    no_list : (fault : DocFault) → event_list d ≡ Err fault → ⊥
+    no_list fault e = let failed : document_of sites d ≡ Err fault = rw e refl in let no : ⊥ = cc in no
+
+    within : (items : Items) → event_list d ≡ Ok items → ((few_events items ≡ Ok tt) × (count_of items ≤ 1000)) ⊎ ((few_events items ≡ Err (whole fields.EventList kinds.TooManyEvents)) × (1000 < count_of items))
+        → (its : Items) × (event_list d ≡ Ok its) × (count_of its ≤ 1000) × (events_of sites its ≡ Ok doc) × (length doc.events + doc.skipped ≡ count_of its)
+    within items e (inl f) =
+        let same : document_of sites d ≡ events_of sites items = rw (e, f.0) refl in
+        let read = sym same ∙ h in
+        (items, e, f.1, read, read_counted sites items doc read)
+    within items e (inr f) = absurd (let failed : document_of sites d ≡ Err (whole fields.EventList kinds.TooManyEvents) = rw (e, f.0) refl in let no : ⊥ = cc in no)
+
+    by : (r : Result Items DocFault) → event_list d ≡ r
+        → (its : Items) × (event_list d ≡ Ok its) × (count_of its ≤ 1000) × (events_of sites its ≡ Ok doc) × (length doc.events + doc.skipped ≡ count_of its)
+    by (Ok items) e = within items e (few items)
+    by (Err fault) e = absurd (no_list fault e)
+
+pub refused_of : (sites : List Site) (d : Data) (fault : DocFault) → document_of sites d ≡ Err fault
+    → (event_list d ≡ Err fault)
+    ⊎ ((items : Items) × (event_list d ≡ Ok items)
+    × (((1000 < count_of items) × (fault ≡ whole fields.EventList kinds.TooManyEvents)) ⊎ ((count_of items ≤ 1000) × (events_of sites items ≡ Err fault))))
+unfolding document_of
+refused_of sites d fault h =
+    by (event_list d) refl
+  where
+    within : (items : Items) → event_list d ≡ Ok items → ((few_events items ≡ Ok tt) × (count_of items ≤ 1000)) ⊎ ((few_events items ≡ Err (whole fields.EventList kinds.TooManyEvents)) × (1000 < count_of items))
+        → ((1000 < count_of items) × (fault ≡ whole fields.EventList kinds.TooManyEvents)) ⊎ ((count_of items ≤ 1000) × (events_of sites items ≡ Err fault))
+    within items e (inl f) = let same : document_of sites d ≡ events_of sites items = rw (e, f.0) refl in inr (f.1, sym same ∙ h)
+    within items e (inr f) =
+        let failed : document_of sites d ≡ Err (whole fields.EventList kinds.TooManyEvents) = rw (e, f.0) refl in
+        inl (f.1, same_err _ _ (sym h ∙ failed))
+
+    by : (r : Result Items DocFault) → event_list d ≡ r
+        → (event_list d ≡ Err fault)
+        ⊎ ((items : Items) × (event_list d ≡ Ok items)
+        × (((1000 < count_of items) × (fault ≡ whole fields.EventList kinds.TooManyEvents)) ⊎ ((count_of items ≤ 1000) × (events_of sites items ≡ Err fault))))
+    by (Ok items) e = inr (items, e, within items e (few items))
+    by (Err g) e = let failed : document_of sites d ≡ Err g = rw e refl in inl (e ∙ ap Err (same_err _ _ (sym failed ∙ h)))
 
 -- ---- destinations
 

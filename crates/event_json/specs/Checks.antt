@@ -1,5 +1,5 @@
--- The checks of an event, in the order in which they are made: GS1 EPCIS 2.0, section 7.4 (its
--- fields) and section 9 (their JSON form), in this project's profile.
+-- The checks of an event, in the order in which they are made: the event types of GS1
+-- EPCIS 2.0 (core event types module) in their JSON form, in this project's profile.
 use Rattle.std.specs.Prelude.{ℕ, ℤ, ◌+◌, ◌-◌, ◌*◌, Bool, ◌&&◌, ◌||◌, ◌==◌, nat_le, nat_lt, if◌then◌else◌, List, length, codes, slice_index, bytes_eq, Option, Some, None, Result, Ok, Err, option_and_then, is_some, ⊤}
 use Rattle.serde_json.specs.Data.{Data}
 use Rattle.serde_json.specs.Find.{as_str, as_array, as_object}

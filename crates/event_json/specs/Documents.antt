@@ -1,4 +1,4 @@
--- A document: GS1 EPCIS 2.0, section 9 (JSON form), as an EPCISDocument or as one bare event.
+-- A document: the JSON form of GS1 EPCIS 2.0, as an EPCISDocument or as one bare event.
 use Rattle.std.specs.Prelude.{ℕ, nat_lt, if◌then◌else◌, List, codes, bytes_eq, filter, filter_map, length, Option, Some, None, Result, Ok, Err, option_and_then, is_some, is_none, ⊤}
 use Rattle.serde_json.specs.Data.{Data, Items, no_items, item}
 use Rattle.serde_json.specs.Find.{as_array}

@@ -1,4 +1,4 @@
--- The events that are kept: GS1 EPCIS 2.0, sections 7.4.2 (ObjectEvent) and 7.4.6 (TransformationEvent).
+-- The events that are kept: ObjectEvent and TransformationEvent of GS1 EPCIS 2.0 (core event types module).
 use Rattle.std.specs.Prelude.{◌≡◌, ◌≤◌, ◌<◌, ◌+◌, ◌*◌, ◌^◌, ℕ, ℤ, pos, neg_ℤ, ◌≤ℤ◌, ◌<ℤ◌, List, length, Option, None, IfSome}
 use Rattle.event_json.specs.declared.bodies.Body.{Body}
 use Rattle.event_json.specs.declared.bodies.Body.TheVariants.{Note, Ship, Make}

@@ -1,4 +1,4 @@
--- Why a document is refused. The JSON form of an event: GS1 EPCIS 2.0, section 9.
+-- Why a document is refused. The JSON form of an event is that of GS1 EPCIS 2.0.
 use Rattle.std.specs.Prelude.{◌≡◌, ℕ, Result, Ok, Err, ⊤}
 use Rattle.epc_core.specs.declared.items.EpcFault.{EpcFault}
 use Rattle.epc_core.specs.declared.items.EpcFault.TheVariants as epcs

@@ -3,11 +3,13 @@ use Rattle.std.specs.Prelude.{◌≡◌, ◌↔◌, ℕ, zero, suc, ◌+◌, ◌
 use Rattle.serde_json.specs.Data.{Data, Items, no_items, item}
 use Rattle.event_json.specs.declared.bodies.Body.{Body}
 use Rattle.event_json.specs.declared.bodies.Body.TheVariants.{Note, Ship}
+use Rattle.event_json.specs.declared.doc_faults.DocField.TheVariants as fields
+use Rattle.event_json.specs.declared.doc_faults.DocFaultKind.TheVariants as kinds
 use Rattle.event_json.specs.declared.doc_faults.Flaw.{Flaw}
 use Rattle.event_json.specs.declared.doc_faults.DocFault.{DocFault}
 use Rattle.event_json.specs.declared.documents.Doc.{Doc}
 use Rattle.event_json.specs.Contents.{same_body, same_content}
-use Rattle.event_json.specs.Documents.{event_list, events_of, document_of}
+use Rattle.event_json.specs.Documents.{whole, event_list, events_of, document_of}
 use Rattle.event_json.specs.EventReading.{event_of, shipment}
 use Rattle.event_json.specs.Events.{Content}
 use Rattle.event_json.specs.Members.{count_of}
@@ -48,10 +50,16 @@ FirstFaultIsTold = (sites : List Site) (items : Items) (fault : DocFault) → ev
 abbrev pub AllPass : Type 0
 AllPass = (sites : List Site) (items : Items) → IsOk (events_of sites items) ↔ ((place : ℕ) (d : Data) → member_at items place ≡ Some d → IsOk (event_of sites d))
 
--- each event of a document is kept or skipped, and none is told twice
-abbrev pub EventsAreCounted : Type 0
-EventsAreCounted = (sites : List Site) (d : Data) (doc : Doc) → document_of sites d ≡ Ok doc
-    → (items : Items) × (event_list d ≡ Ok items) × (count_of items ≤ 1000) × (length doc.events + doc.skipped ≡ count_of items)
+-- a document that is read has a list of at most 1,000 events, which is read, and each of them is kept or skipped; the
+-- fault of another is that it has no such list, or has too many events, or is the list's fault
+abbrev pub DocumentsAreLists : Type 0
+DocumentsAreLists = (sites : List Site) (d : Data)
+    → ((doc : Doc) → document_of sites d ≡ Ok doc
+    → (items : Items) × (event_list d ≡ Ok items) × (count_of items ≤ 1000) × (events_of sites items ≡ Ok doc) × (length doc.events + doc.skipped ≡ count_of items))
+    × ((fault : DocFault) → document_of sites d ≡ Err fault
+    → (event_list d ≡ Err fault)
+    ⊎ ((items : Items) × (event_list d ≡ Ok items)
+    × (((1000 < count_of items) × (fault ≡ whole fields.EventList kinds.TooManyEvents)) ⊎ ((count_of items ≤ 1000) × (events_of sites items ≡ Err fault)))))
 
 -- each destination went to one of the two lists: to the sites where one of them has the address, as that site's number, and
 -- else to the outside texts, as it is; repeats are kept, and so is the order

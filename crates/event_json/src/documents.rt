@@ -154,7 +154,7 @@ pub fn read_value(alloc: Global, value: &Value, sites: &Sites) -> Result<Doc, Re
     each_event(alloc, sites, list)
 }
 
-/// The events of a document in the JSON form of GS1 EPCIS 2.0 (section 9), an EPCISDocument or one
+/// The events of a document in the JSON form of GS1 EPCIS 2.0, an EPCISDocument or one
 /// bare event, with destinations looked up among the sites; or its first fault.
 ///
 /// # Errors

@@ -1,5 +1,5 @@
 //! Laws of the definitions, each of which a call ensures.
-ghost use Rattle.event_json.specs.Laws.{EventsAreRead, FirstFaultIsTold, AllPass, EventsAreCounted, DestinationsAreDealt, EqualIsSame};
+ghost use Rattle.event_json.specs.Laws.{EventsAreRead, FirstFaultIsTold, AllPass, DocumentsAreLists, DestinationsAreDealt, EqualIsSame};
 
 /// What is read of a list are its events, each at its place.
 pub fn events_are_read()
@@ -16,9 +16,9 @@ pub fn all_pass()
     ensures { AllPass }
 {}
 
-/// Each event of a document is kept or skipped.
-pub fn events_are_counted()
-    ensures { EventsAreCounted }
+/// A document is read, or refused, as its list of events is, and each of them is kept or skipped.
+pub fn documents_are_lists()
+    ensures { DocumentsAreLists }
 {}
 
 /// Each destination of a shipment is a traced site or an outside text, in order.

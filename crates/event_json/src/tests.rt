@@ -1,8 +1,6 @@
 //! Documents and sites with answers that were written by hand.
 
 mod faults;
-mod limits;
-mod orders;
 mod readings;
 mod sites;
 
@@ -19,12 +17,42 @@ fn two_sites(alloc: Global) -> Result<Sites, SitesFault> {
 }
 
 /// What is printed of a document: its counts, or its fault.
-fn outcome(alloc: Global, bytes: &[u8]) -> Result<String, Fail> {
+fn outcome(alloc: Global, text: &str) -> Result<String, Fail> {
     let sites = two_sites(alloc)?;
-    match read_document(alloc, bytes, &sites) {
+    match read_document(alloc, text.as_bytes(), &sites) {
         Ok(doc) => Ok(format!(in alloc; "read {} skipped {}", doc.events.len(), doc.skipped)?),
         Err(fault) => Ok(format!(in alloc; "{fault}")?),
     }
+}
+
+/// Whether each document has the outcome beside it.
+fn have_outcomes(alloc: Global, rows: &[(&str, &str)]) -> Result<bool, Fail> {
+    for (text, want) in rows {
+        if outcome(alloc, text)?.as_str() != *want {
+            return Ok(false);
+        }
+    }
+    Ok(true)
+}
+
+/// Whether the ObjectEvents with these further members have the outcomes beside them.
+fn objects_have(alloc: Global, rows: &[(&str, &str)]) -> Result<bool, Fail> {
+    for (members, want) in rows {
+        if outcome(alloc, object(alloc, members)?.as_str())?.as_str() != *want {
+            return Ok(false);
+        }
+    }
+    Ok(true)
+}
+
+/// Whether the TransformationEvents with these further members have the outcomes beside them.
+fn transformations_have(alloc: Global, rows: &[(&str, &str)]) -> Result<bool, Fail> {
+    for (members, want) in rows {
+        if outcome(alloc, transformation(alloc, members)?.as_str())?.as_str() != *want {
+            return Ok(false);
+        }
+    }
+    Ok(true)
 }
 
 /// An ObjectEvent with further members, each after a comma; of a repeated one the last counts.

@@ -1,7 +1,6 @@
-use Rattle.std.proofs.Common.{◌≡◌, true, false, sym, ap, ◌∙◌, subst, string_bytes}
-use Rattle.std.specs.Prelude.{is_some}
+use Rattle.std.proofs.Common.{◌≡◌, sym, ap, ◌∙◌, subst, string_bytes}
 use Rattle.std.proofs.lemmas.Bool.{both_ways}
-use Rattle.epc_core.specs.Items.{number_key_of, uri_key}
+use Rattle.epc_core.specs.Items.{uri_key}
 use Rattle.epc_core.specs.Spellings.{Spells, IsKey}
 use Rattle.epc_core.proofs.Words.{not_plain, number_is_no_other, other_is_key, on_err}
 use Rattle.epc_core.proofs.keys.other_of_key.Goals as goal
