@@ -3,6 +3,7 @@ pub mod FieldLemmas
 pub mod FormLemmas
 pub mod InOrder
 pub mod OneAnswer
+pub mod OutcomeLemmas
 pub mod ReachLists
 pub mod ReaderLemmas
 pub mod SessionLemmas

@@ -7,6 +7,7 @@ pub mod Laws
 pub mod Lines
 pub mod Memory
 pub mod Names
+pub mod Outcomes
 pub mod Requests
 pub mod Runs
 pub mod Script

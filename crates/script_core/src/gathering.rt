@@ -1,6 +1,6 @@
 //! The sites of a script while they are gathered.
 
-ghost use Rattle.std.specs.Prelude.{◌≡◌, IfOk, ⊤};
+ghost use Rattle.std.specs.Prelude.{◌≡◌, IfOk};
 ghost use Rattle.script_core.specs.Answer.{answer_of};
 ghost use Rattle.script_core.specs.Fields.{fields};
 ghost use Rattle.script_core.specs.Script.{site_added};
@@ -9,8 +9,9 @@ ghost use Rattle.event_json.specs.Sites.{sites_fault};
 
 use crate::answers::Answer;
 use crate::fields::fields;
+use crate::outcomes::site_or_fault;
 use crate::running::Running;
-use event_json::{Sites, SitesFault};
+use event_json::Sites;
 use std::alloc::{AllocError, Global};
 use std::marker::Model;
 use trace_core::Captured;
@@ -68,12 +69,11 @@ impl Gathering {
     {
         let addresses = fields(alloc, addresses)?;
         self.captured.reserve(1)?;
-        match self.sites.add(name, addresses.as_slice()) {
+        match site_or_fault(self.sites.add(name, addresses.as_slice()))? {
             Ok(site) => {
                 let _ = self.captured.push(Captured::new(alloc, site));
                 Ok(Answer::Silent)
             }
-            Err(SitesFault::NoMemory) => Err(AllocError),
             Err(fault) => Answer::bad_site(alloc, &fault),
         }
     }

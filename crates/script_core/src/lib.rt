@@ -12,6 +12,7 @@ mod items;
 pub mod laws;
 mod lines;
 mod names;
+mod outcomes;
 mod running;
 mod runs;
 mod scripts;

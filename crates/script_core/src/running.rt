@@ -12,10 +12,11 @@ ghost use Rattle.script_core.specs.Script.{added_at, events_at, IsReachText};
 use crate::answers::Answer;
 use crate::items::item_of;
 use crate::lines::Task;
+use crate::outcomes::{added_or_taken, doc_or_fault};
 use event_json::{Doc, Event, ReadFault, Sequence, SiteNo, Sites, read_document};
 use std::alloc::{AllocError, Global};
 use std::marker::Model;
-use trace_core::{AddFault, Captured, Pair, reach};
+use trace_core::{Captured, Pair, reach};
 
 /// The sites of a script with their captured events.
 #[derive(Debug, Drop)]
@@ -81,12 +82,11 @@ impl Running {
         requires { site < length self.old.sites }
         ensures { IfOk result (λ a. (answer_of a, self.new) ≡ capture_read self.old site (text_document self.old.sites document.now)) }
     {
-        match read_text(alloc, document, &self.sites) {
+        match doc_or_fault(read_text(alloc, document, &self.sites))? {
             Ok(Doc { events, skipped }) => {
                 add_at(alloc, self.captured.as_mut_slice(), site, events, skipped)
             }
-            Err(ReadFault::NoMemory) => Err(AllocError),
-            Err(ReadFault::Doc(fault)) => Answer::bad_document(alloc, fault),
+            Err(fault) => Answer::bad_document(alloc, fault),
         }
     }
 
@@ -156,9 +156,8 @@ fn add_at(
     ensures added { IfOk result (λ a. (answer_of a, captured.new) ≡ added_at captured.old site skipped (adding (events_at captured.old site) events)) }
     ensures in_order { AreInOrder captured.new }
 {
-    match captured[site.number() as usize].add(events) {
+    match added_or_taken(captured[site.number() as usize].add(events))? {
         Ok(added) => Answer::captured(alloc, added, skipped),
-        Err(AddFault::NoMemory) => Err(AllocError),
-        Err(AddFault::IdTaken { event }) => Answer::id_taken(alloc, event),
+        Err(event) => Answer::id_taken(alloc, event),
     }
 }

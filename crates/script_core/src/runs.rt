@@ -20,13 +20,18 @@ const PIECE: usize = 8_192;
 /// done. The tally counts its lines and the refusals that were printed.
 ///
 /// A script is lines ended by LF or CR LF; the last may lack it. A line has at most 16,777,216
-/// bytes before its LF, and the reader is asked at most 16,777,216 times, interrupted reads among
-/// them.
+/// bytes before its LF. The reader is asked at most 16,777,216 times, interrupted reads among them,
+/// and the writer at most 1,024 times in a row without taking a byte.
 ///
-/// What a fault leaves: [`ScriptFault::Read`] and [`ScriptFault::TurnsSpent`] the answers to all whole
-/// lines that were read, [`ScriptFault::LineTooLong`] those to all lines before the first that is too
-/// long, [`ScriptFault::NoMemory`] those to whole lines at the front, and [`ScriptFault::Write`] a
-/// beginning of the answers' text.
+/// # Errors
+/// - [`ScriptFault::Read`] and [`ScriptFault::TurnsSpent`] leave the answers to all whole lines that
+///   were read.
+/// - [`ScriptFault::LineTooLong`] leaves those to all lines before the first that is too long.
+/// - [`ScriptFault::NoMemory`] comes before anything is read, or at a line that has more than 8,192
+///   bytes or takes memory, and leaves the answers to all lines before it. No memory is taken by a
+///   line without an answer but `site`, and by one that is refused with BadLine, Late, NoWorld or
+///   BadEpc.
+/// - [`ScriptFault::Write`] leaves a beginning of the answers' text.
 pub fn run_script<R: Read, W: Write>(
     alloc: Global,
     reader: &mut R,
