@@ -26,13 +26,7 @@ fn ends(
     let words = words_of(alloc, words)?;
     let mut written = Vec::new(alloc);
     let mut told = Vec::new(alloc);
-    let ended = run_command(
-        alloc,
-        words.as_slice(),
-        &mut input,
-        &mut written,
-        &mut told,
-    );
+    let ended = run_command(alloc, words.as_slice(), &mut input, &mut written, &mut told);
     Ok(ended == status && begins(&written, output) && begins(&told, errors))
 }
 
@@ -44,9 +38,27 @@ fn begins(bytes: &[u8], text: &str) -> bool {
 fn a_script_ends_with_0_or_1(rt: HostRuntime) -> Result<(), Fail> {
     let sim = ["recall", "sim"];
     let done = b"site A a\nsite B b\nreach A x\n".as_slice();
-    assert!(rt; ends(rt.alloc(), sim.as_slice(), done, 0, "pair A uri x\npairs 1\n", "")?);
+    assert!(rt;
+        ends(
+            rt.alloc(),
+            sim.as_slice(),
+            done,
+            0,
+            "pair A uri x\npairs 1\n",
+            ""
+        )?
+    );
     let refused = b"site A a\nreach A x".as_slice();
-    assert!(rt; ends(rt.alloc(), sim.as_slice(), refused, 1, "refused NoWorld\n", "")?);
+    assert!(rt;
+        ends(
+            rt.alloc(),
+            sim.as_slice(),
+            refused,
+            1,
+            "refused NoWorld\n",
+            ""
+        )?
+    );
     Ok(())
 }
 
@@ -114,7 +126,13 @@ fn an_input_that_fails_ends_with_3(rt: HostRuntime) -> Result<(), Fail> {
     let words = words_of(alloc, sim.as_slice())?;
     let mut written = Vec::new(alloc);
     let mut told = Vec::new(alloc);
-    let ended = run_command(alloc, words.as_slice(), &mut Broken, &mut written, &mut told);
+    let ended = run_command(
+        alloc,
+        words.as_slice(),
+        &mut Broken,
+        &mut written,
+        &mut told,
+    );
     assert!(rt; ended == 3 && written.is_empty());
     assert!(rt; told.as_slice() == b"fault Read\n".as_slice());
     Ok(())

@@ -1,14 +1,14 @@
 -- what is read field by field is what the line's form says
-use Rattle.std.proofs.Common.{◌≡◌, ℕ, ◌==◌, Bool, true, false, not, ◌||◌, cond, List, [], ◌∷◌, ◌++◌, length, codes, refl, sym, ap, ◌∙◌, subst, arith, inl, inr, ◌⊎◌, Option, Some, None}
+use Rattle.std.proofs.Common.{◌≡◌, ℕ, Bool, true, false, not, ◌||◌, cond, List, [], ◌∷◌, ◌++◌, codes, refl, sym, ap, ◌∙◌, subst, arith, inl, inr, Option, Some, None}
 use Rattle.std.specs.Prelude.{bytes_eq}
 use Rattle.std.proofs.lemmas.Slice.Eq.{bytes_eq-Decides}
 use Rattle.std.specs.Str.{is_utf8}
 use Rattle.std.proofs.lemmas.List.Elements.{All-from_recursion}
 use Rattle.script_core.specs.Comments.{is_comment}
-use Rattle.script_core.specs.Fields.{is_space, fields, AreSpaces, IsField, BeginsWithField}
+use Rattle.script_core.specs.Fields.{is_space, fields, IsField, BeginsWithField}
 use Rattle.script_core.specs.Steps.{past_spaces, first_field, after_field, is_empty, capture_found, site_found, reach_found, found}
-use Rattle.script_core.specs.Requests.{Task, capture, reach, Request, silent, site, task, IsCapture, HasForm, IsOfForm, AsksAs, Asks}
-use Rattle.script_core.proofs.FieldLemmas.{step, Blank, Begins, behind, fields_more, nonzero, some_of, first_at, after_at, past_more, past_here}
+use Rattle.script_core.specs.Requests.{capture, reach, Request, silent, site, task, IsCapture, HasForm, IsOfForm, AsksAs, Asks}
+use Rattle.script_core.proofs.FieldLemmas.{step, Begins, behind, fields_more, nonzero, some_of, first_at, after_at, past_more, past_here}
 
 -- the request that reading finds
 abbrev pub reading_of : List ℕ → Option Request

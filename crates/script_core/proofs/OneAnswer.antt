@@ -1,14 +1,8 @@
 -- a line has one answer
-use Rattle.std.proofs.Common.{◌≡◌, ℕ, Bool, true, false, List, [], ◌∷◌, refl, sym, ap, ◌∙◌, subst, Option, Some, None, Ok, Err}
-use Rattle.std.specs.Prelude.{Contains, ◌↔◌, Result}
-use Rattle.std.specs.BTreeSet.{BTreeSet}
-use Rattle.std.proofs.lemmas.Bool.Decides.{same_from_decides}
-use Rattle.std.proofs.lemmas.Map.Lookups.{btree_set_from_contains}
-use Rattle.std.proofs.lemmas.Map.Views.{btree_set_contains_iff}
+use Rattle.std.proofs.Common.{◌≡◌, ℕ, List, [], ◌∷◌, refl, sym, ap, ◌∙◌, subst, Option, Some, None, Ok, Err}
+use Rattle.std.specs.Prelude.{Result}
 use Rattle.epc_core.specs.declared.items.EpcFault.{EpcFault}
 use Rattle.event_json.specs.Sites.{Site, named}
-use Rattle.trace_core.specs.PairOrder.{pairs_exact, pairs_total}
-use Rattle.trace_core.specs.Pairs.{IsStrictlyAscending}
 use Rattle.trace_core.specs.Sites.{SiteEvents}
 use Rattle.trace_core.specs.declared.pairs.Pair.{Pair}
 use Rattle.epc_core.specs.Reading.{reading}

@@ -1,5 +1,5 @@
 -- what the outcome of a call says of its result
-use Rattle.std.proofs.Common.{◌≡◌, ℕ, Option, Some, None, Result, Ok, Err, IfErr, OnOk, OnErr, refl, sym, ap, ◌∙◌, subst}
+use Rattle.std.proofs.Common.{◌≡◌, ℕ, Option, Some, None, Result, Ok, Err, IfErr, OnOk, OnErr, refl, ap, ◌∙◌, subst}
 use Rattle.trace_core.specs.Adding.{Addition, FaultOf}
 use Rattle.trace_core.specs.declared.adding.AddFault.{AddFault}
 use Rattle.trace_core.specs.declared.adding.AddFault.TheVariants as adds

@@ -8,7 +8,7 @@ use Rattle.std.proofs.lemmas.List.Elements.{All-nil, All-cons, All-contains, Con
 use Rattle.std.proofs.lemmas.Map.Views.{All-insert_key}
 use Rattle.trace_core.specs.Chains.{Related}
 use Rattle.trace_core.specs.HasTargets.{has_targets}
-use Rattle.trace_core.specs.Members.{contains_here, contains_there, contains_cases, contains_none, list_any_witness, list_any_member}
+use Rattle.trace_core.specs.Members.{contains_cases, contains_none, list_any_witness, list_any_member}
 use Rattle.trace_core.specs.Pairs.{pair_cmp, is_related, IsStrictlyAscending}
 use Rattle.trace_core.specs.Relations.{Reaches}
 use Rattle.trace_core.specs.Sites.{SiteEvents}

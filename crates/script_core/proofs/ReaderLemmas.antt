@@ -4,8 +4,6 @@ use Rattle.std.specs.Io.KnownBytes.{Appends, Keeps, Consumes, IsAtEnd}
 use Rattle.std.proofs.KnownBytes.{Appends-nil}
 use Rattle.std.proofs.lemmas.Grind.{flat_map-append}
 use Rattle.script_core.specs.Lines.{IsLine}
-use Rattle.script_core.specs.Kept.{state_of}
-use Rattle.script_core.specs.State.{empty}
 use Rattle.script_core.specs.Answer.{Said}
 use Rattle.script_core.specs.Runs.{text_of, Writes, Leaves, IsLeft, IsDone}
 use Rattle.script_core.specs.Session.{IsNew, Follows, GoesOn, LeavesMore, EndsEarly, Finishes, EndsInLast}

@@ -10,8 +10,7 @@ use Rattle.std.proofs.lemmas.List.Sums.{sum_by-append}
 use Rattle.std.proofs.lemmas.List.Elements.{All-append, All-push}
 use Rattle.script_core.specs.Holding.{FailsToGrow}
 use Rattle.script_core.specs.Kept.{state_of}
-use Rattle.script_core.specs.Memory.{TakesMemory}
-use Rattle.script_core.specs.Lines.{room, is_newline, longest_line, IsWithinLine, IsLine, LinesFit, with_newlines}
+use Rattle.script_core.specs.Lines.{is_newline, longest_line, IsWithinLine, IsLine, LinesFit, with_newlines}
 use Rattle.script_core.specs.State.{State, empty}
 use Rattle.script_core.specs.Answer.{Said}
 use Rattle.script_core.specs.Script.{Takes}

@@ -1,4 +1,4 @@
-use Rattle.std.proofs.Common.{◌≡◌, ℕ, List, Option, Some, None, Err, refl, sym, ◌∙◌}
+use Rattle.std.proofs.Common.{◌≡◌, ℕ, List, Some, None, Err, refl, sym, ◌∙◌}
 use Rattle.epc_core.specs.declared.items.EpcFault.{EpcFault}
 use Rattle.epc_core.specs.Reading.{fault_of, reading}
 use Rattle.epc_core.specs.Spellings.{IsPlain}
