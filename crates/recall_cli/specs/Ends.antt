@@ -1,5 +1,5 @@
 -- How a command ends: with which status, and what it leaves on its streams.
-use Rattle.std.specs.Prelude.{◌≡◌, ◌⊎◌, ◌==◌, ℕ, List, Option, IfSome, IsTrue, codes, if◌then◌else◌}
+use Rattle.std.specs.Prelude.{◌≡◌, ◌⊎◌, ◌==◌, ℕ, List, [], ◌∷◌, Option, IfSome, codes, if◌then◌else◌}
 use Rattle.std.specs.Global.{Global}
 use Rattle.std.specs.declared.string.String.{String}
 use Rattle.std.specs.Io.KnownBytes.{Appends, Keeps}
@@ -8,7 +8,7 @@ use Rattle.script_core.specs.Writing.{AppendsBeginning}
 use Rattle.script_core.specs.declared.faults.ScriptFault.{ScriptFault}
 use Rattle.script_core.specs.declared.faults.ScriptFault.TheVariants as faults
 use Rattle.script_core.specs.declared.tallies.Tally.{Tally}
-use Rattle.recall_cli.specs.Words.{asks_help}
+use Rattle.recall_cli.specs.CommandLines.{AsksSim, AsksHelp, IsBad, texts_of}
 
 -- what the input still has, and what the output and the error stream hold, where they tell it
 pub record Streams : Type 0 where
@@ -48,15 +48,20 @@ HelpEnds text output output_after errors errors_after status =
     ((status ≡ 0) × Appends output output_after text × Keeps errors errors_after)
     ⊎ ((status ≡ 3) × AppendsBeginning output output_after text × AppendsBeginning errors errors_after (fault_line faults.Write))
 
--- a word asks for help, and that was the answer
-pub record Helps (words : List (String Global)) (before after : Streams) (status : ℕ) : Type 0 where
-  pub asked : IsTrue (asks_help words)
+-- a script was asked for, and it was run
+abbrev pub RunsAsked : List (List ℕ) → Streams → Streams → ℕ → Type 0
+RunsAsked words before after status = AsksSim words × RunsScript before after status
+
+-- help was asked for, and that was the answer
+pub record Helps (words : List (List ℕ)) (before after : Streams) (status : ℕ) : Type 0 where
+  pub asked : AsksHelp words
   pub text : List ℕ
   pub unread : Keeps before.input after.input
   pub ends : HelpEnds text before.output after.output before.errors after.errors status
 
 -- the command line is bad: status 2, and what is wrong with it on the error stream
-pub record IsMistaken (before after : Streams) (status : ℕ) : Type 0 where
+pub record IsMistaken (words : List (List ℕ)) (before after : Streams) (status : ℕ) : Type 0 where
+  pub bad : IsBad words
   pub text : List ℕ
   pub unread : Keeps before.input after.input
   pub unwritten : Keeps before.output after.output
@@ -72,4 +77,15 @@ pub record LacksMemory (before after : Streams) (status : ℕ) : Type 0 where
 
 -- how a command line ends
 abbrev pub Ends : List (String Global) → Streams → Streams → ℕ → Type 0
-Ends words before after status = RunsScript before after status ⊎ (Helps words before after status ⊎ (IsMistaken before after status ⊎ LacksMemory before after status))
+Ends words before after status =
+    RunsAsked (texts_of words) before after status ⊎ (Helps (texts_of words) before after status ⊎ (IsMistaken (texts_of words) before after status ⊎ LacksMemory before after status))
+
+-- `recall sim` runs the script, or memory ran out before
+abbrev pub SimRuns : List (String Global) → Streams → Streams → ℕ → Type 0
+SimRuns words before after status =
+    (name : List ℕ) → texts_of words ≡ name ∷ codes "sim" ∷ [] → RunsScript before after status ⊎ LacksMemory before after status
+
+-- `recall --help` gives help, or memory ran out before
+abbrev pub HelpHelps : List (String Global) → Streams → Streams → ℕ → Type 0
+HelpHelps words before after status =
+    (name : List ℕ) → texts_of words ≡ name ∷ codes "--help" ∷ [] → Helps (texts_of words) before after status ⊎ LacksMemory before after status

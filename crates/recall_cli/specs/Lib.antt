@@ -1,2 +1,2 @@
+pub mod CommandLines
 pub mod Ends
-pub mod Words

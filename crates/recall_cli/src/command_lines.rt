@@ -1,10 +1,11 @@
 //! What the words of a command line ask for.
 
 ghost use Rattle.std.specs.Prelude.{◌≡◌, IfOk};
-ghost use Rattle.recall_cli.specs.Words.{is_help_word, asks_help, HelpIsAsked};
+ghost use Rattle.clap.specs.Words.{app_of, kind_of};
+ghost use Rattle.recall_cli.specs.CommandLines.{recall, texts_of, AsksFor, IsToldAs};
 
 use clap::error::ErrorKind;
-use clap::{ArgMatches, Command, Error};
+use clap::{Command, Error};
 use std::alloc::{AllocError, Global};
 
 /// What a command line asks for.
@@ -30,19 +31,21 @@ const EXAMPLE: &str =
 const SIM_EXAMPLE: &str =
     "Lines of a script:\n  site <name> <address>..     a site, and the destination texts that stand for it\n  capture <site> <json>       captures an EPCIS document, or one bare event, at a site\n  reach <site> <epc>          the pairs of site and item that an item at a site reaches\n  # ..                        a comment\n\nExample:\n  printf 'site A a\\nsite B b\\nreach A x\\n' | recall sim";
 
-/// Reads the words of a command line, the program's name first. Help is answered only where a word
-/// asks for it.
+/// Reads the words of a command line, the program's name first.
 pub(crate) fn read(alloc: Global, words: &[String]) -> Result<Asked, AllocError>
-    ensures { IfOk result (HelpIsAsked words.now) }
+    ensures { IfOk result (AsksFor (texts_of words.now)) }
 {
     let command = recall(alloc)?;
     match command.try_get_matches_from(words) {
-        Ok(matches) => Ok(of_matches(&matches)),
-        Err(error) => of_error(alloc, words, &error),
+        Ok(_) => Ok(Asked::Sim),
+        Err(error) => of_error(alloc, &error),
     }
 }
 
-fn recall<'a>(alloc: Global) -> Result<Command<'a>, AllocError> {
+/// The command `recall`.
+fn recall<'a>(alloc: Global) -> Result<Command<'a>, AllocError>
+    ensures { IfOk result (λ command. app_of command ≡ recall) }
+{
     let sim = Command::new(alloc, "sim")
         .about(SIM_ABOUT)
         .after_help(SIM_EXAMPLE);
@@ -54,36 +57,13 @@ fn recall<'a>(alloc: Global) -> Result<Command<'a>, AllocError> {
         .subcommand(sim)
 }
 
-fn of_matches(matches: &ArgMatches) -> Asked
-    ensures { result ≡ Asked.Sim }
+/// What an error of `clap` is told as. Help that was asked for is one of its errors.
+fn of_error(alloc: Global, error: &Error) -> Result<Asked, AllocError>
+    ensures { IfOk result (IsToldAs (kind_of error.now)) }
 {
-    let _ = matches.subcommand();
-    Asked::Sim
-}
-
-fn of_error(alloc: Global, words: &[String], error: &Error) -> Result<Asked, AllocError>
-    ensures { IfOk result (HelpIsAsked words.now) }
-{
-    if error.kind() == ErrorKind::OutOfMemory {
-        return Err(AllocError);
+    match error.kind() {
+        ErrorKind::OutOfMemory => Err(AllocError),
+        ErrorKind::DisplayHelp => Ok(Asked::Help(error.to_string(alloc)?)),
+        _ => Ok(Asked::Mistake(error.to_string(alloc)?)),
     }
-    let text = error.to_string(alloc)?;
-    if error.use_stderr() || !asks_help(words) {
-        Ok(Asked::Mistake(text))
-    } else {
-        Ok(Asked::Help(text))
-    }
-}
-
-/// Whether one of the words asks for help.
-fn asks_help(words: &[String]) -> bool
-    ensures { result ≡ asks_help words.now }
-{
-    words.iter().any(|word| is_help_word(word.as_str()))
-}
-
-fn is_help_word(word: &str) -> bool
-    ensures { result ≡ is_help_word word.now }
-{
-    word == "help" || word == "--help" || word == "-h"
 }

@@ -3,7 +3,7 @@
 ghost use Rattle.std.specs.Prelude.{◌≡◌, ◌==◌, if◌then◌else◌};
 ghost use Rattle.std.specs.Io.KnownBytes.{Appends, Keeps};
 ghost use Rattle.script_core.specs.Writing.{AppendsBeginning};
-ghost use Rattle.recall_cli.specs.Ends.{Ends, RunsScript, HelpEnds, fault_line};
+ghost use Rattle.recall_cli.specs.Ends.{Ends, SimRuns, HelpHelps, RunsScript, HelpEnds, fault_line};
 
 use crate::command_lines::{self, Asked};
 use crate::statuses;
@@ -24,7 +24,11 @@ pub(crate) fn run_command<R: Read, W: Write, E: Write>(
     output: &mut W,
     errors: &mut E,
 ) -> u8
-    ensures { Ends words.now (record { input = R.remaining input.old; output = W.contents output.old; errors = E.contents errors.old })
+    ensures ends { Ends words.now (record { input = R.remaining input.old; output = W.contents output.old; errors = E.contents errors.old })
+        (record { input = R.remaining input.new; output = W.contents output.new; errors = E.contents errors.new }) result }
+    ensures sim { SimRuns words.now (record { input = R.remaining input.old; output = W.contents output.old; errors = E.contents errors.old })
+        (record { input = R.remaining input.new; output = W.contents output.new; errors = E.contents errors.new }) result }
+    ensures help { HelpHelps words.now (record { input = R.remaining input.old; output = W.contents output.old; errors = E.contents errors.old })
         (record { input = R.remaining input.new; output = W.contents output.new; errors = E.contents errors.new }) result }
 {
     match command_lines::read(alloc, words) {

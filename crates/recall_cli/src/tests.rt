@@ -3,95 +3,86 @@
 use crate::commands::run_command;
 use std::alloc::Global;
 use std::io::{self, Error, ErrorKind, Read, Write};
-use std::process::Abort;
 use std::test::Fail;
 
-/// What a command line gave: its status, what it wrote, and what it wrote to the error stream.
-#[derive(Drop)]
-struct Ended {
-    status: u8,
-    output: Vec<u8>,
-    errors: Vec<u8>,
-}
-
-fn run_words(alloc: Global, words: &[&str], input: &str) -> Result<Ended, Fail> {
+fn words_of(alloc: Global, words: &[&str]) -> Result<Vec<String>, Fail> {
     let mut all = Vec::new(alloc);
     for word in words {
         all.push(String::from_str(alloc, word)?)?;
     }
-    let mut input = input.as_bytes();
-    let mut output = Vec::new(alloc);
-    let mut errors = Vec::new(alloc);
-    let status = run_command(alloc, all.as_slice(), &mut input, &mut output, &mut errors);
-    Ok(Ended {
-        status,
-        output,
-        errors,
-    })
+    Ok(all)
+}
+
+/// Whether a command line ends with this status on this input, and what it writes to its output and
+/// to the error stream begins so. Where nothing is wanted there, nothing is written.
+fn ends(
+    alloc: Global,
+    words: &[&str],
+    mut input: &[u8],
+    status: u8,
+    output: &str,
+    errors: &str,
+) -> Result<bool, Fail> {
+    let words = words_of(alloc, words)?;
+    let mut written = Vec::new(alloc);
+    let mut told = Vec::new(alloc);
+    let ended = run_command(alloc, words.as_slice(), &mut input, &mut written, &mut told);
+    Ok(ended == status && begins(&written, output) && begins(&told, errors))
 }
 
 fn begins(bytes: &[u8], text: &str) -> bool {
-    bytes.starts_with(text.as_bytes())
+    bytes.starts_with(text.as_bytes()) && bytes.is_empty() == text.is_empty()
 }
 
 #[test]
-fn a_script_that_is_done_ends_with_0(rt: HostRuntime) -> Result<(), Fail> {
-    let run = run_words(
-        rt.alloc(),
-        &["recall", "sim"],
-        "site A a\nsite B b\nreach A x\n",
-    )?;
-    assert_eq!(rt; run.status, 0);
-    assert_eq!(rt;
-        run.output.as_slice(),
-        b"pair A uri x\npairs 1\n".as_slice()
+fn a_script_ends_with_0_or_1(rt: HostRuntime) -> Result<(), Fail> {
+    let sim = ["recall", "sim"];
+    let done = b"site A a\nsite B b\nreach A x\n".as_slice();
+    assert!(rt;
+        ends(
+            rt.alloc(),
+            sim.as_slice(),
+            done,
+            0,
+            "pair A uri x\npairs 1\n",
+            ""
+        )?
     );
-    assert!(rt; run.errors.is_empty());
-    Ok(())
-}
-
-#[test]
-fn an_empty_script_ends_with_0(rt: HostRuntime) -> Result<(), Fail> {
-    let run = run_words(rt.alloc(), &["recall", "sim"], "")?;
-    assert_eq!(rt; run.status, 0);
-    assert!(rt; run.output.is_empty());
-    Ok(())
-}
-
-#[test]
-fn a_refused_line_ends_with_1(rt: HostRuntime) -> Result<(), Fail> {
-    let run = run_words(rt.alloc(), &["recall", "sim"], "site A a\nreach A x")?;
-    assert_eq!(rt; run.status, 1);
-    assert_eq!(rt; run.output.as_slice(), b"refused NoWorld\n".as_slice());
+    let refused = b"site A a\nreach A x".as_slice();
+    assert!(rt;
+        ends(
+            rt.alloc(),
+            sim.as_slice(),
+            refused,
+            1,
+            "refused NoWorld\n",
+            ""
+        )?
+    );
     Ok(())
 }
 
 #[test]
 fn a_bad_command_line_ends_with_2(rt: HostRuntime) -> Result<(), Fail> {
-    let run = run_words(rt.alloc(), &["recall", "bogus"], "")?;
-    assert_eq!(rt; run.status, 2);
-    assert!(rt; run.output.is_empty());
-    assert!(rt; begins(run.errors.as_slice(), "error:"));
-    Ok(())
-}
-
-#[test]
-fn no_command_is_a_bad_command_line(rt: HostRuntime) -> Result<(), Fail> {
-    let run = run_words(rt.alloc(), &["recall"], "")?;
-    assert_eq!(rt; run.status, 2);
+    let bogus = ["recall", "bogus"];
+    assert!(rt; ends(rt.alloc(), bogus.as_slice(), b"", 2, "", "error:")?);
+    let none = ["recall"];
+    assert!(rt; ends(rt.alloc(), none.as_slice(), b"", 2, "", "error:")?);
+    let joined = ["recall", "-xh"];
+    assert!(rt; ends(rt.alloc(), joined.as_slice(), b"", 2, "", "error:")?);
     Ok(())
 }
 
 #[test]
 fn help_is_an_answer(rt: HostRuntime) -> Result<(), Fail> {
-    let run = run_words(rt.alloc(), &["recall", "sim", "--help"], "")?;
-    assert_eq!(rt; run.status, 0);
-    assert!(rt; run.errors.is_empty());
-    assert!(rt; begins(run.output.as_slice(), "Runs a script"));
+    let of_sim = ["recall", "sim", "--help"];
+    assert!(rt; ends(rt.alloc(), of_sim.as_slice(), b"", 0, "Runs a script", "")?);
+    let joined = ["recall", "-hx"];
+    assert!(rt; ends(rt.alloc(), joined.as_slice(), b"", 0, "Traces recalled", "")?);
     Ok(())
 }
 
-/// Fails at its first read or write.
+/// Fails at each read and write.
 #[derive(Drop)]
 struct Broken;
 
@@ -111,55 +102,38 @@ impl Write for Broken {
     }
 }
 
-#[test]
-fn a_fault_ends_with_3_and_its_line(rt: HostRuntime) -> Result<(), Fail> {
-    let alloc = rt.alloc();
-    let mut words = Vec::new(alloc);
-    words.push(String::from_str(alloc, "recall")?)?;
-    words.push(String::from_str(alloc, "sim")?)?;
-    let mut output = Vec::new(alloc);
-    let mut errors = Vec::new(alloc);
-    let status = run_command(
-        alloc,
-        words.as_slice(),
-        &mut Broken,
-        &mut output,
-        &mut errors,
-    );
-    assert_eq!(rt; status, 3);
-    assert!(rt; output.is_empty());
-    assert_eq!(rt; errors.as_slice(), b"fault Read\n".as_slice());
+/// Whether a command line ends with status 3 where its output fails, and tells that.
+fn fails(alloc: Global, words: &[&str], mut input: &[u8]) -> Result<bool, Fail> {
+    let words = words_of(alloc, words)?;
+    let mut told = Vec::new(alloc);
+    let ended = run_command(alloc, words.as_slice(), &mut input, &mut Broken, &mut told);
+    Ok(ended == 3 && told.as_slice() == b"fault Write\n".as_slice())
+}
 
-    let mut script = b"reach A x\n".as_slice();
-    let mut errors = Vec::new(alloc);
-    let status = run_command(
-        alloc,
-        words.as_slice(),
-        &mut script,
-        &mut Broken,
-        &mut errors,
-    );
-    assert_eq!(rt; status, 3);
-    assert_eq!(rt; errors.as_slice(), b"fault Write\n".as_slice());
+#[test]
+fn an_output_that_fails_ends_with_3(rt: HostRuntime) -> Result<(), Fail> {
+    let sim = ["recall", "sim"];
+    assert!(rt; fails(rt.alloc(), sim.as_slice(), b"reach A x\n")?);
+    let help = ["recall", "--help"];
+    assert!(rt; fails(rt.alloc(), help.as_slice(), b"")?);
     Ok(())
 }
 
 #[test]
-fn help_that_is_not_written_is_a_fault(rt: HostRuntime) -> Result<(), Fail> {
+fn an_input_that_fails_ends_with_3(rt: HostRuntime) -> Result<(), Fail> {
     let alloc = rt.alloc();
-    let mut words = Vec::new(alloc);
-    words.push(String::from_str(alloc, "recall")?)?;
-    words.push(String::from_str(alloc, "--help")?)?;
-    let mut errors = Vec::new(alloc);
-    let mut input = b"".as_slice();
-    let status = run_command(
+    let sim = ["recall", "sim"];
+    let words = words_of(alloc, sim.as_slice())?;
+    let mut written = Vec::new(alloc);
+    let mut told = Vec::new(alloc);
+    let ended = run_command(
         alloc,
         words.as_slice(),
-        &mut input,
         &mut Broken,
-        &mut errors,
+        &mut written,
+        &mut told,
     );
-    assert_eq!(rt; status, 3);
-    assert_eq!(rt; errors.as_slice(), b"fault Write\n".as_slice());
+    assert!(rt; ended == 3 && written.is_empty());
+    assert!(rt; told.as_slice() == b"fault Read\n".as_slice());
     Ok(())
 }

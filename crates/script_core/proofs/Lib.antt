@@ -1,5 +1,11 @@
+pub mod Ascending
+pub mod FieldLemmas
+pub mod FormLemmas
 pub mod InOrder
 pub mod OneAnswer
+pub mod OutcomeLemmas
+pub mod ReachLists
 pub mod ReaderLemmas
 pub mod SessionLemmas
+pub mod StateLemmas
 pub mod WholeLines

@@ -1,13 +1,12 @@
 -- how a session stands to the reader that feeds it
-use Rattle.std.proofs.Common.{◌≡◌, ℕ, List, [], ◌++◌, refl, sym, ap, subst, arith, Option, Some, None, IfSome}
+use Rattle.std.proofs.Common.{◌≡◌, ℕ, List, [], ◌++◌, refl, sym, ap, subst, arith, Option, Some, None, IfSome, inl}
 use Rattle.std.specs.Io.KnownBytes.{Appends, Keeps, Consumes, IsAtEnd}
 use Rattle.std.proofs.KnownBytes.{Appends-nil}
 use Rattle.std.proofs.lemmas.Grind.{flat_map-append}
 use Rattle.script_core.specs.Lines.{IsLine}
-use Rattle.script_core.specs.State.{empty}
 use Rattle.script_core.specs.Answer.{Said}
 use Rattle.script_core.specs.Runs.{text_of, Writes, Leaves, IsLeft, IsDone}
-use Rattle.script_core.specs.Session.{Follows, GoesOn, LeavesMore, EndsEarly, Finishes, EndsInLast}
+use Rattle.script_core.specs.Session.{IsNew, Follows, GoesOn, LeavesMore, EndsEarly, Finishes, EndsInLast}
 use Rattle.script_core.specs.declared.sessions.Session.{Session}
 use Rattle.script_core.specs.declared.tallies.Tally.{Tally}
 use Rattle.script_core.specs.declared.faults.ScriptFault.{ScriptFault}
@@ -25,21 +24,21 @@ abbrev pub LeavesKnown : Option (List ℕ) → ScriptFault → Option (List ℕ)
 LeavesKnown first fault left before after = IfSome first (λ input. Leaves fault input left before after)
 
 pub has_read_none : (first : Option (List ℕ)) (s : Session) (before : Option (List ℕ))
-    → s.script ≡ empty → s.lines ≡ 0 → s.refused ≡ 0 → s.pending.items ≡ [] → HasRead first first s before before
-has_read_none None s before script lines_none refused_none pending = tt
-has_read_none (Some input) s before script lines_none refused_none pending = (
+    → IsNew s → HasRead first first s before before
+has_read_none None s before new = tt
+has_read_none (Some input) s before new = (
   input,
   refl,
   (
     [],
     record {
       whole = [];
-      is = ap (λ xs. xs ++ input) (sym pending);
+      is = ap (λ xs. xs ++ input) (sym new.pending);
       each = λ k d small. absurd (omega arith);
-      pending = subst IsLine (sym pending) no_line;
-      answered = (refl, script);
-      lines = lines_none;
-      refused = refused_none;
+      pending = subst IsLine (sym new.pending) no_line;
+      answered = (refl, new.script);
+      lines = new.lines;
+      refused = new.refused;
     },
     Appends-nil before,
   ),
@@ -86,7 +85,7 @@ leaves_in_piece (Some input) now new s piece fault before between after (rest, i
 -- all whole lines that were read were answered
 is_left : (input rest : List ℕ) (left : Option (List ℕ)) (s : Session) (answers : List Said) → left ≡ Some rest → Follows input s rest answers → IsLeft input left answers
 is_left input rest left s answers is at =
-    record { begun = s.pending.items; rest = rest; has = is; is_begun = at.pending; before = answered_before input s rest answers at }
+    record { begun = s.pending; rest = rest; has = is; is_begun = at.pending; before = answered_before input s rest answers at }
 
 -- the reader failed
 pub leaves_at_read : (first now new : Option (List ℕ)) (s : Session) (fault : ScriptFault) (before after : Option (List ℕ))
@@ -128,5 +127,4 @@ done_at_end (Some input) now s tally before between after (rest, is, (answers, a
 -- nothing was read
 pub leaves_nothing : (first before : Option (List ℕ)) → LeavesKnown first faults.NoMemory first before before
 leaves_nothing None before = tt
-leaves_nothing (Some input) before =
-    ([], (input, record { whole = []; state = empty; is = refl; each = λ k d small. absurd (omega arith); answered = (refl, refl) }), Appends-nil before)
+leaves_nothing (Some input) before = ([], inl (refl, refl), Appends-nil before)

@@ -1,5 +1,5 @@
 -- how a session stands to the input that it reads
-use Rattle.std.proofs.Common.{◌≡◌, ℕ, ◌+◌, ◌<◌, ◌≤◌, Bool, true, false, cond, List, [], ◌∷◌, ◌++◌, length, length-append, map, refl, sym, ap, ◌∙◌, subst, append_assoc, append-nil, arith, Option, Some, None, ⊎_elim}
+use Rattle.std.proofs.Common.{◌≡◌, ℕ, ◌+◌, ◌<◌, ◌≤◌, Bool, true, false, cond, List, [], ◌∷◌, ◌++◌, length, length-append, map, refl, sym, ap, ◌∙◌, subst, append_assoc, append-nil, arith, Option, Some, None, inl, inr, ⊎_elim}
 use Rattle.std.specs.List.{sum_by}
 use Rattle.std.specs.Str.Lines.{lines, strip_carriage_return}
 use Rattle.std.specs.Io.KnownBytes.{Appends, Keeps}
@@ -8,12 +8,14 @@ use Rattle.std.proofs.lemmas.Grind.{flat_map-append}
 use Rattle.std.proofs.lemmas.List.{map-append}
 use Rattle.std.proofs.lemmas.List.Sums.{sum_by-append}
 use Rattle.std.proofs.lemmas.List.Elements.{All-append, All-push}
+use Rattle.script_core.specs.Holding.{FailsToGrow}
+use Rattle.script_core.specs.Kept.{state_of}
 use Rattle.script_core.specs.Lines.{is_newline, longest_line, IsWithinLine, IsLine, LinesFit, with_newlines}
 use Rattle.script_core.specs.State.{State, empty}
 use Rattle.script_core.specs.Answer.{Said}
 use Rattle.script_core.specs.Script.{Takes}
 use Rattle.script_core.specs.Runs.{Runs, text_of, refusals, Answered, StopsAt, Writes}
-use Rattle.script_core.specs.Session.{Follows, GoesOn, LeavesMore, EndsEarly, AnswersOne, FailsToGrow, FailsInOne, Finishes, EndsInLast}
+use Rattle.script_core.specs.Session.{Follows, GoesOn, LeavesMore, EndsEarly, AnswersOne, FailsInOne, Finishes, EndsInLast}
 use Rattle.script_core.specs.declared.sessions.Session.{Session}
 use Rattle.script_core.specs.declared.tallies.Tally.{Tally}
 use Rattle.script_core.specs.declared.faults.ScriptFault.{ScriptFault}
@@ -66,18 +68,18 @@ moved pending bytes rest later = ap (λ xs. pending ++ xs) (append_assoc bytes r
 
 -- bytes without a LF move from the piece to the pending ones
 pub goes_grow : (old : Session) (piece : List ℕ) (s : Session) (bytes rest : List ℕ) (t : Session) (before after : Option (List ℕ))
-    → GoesOn old piece s (bytes ++ rest) before after → IsWithinLine bytes → length t.pending.items ≤ longest_line
-    → t.pending.items ≡ s.pending.items ++ bytes → t.script ≡ s.script → t.lines ≡ s.lines → t.refused ≡ s.refused
+    → GoesOn old piece s (bytes ++ rest) before after → IsWithinLine bytes → length t.pending ≤ longest_line
+    → t.pending ≡ s.pending ++ bytes → t.script ≡ s.script → t.lines ≡ s.lines → t.refused ≡ s.refused
     → GoesOn old piece t rest before after
 goes_grow old piece s bytes rest t before after goes within fits pending script lines_same refused_same input later answers follows =
     let (more, at, written) = goes input later answers follows in (
       more,
       record {
         whole = at.whole;
-        is = at.is ∙ ap (λ xs. with_newlines at.whole ++ xs) (moved s.pending.items bytes rest later ∙ ap (λ xs. xs ++ (rest ++ later)) (sym pending));
+        is = at.is ∙ ap (λ xs. with_newlines at.whole ++ xs) (moved s.pending bytes rest later ∙ ap (λ xs. xs ++ (rest ++ later)) (sym pending));
         each = at.each;
-        pending = record { within = subst IsWithinLine (sym pending) (All-append (λ b. is_newline b ≡ false) s.pending.items bytes at.pending.within within); fits = fits };
-        answered = subst (λ z. Runs empty (map strip_carriage_return at.whole) (answers ++ more) z) (sym script) at.answered;
+        pending = record { within = subst IsWithinLine (sym pending) (All-append (λ b. is_newline b ≡ false) s.pending bytes at.pending.within within); fits = fits };
+        answered = subst (λ z. Runs empty (map strip_carriage_return at.whole) (answers ++ more) z) (sym (ap state_of script)) at.answered;
         lines = lines_same ∙ at.lines;
         refused = refused_same ∙ at.refused;
       },
@@ -86,18 +88,18 @@ goes_grow old piece s bytes rest t before after goes within fits pending script 
 
 -- a line is taken at its LF
 pub goes_line : (old : Session) (piece : List ℕ) (s : Session) (rest : List ℕ) (t : Session) (before between after : Option (List ℕ))
-    → GoesOn old piece s (10 ∷ rest) before between → AnswersOne s (strip_carriage_return s.pending.items) t between after
+    → GoesOn old piece s (10 ∷ rest) before between → AnswersOne s (strip_carriage_return s.pending) t between after
     → GoesOn old piece t rest before after
 goes_line old piece s rest t before between after goes one input later answers follows =
     let (more, at, written) = goes input later answers follows in
-    let line = s.pending.items in (
+    let line = s.pending in (
       more ++ one.answer ∷ [],
       record {
         whole = at.whole ++ line ∷ [];
         is = at.is ∙ with_one_more at.whole line (rest ++ later) ∙ ap (λ xs. with_newlines (at.whole ++ line ∷ []) ++ (xs ++ (rest ++ later))) (sym one.pending);
         each = All-push IsLine at.whole line at.each at.pending;
         pending = subst IsLine (sym one.pending) no_line;
-        answered = answered_more at.whole line answers more s.script one.answer t.script at.answered one.takes;
+        answered = answered_more at.whole line answers more (state_of s.script) one.answer (state_of t.script) at.answered one.takes;
         lines = one.lines ∙ ap (λ n. n + 1) at.lines ∙ sym (length-append at.whole (line ∷ []));
         refused = one.refused ∙ one_more s.refused one.answer (refusals (answers ++ more)) at.refused
             ∙ sym (refusals-append (answers ++ more) (one.answer ∷ [])) ∙ ap refusals (append_assoc answers more (one.answer ∷ []));
@@ -141,9 +143,9 @@ leaves_here input left answers fault before after stops kept =
     ([], subst (StopsAt fault input left) (sym (append-nil answers)) stops, writes_nothing fault before after kept)
 
 -- the whole lines that were taken, before the pending bytes
-pub answered_before : (input : List ℕ) (s : Session) (rest : List ℕ) (answers : List Said) → Follows input s rest answers
-    → Answered input (s.pending.items ++ rest) answers
-answered_before input s rest answers at = record { whole = at.whole; state = s.script; is = at.is; each = at.each; answered = at.answered }
+abbrev pub answered_before : (input : List ℕ) (s : Session) (rest : List ℕ) (answers : List Said) → Follows input s rest answers
+    → Answered input (s.pending ++ rest) answers
+answered_before input s rest answers at = record { whole = at.whole; state = state_of s.script; is = at.is; each = at.each; answered = at.answered }
 
 Appends-kept : (a b : Option (List ℕ)) → Keeps a b → Appends a b []
 Appends-kept None b p = tt
@@ -152,35 +154,42 @@ Appends-kept (Some x) (Some y) p = p ∙ sym (append-nil x)
 
 -- the pending bytes can't grow
 pub ends_to_grow : (s : Session) (bytes rest : List ℕ) (fault : ScriptFault) (before : Option (List ℕ))
-    → IsWithinLine bytes → FailsToGrow s bytes fault → EndsEarly s (bytes ++ rest) fault before before
+    → IsWithinLine bytes → FailsToGrow s.pending bytes fault → EndsEarly s (bytes ++ rest) fault before before
 ends_to_grow s bytes rest fault before within fails input later left answers at =
-    let before_all = answered_before input s ((bytes ++ rest) ++ later) answers at in
-    ⊎_elim (λ is. subst (λ f. LeavesMore input left answers f before before) (sym is)
-    (leaves_here input left answers faults.NoMemory before before (s.pending.items ++ ((bytes ++ rest) ++ later), before_all) (Appends-nil before)))
+    let all = All-append (λ b. is_newline b ≡ false) s.pending bytes at.pending.within within in
+    let there : Answered input ((s.pending ++ bytes) ++ (rest ++ later)) answers =
+    subst (λ xs. Answered input xs answers) (moved s.pending bytes rest later) (answered_before input s ((bytes ++ rest) ++ later) answers at) in
+    ⊎_elim (λ short. subst (λ f. LeavesMore input left answers f before before) (sym short.0)
+    (leaves_here input left answers faults.NoMemory before before
+    (inr (record { line = s.pending ++ bytes; rest = rest ++ later; within = all; before = there; wants = inl (omega (arith, short.1, length-append s.pending bytes)) }))
+    (Appends-nil before)))
     (λ too. subst (λ f. LeavesMore input left answers f before before) (sym too.0)
     (leaves_here input left answers faults.LineTooLong before before
     (record {
-      line = s.pending.items ++ bytes;
+      line = s.pending ++ bytes;
       rest = rest ++ later;
-      too_long = record {
-        within = All-append (λ b. is_newline b ≡ false) s.pending.items bytes at.pending.within within;
-        exceeds = omega (arith, too.1, length-append s.pending.items bytes);
-      };
-      before = subst (λ xs. Answered input xs answers) (moved s.pending.items bytes rest later) before_all;
+      too_long = record { within = all; exceeds = omega (arith, too.1, length-append s.pending bytes) };
+      before = there;
     }) (Appends-nil before)))
     fails
 
 -- within a line
 ends_in_line : (old : Session) (piece : List ℕ) (s : Session) (rest : List ℕ) (fault : ScriptFault) (before between after : Option (List ℕ))
-    → GoesOn old piece s (10 ∷ rest) before between → FailsInOne s (strip_carriage_return s.pending.items) fault between after
+    → GoesOn old piece s (10 ∷ rest) before between → FailsInOne s (strip_carriage_return s.pending) fault between after
     → EndsEarly old piece fault before after
 ends_in_line old piece s rest fault before between after goes fails input later left answers follows =
     let (more, at, written) = goes input later answers follows in
-    let line = strip_carriage_return s.pending.items in
+    let line = strip_carriage_return s.pending in
     leaves_after input left answers more fault before between after written
     (⊎_elim (λ kept. subst (λ f. LeavesMore input left (answers ++ more) f between after) (sym kept.0)
     (leaves_here input left (answers ++ more) faults.NoMemory between after
-    (s.pending.items ++ (10 ∷ (rest ++ later)), answered_before input s (10 ∷ (rest ++ later)) (answers ++ more) at) (Appends-kept between after kept.1)))
+    (inr (record {
+      line = s.pending;
+      rest = 10 ∷ (rest ++ later);
+      within = at.pending.within;
+      before = answered_before input s (10 ∷ (rest ++ later)) (answers ++ more) at;
+      wants = inr (line, inr (rest ++ later, refl, refl), kept.1);
+    })) (Appends-kept between after kept.2)))
     (λ broken. let (is_write, answer, next, takes, (begin, end, parts, some)) = broken in
     subst (λ f. LeavesMore input left (answers ++ more) f between after) (sym is_write) (
       answer ∷ [],
@@ -189,17 +198,17 @@ ends_in_line old piece s rest fault before between after goes fails input later 
         left = lines (rest ++ later);
         state = next;
         front = front_of input s (rest ++ later) (answers ++ more) at;
-        answered = Runs-snoc empty (map strip_carriage_return at.whole) (answers ++ more) s.script line answer next at.answered takes;
+        answered = Runs-snoc empty (map strip_carriage_return at.whole) (answers ++ more) (state_of s.script) line answer next at.answered takes;
       },
       (begin, end, text_of_one answer ∙ parts, some),
     ))
     fails) where
       front_of : (input : List ℕ) (s : Session) (rest : List ℕ) (answers : List Said) (at : Follows input s (10 ∷ rest) answers)
-          → lines input ≡ (map strip_carriage_return at.whole ++ strip_carriage_return s.pending.items ∷ []) ++ lines rest
+          → lines input ≡ (map strip_carriage_return at.whole ++ strip_carriage_return s.pending ∷ []) ++ lines rest
       front_of input s rest answers at =
-          ap lines (at.is ∙ with_one_more at.whole s.pending.items rest)
-          ∙ lines_whole (at.whole ++ s.pending.items ∷ []) rest (All-push IsLine at.whole s.pending.items at.each at.pending)
-          ∙ ap (λ ls. ls ++ lines rest) (map-append strip_carriage_return at.whole (s.pending.items ∷ []))
+          ap lines (at.is ∙ with_one_more at.whole s.pending rest)
+          ∙ lines_whole (at.whole ++ s.pending ∷ []) rest (All-push IsLine at.whole s.pending at.each at.pending)
+          ∙ ap (λ ls. ls ++ lines rest) (map-append strip_carriage_return at.whole (s.pending ∷ []))
 
 -- ---- one step after another
 
@@ -225,8 +234,8 @@ ends_trans old piece s front rest all fault before between after first split sec
 
 -- bytes without a LF are held
 pub goes_held : (s : Session) (bytes : List ℕ) (t : Session) (before : Option (List ℕ))
-    → IsWithinLine bytes → length t.pending.items ≤ longest_line
-    → t.pending.items ≡ s.pending.items ++ bytes → t.script ≡ s.script → t.lines ≡ s.lines → t.refused ≡ s.refused
+    → IsWithinLine bytes → length t.pending ≤ longest_line
+    → t.pending ≡ s.pending ++ bytes → t.script ≡ s.script → t.lines ≡ s.lines → t.refused ≡ s.refused
     → GoesOn s bytes t [] before before
 goes_held s bytes t before within fits pending script lines_same refused_same =
     goes_grow s bytes s bytes [] t before before
@@ -234,23 +243,23 @@ goes_held s bytes t before within fits pending script lines_same refused_same =
     within fits pending script lines_same refused_same
 
 pub ends_held : (s : Session) (bytes : List ℕ) (fault : ScriptFault) (before : Option (List ℕ))
-    → IsWithinLine bytes → FailsToGrow s bytes fault → EndsEarly s bytes fault before before
+    → IsWithinLine bytes → FailsToGrow s.pending bytes fault → EndsEarly s bytes fault before before
 ends_held s bytes fault before within fails =
     subst (λ xs. EndsEarly s xs fault before before) (append-nil bytes) (ends_to_grow s bytes [] fault before within fails)
 
 -- a line that ends at LF is taken
 pub goes_taken : (s : Session) (bytes : List ℕ) (held t : Session) (before after : Option (List ℕ))
-    → IsWithinLine bytes → length held.pending.items ≤ longest_line
-    → held.pending.items ≡ s.pending.items ++ bytes → held.script ≡ s.script → held.lines ≡ s.lines → held.refused ≡ s.refused
-    → AnswersOne held (strip_carriage_return held.pending.items) t before after → GoesOn s (bytes ++ 10 ∷ []) t [] before after
+    → IsWithinLine bytes → length held.pending ≤ longest_line
+    → held.pending ≡ s.pending ++ bytes → held.script ≡ s.script → held.lines ≡ s.lines → held.refused ≡ s.refused
+    → AnswersOne held (strip_carriage_return held.pending) t before after → GoesOn s (bytes ++ 10 ∷ []) t [] before after
 goes_taken s bytes held t before after within fits pending script lines_same refused_same one =
     goes_line s (bytes ++ 10 ∷ []) held [] t before before after
     (goes_grow s (bytes ++ 10 ∷ []) s bytes (10 ∷ []) held before before (goes_start s (bytes ++ 10 ∷ []) before) within fits pending script lines_same refused_same) one
 
 pub ends_taken : (s : Session) (bytes : List ℕ) (held : Session) (fault : ScriptFault) (before after : Option (List ℕ))
-    → IsWithinLine bytes → length held.pending.items ≤ longest_line
-    → held.pending.items ≡ s.pending.items ++ bytes → held.script ≡ s.script → held.lines ≡ s.lines → held.refused ≡ s.refused
-    → FailsInOne held (strip_carriage_return held.pending.items) fault before after → EndsEarly s (bytes ++ 10 ∷ []) fault before after
+    → IsWithinLine bytes → length held.pending ≤ longest_line
+    → held.pending ≡ s.pending ++ bytes → held.script ≡ s.script → held.lines ≡ s.lines → held.refused ≡ s.refused
+    → FailsInOne held (strip_carriage_return held.pending) fault before after → EndsEarly s (bytes ++ 10 ∷ []) fault before after
 ends_taken s bytes held fault before after within fits pending script lines_same refused_same fails =
     ends_in_line s (bytes ++ 10 ∷ []) held [] fault before before after
     (goes_grow s (bytes ++ 10 ∷ []) s bytes (10 ∷ []) held before before (goes_start s (bytes ++ 10 ∷ []) before) within fits pending script lines_same refused_same) fails
@@ -258,67 +267,74 @@ ends_taken s bytes held fault before after within fits pending script lines_same
 -- ---- the end of the input
 
 all_lines : (input : List ℕ) (s : Session) (answers : List Said) (at : Follows input s [] answers)
-    → lines input ≡ map strip_carriage_return at.whole ++ lines s.pending.items
+    → lines input ≡ map strip_carriage_return at.whole ++ lines s.pending
 all_lines input s answers at =
-    ap lines (at.is ∙ ap (λ xs. with_newlines at.whole ++ xs) (append-nil s.pending.items)) ∙ lines_whole at.whole s.pending.items at.each
+    ap lines (at.is ∙ ap (λ xs. with_newlines at.whole ++ xs) (append-nil s.pending)) ∙ lines_whole at.whole s.pending at.each
 
 all_fit : (input : List ℕ) (s : Session) (answers : List Said) → Follows input s [] answers → LinesFit input
 all_fit input s answers at =
-    subst LinesFit (sym (at.is ∙ ap (λ xs. with_newlines at.whole ++ xs) (append-nil s.pending.items))) (lines_fit at.whole s.pending.items at.each at.pending)
+    subst LinesFit (sym (at.is ∙ ap (λ xs. with_newlines at.whole ++ xs) (append-nil s.pending))) (lines_fit at.whole s.pending at.each at.pending)
 
 length_lines : (whole : List (List ℕ)) → length (map strip_carriage_return whole) ≡ length whole
 length_lines [] = refl
 length_lines (line ∷ whole) = omega (arith, length_lines whole)
 
 -- nothing is pending
-pub finishes_at_line : (s : Session) (tally : Tally) (before : Option (List ℕ)) → length s.pending.items ≡ 0
+pub finishes_at_line : (s : Session) (tally : Tally) (before : Option (List ℕ)) → length s.pending ≡ 0
     → tally.lines ≡ s.lines → tally.refused ≡ s.refused → Finishes s tally before before
 finishes_at_line s tally before none lines_same refused_same input answers at =
     let all : lines input ≡ map strip_carriage_return at.whole =
-    all_lines input s answers at ∙ ap (λ xs. map strip_carriage_return at.whole ++ lines xs) (no_bytes s.pending.items none) ∙ append-nil (map strip_carriage_return at.whole) in (
+    all_lines input s answers at ∙ ap (λ xs. map strip_carriage_return at.whole ++ lines xs) (no_bytes s.pending none) ∙ append-nil (map strip_carriage_return at.whole) in (
       [],
-      s.script,
-      subst (λ ls. Runs empty ls (answers ++ []) s.script) (sym all) (subst (λ xs. Runs empty (map strip_carriage_return at.whole) xs s.script) (sym (append-nil answers)) at.answered),
+      state_of s.script,
+      subst (λ ls. Runs empty ls (answers ++ []) (state_of s.script)) (sym all) (subst (λ xs. Runs empty (map strip_carriage_return at.whole) xs (state_of s.script)) (sym (append-nil answers)) at.answered),
       Appends-nil before,
       lines_same ∙ at.lines ∙ sym (length_lines at.whole) ∙ ap length (sym all),
       refused_same ∙ at.refused ∙ ap refusals (sym (append-nil answers)),
       all_fit input s answers at,
     )
 
-last_line : (input : List ℕ) (s : Session) (answers : List Said) (at : Follows input s [] answers) → 0 < length s.pending.items
-    → lines input ≡ map strip_carriage_return at.whole ++ s.pending.items ∷ []
+last_line : (input : List ℕ) (s : Session) (answers : List Said) (at : Follows input s [] answers) → 0 < length s.pending
+    → lines input ≡ map strip_carriage_return at.whole ++ s.pending ∷ []
 last_line input s answers at some =
-    all_lines input s answers at ∙ ap (λ ls. map strip_carriage_return at.whole ++ ls) (lines_last s.pending.items at.pending.within ∙ one_line s.pending.items some)
+    all_lines input s answers at ∙ ap (λ ls. map strip_carriage_return at.whole ++ ls) (lines_last s.pending at.pending.within ∙ one_line s.pending some)
 
 -- the pending bytes are the last line
-pub finishes_after_line : (s t : Session) (tally : Tally) (before after : Option (List ℕ)) → 0 < length s.pending.items
-    → AnswersOne s s.pending.items t before after → tally.lines ≡ t.lines → tally.refused ≡ t.refused → Finishes s tally before after
+pub finishes_after_line : (s t : Session) (tally : Tally) (before after : Option (List ℕ)) → 0 < length s.pending
+    → AnswersOne s s.pending t before after → tally.lines ≡ t.lines → tally.refused ≡ t.refused → Finishes s tally before after
 finishes_after_line s t tally before after some one lines_same refused_same input answers at =
     let front = map strip_carriage_return at.whole in
     let all = last_line input s answers at some in (
       one.answer ∷ [],
-      t.script,
-      subst (λ ls. Runs empty ls (answers ++ one.answer ∷ []) t.script) (sym all) (Runs-snoc empty front answers s.script s.pending.items one.answer t.script at.answered one.takes),
+      state_of t.script,
+      subst (λ ls. Runs empty ls (answers ++ one.answer ∷ []) (state_of t.script)) (sym all) (Runs-snoc empty front answers (state_of s.script) s.pending one.answer (state_of t.script) at.answered one.takes),
       subst (Appends before after) (sym (text_of_one one.answer)) one.written,
-      lines_same ∙ one.lines ∙ ap (λ n. n + 1) (at.lines ∙ sym (length_lines at.whole)) ∙ sym (length-append front (s.pending.items ∷ [])) ∙ ap length (sym all),
+      lines_same ∙ one.lines ∙ ap (λ n. n + 1) (at.lines ∙ sym (length_lines at.whole)) ∙ sym (length-append front (s.pending ∷ [])) ∙ ap length (sym all),
       refused_same ∙ one.refused ∙ one_more s.refused one.answer (refusals answers) at.refused ∙ sym (refusals-append answers (one.answer ∷ [])),
       all_fit input s answers at,
     )
 
-pub ends_in_last : (s : Session) (fault : ScriptFault) (before after : Option (List ℕ)) → 0 < length s.pending.items
-    → FailsInOne s s.pending.items fault before after → EndsInLast s fault before after
+pub ends_in_last : (s : Session) (fault : ScriptFault) (before after : Option (List ℕ)) → 0 < length s.pending
+    → FailsInOne s s.pending fault before after → EndsInLast s fault before after
 ends_in_last s fault before after some fails input left answers at =
     ⊎_elim (λ kept. subst (λ f. LeavesMore input left answers f before after) (sym kept.0)
-    (leaves_here input left answers faults.NoMemory before after (s.pending.items ++ [], answered_before input s [] answers at) (Appends-kept before after kept.1)))
+    (leaves_here input left answers faults.NoMemory before after
+    (inr (record {
+      line = s.pending;
+      rest = [];
+      within = at.pending.within;
+      before = answered_before input s [] answers at;
+      wants = inr (s.pending, inl (refl, refl), kept.1);
+    })) (Appends-kept before after kept.2)))
     (λ broken. let (is_write, answer, next, takes, (begin, end, parts, written)) = broken in
     subst (λ f. LeavesMore input left answers f before after) (sym is_write) (
       answer ∷ [],
       record {
-        taken = map strip_carriage_return at.whole ++ s.pending.items ∷ [];
+        taken = map strip_carriage_return at.whole ++ s.pending ∷ [];
         left = [];
         state = next;
-        front = last_line input s answers at some ∙ sym (append-nil (map strip_carriage_return at.whole ++ s.pending.items ∷ []));
-        answered = Runs-snoc empty (map strip_carriage_return at.whole) answers s.script s.pending.items answer next at.answered takes;
+        front = last_line input s answers at some ∙ sym (append-nil (map strip_carriage_return at.whole ++ s.pending ∷ []));
+        answered = Runs-snoc empty (map strip_carriage_return at.whole) answers (state_of s.script) s.pending answer next at.answered takes;
       },
       (begin, end, text_of_one answer ∙ parts, written),
     ))

@@ -1,5 +1,6 @@
 use Rattle.std.specs.Prelude.{ℕ, Bool, false, true, List, [], ◌∷◌, ◌++◌, codes, string_bytes}
 use Rattle.script_core.specs.declared.answers.Answer.{Answer}
+use Rattle.script_core.specs.declared.answers.Answer.TheVariants as answers
 
 -- the answer to a line: its text, and whether it is a refusal
 pub record Said : Type 0 where
@@ -7,7 +8,10 @@ pub record Said : Type 0 where
   pub refused : Bool
 
 abbrev pub answer_of : Answer → Said
-answer_of a = record { text = string_bytes a.text; refused = a.refused }
+answer_of answers.Silent = record { text = []; refused = false }
+answer_of (answers.Fixed text) = record { text = text.now; refused = true }
+answer_of (answers.Refusal text) = record { text = string_bytes text; refused = true }
+answer_of (answers.Done text) = record { text = string_bytes text; refused = false }
 
 -- nothing is answered
 abbrev pub silent : Said

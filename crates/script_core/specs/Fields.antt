@@ -1,23 +1,23 @@
 -- the fields of a line, which one or more spaces part
-use Rattle.std.specs.Prelude.{ℕ, Bool, not, ◌==◌, List, length, filter}
-use Rattle.std.specs.List.{prefix_len, before_first, after_first, slice_split}
-use Rattle.std.specs.Prelude.{drop}
+use Rattle.std.specs.Prelude.{◌≡◌, ◌<◌, ℕ, Bool, false, true, not, ◌==◌, List, [], ◌∷◌, length, filter, All}
+use Rattle.std.specs.List.{slice_split}
 
 abbrev pub is_space : ℕ → Bool
 is_space b = b == 32
 
--- what follows the spaces at the front
-abbrev pub past_spaces : List ℕ → List ℕ
-past_spaces text = drop (prefix_len is_space text) text
-
--- the first field, empty where there is none
-abbrev pub first_field : List ℕ → List ℕ
-first_field text = before_first is_space (past_spaces text)
-
--- what follows the first field and one space
-abbrev pub after_field : List ℕ → List ℕ
-after_field text = after_first is_space (past_spaces text)
-
--- all fields in order
+-- all fields in order: the parts between the spaces that have a byte
 abbrev pub fields : List ℕ → List (List ℕ)
 fields text = filter (λ field. not (length field == 0)) (slice_split is_space text)
+
+abbrev pub AreSpaces : List ℕ → Type 0
+AreSpaces bytes = All (λ b. is_space b ≡ true) bytes
+
+-- a field by itself
+pub record IsField (bytes : List ℕ) : Type 0 where
+  pub some : 0 < length bytes
+  pub within : All (λ b. is_space b ≡ false) bytes
+
+-- a text that begins with a field
+abbrev pub BeginsWithField : List ℕ → Type 0
+BeginsWithField [] = ⊥
+BeginsWithField (b ∷ bs) = is_space b ≡ false

@@ -9,6 +9,10 @@ is_newline b = b == 10
 abbrev pub longest_line : ℕ
 longest_line = 16777216
 
+-- a line of at most so many bytes before its LF is held without further memory
+abbrev pub room : ℕ
+room = 8192
+
 -- no byte ends a line
 abbrev pub IsWithinLine : List ℕ → Type 0
 IsWithinLine bytes = All (λ b. is_newline b ≡ false) bytes

@@ -1,60 +1,51 @@
--- what a line asks for
-use Rattle.std.specs.Prelude.{ℕ, Bool, not, ◌||◌, ◌==◌, if◌then◌else◌, List, [], ◌∷◌, codes, length, bytes_eq, map}
+-- What a line asks for, as a grammar of whole lines.
+use Rattle.std.specs.Prelude.{◌≡◌, ℕ, Bool, true, false, List, [], ◌∷◌, ◌++◌, codes, Option, Some, None}
 use Rattle.std.specs.Str.{is_utf8}
 use Rattle.script_core.specs.Comments.{is_comment}
-use Rattle.script_core.specs.Fields.{past_spaces, first_field, after_field, fields}
-use Rattle.script_core.specs.declared.lines.Line.{Line}
-use Rattle.script_core.specs.declared.lines.Line.TheVariants as lines
+use Rattle.script_core.specs.Fields.{fields, AreSpaces, IsField, BeginsWithField}
+
+-- what is asked of the world
+pub data Task : Type 0 where
+  -- a site and a document, which is captured there
+  capture : List ℕ → List ℕ → Task
+  -- a site and the EPC text of an item: the pairs that the item there reaches
+  reach : List ℕ → List ℕ → Task
 
 pub data Request : Type 0 where
-  -- a line without an answer: an empty one, one of spaces, a comment
+  -- nothing
   silent : Request
-  -- a line that is none of the others
-  unreadable : Request
-  -- a site and its addresses
+  -- a site with its addresses is added
   site : List ℕ → List (List ℕ) → Request
-  -- a document to be captured at a site
-  capture : List ℕ → List ℕ → Request
-  -- the pairs that an item at a site reaches
-  reach : List ℕ → List ℕ → Request
+  task : Task → Request
 
-abbrev pub is_empty : List ℕ → Bool
-is_empty bytes = length bytes == 0
+-- `capture`, the site and the document, with one or more spaces between them; the document goes to the end of the line
+pub record IsCapture (line name document : List ℕ) : Type 0 where
+  pub front : List ℕ
+  pub between : List ℕ
+  pub behind : List ℕ
+  pub is : line ≡ front ++ (codes "capture" ++ 32 ∷ (between ++ (name ++ 32 ∷ (behind ++ document))))
+  pub are_spaces : AreSpaces front × AreSpaces between × AreSpaces behind
+  pub is_name : IsField name
+  pub begins : BeginsWithField document
 
--- `capture`, the site and the document, which is all that follows
-abbrev pub capture_request : List ℕ → List ℕ → Request
-capture_request name document = if is_empty name || is_empty document then unreadable else capture name document
+-- the line has the form of this request
+abbrev pub HasForm : List ℕ → Request → Type 0
+HasForm line silent = fields line ≡ []
+HasForm line (site name addresses) = fields line ≡ codes "site" ∷ name ∷ addresses
+HasForm line (task (capture name document)) = IsCapture line name document
+HasForm line (task (reach name item)) = fields line ≡ codes "reach" ∷ name ∷ item ∷ []
 
--- `site`, a name and any number of addresses
-abbrev pub site_request : List (List ℕ) → Request
-site_request [] = unreadable
-site_request (name ∷ addresses) = site name addresses
+-- the line has the form of the request, or, where none is given, of no request
+abbrev pub IsOfForm : List ℕ → Option Request → Type 0
+IsOfForm line (Some request) = HasForm line request
+IsOfForm line None = (request : Request) → HasForm line request → ⊥
 
--- `reach`, a site and an EPC text
-abbrev pub reach_request : List (List ℕ) → Request
-reach_request [] = unreadable
-reach_request (name ∷ []) = unreadable
-reach_request (name ∷ item ∷ []) = reach name item
-reach_request (name ∷ item ∷ more ∷ rest) = unreadable
+-- by whether the line is a comment, and whether it is UTF-8
+abbrev pub AsksAs : List ℕ → Bool → Bool → Option Request → Type 0
+AsksAs line true text asked = asked ≡ Some silent
+AsksAs line false false asked = asked ≡ None
+AsksAs line false true asked = IsOfForm line asked
 
--- by the first field and what follows it
-unfoldable pub request_of_fields : List ℕ → List ℕ → Request
-request_of_fields word rest =
-    if is_empty word then silent else
-    if bytes_eq word (codes "capture") then capture_request (first_field rest) (past_spaces (after_field rest)) else
-    if bytes_eq word (codes "site") then site_request (fields rest) else
-    if bytes_eq word (codes "reach") then reach_request (fields rest) else unreadable
-
--- what a line asks for
-unfoldable pub request_of : List ℕ → Request
-request_of line =
-    if is_comment line then silent else
-    if not (is_utf8 line) then unreadable else request_of_fields (first_field line) (after_field line)
-
--- a line as it was read
-abbrev pub request : Line → Request
-request lines.Silent = silent
-request lines.Unreadable = unreadable
-request (lines.Site name addresses) = site name.now (map (λ a. a.now) addresses.items)
-request (lines.Capture name document) = capture name.now document.now
-request (lines.Reach name item) = reach name.now item.now
+-- The line asks for this, or, where none is given, it can't be read. A comment asks for nothing, whatever its bytes are.
+abbrev pub Asks : List ℕ → Option Request → Type 0
+Asks line asked = AsksAs line (is_comment line) (is_utf8 line) asked

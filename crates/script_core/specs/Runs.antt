@@ -1,9 +1,10 @@
-use Rattle.std.specs.Prelude.{◌≡◌, ℕ, List, [], ◌∷◌, ◌++◌, length, map, All, count_by, Option, Some}
+use Rattle.std.specs.Prelude.{◌≡◌, ℕ, List, [], ◌∷◌, ◌++◌, ◌<◌, ◌⊎◌, length, map, All, count_by, Option, Some}
 use Rattle.std.specs.List.{flat_map}
 use Rattle.std.specs.Str.Lines.{lines, strip_carriage_return}
 use Rattle.std.specs.Io.KnownBytes.{Appends}
 use Rattle.script_core.specs.Answer.{Said}
-use Rattle.script_core.specs.Lines.{IsLine, IsTooLong, LinesFit, with_newlines}
+use Rattle.script_core.specs.Lines.{IsWithinLine, IsLine, IsTooLong, LinesFit, room, with_newlines}
+use Rattle.script_core.specs.Memory.{TakesMemory}
 use Rattle.script_core.specs.Script.{Takes}
 use Rattle.script_core.specs.State.{State, empty}
 use Rattle.script_core.specs.Writing.{AppendsBeginning}
@@ -60,9 +61,25 @@ pub record IsBeforeLongLine (input : List ℕ) (answers : List Said) : Type 0 wh
   pub too_long : IsTooLong line
   pub before : Answered input (line ++ rest) answers
 
--- whole lines at the front of the script were answered so
-abbrev pub IsBetweenLines : List ℕ → List Said → Type 0
-IsBetweenLines input answers = (rest : List ℕ) × Answered input rest answers
+-- the line ends here: with what is left, or at its LF. What was read of it is its content, without a CR before that LF.
+abbrev pub IsContent : List ℕ → List ℕ → List ℕ → Type 0
+IsContent line rest content = ((rest ≡ []) × (content ≡ line)) ⊎ ((more : List ℕ) × (rest ≡ 10 ∷ more) × (content ≡ strip_carriage_return line))
+
+-- the line has outgrown its room, or it is whole and takes memory
+abbrev pub WantsMemory : State → List ℕ → List ℕ → Type 0
+WantsMemory state line rest = (room < length line) ⊎ ((content : List ℕ) × IsContent line rest content × TakesMemory state content)
+
+-- memory ran out at a line that wants it, and all lines before it were answered so
+pub record IsAtLine (input : List ℕ) (answers : List Said) : Type 0 where
+  pub line : List ℕ
+  pub rest : List ℕ
+  pub within : IsWithinLine line
+  pub before : Answered input (line ++ rest) answers
+  pub wants : WantsMemory before.state line rest
+
+-- memory ran out before anything was read, or at a line that wants it
+abbrev pub IsShort : List ℕ → Option (List ℕ) → List Said → Type 0
+IsShort input left answers = ((answers ≡ []) × (left ≡ Some input)) ⊎ IsAtLine input answers
 
 -- lines at the front of the script were answered so, the last of them in part
 pub record IsWithinAnswers (input : List ℕ) (answers : List Said) : Type 0 where
@@ -74,7 +91,7 @@ pub record IsWithinAnswers (input : List ℕ) (answers : List Said) : Type 0 whe
 
 -- where in the script a fault ends its run, and which answers were given before
 abbrev pub StopsAt : ScriptFault → List ℕ → Option (List ℕ) → List Said → Type 0
-StopsAt faults.NoMemory input left answers = IsBetweenLines input answers
+StopsAt faults.NoMemory input left answers = IsShort input left answers
 StopsAt faults.Read input left answers = IsLeft input left answers
 StopsAt faults.Write input left answers = IsWithinAnswers input answers
 StopsAt faults.LineTooLong input left answers = IsBeforeLongLine input answers

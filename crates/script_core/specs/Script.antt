@@ -1,5 +1,5 @@
 -- The answer to each line of a script, and what it leaves.
-use Rattle.std.specs.Prelude.{◌≡◌, ◌↔◌, ℕ, Bool, true, false, not, nat_le, if◌then◌else◌, List, [], ◌∷◌, ◌++◌, codes, length, slice_set, slice_get, Option, Some, None, Result, Ok, Err, Contains}
+use Rattle.std.specs.Prelude.{◌≡◌, ◌↔◌, ℕ, List, [], ◌∷◌, ◌++◌, codes, slice_set, slice_get, Option, Some, None, Result, Ok, Err, Contains}
 use Rattle.std.specs.Fmt.{decimal}
 use Rattle.epc_core.specs.declared.items.EpcFault.{EpcFault}
 use Rattle.epc_core.specs.Reading.{reading}
@@ -15,39 +15,28 @@ use Rattle.trace_core.specs.Pairs.{IsStrictlyAscending}
 use Rattle.trace_core.specs.Relations.{Reaches}
 use Rattle.trace_core.specs.Sites.{SiteEvents}
 use Rattle.trace_core.specs.declared.pairs.Pair.{Pair}
-use Rattle.script_core.specs.State.{State}
+use Rattle.script_core.specs.State.{State, gathering, running, World, begun}
 use Rattle.script_core.specs.Answer.{Said, silent, refused, done}
-use Rattle.script_core.specs.Words.{sites_fault_name, doc_fault_text, captured_text, pairs_text}
-use Rattle.script_core.specs.Requests.{Request, request_of}
+use Rattle.script_core.specs.Names.{sites_fault_name}
+use Rattle.script_core.specs.Words.{doc_fault_text, captured_text, pairs_text}
+use Rattle.script_core.specs.Requests.{Request, Task, capture, reach, Asks}
 use Rattle.script_core.specs.Requests as requests
 
--- at least two sites stand
-abbrev pub is_ready : State → Bool
-is_ready s = nat_le 2 (length s.sites)
+-- ---- `site`: while sites are gathered, a site is added
 
--- no further site is added
-abbrev pub fixed : State → State
-fixed s = record s { fixed = true }
+abbrev pub site_added : List Site → List ℕ → List (List ℕ) → Option SitesFault → Said × State
+site_added sites name addresses None = (silent, gathering (sites ++ record { name = name; addresses = addresses } ∷ []))
+site_added sites name addresses (Some fault) = (refused (codes "BadSite " ++ sites_fault_name fault), gathering sites)
 
--- an answer, and what the line leaves
-pub record Outcome : Type 0 where
-  pub said : Said
-  pub state : State
+abbrev pub site_outcome : State → List ℕ → List (List ℕ) → Said × State
+site_outcome (gathering sites) name addresses = site_added sites name addresses (sites_fault sites name addresses)
+site_outcome (running world) name addresses = (refused (codes "Late"), running world)
 
-abbrev pub says : Said → State → Outcome
-says said state = record { said = said; state = state }
+-- the answer to a line at a site that isn't there
+abbrev pub no_site : List ℕ → Said
+no_site name = refused (codes "NoSite " ++ name)
 
--- `site`: before any other line is taken a site is added
-abbrev pub site_added : State → List ℕ → List (List ℕ) → Option SitesFault → Outcome
-site_added s name addresses None = says silent (record s {
-  sites = s.sites ++ record { name = name; addresses = addresses } ∷ [];
-  captured = s.captured ++ record { me = length s.sites; events = [] } ∷ [];
-})
-site_added s name addresses (Some fault) = says (refused (codes "BadSite " ++ sites_fault_name fault)) s
-
-unfoldable pub site_outcome : State → List ℕ → List (List ℕ) → Outcome
-site_outcome s name addresses =
-    if s.fixed then says (refused (codes "Late")) s else site_added s name addresses (sites_fault s.sites name addresses)
+-- ---- `capture`: the events of the document are added to the site's, whole or not at all
 
 -- the events of the site of this number
 abbrev pub events_at : List SiteEvents → ℕ → List Content
@@ -56,50 +45,55 @@ events_at captured n = of_site (slice_get captured n) where
   of_site None = []
   of_site (Some site) = site.events
 
--- `capture`: the events of the document are added to the site's, whole or not at all
 abbrev pub added_at : List SiteEvents → ℕ → ℕ → Result Addition ℕ → Said × List SiteEvents
 added_at captured n skipped (Err place) = (refused (codes "IdTaken event " ++ decimal place), captured)
 added_at captured n skipped (Ok a) = (done (captured_text a.fresh a.known skipped), slice_set captured n (record { me = n; events = a.events }))
 
-abbrev pub capture_read : State → ℕ → Result Doc DocFault → Outcome
-capture_read s n (Err fault) = says (refused (doc_fault_text fault)) s
-capture_read s n (Ok doc) =
-    let added = added_at s.captured n doc.skipped (adding (events_at s.captured n) doc.events) in says added.0 (record s { captured = added.1 })
+abbrev pub capture_read : World → ℕ → Result Doc DocFault → Said × World
+capture_read world n (Err fault) = (refused (doc_fault_text fault), world)
+capture_read world n (Ok doc) =
+    let added = added_at world.captured n doc.skipped (adding (events_at world.captured n) doc.events) in (added.0, record world { captured = added.1 })
 
-abbrev pub capture_at : State → List ℕ → List ℕ → Option ℕ → Outcome
-capture_at s name document None = says (refused (codes "NoSite " ++ name)) s
-capture_at s name document (Some n) = capture_read s n (text_document s.sites document)
+abbrev pub capture_at : World → List ℕ → List ℕ → Option ℕ → Said × World
+capture_at world name document None = (no_site name, world)
+capture_at world name document (Some n) = capture_read world n (text_document world.sites document)
 
-unfoldable pub capture_outcome : State → List ℕ → List ℕ → Outcome
-capture_outcome s name document =
-    if not (is_ready s) then says (refused (codes "NoWorld")) s else capture_at (fixed s) name document (named s.sites name)
+-- ---- `reach`: all that chains of related pairs from the item at the site reach, ascending
 
--- `reach`: all that chains of related pairs from the item at the site reach, ascending
 pub record IsReachText (sites : List Site) (captured : List SiteEvents) (root : Pair) (said : Said) : Type 0 where
   pub pairs : List Pair
   pub ascending : IsStrictlyAscending pairs
   pub reached : (p : Pair) → Contains pairs p ↔ Reaches (Related captured) root p
   pub text : said ≡ done (pairs_text sites pairs)
 
-abbrev pub ReachRead : State → ℕ → Result (List ℕ) EpcFault → Outcome → Type 0
-ReachRead s n (Err fault) o = o ≡ says (refused (codes "BadEpc")) s
-ReachRead s n (Ok item) o = (o.state ≡ s) × IsReachText s.sites s.captured (record { site = n; item = item }) o.said
+abbrev pub ReachRead : World → ℕ → Result (List ℕ) EpcFault → Said → Type 0
+ReachRead world n (Err fault) said = said ≡ refused (codes "BadEpc")
+ReachRead world n (Ok item) said = IsReachText world.sites world.captured (record { site = n; item = item }) said
 
-abbrev pub ReachAt : State → List ℕ → List ℕ → Option ℕ → Outcome → Type 0
-ReachAt s name item None o = o ≡ says (refused (codes "NoSite " ++ name)) s
-ReachAt s name item (Some n) o = ReachRead s n (reading item) o
+abbrev pub ReachAt : World → List ℕ → List ℕ → Option ℕ → Said → Type 0
+ReachAt world name item None said = said ≡ no_site name
+ReachAt world name item (Some n) said = ReachRead world n (reading item) said
 
-abbrev pub ReachWhere : State → List ℕ → List ℕ → Bool → Outcome → Type 0
-ReachWhere s name item false o = o ≡ says (refused (codes "NoWorld")) s
-ReachWhere s name item true o = ReachAt (fixed s) name item (named s.sites name) o
+-- ---- a line
 
-abbrev pub TakesRequest : State → Request → Outcome → Type 0
-TakesRequest s requests.silent o = o ≡ says silent s
-TakesRequest s requests.unreadable o = o ≡ says (refused (codes "BadLine")) s
-TakesRequest s (requests.site name addresses) o = o ≡ site_outcome s name addresses
-TakesRequest s (requests.capture name document) o = o ≡ capture_outcome s name document
-TakesRequest s (requests.reach name item) o = ReachWhere s name item (is_ready s) o
+-- in this world the task has this answer, and leaves that world
+abbrev pub Does : World → Task → Said → World → Type 0
+Does world (capture name document) said after = (said, after) ≡ capture_at world name document (named world.sites name)
+Does world (reach name item) said after = (after ≡ world) × ReachAt world name item (named world.sites name) said
+
+-- The gate of all tasks: they are refused while sites are gathered.
+abbrev pub Passes : State → Task → Said → State → Type 0
+Passes (gathering sites) task said t = (said ≡ refused (codes "NoWorld")) × (t ≡ gathering sites)
+Passes (running world) task said (gathering sites) = ⊥
+Passes (running world) task said (running after) = Does world task said after
+
+-- a line that can't be read, and then each request; the first task once two sites stand begins the world
+abbrev pub TakesRequest : State → Option Request → Said → State → Type 0
+TakesRequest s None said t = (said ≡ refused (codes "BadLine")) × (t ≡ s)
+TakesRequest s (Some requests.silent) said t = (said ≡ silent) × (t ≡ s)
+TakesRequest s (Some (requests.site name addresses)) said t = (said, t) ≡ site_outcome s name addresses
+TakesRequest s (Some (requests.task task)) said t = Passes (begun s) task said t
 
 -- in this state the line has this answer, and leaves that state
-unfoldable pub Takes : State → List ℕ → Said → State → Type 0
-Takes s line said t = TakesRequest s (request_of line) (says said t)
+abbrev pub Takes : State → List ℕ → Said → State → Type 0
+Takes s line said t = (asked : Option Request) × Asks line asked × TakesRequest s asked said t

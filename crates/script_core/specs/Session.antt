@@ -1,8 +1,10 @@
-use Rattle.std.specs.Prelude.{◌≡◌, ◌+◌, ◌<◌, ◌⊎◌, ℕ, List, [], ◌++◌, All, length, map, Option, if◌then◌else◌}
+use Rattle.std.specs.Prelude.{◌≡◌, ◌+◌, ◌⊎◌, ℕ, List, [], ◌++◌, All, length, map, Option, if◌then◌else◌}
 use Rattle.std.specs.Str.Lines.{lines, strip_carriage_return}
 use Rattle.std.specs.Io.KnownBytes.{Appends, Keeps}
 use Rattle.script_core.specs.Answer.{Said}
-use Rattle.script_core.specs.Lines.{IsLine, LinesFit, longest_line, with_newlines}
+use Rattle.script_core.specs.Kept.{state_of}
+use Rattle.script_core.specs.Lines.{IsLine, LinesFit, with_newlines}
+use Rattle.script_core.specs.Memory.{TakesMemory}
 use Rattle.script_core.specs.Runs.{Runs, text_of, refusals, StopsAt, Writes}
 use Rattle.script_core.specs.Script.{Takes}
 use Rattle.script_core.specs.State.{State, empty}
@@ -10,15 +12,22 @@ use Rattle.script_core.specs.Writing.{AppendsBeginning}
 use Rattle.script_core.specs.declared.sessions.Session.{Session}
 use Rattle.script_core.specs.declared.tallies.Tally.{Tally}
 use Rattle.script_core.specs.declared.faults.ScriptFault.{ScriptFault}
-use Rattle.script_core.specs.declared.faults.ScriptFault.TheVariants.{NoMemory, Write, LineTooLong}
+use Rattle.script_core.specs.declared.faults.ScriptFault.TheVariants.{NoMemory, Write}
+
+-- nothing was read
+pub record IsNew (session : Session) : Type 0 where
+  pub script : state_of session.script ≡ empty
+  pub lines : session.lines ≡ 0
+  pub refused : session.refused ≡ 0
+  pub pending : session.pending ≡ []
 
 -- The input is whole lines, which were taken with these answers, the pending bytes, which begin the next line, and the rest.
 pub record Follows (input : List ℕ) (session : Session) (rest : List ℕ) (answers : List Said) : Type 0 where
   pub whole : List (List ℕ)
-  pub is : input ≡ with_newlines whole ++ (session.pending.items ++ rest)
+  pub is : input ≡ with_newlines whole ++ (session.pending ++ rest)
   pub each : All IsLine whole
-  pub pending : IsLine session.pending.items
-  pub answered : Runs empty (map strip_carriage_return whole) answers session.script
+  pub pending : IsLine session.pending
+  pub answered : Runs empty (map strip_carriage_return whole) answers (state_of session.script)
   pub lines : session.lines ≡ length whole
   pub refused : session.refused ≡ refusals answers
 
@@ -42,21 +51,17 @@ EndsEarly old piece fault before after =
 -- One line was taken, its answer was written, and nothing is pending.
 pub record AnswersOne (old : Session) (line : List ℕ) (new : Session) (before after : Option (List ℕ)) : Type 0 where
   pub answer : Said
-  pub takes : Takes old.script line answer new.script
-  pub pending : new.pending.items ≡ []
+  pub takes : Takes (state_of old.script) line answer (state_of new.script)
+  pub pending : new.pending ≡ []
   pub lines : new.lines ≡ old.lines + 1
   pub refused : new.refused ≡ (if answer.refused then old.refused + 1 else old.refused)
   pub written : Appends before after answer.text
 
--- The bytes can't be put behind the pending ones: memory ran out, or the line would be too long.
-abbrev pub FailsToGrow : Session → List ℕ → ScriptFault → Type 0
-FailsToGrow session bytes fault = (fault ≡ NoMemory) ⊎ ((fault ≡ LineTooLong) × (longest_line < length session.pending.items + length bytes))
-
 -- Nothing was written, or by a writer's fault a beginning of the line's answer.
 abbrev pub FailsInOne : Session → List ℕ → ScriptFault → Option (List ℕ) → Option (List ℕ) → Type 0
 FailsInOne old line fault before after =
-    ((fault ≡ NoMemory) × Keeps before after)
-    ⊎ ((fault ≡ Write) × (answer : Said) × (next : State) × Takes old.script line answer next × AppendsBeginning before after answer.text)
+    ((fault ≡ NoMemory) × TakesMemory (state_of old.script) line × Keeps before after)
+    ⊎ ((fault ≡ Write) × (answer : Said) × (next : State) × Takes (state_of old.script) line answer next × AppendsBeginning before after answer.text)
 
 -- The session is at the end of the input: its last line is answered, and the tally counts all lines.
 abbrev pub Finishes : Session → Tally → Option (List ℕ) → Option (List ℕ) → Type 0

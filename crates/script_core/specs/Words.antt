@@ -4,38 +4,9 @@ use Rattle.std.specs.Fmt.{decimal}
 use Rattle.std.specs.List.{flat_map}
 use Rattle.event_json.specs.Names.{field_name}
 use Rattle.event_json.specs.Sites.{Site}
+use Rattle.script_core.specs.Names.{kind_name}
 use Rattle.event_json.specs.declared.doc_faults.DocFault.{DocFault}
-use Rattle.event_json.specs.declared.doc_faults.DocFaultKind.{DocFaultKind}
-use Rattle.event_json.specs.declared.doc_faults.DocFaultKind.TheVariants as kinds
-use Rattle.event_json.specs.declared.site_lists.SitesFault.{SitesFault}
-use Rattle.event_json.specs.declared.site_lists.SitesFault.TheVariants as faults
 use Rattle.trace_core.specs.declared.pairs.Pair.{Pair}
-
--- why a site isn't added, by name
-abbrev pub sites_fault_name : SitesFault → List ℕ
-sites_fault_name faults.NoMemory = codes "NoMemory"
-sites_fault_name faults.BadName = codes "BadName"
-sites_fault_name faults.NameTaken = codes "NameTaken"
-sites_fault_name faults.TooMany = codes "TooMany"
-sites_fault_name faults.BadAddress = codes "BadAddress"
-sites_fault_name faults.AddressTaken = codes "AddressTaken"
-
--- the kind of a document's fault, by name
-abbrev pub kind_name : DocFaultKind → List ℕ
-kind_name kinds.Syntax = codes "Syntax"
-kind_name kinds.NotDocument = codes "NotDocument"
-kind_name kinds.TooManyEvents = codes "TooManyEvents"
-kind_name kinds.NoType = codes "NoType"
-kind_name kinds.Missing = codes "Missing"
-kind_name kinds.WrongShape = codes "WrongShape"
-kind_name kinds.Time = codes "Time"
-kind_name kinds.Offset = codes "Offset"
-kind_name kinds.Action = codes "Action"
-kind_name kinds.BadEpc = codes "BadEpc"
-kind_name kinds.TooManyEpcs = codes "TooManyEpcs"
-kind_name kinds.Quantities = codes "Quantities"
-kind_name kinds.ErrorDeclared = codes "ErrorDeclared"
-kind_name kinds.HalfTransformation = codes "HalfTransformation"
 
 abbrev pub doc_fault_text : DocFault → List ℕ
 doc_fault_text fault = codes "Doc " ++ kind_name fault.kind ++ codes " event " ++ decimal fault.event ++ codes " field " ++ field_name fault.field

@@ -1,46 +1,88 @@
+//! Answers and their texts.
+
 ghost use Rattle.std.specs.Prelude.{◌≡◌, ◌++◌, ◌∷◌, codes, IfOk, OnOk, string_bytes};
 ghost use Rattle.std.specs.Fmt.{decimal};
-ghost use Rattle.script_core.specs.Words.{doc_fault_text, captured_text, pairs_text, pair_text, count_text, kind_name, sites_fault_name};
+ghost use Rattle.script_core.specs.Names.{sites_fault_name};
+ghost use Rattle.script_core.specs.Words.{doc_fault_text, captured_text, pairs_text, pair_text, count_text};
 
-use event_json::{DocFault, DocFaultKind, Sites, SitesFault};
+use crate::names::{kind_name, sites_fault_name};
+use event_json::{DocFault, Sites, SitesFault};
 use std::alloc::{AllocError, Global};
 use trace_core::{Added, Pair};
 
-/// The answer to a line: its text, empty for none, and whether it is a refusal.
+/// The answer to a line.
 #[derive(Debug, Drop)]
-pub(crate) struct Answer {
-    pub(crate) text: String,
-    pub(crate) refused: bool,
+pub(crate) enum Answer {
+    /// Nothing.
+    Silent,
+    /// A refusal without details: its text is fixed, so that it takes no memory.
+    Fixed(&'static str),
+    /// A refusal with details.
+    Refusal(String),
+    /// What came of a line that was done.
+    Done(String),
 }
 
 impl Answer {
-    ghost use Rattle.script_core.specs.Answer.{answer_of, silent, refused, done};
+    ghost use Rattle.script_core.specs.Answer.{answer_of, refused, done};
 
-    /// Nothing.
-    pub(crate) fn silent(alloc: Global) -> Answer
-        ensures { answer_of result ≡ silent }
+    /// The text of the answer, empty for none.
+    pub(crate) fn text(&self) -> &str
+        ensures { result.now ≡ (answer_of self.now).text }
     {
-        Answer {
-            text: String::new(alloc),
-            refused: false,
+        match self {
+            Answer::Silent => "",
+            Answer::Fixed(text) => text,
+            Answer::Refusal(text) => text.as_str(),
+            Answer::Done(text) => text.as_str(),
         }
     }
 
-    /// `refused` and what is said of it.
-    pub(crate) fn refused(alloc: Global, what: &str) -> Result<Answer, AllocError>
-        ensures { IfOk result (λ a. answer_of a ≡ refused what.now) }
+    /// Whether it is a refusal.
+    pub(crate) fn is_refusal(&self) -> bool
+        ensures { result ≡ (answer_of self.now).refused }
     {
-        Ok(Answer {
-            text: format!(in alloc; "refused {what}\n")?,
-            refused: true,
-        })
+        match self {
+            Answer::Silent => false,
+            Answer::Fixed(_) => true,
+            Answer::Refusal(_) => true,
+            Answer::Done(_) => false,
+        }
     }
 
-    /// The refusal of a line that asks for sites before at least two of them stand.
-    pub(crate) fn no_world(alloc: Global) -> Result<Answer, AllocError>
-        ensures { IfOk result (λ a. answer_of a ≡ refused (codes "NoWorld")) }
+    /// The refusal of a line that can't be read.
+    pub(crate) fn bad_line() -> Answer
+        ensures { answer_of result ≡ refused (codes "BadLine") }
     {
-        Answer::refused(alloc, "NoWorld")
+        Answer::Fixed("refused BadLine\n")
+    }
+
+    /// The refusal of a `site` line once the sites are fixed.
+    pub(crate) fn late() -> Answer
+        ensures { answer_of result ≡ refused (codes "Late") }
+    {
+        Answer::Fixed("refused Late\n")
+    }
+
+    /// The refusal of a line that asks something of the sites before at least two of them stand.
+    pub(crate) fn no_world() -> Answer
+        ensures { answer_of result ≡ refused (codes "NoWorld") }
+    {
+        Answer::Fixed("refused NoWorld\n")
+    }
+
+    /// The refusal of an EPC text.
+    pub(crate) fn bad_epc() -> Answer
+        ensures { answer_of result ≡ refused (codes "BadEpc") }
+    {
+        Answer::Fixed("refused BadEpc\n")
+    }
+
+    /// A refusal with details.
+    fn refusal(alloc: Global, what: &str) -> Result<Answer, AllocError>
+        ensures { IfOk result (λ a. answer_of a ≡ refused what.now) }
+    {
+        Ok(Answer::Refusal(format!(in alloc; "refused {what}\n")?))
     }
 
     /// The refusal of a line at a site that doesn't exist.
@@ -48,16 +90,16 @@ impl Answer {
         ensures { IfOk result (λ a. answer_of a ≡ refused (codes "NoSite " ++ name.now)) }
     {
         let what = format!(in alloc; "NoSite {name}")?;
-        Answer::refused(alloc, what.as_str())
+        Answer::refusal(alloc, what.as_str())
     }
 
-    /// The refusal of a `site` line.
+    /// The refusal of a `site` line for its name or addresses.
     pub(crate) fn bad_site(alloc: Global, fault: &SitesFault) -> Result<Answer, AllocError>
         ensures { IfOk result (λ a. answer_of a ≡ refused (codes "BadSite " ++ sites_fault_name fault.now)) }
     {
         let name = sites_fault_name(fault);
         let what = format!(in alloc; "BadSite {name}")?;
-        Answer::refused(alloc, what.as_str())
+        Answer::refusal(alloc, what.as_str())
     }
 
     /// The refusal of a document.
@@ -70,7 +112,7 @@ impl Answer {
             fault.event,
             fault.field.name(),
         )?;
-        Answer::refused(alloc, what.as_str())
+        Answer::refusal(alloc, what.as_str())
     }
 
     /// The refusal of a document with an eventID that another event has.
@@ -78,7 +120,7 @@ impl Answer {
         ensures { IfOk result (λ a. answer_of a ≡ refused (codes "IdTaken event " ++ decimal event)) }
     {
         let what = format!(in alloc; "IdTaken event {event}")?;
-        Answer::refused(alloc, what.as_str())
+        Answer::refusal(alloc, what.as_str())
     }
 
     /// What became of a document's events.
@@ -86,10 +128,7 @@ impl Answer {
         ensures { IfOk result (λ a. answer_of a ≡ done (captured_text added.fresh added.known skipped)) }
     {
         let Added { fresh, known } = added;
-        Ok(Answer {
-            text: format!(in alloc; "captured {fresh} known {known} skipped {skipped}\n")?,
-            refused: false,
-        })
+        Ok(Answer::Done(format!(in alloc; "captured {fresh} known {known} skipped {skipped}\n")?))
     }
 
     /// Each pair, and how many they are.
@@ -101,10 +140,7 @@ impl Answer {
             push_pair(alloc, &mut text, sites, pair)?;
         }
         push_count(alloc, &mut text, pairs.len())?;
-        Ok(Answer {
-            text,
-            refused: false,
-        })
+        Ok(Answer::Done(text))
     }
 }
 
@@ -134,40 +170,4 @@ fn push_pair(alloc: Global, text: &mut String, sites: &Sites, pair: &Pair) -> Re
     let key = pair.item.key(alloc)?;
     let line = format!(in alloc; "pair {name} {key}\n")?;
     text.push_str(line.as_str())
-}
-
-/// The name of a fault of a `site` line.
-fn sites_fault_name(fault: &SitesFault) -> &'static str
-    ensures { result.now ≡ sites_fault_name fault.now }
-{
-    match fault {
-        SitesFault::NoMemory => "NoMemory",
-        SitesFault::BadName => "BadName",
-        SitesFault::NameTaken => "NameTaken",
-        SitesFault::TooMany => "TooMany",
-        SitesFault::BadAddress => "BadAddress",
-        SitesFault::AddressTaken => "AddressTaken",
-    }
-}
-
-/// The name of a kind of document fault.
-fn kind_name(kind: DocFaultKind) -> &'static str
-    ensures { result.now ≡ kind_name kind }
-{
-    match kind {
-        DocFaultKind::Syntax => "Syntax",
-        DocFaultKind::NotDocument => "NotDocument",
-        DocFaultKind::TooManyEvents => "TooManyEvents",
-        DocFaultKind::NoType => "NoType",
-        DocFaultKind::Missing => "Missing",
-        DocFaultKind::WrongShape => "WrongShape",
-        DocFaultKind::Time => "Time",
-        DocFaultKind::Offset => "Offset",
-        DocFaultKind::Action => "Action",
-        DocFaultKind::BadEpc => "BadEpc",
-        DocFaultKind::TooManyEpcs => "TooManyEpcs",
-        DocFaultKind::Quantities => "Quantities",
-        DocFaultKind::ErrorDeclared => "ErrorDeclared",
-        DocFaultKind::HalfTransformation => "HalfTransformation",
-    }
 }

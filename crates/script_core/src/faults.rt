@@ -1,17 +1,17 @@
 use std::alloc::AllocError;
 use thiserror::Error;
 
-/// Why a script ended before its end. The answers to the whole lines before were written; at
-/// [`ScriptFault::Write`] a beginning of the answers' text was.
+/// Why a script ended before its end. [`run_script`](crate::run_script) says what each leaves.
 #[derive(Clone, Copy, Debug, PartialEq, Eq, Error)]
 pub enum ScriptFault {
-    /// Memory ran out.
+    /// Memory ran out: at the start, while a line of over 8,192 bytes was held, or at a line whose
+    /// answer or effect takes memory.
     #[error("NoMemory")]
     NoMemory,
-    /// The reader failed.
+    /// The reader failed. An interrupted read is made again.
     #[error("Read")]
     Read,
-    /// The writer failed.
+    /// The writer failed, or took no byte or was interrupted 1,024 times in a row.
     #[error("Write")]
     Write,
     /// A line has more than 16,777,216 bytes before its LF.

@@ -1,5 +1,6 @@
 ghost use Rattle.std.specs.Prelude.{◌≡◌, IfOk, map};
-ghost use Rattle.script_core.specs.Fields.{past_spaces, first_field, after_field, fields};
+ghost use Rattle.script_core.specs.Fields.{fields};
+ghost use Rattle.script_core.specs.Steps.{past_spaces, first_field, after_field};
 
 use std::alloc::{AllocError, Global};
 

@@ -1,13 +1,23 @@
 //! Laws of a script's answers. Each is a function with an empty body whose contract is the law.
 
-ghost use Rattle.script_core.specs.Laws.{LinesHaveOneAnswer, ScriptsHaveOneAnswer};
+ghost use Rattle.script_core.specs.Laws.{LinesHaveAnAnswer, LinesHaveOneAnswer, ScriptsHaveAnswers, ScriptsHaveOneAnswer};
 
-/// After the lines before it, a line has one answer.
+/// After the lines before it, whatever they are, a line has an answer.
+pub fn lines_have_an_answer()
+    ensures { LinesHaveAnAnswer }
+{}
+
+/// It has no other answer.
 pub fn lines_have_one_answer()
     ensures { LinesHaveOneAnswer }
 {}
 
-/// A script has one list of answers, so what [`run_script`](crate::run_script) writes at `Ok` is a
+/// A script has a list of answers, one to each of its lines.
+pub fn scripts_have_answers()
+    ensures { ScriptsHaveAnswers }
+{}
+
+/// It has no other list of answers, so what [`run_script`](crate::run_script) writes at `Ok` is a
 /// function of the whole script.
 pub fn scripts_have_one_answer()
     ensures { ScriptsHaveOneAnswer }

@@ -6,11 +6,18 @@
 mod answers;
 mod faults;
 mod fields;
+mod gathering;
+mod held_lines;
+mod items;
 pub mod laws;
 mod lines;
+mod names;
+mod outcomes;
+mod running;
 mod runs;
 mod scripts;
 mod sessions;
+mod streams;
 mod tallies;
 #[cfg(test)]
 mod tests;

@@ -1,102 +1,101 @@
+//! Reading what a line asks for. It takes no memory: the parts of a line are lent.
+
 ghost use Rattle.std.specs.Prelude.{◌≡◌, true, false, MatchOption};
 ghost use Rattle.std.specs.Str.{is_utf8};
 ghost use Rattle.script_core.specs.Comments.{is_comment};
+ghost use Rattle.script_core.specs.Fields.{fields};
+ghost use Rattle.script_core.specs.Steps.{past_spaces, first_field, after_field};
 
-use crate::fields::{fields, past_spaces, split_field};
-use std::alloc::{AllocError, Global};
+use crate::fields::{past_spaces, split_field};
+
+/// What a line asks of the world.
+#[derive(Clone, Copy, Debug)]
+pub(crate) enum Task<'a> {
+    /// A document is captured at a site.
+    Capture { name: &'a str, document: &'a str },
+    /// The pairs that an item at a site reaches.
+    Reach { name: &'a str, item: &'a str },
+}
 
 /// What a line asks for.
-#[derive(Debug, Drop)]
+#[derive(Clone, Copy, Debug)]
 pub(crate) enum Line<'a> {
     /// Nothing: an empty line, a line of spaces, or a comment.
     Silent,
     /// None of the others.
     Unreadable,
-    /// A site and its addresses.
-    Site {
-        name: &'a str,
-        addresses: Vec<&'a str>,
-    },
-    /// A document to be captured at a site.
-    Capture {
-        name: &'a str,
-        document: &'a str,
-    },
-    /// The pairs that an item at a site reaches.
-    Reach {
-        name: &'a str,
-        item: &'a str,
-    },
+    /// A site is added. Its addresses are the fields of the rest of the line.
+    Site { name: &'a str, addresses: &'a str },
+    /// Something of the world.
+    Task(Task<'a>),
 }
 
 impl<'a> Line<'a> {
-    ghost use Rattle.std.specs.Prelude.{◌≡◌, IfOk, map};
-    ghost use Rattle.script_core.specs.Fields.{past_spaces, first_field, after_field, fields};
-    ghost use Rattle.script_core.specs.Requests.{request, request_of, request_of_fields, capture_request, site_request, reach_request};
+    ghost use Rattle.std.specs.Prelude.{◌≡◌};
+    ghost use Rattle.script_core.specs.Requests.{Asks};
+    ghost use Rattle.script_core.specs.Steps.{past_spaces, first_field, after_field, found, capture_found, site_found, reach_found, request};
 
     /// Reads a line, without its line ending.
-    #[tactic(auto, unfolding(crate::specs::Requests::request_of))]
-    pub(crate) fn read(alloc: Global, line: &'a [u8]) -> Result<Line<'a>, AllocError>
-        ensures { IfOk result (λ l. request l ≡ request_of line.now) }
+    pub(crate) fn read(line: &'a [u8]) -> Line<'a>
+        ensures { Asks line.now (request result) }
     {
         if is_comment(line) {
-            return Ok(Line::Silent);
+            return Line::Silent;
         }
         let Some(text) = text_of(line) else {
-            return Ok(Line::Unreadable);
+            return Line::Unreadable;
         };
         let (word, rest) = split_field(text);
-        Line::of_fields(alloc, word, rest)
+        Line::of_fields(word, rest)
     }
 
-    #[tactic(auto, unfolding(crate::specs::Requests::request_of_fields))]
-    fn of_fields(alloc: Global, word: &str, rest: &'a str) -> Result<Line<'a>, AllocError>
-        ensures { IfOk result (λ l. request l ≡ request_of_fields word.now rest.now) }
+    #[tactic(auto, unfolding(crate::specs::Steps::found))]
+    fn of_fields(word: &str, rest: &'a str) -> Line<'a>
+        ensures { request result ≡ found word.now rest.now }
     {
         if word.is_empty() {
-            Ok(Line::Silent)
+            Line::Silent
         } else if word == "capture" {
-            Ok(Line::of_capture(rest))
+            Line::of_capture(rest)
         } else if word == "site" {
-            Ok(Line::of_site(fields(alloc, rest)?))
+            Line::of_site(rest)
         } else if word == "reach" {
-            Ok(Line::of_reach(fields(alloc, rest)?))
+            Line::of_reach(rest)
         } else {
-            Ok(Line::Unreadable)
+            Line::Unreadable
         }
     }
 
     fn of_capture(rest: &'a str) -> Line<'a>
-        ensures { request result ≡ capture_request (first_field rest.now) (past_spaces (after_field rest.now)) }
+        ensures { request result ≡ capture_found (first_field rest.now) (past_spaces (after_field rest.now)) }
     {
         let (name, rest) = split_field(rest);
         let document = past_spaces(rest);
         if name.is_empty() || document.is_empty() {
             return Line::Unreadable;
         }
-        Line::Capture { name, document }
+        Line::Task(Task::Capture { name, document })
     }
 
-    fn of_site(mut fields: Vec<&'a str>) -> Line<'a>
-        ensures { request result ≡ site_request (map (λ f. f.now) fields.entry.items) }
+    fn of_site(rest: &'a str) -> Line<'a>
+        ensures { request result ≡ site_found (first_field rest.now) (after_field rest.now) }
     {
-        if fields.is_empty() {
+        let (name, addresses) = split_field(rest);
+        if name.is_empty() {
             return Line::Unreadable;
         }
-        let name = fields.remove(0);
-        Line::Site {
-            name,
-            addresses: fields,
-        }
+        Line::Site { name, addresses }
     }
 
-    fn of_reach(fields: Vec<&'a str>) -> Line<'a>
-        ensures { request result ≡ reach_request (map (λ f. f.now) fields.entry.items) }
+    fn of_reach(rest: &'a str) -> Line<'a>
+        ensures { request result ≡ reach_found (first_field rest.now) (first_field (after_field rest.now)) (past_spaces (after_field (after_field rest.now))) }
     {
-        match fields.as_slice() {
-            [name, item] => Line::Reach { name, item },
-            _ => Line::Unreadable,
+        let (name, rest) = split_field(rest);
+        let (item, rest) = split_field(rest);
+        if item.is_empty() || !past_spaces(rest).is_empty() {
+            return Line::Unreadable;
         }
+        Line::Task(Task::Reach { name, item })
     }
 }
 

@@ -1,12 +1,14 @@
 ghost use Rattle.std.specs.Prelude.{◌≡◌, ◌<◌, ◌≤◌, take, length, IfOk, IfErr, IfSome, MatchOption};
 ghost use Rattle.std.specs.Io.KnownBytes.{Keeps, Consumes, IsAtEnd};
 ghost use Rattle.script_core.specs.Runs.{IsDone, Leaves};
+ghost use Rattle.script_core.specs.Session.{IsNew};
 
 use crate::faults::ScriptFault;
 use crate::sessions::Session;
+use crate::streams::fault_of_kind;
 use crate::tallies::Tally;
 use std::alloc::Global;
-use std::io::{ErrorKind, Read, Write};
+use std::io::{Read, Write};
 
 /// How often a reader is asked for a piece of a script.
 const MOST_READS: u64 = 16_777_216;
@@ -18,13 +20,18 @@ const PIECE: usize = 8_192;
 /// done. The tally counts its lines and the refusals that were printed.
 ///
 /// A script is lines ended by LF or CR LF; the last may lack it. A line has at most 16,777,216
-/// bytes before its LF, and the reader is asked at most 16,777,216 times, interrupted reads among
-/// them.
+/// bytes before its LF. The reader is asked at most 16,777,216 times, interrupted reads among them,
+/// and the writer at most 1,024 times in a row without taking a byte.
 ///
-/// What a fault leaves: [`ScriptFault::Read`] and [`ScriptFault::TurnsSpent`] the answers to all whole
-/// lines that were read, [`ScriptFault::LineTooLong`] those to all lines before the first that is too
-/// long, [`ScriptFault::NoMemory`] those to whole lines at the front, and [`ScriptFault::Write`] a
-/// beginning of the answers' text.
+/// # Errors
+/// - [`ScriptFault::Read`] and [`ScriptFault::TurnsSpent`] leave the answers to all whole lines that
+///   were read.
+/// - [`ScriptFault::LineTooLong`] leaves those to all lines before the first that is too long.
+/// - [`ScriptFault::NoMemory`] comes before anything is read, or at a line that has more than 8,192
+///   bytes or takes memory, and leaves the answers to all lines before it. No memory is taken by a
+///   line without an answer but `site`, and by one that is refused with BadLine, Late, NoWorld or
+///   BadEpc.
+/// - [`ScriptFault::Write`] leaves a beginning of the answers' text.
 pub fn run_script<R: Read, W: Write>(
     alloc: Global,
     reader: &mut R,
@@ -38,23 +45,25 @@ pub fn run_script<R: Read, W: Write>(
         Leaves fault input (R.remaining reader.new) (W.contents writer.old) (W.contents writer.new))) }
 {
     let mut buffer = vec![in alloc; 0u8; PIECE]?;
-    run_pieces(alloc, reader, writer, buffer.as_mut_slice())
+    let session = Session::new(alloc)?;
+    run_pieces(alloc, session, reader, writer, buffer.as_mut_slice())
 }
 
 /// Runs a script in pieces of at most the buffer's length.
 fn run_pieces<R: Read, W: Write>(
     alloc: Global,
+    mut session: Session,
     reader: &mut R,
     writer: &mut W,
     buffer: &mut [u8],
 ) -> Result<Tally, ScriptFault>
-    requires { length buffer.old ≡ PIECE }
+    requires piece { length buffer.old ≡ PIECE }
+    requires new { IsNew session }
     ensures done { IfOk result (λ tally. IfSome (R.remaining reader.old) (λ input.
         IsDone input (W.contents writer.old) (W.contents writer.new) tally)) }
     ensures fault { IfErr result (λ fault. IfSome (R.remaining reader.old) (λ input.
         Leaves fault input (R.remaining reader.new) (W.contents writer.old) (W.contents writer.new))) }
 {
-    let mut session = Session::new(alloc);
     for _ in 0..MOST_READS {
         match read_once(reader, buffer)? {
             None => {}
@@ -77,11 +86,8 @@ fn read_once<R: Read>(reader: &mut R, buffer: &mut [u8]) -> Result<Option<usize>
     match reader.read(buffer) {
         Ok(count) => Ok(Some(count)),
         Err(error) => {
-            if error.kind() == ErrorKind::Interrupted {
-                Ok(None)
-            } else {
-                Err(ScriptFault::Read)
-            }
+            fault_of_kind(error.kind(), ScriptFault::Read)?;
+            Ok(None)
         }
     }
 }

@@ -1,16 +1,14 @@
-ghost use Rattle.std.specs.Prelude.{◌≡◌, ℕ, ◌+◌, ◌^◌, ◌<◌, ◌≤◌, List, [], ◌∷◌, ◌++◌, Option, length, take, OnOk, IfOk, IfErr, vec_len, IfNone, IfSome};
+ghost use Rattle.std.specs.Prelude.{◌≡◌, ℕ, ◌+◌, ◌^◌, ◌<◌, ◌≤◌, List, [], ◌∷◌, ◌++◌, Option, length, take, OnOk, IfOk, IfErr, IfNone, IfSome};
 ghost use Rattle.std.specs.Str.Lines.{strip_carriage_return};
 ghost use Rattle.script_core.specs.Lines.{IsWithinLine, EndsAt, longest_line};
 
 use crate::faults::ScriptFault;
+use crate::held_lines::HeldLine;
 use crate::scripts::Script;
 use crate::tallies::Tally;
 use crate::writing::write_text;
-use std::alloc::Global;
+use std::alloc::{AllocError, Global};
 use std::io::Write;
-
-/// The most bytes of a line before its LF.
-pub(crate) const LONGEST_LINE: usize = 16_777_216;
 
 /// A script that is being read: what its lines so far left, and the beginning of the next line.
 #[derive(Debug, Drop)]
@@ -18,26 +16,24 @@ pub(crate) struct Session {
     pub(crate) script: Script,
     pub(crate) lines: u64,
     pub(crate) refused: u64,
-    pub(crate) pending: Vec<u8>,
+    pub(crate) pending: HeldLine,
 }
 
 impl Session {
-    ghost use Rattle.script_core.specs.State.{empty};
-    ghost use Rattle.script_core.specs.Session.{AnswersOne, FailsInOne, FailsToGrow, GoesOn, EndsEarly, Finishes, EndsInLast};
+    ghost use Rattle.script_core.specs.Holding.{FailsToGrow};
+    ghost use Rattle.script_core.specs.Kept.{state_of};
+    ghost use Rattle.script_core.specs.Session.{IsNew, AnswersOne, FailsInOne, GoesOn, EndsEarly, Finishes, EndsInLast};
 
     /// A session of which nothing was read.
-    pub(crate) fn new(alloc: Global) -> Session
-        ensures script { result.script ≡ empty }
-        ensures lines { result.lines ≡ 0 }
-        ensures refused { result.refused ≡ 0 }
-        ensures pending { result.pending.items ≡ [] }
+    pub(crate) fn new(alloc: Global) -> Result<Session, AllocError>
+        ensures { IfOk result IsNew }
     {
-        Session {
+        Ok(Session {
             script: Script::new(alloc),
             lines: 0,
             refused: 0,
-            pending: Vec::new(alloc),
-        }
+            pending: HeldLine::new(alloc)?,
+        })
     }
 
     /// Takes the next piece of the script, and writes the answer to each line that is whole now.
@@ -103,11 +99,11 @@ impl Session {
         ensures ok { IfOk result (λ tally. Finishes self tally (W.contents writer.old) (W.contents writer.new)) }
         ensures err { IfErr result (λ e. EndsInLast self e (W.contents writer.old) (W.contents writer.new)) }
     {
-        let length = self.pending.len();
-        if length == 0 {
+        let end = self.pending.len();
+        if end == 0 {
             return Ok(self.tally());
         }
-        self.answer(alloc, length, writer)?;
+        self.answer(alloc, end, writer)?;
         Ok(self.tally())
     }
 
@@ -126,40 +122,40 @@ impl Session {
     fn end_line<W: Write>(&mut self, alloc: Global, writer: &mut W) -> Result<(), ScriptFault>
         requires lines { self.old.lines < 2 ^ 63 }
         requires refused { self.old.refused ≤ self.old.lines }
-        ensures ok { OnOk result (AnswersOne self.old (strip_carriage_return self.old.pending.items) self.new
+        ensures ok { OnOk result (AnswersOne self.old (strip_carriage_return self.old.pending) self.new
             (W.contents writer.old) (W.contents writer.new)) }
-        ensures err { IfErr result (λ e. FailsInOne self.old (strip_carriage_return self.old.pending.items) e
+        ensures err { IfErr result (λ e. FailsInOne self.old (strip_carriage_return self.old.pending) e
             (W.contents writer.old) (W.contents writer.new)) }
         ensures lines { self.new.lines ≤ self.old.lines + 1 }
         ensures refused { self.new.refused ≤ self.new.lines }
     {
-        let length = content_len(self.pending.as_slice());
-        self.answer(alloc, length, writer)
+        let end = content_len(self.pending.as_slice());
+        self.answer(alloc, end, writer)
     }
 
     /// Takes a front of the pending bytes as a line, writes its answer, and begins the next line.
     fn answer<W: Write>(
         &mut self,
         alloc: Global,
-        length: usize,
+        end: usize,
         writer: &mut W,
     ) -> Result<(), ScriptFault>
-        requires within { length ≤ vec_len self.old.pending }
+        requires within { end ≤ length self.old.pending }
         requires lines { self.old.lines < 2 ^ 63 }
         requires refused { self.old.refused ≤ self.old.lines }
-        ensures ok { OnOk result (AnswersOne self.old (take length self.old.pending.items) self.new
+        ensures ok { OnOk result (AnswersOne self.old (take end self.old.pending) self.new
             (W.contents writer.old) (W.contents writer.new)) }
-        ensures err { IfErr result (λ e. FailsInOne self.old (take length self.old.pending.items) e
+        ensures err { IfErr result (λ e. FailsInOne self.old (take end self.old.pending) e
             (W.contents writer.old) (W.contents writer.new)) }
         ensures lines { self.new.lines ≤ self.old.lines + 1 }
         ensures refused { self.new.refused ≤ self.new.lines }
     {
-        let line = &self.pending[..length];
+        let line = &self.pending.as_slice()[..end];
         let answer = self.script.take_line(alloc, line)?;
-        write_text(writer, answer.text.as_bytes())?;
+        write_text(writer, answer.text().as_bytes())?;
         self.pending.clear();
         self.lines += 1;
-        if answer.refused {
+        if answer.is_refusal() {
             self.refused += 1;
         }
         Ok(())
@@ -167,17 +163,13 @@ impl Session {
 
     /// Puts bytes without a LF behind the pending ones.
     fn grow(&mut self, bytes: &[u8]) -> Result<(), ScriptFault>
-        ensures ok { OnOk result ((length self.new.pending.items ≤ longest_line) × (self.new.pending.items ≡ self.old.pending.items ++ bytes.now)) }
-        ensures err { IfErr result (λ e. FailsToGrow self.old bytes.now e) }
+        ensures ok { OnOk result ((length self.new.pending ≤ longest_line) × (self.new.pending ≡ self.old.pending ++ bytes.now)) }
+        ensures err { IfErr result (λ e. FailsToGrow self.old.pending bytes.now e) }
         ensures script { self.new.script ≡ self.old.script }
         ensures lines { self.new.lines ≡ self.old.lines }
         ensures refused { self.new.refused ≡ self.old.refused }
     {
-        if self.pending.len().saturating_add(bytes.len()) > LONGEST_LINE {
-            return Err(ScriptFault::LineTooLong);
-        }
-        self.pending.extend_from_slice(bytes)?;
-        Ok(())
+        self.pending.grow(bytes)
     }
 }
 

@@ -1,7 +1,6 @@
 //! Readers and writers that fail, and limits.
 
-use crate::{ScriptFault, run_script};
-use std::alloc::{AllocError, Global};
+use crate::{ScriptFault, Tally, run_script};
 use std::io::{self, Error, ErrorKind, Read, Write};
 use std::test::Fail;
 
@@ -12,6 +11,12 @@ const FIRST: &str = "pair A uri x\npairs 1\n";
 const SECOND: &str = "pair A uri x\npairs 1\nrefused BadLine\n";
 
 const ALL: &str = "pair A uri x\npairs 1\nrefused BadLine\npair B uri y\npairs 1\n";
+
+/// What a script is answered that was read to its end.
+const DONE: Result<Tally, ScriptFault> = Ok(Tally {
+    lines: 5,
+    refused: 1,
+});
 
 /// Gives the bytes of a text in pieces of one size, and fails at one of its reads.
 #[derive(Drop)]
@@ -36,66 +41,69 @@ impl Read for Pieces<'_> {
     }
 }
 
+/// Whether the script ends so and leaves these answers, where it comes in such pieces and the read
+/// after so many fails.
+fn ends_in_pieces(
+    rt: &HostRuntime,
+    size: usize,
+    reads: u64,
+    outcome: Result<Tally, ScriptFault>,
+    answers: &str,
+) -> bool {
+    let mut written = Vec::new(rt.alloc());
+    let mut reader = Pieces {
+        rest: SCRIPT.as_bytes(),
+        size,
+        reads_left: reads,
+    };
+    run_script(rt.alloc(), &mut reader, &mut written) == outcome
+        && written.as_slice() == answers.as_bytes()
+}
+
 #[test]
 fn a_script_may_come_in_any_pieces(rt: HostRuntime) -> Result<(), Fail> {
-    let alloc = rt.alloc();
     for size in 1..47 {
-        let mut written = Vec::new(alloc);
-        let mut reader = Pieces {
-            rest: SCRIPT.as_bytes(),
-            size,
-            reads_left: 100,
-        };
-        let tally = run_script(alloc, &mut reader, &mut written)?;
-        assert_eq!(rt; tally.lines, 5);
-        assert_eq!(rt; written.as_slice(), ALL.as_bytes());
+        assert!(rt; ends_in_pieces(&rt, size, 100, DONE, ALL));
     }
     Ok(())
 }
 
 #[test]
 fn a_failing_reader_leaves_the_answers_of_whole_lines(rt: HostRuntime) -> Result<(), Fail> {
-    let alloc = rt.alloc();
     for reads in 0..45 {
-        let mut written = Vec::new(alloc);
-        let mut reader = Pieces {
-            rest: SCRIPT.as_bytes(),
-            size: 1,
-            reads_left: reads,
+        let answers = match reads {
+            0..28 => "",
+            28..34 => FIRST,
+            34..44 => SECOND,
+            _ => ALL,
         };
-        let outcome = run_script(alloc, &mut reader, &mut written);
-        assert!(rt; outcome == Err(ScriptFault::Read));
-        let expected = if reads < 28 {
-            ""
-        } else if reads < 34 {
-            FIRST
-        } else if reads < 44 {
-            SECOND
-        } else {
-            ALL
-        };
-        assert_eq!(rt; written.as_slice(), expected.as_bytes());
+        assert!(rt; ends_in_pieces(&rt, 1, reads, Err(ScriptFault::Read), answers));
     }
     Ok(())
 }
 
-/// Takes so many bytes, and then fails.
+/// Takes so many bytes, one at a write, and then does as it is told.
 #[derive(Drop)]
 struct Full {
     written: Vec<u8>,
     room: usize,
+    then: Option<ErrorKind>,
+    asked: u64,
 }
 
 impl Write for Full {
     fn write(&mut self, bytes: &[u8]) -> io::Result<usize> {
         if self.room == 0 {
-            return Err(Error::from(ErrorKind::Other));
+            self.asked = self.asked.wrapping_add(1);
+            return match self.then {
+                Some(kind) => Err(Error::from(kind)),
+                None => Ok(0),
+            };
         }
-        let count = self.room.min(bytes.len());
-        let (front, _) = bytes.split_at(count);
+        let (front, _) = bytes.split_at(bytes.len().min(1));
         self.written.extend_from_slice(front)?;
-        self.room -= count;
-        Ok(count)
+        self.room -= front.len();
+        Ok(front.len())
     }
 
     fn flush(&mut self) -> io::Result<()> {
@@ -103,20 +111,43 @@ impl Write for Full {
     }
 }
 
+/// Whether the script ends so where the writer has such room, and leaves as much of its answers; and
+/// how often the writer was asked after that is `asked`.
+fn ends_in_room(
+    rt: &HostRuntime,
+    room: usize,
+    then: Option<ErrorKind>,
+    outcome: Result<Tally, ScriptFault>,
+    asked: u64,
+) -> bool {
+    let mut writer = Full {
+        written: Vec::new(rt.alloc()),
+        room,
+        then,
+        asked: 0,
+    };
+    let mut reader = SCRIPT.as_bytes();
+    let (front, _) = ALL.as_bytes().split_at(room.min(ALL.len()));
+    run_script(rt.alloc(), &mut reader, &mut writer) == outcome
+        && writer.written.as_slice() == front
+        && writer.asked == asked
+}
+
 #[test]
 fn a_failing_writer_keeps_a_beginning_of_the_answers(rt: HostRuntime) -> Result<(), Fail> {
-    let alloc = rt.alloc();
     for room in 0..58 {
-        let mut writer = Full {
-            written: Vec::new(alloc),
-            room,
-        };
-        let mut reader = SCRIPT.as_bytes();
-        let outcome = run_script(alloc, &mut reader, &mut writer);
-        let (front, _) = ALL.as_bytes().split_at(room.min(ALL.len()));
-        assert_eq!(rt; writer.written.as_slice(), front);
-        assert!(rt; (outcome == Err(ScriptFault::Write)) == (room < ALL.len()));
+        let outcome = Err(ScriptFault::Write);
+        assert!(rt; ends_in_room(&rt, room, Some(ErrorKind::Other), outcome, 1));
     }
+    assert!(rt; ends_in_room(&rt, 58, Some(ErrorKind::Other), DONE, 0));
+    Ok(())
+}
+
+#[test]
+fn a_writer_that_takes_nothing_is_asked_1024_times(rt: HostRuntime) -> Result<(), Fail> {
+    let outcome = Err(ScriptFault::Write);
+    assert!(rt; ends_in_room(&rt, 20, None, outcome, 1_024));
+    assert!(rt; ends_in_room(&rt, 20, Some(ErrorKind::Interrupted), outcome, 1_024));
     Ok(())
 }
 
@@ -145,38 +176,43 @@ impl Read for Spaces {
     }
 }
 
+/// What a script is answered that is one line of so many spaces.
+fn run_spaces(rt: &HostRuntime, left: usize) -> Result<Tally, ScriptFault> {
+    let mut written = Vec::new(rt.alloc());
+    let mut reader = Spaces { left, ended: false };
+    run_script(rt.alloc(), &mut reader, &mut written)
+}
+
 #[test]
 fn a_line_has_a_limit(rt: HostRuntime) -> Result<(), Fail> {
-    let alloc = rt.alloc();
-    let mut written = Vec::new(alloc);
-    let mut longest = Spaces {
-        left: 16_777_216,
-        ended: false,
+    let one = Tally {
+        lines: 1,
+        refused: 0,
     };
-    let tally = run_script(alloc, &mut longest, &mut written)?;
-    assert_eq!(rt; tally.lines, 1);
-    let mut longer = Spaces {
-        left: 16_777_217,
-        ended: false,
-    };
-    let outcome = run_script(alloc, &mut longer, &mut written);
-    assert!(rt; outcome == Err(ScriptFault::LineTooLong));
-    assert!(rt; written.is_empty());
+    assert!(rt; run_spaces(&rt, 16_777_216) == Ok(one));
+    assert!(rt; run_spaces(&rt, 16_777_217) == Err(ScriptFault::LineTooLong));
     Ok(())
 }
 
-/// Interrupts each other read, or all of them, and gives one byte at a time.
+/// Interrupts each other call, or all of them, and gives or takes one byte at a time.
 #[derive(Drop)]
 struct Interrupted<'a> {
     rest: &'a [u8],
     always: bool,
     asked: u64,
+    written: Vec<u8>,
+}
+
+impl Interrupted<'_> {
+    fn interrupts(&mut self) -> bool {
+        self.asked = self.asked.wrapping_add(1);
+        self.always || self.asked % 2 == 1
+    }
 }
 
 impl Read for Interrupted<'_> {
     fn read(&mut self, buffer: &mut [u8]) -> io::Result<usize> {
-        self.asked = self.asked.wrapping_add(1);
-        if self.always || self.asked % 2 == 1 {
+        if self.interrupts() {
             return Err(Error::from(ErrorKind::Interrupted));
         }
         let count = self.rest.len().min(buffer.len()).min(1);
@@ -188,17 +224,9 @@ impl Read for Interrupted<'_> {
     }
 }
 
-/// Interrupts each other write, and takes one byte at a time.
-#[derive(Drop)]
-struct Halting {
-    written: Vec<u8>,
-    asked: u64,
-}
-
-impl Write for Halting {
+impl Write for Interrupted<'_> {
     fn write(&mut self, bytes: &[u8]) -> io::Result<usize> {
-        self.asked = self.asked.wrapping_add(1);
-        if self.asked % 2 == 1 {
+        if self.interrupts() {
             return Err(Error::from(ErrorKind::Interrupted));
         }
         let (front, _) = bytes.split_at(bytes.len().min(1));
@@ -211,36 +239,31 @@ impl Write for Halting {
     }
 }
 
+fn halting(rt: &HostRuntime, always: bool) -> Interrupted<'static> {
+    Interrupted {
+        rest: SCRIPT.as_bytes(),
+        always,
+        asked: 0,
+        written: Vec::new(rt.alloc()),
+    }
+}
+
 #[test]
 fn interrupted_reads_and_writes_are_made_again(rt: HostRuntime) -> Result<(), Fail> {
-    let alloc = rt.alloc();
-    let mut reader = Interrupted {
-        rest: SCRIPT.as_bytes(),
-        always: false,
-        asked: 0,
-    };
-    let mut writer = Halting {
-        written: Vec::new(alloc),
-        asked: 0,
-    };
-    let tally = run_script(alloc, &mut reader, &mut writer)?;
-    assert_eq!(rt; tally.lines, 5);
-    assert_eq!(rt; tally.refused, 1);
-    assert_eq!(rt; writer.written.as_slice(), ALL.as_bytes());
+    let mut reader = halting(&rt, false);
+    let mut writer = halting(&rt, false);
+    assert!(rt; run_script(rt.alloc(), &mut reader, &mut writer) == DONE);
+    assert!(rt; writer.written.as_slice() == ALL.as_bytes());
     Ok(())
 }
 
 #[test]
 fn a_reader_is_asked_a_limited_number_of_times(rt: HostRuntime) -> Result<(), Fail> {
-    let mut reader = Interrupted {
-        rest: SCRIPT.as_bytes(),
-        always: true,
-        asked: 0,
-    };
+    let mut reader = halting(&rt, true);
     let mut written = Vec::new(rt.alloc());
     let outcome = run_script(rt.alloc(), &mut reader, &mut written);
     assert!(rt; outcome == Err(ScriptFault::TurnsSpent));
-    assert_eq!(rt; reader.asked, 16_777_216);
+    assert!(rt; reader.asked == 16_777_216);
     assert!(rt; written.is_empty());
     Ok(())
 }

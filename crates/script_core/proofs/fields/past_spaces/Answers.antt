@@ -2,7 +2,8 @@ use Rattle.std.proofs.Common.{◌≡◌, ◌≢◌, ℕ, ◌+◌, true, false, c
 use Rattle.std.specs.Borrow.{Bor}
 use Rattle.std.specs.List.{prefix_len}
 use Rattle.std.proofs.lemmas.Str.Pattern.{strip_prefix_char}
-use Rattle.script_core.specs.Fields.{is_space, past_spaces}
+use Rattle.script_core.specs.Fields.{is_space}
+use Rattle.script_core.specs.Steps.{past_spaces}
 use Rattle.script_core.proofs.fields.past_spaces.Goals as goal
 
 -- a text that begins with no space has nothing to skip

@@ -1,5 +1,5 @@
 use Rattle.std.proofs.Common.{◌≡◌, length, IsUtf8}
-use Rattle.script_core.specs.Fields.{past_spaces}
+use Rattle.script_core.specs.Steps.{past_spaces}
 use Rattle.script_core.proofs.fields.past_spaces.Given as goal
 
 -- only spaces are gone

@@ -24,9 +24,9 @@ at_end old new buffer read is said ended =
 pub loop-init : goal.loop-init
 loop-init g c =
     record {
-      read = has_read_none _ _ _ c.new-session.ensures.script c.new-session.ensures.lines c.new-session.ensures.refused c.new-session.ensures.pending;
-      lines = omega (arith, c.new-session.ensures.lines);
-      refused = omega (arith, c.new-session.ensures.lines, c.new-session.ensures.refused);
+      read = has_read_none _ _ _ c.requires.new;
+      lines = omega (arith, c.requires.new.lines);
+      refused = omega (arith, c.requires.new.lines, c.requires.new.refused);
     }
 
 pub returns-in_err-read_once-clause-fault : goal.returns-in_err-read_once-clause-fault

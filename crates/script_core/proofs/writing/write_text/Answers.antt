@@ -8,15 +8,15 @@ moves_front : (all done rest : List ℕ) (n : ℕ) → all ≡ done ++ rest → 
 moves_front all done rest n e =
     e ∙ ap (λ l. done ++ l) (sym (take-append-drop n rest)) ∙ sym (append_assoc done (take n rest) (drop n rest)) ∙ ap (λ l. (done ++ take n rest) ++ l) (sym (take_rest rest n))
 
-pub loop-preserved : goal.loop-preserved
-loop-preserved g c =
-    let (done, split, appended) = c.loop.invariant in
-    let rest = c.loop.rest.now in
+pub loop-rest-preserved : goal.loop-rest-preserved
+loop-rest-preserved g c =
+    let (done, split, appended) = c.loop-rest.invariant in
+    let rest = c.loop-rest.rest.now in
     let n = c.in_ok-count.count in
     (done ++ take n rest, moves_front _ done rest n split, Appends-trans _ _ _ _ _ appended c.in_ok-count.ensures.ok)
 
-pub returns-then-is_empty-clause-ok : goal.returns-then-is_empty-clause-ok
-returns-then-is_empty-clause-ok g c =
-    let (done, split, appended) = c.loop.invariant in
-    let empty : c.loop.rest.now ≡ [] = drop_of_length-le c.loop.rest.now {i = 0} (search rules) in
+pub returns-clause-ok : goal.returns-clause-ok
+returns-clause-ok g c =
+    let (done, split, appended) = c.loop-rest.invariant in
+    let empty : c.loop-rest.rest.now ≡ [] = drop_of_length-le c.loop-rest.rest.now {i = 0} (search rules) in
     subst (Appends _ _) (sym (split ∙ ap (λ l. done ++ l) empty ∙ append-nil done)) appended

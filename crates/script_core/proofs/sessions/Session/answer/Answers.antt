@@ -1,12 +1,12 @@
 use Rattle.std.proofs.Common.{rules}
 use Rattle.script_core.specs.Answer.{answer_of}
-use Rattle.script_core.proofs.sessions.Session.answer.Goals.{then-answer, else-answer}
+use Rattle.script_core.proofs.sessions.Session.answer.Goals.{then-is_refusal, else-is_refusal}
 use Rattle.script_core.proofs.sessions.Session.answer.Goals as goal
 
 pub returns-clause-ok : goal.returns-clause-ok
 returns-clause-ok g c =
-    elim c.if-answer.branch [
-      | then-answer w ↦ rw w.self-is (record {
+    elim c.if-is_refusal.branch [
+      | then-is_refusal w ↦ rw w.self-is (record {
         answer = answer_of c.in_ok-answer.answer;
         takes = search rules;
         pending = search rules;
@@ -14,7 +14,7 @@ returns-clause-ok g c =
         refused = search rules;
         written = search rules;
       })
-      | else-answer w ↦ rw w.self-is (record {
+      | else-is_refusal w ↦ rw w.self-is (record {
         answer = answer_of c.in_ok-answer.answer;
         takes = search rules;
         pending = search rules;
