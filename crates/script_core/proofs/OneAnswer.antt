@@ -12,7 +12,7 @@ use Rattle.script_core.specs.Words.{pairs_text}
 use Rattle.script_core.specs.Requests.{Task, capture, reach, Request}
 use Rattle.script_core.specs.Requests as requests
 use Rattle.script_core.specs.Script.{IsReachText, ReachRead, ReachAt, Does, Passes, TakesRequest, Takes}
-use Rattle.script_core.proofs.Ascending.{one_ascending}
+use Rattle.trace_core.proofs.PairOrder.{one_ascending}
 use Rattle.script_core.proofs.FormLemmas.{asks_one, asks_some}
 use Rattle.script_core.proofs.ReachLists.{reach_list}
 use Rattle.script_core.specs.Runs.{Runs}

@@ -6,7 +6,6 @@ pub mod Kept
 pub mod Laws
 pub mod Lines
 pub mod Memory
-pub mod Names
 pub mod Outcomes
 pub mod Requests
 pub mod Runs

@@ -17,7 +17,7 @@ use Rattle.trace_core.specs.Sites.{SiteEvents}
 use Rattle.trace_core.specs.declared.pairs.Pair.{Pair}
 use Rattle.script_core.specs.State.{State, gathering, running, World, begun}
 use Rattle.script_core.specs.Answer.{Said, silent, refused, done}
-use Rattle.script_core.specs.Names.{sites_fault_name}
+use Rattle.event_json.specs.Names.{sites_fault_name}
 use Rattle.script_core.specs.Words.{doc_fault_text, captured_text, pairs_text}
 use Rattle.script_core.specs.Requests.{Request, Task, capture, reach, Asks}
 use Rattle.script_core.specs.Requests as requests

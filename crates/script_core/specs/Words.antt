@@ -4,7 +4,7 @@ use Rattle.std.specs.Fmt.{decimal}
 use Rattle.std.specs.List.{flat_map}
 use Rattle.event_json.specs.Names.{field_name}
 use Rattle.event_json.specs.Sites.{Site}
-use Rattle.script_core.specs.Names.{kind_name}
+use Rattle.event_json.specs.Names.{kind_name}
 use Rattle.event_json.specs.declared.doc_faults.DocFault.{DocFault}
 use Rattle.trace_core.specs.declared.pairs.Pair.{Pair}
 

@@ -2,10 +2,9 @@
 
 ghost use Rattle.std.specs.Prelude.{◌≡◌, ◌++◌, ◌∷◌, codes, IfOk, OnOk, string_bytes};
 ghost use Rattle.std.specs.Fmt.{decimal};
-ghost use Rattle.script_core.specs.Names.{sites_fault_name};
+ghost use Rattle.event_json.specs.Names.{sites_fault_name};
 ghost use Rattle.script_core.specs.Words.{doc_fault_text, captured_text, pairs_text, pair_text, count_text};
 
-use crate::names::{kind_name, sites_fault_name};
 use event_json::{DocFault, Sites, SitesFault};
 use std::alloc::{AllocError, Global};
 use trace_core::{Added, Pair};
@@ -97,7 +96,7 @@ impl Answer {
     pub(crate) fn bad_site(alloc: Global, fault: &SitesFault) -> Result<Answer, AllocError>
         ensures { IfOk result (λ a. answer_of a ≡ refused (codes "BadSite " ++ sites_fault_name fault.now)) }
     {
-        let name = sites_fault_name(fault);
+        let name = fault.name();
         let what = format!(in alloc; "BadSite {name}")?;
         Answer::refusal(alloc, what.as_str())
     }
@@ -108,7 +107,7 @@ impl Answer {
     {
         let what = fault_text(
             alloc,
-            kind_name(fault.kind),
+            fault.kind.name(),
             fault.event,
             fault.field.name(),
         )?;

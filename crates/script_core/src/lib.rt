@@ -11,7 +11,6 @@ mod held_lines;
 mod items;
 pub mod laws;
 mod lines;
-mod names;
 mod outcomes;
 mod running;
 mod runs;
