@@ -14,13 +14,11 @@ use Rattle.epc_core.proofs.Plain.{plain_from as none_plain, plain_to as plain_no
 use Rattle.event_json.proofs.Plain.{plain_decides}
 use Rattle.event_json.specs.declared.doc_faults.DocField.{DocField}
 use Rattle.event_json.specs.declared.doc_faults.DocFaultKind.TheVariants.{BadEpc}
-use Rattle.event_json.specs.declared.doc_faults.Flaw.{Flaw}
 use Rattle.event_json.specs.Faults.{◌>>=◌}
 use Rattle.event_json.specs.ItemLists.{epc_of, epcs_of, limit_checked}
 use Rattle.event_json.specs.Checks.{without_declaration, without_quantities, head_of}
 use Rattle.event_json.specs.Documents.{numbered_event, doc_of, events_of}
 use Rattle.event_json.specs.EventReading.{made, transformation_event}
-use Rattle.event_json.specs.Events.{Content}
 use Rattle.event_json.specs.Sites.{Site}
 use Rattle.event_json.specs.declared.checks.Head.{Head}
 use Rattle.event_json.specs.declared.doc_faults.DocField.TheVariants as fields

@@ -1,6 +1,6 @@
 -- The laws of a document's reading.
 use Rattle.std.proofs.Common.{◌≡◌, ◌↔◌, ◌⊎◌, inl, inr, ℕ, zero, suc, ◌+◌, ◌<◌, ◌≤◌, Bool, true, false, cond, List, [], ◌∷◌, length, Option, Some, None, Result, Ok, Err, refl, sym, ap, ◌∙◌, subst, arith, zero-add}
-use Rattle.std.specs.Prelude.{filter, filter_map, is_none, is_some, slice_get, IsOk, nat_lt, ◌==◌, ⊤}
+use Rattle.std.specs.Prelude.{filter, filter_map, is_none, slice_get, IsOk, nat_lt, ◌==◌}
 use Rattle.std.proofs.lemmas.Option.{same_Some}
 use Rattle.std.proofs.lemmas.Bool.{ltb-false, ltb-true, ne_eqb}
 use Rattle.serde_json.specs.Data.{Data, Items, no_items, item}

@@ -1,5 +1,5 @@
 -- The test of a plain text says what it means.
-use Rattle.std.proofs.Common.{◌≡◌, ◌&&◌, ℕ, List, true}
+use Rattle.std.proofs.Common.{◌≡◌, ℕ, List, true}
 use Rattle.std.specs.Bool.{Decides}
 use Rattle.std.proofs.lemmas.Bool.{and_parts, and_from, leb-true, le-leb}
 use Rattle.epc_core.specs.Items.{is_plain}
