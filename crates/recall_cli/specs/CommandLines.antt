@@ -1,5 +1,5 @@
 -- What the words of a command line ask for, as `clap` reads them.
-use Rattle.std.specs.Prelude.{◌≡◌, ◌≢◌, ℕ, List, codes, map, string_bytes}
+use Rattle.std.specs.Prelude.{◌≡◌, ◌≢◌, ℕ, true, List, [], codes, map, string_bytes}
 use Rattle.std.specs.Global.{Global}
 use Rattle.std.specs.declared.string.String.{String}
 use Rattle.clap.specs.Words.{App, new_app, with_subcommand, Kinds, IsAmong, fault_of}
