@@ -13,6 +13,7 @@ mod ordered_keys;
 mod pairs;
 mod searches;
 mod spreads;
+mod trails;
 #[cfg(test)]
 mod tests;
 
@@ -20,3 +21,4 @@ pub use adding::{AddFault, Added, Standing};
 pub use captured::Captured;
 pub use chains::reach;
 pub use pairs::Pair;
+pub use trails::trail;
