@@ -60,7 +60,7 @@ new_step old new seen seen' from copy target pushed same missing upd len ordered
       from_place = All-cons (λ (s : Step). (s.from ≡ from) × Contains (target ∷ []) s.pair) step [] (refl, subst (Contains (target ∷ [])) (sym same) (contains_here target [])) (All-nil (λ (s : Step). (s.from ≡ from) × Contains (target ∷ []) s.pair));
       notes = notes_new pair_cmp pairs_exact seen seen' (pairs_of old) (pairs_of new) target copy upd len ordered pairs same;
       apart = λ members apart. subst HaveNoRepeats (sym pairs) (all_pairs_push (λ (p q : Pair). p ≢ q) (pairs_of old) copy apart
-      (λ k d below is. missing (members target (k, below, get_or_default (pairs_of old) k target d below ∙ is ∙ same))));
+          (λ k d below is. missing (members target (k, below, get_or_default (pairs_of old) k target d below ∙ is ∙ same))));
     }
 
 pub steps_then : (a b c : List Step) (p q r : BTreeSet Pair) (from : ℕ) (xs ys : List Pair) → NotesSteps a b p q from xs → NotesSteps b c q r from ys → NotesSteps a c p r from (xs ++ ys)

@@ -13,9 +13,9 @@ mod ordered_keys;
 mod pairs;
 mod searches;
 mod spreads;
-mod trails;
 #[cfg(test)]
 mod tests;
+mod trails;
 
 pub use adding::{AddFault, Added, Standing};
 pub use captured::Captured;
