@@ -15,3 +15,4 @@ pub mod SetMembers
 pub mod SiteFinding
 pub mod SpreadSteps
 pub mod Standings
+pub mod TrailSteps

@@ -44,3 +44,7 @@ one_ascending xs ys a b same =
     let of_s = btree_set_contains_iff pairs_total pairs_exact s q in
     let of_t = btree_set_contains_iff pairs_total pairs_exact t q in
     same_from_decides {P = Contains xs q} _ _ of_s (λ h. (same q).1 (of_t.0 h), λ m. of_t.1 ((same q).0 m))) pairs_exact
+
+-- the test of two pairs decides whether they are one
+pub same_pair_decides : (p q : Pair) → Decides (p.site == q.site && same_item p.item q.item) (p ≡ q)
+same_pair_decides p q = Decides-like _ (λ (sites, items). same_pair p q (sym sites, items)) (λ e. (ap (λ r. r.site) e, ap (λ r. r.item) e)) (Decides-and _ _ (Decides-eqb p.site q.site) (bytes_eq-Decides p.item q.item))

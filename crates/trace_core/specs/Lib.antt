@@ -9,3 +9,4 @@ pub mod Searches
 pub mod Sites
 pub mod Spreads
 pub mod Targets
+pub mod Trails

@@ -12,8 +12,9 @@ use std::alloc::{AllocError, Global};
 
 /// The related pairs of several sites.
 #[derive(Drop)]
-struct RelatedPairs<'a> {
-    sites: &'a [&'a Captured],
+pub struct RelatedPairs<'a> {
+    /// The sites.
+    pub sites: &'a [&'a Captured],
 }
 
 impl Relation for RelatedPairs<'_> {

@@ -15,8 +15,10 @@ mod searches;
 mod spreads;
 #[cfg(test)]
 mod tests;
+mod trails;
 
 pub use adding::{AddFault, Added, Standing};
 pub use captured::Captured;
 pub use chains::reach;
 pub use pairs::Pair;
+pub use trails::trail;

@@ -1,10 +1,11 @@
 mod makers;
 
+use crate::adding::Standing;
 use crate::chains::reach;
-use crate::pairs::Pair;
-use epc_core::Epc;
 use makers::Told::*;
-use makers::{answers, chain, reaches, relates, site_of};
+use makers::{
+    adds, answers, captured, chain, leads, pair_of, parts, reaches, read, relates, spreads,
+};
 use std::test::Fail;
 
 #[test]
@@ -101,10 +102,56 @@ fn copies_a_site(rt: HostRuntime) -> Result<(), Fail> {
 fn follows_a_long_chain_inside_a_site(rt: HostRuntime) -> Result<(), Fail> {
     let alloc = rt.alloc();
     let site = chain(alloc, 1000)?;
-    let root = Pair {
-        site: site_of(0)?,
-        item: Epc::read(alloc, "i0")?,
-    };
+    let root = pair_of(alloc, 0, "i0")?;
     assert_eq!(rt; reach(alloc, &[&site], &root)?.len(), 1001);
+    Ok(())
+}
+
+#[test]
+fn spreads_inside_a_site_alone(rt: HostRuntime) -> Result<(), Fail> {
+    let alloc = rt.alloc();
+    let site = captured(
+        alloc,
+        0,
+        &[&[Make("x", "y"), Ship("y", "b"), Make("y", "z")]],
+    )?;
+    assert!(rt; spreads(alloc, &site, "x", 3, 6)?);
+    let wide = parts(alloc, 50)?;
+    assert!(rt; spreads(alloc, &wide, "i0", 51, 151)?);
+    Ok(())
+}
+
+#[test]
+fn tells_what_an_event_would_add(rt: HostRuntime) -> Result<(), Fail> {
+    let alloc = rt.alloc();
+    let documents = [&[Part(r#""x""#, ""), Ship("x", "b")][..]];
+    assert!(rt; adds(alloc, &documents, Part("", r#""y""#), "x", "0 uri y; ")?);
+    assert!(rt; adds(alloc, &documents, Ship("x", "b"), "x", "")?);
+    assert!(rt; adds(alloc, &documents, Ship("x", "c"), "x", "2 uri x; ")?);
+    Ok(())
+}
+
+#[test]
+fn leads_by_the_nearest_way(rt: HostRuntime) -> Result<(), Fail> {
+    let alloc = rt.alloc();
+    let a = [&[Ship("x", "b"), Ship("x", "c"), Ship("x", "d")][..]];
+    let on = [&[Ship("x", "d")][..]];
+    assert!(rt; leads(alloc, &[&a, &on, &on], "x", 3, "x", "0 uri x; 3 uri x; ")?);
+    assert!(rt; leads(alloc, &[&a, &on, &on], "x", 3, "y", "none")?);
+    Ok(())
+}
+
+#[test]
+fn takes_back_the_last_events(rt: HostRuntime) -> Result<(), Fail> {
+    let alloc = rt.alloc();
+    let mut site = captured(alloc, 0, &[&[Seen("x", 0), Make("x", "y")]])?;
+    let events = read(alloc, &[Seen("x", 0)])?.events;
+    for event in events.as_slice() {
+        assert_eq!(rt; site.standing(event), Standing::Known);
+        site.truncate(0);
+        assert_eq!(rt; site.add_event(event.copy(alloc)?)?, Standing::Fresh);
+    }
+    assert_eq!(rt; site.len(), 1);
+    assert!(rt; site.event(0).is_some() && site.event(1).is_none());
     Ok(())
 }

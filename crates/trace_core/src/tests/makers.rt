@@ -3,6 +3,7 @@
 use crate::captured::Captured;
 use crate::chains::reach;
 use crate::pairs::Pair;
+use crate::trails::trail;
 use epc_core::Epc;
 use event_json::{Doc, SiteNo, Sites, read_document};
 use std::alloc::{AllocError, Global};
@@ -51,10 +52,7 @@ pub fn reaches(
         sites.push(captured(alloc, number_of(&sites), site)?)?;
     }
     let refs: Vec<&Captured> = sites.iter().collect(alloc)?;
-    let root = Pair {
-        site: site_of(number)?,
-        item: Epc::read(alloc, item)?,
-    };
+    let root = pair_of(alloc, number, item)?;
     is_shown(alloc, &reach(alloc, &refs, &root)?, wanted)
 }
 
@@ -68,6 +66,80 @@ pub fn relates(
     let site = captured(alloc, 0, documents)?;
     let item = Epc::read(alloc, item)?;
     is_shown(alloc, &site.related(&item)?, wanted)
+}
+
+/// Whether the trail from an item at site A to an item at a site is the pairs that are wanted.
+pub fn leads(
+    alloc: Global,
+    documents: &[&[&[Told<'_>]]],
+    from: &str,
+    number: u64,
+    to: &str,
+    wanted: &str,
+) -> Result<bool, Fail> {
+    let mut sites = Vec::new(alloc);
+    for site in documents {
+        sites.push(captured(alloc, number_of(&sites), site)?)?;
+    }
+    let refs: Vec<&Captured> = sites.iter().collect(alloc)?;
+    let root = pair_of(alloc, 0, from)?;
+    let target = pair_of(alloc, number, to)?;
+    match trail(alloc, &refs, &root, &target)? {
+        Some(pairs) => is_shown(alloc, &pairs, wanted),
+        None => Ok(wanted == "none"),
+    }
+}
+
+/// Whether the spread of an item at site A is the items that are wanted, within so many looks.
+pub fn spreads(
+    alloc: Global,
+    site: &Captured,
+    item: &str,
+    wanted: usize,
+    most: u64,
+) -> Result<bool, Fail> {
+    let items = [Epc::read(alloc, item)?];
+    let (found, looks) = site.spread_counted(&items)?;
+    let plain = site.spread(&items)?;
+    Ok(found.len() == wanted && plain.len() == wanted && looks <= most)
+}
+
+/// Whether an event at site A would give an item the pairs that are wanted.
+pub fn adds(
+    alloc: Global,
+    documents: &[&[Told<'_>]],
+    event: Told<'_>,
+    item: &str,
+    wanted: &str,
+) -> Result<bool, Fail> {
+    let site = captured(alloc, 0, documents)?;
+    let item = Epc::read(alloc, item)?;
+    let events = read(alloc, &[event])?.events;
+    match events.as_slice().first() {
+        Some(event) => is_shown(alloc, &site.new_targets(event, &item)?, wanted),
+        None => Ok(false),
+    }
+}
+
+/// The pair of an item at a site.
+pub fn pair_of(alloc: Global, number: u64, item: &str) -> Result<Pair, Fail> {
+    Ok(Pair {
+        site: site_of(number)?,
+        item: Epc::read(alloc, item)?,
+    })
+}
+
+/// A site with a transformation that is told in parts: so many of one input, and so many of one
+/// output.
+pub fn parts(alloc: Global, count: u64) -> Result<Captured, Fail> {
+    let mut site = Captured::new(alloc, site_of(0)?);
+    for place in 0..count {
+        let input = format!(in alloc; r#""i{place}""#)?;
+        let output = format!(in alloc; r#""o{place}""#)?;
+        site.add(read(alloc, &[Told::Part(&input, "")])?.events)?;
+        site.add(read(alloc, &[Told::Part("", &output)])?.events)?;
+    }
+    Ok(site)
 }
 
 /// A site with the events of some documents.
