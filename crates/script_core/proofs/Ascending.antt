@@ -10,20 +10,10 @@ use Rattle.std.proofs.lemmas.Bool.Decides.{same_from_decides}
 use Rattle.std.proofs.lemmas.List.Elements.{All-cons, All-weaker, All-from_recursion, recursion_from_All}
 use Rattle.std.proofs.lemmas.Map.Lookups.{btree_set_from_contains}
 use Rattle.std.proofs.lemmas.Map.Views.{btree_set_contains_iff, All-insert_key}
-use Rattle.trace_core.specs.Members.{contains_here, contains_there, contains_cases, contains_none}
-use Rattle.trace_core.specs.PairOrder.{pairs_exact, pairs_total}
+use Rattle.trace_core.proofs.Members.{contains_here, contains_there, contains_cases, contains_none}
+use Rattle.trace_core.proofs.PairOrder.{pairs_exact, pairs_total}
 use Rattle.trace_core.specs.Pairs.{pair_cmp, IsStrictlyAscending}
 use Rattle.trace_core.specs.declared.pairs.Pair.{Pair}
-
--- strictly ascending lists with the same pairs are one list
-pub one_ascending : (xs ys : List Pair) → IsStrictlyAscending xs → IsStrictlyAscending ys → ((p : Pair) → Contains xs p ↔ Contains ys p) → xs ≡ ys
-one_ascending xs ys a b same =
-    let s : BTreeSet Pair = record { keys = xs } in
-    let t : BTreeSet Pair = record { keys = ys } in
-    btree_set_from_contains pairs_total s t a b (λ q.
-    let of_s = btree_set_contains_iff pairs_total pairs_exact s q in
-    let of_t = btree_set_contains_iff pairs_total pairs_exact t q in
-    same_from_decides {P = Contains xs q} _ _ of_s (λ h. (same q).1 (of_t.0 h), λ m. of_t.1 ((same q).0 m))) pairs_exact
 
 -- a list with one pair more
 abbrev pub with_pair : List Pair → Pair → List Pair

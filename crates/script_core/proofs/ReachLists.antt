@@ -7,9 +7,11 @@ use Rattle.std.proofs.lemmas.Bool.{and_parts, and_from, eqb-true, eq-eqb}
 use Rattle.std.proofs.lemmas.List.Elements.{All-nil, All-cons, All-contains, Contains-append_left, Contains-append_right, Contains-append_cases}
 use Rattle.std.proofs.lemmas.Map.Views.{All-insert_key}
 use Rattle.trace_core.specs.Chains.{Related}
-use Rattle.trace_core.specs.HasTargets.{has_targets}
-use Rattle.trace_core.specs.Members.{contains_cases, contains_none, list_any_witness, list_any_member}
-use Rattle.trace_core.specs.Pairs.{pair_cmp, is_related, IsStrictlyAscending}
+use Rattle.trace_core.proofs.HasTargets.{has_targets}
+use Rattle.trace_core.proofs.Members.{contains_cases, contains_none, list_any_witness, list_any_member}
+use Rattle.trace_core.specs.PairTests.{is_related}
+use Rattle.trace_core.specs.Pairs.{pair_cmp, IsStrictlyAscending}
+use Rattle.trace_core.proofs.PairTestsDecide.{related_decides}
 use Rattle.trace_core.specs.Relations.{Reaches}
 use Rattle.trace_core.specs.Sites.{SiteEvents}
 use Rattle.trace_core.specs.Targets.{all_targets}
@@ -45,11 +47,11 @@ module _ (captured : List SiteEvents) (root : Pair) where
   relates_so p q e =
       let (s, at, both) = list_any_witness (λ s. s.me == p.site && is_related s p.item q) captured e in
       let parts = and_parts (s.me == p.site) (is_related s p.item q) both in
-      (at.0, s, at.1, at.2, (eqb-true s.me p.site parts.0, parts.1))
+      (at.0, s, at.1, at.2, (eqb-true s.me p.site parts.0, (related_decides s p.item q).0 parts.1))
 
   relates_if : (p q : Pair) → Related captured p q → relates p q ≡ true
   relates_if p q (k, s, lt, at, (same, related)) =
-      list_any_member (λ s. s.me == p.site && is_related s p.item q) captured s (k, lt, at) (and_from (s.me == p.site) (is_related s p.item q) (eq-eqb s.me p.site same) related)
+      list_any_member (λ s. s.me == p.site && is_related s p.item q) captured s (k, lt, at) (and_from (s.me == p.site) (is_related s p.item q) (eq-eqb s.me p.site same) ((related_decides s p.item q).1 related))
 
   -- all that the root reaches, ascending
   abbrev Found : Type 0

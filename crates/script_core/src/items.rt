@@ -6,7 +6,7 @@ ghost use Rattle.epc_core.specs.Spellings.{IsPlain};
 ghost use Rattle.epc_core.specs.declared.items.EpcFault.{EpcFault};
 
 use crate::outcomes::item_or_fault;
-use epc_core::{Epc, is_plain};
+use epc_core::Epc;
 use std::alloc::{AllocError, Global};
 
 /// The item that an EPC text names, `None` where it is no EPC text. Only plain texts take memory.
@@ -17,13 +17,6 @@ pub(crate) fn item_of(alloc: Global, text: &str) -> Result<Option<Epc>, AllocErr
     match item_or_fault(Epc::read(alloc, text)) {
         Ok(Ok(item)) => Ok(Some(item)),
         Ok(Err(_)) => Ok(None),
-        // `Epc::read` doesn't say that only a plain text takes memory, so it is tested here.
-        Err(no_memory) => {
-            if is_plain(text) {
-                Err(no_memory)
-            } else {
-                Ok(None)
-            }
-        }
+        Err(no_memory) => Err(no_memory),
     }
 }
