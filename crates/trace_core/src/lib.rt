@@ -9,6 +9,7 @@ mod captured;
 mod chains;
 mod gathering;
 pub mod laws;
+mod mentions;
 mod ordered_keys;
 mod pairs;
 mod searches;
