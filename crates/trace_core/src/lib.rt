@@ -5,6 +5,7 @@
 #![tactic(auto)]
 
 mod adding;
+mod books;
 mod captured;
 mod chains;
 mod gathering;

@@ -1,5 +1,8 @@
-ghost use Rattle.std.specs.Prelude.{◌≡◌, ◌<◌, ◌^◌, true, ℕ, List, IfOk, OnOk, Contains};
-ghost use Rattle.trace_core.specs.Mentions.{is_mentioned, starts, KeepsMentions};
+ghost use Rattle.std.specs.Prelude.{◌≡◌, ◌<◌, ◌^◌, true, false, ℕ, List, map, IfOk, OnOk, Contains};
+ghost use Rattle.std.specs.BTreeSet.{keys_between};
+ghost use Rattle.std.specs.Ordering.{is_gt};
+ghost use Rattle.std.specs.declared.ops.Bound.TheVariants.{Included, Excluded};
+ghost use Rattle.trace_core.specs.Mentions.{mention_cmp, is_mentioned, starts, KeepsMentions};
 ghost use Rattle.trace_core.specs.PairTests.{lists};
 
 use epc_core::Epc;
@@ -80,5 +83,18 @@ pub fn places_of(
         item: item.copy(alloc)?,
         place: usize::MAX,
     };
+    places_between(alloc, mentions, from, to)
+}
+
+/// The places of the mentions from the first up to the second, this one left out.
+fn places_between(
+    alloc: Global,
+    mentions: &BTreeSet<Mention>,
+    from: Mention,
+    to: Mention,
+) -> Result<Vec<usize>, AllocError>
+    requires { is_gt (mention_cmp from to) ≡ false }
+    ensures { IfOk result (λ places. places.items ≡ map (λ m. m.place) (keys_between mention_cmp (Included from) (Excluded to) mentions.now)) }
+{
     mentions.range(from..to).map(|m| m.place).collect(alloc)
 }
