@@ -1,17 +1,20 @@
 -- The pairs that a site's events relate an item to, event by event, and what one more pair adds.
-use Rattle.std.proofs.Common.{◌≡◌, ◌==◌, ◌<◌, ◌≤◌, ◌+◌, ℕ, Bool, true, false, cond, not, ◌&&◌, ◌||◌, List, length, take, get_or, ◌↔◌, refl, sym, ap, ◌∙◌, subst, arith}
+use Rattle.std.proofs.Common.{◌≡◌, ◌==◌, ◌<◌, ◌≤◌, ◌+◌, ℕ, Bool, true, false, cond, not, ◌&&◌, ◌||◌, List, length, take, get_or, ◌↔◌, Option, Some, None, is_some, option_map, refl, sym, ap, ◌∙◌, subst, arith}
 use Rattle.std.proofs.lemmas.Map.Views.{btree_set_contains_iff}
+use Rattle.std.proofs.lemmas.Bool.{true≢false}
 use Rattle.std.proofs.lemmas.Bool.Decides.{nat_tests}
 use Rattle.std.proofs.lemmas.List.{take_all}
 use Rattle.std.proofs.lemmas.List.Folds.{list_any_more}
+use Rattle.std.specs.Borrow.{Bor}
 use Rattle.std.specs.BTreeSet.{BTreeSet, Updates}
 use Rattle.std.specs.List.{list_any, Contains}
 use Rattle.event_json.specs.Events.{Content}
+use Rattle.event_json.specs.declared.bodies.Body.{Body}
 use Rattle.trace_core.specs.declared.pairs.Pair.{Pair}
 use Rattle.trace_core.specs.Gathering.{is_in, joined_by, related_by}
 use Rattle.trace_core.proofs.PairOrder.{pair_is_eq, pairs_total, pairs_exact}
-use Rattle.trace_core.specs.Pairs.{pair_cmp, IsRelated}
-use Rattle.trace_core.specs.PairTests.{same_item, lists, ships, takes_in, gives_out, ships_at, inside_at, is_related}
+use Rattle.trace_core.specs.Pairs.{pair_cmp, make_id, IsRelated}
+use Rattle.trace_core.specs.PairTests.{same_item, lists, ships, takes_in, gives_out, same_id, ships_at, inside_at, is_related}
 use Rattle.trace_core.specs.Sites.{SiteEvents}
 use Rattle.trace_core.proofs.PairTestsDecide.{related_decides}
 use Rattle.trace_core.proofs.Booleans.{and_or, and_assoc, list_any-or, list_any-and_left, list_any-and_right, list_any-same, more_at_sites, more_inside}
@@ -109,3 +112,20 @@ pub related_at_end : (s : SiteEvents) (item : List ℕ) (set : BTreeSet Pair) (p
     → ((p : Pair) → is_in set p ≡ list_any (λ e. related_by s.me s.events item e.body p) (take n events)) → (p : Pair) → Contains pairs p ↔ IsRelated s item p
 related_at_end s item set pairs events n keys all past so_far = related_exact s item set pairs keys
     (λ p. so_far p ∙ ap (list_any (λ e. related_by s.me s.events item e.body p)) (take_all n events past ∙ all) ∙ sym (is_related-by_events s item p))
+
+nothing_more : (o own : Bool) → (o || (own && false)) ≡ o
+nothing_more true true = refl
+nothing_more true false = refl
+nothing_more false true = refl
+nothing_more false false = refl
+
+-- a transformation without an id is joined to none
+pub none_joined : (events : List Content) (body : Body) (o own : Bool) (j : List ℕ) → make_id body ≡ None → o ≡ (o || (own && joined_by events body j))
+none_joined events body o own j h =
+    let no : joined_by events body j ≡ false =
+    ap (λ id. list_any (λ f. same_id id (make_id f.body) && gives_out j f.body) events) h ∙ list_any-and_left false (λ f. gives_out j f.body) events in
+    sym (ap (λ b. o || (own && b)) no ∙ nothing_more o own)
+
+pub no_id_there : (o : Option (Bor (List ℕ))) (b : Bool) (id : Option (List ℕ)) → is_some o ≡ not b → b ≡ true → option_map (λ t. t.now) o ≡ id → id ≡ None
+no_id_there None b id some none is = sym is
+no_id_there (Some t) b id some none is = absurd (true≢false (some ∙ ap not none))

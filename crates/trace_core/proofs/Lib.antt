@@ -7,6 +7,7 @@ pub mod GatheringSteps
 pub mod Growing
 pub mod HasTargets
 pub mod Members
+pub mod MentionSteps
 pub mod PairLaws
 pub mod PairOrder
 pub mod PairTestsDecide

@@ -2,6 +2,7 @@ pub mod Adding
 pub mod Chains
 pub mod Gathering
 pub mod Laws
+pub mod Mentions
 pub mod PairTests
 pub mod Pairs
 pub mod Relations

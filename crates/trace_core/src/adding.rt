@@ -4,6 +4,7 @@ ghost use Rattle.trace_core.specs.Adding.{standing_among, with_fresh, adding, Fa
 ghost use Rattle.event_json.specs.Contents.{same_content};
 ghost use Rattle.trace_core.specs.PairTests.{same_id};
 
+use crate::books::Book;
 use event_json::{Event, PlainText};
 use std::alloc::AllocError;
 use thiserror::Error;
@@ -43,10 +44,10 @@ pub enum Standing {
 }
 
 /// Adds the fresh ones among the given events. After a fault some of them may be there.
-pub fn append_fresh(events: &mut Vec<Event>, given: Vec<Event>) -> Result<Added, AddFault>
-    ensures front { take (length events.old.items) events.new.items ≡ events.old.items }
-    ensures ok { IfOk result (λ added. adding events.old.items given.items ≡ Ok (record { events = events.new.items; fresh = added.fresh; known = added.known })) }
-    ensures fault { IfErr result (λ fault. FaultOf (adding events.old.items given.items) fault) }
+pub fn append_fresh(events: &mut Book, given: Vec<Event>) -> Result<Added, AddFault>
+    ensures front { take (length events.old) events.new ≡ events.old }
+    ensures ok { IfOk result (λ added. adding events.old given.items ≡ Ok (record { events = events.new; fresh = added.fresh; known = added.known })) }
+    ensures fault { IfErr result (λ fault. FaultOf (adding events.old given.items) fault) }
 {
     let mut added = Added { fresh: 0, known: 0 };
     for event in given {
@@ -65,12 +66,12 @@ pub fn append_fresh(events: &mut Vec<Event>, given: Vec<Event>) -> Result<Added,
 }
 
 /// Adds an event if it is fresh, and tells how it stood.
-pub fn add_if_fresh(events: &mut Vec<Event>, event: Event) -> Result<Standing, AllocError>
-    ensures standing { IfOk result (λ standing. standing ≡ standing_among events.old.items event) }
-    ensures ok { IfOk result (λ standing. events.new.items ≡ with_fresh events.old.items event standing) }
-    ensures err { OnErr result (events.new.items ≡ events.old.items) }
+pub fn add_if_fresh(events: &mut Book, event: Event) -> Result<Standing, AllocError>
+    ensures standing { IfOk result (λ standing. standing ≡ standing_among events.old event) }
+    ensures ok { IfOk result (λ standing. events.new ≡ with_fresh events.old event standing) }
+    ensures err { OnErr result (events.new ≡ events.old) }
 {
-    let standing = standing_among(events, &event);
+    let standing = standing_among(events.as_slice(), &event);
     match standing {
         Standing::Fresh => events.push(event)?,
         Standing::Known | Standing::Taken => {}

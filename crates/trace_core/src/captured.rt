@@ -4,6 +4,7 @@ ghost use Rattle.trace_core.specs.Adding.{standing_among, with_fresh, adding, Fa
 ghost use Rattle.trace_core.specs.Pairs.{IsRelated, IsStrictlyAscending};
 
 use crate::adding::{AddFault, Added, Standing, add_if_fresh, append_fresh, standing_among};
+use crate::books::Book;
 use crate::gathering::gather;
 use crate::ordered_keys::keys_in_order;
 use crate::pairs::Pair;
@@ -17,7 +18,7 @@ use std::marker::Model;
 #[derive(Debug, Drop)]
 pub struct Captured {
     me: SiteNo,
-    events: Vec<Event>,
+    book: Book,
 }
 
 impl Model for Captured {
@@ -25,7 +26,7 @@ impl Model for Captured {
 
     ghost Value = { SiteEvents };
 
-    ghost view = { λ c. record { me = c.me; events = c.events.items } };
+    ghost view = { λ c. record { me = c.me; events = c.book } };
 }
 
 impl Captured {
@@ -33,8 +34,8 @@ impl Captured {
     pub fn new(alloc: Global, me: SiteNo) -> Captured
         ensures { result ≡ record { me = me; events = [] } }
     {
-        let events = Vec::new(alloc);
-        Captured { me, events }
+        let book = Book::new(alloc);
+        Captured { me, book }
     }
 
     /// The site's own number.
@@ -48,21 +49,21 @@ impl Captured {
     pub fn len(&self) -> usize
         ensures { result ≡ length self.now.events }
     {
-        self.events.len()
+        self.book.len()
     }
 
     /// The event at a place, from 0, in the order in which they were captured.
     pub fn event(&self, place: usize) -> Option<&Event>
         ensures { option_map (λ e. e.now) result ≡ slice_get self.now.events place }
     {
-        self.events.get(place)
+        self.book.get(place)
     }
 
     /// How an event stands among the captured ones. Takes no memory.
     pub fn standing(&self, event: &Event) -> Standing
         ensures { result ≡ standing_among self.now.events event.now }
     {
-        standing_among(&self.events, event)
+        standing_among(self.book.as_slice(), event)
     }
 
     /// Adds one event if it is fresh, and tells how it stood.
@@ -74,14 +75,14 @@ impl Captured {
         ensures ok { IfOk result (λ standing. self.new ≡ record self.old { events = with_fresh self.old.events event standing }) }
         ensures unchanged { OnErr result (self.new ≡ self.old) }
     {
-        add_if_fresh(&mut self.events, event)
+        add_if_fresh(&mut self.book, event)
     }
 
     /// Takes back the last events, all but the first `kept`. Takes no memory.
     pub fn truncate(&mut self, kept: usize)
         ensures { self.new ≡ record self.old { events = take kept self.old.events } }
     {
-        self.events.truncate(kept);
+        self.book.truncate(kept);
     }
 
     /// Adds the events of a document, whole or not at all. Each is judged by those that stand before
@@ -99,11 +100,11 @@ impl Captured {
         ensures unchanged { OnErr result (self.new ≡ self.old) }
         ensures same_site { self.new.me ≡ self.old.me }
     {
-        let before = self.events.len();
-        match append_fresh(&mut self.events, events.into_vec()) {
+        let before = self.book.len();
+        match append_fresh(&mut self.book, events.into_vec()) {
             Ok(added) => Ok(added),
             Err(fault) => {
-                self.events.truncate(before);
+                self.book.truncate(before);
                 Err(fault)
             }
         }
@@ -116,10 +117,19 @@ impl Captured {
         ensures ascending { IfOk result (λ pairs. IsStrictlyAscending pairs.items) }
         ensures exact { IfOk result (λ pairs. (p : Pair) → Contains pairs.items p ↔ IsRelated self.now item.now p) }
     {
-        let alloc = *self.events.allocator();
+        let alloc = self.book.alloc();
         let mut pairs = BTreeSet::new(alloc);
-        for event in &self.events {
-            gather(alloc, self.me, &self.events, item, event.body(), &mut pairs)?;
+        for place in &self.book.places_of(item)? {
+            if let Some(event) = self.book.get(*place) {
+                gather(
+                    alloc,
+                    self.me,
+                    self.book.as_slice(),
+                    item,
+                    event.body(),
+                    &mut pairs,
+                )?;
+            }
         }
         keys_in_order(alloc, pairs)
     }
@@ -128,25 +138,21 @@ impl Captured {
     pub(crate) fn events(&self) -> &[Event]
         ensures { result.now ≡ self.now.events }
     {
-        self.events.as_slice()
+        self.book.as_slice()
     }
 
     /// What the site's memory is taken from.
     pub(crate) fn alloc(&self) -> Global {
-        *self.events.allocator()
+        self.book.alloc()
     }
 
     /// An equal site.
     pub fn copy(&self, alloc: Global) -> Result<Captured, AllocError>
         ensures { IfOk result (λ c. c ≡ self.now) }
     {
-        let mut events = Vec::new(alloc);
-        for event in &self.events {
-            events.push(event.copy(alloc)?)?;
-        }
         Ok(Captured {
             me: self.me,
-            events,
+            book: self.book.copy(alloc)?,
         })
     }
 }

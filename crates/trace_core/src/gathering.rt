@@ -79,6 +79,9 @@ fn gather_joined(
 ) -> Result<(), AllocError>
     ensures { OnOk result ((p : Pair) → is_in pairs.new p ≡ (is_in pairs.old p || (p.site == me && joined_by events.now body.now p.item))) }
 {
+    if make_id(body).is_none() {
+        return Ok(());
+    }
     for event in events {
         if is_same_make(body, event.body()) {
             gather_outputs(alloc, me, event.body(), pairs)?;

@@ -5,10 +5,12 @@
 #![tactic(auto)]
 
 mod adding;
+mod books;
 mod captured;
 mod chains;
 mod gathering;
 pub mod laws;
+mod mentions;
 mod ordered_keys;
 mod pairs;
 mod searches;

@@ -12,7 +12,7 @@ loop-event-preserved-in-Ok-Fresh c =
     record {
       can = c.loop-event.invariant.can;
       finite = c.loop-event.invariant.finite;
-      front = rw pushed (front_more c.args.events.now.items c.loop-event.events.items c.in-Some.event c.loop-event.invariant.front);
+      front = rw pushed (front_more c.args.events.now c.loop-event.events c.in-Some.event c.loop-event.invariant.front);
       told = told_fresh _ _ _ _ _ _ _ c.in-Some.ensures.steps.0 c.loop-event.invariant.told _ pushed (sym stands);
       counted = omega (arith, ap length c.in-Some.ensures.steps.0);
       small = c.loop-event.invariant.small;
@@ -34,7 +34,7 @@ loop-event-preserved c =
 pub returns-in-Ok-Taken-clause-fault : goal.returns-in-Ok-Taken-clause-fault
 returns-in-Ok-Taken-clause-fault c =
     let stands = rw c.in-Ok-Taken.field-0-is at c.in-Ok-Taken.ensures.standing in
-    adding-stepwise c.args.events.now.items c.args.given.items ∙ told_taken _ _ _ _ _ _ _ c.in-Some.ensures.steps.0 c.loop-event.invariant.told (sym stands)
+    adding-stepwise c.args.events.now c.args.given.items ∙ told_taken _ _ _ _ _ _ _ c.in-Some.ensures.steps.0 c.loop-event.invariant.told (sym stands)
 
 pub returns-clause-ok : goal.returns-clause-ok
-returns-clause-ok c = adding-stepwise c.args.events.now.items c.args.given.items ∙ told_end _ _ _ _ _ (nil_from_length (into_iter_items c.loop-event.event-iterator) (omega (arith, c.in-None.ensures.steps.0))) c.loop-event.invariant.told
+returns-clause-ok c = adding-stepwise c.args.events.now c.args.given.items ∙ told_end _ _ _ _ _ (nil_from_length (into_iter_items c.loop-event.event-iterator) (omega (arith, c.in-None.ensures.steps.0))) c.loop-event.invariant.told

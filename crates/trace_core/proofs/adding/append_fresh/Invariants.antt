@@ -8,8 +8,8 @@ abbrev pub invariant-loop-event : goal.invariant-loop-event
 invariant-loop-event l = record {
   can : (goal.iterator-loop-event).can_next l.event-iterator;
   finite : (goal.iterator-loop-event).is_finite l.event-iterator;
-  front : take (length l.initial.events.items) l.events.items ≡ l.initial.events.items;
-  told : counted_on l.added.fresh l.added.known (stepwise l.events.items (into_iter_items l.event-iterator)) ≡ stepwise l.initial.events.items l.fn.given.items;
+  front : take (length l.initial.events) l.events ≡ l.initial.events;
+  told : counted_on l.added.fresh l.added.known (stepwise l.events (into_iter_items l.event-iterator)) ≡ stepwise l.initial.events l.fn.given.items;
   counted : l.added.fresh + l.added.known + length (into_iter_items l.event-iterator) ≡ length l.fn.given.items;
   small : length l.fn.given.items < 2 ^ 64;
 }

@@ -1,6 +1,0 @@
-use Rattle.std.proofs.Common.{◌≡◌, take}
-use Rattle.trace_core.proofs.captured.Captured.copy.Given as goal
-
--- the events so far
-abbrev pub invariant-loop-event : goal.invariant-loop-event
-invariant-loop-event l = l.events.items ≡ take l.event-index l.event-items
