@@ -105,12 +105,7 @@ impl Answer {
     pub(crate) fn bad_document(alloc: Global, fault: DocFault) -> Result<Answer, AllocError>
         ensures { IfOk result (λ a. answer_of a ≡ refused (doc_fault_text fault)) }
     {
-        let what = fault_text(
-            alloc,
-            fault.kind.name(),
-            fault.event,
-            fault.field.name(),
-        )?;
+        let what = fault_text(alloc, fault.kind.name(), fault.event, fault.field.name())?;
         Answer::refusal(alloc, what.as_str())
     }
 
