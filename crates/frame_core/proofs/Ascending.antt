@@ -122,3 +122,8 @@ module _ {K X : Type 0} {R : K → K → Ordering} (o : IsTotalOrder R) where
       find_below x k (f ∷ fs) t h =
           let below : R k f.0 ≡ Less = o.trans k x f.0 t (less _ (first _ _ h)) in
           rw below (find_below x k fs t (second _ _ h))
+
+  -- a copy of the next entry is put behind the copies of those before it
+  pub copied_next : (es es' left rest whole : List (K × X)) (k : K) (v w : X) → es ++ left ≡ whole → left ≡ (k, v) ∷ rest → w ≡ v → es' ≡ put R k w es → IsAscending R whole → es' ++ rest ≡ whole
+  copied_next es es' left rest whole k v w so_far step same is up =
+      ap (λ ys. ys ++ rest) is ∙ put_next es rest whole k w (ap (λ x. es ++ (k, x) ∷ rest) same ∙ ap (λ ys. es ++ ys) (sym step) ∙ so_far) up
