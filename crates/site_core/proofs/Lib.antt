@@ -1,0 +1,6 @@
+pub mod Changes
+pub mod Held
+pub mod HeldLaws
+pub mod ItemOrder
+pub mod ItemSets
+pub mod Results

@@ -3,7 +3,7 @@ use Rattle.std.specs.Prelude.{ℕ, Bool, not, List, ◌++◌, map, filter}
 use Rattle.std.specs.FinMap.{entries, values}
 use Rattle.std.specs.List.{list_any}
 use Rattle.frame_core.specs.Identifiers.{same_message}
-use Rattle.frame_core.specs.Numbers.{Recall, Message}
+use Rattle.frame_core.specs.Numbers.{Message}
 use Rattle.frame_core.specs.declared.frames.Frame.{Frame}
 use Rattle.frame_core.specs.declared.frames.Frame.TheVariants as frames
 use Rattle.frame_core.specs.declared.rows.Row.{Row}

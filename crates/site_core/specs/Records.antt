@@ -1,5 +1,5 @@
 -- What a site keeps.
-use Rattle.std.specs.Prelude.{ℕ, List}
+use Rattle.std.specs.Prelude.{List}
 use Rattle.event_json.specs.Sites.{Site}
 use Rattle.scholten_core.specs.Engagement.{Engagement}
 use Rattle.trace_core.specs.Sites.{SiteEvents}
