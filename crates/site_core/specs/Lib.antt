@@ -1,4 +1,5 @@
 pub mod Capturing
+pub mod Codes
 pub mod Emitting
 pub mod Holding
 pub mod ItemSets
