@@ -1,5 +1,9 @@
 pub mod Capturing
+pub mod Codes
 pub mod Emitting
+pub mod Holding
+pub mod ItemSets
+pub mod Laws
 pub mod Quarantines
 pub mod Records
 pub mod Shipments

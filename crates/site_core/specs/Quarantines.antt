@@ -1,26 +1,15 @@
 -- What is quarantined at a site: for each recall a set of items.
-use Rattle.std.specs.Prelude.{◌≡◌, ◌≢◌, ℕ, Bool, List, [], ◌∷◌, Option, Some, None}
-use Rattle.std.specs.Ordering.{nat_cmp}
-use Rattle.std.specs.Cmp.Lexicographic.{slice_cmp}
-use Rattle.std.specs.declared.cmp.Ordering.{Ordering}
-use Rattle.std.specs.Coded.{Coded, coded_ℕ, coded_list}
+use Rattle.std.specs.Prelude.{◌≢◌, ℕ, Bool, List, [], ◌∷◌, Option, Some, None}
+use Rattle.std.specs.Coded.{Coded}
 use Rattle.std.specs.FinMap as map
-use Rattle.std.specs.FinSet as set
 use Rattle.frame_core.specs.Identifiers.{recall_cmp}
 use Rattle.frame_core.specs.Numbers.{Recall, coded_recall}
-
--- items by the bytes of their keys
-abbrev pub item_cmp : List ℕ → List ℕ → Ordering
-item_cmp i j = slice_cmp nat_cmp i j
-
-abbrev pub Items : Type 0
-Items = set.FinSet item_cmp
+pub use Rattle.site_core.specs.ItemSets.{item_cmp, Items}
+use Rattle.site_core.specs.ItemSets as set
+use Rattle.site_core.specs.ItemSets.{coded_items}
 
 abbrev pub Quarantine : Type 0
 Quarantine = map.FinMap recall_cmp Items
-
-abbrev pub coded_items : Coded Items
-coded_items = set.code (coded_list coded_ℕ)
 
 abbrev pub coded_quarantine : Coded Quarantine
 coded_quarantine = map.code coded_recall coded_items

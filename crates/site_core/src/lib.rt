@@ -1,15 +1,15 @@
 //! What a site keeps, and what it may send.
 #![tactic(auto)]
 
-ghost use Rattle.std.specs.Prelude.{◌≡◌};
-ghost use Rattle.site_core.specs.Records.{Record};
-ghost use Rattle.site_core.specs.Emitting.{emittable};
-ghost use Rattle.site_core.specs.Capturing.{IsCaptured, IsFirstRefused};
-ghost use Rattle.site_core.specs.Shipments.{AreShipments};
+mod emitting;
+mod item_sets;
+pub mod laws;
+mod quarantines;
+mod states;
+#[cfg(test)]
+mod tests;
 
-/// One.
-pub fn one() -> u64
-    ensures { result ≡ 1 }
-{
-    1
-}
+pub use emitting::emittable;
+pub use item_sets::ItemSet;
+pub use quarantines::Quarantine;
+pub use states::SiteState;

@@ -1,0 +1,199 @@
+ghost use Rattle.std.specs.Prelude.{◌≡◌, ◌==◌, false, not, map, option_map, Some, None, IfOk, OnOk, OnErr, IsFalse};
+ghost use Rattle.std.specs.FinMap as finite;
+ghost use Rattle.frame_core.specs.Identifiers.{recall_cmp};
+ghost use Rattle.frame_core.specs.Tables.{as_map};
+ghost use Rattle.site_core.specs.Holding.{without_item, without_items};
+ghost use Rattle.site_core.specs.ItemSets as set;
+ghost use Rattle.site_core.specs.Quarantines.{held, with_item, with_items, HasNoEmptySet};
+
+use crate::item_sets::ItemSet;
+use epc_core::Epc;
+use frame_core::{RecallId, tables};
+use std::alloc::{AllocError, Global};
+use std::collections::BTreeMap;
+use std::marker::Model;
+
+/// The items that are quarantined at a site, by recall. A recall without items isn't kept.
+#[derive(Debug, Drop)]
+pub struct Quarantine {
+    recalls: BTreeMap<RecallId, ItemSet>,
+    alloc: Global,
+}
+
+impl Model for Quarantine {
+    ghost use Rattle.frame_core.specs.Identifiers.{recall_cmp};
+    ghost use Rattle.frame_core.specs.Tables.{as_map};
+    ghost use Rattle.site_core.specs.Quarantines.{Quarantine, coded_quarantine, HasNoEmptySet};
+
+    ghost Value = { Quarantine };
+
+    ghost coded = { coded_quarantine };
+
+    ghost view = { λ q. as_map recall_cmp q.recalls };
+
+    ghost invariant = { λ q. HasNoEmptySet (as_map recall_cmp q.recalls) };
+}
+
+impl Quarantine {
+    /// No items under any recall. Takes no memory; what is held comes from the allocator.
+    pub fn new(alloc: Global) -> Quarantine
+        ensures { result ≡ finite.empty }
+    {
+        Quarantine {
+            recalls: BTreeMap::new(alloc),
+            alloc,
+        }
+    }
+
+    /// The quarantine of these sets, by recall. Takes no memory.
+    pub fn restore(alloc: Global, recalls: BTreeMap<RecallId, ItemSet>) -> Quarantine
+        requires { HasNoEmptySet (as_map recall_cmp recalls) }
+        ensures { result ≡ as_map recall_cmp recalls }
+    {
+        Quarantine { recalls, alloc }
+    }
+
+    /// Whether an item is quarantined under a recall. Takes no memory.
+    pub fn holds(&self, recall: RecallId, item: &Epc) -> bool
+        ensures { result ≡ held self.now recall item.now }
+    {
+        match self.under(recall) {
+            Some(items) => items.contains(item),
+            None => false,
+        }
+    }
+
+    /// Quarantines an item under a recall, and answers whether it wasn't before. Only then it takes
+    /// memory. An `Err` changes nothing.
+    pub fn hold(&mut self, recall: RecallId, item: Epc) -> Result<bool, AllocError>
+        ensures new { IfOk result (λ new. new ≡ not (held self.old recall item)) }
+        ensures ok { OnOk result (self.new ≡ with_item self.old recall item) }
+        ensures err { OnErr result (self.new ≡ self.old) }
+        ensures only_new { OnErr result (IsFalse (held self.old recall item)) }
+    {
+        hold_in(self.alloc, &mut self.recalls, recall, item)
+    }
+
+    /// Quarantines these items under a recall. An `Err` changes nothing: what was added is taken away
+    /// again. It costs these items, not those that are held.
+    pub fn hold_all(&mut self, recall: RecallId, items: &[Epc]) -> Result<(), AllocError>
+        ensures ok { OnOk result (self.new ≡ with_items self.old recall items.now) }
+        ensures err { OnErr result (self.new ≡ self.old) }
+    {
+        let mut added = Vec::with_capacity(self.alloc, items.len())?;
+        for item in items {
+            let new = match self.hold_copy(recall, item) {
+                Ok(new) => new,
+                Err(_) => {
+                    self.release_all(recall, added);
+                    return Err(AllocError);
+                }
+            };
+            if new {
+                added.push_reserved(item);
+            }
+        }
+        Ok(())
+    }
+
+    /// Quarantines a copy of an item under a recall, and answers whether it is new there. An `Err` changes
+    /// nothing.
+    fn hold_copy(&mut self, recall: RecallId, item: &Epc) -> Result<bool, AllocError>
+        ensures new { IfOk result (λ new. new ≡ not (held self.old recall item.now)) }
+        ensures ok { OnOk result (self.new ≡ with_item self.old recall item.now) }
+        ensures err { OnErr result (self.new ≡ self.old) }
+    {
+        if self.holds(recall, item) {
+            return Ok(false);
+        }
+        let item = item.copy(self.alloc)?;
+        self.hold(recall, item)
+    }
+
+    /// Takes these items away from a recall, the last one first. Takes no memory.
+    fn release_all(&mut self, recall: RecallId, mut items: Vec<&Epc>)
+        ensures { self.new ≡ without_items self.old recall (map (λ item. item.now) items.entry.items) }
+    {
+        while let Some(item) = items.pop() {
+            self.release(recall, item);
+        }
+    }
+
+    /// Takes an item away from a recall. Takes no memory.
+    fn release(&mut self, recall: RecallId, item: &Epc)
+        ensures { self.new ≡ without_item self.old recall item.now }
+    {
+        release_in(&mut self.recalls, recall, item);
+    }
+
+    /// The items that are quarantined under a recall.
+    pub fn under(&self, recall: RecallId) -> Option<&ItemSet>
+        ensures { option_map (λ items. items.now) result ≡ finite.get self.now recall }
+    {
+        tables::get(&self.recalls, recall)
+    }
+
+    /// The items that are quarantined, by recall. None of the sets is empty.
+    pub fn by_recall(&self) -> &BTreeMap<RecallId, ItemSet>
+        ensures recalls { as_map recall_cmp result.now ≡ self.now }
+        ensures entries { result.now.entries ≡ finite.entries self.now }
+        ensures no_empty { HasNoEmptySet self.now }
+    {
+        // The length tells the proof that the recalls ascend.
+        let _length = self.recalls.len();
+        &self.recalls
+    }
+
+    /// An equal quarantine.
+    pub fn copy(&self, alloc: Global) -> Result<Quarantine, AllocError>
+        ensures { IfOk result (λ copies. copies ≡ self.now) }
+    {
+        let recalls = tables::copy(alloc, &self.recalls)?;
+        Ok(Quarantine { recalls, alloc })
+    }
+}
+
+/// Adds an item to the set of a recall, and answers whether it is new there. An `Err` changes nothing.
+fn hold_in(
+    alloc: Global,
+    recalls: &mut BTreeMap<RecallId, ItemSet>,
+    recall: RecallId,
+    item: Epc,
+) -> Result<bool, AllocError>
+    ensures new { IfOk result (λ new. new ≡ not (held (as_map recall_cmp recalls.old) recall item)) }
+    ensures ok { OnOk result (as_map recall_cmp recalls.new ≡ with_item (as_map recall_cmp recalls.old) recall item) }
+    ensures err { OnErr result (as_map recall_cmp recalls.new ≡ as_map recall_cmp recalls.old) }
+    ensures only_new { OnErr result (IsFalse (held (as_map recall_cmp recalls.old) recall item)) }
+{
+    if let Some(items) = recalls.get_mut(&recall) {
+        return items.insert(item);
+    }
+    let mut items = ItemSet::new(alloc);
+    let new = items.insert(item)?;
+    tables::put(recalls, recall, items)?;
+    Ok(new)
+}
+
+/// Removes an item from the set of a recall, and the recall with its last one. Takes no memory.
+fn release_in(recalls: &mut BTreeMap<RecallId, ItemSet>, recall: RecallId, item: &Epc)
+    ensures { as_map recall_cmp recalls.new ≡ without_item (as_map recall_cmp recalls.old) recall item.now }
+{
+    if remove_in(recalls, recall, item) {
+        tables::take(recalls, recall);
+    }
+}
+
+/// Removes an item from the set of a recall, and answers whether the set is empty then. Takes no memory.
+fn remove_in(recalls: &mut BTreeMap<RecallId, ItemSet>, recall: RecallId, item: &Epc) -> bool
+    ensures left { (items : set.Items) → finite.get (as_map recall_cmp recalls.old) recall ≡ Some items → as_map recall_cmp recalls.new ≡ finite.insert (as_map recall_cmp recalls.old) recall (set.remove items item.now) }
+    ensures emptied { (items : set.Items) → finite.get (as_map recall_cmp recalls.old) recall ≡ Some items → result ≡ (set.len (set.remove items item.now) == 0) }
+    ensures none { finite.get (as_map recall_cmp recalls.old) recall ≡ None → (result ≡ false) × (as_map recall_cmp recalls.new ≡ as_map recall_cmp recalls.old) }
+{
+    match recalls.get_mut(&recall) {
+        Some(items) => {
+            items.remove(item);
+            items.is_empty()
+        }
+        None => false,
+    }
+}

@@ -1,0 +1,168 @@
+ghost use Rattle.std.specs.Prelude.{◌≡◌, ◌<◌, length, IfOk};
+ghost use Rattle.std.specs.Ordering.{nat_cmp};
+ghost use Rattle.std.specs.FinMap as map;
+ghost use Rattle.frame_core.specs.Identifiers.{recall_cmp, message_cmp};
+ghost use Rattle.frame_core.specs.Tables.{as_map};
+ghost use Rattle.frame_core.specs.Unsignalled.{IsNextNumber};
+ghost use Rattle.site_core.specs.Records.{fresh, IsSound};
+
+use crate::quarantines::Quarantine;
+use event_json::{SiteNo, Sites};
+use frame_core::{MsgId, RecallId, Row};
+use scholten_core::{Diffusion, Own};
+use std::alloc::{AllocError, Global};
+use std::collections::BTreeMap;
+use std::marker::Model;
+use trace_core::Captured;
+
+/// All that one site keeps: the list of sites, the events that it captured, the items that are
+/// quarantined at it, and its part in the recalls that pass it.
+///
+/// Every site number in it is of its list, and every message and recall number is 1 to 2^62.
+#[derive(Debug, Drop)]
+pub struct SiteState {
+    pub(crate) sites: Sites,
+    pub(crate) captured: Captured,
+    pub(crate) quarantine: Quarantine,
+    pub(crate) diffusion: Diffusion,
+    pub(crate) alloc: Global,
+}
+
+impl Model for SiteState {
+    ghost use Rattle.site_core.specs.Codes.{coded_record};
+    ghost use Rattle.site_core.specs.Records.{Record, IsSound};
+
+    ghost Value = { Record };
+
+    ghost coded = { coded_record };
+
+    ghost view = { λ s. record { sites = s.sites; captured = s.captured; quarantine = s.quarantine; engagement = s.diffusion } };
+
+    ghost invariant = { λ s. IsSound (record { sites = s.sites; captured = s.captured; quarantine = s.quarantine; engagement = s.diffusion }) };
+}
+
+impl SiteState {
+    /// The site `me` of these sites, which has captured nothing yet. Takes no memory.
+    pub fn new(alloc: Global, sites: Sites, me: SiteNo) -> SiteState
+        requires of_the_list { me < length sites }
+        ensures { result ≡ fresh sites me }
+    {
+        SiteState {
+            sites,
+            captured: Captured::new(alloc, me),
+            quarantine: Quarantine::new(alloc),
+            diffusion: Diffusion::new(alloc, me),
+            alloc,
+        }
+    }
+
+    /// A site that keeps just this. Takes no memory.
+    pub fn restore(
+        alloc: Global,
+        sites: Sites,
+        captured: Captured,
+        quarantine: Quarantine,
+        diffusion: Diffusion,
+    ) -> SiteState
+        requires sound { IsSound (record { sites = sites; captured = captured; quarantine = quarantine; engagement = diffusion }) }
+        ensures { result ≡ record { sites = sites; captured = captured; quarantine = quarantine; engagement = diffusion } }
+    {
+        SiteState {
+            sites,
+            captured,
+            quarantine,
+            diffusion,
+            alloc,
+        }
+    }
+
+    /// The site's own number.
+    pub fn me(&self) -> SiteNo
+        ensures me { result ≡ self.now.engagement.me }
+        ensures sound { IsSound self.now }
+    {
+        self.diffusion.me()
+    }
+
+    /// All sites, in the order of their numbers.
+    pub fn sites(&self) -> &Sites
+        ensures { result.now ≡ self.now.sites }
+    {
+        &self.sites
+    }
+
+    /// The captured events.
+    pub fn captured(&self) -> &Captured
+        ensures { result.now ≡ self.now.captured }
+    {
+        &self.captured
+    }
+
+    /// The items that are quarantined here.
+    pub fn quarantine(&self) -> &Quarantine
+        ensures { result.now ≡ self.now.quarantine }
+    {
+        &self.quarantine
+    }
+
+    /// The messages that are not signalled, by number.
+    pub fn outbox(&self) -> &BTreeMap<u64, Row>
+        ensures outbox { as_map nat_cmp result.now ≡ self.now.engagement.outbox }
+        ensures entries { result.now.entries ≡ map.entries self.now.engagement.outbox }
+    {
+        self.diffusion.outbox()
+    }
+
+    /// The messages seen, each with the recall that it was seen under.
+    pub fn seen(&self) -> &BTreeMap<MsgId, RecallId>
+        ensures seen { as_map message_cmp result.now ≡ self.now.engagement.seen }
+        ensures entries { result.now.entries ≡ map.entries self.now.engagement.seen }
+    {
+        self.diffusion.seen()
+    }
+
+    /// The recalls that the site is engaged for, each with its parent.
+    pub fn parents(&self) -> &BTreeMap<RecallId, MsgId>
+        ensures parents { as_map recall_cmp result.now ≡ self.now.engagement.parents }
+        ensures entries { result.now.entries ≡ map.entries self.now.engagement.parents }
+    {
+        self.diffusion.parents()
+    }
+
+    /// The recalls that the site began, by number.
+    pub fn own_recalls(&self) -> &BTreeMap<u64, Own>
+        ensures own { as_map nat_cmp result.now ≡ self.now.engagement.own }
+        ensures entries { result.now.entries ≡ map.entries self.now.engagement.own }
+    {
+        self.diffusion.own_recalls()
+    }
+
+    /// The number that the next message gets, 2^62 + 1 where the numbers are spent.
+    pub fn next_message(&self) -> u64
+        ensures next { result ≡ self.now.engagement.next_message }
+        ensures in_range { IsNextNumber result }
+    {
+        self.diffusion.next_message()
+    }
+
+    /// The number that the next recall gets, 2^62 + 1 where the numbers are spent.
+    pub fn next_recall(&self) -> u64
+        ensures next { result ≡ self.now.engagement.next_recall }
+        ensures in_range { IsNextNumber result }
+    {
+        self.diffusion.next_recall()
+    }
+
+    /// An equal site.
+    pub fn copy(&self, alloc: Global) -> Result<SiteState, AllocError>
+        ensures { IfOk result (λ s. s ≡ self.now) }
+    {
+        Ok(SiteState {
+            sites: self.sites.copy(alloc)?,
+            captured: self.captured.copy(alloc)?,
+            quarantine: self.quarantine.copy(alloc)?,
+            diffusion: self.diffusion.copy(alloc)?,
+            alloc,
+        })
+    }
+}
