@@ -1,0 +1,10 @@
+pub mod Ascending
+pub mod Blocks
+pub mod Captures
+pub mod Held
+pub mod Named
+pub mod Newly
+pub mod OneOutcome
+pub mod Places
+pub mod Shipped
+pub mod SourcesFound

@@ -1,5 +1,10 @@
+pub mod Blocks
 pub mod Capturing
+pub mod CapturingLaws
 pub mod Emitting
 pub mod Quarantines
 pub mod Records
 pub mod Shipments
+pub mod Shipping
+pub mod Sources
+pub mod Spreading
