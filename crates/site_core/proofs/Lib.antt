@@ -1,7 +1,17 @@
+pub mod Ascending
+pub mod Blocks
+pub mod Captures
 pub mod Changes
 pub mod Held
 pub mod HeldLaws
+pub mod Holders
 pub mod ItemOrder
 pub mod ItemSets
+pub mod Named
+pub mod Newly
+pub mod OneOutcome
+pub mod Places
 pub mod Records
 pub mod Results
+pub mod Shipped
+pub mod SourcesFound

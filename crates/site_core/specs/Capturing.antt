@@ -1,5 +1,5 @@
 -- What capturing a document's events makes of a site with a quarantine, event by event.
-use Rattle.std.specs.Prelude.{◌≡◌, ◌≢◌, ◌<◌, ℕ, IsTrue, List, take, slice_get, Some}
+use Rattle.std.specs.Prelude.{◌≡◌, ◌≢◌, ◌<◌, ℕ, suc, ⊤, IsTrue, List, take, slice_get, Some}
 use Rattle.std.specs.declared.cmp.Ordering.TheVariants.{Greater}
 use Rattle.event_json.specs.Events.{Content}
 use Rattle.frame_core.specs.Identifiers.{recall_cmp}
@@ -9,6 +9,8 @@ use Rattle.trace_core.specs.Sites.{SiteEvents}
 use Rattle.trace_core.specs.Spreads.{IsNewTarget}
 use Rattle.trace_core.specs.declared.adding.Standing.TheVariants.{Fresh, Taken}
 use Rattle.trace_core.specs.declared.pairs.Pair.{Pair}
+use Rattle.site_core.specs.declared.capturing.CaptureFault.{CaptureFault}
+use Rattle.site_core.specs.declared.capturing.CaptureFault.TheVariants as faults
 use Rattle.site_core.specs.Quarantines.{Quarantine, held, item_cmp}
 
 -- the pair is at this site, and its item is quarantined here under the recall
@@ -67,3 +69,13 @@ pub record IsCaptured (s : SiteEvents) (q : Quarantine) (given : List Content) (
 pub record IsFirstRefused (s : SiteEvents) (q : Quarantine) (given : List Content) (place : ℕ) (reason : Reason) : Type 0 where
   pub refused : IsRefusedAt s q given place reason
   pub first : NoneIsRefusedBefore s q given place
+
+-- the first event that is refused, by its number from 1, and why
+abbrev pub IsRefusedFirst : SiteEvents → Quarantine → List Content → ℕ → Reason → Type 0
+IsRefusedFirst s q given event reason = (place : ℕ) × (event ≡ suc place) × IsFirstRefused s q given place reason
+
+-- what a fault says; memory may always run out
+abbrev pub TellsRefusal : SiteEvents → Quarantine → List Content → CaptureFault → Type 0
+TellsRefusal s q given faults.NoMemory = ⊤
+TellsRefusal s q given (faults.IdTaken event) = IsRefusedFirst s q given event taken
+TellsRefusal s q given (faults.Blocked r i event) = IsRefusedFirst s q given event (blocked r i)

@@ -1,4 +1,6 @@
+pub mod Blocks
 pub mod Capturing
+pub mod CapturingLaws
 pub mod Codes
 pub mod Emitting
 pub mod Holding
@@ -7,3 +9,6 @@ pub mod Laws
 pub mod Quarantines
 pub mod Records
 pub mod Shipments
+pub mod Shipping
+pub mod Sources
+pub mod Spreading

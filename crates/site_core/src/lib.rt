@@ -1,15 +1,25 @@
-//! What a site keeps, and what it may send.
+//! What a site keeps, what it may send, and what it captures and quarantines.
 #![tactic(auto)]
 
+mod capturing;
+pub mod capturing_laws;
 mod emitting;
+mod holding;
 mod item_sets;
 pub mod laws;
+mod ordered_keys;
 mod quarantines;
+mod shipping;
+mod sources;
+mod spreading;
 mod states;
 #[cfg(test)]
 mod tests;
 
+pub use capturing::{CaptureFault, capture_all, first_block};
 pub use emitting::emittable;
 pub use item_sets::ItemSet;
 pub use quarantines::Quarantine;
+pub use shipping::shipments;
+pub use spreading::{is_known, newly_held};
 pub use states::SiteState;

@@ -1,0 +1,80 @@
+-- By what an event is blocked, sought in ascending lists.
+use Rattle.std.proofs.Common.{◌≡◌, ◌≢◌, ◌↔◌, ◌==◌, Bool, true, false, not, ◌&&◌, ℕ, List, [], ◌∷◌, Some, sym, ap, subst, ◌∙◌, ⊎_elim}
+use Rattle.std.specs.Prelude.{IsTrue}
+use mathlib.Core.Bool.{false≢true}
+use Rattle.std.specs.Bool.{Decides}
+use Rattle.std.specs.Cmp.{IsTotalOrder}
+use Rattle.std.specs.List.{Contains, list_any}
+use Rattle.std.specs.List.Sorted.{IsStrictlySortedBy}
+use Rattle.std.specs.declared.cmp.Ordering.{Ordering}
+use Rattle.std.specs.declared.cmp.Ordering.TheVariants.{Greater}
+use Rattle.std.proofs.lemmas.Bool.Decides.{Decides-and, Decides-eqb, Decides-not}
+use Rattle.event_json.specs.Events.{Content}
+use Rattle.frame_core.specs.Numbers.{Recall}
+use Rattle.trace_core.specs.declared.pairs.Pair.{Pair}
+use Rattle.trace_core.specs.Sites.{SiteEvents}
+use Rattle.trace_core.specs.Spreads.{IsNewTarget}
+use Rattle.trace_core.proofs.Members.{contains_cases, contains_none, list_any_witness, list_any_member}
+use Rattle.site_core.specs.Capturing.{IsBlockedBy, IsHeldHere}
+use Rattle.site_core.specs.Blocks.{IsBlockFrom, IsFirstBlockOf}
+use Rattle.site_core.specs.Quarantines.{Quarantine, held, item_cmp}
+use Rattle.site_core.proofs.Ascending.{head_least, tail_ascends}
+
+-- all that have the property are in the list
+abbrev pub IsLeft : {K : Type 0} → (K → Type 0) → List K → Type 0
+IsLeft {K} P xs = (y : K) → P y → Contains xs y
+
+module _ {K : Type 0} (P : K → Type 0) (xs rest : List K) (x : K) (next : xs ≡ x ∷ rest) where
+  pub next_left : (P x → ⊥) → IsLeft P xs → IsLeft P rest
+  next_left lacks left y has = ⊎_elim
+      (λ same. absurd (lacks (subst P (sym same) has)))
+      (λ later. later)
+      (contains_cases x y rest (subst (λ ys. Contains ys y) next (left y has)))
+
+  pub next_least : (cmp : K → K → Ordering) → IsTotalOrder cmp → IsStrictlySortedBy cmp xs → IsLeft P xs → (y : K) → P y → cmp x y ≢ Greater
+  next_least cmp total up left y has = head_least cmp total x rest (subst (IsStrictlySortedBy cmp) next up) y (subst (λ ys. Contains ys y) next (left y has))
+
+  pub next_ascends : (cmp : K → K → Ordering) → IsStrictlySortedBy cmp xs → IsStrictlySortedBy cmp rest
+  next_ascends cmp up = tail_ascends cmp x rest (subst (IsStrictlySortedBy cmp) next up)
+
+pub none_left : {K : Type 0} (P : K → Type 0) (xs : List K) → xs ≡ [] → IsLeft P xs → (y : K) → P y → ⊥
+none_left P xs none left y has = contains_none y (subst (λ ys. Contains ys y) none (left y has))
+
+module _ (s : SiteEvents) (q : Quarantine) (e : Content) (i : List ℕ) (r : Recall) where
+  -- the pair isn't at the site and quarantined there under the recall
+  abbrev pub is_out : Pair → Bool
+  is_out p = not (p.site == s.me && held q r p.item)
+
+  out_decides : (p : Pair) → Decides (is_out p) (IsHeldHere s q r p → ⊥)
+  out_decides p = Decides-not _ (Decides-and _ _ (Decides-eqb p.site s.me) (λ h. h, λ h. h))
+
+  module _ (targets : List Pair) (exact : (p : Pair) → Contains targets p ↔ IsNewTarget s e i p) where
+    pub blocks : IsTrue (held q r i) → list_any is_out targets ≡ true → IsBlockedBy s q e i r
+    blocks source out =
+        let (p, there, is) = list_any_witness is_out targets out in
+        record { source = source; target = p; new = (exact p).0 there; leaves = (out_decides p).0 is }
+
+    pub blocks_not : list_any is_out targets ≡ false → IsBlockedBy s q e i r → ⊥
+    blocks_not none b = false≢true (sym none ∙ list_any_member is_out targets b.target ((exact b.target).1 b.new) ((out_decides b.target).1 b.leaves))
+
+  module _ (me : ℕ) (lent targets : List Pair) (is : me ≡ s.me) (same : lent ≡ targets) (exact : (p : Pair) → Contains targets p ↔ IsNewTarget s e i p) where
+    abbrev told_out : Pair → Bool
+    told_out p = not (p.site == me && held q r p.item)
+
+    as_told : list_any told_out lent ≡ list_any is_out targets
+    as_told = ap (λ ps. list_any told_out ps) same ∙ ap (λ (n : ℕ). list_any (λ (p : Pair). not (p.site == n && held q r p.item)) targets) is
+
+    pub told_blocks : IsTrue (held q r i) → list_any told_out lent ≡ true → IsBlockedBy s q e i r
+    told_blocks source out = blocks targets exact source (sym as_told ∙ out)
+
+    pub told_blocks_not : list_any told_out lent ≡ false → IsBlockedBy s q e i r → ⊥
+    told_blocks_not none = blocks_not targets exact (sym as_told ∙ none)
+
+-- an item from which the event is blocked, and which no other is below
+pub first_found : (s : SiteEvents) (q : Quarantine) (e : Content) (item : List ℕ) (b : Recall × List ℕ) → IsBlockFrom s q e item (Some b)
+    → ((j : List ℕ) (r : Recall) → IsBlockedBy s q e j r → item_cmp item j ≢ Greater) → IsFirstBlockOf s q e (Some b)
+first_found s q e item (r, j) (same, (blocked, least)) first = record {
+  blocked = subst (λ (k : List ℕ). IsBlockedBy s q e k r) (sym same) blocked;
+  least_item = λ k other b. subst (λ (n : List ℕ). item_cmp n k ≢ Greater) (sym same) (first k other b);
+  least_recall = λ other b. least other (subst (λ (k : List ℕ). IsBlockedBy s q e k other) same b);
+}

@@ -1,0 +1,41 @@
+-- What becomes of one event, and by what it is blocked.
+use Rattle.std.specs.Prelude.{◌≡◌, ◌≢◌, ⊤, ℕ, List, Option, Some, None}
+use Rattle.std.specs.declared.cmp.Ordering.TheVariants.{Greater}
+use Rattle.event_json.specs.Events.{Content}
+use Rattle.frame_core.specs.Identifiers.{recall_cmp}
+use Rattle.frame_core.specs.Numbers.{Recall}
+use Rattle.trace_core.specs.Adding.{standing_among}
+use Rattle.trace_core.specs.Sites.{SiteEvents}
+use Rattle.trace_core.specs.declared.adding.Standing.{Standing}
+use Rattle.trace_core.specs.declared.adding.Standing.TheVariants.{Fresh, Known, Taken}
+use Rattle.site_core.specs.declared.capturing.CaptureFault.{CaptureFault}
+use Rattle.site_core.specs.declared.capturing.CaptureFault.TheVariants as faults
+use Rattle.site_core.specs.Quarantines.{Quarantine}
+use Rattle.site_core.specs.Capturing.{IsBlockedBy, IsFirstBlock, IsFree, IsReason, taken, blocked}
+
+-- the least recall by which the event is blocked from the item, or none
+abbrev pub IsLeastBlock : SiteEvents → Quarantine → Content → List ℕ → Option Recall → Type 0
+IsLeastBlock s q e i None = (r : Recall) → IsBlockedBy s q e i r → ⊥
+IsLeastBlock s q e i (Some r) = IsBlockedBy s q e i r × ((other : Recall) → IsBlockedBy s q e i other → recall_cmp r other ≢ Greater)
+
+-- the same, with the item
+abbrev pub IsBlockFrom : SiteEvents → Quarantine → Content → List ℕ → Option (Recall × List ℕ) → Type 0
+IsBlockFrom s q e i None = IsLeastBlock s q e i None
+IsBlockFrom s q e i (Some (r, j)) = (j ≡ i) × IsLeastBlock s q e i (Some r)
+
+-- by what the event is blocked first, if it is
+abbrev pub IsFirstBlockOf : SiteEvents → Quarantine → Content → Option (Recall × List ℕ) → Type 0
+IsFirstBlockOf s q e None = IsFree s q e
+IsFirstBlockOf s q e (Some (r, i)) = IsFirstBlock s q e i r
+
+-- the event stands so, and nothing refuses it
+abbrev pub Passes : SiteEvents → Quarantine → Content → Standing → Type 0
+Passes s q e Fresh = (standing_among s.events e ≡ Fresh) × IsFree s q e
+Passes s q e Known = standing_among s.events e ≡ Known
+Passes s q e Taken = ⊥
+
+-- the event, whose number this is, is refused for the reason that the fault tells
+abbrev pub Refuses : SiteEvents → Quarantine → Content → ℕ → CaptureFault → Type 0
+Refuses s q e number faults.NoMemory = ⊤
+Refuses s q e number (faults.IdTaken event) = (event ≡ number) × IsReason s q e taken
+Refuses s q e number (faults.Blocked r i event) = (event ≡ number) × IsReason s q e (blocked r i)

@@ -1,0 +1,74 @@
+ghost use mathlib.Core.Logic.{◌⊎◌};
+ghost use Rattle.std.specs.Prelude.{◌≡◌, ◌≢◌, ◌↔◌, ℕ, List, IfOk, OnOk, IsTrue, Contains, map};
+ghost use Rattle.trace_core.specs.Pairs.{IsShipped};
+ghost use Rattle.site_core.specs.Shipments.{AreShipments};
+ghost use Rattle.site_core.specs.Shipping.{is_in};
+
+use crate::ordered_keys::keys_in_order;
+use epc_core::Epc;
+use event_json::SiteNo;
+use std::alloc::{AllocError, Global};
+use std::collections::BTreeSet;
+use trace_core::{Captured, Pair};
+
+/// An item that was shipped to a site. Shipments are ordered by item, then by site.
+#[derive(Debug, Drop, PartialEq, Eq, PartialOrd, Ord)]
+struct Shipment {
+    item: Epc,
+    site: SiteNo,
+}
+
+/// Each other site that one of the items was shipped to, with that item, in the order of item and site,
+/// and each once.
+pub fn shipments(
+    alloc: Global,
+    captured: &Captured,
+    items: &[Epc],
+) -> Result<Vec<(SiteNo, Epc)>, AllocError>
+    ensures { IfOk result (λ out. AreShipments captured.now items.now out.items) }
+{
+    let mut found = BTreeSet::new(alloc);
+    for item in items {
+        add_shipments(captured, item, &mut found)?;
+    }
+    told(alloc, keys_in_order(alloc, found)?)
+}
+
+/// Adds the shipments of an item.
+fn add_shipments(
+    captured: &Captured,
+    item: &Epc,
+    found: &mut BTreeSet<Shipment>,
+) -> Result<(), AllocError>
+    ensures { OnOk result ((t : ℕ) (i : List ℕ) → IsTrue (is_in found.new t i) ↔ (IsTrue (is_in found.old t i) ⊎ ((item.now ≡ i) × IsShipped captured.now i (record { site = t; item = i })))) }
+{
+    let me = captured.me();
+    for pair in captured.related(item)? {
+        add_if_away(me, pair, found)?;
+    }
+    Ok(())
+}
+
+/// Adds a pair unless it is at this site.
+fn add_if_away(me: SiteNo, pair: Pair, found: &mut BTreeSet<Shipment>) -> Result<(), AllocError>
+    ensures { OnOk result ((t : ℕ) (i : List ℕ) → IsTrue (is_in found.new t i) ↔ (IsTrue (is_in found.old t i) ⊎ ((t ≢ me) × (pair ≡ record { site = t; item = i })))) }
+{
+    if pair.site != me {
+        found.insert(Shipment {
+            item: pair.item,
+            site: pair.site,
+        })?;
+    }
+    Ok(())
+}
+
+/// Each shipment as its site and its item.
+fn told(alloc: Global, shipments: Vec<Shipment>) -> Result<Vec<(SiteNo, Epc)>, AllocError>
+    ensures { IfOk result (λ out. out.items ≡ map (λ s. (s.site, s.item)) shipments.items) }
+{
+    let mut out = Vec::new(alloc);
+    for shipment in shipments {
+        out.push((shipment.site, shipment.item))?;
+    }
+    Ok(out)
+}
