@@ -6,55 +6,47 @@ use std::alloc::Global;
 use std::test::Fail;
 use trace_core::{Added, Captured};
 
-/// The recall of a number that site A began.
-fn recall(number: u64) -> Result<RecallId, Fail> {
+/// Recall 1 of site A.
+fn recall() -> Result<RecallId, Fail> {
     let site = SiteNo::of(0).ok_or("no such site")?;
-    Ok(RecallId { site, number })
+    Ok(RecallId { site, number: 1 })
 }
 
-/// Whether x is new under recall 1 once, and y held under recall 2 alone, where y comes twice.
-fn holds_by_recall(alloc: Global) -> Result<bool, Fail> {
-    let mut quarantine = Quarantine::new(alloc);
-    let x = Epc::read(alloc, "x")?;
-    let items = [
-        Epc::read(alloc, "y")?,
-        Epc::read(alloc, "x")?,
-        Epc::read(alloc, "y")?,
-    ];
-    let first = quarantine.hold(recall(1)?, x.copy(alloc)?)?;
-    let again = quarantine.hold(recall(1)?, x)?;
-    quarantine.hold_all(recall(2)?, &items)?;
-    let both = quarantine.holds(recall(2)?, &items[0]) && quarantine.holds(recall(2)?, &items[1]);
-    Ok(first && !again && both && !quarantine.holds(recall(1)?, &items[0]))
+/// Quarantines an item, and answers whether it is new.
+fn hold(quarantine: &mut Quarantine, alloc: Global, text: &str) -> Result<bool, Fail> {
+    let item = Epc::read(alloc, text)?;
+    Ok(quarantine.hold(recall()?, item)?)
 }
 
-/// Whether a copy of a quarantine with one item has it.
-fn copies_items(alloc: Global) -> Result<bool, Fail> {
-    let mut quarantine = Quarantine::new(alloc);
-    let x = Epc::read(alloc, "x")?;
-    quarantine.hold(recall(1)?, x.copy(alloc)?)?;
-    let copy = quarantine.copy(alloc)?;
-    Ok(copy.holds(recall(1)?, &x))
+/// Quarantines x and y, and answers whether both are held then.
+fn hold_both(quarantine: &mut Quarantine, alloc: Global) -> Result<bool, Fail> {
+    let recall = recall()?;
+    let items = [Epc::read(alloc, "x")?, Epc::read(alloc, "y")?];
+    quarantine.hold_all(recall, &items)?;
+    Ok(quarantine.holds(recall, &items[0]) && quarantine.holds(recall, &items[1]))
 }
 
 /// Whether a copy of a site with nothing is of the same list.
 fn copies_site(alloc: Global) -> Result<bool, Fail> {
     let mut sites = Sites::new(alloc);
     let me = sites.add("A", &["a"])?;
-    let state = SiteState::new(alloc, sites, me);
-    let copy = state.copy(alloc)?;
+    let copy = SiteState::new(alloc, sites, me).copy(alloc)?;
     Ok(copy.sites().name(me) == Some("A"))
 }
 
 #[test]
 fn items_are_held_by_recall(rt: HostRuntime) -> Result<(), Fail> {
-    assert!(rt; holds_by_recall(rt.alloc())?);
+    let mut quarantine = Quarantine::new(rt.alloc());
+    assert!(rt; hold(&mut quarantine, rt.alloc(), "x")?);
+    assert!(rt; !hold(&mut quarantine, rt.alloc(), "x")?);
+    assert!(rt; hold_both(&mut quarantine, rt.alloc())?);
+    let mut copy = quarantine.copy(rt.alloc())?;
+    assert!(rt; !hold(&mut copy, rt.alloc(), "y")?);
     Ok(())
 }
 
 #[test]
-fn copies_are_made(rt: HostRuntime) -> Result<(), Fail> {
-    assert!(rt; copies_items(rt.alloc())?);
+fn a_site_is_copied(rt: HostRuntime) -> Result<(), Fail> {
     assert!(rt; copies_site(rt.alloc())?);
     Ok(())
 }
