@@ -96,8 +96,8 @@ fn first_run(alloc: Global, sites: &Sites) -> Result<Captured, Fail> {
 /// x and y, quarantined under recall 1.
 fn x_and_y(alloc: Global) -> Result<Quarantine, Fail> {
     let mut quarantine = Quarantine::new(alloc);
-    quarantine.hold(recall(1)?, Epc::read(alloc, "x")?)?;
-    quarantine.hold(recall(1)?, Epc::read(alloc, "y")?)?;
+    quarantine.hold(recall()?, Epc::read(alloc, "x")?)?;
+    quarantine.hold(recall()?, Epc::read(alloc, "y")?)?;
     Ok(quarantine)
 }
 
