@@ -12,3 +12,4 @@ pub mod Shipments
 pub mod Shipping
 pub mod Sources
 pub mod Spreading
+pub mod Steps

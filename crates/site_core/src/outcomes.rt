@@ -1,0 +1,106 @@
+ghost use Rattle.std.specs.Prelude.{◌≡◌, IfOk};
+
+use epc_core::Epc;
+use event_json::DocFault;
+use frame_core::{MsgId, RecallId};
+use std::alloc::{AllocError, Global};
+use thiserror::Error;
+
+/// What a step did.
+#[derive(Clone, Copy, Debug, PartialEq, Eq)]
+pub enum Effects {
+    /// A document was captured: how many of its events were fresh, how many the site knew, and how many
+    /// are of a type that isn't traced.
+    Captured {
+        fresh: u64,
+        known: u64,
+        skipped: u64,
+    },
+    /// A recall was started: how many items came under it here, how many messages were numbered, and
+    /// whether it has ended, since there is nobody to tell.
+    Started {
+        recall: RecallId,
+        quarantined: u64,
+        numbered: u64,
+        ended: bool,
+    },
+    /// A message of a recall was taken: how many items came under it here, how many messages were
+    /// numbered, and whether its signal is owed until they are signalled; otherwise it is due at once.
+    Received {
+        quarantined: u64,
+        numbered: u64,
+        owed: bool,
+    },
+    /// The message was seen before, and nothing changed.
+    Repeat,
+    /// No unsignalled message has the number of the signal, and nothing changed.
+    Stale,
+    /// The message is signalled, and nothing follows.
+    Cleared,
+    /// The message was the recall's last one here: the site is no longer engaged, and the signal of its
+    /// parent is due.
+    ParentDue(MsgId),
+    /// The message was the last one of a recall that this site began, and the recall has ended.
+    Ended(RecallId),
+}
+
+/// Why a step was refused. Nothing was changed then.
+#[derive(Debug, Drop, PartialEq, Eq, Error)]
+pub enum Refusal {
+    /// Memory ran out.
+    #[error("memory ran out")]
+    NoMemory,
+    /// An event of the document would lead out of the quarantine of a recall.
+    #[error("event {event} would lead out of a quarantine")]
+    Blocked {
+        /// The least recall whose quarantine the event would lead out of from that item.
+        recall: RecallId,
+        /// The least item that the event would lead on from.
+        item: Epc,
+        /// The event's place among those that were read, from 1, skipped ones left out.
+        event: u64,
+    },
+    /// An event of the document has the eventID of an event with other content.
+    #[error("the eventID of event {event} is taken")]
+    IdTaken {
+        /// The event's place among those that were read, from 1, skipped ones left out.
+        event: u64,
+    },
+    /// No captured event names the item, and it isn't quarantined.
+    #[error("the site doesn't know the item")]
+    UnknownItem,
+    /// The frame isn't for this site, or says what no site can have sent.
+    #[error("the frame isn't for this site")]
+    NotMine,
+    /// The recall, or a message of it, would get a number past 2^62.
+    #[error("the numbers are spent")]
+    NumbersSpent,
+    /// The document has this fault.
+    #[error("{0}")]
+    Doc(DocFault),
+}
+
+impl Refusal {
+    /// An equal refusal.
+    pub fn copy(&self, alloc: Global) -> Result<Refusal, AllocError>
+        ensures { IfOk result (λ refusal. refusal ≡ self.now) }
+    {
+        Ok(match self {
+            Refusal::NoMemory => Refusal::NoMemory,
+            Refusal::Blocked {
+                recall,
+                item,
+                event,
+            } => Refusal::Blocked {
+                recall: *recall,
+                item: item.copy(alloc)?,
+                event: *event,
+            },
+            Refusal::IdTaken { event } => Refusal::IdTaken { event: *event },
+            Refusal::UnknownItem => Refusal::UnknownItem,
+            Refusal::NotMine => Refusal::NotMine,
+            Refusal::NumbersSpent => Refusal::NumbersSpent,
+            Refusal::Doc(fault) => Refusal::Doc(*fault),
+        })
+    }
+}
