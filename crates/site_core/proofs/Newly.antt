@@ -40,16 +40,13 @@ module _ {X : Type 0} (p : X → Bool) where
       (contains_cases x y xs there)
 
 -- those of the spread that aren't held
-pub newly : (s : SiteEvents) (q : Quarantine) (r : Recall) (i : List ℕ) (starts found given rest out : List (List ℕ)) → starts ≡ i ∷ [] → AreAscendingItems found → ((j : List ℕ) → Contains found j ↔ IsSpread s starts j)
-    → given ≡ found → rest ≡ [] → out ++ filter (λ j. not (held q r j)) rest ≡ filter (λ j. not (held q r j)) given → AreNewlyHeld s q r i out
-newly s q r i starts found given rest out one up exact same none all =
-    let is : out ≡ filter (λ j. not (held q r j)) found =
-    sym (append_nil out) ∙ ap (λ es. out ++ filter (λ j. not (held q r j)) es) (sym none) ∙ all ∙ ap (λ es. filter (λ j. not (held q r j)) es) same in
-    record {
+pub newly : (s : SiteEvents) (q : Quarantine) (r : Recall) (i : List ℕ) (found out : List (List ℕ)) → AreAscendingItems found → ((j : List ℕ) → Contains found j ↔ IsSpread s (i ∷ []) j)
+    → out ≡ filter (λ j. not (held q r j)) found → AreNewlyHeld s q r i out
+newly s q r i found out up exact is = record {
       ascending = subst AreAscendingItems (sym is) (IsStrictlySortedBy-filter item_cmp (λ j. not (held q r j)) found up);
       exact = λ j.
           let fresh = Decides-not (held q r j) (λ h. h, λ h. h) in (
-            λ h. let (there, passes) = passing (λ j. not (held q r j)) found j (subst (λ xs. Contains xs j) is h) in (subst (λ xs. IsSpread s xs j) one ((exact j).0 there), fresh.0 passes),
-            λ (spread, not_held). subst (λ xs. Contains xs j) (sym is) (is_kept (λ j. not (held q r j)) found j ((exact j).1 (subst (λ xs. IsSpread s xs j) (sym one) spread)) (fresh.1 not_held)),
+            λ h. let (there, passes) = passing (λ j. not (held q r j)) found j (subst (λ xs. Contains xs j) is h) in ((exact j).0 there, fresh.0 passes),
+            λ (spread, not_held). subst (λ xs. Contains xs j) (sym is) (is_kept (λ j. not (held q r j)) found j ((exact j).1 spread) (fresh.1 not_held)),
           );
     }

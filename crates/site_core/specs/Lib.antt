@@ -6,6 +6,7 @@ pub mod Emitting
 pub mod Holding
 pub mod ItemSets
 pub mod Laws
+pub mod Plans
 pub mod Quarantines
 pub mod Records
 pub mod Shipments

@@ -10,6 +10,7 @@ mod item_sets;
 pub mod laws;
 mod ordered_keys;
 mod outcomes;
+mod plans;
 mod quarantines;
 mod shipping;
 mod sources;

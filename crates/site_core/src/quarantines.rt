@@ -74,10 +74,25 @@ impl Quarantine {
         hold_in(self.alloc, &mut self.recalls, recall, item)
     }
 
-    /// Quarantines these items under a recall. An `Err` changes nothing: what was added is taken away
-    /// again. It costs these items, not those that are held.
+    /// Quarantines these items under a recall. An `Err` changes nothing. It costs these items, not those
+    /// that are held.
     pub fn hold_all(&mut self, recall: RecallId, items: &[Epc]) -> Result<(), AllocError>
         ensures ok { OnOk result (self.new ≡ with_items self.old recall items.now) }
+        ensures err { OnErr result (self.new ≡ self.old) }
+    {
+        self.hold_each(recall, items)?;
+        Ok(())
+    }
+
+    /// Quarantines these items under a recall, and answers those that are new there: to release them gives
+    /// what was held before. An `Err` changes nothing: what was added is taken away again.
+    pub(crate) fn hold_each<'a>(
+        &mut self,
+        recall: RecallId,
+        items: &'a [Epc],
+    ) -> Result<Vec<&'a Epc>, AllocError>
+        ensures ok { OnOk result (self.new ≡ with_items self.old recall items.now) }
+        ensures undone { IfOk result (λ added. without_items self.new recall (map (λ item. item.now) added.items) ≡ self.old) }
         ensures err { OnErr result (self.new ≡ self.old) }
     {
         let mut added = Vec::with_capacity(self.alloc, items.len())?;
@@ -93,7 +108,7 @@ impl Quarantine {
                 added.push_reserved(item);
             }
         }
-        Ok(())
+        Ok(added)
     }
 
     /// Quarantines a copy of an item under a recall, and answers whether it is new there. An `Err` changes
@@ -111,7 +126,7 @@ impl Quarantine {
     }
 
     /// Takes these items away from a recall, the last one first. Takes no memory.
-    fn release_all(&mut self, recall: RecallId, mut items: Vec<&Epc>)
+    pub(crate) fn release_all(&mut self, recall: RecallId, mut items: Vec<&Epc>)
         ensures { self.new ≡ without_items self.old recall (map (λ item. item.now) items.entry.items) }
     {
         while let Some(item) = items.pop() {

@@ -1,12 +1,17 @@
-use Rattle.std.proofs.Common.{◌≡◌, ◌∷◌, ◌++◌, [], sym, ap, ◌∙◌, arith}
-use Rattle.std.specs.Vec.Iter.{into_iter_items}
-use Rattle.std.proofs.lemmas.List.{nil_from_length}
+use Rattle.std.proofs.Common.{◌≡◌, not, filter, IfOk}
+use Rattle.std.specs.Prelude.{Ok, Err}
+use Rattle.site_core.specs.Quarantines.{held}
+use Rattle.site_core.specs.Spreading.{AreNewlyHeld}
 use Rattle.site_core.proofs.Newly.{newly}
 use Rattle.site_core.proofs.spreading.newly_held.Goals as goal
 
 pub returns : goal.returns
 returns c =
-    let one : c.deref.result.now ≡ c.args.item.now ∷ [] = c.deref.ensures.value ∙ c.in_ok-push.ensures.items ∙ ap (λ xs. xs ++ c.in_ok-copy.field-0 ∷ []) c.new-starts.ensures.items ∙ ap (λ i. i ∷ []) c.in_ok-copy.ensures in
-    newly c.args.captured.now c.args.quarantine.now c.args.recall c.args.item.now c.deref.result.now c.in_ok-found-items.found-items.items (into_iter_items c.into_iter-found-iterator.result) (into_iter_items c.loop-found.found-iterator) c.loop-found.items.items
-    one c.in_ok-found-items.ensures.ascending c.in_ok-found-items.ensures.exact c.into_iter-found-iterator.ensures.into_iter_gives.0
-    (nil_from_length (into_iter_items c.loop-found.found-iterator) (omega (arith, c.in-None.ensures.steps.0))) c.loop-found.invariant.all
+    let s = c.args.captured.now in
+    let q = c.args.quarantine.now in
+    let r = c.args.recall in
+    let found = c.in_ok-items.items.items in
+    elim c.not_held.result as (λ answer. IfOk answer (λ items. items.items ≡ filter (λ j. not (held q r j)) found) → IfOk answer (λ items. AreNewlyHeld s q r c.args.item.now items.items)) [
+      | Ok items ↦ λ is. newly s q r c.args.item.now found items.items c.in_ok-items.ensures.ascending c.in_ok-items.ensures.exact is
+      | Err fault ↦ λ is. is
+    ] c.not_held.ensures

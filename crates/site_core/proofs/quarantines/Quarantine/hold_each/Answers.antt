@@ -3,8 +3,8 @@ use Rattle.std.proofs.lemmas.List.{map_push, length_push}
 use Rattle.site_core.specs.Holding.{without_items}
 use Rattle.site_core.specs.Quarantines.{with_item, with_items, HasNoEmptySet}
 use Rattle.site_core.proofs.Held.{held_next, no_empty_with, undone_new, undone_held}
-use Rattle.site_core.proofs.quarantines.Quarantine.hold_all.Goals as goal
-use Rattle.site_core.proofs.quarantines.Quarantine.hold_all.Goals.{then-new, else-new}
+use Rattle.site_core.proofs.quarantines.Quarantine.hold_each.Goals as goal
+use Rattle.site_core.proofs.quarantines.Quarantine.hold_each.Goals.{then-new, else-new}
 
 pub loop-item-preserved : goal.loop-item-preserved
 loop-item-preserved c =

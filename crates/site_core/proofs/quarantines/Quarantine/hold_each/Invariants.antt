@@ -1,7 +1,7 @@
 use Rattle.std.proofs.Common.{◌≡◌, ◌≤◌, map, drop, length, vec_capacity}
 use Rattle.site_core.specs.Holding.{without_items}
 use Rattle.site_core.specs.Quarantines.{with_items, HasNoEmptySet}
-use Rattle.site_core.proofs.quarantines.Quarantine.hold_all.Given as goal
+use Rattle.site_core.proofs.quarantines.Quarantine.hold_each.Given as goal
 
 -- what is left to be held gives what all of them do, and what was added can be taken away
 abbrev pub invariant-loop-item : goal.invariant-loop-item

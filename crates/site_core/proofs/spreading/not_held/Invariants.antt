@@ -1,7 +1,7 @@
 use Rattle.std.proofs.Common.{◌≡◌, ◌++◌, not, filter}
 use Rattle.std.specs.Vec.Iter.{into_iter_items}
 use Rattle.site_core.specs.Quarantines.{held}
-use Rattle.site_core.proofs.spreading.newly_held.Given as goal
+use Rattle.site_core.proofs.spreading.not_held.Given as goal
 
 -- the items so far and those of the rest that aren't held are all of them
 abbrev pub invariant-loop-found : goal.invariant-loop-found

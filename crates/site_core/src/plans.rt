@@ -1,0 +1,111 @@
+//! What a step comes to, found at a borrowed record, and how it is done in place.
+ghost use Rattle.std.specs.Prelude.{◌≡◌, ◌≢◌, ◌↔◌, ◌⊎◌, ◌<◌, ◌^◌, ℕ, List, length, filter, not, Contains, Err, IfOk, OnOk, OnErr, IsNone};
+ghost use Rattle.std.specs.FinMap as finite;
+ghost use Rattle.scholten_core.specs.Changes.{began, begun, received};
+ghost use Rattle.site_core.specs.Quarantines.{with_items};
+ghost use Rattle.site_core.specs.Shipments.{AreShipments};
+ghost use Rattle.site_core.specs.Spreading.{AreNewlyHeld};
+ghost use Rattle.site_core.specs.Plans.{IsStartPlanned};
+ghost use Rattle.site_core.specs.Steps.{AreTooMany};
+
+use crate::quarantines::Quarantine;
+use crate::shipping::shipments;
+use crate::spreading::{newly_held, not_held, spread_of};
+use epc_core::Epc;
+use event_json::SiteNo;
+use frame_core::{MsgId, NumberFault, RecallId};
+use scholten_core::{Began, Diffusion, Received};
+use std::alloc::{AllocError, Global};
+use trace_core::Captured;
+
+/// What a recall adds to a site.
+#[derive(Debug, Drop)]
+pub struct Plan {
+    /// The items that come under the recall, ascending.
+    pub new: Vec<Epc>,
+    /// The messages to number, in order, each by its destination and its item.
+    pub out: Vec<(SiteNo, Epc)>,
+}
+
+/// What the start of a recall of an item adds: the spread of the item, and all its shipments.
+pub fn plan_start(
+    alloc: Global,
+    captured: &Captured,
+    quarantine: &Quarantine,
+    recall: RecallId,
+    root: &Epc,
+) -> Result<Plan, AllocError>
+    ensures { IfOk result (λ plan. IsStartPlanned captured.now quarantine.now recall root.now plan.new.items plan.out.items) }
+{
+    let spread = spread_of(alloc, captured, root)?;
+    let out = shipments(alloc, captured, &spread)?;
+    let new = not_held(alloc, quarantine, recall, spread)?;
+    Ok(Plan { new, out })
+}
+
+/// What a message of a recall adds: what is new of the spread of its item, and the shipments of that.
+pub fn plan_message(
+    alloc: Global,
+    captured: &Captured,
+    quarantine: &Quarantine,
+    recall: RecallId,
+    item: &Epc,
+) -> Result<Plan, AllocError>
+    ensures newly { IfOk result (λ plan. AreNewlyHeld captured.now quarantine.now recall item.now plan.new.items) }
+    ensures shipped { IfOk result (λ plan. AreShipments captured.now plan.new.items plan.out.items) }
+{
+    let new = newly_held(alloc, captured, quarantine, recall, item)?;
+    let out = shipments(alloc, captured, &new)?;
+    Ok(Plan { new, out })
+}
+
+/// Begins the recall, whose number is the next one, as planned. A fault changes nothing.
+pub fn begin_planned(
+    quarantine: &mut Quarantine,
+    diffusion: &mut Diffusion,
+    recall: RecallId,
+    root: Epc,
+    plan: &Plan,
+) -> Result<Began, NumberFault>
+    ensures answer { IfOk result (λ answer. answer ≡ began diffusion.old plan.now.out.items) }
+    ensures held { OnOk result (quarantine.new ≡ with_items quarantine.old recall plan.now.new.items) }
+    ensures begun { OnOk result (diffusion.new ≡ begun diffusion.old root plan.now.out.items) }
+    ensures enough { OnOk result (((2 ^ 62 < diffusion.old.next_recall) ⊎ AreTooMany diffusion.old plan.now.out.items) → ⊥) }
+    ensures spent { result ≡ Err NumberFault.NumbersSpent → (2 ^ 62 < diffusion.old.next_recall) ⊎ AreTooMany diffusion.old plan.now.out.items }
+    ensures unchanged { OnErr result ((quarantine.new ≡ quarantine.old) × (diffusion.new ≡ diffusion.old)) }
+{
+    let added = quarantine.hold_each(recall, &plan.new)?;
+    match diffusion.begin(root, &plan.out) {
+        Ok(began) => Ok(began),
+        Err(fault) => {
+            quarantine.release_all(recall, added);
+            Err(fault)
+        }
+    }
+}
+
+/// Takes a message of a recall that wasn't seen, as planned. A fault changes nothing.
+pub fn receive_planned(
+    quarantine: &mut Quarantine,
+    diffusion: &mut Diffusion,
+    message: MsgId,
+    recall: RecallId,
+    plan: &Plan,
+) -> Result<Received, NumberFault>
+    requires unseen { IsNone (finite.get diffusion.old.seen message) }
+    ensures answer { IfOk result (λ answer. answer ≡ (received diffusion.old message recall plan.now.out.items).1) }
+    ensures held { OnOk result (quarantine.new ≡ with_items quarantine.old recall plan.now.new.items) }
+    ensures taken { OnOk result (diffusion.new ≡ (received diffusion.old message recall plan.now.out.items).0) }
+    ensures enough { OnOk result (AreTooMany diffusion.old plan.now.out.items → ⊥) }
+    ensures spent { result ≡ Err NumberFault.NumbersSpent → AreTooMany diffusion.old plan.now.out.items }
+    ensures unchanged { OnErr result ((quarantine.new ≡ quarantine.old) × (diffusion.new ≡ diffusion.old)) }
+{
+    let added = quarantine.hold_each(recall, &plan.new)?;
+    match diffusion.receive(message, recall, &plan.out) {
+        Ok(received) => Ok(received),
+        Err(fault) => {
+            quarantine.release_all(recall, added);
+            Err(fault)
+        }
+    }
+}
