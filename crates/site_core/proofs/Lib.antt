@@ -2,6 +2,7 @@ pub mod Ascending
 pub mod Blocks
 pub mod Captures
 pub mod Changes
+pub mod Documents
 pub mod Held
 pub mod HeldLaws
 pub mod Holders
@@ -15,3 +16,4 @@ pub mod Records
 pub mod Results
 pub mod Shipped
 pub mod SourcesFound
+pub mod Starting

@@ -6,6 +6,7 @@ pub mod Emitting
 pub mod Holding
 pub mod ItemSets
 pub mod Laws
+pub mod Looks
 pub mod Plans
 pub mod Quarantines
 pub mod Records
@@ -13,4 +14,6 @@ pub mod Shipments
 pub mod Shipping
 pub mod Sources
 pub mod Spreading
+pub mod Stepping
 pub mod Steps
+pub mod Told

@@ -8,6 +8,7 @@ mod holding;
 mod inputs;
 mod item_sets;
 pub mod laws;
+mod looks;
 mod ordered_keys;
 mod outcomes;
 mod plans;
@@ -16,6 +17,7 @@ mod shipping;
 mod sources;
 mod spreading;
 mod states;
+mod steps;
 #[cfg(test)]
 mod tests;
 
@@ -28,3 +30,4 @@ pub use quarantines::Quarantine;
 pub use shipping::shipments;
 pub use spreading::{is_known, newly_held};
 pub use states::SiteState;
+pub use steps::{Stepped, step};

@@ -1,8 +1,12 @@
 ghost use Rattle.std.specs.Prelude.{◌≡◌, IfOk};
+ghost use Rattle.site_core.specs.Told.{told_capture, told_signal};
+ghost use Rattle.site_core.specs.Steps.{changes};
 
+use crate::capturing::CaptureFault;
 use epc_core::Epc;
 use event_json::DocFault;
 use frame_core::{MsgId, RecallId};
+use scholten_core::Signalled;
 use std::alloc::{AllocError, Global};
 use thiserror::Error;
 
@@ -44,6 +48,31 @@ pub enum Effects {
     Ended(RecallId),
 }
 
+impl Effects {
+    /// Whether the step changed the record.
+    pub fn changes(&self) -> bool
+        ensures { result ≡ changes self.now }
+    {
+        match self {
+            Effects::Captured { fresh, .. } => *fresh > 0,
+            Effects::Repeat | Effects::Stale => false,
+            _ => true,
+        }
+    }
+
+    /// What a signal did.
+    pub(crate) fn of_signal(signalled: Signalled) -> Effects
+        ensures { result ≡ told_signal signalled }
+    {
+        match signalled {
+            Signalled::Stale => Effects::Stale,
+            Signalled::Cleared => Effects::Cleared,
+            Signalled::ParentDue(parent) => Effects::ParentDue(parent),
+            Signalled::Ended(recall) => Effects::Ended(recall),
+        }
+    }
+}
+
 /// Why a step was refused. Nothing was changed then.
 #[derive(Debug, Drop, PartialEq, Eq, Error)]
 pub enum Refusal {
@@ -81,6 +110,25 @@ pub enum Refusal {
 }
 
 impl Refusal {
+    /// Why a document's events weren't captured.
+    pub(crate) fn of_capture(fault: CaptureFault) -> Refusal
+        ensures { result ≡ told_capture fault }
+    {
+        match fault {
+            CaptureFault::NoMemory => Refusal::NoMemory,
+            CaptureFault::IdTaken { event } => Refusal::IdTaken { event },
+            CaptureFault::Blocked {
+                recall,
+                item,
+                event,
+            } => Refusal::Blocked {
+                recall,
+                item,
+                event,
+            },
+        }
+    }
+
     /// An equal refusal.
     pub fn copy(&self, alloc: Global) -> Result<Refusal, AllocError>
         ensures { IfOk result (λ refusal. refusal ≡ self.now) }

@@ -1,12 +1,12 @@
 //! What a step comes to, found at a borrowed record, and how it is done in place.
-ghost use Rattle.std.specs.Prelude.{◌≡◌, ◌≢◌, ◌↔◌, ◌⊎◌, ◌<◌, ◌^◌, ℕ, List, length, filter, not, Contains, Err, IfOk, OnOk, OnErr, IsNone};
+ghost use Rattle.std.specs.Prelude.{◌≡◌, ◌≢◌, ◌⊎◌, ◌<◌, ◌≤◌, ◌^◌, Ok, Err, IfOk, OnOk, OnErr, IsNone};
 ghost use Rattle.std.specs.FinMap as finite;
 ghost use Rattle.scholten_core.specs.Changes.{began, begun, received};
 ghost use Rattle.site_core.specs.Quarantines.{with_items};
 ghost use Rattle.site_core.specs.Shipments.{AreShipments};
 ghost use Rattle.site_core.specs.Spreading.{AreNewlyHeld};
 ghost use Rattle.site_core.specs.Plans.{IsStartPlanned};
-ghost use Rattle.site_core.specs.Steps.{AreTooMany};
+ghost use Rattle.site_core.specs.Steps.{HaveNumbers, AreTooMany};
 
 use crate::quarantines::Quarantine;
 use crate::shipping::shipments;
@@ -70,7 +70,7 @@ pub fn begin_planned(
     ensures answer { IfOk result (λ answer. answer ≡ began diffusion.old plan.now.out.items) }
     ensures held { OnOk result (quarantine.new ≡ with_items quarantine.old recall plan.now.new.items) }
     ensures begun { OnOk result (diffusion.new ≡ begun diffusion.old root plan.now.out.items) }
-    ensures enough { OnOk result (((2 ^ 62 < diffusion.old.next_recall) ⊎ AreTooMany diffusion.old plan.now.out.items) → ⊥) }
+    ensures enough { OnOk result ((diffusion.old.next_recall ≤ 2 ^ 62) × HaveNumbers diffusion.old plan.now.out.items) }
     ensures spent { result ≡ Err NumberFault.NumbersSpent → (2 ^ 62 < diffusion.old.next_recall) ⊎ AreTooMany diffusion.old plan.now.out.items }
     ensures unchanged { OnErr result ((quarantine.new ≡ quarantine.old) × (diffusion.new ≡ diffusion.old)) }
 {
@@ -96,7 +96,8 @@ pub fn receive_planned(
     ensures answer { IfOk result (λ answer. answer ≡ (received diffusion.old message recall plan.now.out.items).1) }
     ensures held { OnOk result (quarantine.new ≡ with_items quarantine.old recall plan.now.new.items) }
     ensures taken { OnOk result (diffusion.new ≡ (received diffusion.old message recall plan.now.out.items).0) }
-    ensures enough { OnOk result (AreTooMany diffusion.old plan.now.out.items → ⊥) }
+    ensures new { result ≢ Ok Received.Repeat }
+    ensures enough { OnOk result (HaveNumbers diffusion.old plan.now.out.items) }
     ensures spent { result ≡ Err NumberFault.NumbersSpent → AreTooMany diffusion.old plan.now.out.items }
     ensures unchanged { OnErr result ((quarantine.new ≡ quarantine.old) × (diffusion.new ≡ diffusion.old)) }
 {

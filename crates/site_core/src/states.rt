@@ -1,14 +1,15 @@
-ghost use Rattle.std.specs.Prelude.{◌≡◌, ◌<◌, length, IfOk};
+ghost use Rattle.std.specs.Prelude.{◌≡◌, ◌<◌, length, option_map, IfOk};
 ghost use Rattle.std.specs.Ordering.{nat_cmp};
 ghost use Rattle.std.specs.FinMap as map;
 ghost use Rattle.frame_core.specs.Identifiers.{recall_cmp, message_cmp};
+ghost use Rattle.frame_core.specs.Rows.{row_of};
 ghost use Rattle.frame_core.specs.Tables.{as_map};
 ghost use Rattle.frame_core.specs.Unsignalled.{IsNextNumber};
 ghost use Rattle.site_core.specs.Records.{fresh, IsSound};
 
 use crate::quarantines::Quarantine;
 use event_json::{SiteNo, Sites};
-use frame_core::{MsgId, RecallId, Row};
+use frame_core::{MsgId, RecallId, Row, RowView};
 use scholten_core::{Diffusion, Own};
 use std::alloc::{AllocError, Global};
 use std::collections::BTreeMap;
@@ -111,6 +112,20 @@ impl SiteState {
         ensures entries { result.now.entries ≡ map.entries self.now.engagement.outbox }
     {
         self.diffusion.outbox()
+    }
+
+    /// The message of this number, where it is not signalled.
+    pub fn row(&self, number: u64) -> Option<RowView<'_>>
+        ensures { option_map row_of result ≡ map.get self.now.engagement.outbox number }
+    {
+        self.diffusion.row(number)
+    }
+
+    /// The recall that a message was seen under.
+    pub fn seen_under(&self, message: MsgId) -> Option<RecallId>
+        ensures { result ≡ map.get self.now.engagement.seen message }
+    {
+        self.diffusion.seen_under(message)
     }
 
     /// The messages seen, each with the recall that it was seen under.

@@ -1,0 +1,205 @@
+ghost use Rattle.std.specs.Prelude.{◌≡◌, Err, IfOk, IfErr, OnErr};
+ghost use Rattle.frame_core.specs.declared.frames.Frame.TheVariants as frames;
+ghost use Rattle.site_core.specs.Steps.{Does, Refuses, TakesMemory, CopiesRecord, changes};
+ghost use Rattle.site_core.specs.Stepping.{IsStepped, stepped_to};
+
+use crate::capturing::capture_all;
+use crate::inputs::SiteInput;
+use crate::looks::look;
+use crate::outcomes::{Effects, Refusal};
+use crate::plans::{begin_planned, plan_message, plan_start, receive_planned};
+use crate::states::SiteState;
+use epc_core::Epc;
+use event_json::{ReadFault, SiteNo, read_document};
+use frame_core::{Frame, MsgId, NumberFault, RecallId};
+use scholten_core::Received;
+use std::alloc::{AllocError, Global};
+
+/// What a step made of a record.
+#[derive(Debug, Drop)]
+pub enum Stepped {
+    /// Nothing changed.
+    Same(Effects),
+    /// The site is this one from now on.
+    Next(SiteState, Effects),
+}
+
+/// The step of a site, which leaves the site as it is: what it does with an input, and what it is afterwards
+/// where that is another.
+///
+/// # Errors
+/// In the order in which they are tested: for a document `Doc`, and then its first event that is refused, by
+/// `IdTaken` before `Blocked`; for a start `UnknownItem`, then `NumbersSpent`; for a frame `NotMine`, then
+/// `NumbersSpent`. `NoMemory` may come before any, but not for a frame that changes nothing.
+pub fn step(alloc: Global, state: &SiteState, input: &SiteInput) -> Result<Stepped, Refusal>
+    ensures done { IfOk result (λ stepped. IsStepped state.now input.now stepped) }
+    ensures refused { IfErr result (λ why. Refuses state.now input.now why) }
+    ensures memory { result ≡ Err Refusal.NoMemory → CopiesRecord state.now input.now }
+{
+    match look(state, input) {
+        Some(Ok(effects)) => Ok(Stepped::Same(effects)),
+        Some(Err(refusal)) => Err(refusal),
+        None => step_copy(alloc, state, input),
+    }
+}
+
+/// The step done on a copy.
+fn step_copy(alloc: Global, state: &SiteState, input: &SiteInput) -> Result<Stepped, Refusal>
+    ensures done { IfOk result (λ stepped. IsStepped state.now input.now stepped) }
+    ensures refused { IfErr result (λ why. Refuses state.now input.now why) }
+{
+    let mut next = match state.copy(alloc) {
+        Ok(copy) => copy,
+        Err(AllocError) => return Err(Refusal::NoMemory),
+    };
+    let effects = next.apply(input)?;
+    Ok(stepped_to(next, effects))
+}
+
+/// The site after a step, where the effects change it.
+fn stepped_to(next: SiteState, effects: Effects) -> Stepped
+    ensures { result ≡ stepped_to next effects }
+{
+    if effects.changes() {
+        Stepped::Next(next, effects)
+    } else {
+        Stepped::Same(effects)
+    }
+}
+
+impl SiteState {
+    /// The step of a site, in place. It costs what it adds and takes away, not what is kept.
+    ///
+    /// # Errors
+    /// As those of [`step`]. Nothing is changed then. `NoMemory` comes of no signal.
+    pub fn apply(&mut self, input: &SiteInput) -> Result<Effects, Refusal>
+        ensures done { IfOk result (λ effects. Does self.old input.now effects self.new) }
+        ensures refused { IfErr result (λ why. Refuses self.old input.now why) }
+        ensures unchanged { OnErr result (self.new ≡ self.old) }
+        ensures memory { result ≡ Err Refusal.NoMemory → TakesMemory self.old input.now }
+    {
+        match look(self, input) {
+            Some(answer) => answer,
+            None => self.change(input),
+        }
+    }
+
+    /// The step of an input that isn't answered by a look.
+    fn change(&mut self, input: &SiteInput) -> Result<Effects, Refusal>
+        requires { CopiesRecord self.old input.now }
+        ensures done { IfOk result (λ effects. Does self.old input.now effects self.new) }
+        ensures refused { IfErr result (λ why. Refuses self.old input.now why) }
+        ensures unchanged { OnErr result (self.new ≡ self.old) }
+        ensures memory { result ≡ Err Refusal.NoMemory → TakesMemory self.old input.now }
+    {
+        match input {
+            SiteInput::Capture(bytes) => self.capture(bytes.as_slice()),
+            SiteInput::Start(root) => self.start(root),
+            SiteInput::Deliver(Frame::Recall {
+                id,
+                dest,
+                recall,
+                item,
+            }) => self.take(*id, *dest, *recall, item),
+            SiteInput::Deliver(Frame::Signal { id, by }) => Ok(self.clear(*id, *by)),
+        }
+    }
+
+    /// Captures a document.
+    fn capture(&mut self, bytes: &[u8]) -> Result<Effects, Refusal>
+        ensures done { IfOk result (λ effects. Does self.old (SiteInput.Capture bytes.now) effects self.new) }
+        ensures refused { IfErr result (λ why. Refuses self.old (SiteInput.Capture bytes.now) why) }
+        ensures unchanged { OnErr result (self.new ≡ self.old) }
+    {
+        let doc = match read_document(self.alloc, bytes, &self.sites) {
+            Ok(doc) => doc,
+            Err(ReadFault::NoMemory) => return Err(Refusal::NoMemory),
+            Err(ReadFault::Doc(fault)) => return Err(Refusal::Doc(fault)),
+        };
+        let skipped = doc.skipped;
+        let events = doc.events.into_vec();
+        match capture_all(self.alloc, &mut self.captured, &self.quarantine, events) {
+            Ok(added) => Ok(Effects::Captured {
+                fresh: added.fresh,
+                known: added.known,
+                skipped,
+            }),
+            Err(fault) => Err(Refusal::of_capture(fault)),
+        }
+    }
+
+    /// Starts a recall of an item that the site knows.
+    fn start(&mut self, root: &Epc) -> Result<Effects, Refusal>
+        requires known { CopiesRecord self.old (SiteInput.Start root.now) }
+        ensures done { IfOk result (λ effects. Does self.old (SiteInput.Start root.now) effects self.new) }
+        ensures refused { IfErr result (λ why. Refuses self.old (SiteInput.Start root.now) why) }
+        ensures unchanged { OnErr result (self.new ≡ self.old) }
+    {
+        let recall = RecallId {
+            site: self.diffusion.me(),
+            number: self.diffusion.next_recall(),
+        };
+        let plan = plan_start(self.alloc, &self.captured, &self.quarantine, recall, root)
+            .map_err(no_memory)?;
+        let root = root.copy(self.alloc).map_err(no_memory)?;
+        match begin_planned(&mut self.quarantine, &mut self.diffusion, recall, root, &plan) {
+            Ok(began) => Ok(Effects::Started {
+                recall,
+                quarantined: plan.new.len() as u64,
+                numbered: began.numbered,
+                ended: began.ended,
+            }),
+            Err(NumberFault::NoMemory) => Err(Refusal::NoMemory),
+            Err(NumberFault::NumbersSpent) => Err(Refusal::NumbersSpent),
+        }
+    }
+
+    /// Takes a message that is for the site and wasn't seen.
+    fn take(
+        &mut self,
+        message: MsgId,
+        dest: SiteNo,
+        recall: RecallId,
+        item: &Epc,
+    ) -> Result<Effects, Refusal>
+        requires unseen { CopiesRecord self.old (SiteInput.Deliver (frames.Recall message dest recall item.now)) }
+        ensures done { IfOk result (λ effects. Does self.old (SiteInput.Deliver (frames.Recall message dest recall item.now)) effects self.new) }
+        ensures refused { IfErr result (λ why. Refuses self.old (SiteInput.Deliver (frames.Recall message dest recall item.now)) why) }
+        ensures unchanged { OnErr result (self.new ≡ self.old) }
+    {
+        let plan = plan_message(self.alloc, &self.captured, &self.quarantine, recall, item)
+            .map_err(no_memory)?;
+        let quarantined = plan.new.len() as u64;
+        match receive_planned(&mut self.quarantine, &mut self.diffusion, message, recall, &plan) {
+            Ok(Received::Owe { numbered }) => Ok(Effects::Received {
+                quarantined,
+                numbered,
+                owed: true,
+            }),
+            Ok(Received::SignalNow { numbered }) => Ok(Effects::Received {
+                quarantined,
+                numbered,
+                owed: false,
+            }),
+            // It wasn't seen.
+            Ok(Received::Repeat) => Ok(Effects::Repeat),
+            Err(NumberFault::NoMemory) => Err(Refusal::NoMemory),
+            Err(NumberFault::NumbersSpent) => Err(Refusal::NumbersSpent),
+        }
+    }
+
+    /// Takes a signal for a message that stands and went to the site that signals. Takes no memory.
+    fn clear(&mut self, message: MsgId, by: SiteNo) -> Effects
+        requires stands { CopiesRecord self.old (SiteInput.Deliver (frames.Signal message by)) }
+        ensures { Does self.old (SiteInput.Deliver (frames.Signal message by)) result self.new }
+    {
+        Effects::of_signal(self.diffusion.signalled(message.number))
+    }
+}
+
+/// Want of memory.
+fn no_memory(_error: AllocError) -> Refusal
+    ensures { result ≡ Refusal.NoMemory }
+{
+    Refusal::NoMemory
+}
