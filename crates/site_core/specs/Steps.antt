@@ -4,7 +4,7 @@
 -- Letters 11 (1980), section 2: a site that learns of a recall quarantines what was made of the item there, and
 -- tells each site that some of it was shipped to. How a recall begins, and what a message and a signal make of
 -- the site's engagement, are `begun`, `received` and `signalled` of scholten_core.
-use Rattle.std.specs.Prelude.{◌≡◌, ◌≢◌, ◌⊎◌, ◌↔◌, ⊤, ℕ, ◌+◌, ◌<◌, ◌^◌, ◌==◌, Bool, List, [], ◌∷◌, length, Contains, nat_lt, true, false, Some, None, IsSome, Result, Ok, Err}
+use Rattle.std.specs.Prelude.{◌≡◌, ◌≢◌, ◌⊎◌, ◌↔◌, ⊤, ℕ, ◌+◌, ◌<◌, ◌≤◌, ◌^◌, ◌==◌, Bool, List, [], ◌∷◌, length, Contains, nat_lt, true, false, Some, None, IsSome, Result, Ok, Err}
 use Rattle.std.specs.Str.{IsUtf8}
 use Rattle.std.specs.FinMap.{get}
 use Rattle.event_json.specs.declared.doc_faults.DocFault.{DocFault}
@@ -58,6 +58,10 @@ pub record CapturesUpTo (s : Record) (bytes : List ℕ) (number : ℕ) (reason :
 
 -- Starting a recall.
 
+-- these messages get numbers of at most 2^62
+abbrev pub HaveNumbers : Engagement → List (ℕ × List ℕ) → Type 0
+HaveNumbers e out = e.next_message + length out ≤ 2 ^ 62 + 1
+
 -- these messages would get numbers past 2^62
 abbrev pub AreTooMany : Engagement → List (ℕ × List ℕ) → Type 0
 AreTooMany e out = 2 ^ 62 + 1 < e.next_message + length out
@@ -71,12 +75,13 @@ pub record MayStart (s : Record) (root : List ℕ) (spread new : List (List ℕ)
   pub newly : AreNewlyHeld s.captured s.quarantine (next_own s.engagement) root new
   pub shipped : AreShipments s.captured spread out
 
--- the spread comes under the next recall, and each shipment of it is a message
+-- the spread comes under the next recall, and each shipment of it is a message; there are numbers for all
 pub record Starts (s : Record) (root : List ℕ) (recall : Recall) (quarantined numbered : ℕ) (ended : Bool) (t : Record) : Type 0 where
   pub spread : List (List ℕ)
   pub new : List (List ℕ)
   pub out : List (ℕ × List ℕ)
   pub may : MayStart s root spread new out
+  pub enough : (s.engagement.next_recall ≤ 2 ^ 62) × HaveNumbers s.engagement out
   pub next : recall ≡ next_own s.engagement
   pub held : quarantined ≡ length new
   pub told : numbered ≡ length out
@@ -117,11 +122,12 @@ abbrev pub reply : ℕ → Bool → Received
 reply numbered true = Owe numbered
 reply numbered false = SignalNow numbered
 
--- the new items come under the recall, and each shipment of them is a message
+-- the new items come under the recall, and each shipment of them is a message, for which there are numbers
 pub record Takes (s : Record) (m : Message) (dest : ℕ) (r : Recall) (i : List ℕ) (quarantined numbered : ℕ) (owed : Bool) (t : Record) : Type 0 where
   pub new : List (List ℕ)
   pub out : List (ℕ × List ℕ)
   pub may : MayTake s m dest r i new out
+  pub enough : HaveNumbers s.engagement out
   pub held : quarantined ≡ length new
   pub engaged : received s.engagement m r out ≡ (t.engagement, reply numbered owed)
   pub after : t ≡ record s { quarantine = with_items s.quarantine r new; engagement = t.engagement }
