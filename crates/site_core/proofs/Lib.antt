@@ -14,4 +14,6 @@ pub mod Places
 pub mod Records
 pub mod Results
 pub mod Shipped
+pub mod ShipsAmong
+pub mod Soundness
 pub mod SourcesFound
