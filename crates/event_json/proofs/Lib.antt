@@ -1,5 +1,6 @@
 pub mod Apart
 pub mod ContentLaws
+pub mod Destinations
 pub mod Each
 pub mod Gathered
 pub mod Lists

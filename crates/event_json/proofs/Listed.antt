@@ -20,19 +20,19 @@ use Rattle.event_json.specs.Sites.{Site, addressed}
 use Rattle.event_json.proofs.Carried.{each_count}
 use Rattle.event_json.proofs.Lists.{parted}
 
-same_ok : {A E : Type 0} (x y : A) → ◌≡◌ {A = Result A E} (Ok x) (Ok y) → x ≡ y
+pub same_ok : {A E : Type 0} (x y : A) → ◌≡◌ {A = Result A E} (Ok x) (Ok y) → x ≡ y
 same_ok x y e = cc
 
 same_err : {A E : Type 0} (x y : E) → ◌≡◌ {A = Result A E} (Err x) (Err y) → x ≡ y
 same_err x y e = cc
 
 -- what is found of a numbered event is what is found of the event
-unnumbered : {A : Type 0} (n : ℕ) (read : Result A Flaw) (x : A) → at_event n read ≡ Ok x → read ≡ Ok x
+pub unnumbered : {A : Type 0} (n : ℕ) (read : Result A Flaw) (x : A) → at_event n read ≡ Ok x → read ≡ Ok x
 unnumbered n (Ok y) x e = ap Ok (same_ok _ _ e)
 unnumbered n (Err flaw) x e = absurd (let no : ⊥ = cc in no)
 
 -- two steps that both found something
-both_found : {A E : Type 0} (first : Result A E) (rest : Result (List A) E) (xs : List A) → (first >>= λ y. rest >>= λ ys. Ok (y ∷ ys)) ≡ Ok xs
+pub both_found : {A E : Type 0} (first : Result A E) (rest : Result (List A) E) (xs : List A) → (first >>= λ y. rest >>= λ ys. Ok (y ∷ ys)) ≡ Ok xs
     → (y : A) × (ys : List A) × (first ≡ Ok y) × (rest ≡ Ok ys) × (xs ≡ y ∷ ys)
 both_found (Ok y) (Ok ys) xs e = (y, ys, refl, refl, sym (same_ok _ _ e))
 both_found (Ok y) (Err fault) xs e = absurd (let no : ⊥ = cc in no)
@@ -52,7 +52,7 @@ each_at sites n (item x xs) found h (suc place) d at =
     (rest.0, subst (λ l. slice_get l (suc place) ≡ Some rest.0) (sym parts.4) rest.1, rest.2)
 
 -- the list that a document was made of
-doc_found : (found : Result (List (Option Content)) DocFault) (doc : Doc) → (found >>= λ f. Ok (doc_of f)) ≡ Ok doc → (f : List (Option Content)) × (found ≡ Ok f) × (doc_of f ≡ doc)
+pub doc_found : (found : Result (List (Option Content)) DocFault) (doc : Doc) → (found >>= λ f. Ok (doc_of f)) ≡ Ok doc → (f : List (Option Content)) × (found ≡ Ok f) × (doc_of f ≡ doc)
 doc_found (Ok f) doc e = (f, refl, same_ok _ _ e)
 doc_found (Err fault) doc e = absurd (let no : ⊥ = cc in no)
 

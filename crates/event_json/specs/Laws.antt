@@ -1,5 +1,5 @@
 -- Laws of a document's reading: what any right definition of it meets, and together only this one.
-use Rattle.std.specs.Prelude.{◌≡◌, ◌↔◌, ℕ, zero, suc, ◌+◌, ◌<◌, ◌≤◌, ◌⊎◌, IsTrue, IsOk, List, [], ◌∷◌, length, slice_get, filter, filter_map, is_none, Option, Some, None, Ok, Err}
+use Rattle.std.specs.Prelude.{All, ◌≡◌, ◌↔◌, ℕ, zero, suc, ◌+◌, ◌<◌, ◌≤◌, ◌⊎◌, IsTrue, IsOk, List, [], ◌∷◌, length, slice_get, filter, filter_map, is_none, Option, Some, None, Ok, Err}
 use Rattle.serde_json.specs.Data.{Data, Items, no_items, item}
 use Rattle.event_json.specs.declared.bodies.Body.{Body}
 use Rattle.event_json.specs.declared.bodies.Body.TheVariants.{Note, Ship}
@@ -9,11 +9,11 @@ use Rattle.event_json.specs.declared.doc_faults.Flaw.{Flaw}
 use Rattle.event_json.specs.declared.doc_faults.DocFault.{DocFault}
 use Rattle.event_json.specs.declared.documents.Doc.{Doc}
 use Rattle.event_json.specs.Contents.{same_body, same_content}
-use Rattle.event_json.specs.Documents.{whole, event_list, events_of, document_of}
+use Rattle.event_json.specs.Documents.{whole, event_list, events_of, document_of, text_document}
 use Rattle.event_json.specs.EventReading.{event_of, shipment}
 use Rattle.event_json.specs.Events.{Content}
 use Rattle.event_json.specs.Members.{count_of}
-use Rattle.event_json.specs.Sites.{Site, addressed}
+use Rattle.event_json.specs.Sites.{Site, addressed, ShipsAmong}
 
 -- the member of an array at this place, from 0
 abbrev pub member_at : Items → ℕ → Option Data
@@ -74,6 +74,16 @@ abbrev pub DestinationsAreDealt : Type 0
 DestinationsAreDealt = (sites : List Site) (items : List (List ℕ)) (text : List ℕ) (texts : List (List ℕ))
     → (shipment sites items [] ≡ Note items)
     × ((traced : List ℕ) × (outside : List (List ℕ)) × (shipment sites items (text ∷ texts) ≡ Ship items traced outside) × IsDealt sites (text ∷ texts) traced outside)
+
+-- whatever the events of a document ship goes to sites of the list, or outside
+abbrev pub ShipsToSites : List Site → Doc → Type 0
+ShipsToSites sites doc = All (λ e. ShipsAmong (length sites) e.body) doc.events
+
+-- a document that is read does, whether as a value or as bytes
+abbrev pub DocumentsShipToSites : Type 0
+DocumentsShipToSites =
+    ((sites : List Site) (d : Data) (doc : Doc) → document_of sites d ≡ Ok doc → ShipsToSites sites doc)
+    × ((sites : List Site) (text : List ℕ) (doc : Doc) → text_document sites text ≡ Ok doc → ShipsToSites sites doc)
 
 -- the tests of `==` find what is equal
 abbrev pub EqualIsSame : Type 0

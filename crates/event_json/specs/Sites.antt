@@ -1,6 +1,8 @@
-use Rattle.std.specs.Prelude.{ℕ, Bool, false, not, ◌&&◌, ◌||◌, ◌==◌, nat_le, nat_lt, if◌then◌else◌, List, [], ◌∷◌, length, Option, Some, None, is_some, position, bytes_eq, ◌≡◌, ◌≤◌, IsTrue, IsFalse, map, flat_map}
+use Rattle.std.specs.Prelude.{⊤, ◌<◌, All, ℕ, Bool, false, not, ◌&&◌, ◌||◌, ◌==◌, nat_le, nat_lt, if◌then◌else◌, List, [], ◌∷◌, length, Option, Some, None, is_some, position, bytes_eq, ◌≡◌, ◌≤◌, IsTrue, IsFalse, map, flat_map}
 use Rattle.std.specs.List.{list_all, list_any}
 use Rattle.epc_core.specs.Items.{is_plain}
+use Rattle.event_json.specs.declared.bodies.Body.{Body}
+use Rattle.event_json.specs.declared.bodies.Body.TheVariants.{Note, Ship, Make}
 use Rattle.event_json.specs.declared.site_lists.SitesFault.{SitesFault}
 use Rattle.event_json.specs.declared.site_lists.SitesFault.TheVariants.{NoMemory, BadName, NameTaken, TooMany, BadAddress, AddressTaken}
 
@@ -24,6 +26,12 @@ named sites name = position (λ s. bytes_eq s.name name) sites
 -- the number of the site that has this address
 unfoldable pub addressed : List Site → List ℕ → Option ℕ
 addressed sites text = position (λ s. list_any (λ a. bytes_eq a text) s.addresses) sites
+
+-- what an event ships goes to sites of a list of this length, by their numbers, or outside
+abbrev pub ShipsAmong : ℕ → Body → Type 0
+ShipsAmong sites (Note items) = ⊤
+ShipsAmong sites (Ship items to outside) = All (λ t. t < sites) to
+ShipsAmong sites (Make id ins outs) = ⊤
 
 -- some text stands twice
 abbrev pub repeats : List (List ℕ) → Bool

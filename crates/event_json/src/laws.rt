@@ -1,5 +1,5 @@
 //! Laws of the definitions, each of which a call ensures.
-ghost use Rattle.event_json.specs.Laws.{EventsAreRead, FirstFaultIsTold, AllPass, DocumentsAreLists, DestinationsAreDealt, EqualIsSame};
+ghost use Rattle.event_json.specs.Laws.{EventsAreRead, FirstFaultIsTold, AllPass, DocumentsAreLists, DestinationsAreDealt, DocumentsShipToSites, EqualIsSame};
 
 /// What is read of a list are its events, each at its place.
 pub fn events_are_read()
@@ -24,6 +24,11 @@ pub fn documents_are_lists()
 /// Each destination of a shipment is a traced site or an outside text, in order.
 pub fn destinations_are_dealt()
     ensures { DestinationsAreDealt }
+{}
+
+/// What the events of a document ship goes to sites of the list, or outside.
+pub fn documents_ship_to_sites()
+    ensures { DocumentsShipToSites }
 {}
 
 /// Bodies and events that are compared as equal are the same, and only those.

@@ -1,6 +1,6 @@
 -- The recalls under which an item is held, among the entries of a quarantine.
 use Rattle.std.proofs.Common.{◌≡◌, ◌↔◌, ℕ, Bool, true, false, cond, Some, List, [], ◌∷◌, ◌++◌, map, filter, refl, sym, ap, subst, ◌∙◌, ⊎_elim, append_assoc}
-use Rattle.std.specs.Prelude.{T, ◌&&◌, IsTrue, is_some}
+use Rattle.std.specs.Prelude.{T, IsTrue, is_some}
 use mathlib.Core.Bool.{false≢true}
 use Rattle.std.specs.FinMap.{find, is_sorted, entries, entries_sorted, get-entries, get-empty}
 use Rattle.std.specs.FinMap.Entries.{below_all}

@@ -15,5 +15,7 @@ pub mod Places
 pub mod Records
 pub mod Results
 pub mod Shipped
+pub mod ShipsAmong
+pub mod Soundness
 pub mod SourcesFound
 pub mod Starting

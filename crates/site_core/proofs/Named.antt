@@ -1,5 +1,5 @@
 -- The items that the events name, one event after another.
-use Rattle.std.proofs.Common.{◌≡◌, ℕ, ◌+◌, ◌<◌, ◌≤◌, Bool, true, false, List, Option, Some, None, take, length, sym, ap, subst, ◌∙◌, ⊎_elim}
+use Rattle.std.proofs.Common.{◌≡◌, ℕ, ◌+◌, ◌<◌, ◌≤◌, Bool, true, false, List, take, length, sym, ap, subst, ◌∙◌, ⊎_elim}
 use mathlib.Core.Bool.{false≢true}
 use Rattle.std.specs.List.{Any, Contains, slice_get}
 use Rattle.std.proofs.lemmas.List.{take_all}

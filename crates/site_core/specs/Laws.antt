@@ -1,7 +1,11 @@
--- Laws of what is quarantined.
+-- Laws of what is quarantined, and of the step.
 use Rattle.std.specs.Prelude.{◌≡◌, ◌⊎◌, ◌↔◌, ℕ, IsTrue, List, Contains}
 use Rattle.frame_core.specs.Numbers.{Recall}
+use Rattle.site_core.specs.declared.inputs.SiteInput.{SiteInput}
+use Rattle.site_core.specs.declared.outcomes.Effects.{Effects}
 use Rattle.site_core.specs.Quarantines.{Quarantine, held, with_item, with_items, HasNoEmptySet}
+use Rattle.site_core.specs.Records.{Record, IsSound}
+use Rattle.site_core.specs.Steps.{Does}
 
 -- with one more item under a recall, that item is held there, and what was held before
 abbrev pub OneItemMoreIsHeld : Type 0
@@ -24,3 +28,7 @@ abbrev pub WhatIsHeldIsAll : Type 0
 WhatIsHeldIsAll =
     (p q : Quarantine) → HasNoEmptySet p → HasNoEmptySet q
     → ((r : Recall) (i : List ℕ) → IsTrue (held p r i) ↔ IsTrue (held q r i)) → p ≡ q
+
+-- a record that is sound stays so, whatever a step does
+abbrev pub StepsStaySound : Type 0
+StepsStaySound = (s : Record) (input : SiteInput) (effects : Effects) (t : Record) → IsSound s → Does s input effects t → IsSound t

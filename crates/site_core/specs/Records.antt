@@ -1,9 +1,7 @@
 -- What a site keeps.
-use Rattle.std.specs.Prelude.{◌≡◌, ℕ, ◌<◌, ◌≤◌, ◌^◌, List, [], length, All, IsSome, Some, ⊤}
+use Rattle.std.specs.Prelude.{◌≡◌, ℕ, ◌<◌, ◌≤◌, ◌^◌, List, [], length, All, IsSome, Some}
 use Rattle.std.specs.FinMap as map
-use Rattle.event_json.specs.Sites.{Site}
-use Rattle.event_json.specs.declared.bodies.Body.{Body}
-use Rattle.event_json.specs.declared.bodies.Body.TheVariants.{Note, Ship, Make}
+use Rattle.event_json.specs.Sites.{Site, ShipsAmong}
 use Rattle.frame_core.specs.Numbers.{Recall, Message}
 use Rattle.frame_core.specs.Unsignalled.{IsNextNumber}
 use Rattle.frame_core.specs.declared.rows.Row.{Row}
@@ -41,12 +39,6 @@ pub record IsRecallAmong (sites : ℕ) (r : Recall) : Type 0 where
 pub record IsMessageAmong (sites : ℕ) (m : Message) : Type 0 where
   pub site : m.site < sites
   pub number : IsNumber m.number
-
--- whatever the event ships goes to these sites, or outside
-abbrev pub ShipsAmong : ℕ → Body → Type 0
-ShipsAmong sites (Note items) = ⊤
-ShipsAmong sites (Ship items to outside) = All (λ t. t < sites) to
-ShipsAmong sites (Make id ins outs) = ⊤
 
 -- an unsignalled message, by its number
 pub record IsRowAmong (sites : ℕ) (at : ℕ) (row : Row) : Type 0 where

@@ -1,7 +1,7 @@
 //! Laws of what a site keeps, for proofs of the crates above. Each is a function with an empty body whose
 //! contract is the law.
 
-ghost use Rattle.site_core.specs.Laws.{OneItemMoreIsHeld, MoreItemsAreHeld, MoreItemsLeaveNoEmptySet, WhatIsHeldIsAll};
+ghost use Rattle.site_core.specs.Laws.{OneItemMoreIsHeld, MoreItemsAreHeld, MoreItemsLeaveNoEmptySet, StepsStaySound, WhatIsHeldIsAll};
 
 /// What is held with more items under a recall is those items under that recall, and what was held
 /// before.
@@ -14,4 +14,9 @@ pub fn more_items_are_held()
 /// A quarantine is what is held: two that hold the same are equal.
 pub fn a_quarantine_is_what_it_holds()
     ensures { WhatIsHeldIsAll }
+{}
+
+/// A step leaves a sound record sound.
+pub fn steps_stay_sound()
+    ensures { StepsStaySound }
 {}

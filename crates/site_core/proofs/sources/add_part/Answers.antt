@@ -1,5 +1,5 @@
-use Rattle.std.proofs.Common.{Some, sym, ◌∙◌}
-use Rattle.site_core.proofs.SourcesFound.{own_part, other_part}
+use Rattle.std.proofs.Common.{sym, ◌∙◌}
+use Rattle.site_core.proofs.SourcesFound.{other_part}
 use Rattle.site_core.proofs.sources.add_part.Goals as goal
 
 pub returns-else-is_part : goal.returns-else-is_part
