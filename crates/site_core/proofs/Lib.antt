@@ -19,3 +19,4 @@ pub mod ShipsAmong
 pub mod Soundness
 pub mod SourcesFound
 pub mod Starting
+pub mod Taking

@@ -1,14 +1,18 @@
--- A start that was planned and done.
-use Rattle.std.proofs.Common.{◌≡◌, ◌⊎◌, ◌<◌, ◌≤◌, ◌^◌, ℕ, List, length, sym, ap, subst, ◌∙◌}
+-- A start that was planned, and done or refused.
+use Rattle.std.proofs.Common.{◌≡◌, ◌⊎◌, ◌<◌, ◌≤◌, ◌^◌, ℕ, List, length, refl, sym, ap, subst, ◌∙◌}
+use Rattle.frame_core.specs.declared.outboxes.NumberFault.{NumberFault}
+use Rattle.frame_core.specs.declared.outboxes.NumberFault.TheVariants.{NoMemory, NumbersSpent}
 use Rattle.frame_core.specs.Numbers.{Recall}
 use Rattle.scholten_core.specs.declared.outcomes.Began.{Began}
 use Rattle.scholten_core.specs.Changes.{next_own, began, begun}
 use Rattle.scholten_core.specs.Engagement.{Engagement}
+use Rattle.site_core.specs.declared.inputs.SiteInput.TheVariants.{Start}
 use Rattle.site_core.specs.Plans.{IsStartPlanned}
 use Rattle.site_core.specs.Quarantines.{Quarantine, with_items}
 use Rattle.site_core.specs.Records.{Record}
-use Rattle.site_core.specs.Spreading.{IsKnownItem}
-use Rattle.site_core.specs.Steps.{HaveNumbers, AreTooMany, MayStart, Starts, StartsPastNumbers}
+use Rattle.site_core.specs.Spreading.{AreNewlyHeld, IsKnownItem}
+use Rattle.site_core.specs.Steps.{HaveNumbers, AreTooMany, MayStart, Starts, StartsPastNumbers, Refuses}
+use Rattle.site_core.specs.Told.{told_numbers}
 
 may_start : (s : Record) (root : List ℕ) (r : Recall) (new : List (List ℕ)) (out : List (ℕ × List ℕ))
     → IsKnownItem s.captured s.quarantine root → r ≡ next_own s.engagement → (p : IsStartPlanned s.captured s.quarantine r root new out) → MayStart s root p.spread new out
@@ -16,7 +20,7 @@ may_start s root r new out known next p = record {
   known = known;
   ascending = p.ascending;
   exact = p.exact;
-  newly = subst (λ r. Rattle.site_core.specs.Spreading.AreNewlyHeld s.captured s.quarantine r root new) next p.newly;
+  newly = subst (λ r. AreNewlyHeld s.captured s.quarantine r root new) next p.newly;
   shipped = p.shipped;
 }
 
@@ -49,3 +53,7 @@ started_past s root r new out known next planned spent = record {
   may = may_start s root r new out known next planned;
   spent = spent;
 }
+
+pub refused : (s : Record) (root : List ℕ) (fault : NumberFault) → (fault ≡ NumbersSpent → StartsPastNumbers s root) → Refuses s (Start root) (told_numbers fault)
+refused s root NoMemory past = tt
+refused s root NumbersSpent past = past refl

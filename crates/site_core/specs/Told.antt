@@ -1,4 +1,8 @@
 -- What the answers of the parts of a step are told as.
+use Rattle.event_json.specs.declared.doc_faults.ReadFault.{ReadFault}
+use Rattle.event_json.specs.declared.doc_faults.ReadFault.TheVariants as reads
+use Rattle.frame_core.specs.declared.outboxes.NumberFault.{NumberFault}
+use Rattle.frame_core.specs.declared.outboxes.NumberFault.TheVariants as numbers
 use Rattle.scholten_core.specs.declared.outcomes.Signalled.{Signalled}
 use Rattle.scholten_core.specs.declared.outcomes.Signalled.TheVariants as signals
 use Rattle.site_core.specs.declared.capturing.CaptureFault.{CaptureFault}
@@ -20,3 +24,13 @@ abbrev pub told_capture : CaptureFault → Refusal
 told_capture faults.NoMemory = refusals.NoMemory
 told_capture (faults.IdTaken event) = refusals.IdTaken event
 told_capture (faults.Blocked r i event) = refusals.Blocked r i event
+
+-- why no document was read
+abbrev pub told_reading : ReadFault → Refusal
+told_reading reads.NoMemory = refusals.NoMemory
+told_reading (reads.Doc fault) = refusals.Doc fault
+
+-- why nothing was numbered
+abbrev pub told_numbers : NumberFault → Refusal
+told_numbers numbers.NoMemory = refusals.NoMemory
+told_numbers numbers.NumbersSpent = refusals.NumbersSpent

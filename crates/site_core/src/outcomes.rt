@@ -1,11 +1,11 @@
 ghost use Rattle.std.specs.Prelude.{◌≡◌, IfOk};
-ghost use Rattle.site_core.specs.Told.{told_capture, told_signal};
+ghost use Rattle.site_core.specs.Told.{told_signal};
 ghost use Rattle.site_core.specs.Steps.{changes};
 
 use crate::capturing::CaptureFault;
 use epc_core::Epc;
-use event_json::DocFault;
-use frame_core::{MsgId, RecallId};
+use event_json::{DocFault, ReadFault};
+use frame_core::{MsgId, NumberFault, RecallId};
 use scholten_core::Signalled;
 use std::alloc::{AllocError, Global};
 use thiserror::Error;
@@ -110,25 +110,6 @@ pub enum Refusal {
 }
 
 impl Refusal {
-    /// Why a document's events weren't captured.
-    pub(crate) fn of_capture(fault: CaptureFault) -> Refusal
-        ensures { result ≡ told_capture fault }
-    {
-        match fault {
-            CaptureFault::NoMemory => Refusal::NoMemory,
-            CaptureFault::IdTaken { event } => Refusal::IdTaken { event },
-            CaptureFault::Blocked {
-                recall,
-                item,
-                event,
-            } => Refusal::Blocked {
-                recall,
-                item,
-                event,
-            },
-        }
-    }
-
     /// An equal refusal.
     pub fn copy(&self, alloc: Global) -> Result<Refusal, AllocError>
         ensures { IfOk result (λ refusal. refusal ≡ self.now) }
@@ -150,5 +131,67 @@ impl Refusal {
             Refusal::NumbersSpent => Refusal::NumbersSpent,
             Refusal::Doc(fault) => Refusal::Doc(*fault),
         })
+    }
+}
+
+impl From<AllocError> for Refusal {
+    ghost use Rattle.std.specs.Prelude.{◌≡◌};
+    ghost use Rattle.site_core.specs.declared.outcomes.Refusal.TheVariants.{NoMemory};
+
+    ghost from_gives = { λ _ refusal. refusal ≡ NoMemory };
+
+    fn from(_: AllocError) -> Refusal {
+        Refusal::NoMemory
+    }
+}
+
+impl From<NumberFault> for Refusal {
+    ghost use Rattle.std.specs.Prelude.{◌≡◌};
+    ghost use Rattle.site_core.specs.Told.{told_numbers};
+
+    ghost from_gives = { λ fault refusal. refusal ≡ told_numbers fault };
+
+    fn from(fault: NumberFault) -> Refusal {
+        match fault {
+            NumberFault::NoMemory => Refusal::NoMemory,
+            NumberFault::NumbersSpent => Refusal::NumbersSpent,
+        }
+    }
+}
+
+impl From<ReadFault> for Refusal {
+    ghost use Rattle.std.specs.Prelude.{◌≡◌};
+    ghost use Rattle.site_core.specs.Told.{told_reading};
+
+    ghost from_gives = { λ fault refusal. refusal ≡ told_reading fault };
+
+    fn from(fault: ReadFault) -> Refusal {
+        match fault {
+            ReadFault::NoMemory => Refusal::NoMemory,
+            ReadFault::Doc(fault) => Refusal::Doc(fault),
+        }
+    }
+}
+
+impl From<CaptureFault> for Refusal {
+    ghost use Rattle.std.specs.Prelude.{◌≡◌};
+    ghost use Rattle.site_core.specs.Told.{told_capture};
+
+    ghost from_gives = { λ fault refusal. refusal ≡ told_capture fault };
+
+    fn from(fault: CaptureFault) -> Refusal {
+        match fault {
+            CaptureFault::NoMemory => Refusal::NoMemory,
+            CaptureFault::IdTaken { event } => Refusal::IdTaken { event },
+            CaptureFault::Blocked {
+                recall,
+                item,
+                event,
+            } => Refusal::Blocked {
+                recall,
+                item,
+                event,
+            },
+        }
     }
 }

@@ -1,12 +1,12 @@
 //! What a step comes to, found at a borrowed record, and how it is done in place.
-ghost use Rattle.std.specs.Prelude.{◌≡◌, ◌≢◌, ◌⊎◌, ◌<◌, ◌≤◌, ◌^◌, Ok, Err, IfOk, OnOk, OnErr, IsNone};
+ghost use Rattle.std.specs.Prelude.{◌≡◌, ◌⊎◌, ◌<◌, ◌≤◌, ◌^◌, length, None, Err, IfOk, OnOk, OnErr};
 ghost use Rattle.std.specs.FinMap as finite;
 ghost use Rattle.scholten_core.specs.Changes.{began, begun, received};
 ghost use Rattle.site_core.specs.Quarantines.{with_items};
 ghost use Rattle.site_core.specs.Shipments.{AreShipments};
 ghost use Rattle.site_core.specs.Spreading.{AreNewlyHeld};
 ghost use Rattle.site_core.specs.Plans.{IsStartPlanned};
-ghost use Rattle.site_core.specs.Steps.{HaveNumbers, AreTooMany};
+ghost use Rattle.site_core.specs.Steps.{HaveNumbers, AreTooMany, reply};
 
 use crate::quarantines::Quarantine;
 use crate::shipping::shipments;
@@ -84,26 +84,27 @@ pub fn begin_planned(
     }
 }
 
-/// Takes a message of a recall that wasn't seen, as planned. A fault changes nothing.
+/// Takes a message of a recall that wasn't seen, as planned, and answers whether its signal is owed. A fault
+/// changes nothing.
 pub fn receive_planned(
     quarantine: &mut Quarantine,
     diffusion: &mut Diffusion,
     message: MsgId,
     recall: RecallId,
     plan: &Plan,
-) -> Result<Received, NumberFault>
-    requires unseen { IsNone (finite.get diffusion.old.seen message) }
-    ensures answer { IfOk result (λ answer. answer ≡ (received diffusion.old message recall plan.now.out.items).1) }
+) -> Result<bool, NumberFault>
+    requires unseen { finite.get diffusion.old.seen message ≡ None }
+    ensures answer { IfOk result (λ owed. received diffusion.old message recall plan.now.out.items ≡ (diffusion.new, reply (length plan.now.out.items) owed)) }
     ensures held { OnOk result (quarantine.new ≡ with_items quarantine.old recall plan.now.new.items) }
-    ensures taken { OnOk result (diffusion.new ≡ (received diffusion.old message recall plan.now.out.items).0) }
-    ensures new { result ≢ Ok Received.Repeat }
     ensures enough { OnOk result (HaveNumbers diffusion.old plan.now.out.items) }
     ensures spent { result ≡ Err NumberFault.NumbersSpent → AreTooMany diffusion.old plan.now.out.items }
     ensures unchanged { OnErr result ((quarantine.new ≡ quarantine.old) × (diffusion.new ≡ diffusion.old)) }
 {
     let added = quarantine.hold_each(recall, &plan.new)?;
     match diffusion.receive(message, recall, &plan.out) {
-        Ok(received) => Ok(received),
+        Ok(Received::Owe { .. }) => Ok(true),
+        // It wasn't seen, so it is no repeat.
+        Ok(Received::SignalNow { .. } | Received::Repeat) => Ok(false),
         Err(fault) => {
             quarantine.release_all(recall, added);
             Err(fault)

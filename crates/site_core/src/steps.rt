@@ -10,10 +10,9 @@ use crate::outcomes::{Effects, Refusal};
 use crate::plans::{begin_planned, plan_message, plan_start, receive_planned};
 use crate::states::SiteState;
 use epc_core::Epc;
-use event_json::{ReadFault, SiteNo, read_document};
-use frame_core::{Frame, MsgId, NumberFault, RecallId};
-use scholten_core::Received;
-use std::alloc::{AllocError, Global};
+use event_json::{SiteNo, read_document};
+use frame_core::{Frame, MsgId, RecallId};
+use std::alloc::Global;
 
 /// What a step made of a record.
 #[derive(Debug, Drop)]
@@ -48,10 +47,7 @@ fn step_copy(alloc: Global, state: &SiteState, input: &SiteInput) -> Result<Step
     ensures done { IfOk result (λ stepped. IsStepped state.now input.now stepped) }
     ensures refused { IfErr result (λ why. Refuses state.now input.now why) }
 {
-    let mut next = match state.copy(alloc) {
-        Ok(copy) => copy,
-        Err(AllocError) => return Err(Refusal::NoMemory),
-    };
+    let mut next = state.copy(alloc)?;
     let effects = next.apply(input)?;
     Ok(stepped_to(next, effects))
 }
@@ -111,21 +107,15 @@ impl SiteState {
         ensures refused { IfErr result (λ why. Refuses self.old (SiteInput.Capture bytes.now) why) }
         ensures unchanged { OnErr result (self.new ≡ self.old) }
     {
-        let doc = match read_document(self.alloc, bytes, &self.sites) {
-            Ok(doc) => doc,
-            Err(ReadFault::NoMemory) => return Err(Refusal::NoMemory),
-            Err(ReadFault::Doc(fault)) => return Err(Refusal::Doc(fault)),
-        };
+        let doc = read_document(self.alloc, bytes, &self.sites)?;
         let skipped = doc.skipped;
         let events = doc.events.into_vec();
-        match capture_all(self.alloc, &mut self.captured, &self.quarantine, events) {
-            Ok(added) => Ok(Effects::Captured {
-                fresh: added.fresh,
-                known: added.known,
-                skipped,
-            }),
-            Err(fault) => Err(Refusal::of_capture(fault)),
-        }
+        let added = capture_all(self.alloc, &mut self.captured, &self.quarantine, events)?;
+        Ok(Effects::Captured {
+            fresh: added.fresh,
+            known: added.known,
+            skipped,
+        })
     }
 
     /// Starts a recall of an item that the site knows.
@@ -139,19 +129,15 @@ impl SiteState {
             site: self.diffusion.me(),
             number: self.diffusion.next_recall(),
         };
-        let plan = plan_start(self.alloc, &self.captured, &self.quarantine, recall, root)
-            .map_err(no_memory)?;
-        let root = root.copy(self.alloc).map_err(no_memory)?;
-        match begin_planned(&mut self.quarantine, &mut self.diffusion, recall, root, &plan) {
-            Ok(began) => Ok(Effects::Started {
-                recall,
-                quarantined: plan.new.len() as u64,
-                numbered: began.numbered,
-                ended: began.ended,
-            }),
-            Err(NumberFault::NoMemory) => Err(Refusal::NoMemory),
-            Err(NumberFault::NumbersSpent) => Err(Refusal::NumbersSpent),
-        }
+        let plan = plan_start(self.alloc, &self.captured, &self.quarantine, recall, root)?;
+        let root = root.copy(self.alloc)?;
+        let began = begin_planned(&mut self.quarantine, &mut self.diffusion, recall, root, &plan)?;
+        Ok(Effects::Started {
+            recall,
+            quarantined: plan.new.len() as u64,
+            numbered: began.numbered,
+            ended: began.ended,
+        })
     }
 
     /// Takes a message that is for the site and wasn't seen.
@@ -167,25 +153,13 @@ impl SiteState {
         ensures refused { IfErr result (λ why. Refuses self.old (SiteInput.Deliver (frames.Recall message dest recall item.now)) why) }
         ensures unchanged { OnErr result (self.new ≡ self.old) }
     {
-        let plan = plan_message(self.alloc, &self.captured, &self.quarantine, recall, item)
-            .map_err(no_memory)?;
-        let quarantined = plan.new.len() as u64;
-        match receive_planned(&mut self.quarantine, &mut self.diffusion, message, recall, &plan) {
-            Ok(Received::Owe { numbered }) => Ok(Effects::Received {
-                quarantined,
-                numbered,
-                owed: true,
-            }),
-            Ok(Received::SignalNow { numbered }) => Ok(Effects::Received {
-                quarantined,
-                numbered,
-                owed: false,
-            }),
-            // It wasn't seen.
-            Ok(Received::Repeat) => Ok(Effects::Repeat),
-            Err(NumberFault::NoMemory) => Err(Refusal::NoMemory),
-            Err(NumberFault::NumbersSpent) => Err(Refusal::NumbersSpent),
-        }
+        let plan = plan_message(self.alloc, &self.captured, &self.quarantine, recall, item)?;
+        let owed = receive_planned(&mut self.quarantine, &mut self.diffusion, message, recall, &plan)?;
+        Ok(Effects::Received {
+            quarantined: plan.new.len() as u64,
+            numbered: plan.out.len() as u64,
+            owed,
+        })
     }
 
     /// Takes a signal for a message that stands and went to the site that signals. Takes no memory.
@@ -195,11 +169,4 @@ impl SiteState {
     {
         Effects::of_signal(self.diffusion.signalled(message.number))
     }
-}
-
-/// Want of memory.
-fn no_memory(_error: AllocError) -> Refusal
-    ensures { result ≡ Refusal.NoMemory }
-{
-    Refusal::NoMemory
 }

@@ -1,16 +1,37 @@
+use Rattle.std.proofs.Common.{◌≡◌, ap, sym, subst, ◌∙◌, refl}
+use Rattle.std.specs.Prelude.{Ok}
+use Rattle.site_core.specs.declared.inputs.SiteInput.TheVariants.{Capture}
+use Rattle.site_core.specs.Records.{Record}
+use Rattle.site_core.specs.Steps.{Captures, Refuses}
+use Rattle.site_core.specs.Told.{told_capture, told_reading}
+use Rattle.site_core.proofs.Documents.{read_as, unread, captured, refused}
+use Rattle.site_core.proofs.Results.{of_fault}
+use Rattle.site_core.proofs.Soundness.{captures_sound}
 use Rattle.site_core.proofs.states.SiteState.capture.Goals as goal
 
-pub returns-in-Err-Doc-clause-refused : goal.returns-in-Err-Doc-clause-refused
-returns-in-Err-Doc-clause-refused c = ?
+captured_inside : (c : goal.In_ok-added) → Captures (record { sites = c.self.inside.sites; captured = c.self.inside.captured; quarantine = c.self.inside.quarantine; engagement = c.self.inside.diffusion }) c.args.bytes.now c.in_ok-added.added.fresh c.in_ok-added.added.known c.in_ok-doc.doc.skipped (record { sites = c.self.inside.sites; captured = c.capture_all.new.captured; quarantine = c.self.inside.quarantine; engagement = c.self.inside.diffusion })
+captured_inside c =
+    let s : Record = record { sites = c.self.inside.sites; captured = c.self.inside.captured; quarantine = c.self.inside.quarantine; engagement = c.self.inside.diffusion } in
+    captured s c.args.bytes.now c.in_ok-doc.doc c.into_vec-events.result.items c.capture_all.new.captured c.in_ok-added.added.fresh c.in_ok-added.added.known
+    (read_as s.sites c.args.bytes.now (Ok c.in_ok-doc.doc) c.in_ok-doc.ensures.text c.in_ok-doc.ensures.bytes) c.into_vec-events.ensures c.in_ok-added.ensures.ok c.capture_all.ensures.same_site
 
-pub invariant_of-self : goal.invariant_of-self
-invariant_of-self c = ?
+pub invariant_of-self-2 : goal.invariant_of-self-2
+invariant_of-self-2 c =
+    let s : Record = record { sites = c.self.inside.sites; captured = c.self.inside.captured; quarantine = c.self.inside.quarantine; engagement = c.self.inside.diffusion } in
+    captures_sound s c.args.bytes.now c.in_ok-added.added.fresh c.in_ok-added.added.known c.in_ok-doc.doc.skipped (record s { captured = c.capture_all.new.captured }) c.self.invariant (captured_inside c)
 
 pub returns-clause-done : goal.returns-clause-done
-returns-clause-done c = ?
+returns-clause-done c = subst (λ s. Captures s c.args.bytes.now c.in_ok-added.added.fresh c.in_ok-added.added.known c.in_ok-doc.doc.skipped (record { sites = c.self.inside.sites; captured = c.capture_all.new.captured; quarantine = c.self.inside.quarantine; engagement = c.self.inside.diffusion })) c.self.view_is (captured_inside c)
 
-pub returns-clause-refused : goal.returns-clause-refused
-returns-clause-refused c = ?
+pub returns-in_err-doc-clause-refused : goal.returns-in_err-doc-clause-refused
+returns-in_err-doc-clause-refused c =
+    let s : Record = record { sites = c.self.inside.sites; captured = c.self.inside.captured; quarantine = c.self.inside.quarantine; engagement = c.self.inside.diffusion } in
+    of_fault (λ why. Refuses c.args.self.now (Capture c.args.bytes.now) why) c.from_residual.result (told_reading c.in_err-doc.field-0.0) c.from_residual.ensures.1
+    (subst (λ s. Refuses s (Capture c.args.bytes.now) (told_reading c.in_err-doc.field-0.0)) c.self.view_is (unread s c.args.bytes.now c.in_err-doc.field-0.0 c.in_err-doc.ensures.text c.in_err-doc.ensures.bytes))
 
-pub returns-clause-memory : goal.returns-clause-memory
-returns-clause-memory c = ?
+pub returns-in_err-added-clause-refused : goal.returns-in_err-added-clause-refused
+returns-in_err-added-clause-refused c =
+    let s : Record = record { sites = c.self.inside.sites; captured = c.self.inside.captured; quarantine = c.self.inside.quarantine; engagement = c.self.inside.diffusion } in
+    of_fault (λ why. Refuses c.args.self.now (Capture c.args.bytes.now) why) c.from_residual-in_err-added.result (told_capture c.in_err-added.field-0.0) c.from_residual-in_err-added.ensures.1
+    (subst (λ s. Refuses s (Capture c.args.bytes.now) (told_capture c.in_err-added.field-0.0)) c.self.view_is
+    (refused s c.args.bytes.now c.in_ok-doc.doc c.into_vec-events.result.items c.in_err-added.field-0.0 (read_as s.sites c.args.bytes.now (Ok c.in_ok-doc.doc) c.in_ok-doc.ensures.text c.in_ok-doc.ensures.bytes) c.into_vec-events.ensures c.in_err-added.ensures.fault))
