@@ -2,6 +2,7 @@ pub mod Ascending
 pub mod Blocks
 pub mod Captures
 pub mod Changes
+pub mod Clearings
 pub mod Held
 pub mod HeldLaws
 pub mod Holders

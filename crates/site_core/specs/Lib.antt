@@ -12,4 +12,6 @@ pub mod Shipments
 pub mod Shipping
 pub mod Sources
 pub mod Spreading
+pub mod StepLaws
 pub mod Steps
+pub mod Ways

@@ -15,6 +15,7 @@ mod shipping;
 mod sources;
 mod spreading;
 mod states;
+pub mod step_laws;
 #[cfg(test)]
 mod tests;
 
