@@ -11,8 +11,11 @@ pub mod ItemSets
 pub mod Named
 pub mod Newly
 pub mod OneOutcome
+pub mod Openings
 pub mod Places
+pub mod Quarantining
 pub mod Records
 pub mod Results
 pub mod Shipped
 pub mod SourcesFound
+pub mod Takings

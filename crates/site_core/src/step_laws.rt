@@ -1,7 +1,18 @@
 //! What the step of a site has to mean, each law named by a function with an empty body whose contract is
 //! the law.
 
-ghost use Rattle.site_core.specs.StepLaws.{SignalsClear};
+ghost use Rattle.site_core.specs.StepLaws.{StartsOpen, MessagesAreTaken, SignalsClear};
+
+/// A start brings the root's spread under the recall that it begins, and tells of each shipment of it.
+pub fn a_start_opens_a_recall()
+    ensures { StartsOpen }
+{}
+
+/// A message that is received wasn't seen: the item's spread comes under its recall, and each shipment of
+/// what is new there is told.
+pub fn a_message_is_taken()
+    ensures { MessagesAreTaken }
+{}
 
 /// A signal that isn't stale clears the row of its number, which goes to the signer: the messages left of
 /// the recall decide what follows, and nothing but the engagement changes.
