@@ -3,6 +3,7 @@ pub mod Blocks
 pub mod Captures
 pub mod Changes
 pub mod Clearings
+pub mod Growths
 pub mod Held
 pub mod HeldLaws
 pub mod Holders

@@ -1,7 +1,15 @@
 //! What the step of a site has to mean, each law named by a function with an empty body whose contract is
 //! the law.
 
-ghost use Rattle.site_core.specs.StepLaws.{StartsOpen, MessagesAreTaken, SignalsClear};
+ghost use Rattle.site_core.specs.CapturingLaws.{CapturesLeadNoFurther};
+ghost use Rattle.site_core.specs.StepLaws.{CapturesGrow, StartsOpen, MessagesAreTaken, SignalsClear};
+
+/// A document that is captured is so many fresh events, one after another, none of which leads a
+/// quarantined item to a pair that isn't at this site and quarantined under the same recall.
+pub fn a_capture_leads_no_further()
+    ensures grows { CapturesGrow }
+    ensures leads_no_further { CapturesLeadNoFurther }
+{}
 
 /// A start brings the root's spread under the recall that it begins, and tells of each shipment of it.
 pub fn a_start_opens_a_recall()
