@@ -1,6 +1,7 @@
 pub mod Ascending
 pub mod Blocks
 pub mod Captures
+pub mod ChangesTold
 pub mod Changes
 pub mod Clearings
 pub mod Growths
@@ -11,12 +12,15 @@ pub mod ItemOrder
 pub mod ItemSets
 pub mod Named
 pub mod Newly
+pub mod OneEffect
 pub mod OneOutcome
+pub mod OneRefusal
 pub mod Openings
 pub mod Places
 pub mod Quarantining
 pub mod Records
 pub mod Results
+pub mod SameLists
 pub mod Shipped
 pub mod SourcesFound
 pub mod Takings

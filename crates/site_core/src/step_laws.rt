@@ -2,7 +2,7 @@
 //! the law.
 
 ghost use Rattle.site_core.specs.CapturingLaws.{CapturesLeadNoFurther};
-ghost use Rattle.site_core.specs.StepLaws.{CapturesGrow, StartsOpen, MessagesAreTaken, SignalsClear};
+ghost use Rattle.site_core.specs.StepLaws.{EffectsAreFixed, CapturesGrow, StartsOpen, MessagesAreTaken, SignalsClear};
 
 /// A document that is captured is so many fresh events, one after another, none of which leads a
 /// quarantined item to a pair that isn't at this site and quarantined under the same recall.
@@ -26,4 +26,9 @@ pub fn a_message_is_taken()
 /// the recall decide what follows, and nothing but the engagement changes.
 pub fn a_signal_clears_its_row()
     ensures { SignalsClear }
+{}
+
+/// An input has one outcome, but for want of memory: one effect that leaves one record.
+pub fn an_input_has_one_outcome()
+    ensures effects { EffectsAreFixed }
 {}
