@@ -2,7 +2,7 @@
 //! the law.
 
 ghost use Rattle.site_core.specs.CapturingLaws.{CapturesLeadNoFurther};
-ghost use Rattle.site_core.specs.StepLaws.{EffectsAreFixed, CapturesGrow, StartsOpen, MessagesAreTaken, SignalsClear};
+ghost use Rattle.site_core.specs.StepLaws.{EffectsAreFixed, DoneIsNotRefused, RefusalsAreFixed, CapturesGrow, StartsOpen, MessagesAreTaken, SignalsClear};
 
 /// A document that is captured is so many fresh events, one after another, none of which leads a
 /// quarantined item to a pair that isn't at this site and quarantined under the same recall.
@@ -28,7 +28,10 @@ pub fn a_signal_clears_its_row()
     ensures { SignalsClear }
 {}
 
-/// An input has one outcome, but for want of memory: one effect that leaves one record.
+/// But for want of memory an input has one outcome: one effect that leaves one record, or one reason for
+/// which it is refused, and not both.
 pub fn an_input_has_one_outcome()
     ensures effects { EffectsAreFixed }
+    ensures not_both { DoneIsNotRefused }
+    ensures refusals { RefusalsAreFixed }
 {}
