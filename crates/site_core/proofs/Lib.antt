@@ -4,6 +4,7 @@ pub mod Captures
 pub mod ChangesTold
 pub mod Changes
 pub mod Clearings
+pub mod Deliveries
 pub mod Growths
 pub mod Held
 pub mod HeldLaws

@@ -2,7 +2,7 @@
 //! the law.
 
 ghost use Rattle.site_core.specs.CapturingLaws.{CapturesLeadNoFurther};
-ghost use Rattle.site_core.specs.StepLaws.{EffectsAreFixed, DoneIsNotRefused, RefusalsAreFixed, CapturesGrow, StartsOpen, MessagesAreTaken, SignalsClear};
+ghost use Rattle.site_core.specs.StepLaws.{AnswersTellChanges, CapturesGrow, DoneIsNotRefused, EffectsAreFixed, MessagesAreForTheSite, MessagesAreTaken, RefusalsAreFixed, SignalsAreOfTheSite, SignalsClear, StartsOpen};
 
 /// A document that is captured is so many fresh events, one after another, none of which leads a
 /// quarantined item to a pair that isn't at this site and quarantined under the same recall.
@@ -26,6 +26,18 @@ pub fn a_message_is_taken()
 /// the recall decide what follows, and nothing but the engagement changes.
 pub fn a_signal_clears_its_row()
     ensures { SignalsClear }
+{}
+
+/// An answer tells whether anything changed: a capture of known events alone, a repeat and a stale signal
+/// leave the record as it was, and nothing else does.
+pub fn an_answer_tells_a_change()
+    ensures { AnswersTellChanges }
+{}
+
+/// A message or a signal does something, or is refused for its numbers, only at the site that it is for.
+pub fn frames_are_for_their_site()
+    ensures messages { MessagesAreForTheSite }
+    ensures signals { SignalsAreOfTheSite }
 {}
 
 /// But for want of memory an input has one outcome: one effect that leaves one record, or one reason for
