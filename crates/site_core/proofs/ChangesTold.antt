@@ -14,12 +14,15 @@ use Rattle.site_core.specs.declared.outcomes.Effects.{Effects}
 use Rattle.site_core.specs.declared.outcomes.Effects.TheVariants as effects
 use Rattle.site_core.specs.Records.{Record}
 use Rattle.site_core.specs.Steps.{Does, Clears, changes}
-use Rattle.site_core.specs.StepLaws.{AnswersTellChanges}
+use Rattle.site_core.specs.StepLaws.{AnswersTellChanges, IdleFramesChangeNothing}
 use Rattle.site_core.specs.Ways.{Grows, GrowsBy}
 use Rattle.site_core.proofs.Clearings.{clears_for}
 use Rattle.site_core.proofs.Growths.{captures_grow}
 use Rattle.site_core.proofs.Openings.{starts_open}
 use Rattle.site_core.proofs.Takings.{messages_are_taken}
+
+pub idle_frames_change_nothing : IdleFramesChangeNothing
+idle_frames_change_nothing s t m = (λ dest r i h. (h.0.seen, h.1), λ by h. (h.0.gone, h.1))
 
 -- where the answer is one of a change, and the records differ
 differs : (e : Effects) (s t : Record) → changes e ≡ true → s ≢ t → IsTrue (changes e) ↔ (s ≢ t)

@@ -3,8 +3,9 @@ use Rattle.std.proofs.Common.{◌≡◌, ◌⊎◌, ◌↔◌, inl, inr, ℕ, ze
 use Rattle.std.specs.Prelude.{IsTrue}
 use mathlib.Core.Bool.{false≢true}
 use Rattle.std.proofs.lemmas.Bool.Decides.{Decides-and, Decides-eqb}
-use Rattle.std.specs.List.{slice_get}
+use Rattle.std.specs.List.{Contains, slice_get}
 use Rattle.std.proofs.lemmas.List.{take_all}
+use Rattle.std.proofs.lemmas.List.Elements.{Contains-append_left, Contains-append_right, Contains-append_cases}
 use Rattle.event_json.specs.Events.{Content}
 use Rattle.frame_core.specs.Numbers.{Recall}
 use Rattle.trace_core.specs.Adding.{Addition, adding, judged, kept_with, standing_among}
@@ -17,12 +18,12 @@ use Rattle.trace_core.specs.declared.pairs.Pair.{Pair}
 use Rattle.trace_core.proofs.AddingSteps.{counted-none, none_left, stepwise}
 use Rattle.trace_core.proofs.Growing.{stays_related}
 use Rattle.trace_core.proofs.PairTestsDecide.{related_decides}
-use Rattle.trace_core.proofs.Standings.{adding-stepwise}
+use Rattle.trace_core.proofs.Standings.{adding-stepwise, adding_members}
 use Rattle.site_core.specs.Capturing.{IsFree, IsHeldHere, IsPassed, IsCaptured, site_before}
 use Rattle.site_core.specs.CapturingLaws.{CapturesLeadNoFurther}
 use Rattle.site_core.specs.Quarantines.{Quarantine, held}
 use Rattle.site_core.specs.Records.{Record, fresh_engagement}
-use Rattle.site_core.specs.StepLaws.{CapturesGrow}
+use Rattle.site_core.specs.StepLaws.{CapturesGrow, CapturesKeepTheDocument}
 use Rattle.site_core.specs.Ways.{Holds, Grows, GrowsBy}
 use Rattle.site_core.proofs.Captures.{kept_is, adds_fresh, adds_known}
 use Rattle.site_core.proofs.Places.{some_stands, taken_more}
@@ -62,6 +63,7 @@ grows s e fresh free = record {
 record GrownAt (s : Record) (given : List Content) (place : ℕ) : Type 0 where
   pub addition : Addition
   pub adds : adding s.captured.events (take place given) ≡ Ok addition
+  pub counts : addition.fresh + addition.known ≡ place
   pub grown : GrowsBy s addition.fresh (with_events s addition.events)
 
 module _ (s : Record) (given : List Content) (a : Addition) (captured : IsCaptured s.captured s.quarantine given a) where
@@ -69,6 +71,7 @@ module _ (s : Record) (given : List Content) (a : Addition) (captured : IsCaptur
   none_yet = record {
     addition = record { events = s.captured.events; fresh = 0; known = 0 };
     adds = adding-stepwise s.captured.events [] ∙ sym (counted-none (stepwise s.captured.events [])) ∙ none_left 0 0 s.captured.events;
+    counts = refl;
     grown = refl;
   }
 
@@ -82,11 +85,13 @@ module _ (s : Record) (given : List Content) (a : Addition) (captured : IsCaptur
         | inl known ↦ record {
             addition = record { events = b.events; fresh = b.fresh; known = b.known + 1 };
             adds = more ∙ adds_known s.captured.events (take place given) e b so_far.adds known;
+            counts = omega (arith, so_far.counts);
             grown = so_far.grown;
           }
         | inr free ↦ record {
             addition = record { events = b.events ++ e ∷ []; fresh = b.fresh + 1; known = b.known };
             adds = more ∙ adds_fresh s.captured.events (take place given) e b so_far.adds free.0;
+            counts = omega (arith, so_far.counts);
             grown =
                 let next : suc b.fresh ≡ b.fresh + 1 = omega arith in
                 subst (λ k. GrowsBy s k (with_events s (b.events ++ e ∷ []))) next (with_events s b.events, so_far.grown, grows (with_events s b.events) e free.0 free.1);
@@ -99,12 +104,39 @@ module _ (s : Record) (given : List Content) (a : Addition) (captured : IsCaptur
       let next : place + 1 ≡ suc place = omega arith in
       subst (GrownAt s given) next (one_more place (omega (arith, within)) (grown_at place (omega (arith, within))))
 
+  all_captured : GrownAt s given (length given)
+  all_captured = grown_at (length given) (omega arith)
+
+  adds_all : adding s.captured.events given ≡ Ok all_captured.addition
+  adds_all = ap (adding s.captured.events) (sym (take_all (length given) given (omega arith))) ∙ all_captured.adds
+
+  is_kept : all_captured.addition ≡ a
+  is_kept = sym (kept_is s.captured.events given all_captured.addition adds_all) ∙ sym captured.kept
+
   pub captured_grows : GrowsBy s a.fresh (with_events s a.events)
-  captured_grows =
-      let last = grown_at (length given) (omega arith) in
-      let whole : take (length given) given ≡ given = take_all (length given) given (omega arith) in
-      let is : last.addition ≡ a = sym (kept_is s.captured.events given last.addition (ap (adding s.captured.events) (sym whole) ∙ last.adds)) ∙ sym captured.kept in
-      subst (λ (x : Addition). GrowsBy s x.fresh (with_events s x.events)) is last.grown
+  captured_grows = subst (λ (x : Addition). GrowsBy s x.fresh (with_events s x.events)) is_kept all_captured.grown
+
+  pub captured_counts : a.fresh + a.known ≡ length given
+  captured_counts = subst (λ (x : Addition). x.fresh + x.known ≡ length given) is_kept all_captured.counts
+
+  pub captured_events : (e : Content) → Contains a.events e ↔ (Contains s.captured.events e ⊎ Contains given e)
+  captured_events e =
+      let same = adding_members s.captured.events given a (adds_all ∙ ap Ok is_kept) e in (
+        λ there. Contains-append_cases s.captured.events given e (same.0 there),
+        λ either. same.1 (elim either [
+          | inl before ↦ Contains-append_left s.captured.events given e before
+          | inr new ↦ Contains-append_right s.captured.events given e new
+        ]),
+      )
+
+pub captures_keep : CapturesKeepTheDocument
+captures_keep s t bytes fresh known skipped c = record {
+  doc = c.doc;
+  read = c.read;
+  events = captured_events s c.doc.events _ c.captured;
+  counts = captured_counts s c.doc.events _ c.captured;
+  skips = c.skips;
+}
 
 pub captures_grow : CapturesGrow
 captures_grow s t bytes fresh known skipped c = subst (GrowsBy s fresh) (sym c.rest) (captured_grows s c.doc.events _ c.captured)

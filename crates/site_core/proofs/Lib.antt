@@ -25,3 +25,4 @@ pub mod SameLists
 pub mod Shipped
 pub mod SourcesFound
 pub mod Takings
+pub mod WaysFix

@@ -1,5 +1,5 @@
 -- An item's spread comes under a recall, and messages tell of shipments.
-use Rattle.std.proofs.Common.{◌≡◌, ◌⊎◌, ◌↔◌, inl, inr, ℕ, ◌+◌, Bool, true, false, List, [], ◌∷◌, Some, refl, sym, ap, subst, ◌∙◌, arith}
+use Rattle.std.proofs.Common.{◌≡◌, ◌⊎◌, ◌↔◌, inl, inr, ℕ, ◌+◌, Bool, true, false, List, [], ◌∷◌, length, Some, refl, sym, ap, subst, ◌∙◌, arith}
 use mathlib.Core.Bool.{false≢true}
 use Rattle.std.specs.FinMap.{get}
 use Rattle.std.specs.List.{Contains, slice_get}
@@ -14,7 +14,7 @@ use Rattle.site_core.specs.Quarantines.{Quarantine, held, with_items}
 use Rattle.site_core.specs.Records.{Record}
 use Rattle.site_core.specs.Shipments.{AreShipments}
 use Rattle.site_core.specs.Spreading.{AreNewlyHeld}
-use Rattle.site_core.specs.Ways.{Holds, Spreads, ShipsTo, Tells, IsNewMessage, Quarantines}
+use Rattle.site_core.specs.Ways.{Holds, Spreads, ShipsTo, Tells, IsNewMessage, Quarantines, CountsNew}
 use Rattle.site_core.proofs.HeldLaws.{held_several}
 use Rattle.site_core.proofs.Places.{member_there, stands_within}
 
@@ -62,6 +62,17 @@ module _ (s : Record) (r : Recall) (i : List ℕ) (new items : List (List ℕ)) 
           holds = spread_held x.item (of_spread x.item item);
           shipped = to;
         }
+
+    pub counts_new : CountsNew s after r (length new)
+    counts_new = record {
+      items = new;
+      once = newly.ascending;
+      exact = λ j. (
+        λ there. ((held_several s.quarantine r new r j).1 (inl (refl, there)), ((newly.exact j).0 there).1),
+        λ (is, not_before). newly_held j is not_before,
+      );
+      count_is = refl;
+    }
 
     pub quarantines : Quarantines s after r i
     quarantines = record {

@@ -15,14 +15,14 @@ use Rattle.site_core.specs.Spreading.{AreNewlyHeld}
 use Rattle.site_core.specs.Steps.{MayStart}
 use Rattle.site_core.proofs.Ascending.{same_ascending}
 
-shipment_exact : CmpEqualImpliesEq shipment_cmp
+pub shipment_exact : CmpEqualImpliesEq shipment_cmp
 shipment_exact a b h = ap (λ (p : List ℕ × ℕ). (p.1, p.0)) (exact_pairs (slice_cmp nat_cmp) nat_cmp exact_bytes exact_unsigned (a.1, a.0) (b.1, b.0) h)
 
-shipment_total : IsTotalOrder shipment_cmp
+pub shipment_total : IsTotalOrder shipment_cmp
 shipment_total = then_total (on_total (λ (p : ℕ × List ℕ). p.1) nat_list_cmp_total) (on_total (λ (p : ℕ × List ℕ). p.0) nat_cmp_total)
 
 -- two tests of one property
-both : {P Q R : Type 0} → P ↔ R → Q ↔ R → P ↔ Q
+pub both : {P Q R : Type 0} → P ↔ R → Q ↔ R → P ↔ Q
 both p q = (λ x. q.1 (p.0 x), λ y. p.1 (q.0 y))
 
 pub same_newly : (s : SiteEvents) (q : Quarantine) (r : Recall) (i : List ℕ) (xs ys : List (List ℕ)) → AreNewlyHeld s q r i xs → AreNewlyHeld s q r i ys → xs ≡ ys

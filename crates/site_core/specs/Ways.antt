@@ -3,7 +3,7 @@
 -- Each look-up has at most three facts: what was found before stays (kept), what is found afterwards was found
 -- before or is new (origin), and what is new is found (told, spread). They hold for every record, also one that no
 -- run leads to.
-use Rattle.std.specs.Prelude.{◌≡◌, ◌⊎◌, ◌↔◌, ℕ, zero, suc, ◌<◌, ◌≤◌, IsTrue, List, [], ◌∷◌, Contains, Some}
+use Rattle.std.specs.Prelude.{◌≡◌, ◌⊎◌, ◌↔◌, ℕ, zero, suc, ◌<◌, ◌≤◌, IsTrue, List, [], ◌∷◌, length, Contains, Some}
 use Rattle.std.specs.FinMap.{get}
 use Rattle.std.specs.List.Sorted.{IsStrictlySortedBy}
 use Rattle.event_json.specs.Events.{Content}
@@ -14,7 +14,7 @@ use Rattle.scholten_core.specs.Effects.{Begins}
 use Rattle.scholten_core.specs.Effects as effects
 use Rattle.trace_core.specs.Adding.{standing_among}
 use Rattle.trace_core.specs.Pairs.{IsRelated, IsShipped}
-use Rattle.trace_core.specs.Spreads.{IsSpread, with_event}
+use Rattle.trace_core.specs.Spreads.{AreAscendingItems, IsSpread, with_event}
 use Rattle.trace_core.specs.declared.adding.Standing.TheVariants.{Fresh}
 use Rattle.trace_core.specs.declared.pairs.Pair.{Pair}
 use Rattle.site_core.specs.Capturing.{IsHeldHere}
@@ -82,6 +82,13 @@ pub record Quarantines (s t : Record) (r : Recall) (i : List ℕ) : Type 0 where
   -- where an item that comes under the recall was shipped to, its site is told
   pub row_told : (j : List ℕ) (u : ℕ) → Holds t r j → (Holds s r j → ⊥) → ShipsTo s j u → Tells t u r j
   pub next_message : s.engagement.next_message ≤ t.engagement.next_message
+
+-- so many items came under the recall, each counted once
+pub record CountsNew (s t : Record) (r : Recall) (count : ℕ) : Type 0 where
+  pub items : List (List ℕ)
+  pub once : AreAscendingItems items
+  pub exact : (j : List ℕ) → Contains items j ↔ (Holds t r j × (Holds s r j → ⊥))
+  pub count_is : count ≡ length items
 
 -- A start: the recall gets the next number, and each shipment of the root's spread is told once, also of what it
 -- held before, as only a restored record does.

@@ -2,12 +2,13 @@
 //! the law.
 
 ghost use Rattle.site_core.specs.CapturingLaws.{CapturesLeadNoFurther};
-ghost use Rattle.site_core.specs.StepLaws.{AnswersTellChanges, CapturesGrow, DoneIsNotRefused, EffectsAreFixed, MessagesAreForTheSite, MessagesAreTaken, RefusalsAreFixed, SignalsAreOfTheSite, SignalsClear, StartsOpen};
+ghost use Rattle.site_core.specs.StepLaws.{AnswersTellChanges, CapturesGrow, CapturesKeepTheDocument, ClearsFixes, CountIsFixed, DoneIsNotRefused, EffectsAreFixed, IdleFramesChangeNothing, MessagesAreForTheSite, MessagesAreTaken, OpensFixes, RefusalsAreFixed, SignalsAreOfTheSite, SignalsClear, StartsOpen, TakesFixes};
 
-/// A document that is captured is so many fresh events, one after another, none of which leads a
+/// A document that is captured is kept, and is so many fresh events, one after another, none of which leads a
 /// quarantined item to a pair that isn't at this site and quarantined under the same recall.
 pub fn a_capture_leads_no_further()
     ensures grows { CapturesGrow }
+    ensures keeps { CapturesKeepTheDocument }
     ensures leads_no_further { CapturesLeadNoFurther }
 {}
 
@@ -28,10 +29,20 @@ pub fn a_signal_clears_its_row()
     ensures { SignalsClear }
 {}
 
+/// What opens, is taken or is cleared fixes the record afterwards, among those that keep no recall without
+/// items, and how many items came under the recall.
+pub fn ways_fix_what_follows()
+    ensures opens { OpensFixes }
+    ensures takes { TakesFixes }
+    ensures clears { ClearsFixes }
+    ensures count { CountIsFixed }
+{}
+
 /// An answer tells whether anything changed: a capture of known events alone, a repeat and a stale signal
 /// leave the record as it was, and nothing else does.
 pub fn an_answer_tells_a_change()
-    ensures { AnswersTellChanges }
+    ensures changes { AnswersTellChanges }
+    ensures idle { IdleFramesChangeNothing }
 {}
 
 /// A message or a signal does something, or is refused for its numbers, only at the site that it is for.
