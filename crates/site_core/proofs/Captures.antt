@@ -11,12 +11,12 @@ use Rattle.trace_core.specs.Adding.{standing_among, is_taken, judged, Addition, 
 use Rattle.trace_core.specs.Sites.{SiteEvents}
 use Rattle.trace_core.proofs.AddingSteps.{after_fresh, after_known, then_with, stepwise, stepwise-fresh, stepwise-known, stepwise-taken, counted_on, counted-none, fresh_step, known_step, none_left, front_more}
 use Rattle.trace_core.proofs.Standings.{adding-stepwise}
-use Rattle.site_core.specs.Capturing.{IsFree, IsReason, Reason, taken, blocked, site_before, IsRefusedAt, NoneIsRefusedBefore, IsPassed, EachPassesBefore, IsCaptured, IsRefusedFirst, TellsRefusal}
+use Rattle.site_core.specs.Capturing.{IsFree, IsReason, Reason, taken, blocked, site_before, NoneIsRefusedBefore, IsPassed, EachPassesBefore, IsCaptured, IsRefusedFirst, TellsRefusal}
 use Rattle.site_core.specs.Blocks.{Passes, Refuses}
 use Rattle.site_core.specs.Quarantines.{Quarantine}
 use Rattle.site_core.specs.declared.capturing.CaptureFault.{CaptureFault}
 use Rattle.site_core.specs.declared.capturing.CaptureFault.TheVariants as faults
-use Rattle.site_core.proofs.Places.{taken_more, stands_within, stands_next, rest_next}
+use Rattle.site_core.proofs.Places.{taken_more, stands_next, rest_next}
 
 same_addition : (a b : Addition) (r : Result Addition ℕ) → r ≡ Ok a → r ≡ Ok b → a ≡ b
 same_addition a b r h k = cc

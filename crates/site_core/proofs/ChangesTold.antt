@@ -1,10 +1,9 @@
 -- An answer tells whether the record changed.
-use Rattle.std.proofs.Common.{◌≡◌, ◌≢◌, ◌↔◌, ℕ, zero, suc, ◌+◌, Bool, true, List, [], ◌∷◌, ◌++◌, length, Some, None, refl, sym, ap, subst, ◌∙◌, arith, lt-ltb}
+use Rattle.std.proofs.Common.{◌≡◌, ◌≢◌, ◌↔◌, ℕ, zero, suc, ◌+◌, Bool, true, List, [], ◌∷◌, length, Some, None, refl, sym, ap, ◌∙◌, arith, lt-ltb}
 use Rattle.std.specs.Prelude.{IsTrue, IsFalse}
 use mathlib.Core.Bool.{false≢true}
 use Rattle.std.specs.FinMap.{get}
 use Rattle.std.proofs.lemmas.List.{length-append}
-use Rattle.event_json.specs.Events.{Content}
 use Rattle.frame_core.specs.declared.frames.Frame.TheVariants as frames
 use Rattle.frame_core.specs.Numbers.{Recall, Message}
 use Rattle.scholten_core.specs.declared.outcomes.Signalled.{Signalled}
@@ -15,7 +14,7 @@ use Rattle.site_core.specs.declared.outcomes.Effects.TheVariants as effects
 use Rattle.site_core.specs.Records.{Record}
 use Rattle.site_core.specs.Steps.{Does, Clears, changes}
 use Rattle.site_core.specs.StepLaws.{AnswersTellChanges, IdleFramesChangeNothing}
-use Rattle.site_core.specs.Ways.{Grows, GrowsBy}
+use Rattle.site_core.specs.Ways.{GrowsBy}
 use Rattle.site_core.proofs.Clearings.{clears_for}
 use Rattle.site_core.proofs.Growths.{captures_grow}
 use Rattle.site_core.proofs.Openings.{starts_open}

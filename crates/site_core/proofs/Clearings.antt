@@ -1,5 +1,5 @@
 -- A signal whose row stands clears it.
-use Rattle.std.proofs.Common.{◌≡◌, ℕ, sym, ap, subst}
+use Rattle.std.proofs.Common.{ℕ, ap, subst}
 use Rattle.frame_core.specs.Numbers.{Message}
 use Rattle.scholten_core.specs.declared.outcomes.Signalled.{Signalled}
 use Rattle.scholten_core.specs.Engagement.{Engagement}
@@ -13,7 +13,7 @@ use Rattle.site_core.specs.StepLaws.{ClearsFor, SignalsClear}
 pub clears_for : (s t : Record) (m : Message) (by : ℕ) (answer : Signalled) → Clears s m by answer t → ClearsFor s t m by answer
 clears_for s t m by answer c =
     let what = subst (λ (p : Engagement × Signalled). effects.Clears s.engagement p.0 m.number c.row × TellsCleared s.engagement p.0 c.row.recall p.1) c.engaged
-        (standing_is_cleared s.engagement m.number c.row c.has.stands) in
+    (standing_is_cleared s.engagement m.number c.row c.has.stands) in
     record {
       own = c.has.mine;
       row = c.row;

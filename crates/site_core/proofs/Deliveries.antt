@@ -6,7 +6,7 @@ use Rattle.site_core.specs.declared.inputs.SiteInput.TheVariants.{Deliver}
 use Rattle.site_core.specs.declared.outcomes.Effects.{Effects}
 use Rattle.site_core.specs.declared.outcomes.Effects.TheVariants as effects
 use Rattle.site_core.specs.Records.{Record}
-use Rattle.site_core.specs.Steps.{Does, IsForSite, IsOwnMessage}
+use Rattle.site_core.specs.Steps.{Does, IsForSite}
 use Rattle.site_core.specs.StepLaws.{MessagesAreForTheSite, SignalsAreOfTheSite}
 
 message_done : (s t : Record) (m : Message) (dest : ℕ) (r : Recall) (i : List ℕ) (e : Effects) → Does s (Deliver (frames.Recall m dest r i)) e t → IsForSite s m dest r

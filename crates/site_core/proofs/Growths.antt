@@ -1,19 +1,19 @@
 -- A document that is captured is one fresh event after another, none of which leads an item out of its quarantine.
-use Rattle.std.proofs.Common.{◌≡◌, ◌⊎◌, ◌↔◌, inl, inr, ℕ, zero, suc, ◌+◌, ◌<◌, ◌≤◌, ◌==◌, ◌&&◌, Bool, true, false, List, [], ◌∷◌, ◌++◌, take, length, Some, Ok, refl, sym, ap, subst, ◌∙◌, arith}
+use Rattle.std.proofs.Common.{◌≡◌, ◌⊎◌, ◌↔◌, inl, inr, ℕ, zero, suc, ◌+◌, ◌<◌, ◌≤◌, ◌==◌, ◌&&◌, true, false, List, [], ◌∷◌, ◌++◌, take, length, Ok, refl, sym, ap, subst, ◌∙◌, arith}
 use Rattle.std.specs.Prelude.{IsTrue}
 use mathlib.Core.Bool.{false≢true}
 use Rattle.std.proofs.lemmas.Bool.Decides.{Decides-and, Decides-eqb}
-use Rattle.std.specs.List.{Contains, slice_get}
+use Rattle.std.specs.List.{Contains}
 use Rattle.std.proofs.lemmas.List.{take_all}
 use Rattle.std.proofs.lemmas.List.Elements.{Contains-append_left, Contains-append_right, Contains-append_cases}
 use Rattle.event_json.specs.Events.{Content}
 use Rattle.frame_core.specs.Numbers.{Recall}
-use Rattle.trace_core.specs.Adding.{Addition, adding, judged, kept_with, standing_among}
+use Rattle.trace_core.specs.Adding.{Addition, adding, standing_among}
 use Rattle.trace_core.specs.PairTests.{is_related}
 use Rattle.trace_core.specs.Pairs.{IsRelated}
 use Rattle.trace_core.specs.Sites.{SiteEvents}
 use Rattle.trace_core.specs.Spreads.{with_event}
-use Rattle.trace_core.specs.declared.adding.Standing.TheVariants.{Fresh, Known}
+use Rattle.trace_core.specs.declared.adding.Standing.TheVariants.{Fresh}
 use Rattle.trace_core.specs.declared.pairs.Pair.{Pair}
 use Rattle.trace_core.proofs.AddingSteps.{counted-none, none_left, stepwise}
 use Rattle.trace_core.proofs.Growing.{stays_related}
@@ -83,19 +83,19 @@ module _ (s : Record) (given : List Content) (a : Addition) (captured : IsCaptur
       let more = ap (λ es. adding s.captured.events es) (taken_more given place e at) in
       elim (subst (λ z. IsPassed z s.quarantine e) now (captured.all_pass place e below at)) [
         | inl known ↦ record {
-            addition = record { events = b.events; fresh = b.fresh; known = b.known + 1 };
-            adds = more ∙ adds_known s.captured.events (take place given) e b so_far.adds known;
-            counts = omega (arith, so_far.counts);
-            grown = so_far.grown;
-          }
+          addition = record { events = b.events; fresh = b.fresh; known = b.known + 1 };
+          adds = more ∙ adds_known s.captured.events (take place given) e b so_far.adds known;
+          counts = omega (arith, so_far.counts);
+          grown = so_far.grown;
+        }
         | inr free ↦ record {
-            addition = record { events = b.events ++ e ∷ []; fresh = b.fresh + 1; known = b.known };
-            adds = more ∙ adds_fresh s.captured.events (take place given) e b so_far.adds free.0;
-            counts = omega (arith, so_far.counts);
-            grown =
-                let next : suc b.fresh ≡ b.fresh + 1 = omega arith in
-                subst (λ k. GrowsBy s k (with_events s (b.events ++ e ∷ []))) next (with_events s b.events, so_far.grown, grows (with_events s b.events) e free.0 free.1);
-          }
+          addition = record { events = b.events ++ e ∷ []; fresh = b.fresh + 1; known = b.known };
+          adds = more ∙ adds_fresh s.captured.events (take place given) e b so_far.adds free.0;
+          counts = omega (arith, so_far.counts);
+          grown =
+              let next : suc b.fresh ≡ b.fresh + 1 = omega arith in
+              subst (λ k. GrowsBy s k (with_events s (b.events ++ e ∷ []))) next (with_events s b.events, so_far.grown, grows (with_events s b.events) e free.0 free.1);
+        }
       ]
 
   grown_at : (place : ℕ) → place ≤ length given → GrownAt s given place

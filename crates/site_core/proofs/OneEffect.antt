@@ -1,6 +1,5 @@
 -- An input has one effect, and leaves one record.
-use Rattle.std.proofs.Common.{◌≡◌, ◌==◌, inl, inr, ℕ, Bool, true, false, List, length, Result, Ok, Err, Some, None, refl, sym, ap, subst, ◌∙◌}
-use Rattle.std.specs.FinMap.{get}
+use Rattle.std.proofs.Common.{◌≡◌, ◌==◌, inl, inr, ℕ, Bool, true, false, List, length, Result, Ok, refl, sym, ap, subst, ◌∙◌}
 use Rattle.event_json.specs.Sites.{Site}
 use Rattle.event_json.specs.declared.doc_faults.DocFault.{DocFault}
 use Rattle.event_json.specs.declared.documents.Doc.{Doc}
@@ -17,9 +16,8 @@ use Rattle.trace_core.specs.Adding.{Addition, judged, kept_with}
 use Rattle.site_core.specs.declared.inputs.SiteInput.TheVariants.{Capture, Start, Deliver}
 use Rattle.site_core.specs.declared.outcomes.Effects.{Effects}
 use Rattle.site_core.specs.declared.outcomes.Effects.TheVariants as effects
-use Rattle.site_core.specs.Quarantines.{with_items}
 use Rattle.site_core.specs.Records.{Record}
-use Rattle.site_core.specs.Steps.{Does, IsReadAs, Captures, Starts, Takes, Clears, IsSeenBefore, reply}
+use Rattle.site_core.specs.Steps.{Does, IsReadAs, Captures, Starts, Takes, Clears, reply}
 use Rattle.site_core.specs.StepLaws.{EffectsAreFixed}
 use Rattle.site_core.proofs.Growths.{with_events}
 use Rattle.site_core.proofs.Quarantining.{with_new_items}

@@ -1,5 +1,5 @@
 -- A document has at most one outcome.
-use Rattle.std.proofs.Common.{◌≡◌, ◌<◌, ℕ, List, length, Option, Some, refl, sym, ap, subst, ◌∙◌, ⊎_elim, arith}
+use Rattle.std.proofs.Common.{◌≡◌, ℕ, List, length, Option, Some, refl, sym, ap, subst, ◌∙◌, ⊎_elim, arith}
 use Rattle.std.proofs.lemmas.Bool.{cases_lt}
 use Rattle.std.proofs.lemmas.Cmp.{nat_list_cmp_total}
 use Rattle.std.proofs.lemmas.Map.Lookups.{exact_bytes}
@@ -9,7 +9,7 @@ use Rattle.frame_core.specs.Numbers.{Recall}
 use Rattle.frame_core.specs.Orders.{recall_total, recall_exact}
 use Rattle.trace_core.specs.declared.adding.Standing.TheVariants.{Fresh, Taken}
 use Rattle.trace_core.specs.Sites.{SiteEvents}
-use Rattle.site_core.specs.Capturing.{IsBlockedBy, IsFirstBlock, IsReason, Reason, taken, blocked, site_before, IsRefusedAt, IsFirstRefused}
+use Rattle.site_core.specs.Capturing.{IsBlockedBy, IsFirstBlock, IsReason, Reason, taken, blocked, site_before, IsRefusedAt}
 use Rattle.site_core.specs.CapturingLaws.{EventsHaveOneOutcome}
 use Rattle.site_core.specs.Quarantines.{Quarantine, item_cmp}
 use Rattle.site_core.proofs.Ascending.{neither_above}

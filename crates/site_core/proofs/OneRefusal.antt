@@ -1,6 +1,5 @@
 -- But for want of memory, an input that has an effect isn't refused, and one that is refused is so for one reason.
-use Rattle.std.proofs.Common.{◌≡◌, ◌≢◌, inl, inr, ℕ, suc, Bool, List, Result, Ok, Err, Some, None, refl, sym, ap, subst, ◌∙◌}
-use Rattle.std.specs.FinMap.{get}
+use Rattle.std.proofs.Common.{◌≡◌, ◌≢◌, inl, inr, ℕ, suc, Bool, List, Ok, Err, Some, None, refl, sym, ap, subst, ◌∙◌}
 use Rattle.event_json.specs.declared.doc_faults.DocFault.{DocFault}
 use Rattle.event_json.specs.declared.documents.Doc.{Doc}
 use Rattle.frame_core.specs.declared.frames.Frame.TheVariants as frames
@@ -14,7 +13,7 @@ use Rattle.site_core.specs.declared.outcomes.Refusal.{Refusal}
 use Rattle.site_core.specs.declared.outcomes.Refusal.TheVariants as refusals
 use Rattle.site_core.specs.Capturing.{Reason, taken, blocked, IsFirstRefused}
 use Rattle.site_core.specs.Records.{Record}
-use Rattle.site_core.specs.Steps.{Does, Refuses, Captures, CapturesUpTo, Starts, StartsPastNumbers, HasNoNumbers, Takes, TakesPastNumbers, AreTooMany, IsSeenBefore, IsStale, Clears, HasRow, IsNotForSignal}
+use Rattle.site_core.specs.Steps.{Does, Refuses, Captures, CapturesUpTo, HasNoNumbers, Takes, TakesPastNumbers, AreTooMany, IsStale, Clears, IsNotForSignal}
 use Rattle.site_core.specs.StepLaws.{DoneIsNotRefused, RefusalsAreFixed}
 use Rattle.site_core.proofs.OneEffect.{one_reading, one_doc}
 use Rattle.site_core.proofs.OneOutcome.{one_outcome}

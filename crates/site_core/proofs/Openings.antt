@@ -1,12 +1,11 @@
 -- A recall that is started opens: its root's spread comes under it, and each shipment of that is told.
-use Rattle.std.proofs.Common.{◌≡◌, ℕ, Bool, List, length, sym, ap, subst, ◌∙◌}
+use Rattle.std.proofs.Common.{◌≡◌, ℕ, List, length, sym, ap, subst, ◌∙◌}
 use Rattle.frame_core.specs.Numbers.{Recall}
 use Rattle.scholten_core.specs.Changes.{next_own, begun, began}
 use Rattle.scholten_core.specs.Replies.{TellsBegun}
-use Rattle.scholten_core.specs.declared.outcomes.Began.{Began}
 use Rattle.scholten_core.proofs.Beginning.{begun_begins, begun_tells}
 use Rattle.site_core.specs.Records.{Record}
-use Rattle.site_core.specs.Steps.{MayStart, Starts}
+use Rattle.site_core.specs.Steps.{MayStart}
 use Rattle.site_core.specs.StepLaws.{StartsOpen}
 use Rattle.site_core.specs.Ways.{CountsNew, Opens}
 use Rattle.site_core.proofs.Quarantining.{with_new_items, told_row, counts_new, quarantines}
@@ -35,7 +34,7 @@ pub starts_open : StartsOpen
 starts_open s t root recall quarantined numbered ended c =
     let begins = begun_begins s.engagement root c.out in
     let counts = counts_new s (next_own s.engagement) root c.new c.spread c.out (begun s.engagement root c.out) c.may.newly c.may.shipped begins.rows
-        (λ j there. (c.may.exact j).0 there) (λ j there. (c.may.exact j).1 ((c.may.newly.exact j).0 there).0) in
+    (λ j there. (c.may.exact j).0 there) (λ j there. (c.may.exact j).1 ((c.may.newly.exact j).0 there).0) in
     let is : t ≡ opened s root c.spread c.new c.out c.may = c.after ∙ ap (λ (r : Recall). with_new_items s r c.new (begun s.engagement root c.out)) c.next in
     let tells : TellsBegun s.engagement t.engagement (began s.engagement c.out) = subst (λ (u : Record). TellsBegun s.engagement u.engagement (began s.engagement c.out)) (sym is) (begun_tells s.engagement root c.out) in
     let answer : began s.engagement c.out ≡ record { recall = recall; numbered = numbered; ended = ended } =

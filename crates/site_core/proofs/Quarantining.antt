@@ -1,7 +1,6 @@
 -- An item's spread comes under a recall, and messages tell of shipments.
-use Rattle.std.proofs.Common.{◌≡◌, ◌⊎◌, ◌↔◌, inl, inr, ℕ, ◌+◌, Bool, true, false, List, [], ◌∷◌, length, Some, refl, sym, ap, subst, ◌∙◌, arith}
+use Rattle.std.proofs.Common.{◌≡◌, inl, inr, ℕ, ◌+◌, true, false, List, length, Some, refl, sym, ap, ◌∙◌, arith}
 use mathlib.Core.Bool.{false≢true}
-use Rattle.std.specs.FinMap.{get}
 use Rattle.std.specs.List.{Contains, slice_get}
 use Rattle.std.proofs.lemmas.Option.{slice_get-get_or}
 use Rattle.frame_core.specs.Laws.{IsNewRow}
@@ -9,12 +8,11 @@ use Rattle.frame_core.specs.Numbers.{Recall}
 use Rattle.frame_core.specs.declared.rows.Row.{Row}
 use Rattle.scholten_core.specs.Effects.{AddsRows}
 use Rattle.scholten_core.specs.Engagement.{Engagement}
-use Rattle.trace_core.specs.Sites.{SiteEvents}
-use Rattle.site_core.specs.Quarantines.{Quarantine, held, with_items}
+use Rattle.site_core.specs.Quarantines.{held, with_items}
 use Rattle.site_core.specs.Records.{Record}
 use Rattle.site_core.specs.Shipments.{AreShipments}
 use Rattle.site_core.specs.Spreading.{AreNewlyHeld}
-use Rattle.site_core.specs.Ways.{Holds, Spreads, ShipsTo, Tells, IsNewMessage, Quarantines, CountsNew}
+use Rattle.site_core.specs.Ways.{Holds, Spreads, Tells, IsNewMessage, Quarantines, CountsNew}
 use Rattle.site_core.proofs.HeldLaws.{held_several}
 use Rattle.site_core.proofs.Places.{member_there, stands_within}
 

@@ -1,6 +1,5 @@
 -- A message that is received is taken: the item's spread comes under its recall, and what is new there is told.
-use Rattle.std.proofs.Common.{◌≡◌, inl, ℕ, Bool, List, length, refl, sym, subst}
-use Rattle.std.specs.FinMap.{get}
+use Rattle.std.proofs.Common.{inl, ℕ, List, length, refl, sym, subst}
 use Rattle.frame_core.specs.Numbers.{Recall, Message}
 use Rattle.scholten_core.specs.Effects as effects
 use Rattle.scholten_core.specs.Engagement.{Engagement}
@@ -35,7 +34,7 @@ module _ (s : Record) (m : Message) (r : Recall) (i : List ℕ) (new : List (Lis
 pub messages_are_taken : MessagesAreTaken
 messages_are_taken s t m dest r i quarantined numbered owed c =
     let what = subst (λ (p : Engagement × Received). effects.Takes s.engagement p.0 m r c.out × TellsTaken s.engagement p.0 m r p.1) c.engaged
-        (unseen_is_taken s.engagement m r c.out c.may.unseen) in
+    (unseen_is_taken s.engagement m r c.out c.may.unseen) in
     let as_counted : CountsNew s t r quarantined =
     subst (λ n. CountsNew s t r n) (sym c.held) (subst (λ u. CountsNew s u r (length c.new)) (sym c.after) (counts s m r i c.new c.out t.engagement c.may.newly c.may.shipped what.0)) in
     (c.may.mine, subst (λ u. TakesMessage s u m r i) (sym c.after) (takes_message s m r i c.new c.out t.engagement c.may.newly c.may.shipped what.0), as_counted, what.1)

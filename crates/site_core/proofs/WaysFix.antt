@@ -1,13 +1,11 @@
 -- The ways of a step fix the record afterwards, among those that keep no recall without items.
 use Rattle.std.proofs.Common.{◌≡◌, ◌⊎◌, ◌↔◌, inl, inr, ℕ, List, length, sym, ap, subst, ◌∙◌}
 use Rattle.std.specs.Cmp.Lexicographic.{nat_list_cmp_total}
-use Rattle.std.specs.List.{Contains}
-use Rattle.std.specs.List.Sorted.{IsStrictlySortedBy}
 use Rattle.std.proofs.lemmas.Map.Lookups.{exact_bytes}
 use Rattle.frame_core.specs.Numbers.{Recall}
 use Rattle.scholten_core.specs.Effects as effects
 use Rattle.scholten_core.proofs.Fixing.{begins_fixes, takes_fixes, clears_fixes}
-use Rattle.site_core.specs.Quarantines.{Quarantine, HasNoEmptySet, item_cmp}
+use Rattle.site_core.specs.Quarantines.{HasNoEmptySet, item_cmp}
 use Rattle.site_core.specs.Records.{Record}
 use Rattle.site_core.specs.Shipments.{shipment_cmp}
 use Rattle.site_core.specs.StepLaws.{OpensFixes, TakesFixes, ClearsFixes, CountIsFixed}
