@@ -1,12 +1,16 @@
 -- Lists whose elements strictly rise.
-use Rattle.std.proofs.Common.{◌≡◌, ◌≢◌, List, [], ◌∷◌, map, refl, ap, subst, ◌∙◌, ⊎_elim}
+use Rattle.std.proofs.Common.{◌≡◌, ◌≢◌, List, [], ◌∷◌, map, refl, ap, subst, ◌∙◌, ⊎_elim, ◌↔◌}
+use Rattle.std.specs.BTreeSet.{BTreeSet}
 use Rattle.std.specs.Cmp.{IsTotalOrder}
 use Rattle.std.specs.List.{AllByRecursion, Contains}
 use Rattle.std.specs.List.Sorted.{IsStrictlySortedBy}
 use Rattle.std.specs.Ordering.{ordering_reverse}
 use Rattle.std.specs.declared.cmp.Ordering.{Ordering}
 use Rattle.std.specs.declared.cmp.Ordering.TheVariants.{Less, Equal, Greater}
+use Rattle.std.proofs.lemmas.Bool.Decides.{same_from_decides}
 use Rattle.std.proofs.lemmas.Cmp.{tied_itself}
+use Rattle.std.proofs.lemmas.Map.Lookups.{CmpEqualImpliesEq, btree_set_from_contains}
+use Rattle.std.proofs.lemmas.Map.Views.{btree_set_contains_iff}
 use Rattle.trace_core.proofs.Members.{contains_cases, contains_none}
 
 -- what holds of all holds of each
@@ -37,6 +41,17 @@ module _ {K : Type 0} (cmp : K → K → Ordering) where
     | Equal ↦ λ e. refl
     | Greater ↦ λ e. absurd (not_above e)
   ] refl
+
+-- ascending lists with the same members are one list
+pub same_ascending : {K : Type 0} (cmp : K → K → Ordering) → IsTotalOrder cmp → CmpEqualImpliesEq cmp
+    → (xs ys : List K) → IsStrictlySortedBy cmp xs → IsStrictlySortedBy cmp ys → ((k : K) → Contains xs k ↔ Contains ys k) → xs ≡ ys
+same_ascending {K} cmp total exact xs ys a b same =
+    let s : BTreeSet K = record { keys = xs } in
+    let t : BTreeSet K = record { keys = ys } in
+    btree_set_from_contains total s t a b (λ k.
+    let of_s = btree_set_contains_iff total exact s k in
+    let of_t = btree_set_contains_iff total exact t k in
+    same_from_decides {P = Contains xs k} _ _ of_s (λ h. (same k).1 (of_t.0 h), λ m. of_t.1 ((same k).0 m))) exact
 
 module _ {X Y : Type 0} (f : X → Y) (below : X → X → Ordering) (cmp : Y → Y → Ordering) (agree : (a b : X) → cmp (f a) (f b) ≡ below a b) where
   all_below : (x : X) (xs : List X) → AllByRecursion (λ y. below x y ≡ Less) xs → AllByRecursion (λ y. cmp (f x) y ≡ Less) (map f xs)

@@ -11,12 +11,12 @@ use Rattle.trace_core.specs.Adding.{standing_among, is_taken, judged, Addition, 
 use Rattle.trace_core.specs.Sites.{SiteEvents}
 use Rattle.trace_core.proofs.AddingSteps.{after_fresh, after_known, then_with, stepwise, stepwise-fresh, stepwise-known, stepwise-taken, counted_on, counted-none, fresh_step, known_step, none_left, front_more}
 use Rattle.trace_core.proofs.Standings.{adding-stepwise}
-use Rattle.site_core.specs.Capturing.{IsFree, IsReason, Reason, taken, blocked, site_before, IsRefusedAt, NoneIsRefusedBefore, IsCaptured, IsRefusedFirst, TellsRefusal}
+use Rattle.site_core.specs.Capturing.{IsFree, IsReason, Reason, taken, blocked, site_before, NoneIsRefusedBefore, IsPassed, EachPassesBefore, IsCaptured, IsRefusedFirst, TellsRefusal}
 use Rattle.site_core.specs.Blocks.{Passes, Refuses}
 use Rattle.site_core.specs.Quarantines.{Quarantine}
 use Rattle.site_core.specs.declared.capturing.CaptureFault.{CaptureFault}
 use Rattle.site_core.specs.declared.capturing.CaptureFault.TheVariants as faults
-use Rattle.site_core.proofs.Places.{taken_more, stands_within, stands_next, rest_next}
+use Rattle.site_core.proofs.Places.{taken_more, stands_next, rest_next}
 
 same_addition : (a b : Addition) (r : Result Addition ℕ) → r ≡ Ok a → r ≡ Ok b → a ≡ b
 same_addition a b r h k = cc
@@ -30,7 +30,7 @@ handed_on (Ok a) x Q h q = absurd h
 handed_on (Err e) x Q h q = subst Q (sym h) q
 
 -- what is added is what is kept
-kept_is : (before given : List Content) (a : Addition) → adding before given ≡ Ok a → kept_with before (judged before given) ≡ a
+pub kept_is : (before given : List Content) (a : Addition) → adding before given ≡ Ok a → kept_with before (judged before given) ≡ a
 unfolding adding
 kept_is before given a h = by_outcome (position is_taken (judged before given)) h
   where
@@ -76,10 +76,10 @@ module _ (before xs : List Content) (e : Content) (a : Addition) (so_far : addin
   adds_last : adding before (xs ++ e ∷ []) ≡ counted_on a.fresh a.known (stepwise a.events (e ∷ []))
   adds_last = adding-stepwise before (xs ++ e ∷ []) ∙ stepwise_more xs (e ∷ []) before a (sym (adding-stepwise before xs) ∙ so_far)
 
-  adds_fresh : standing_among a.events e ≡ Fresh → adding before (xs ++ e ∷ []) ≡ Ok (record { events = a.events ++ e ∷ []; fresh = a.fresh + 1; known = a.known })
+  pub adds_fresh : standing_among a.events e ≡ Fresh → adding before (xs ++ e ∷ []) ≡ Ok (record { events = a.events ++ e ∷ []; fresh = a.fresh + 1; known = a.known })
   adds_fresh stands = adds_last ∙ fresh_step a.fresh a.known a.events e [] stands ∙ none_left (a.fresh + 1) a.known (a.events ++ e ∷ [])
 
-  adds_known : standing_among a.events e ≡ Known → adding before (xs ++ e ∷ []) ≡ Ok (record { events = a.events; fresh = a.fresh; known = a.known + 1 })
+  pub adds_known : standing_among a.events e ≡ Known → adding before (xs ++ e ∷ []) ≡ Ok (record { events = a.events; fresh = a.fresh; known = a.known + 1 })
   adds_known stands = adds_last ∙ known_step a.fresh a.known a.events e [] stands ∙ none_left a.fresh (a.known + 1) a.events
 
 -- nothing refuses a known event, nor a fresh one that nothing blocks
@@ -90,6 +90,16 @@ free_passes s q e stands free (blocked r i) (fresh, first) = free i r first.bloc
 known_passes : (s : SiteEvents) (q : Quarantine) (e : Content) → standing_among s.events e ≡ Known → (reason : Reason) → IsReason s q e reason → ⊥
 known_passes s q e stands taken h = let both : Known ≡ Taken = sym stands ∙ h in cc
 known_passes s q e stands (blocked r i) (fresh, first) = let both : Known ≡ Fresh = sym stands ∙ fresh in cc
+
+same_event : (x e : Content) (o : Option Content) → o ≡ Some x → o ≡ Some e → x ≡ e
+same_event x e o h k = cc
+
+-- so none is refused where each passes
+pub none_refused : (s : SiteEvents) (q : Quarantine) (given : List Content) (place : ℕ) → EachPassesBefore s q given place → NoneIsRefusedBefore s q given place
+none_refused s q given place pass earlier reason below r = elim (pass earlier r.event below r.stands) [
+  | inl known ↦ known_passes (site_before s given earlier) q r.event known reason r.refused
+  | inr free ↦ free_passes (site_before s given earlier) q r.event free.0 free.1 reason r.refused
+]
 
 ended : {X : Type 0} (xs : List X) (k : ℕ) → drop k xs ≡ [] → length xs ≤ k
 ended [] k is = omega arith
@@ -106,7 +116,7 @@ module _ (s : SiteEvents) (q : Quarantine) (given : List Content) where
     pub front : take (length s.events) now.events ≡ s.events
     pub left : drop (fresh + known) given ≡ rest
     pub adds : adding s.events (take (fresh + known) given) ≡ Ok (record { events = now.events; fresh = fresh; known = known })
-    pub passed : NoneIsRefusedBefore s q given (fresh + known)
+    pub passed : EachPassesBefore s q given (fresh + known)
 
   pub begun : SoFar s 0 0 given
   begun = record {
@@ -114,7 +124,7 @@ module _ (s : SiteEvents) (q : Quarantine) (given : List Content) where
     front = take_all (length s.events) s.events (omega arith);
     left = refl;
     adds = adding-stepwise s.events [] ∙ sym (counted-none (stepwise s.events [])) ∙ none_left 0 0 s.events;
-    passed = λ earlier reason below. absurd (omega (arith, below));
+    passed = λ earlier e below at. absurd (omega (arith, below));
   }
 
   module _ (now : SiteEvents) (f k : ℕ) (rest : List Content) (so_far : SoFar now f k rest) where
@@ -126,7 +136,7 @@ module _ (s : SiteEvents) (q : Quarantine) (given : List Content) where
     all_captured none =
         let past : length given ≤ f + k = ended given (f + k) (so_far.left ∙ none) in
         record {
-          all_pass = λ place reason r. so_far.passed place reason (omega (arith, past, stands_within given place r.event r.stands)) r;
+          all_pass = λ earlier e below at. so_far.passed earlier e (omega (arith, past, below)) at;
           kept = sym (kept_is s.events given _ (subst (λ es. adding s.events es ≡ Ok (record { events = now.events; fresh = f; known = k })) (take_all (f + k) given past) so_far.adds));
         }
 
@@ -140,16 +150,13 @@ module _ (s : SiteEvents) (q : Quarantine) (given : List Content) where
       left_next : (n : ℕ) → n ≡ f + k + 1 → drop n given ≡ es
       left_next n is = ap (λ m. drop m given) is ∙ rest_next given (f + k) e es (so_far.left ∙ next)
 
-      passes : (n : ℕ) → n ≡ f + k + 1 → ((reason : Reason) → IsReason now q e reason → ⊥) → NoneIsRefusedBefore s q given n
-      passes n is no_reason = λ earlier reason below r. ⊎_elim
-          (λ before. so_far.passed earlier reason before r)
-          (λ same. let at : IsRefusedAt s q given (f + k) reason = subst (λ m. IsRefusedAt s q given m reason) same r in
-          let one : at.event ≡ e = same_event at.event (slice_get given (f + k)) at.stands stands in
-          no_reason reason (subst (λ z. IsReason z q e reason) here (subst (λ x. IsReason (site_before s given (f + k)) q x reason) one at.refused)))
+      passes : (n : ℕ) → n ≡ f + k + 1 → IsPassed now q e → EachPassesBefore s q given n
+      passes n is passed = λ earlier x below at. ⊎_elim
+          (λ before. so_far.passed earlier x before at)
+          (λ same.
+          let one : e ≡ x = same_event e x (slice_get given (f + k)) stands (subst (λ m. slice_get given m ≡ Some x) same at) in
+          subst (λ m. IsPassed (site_before s given m) q x) (sym same) (subst (λ y. IsPassed (site_before s given (f + k)) q y) one (subst (λ z. IsPassed z q e) (sym here) passed)))
           (earlier_or_same earlier (f + k) (omega (arith, below, is)))
-        where
-          same_event : (x : Content) (o : Option Content) → o ≡ Some x → o ≡ Some e → x ≡ e
-          same_event x o h k = cc
 
       pub kept_next : (new : SiteEvents) → new ≡ record now { events = now.events ++ e ∷ [] } → standing_among now.events e ≡ Fresh → IsFree now q e → SoFar new (f + 1) k es
       kept_next new is fresh free =
@@ -159,7 +166,7 @@ module _ (s : SiteEvents) (q : Quarantine) (given : List Content) where
             front = front_more s.events now.events e so_far.front;
             left = left_next (f + 1 + k) one_more;
             adds = ap (λ xs. adding s.events xs) (longer (f + 1 + k) one_more) ∙ adds_fresh s.events (take (f + k) given) e _ so_far.adds fresh;
-            passed = passes (f + 1 + k) one_more (free_passes now q e fresh free);
+            passed = passes (f + 1 + k) one_more (inr (fresh, free));
           })
 
       pub known_next : (new : SiteEvents) → new ≡ now → standing_among now.events e ≡ Known → SoFar new f (k + 1) es
@@ -170,7 +177,7 @@ module _ (s : SiteEvents) (q : Quarantine) (given : List Content) where
             front = so_far.front;
             left = left_next (f + (k + 1)) one_more;
             adds = ap (λ xs. adding s.events xs) (longer (f + (k + 1)) one_more) ∙ adds_known s.events (take (f + k) given) e _ so_far.adds known;
-            passed = passes (f + (k + 1)) one_more (known_passes now q e known);
+            passed = passes (f + (k + 1)) one_more (inl known);
           })
 
       pub refused_next : (reason : Reason) → IsReason now q e reason → (n : ℕ) → n ≡ f + k + 1 → IsRefusedFirst s q given n reason
@@ -179,7 +186,7 @@ module _ (s : SiteEvents) (q : Quarantine) (given : List Content) where
         omega (arith, is),
         record {
           refused = record { event = e; stands = stands; refused = subst (λ z. IsReason z q e reason) (sym here) h };
-          first = so_far.passed;
+          first = none_refused s q given (f + k) so_far.passed;
         },
       )
 

@@ -1,5 +1,5 @@
 -- A document has at most one outcome.
-use Rattle.std.proofs.Common.{◌≡◌, ℕ, List, Option, Some, refl, sym, ap, subst, ◌∙◌, ⊎_elim, arith}
+use Rattle.std.proofs.Common.{◌≡◌, ℕ, List, length, Option, Some, refl, sym, ap, subst, ◌∙◌, ⊎_elim, arith}
 use Rattle.std.proofs.lemmas.Bool.{cases_lt}
 use Rattle.std.proofs.lemmas.Cmp.{nat_list_cmp_total}
 use Rattle.std.proofs.lemmas.Map.Lookups.{exact_bytes}
@@ -13,6 +13,8 @@ use Rattle.site_core.specs.Capturing.{IsBlockedBy, IsFirstBlock, IsReason, Reaso
 use Rattle.site_core.specs.CapturingLaws.{EventsHaveOneOutcome}
 use Rattle.site_core.specs.Quarantines.{Quarantine, item_cmp}
 use Rattle.site_core.proofs.Ascending.{neither_above}
+use Rattle.site_core.proofs.Captures.{none_refused}
+use Rattle.site_core.proofs.Places.{stands_within}
 
 one_item : (s : SiteEvents) (q : Quarantine) (e : Content) (i j : List ℕ) (r t : Recall) → IsFirstBlock s q e i r → IsFirstBlock s q e j t → i ≡ j
 one_item s q e i j r t a b = exact_bytes i j (neither_above item_cmp nat_list_cmp_total i j (a.least_item j t b.blocked) (b.least_item i r a.blocked))
@@ -40,7 +42,7 @@ one_at s q given place a b h k =
 pub one_outcome : EventsHaveOneOutcome
 one_outcome s q given = record {
   one_addition = λ a b h k. h.kept ∙ sym k.kept;
-  not_both = λ a place reason h k. h.all_pass place reason k.refused;
+  not_both = λ a place reason h k. none_refused s q given (length given) h.all_pass place reason (stands_within given place k.refused.event k.refused.stands) k.refused;
   one_refusal = λ place other reason why h k.
       let same : place ≡ other = ⊎_elim
       (λ before. absurd (k.first place reason before h.refused))

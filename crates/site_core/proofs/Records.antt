@@ -8,7 +8,8 @@ use Rattle.frame_core.specs.Identifiers.{recall_cmp, message_cmp}
 use Rattle.site_core.specs.ItemSets as set
 use Rattle.site_core.specs.Records.{fresh, IsSound}
 
-none_there : {A : Type 0} {x : Option A} → x ≡ None → IsSome x → ⊥
+-- where nothing is found, something isn't
+pub none_there : {A : Type 0} {x : Option A} → x ≡ None → IsSome x → ⊥
 none_there is some = let none = subst IsSome is some in cc
 
 pub fresh_is_sound : (sites : List Site) (me : ℕ) → me < length sites → IsSound (fresh sites me)

@@ -1,5 +1,5 @@
 -- What capturing a document's events makes of a site with a quarantine, event by event.
-use Rattle.std.specs.Prelude.{◌≡◌, ◌≢◌, ◌<◌, ℕ, suc, ⊤, IsTrue, List, take, slice_get, Some}
+use Rattle.std.specs.Prelude.{◌≡◌, ◌≢◌, ◌⊎◌, ◌<◌, ℕ, suc, ⊤, IsTrue, List, length, take, slice_get, Some}
 use Rattle.std.specs.declared.cmp.Ordering.TheVariants.{Greater}
 use Rattle.event_json.specs.Events.{Content}
 use Rattle.frame_core.specs.Identifiers.{recall_cmp}
@@ -7,7 +7,7 @@ use Rattle.frame_core.specs.Numbers.{Recall}
 use Rattle.trace_core.specs.Adding.{Addition, judged, kept_with, standing_among}
 use Rattle.trace_core.specs.Sites.{SiteEvents}
 use Rattle.trace_core.specs.Spreads.{IsNewTarget}
-use Rattle.trace_core.specs.declared.adding.Standing.TheVariants.{Fresh, Taken}
+use Rattle.trace_core.specs.declared.adding.Standing.TheVariants.{Fresh, Known, Taken}
 use Rattle.trace_core.specs.declared.pairs.Pair.{Pair}
 use Rattle.site_core.specs.declared.capturing.CaptureFault.{CaptureFault}
 use Rattle.site_core.specs.declared.capturing.CaptureFault.TheVariants as faults
@@ -60,9 +60,17 @@ pub record IsRefusedAt (s : SiteEvents) (q : Quarantine) (given : List Content) 
 abbrev pub NoneIsRefusedBefore : SiteEvents → Quarantine → List Content → ℕ → Type 0
 NoneIsRefusedBefore s q given place = (earlier : ℕ) (reason : Reason) → earlier < place → IsRefusedAt s q given earlier reason → ⊥
 
--- no event is refused, and the fresh ones are kept
+-- an event passes that is known, and a fresh one that nothing blocks
+abbrev pub IsPassed : SiteEvents → Quarantine → Content → Type 0
+IsPassed s q e = (standing_among s.events e ≡ Known) ⊎ ((standing_among s.events e ≡ Fresh) × IsFree s q e)
+
+-- each event before this place passes, once those before it were captured
+abbrev pub EachPassesBefore : SiteEvents → Quarantine → List Content → ℕ → Type 0
+EachPassesBefore s q given place = (earlier : ℕ) (e : Content) → earlier < place → slice_get given earlier ≡ Some e → IsPassed (site_before s given earlier) q e
+
+-- each event passes, and the fresh ones are kept
 pub record IsCaptured (s : SiteEvents) (q : Quarantine) (given : List Content) (a : Addition) : Type 0 where
-  pub all_pass : (place : ℕ) (reason : Reason) → IsRefusedAt s q given place reason → ⊥
+  pub all_pass : EachPassesBefore s q given (length given)
   pub kept : a ≡ kept_with s.events (judged s.events given)
 
 -- the first event that is refused, by its place from 0, and why

@@ -1,10 +1,13 @@
 -- What capturing has to mean.
-use Rattle.std.specs.Prelude.{◌≡◌, ℕ, List}
+use Rattle.std.specs.Prelude.{◌≡◌, ◌⊎◌, ℕ, IsTrue, List}
 use Rattle.event_json.specs.Events.{Content}
+use Rattle.frame_core.specs.Numbers.{Recall}
 use Rattle.trace_core.specs.Adding.{Addition}
+use Rattle.trace_core.specs.Pairs.{IsRelated}
 use Rattle.trace_core.specs.Sites.{SiteEvents}
-use Rattle.site_core.specs.Capturing.{Reason, IsCaptured, IsFirstRefused}
-use Rattle.site_core.specs.Quarantines.{Quarantine}
+use Rattle.trace_core.specs.declared.pairs.Pair.{Pair}
+use Rattle.site_core.specs.Capturing.{IsHeldHere, Reason, IsCaptured, IsFirstRefused}
+use Rattle.site_core.specs.Quarantines.{Quarantine, held}
 
 -- events are captured in one way, or first refused at one place for one reason, and not both
 pub record HaveOneOutcome (s : SiteEvents) (q : Quarantine) (given : List Content) : Type 0 where
@@ -14,3 +17,11 @@ pub record HaveOneOutcome (s : SiteEvents) (q : Quarantine) (given : List Conten
 
 abbrev pub EventsHaveOneOutcome : Type 0
 EventsHaveOneOutcome = (s : SiteEvents) (q : Quarantine) (given : List Content) → HaveOneOutcome s q given
+
+-- what a quarantined item is related to once events are captured it was related to before, or it is quarantined
+-- here under the same recall
+abbrev pub CapturesLeadNoFurther : Type 0
+CapturesLeadNoFurther =
+    (s : SiteEvents) (q : Quarantine) (given : List Content) (a : Addition) → IsCaptured s q given a
+    → (r : Recall) (i : List ℕ) (p : Pair) → IsTrue (held q r i) → IsRelated (record s { events = a.events }) i p
+    → IsRelated s i p ⊎ IsHeldHere s q r p

@@ -14,6 +14,8 @@ pub mod Shipments
 pub mod Shipping
 pub mod Sources
 pub mod Spreading
+pub mod StepLaws
 pub mod Stepping
 pub mod Steps
 pub mod Told
+pub mod Ways

@@ -75,6 +75,10 @@ pub record MayStart (s : Record) (root : List ℕ) (spread new : List (List ℕ)
   pub newly : AreNewlyHeld s.captured s.quarantine (next_own s.engagement) root new
   pub shipped : AreShipments s.captured spread out
 
+-- the next recall's number, or one of these messages' numbers, would be past 2^62
+abbrev pub HasNoNumbers : Engagement → List (ℕ × List ℕ) → Type 0
+HasNoNumbers e out = (2 ^ 62 < e.next_recall) ⊎ AreTooMany e out
+
 -- the spread comes under the next recall, and each shipment of it is a message; there are numbers for all
 pub record Starts (s : Record) (root : List ℕ) (recall : Recall) (quarantined numbered : ℕ) (ended : Bool) (t : Record) : Type 0 where
   pub spread : List (List ℕ)
@@ -94,7 +98,7 @@ pub record StartsPastNumbers (s : Record) (root : List ℕ) : Type 0 where
   pub new : List (List ℕ)
   pub out : List (ℕ × List ℕ)
   pub may : MayStart s root spread new out
-  pub spent : (2 ^ 62 < s.engagement.next_recall) ⊎ AreTooMany s.engagement out
+  pub spent : HasNoNumbers s.engagement out
 
 -- Taking a message of a recall.
 

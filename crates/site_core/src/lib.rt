@@ -17,6 +17,7 @@ mod shipping;
 mod sources;
 mod spreading;
 mod states;
+pub mod step_laws;
 mod steps;
 #[cfg(test)]
 mod tests;

@@ -1,0 +1,60 @@
+//! What the step of a site has to mean, each law named by a function with an empty body whose contract is
+//! the law.
+
+ghost use Rattle.site_core.specs.CapturingLaws.{CapturesLeadNoFurther};
+ghost use Rattle.site_core.specs.StepLaws.{AnswersTellChanges, CapturesGrow, CapturesKeepTheDocument, ClearsFixes, CountIsFixed, DoneIsNotRefused, EffectsAreFixed, IdleFramesChangeNothing, MessagesAreForTheSite, MessagesAreTaken, OpensFixes, RefusalsAreFixed, SignalsAreOfTheSite, SignalsClear, StartsOpen, TakesFixes};
+
+/// A document that is captured is kept, and is so many fresh events, one after another, none of which leads a
+/// quarantined item to a pair that isn't at this site and quarantined under the same recall.
+pub fn a_capture_leads_no_further()
+    ensures grows { CapturesGrow }
+    ensures keeps { CapturesKeepTheDocument }
+    ensures leads_no_further { CapturesLeadNoFurther }
+{}
+
+/// A start brings the root's spread under the recall that it begins, and tells of each shipment of it.
+pub fn a_start_opens_a_recall()
+    ensures { StartsOpen }
+{}
+
+/// A message that is received wasn't seen: the item's spread comes under its recall, and each shipment of
+/// what is new there is told.
+pub fn a_message_is_taken()
+    ensures { MessagesAreTaken }
+{}
+
+/// A signal that isn't stale clears the row of its number, which goes to the signer: the messages left of
+/// the recall decide what follows, and nothing but the engagement changes.
+pub fn a_signal_clears_its_row()
+    ensures { SignalsClear }
+{}
+
+/// What opens, is taken or is cleared fixes the record afterwards, among those that keep no recall without
+/// items, and how many items came under the recall.
+pub fn ways_fix_what_follows()
+    ensures opens { OpensFixes }
+    ensures takes { TakesFixes }
+    ensures clears { ClearsFixes }
+    ensures count { CountIsFixed }
+{}
+
+/// An answer tells whether anything changed: a capture of known events alone, a repeat and a stale signal
+/// leave the record as it was, and nothing else does.
+pub fn an_answer_tells_a_change()
+    ensures changes { AnswersTellChanges }
+    ensures idle { IdleFramesChangeNothing }
+{}
+
+/// A message or a signal does something, or is refused for its numbers, only at the site that it is for.
+pub fn frames_are_for_their_site()
+    ensures messages { MessagesAreForTheSite }
+    ensures signals { SignalsAreOfTheSite }
+{}
+
+/// But for want of memory an input has one outcome: one effect that leaves one record, or one reason for
+/// which it is refused, and not both.
+pub fn an_input_has_one_outcome()
+    ensures effects { EffectsAreFixed }
+    ensures not_both { DoneIsNotRefused }
+    ensures refusals { RefusalsAreFixed }
+{}
