@@ -8,6 +8,7 @@ use Rattle.serde_json.specs.Data.{Data, Items, no_items, item}
 use Rattle.serde_json.specs.Read.{read}
 use Rattle.event_json.specs.declared.bodies.Body.{Body}
 use Rattle.event_json.specs.declared.bodies.Body.TheVariants.{Note, Ship, Make}
+use Rattle.event_json.specs.declared.checks.Head.{Head}
 use Rattle.event_json.specs.declared.doc_faults.DocField.TheVariants as fields
 use Rattle.event_json.specs.declared.doc_faults.DocFaultKind.TheVariants as kinds
 use Rattle.event_json.specs.declared.doc_faults.Flaw.{Flaw}
@@ -58,6 +59,10 @@ after : {A B E : Type 0} (first : Result A E) (rest : A → Result B E) (y : B) 
 after (Ok x) rest y is = (x, refl, is)
 after (Err e) rest y is = absurd (let no : ⊥ = cc in no)
 
+-- the event that is read has this body
+body_among : (sites : ℕ) (head : Head) (body : Body) (e : Content) → ◌≡◌ {A = Result Content Flaw} (Ok (record { id = head.id; instant = head.instant; body = body })) (Ok e) → ShipsAmong sites body → ShipsAmong sites e.body
+body_among sites head body e is among = subst (λ (c : Content). ShipsAmong sites c.body) (same_ok {E = Flaw} (record { id = head.id; instant = head.instant; body = body }) e is) among
+
 object_among : (sites : List Site) (d : Data) (e : Content) → object_event sites d ≡ Ok e → ShipsAmong (length sites) e.body
 unfolding object_event
 object_among sites d e is =
@@ -67,7 +72,7 @@ object_among sites d e is =
     let action = after (action_checked d) _ e head.2 in
     let items = after (epcs_of fields.EpcList d) _ e action.2 in
     let destinations = after (destinations_of d) _ e items.2 in
-    subst (λ (c : Content). ShipsAmong (length sites) c.body) (same_ok _ _ destinations.2) (shipment_among sites items.0 destinations.0)
+    body_among (length sites) head.0 (shipment sites items.0 destinations.0) e destinations.2 (shipment_among sites items.0 destinations.0)
 
 made_among : (sites : ℕ) (id : Option (List ℕ)) (ins outs : List (List ℕ)) (body : Body) → made id ins outs ≡ Ok body → ShipsAmong sites body
 made_among sites id ins outs body =
@@ -91,7 +96,7 @@ transformation_among sites d e is =
     let outs = after (epcs_of fields.OutputEpcList d) _ e ins.2 in
     let id = after (identifier_of fields.TransformationId (member_of fields.TransformationId d)) _ e outs.2 in
     let body = after (made id.0 ins.0 outs.0) _ e id.2 in
-    subst (λ (c : Content). ShipsAmong sites c.body) (same_ok _ _ body.2) (made_among sites id.0 ins.0 outs.0 body.0 body.1)
+    body_among sites head.0 body.0 e body.2 (made_among sites id.0 ins.0 outs.0 body.0 body.1)
 
 -- an event that isn't skipped
 abbrev KeptAmong : ℕ → Option Content → Type 0
