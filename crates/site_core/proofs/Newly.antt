@@ -42,10 +42,10 @@ module _ {X : Type 0} (p : X → Bool) where
 pub newly : (s : SiteEvents) (q : Quarantine) (r : Recall) (i : List ℕ) (found out : List (List ℕ)) → AreAscendingItems found → ((j : List ℕ) → Contains found j ↔ IsSpread s (i ∷ []) j)
     → out ≡ filter (λ j. not (held q r j)) found → AreNewlyHeld s q r i out
 newly s q r i found out up exact is = record {
-      ascending = subst AreAscendingItems (sym is) (IsStrictlySortedBy-filter item_cmp (λ j. not (held q r j)) found up);
-      exact = λ j.
-          let fresh = Decides-not (held q r j) (λ h. h, λ h. h) in (
-            λ h. let (there, passes) = passing (λ j. not (held q r j)) found j (subst (λ xs. Contains xs j) is h) in ((exact j).0 there, fresh.0 passes),
-            λ (spread, not_held). subst (λ xs. Contains xs j) (sym is) (is_kept (λ j. not (held q r j)) found j ((exact j).1 spread) (fresh.1 not_held)),
-          );
-    }
+  ascending = subst AreAscendingItems (sym is) (IsStrictlySortedBy-filter item_cmp (λ j. not (held q r j)) found up);
+  exact = λ j.
+      let fresh = Decides-not (held q r j) (λ h. h, λ h. h) in (
+        λ h. let (there, passes) = passing (λ j. not (held q r j)) found j (subst (λ xs. Contains xs j) is h) in ((exact j).0 there, fresh.0 passes),
+        λ (spread, not_held). subst (λ xs. Contains xs j) (sym is) (is_kept (λ j. not (held q r j)) found j ((exact j).1 spread) (fresh.1 not_held)),
+      );
+}

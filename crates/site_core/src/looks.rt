@@ -20,12 +20,14 @@ pub fn look(state: &SiteState, input: &SiteInput) -> Option<Result<Effects, Refu
     match input {
         SiteInput::Capture(_) => None,
         SiteInput::Start(root) => look_at_start(state, root),
-        SiteInput::Deliver(Frame::Recall {
-            id,
-            dest,
-            recall,
-            item,
-        }) => look_at_message(state, *id, *dest, *recall, item),
+        SiteInput::Deliver(
+            Frame::Recall {
+                id,
+                dest,
+                recall,
+                item,
+            },
+        ) => look_at_message(state, *id, *dest, *recall, item),
         SiteInput::Deliver(Frame::Signal { id, by }) => look_at_signal(state, *id, *by),
     }
 }
@@ -61,11 +63,7 @@ fn look_at_message(
 }
 
 /// A signal has to be for a message of the site that stands, and from the site that it went to.
-fn look_at_signal(
-    state: &SiteState,
-    message: MsgId,
-    by: SiteNo,
-) -> Option<Result<Effects, Refusal>>
+fn look_at_signal(state: &SiteState, message: MsgId, by: SiteNo) -> Option<Result<Effects, Refusal>>
     ensures { IsAnsweredBy state.now (SiteInput.Deliver (frames.Signal message by)) result }
 {
     if !is_own_message(state, message) {

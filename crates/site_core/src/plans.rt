@@ -100,13 +100,13 @@ pub fn receive_planned(
     ensures spent { result ≡ Err NumberFault.NumbersSpent → AreTooMany diffusion.old plan.now.out.items }
     ensures unchanged { OnErr result ((quarantine.new ≡ quarantine.old) × (diffusion.new ≡ diffusion.old)) }
 {
-    let added = quarantine.hold_each(recall, &plan.new)?;
+    let new = quarantine.hold_each(recall, &plan.new)?;
     match diffusion.receive(message, recall, &plan.out) {
         Ok(Received::Owe { .. }) => Ok(true),
         // It wasn't seen, so it is no repeat.
         Ok(Received::SignalNow { .. } | Received::Repeat) => Ok(false),
         Err(fault) => {
-            quarantine.release_all(recall, added);
+            quarantine.release_all(recall, new);
             Err(fault)
         }
     }

@@ -91,12 +91,14 @@ impl SiteState {
         match input {
             SiteInput::Capture(bytes) => self.capture(bytes.as_slice()),
             SiteInput::Start(root) => self.start(root),
-            SiteInput::Deliver(Frame::Recall {
-                id,
-                dest,
-                recall,
-                item,
-            }) => self.take(*id, *dest, *recall, item),
+            SiteInput::Deliver(
+                Frame::Recall {
+                    id,
+                    dest,
+                    recall,
+                    item,
+                },
+            ) => self.take(*id, *dest, *recall, item),
             SiteInput::Deliver(Frame::Signal { id, by }) => Ok(self.clear(*id, *by)),
         }
     }
@@ -131,7 +133,13 @@ impl SiteState {
         };
         let plan = plan_start(self.alloc, &self.captured, &self.quarantine, recall, root)?;
         let root = root.copy(self.alloc)?;
-        let began = begin_planned(&mut self.quarantine, &mut self.diffusion, recall, root, &plan)?;
+        let began = begin_planned(
+            &mut self.quarantine,
+            &mut self.diffusion,
+            recall,
+            root,
+            &plan,
+        )?;
         Ok(Effects::Started {
             recall,
             quarantined: plan.new.len() as u64,
@@ -154,7 +162,13 @@ impl SiteState {
         ensures unchanged { OnErr result (self.new ≡ self.old) }
     {
         let plan = plan_message(self.alloc, &self.captured, &self.quarantine, recall, item)?;
-        let owed = receive_planned(&mut self.quarantine, &mut self.diffusion, message, recall, &plan)?;
+        let owed = receive_planned(
+            &mut self.quarantine,
+            &mut self.diffusion,
+            message,
+            recall,
+            &plan,
+        )?;
         Ok(Effects::Received {
             quarantined: plan.new.len() as u64,
             numbered: plan.out.len() as u64,
