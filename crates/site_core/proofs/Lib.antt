@@ -9,6 +9,7 @@ pub mod Growths
 pub mod Held
 pub mod HeldLaws
 pub mod Holders
+pub mod InputOutcomes
 pub mod ItemOrder
 pub mod ItemSets
 pub mod Named

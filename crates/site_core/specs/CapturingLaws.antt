@@ -6,7 +6,7 @@ use Rattle.trace_core.specs.Adding.{Addition}
 use Rattle.trace_core.specs.Pairs.{IsRelated}
 use Rattle.trace_core.specs.Sites.{SiteEvents}
 use Rattle.trace_core.specs.declared.pairs.Pair.{Pair}
-use Rattle.site_core.specs.Capturing.{IsHeldHere, Reason, IsCaptured, IsFirstRefused}
+use Rattle.site_core.specs.Capturing.{Reason, IsCaptured, IsFirstRefused}
 use Rattle.site_core.specs.Quarantines.{Quarantine, held}
 
 -- events are captured in one way, or first refused at one place for one reason, and not both
@@ -24,4 +24,4 @@ abbrev pub CapturesLeadNoFurther : Type 0
 CapturesLeadNoFurther =
     (s : SiteEvents) (q : Quarantine) (given : List Content) (a : Addition) → IsCaptured s q given a
     → (r : Recall) (i : List ℕ) (p : Pair) → IsTrue (held q r i) → IsRelated (record s { events = a.events }) i p
-    → IsRelated s i p ⊎ IsHeldHere s q r p
+    → IsRelated s i p ⊎ ((p.site ≡ s.me) × IsTrue (held q r p.item))

@@ -2,7 +2,7 @@
 //! the law.
 
 ghost use Rattle.site_core.specs.CapturingLaws.{CapturesLeadNoFurther};
-ghost use Rattle.site_core.specs.StepLaws.{AnswersTellChanges, CapturesGrow, CapturesKeepTheDocument, ClearsFixes, CountIsFixed, DoneIsNotRefused, EffectsAreFixed, IdleFramesChangeNothing, MessagesAreForTheSite, MessagesAreTaken, OpensFixes, RefusalsAreFixed, SignalsAreOfTheSite, SignalsClear, StartsOpen, TakesFixes};
+ghost use Rattle.site_core.specs.StepLaws.{AnswersTellChanges, CapturesGrow, CapturesKeepTheDocument, ClearsFixes, CountIsFixed, DocumentsHaveAnOutcome, DoneIsNotRefused, EffectsAreFixed, IdleFramesChangeNothing, MessagesAreForTheSite, MessagesAreTaken, MessagesHaveAnOutcome, OpensFixes, RefusalsAreFixed, SignalsAreOfTheSite, SignalsClear, SignalsHaveAnOutcome, StartsHaveAnOutcome, StartsOpen, TakesFixes};
 
 /// A document that is captured is kept, and is so many fresh events, one after another, none of which leads a
 /// quarantined item to a pair that isn't at this site and quarantined under the same recall.
@@ -57,4 +57,13 @@ pub fn an_input_has_one_outcome()
     ensures effects { EffectsAreFixed }
     ensures not_both { DoneIsNotRefused }
     ensures refusals { RefusalsAreFixed }
+{}
+
+/// An input has an outcome other than want of memory. The lists that a start or a message makes, and what
+/// becomes of a document's events, are premises.
+pub fn an_input_has_an_outcome()
+    ensures documents { DocumentsHaveAnOutcome }
+    ensures starts { StartsHaveAnOutcome }
+    ensures messages { MessagesHaveAnOutcome }
+    ensures signals { SignalsHaveAnOutcome }
 {}
