@@ -41,33 +41,10 @@ use Rattle.site_core.specs.StepLaws.{HasOutcome, DocumentsHaveAnOutcome, StartsH
 use Rattle.site_core.proofs.Growths.{with_events}
 use Rattle.site_core.proofs.Holders.{holding, holders_exact}
 use Rattle.site_core.proofs.Quarantining.{with_new_items}
+use Rattle.site_core.proofs.Questions.{Decided, all_of, alike, none_of, is_equal, is_below}
+use Rattle.site_core.proofs.EventOutcomes.{events_have_an_outcome}
 
 -- Questions that have an answer.
-
-abbrev Decided : Type 0 → Type 0
-Decided P = P ⊎ (P → ⊥)
-
-all_of : {P Q : Type 0} → Decided P → Decided Q → Decided (P × Q)
-all_of (inl p) (inl q) = inl (p, q)
-all_of (inl p) (inr denied) = inr (λ h. denied h.1)
-all_of (inr denied) q = inr (λ h. denied h.0)
-
-alike : {P Q : Type 0} → (P → Q) → (Q → P) → Decided P → Decided Q
-alike there back (inl p) = inl (there p)
-alike there back (inr denied) = inr (λ q. denied (back q))
-
-none_of : {P : Type 0} → Decided P → Decided (P → ⊥)
-none_of (inl p) = inr (λ denied. denied p)
-none_of (inr denied) = inl denied
-
-is_equal : (n k : ℕ) → Decided (n ≡ k)
-is_equal n k = one_key nat_cmp_total nat_cmp-IsAntisymmetric n k
-
-is_below : (n k : ℕ) → Decided (n < k)
-is_below n k = elim (cases_lt n k) [
-  | inl lt ↦ inl lt
-  | inr le ↦ inr (λ lt. omega (arith, lt, le))
-]
 
 is_number : (n : ℕ) → Decided (IsNumber n)
 is_number n = alike {P = (0 < n) × (n < 2 ^ 62 + 1)} (λ h. record { low = omega (arith, h.0); high = omega (arith, h.1) }) (λ h. (omega (arith, h.low), omega (arith, h.high)))
@@ -135,14 +112,14 @@ module _ (s : Record) (bytes : List ℕ) where
   refused_at doc read place (blocked r i) h = inr (refusals.Blocked r i (suc place), block_is_none r i (suc place), record { doc = doc; read = read; refused = (place, refl, h) })
 
 pub documents_have_an_outcome : DocumentsHaveAnOutcome
-documents_have_an_outcome s bytes each = elim (is_utf8 bytes) as (λ b. is_utf8 bytes ≡ b → HasOutcome s (Capture bytes)) [
+documents_have_an_outcome s bytes = elim (is_utf8 bytes) as (λ b. is_utf8 bytes ≡ b → HasOutcome s (Capture bytes)) [
   | true ↦ λ is. as_read (text_document s.sites bytes) (inl (IsUtf8-from_is_utf8 bytes is, refl))
   | false ↦ λ is. as_read (Err (whole fields.Document kinds.Syntax)) (inr (λ text. false≢true (sym is ∙ is_utf8-from_IsUtf8 bytes text), refl))
 ] refl
   where
     as_read : (read : Result Doc DocFault) → IsReadAs s.sites bytes read → HasOutcome s (Capture bytes)
     as_read (Err fault) read = inr (refusals.Doc fault, doc_is_none fault, read)
-    as_read (Ok doc) read = elim (each doc.events) [
+    as_read (Ok doc) read = elim (events_have_an_outcome s.captured s.quarantine doc.events) [
       | inl done ↦ inl (
         effects.Captured done.0.fresh done.0.known doc.skipped,
         with_events s done.0.events,

@@ -5,6 +5,7 @@ pub mod ChangesTold
 pub mod Changes
 pub mod Clearings
 pub mod Deliveries
+pub mod EventOutcomes
 pub mod Growths
 pub mod Held
 pub mod HeldLaws
@@ -20,6 +21,7 @@ pub mod OneRefusal
 pub mod Openings
 pub mod Places
 pub mod Quarantining
+pub mod Questions
 pub mod Records
 pub mod Results
 pub mod SameLists

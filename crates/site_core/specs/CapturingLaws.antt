@@ -18,6 +18,12 @@ pub record HaveOneOutcome (s : SiteEvents) (q : Quarantine) (given : List Conten
 abbrev pub EventsHaveOneOutcome : Type 0
 EventsHaveOneOutcome = (s : SiteEvents) (q : Quarantine) (given : List Content) → HaveOneOutcome s q given
 
+-- and there is one of the two
+abbrev pub EventsHaveAnOutcome : Type 0
+EventsHaveAnOutcome =
+    (s : SiteEvents) (q : Quarantine) (given : List Content)
+    → ((a : Addition) × IsCaptured s q given a) ⊎ ((place : ℕ) × (reason : Reason) × IsFirstRefused s q given place reason)
+
 -- what a quarantined item is related to once events are captured it was related to before, or it is quarantined
 -- here under the same recall
 abbrev pub CapturesLeadNoFurther : Type 0

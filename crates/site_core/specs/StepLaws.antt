@@ -10,14 +10,12 @@ use Rattle.frame_core.specs.Numbers.{Recall, Message}
 use Rattle.scholten_core.specs.declared.outcomes.Signalled.{Signalled}
 use Rattle.scholten_core.specs.declared.outcomes.Signalled.TheVariants as signals
 use Rattle.scholten_core.specs.Replies.{BecomesParent, TellsBegun, TellsCleared}
-use Rattle.trace_core.specs.Adding.{Addition}
 use Rattle.site_core.specs.declared.inputs.SiteInput.{SiteInput}
 use Rattle.site_core.specs.declared.inputs.SiteInput.TheVariants.{Capture, Start, Deliver}
 use Rattle.site_core.specs.declared.outcomes.Effects.{Effects}
 use Rattle.site_core.specs.declared.outcomes.Effects.TheVariants as effects
 use Rattle.site_core.specs.declared.outcomes.Refusal.{Refusal}
 use Rattle.site_core.specs.declared.outcomes.Refusal.TheVariants as refusals
-use Rattle.site_core.specs.Capturing.{Reason, IsCaptured, IsFirstRefused}
 use Rattle.site_core.specs.Quarantines.{HasNoEmptySet}
 use Rattle.site_core.specs.Records.{Record}
 use Rattle.site_core.specs.Shipments.{AreShipments}
@@ -139,12 +137,8 @@ RefusalsAreFixed =
 abbrev pub HasOutcome : Record → SiteInput → Type 0
 HasOutcome s input = ((e : Effects) × (t : Record) × Does s input e t) ⊎ ((why : Refusal) × (why ≢ refusals.NoMemory) × Refuses s input why)
 
--- where the events of each document are captured, or refused somewhere, so is the document
 abbrev pub DocumentsHaveAnOutcome : Type 0
-DocumentsHaveAnOutcome =
-    (s : Record) (bytes : List ℕ)
-    → ((events : List Content) → ((a : Addition) × IsCaptured s.captured s.quarantine events a) ⊎ ((place : ℕ) × (reason : Reason) × IsFirstRefused s.captured s.quarantine events place reason))
-    → HasOutcome s (Capture bytes)
+DocumentsHaveAnOutcome = (s : Record) (bytes : List ℕ) → HasOutcome s (Capture bytes)
 
 -- an item that isn't known is refused, and one that is known is recalled, unless the numbers are spent
 abbrev pub StartsHaveAnOutcome : Type 0

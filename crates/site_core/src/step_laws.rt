@@ -1,7 +1,7 @@
 //! What the step of a site has to mean, each law named by a function with an empty body whose contract is
 //! the law.
 
-ghost use Rattle.site_core.specs.CapturingLaws.{CapturesLeadNoFurther};
+ghost use Rattle.site_core.specs.CapturingLaws.{CapturesLeadNoFurther, EventsHaveAnOutcome};
 ghost use Rattle.site_core.specs.StepLaws.{AnswersTellChanges, CapturesGrow, CapturesKeepTheDocument, ClearsFixes, CountIsFixed, DocumentsHaveAnOutcome, DoneIsNotRefused, EffectsAreFixed, IdleFramesChangeNothing, MessagesAreForTheSite, MessagesAreTaken, MessagesHaveAnOutcome, OpensFixes, RefusalsAreFixed, SignalsAreOfTheSite, SignalsClear, SignalsHaveAnOutcome, StartsHaveAnOutcome, StartsOpen, TakesFixes};
 
 /// A document that is captured is kept, and is so many fresh events, one after another, none of which leads a
@@ -59,9 +59,10 @@ pub fn an_input_has_one_outcome()
     ensures refusals { RefusalsAreFixed }
 {}
 
-/// An input has an outcome other than want of memory. The lists that a start or a message makes, and what
-/// becomes of a document's events, are premises.
+/// An input has an outcome other than want of memory. The lists that a start or a message makes are
+/// premises.
 pub fn an_input_has_an_outcome()
+    ensures events { EventsHaveAnOutcome }
     ensures documents { DocumentsHaveAnOutcome }
     ensures starts { StartsHaveAnOutcome }
     ensures messages { MessagesHaveAnOutcome }
