@@ -25,7 +25,7 @@ use Rattle.trace_core.proofs.HasTargets.{site_has_target}
 use Rattle.trace_core.proofs.Members.{contains-flat_map, list_any_witness, list_any_member}
 use Rattle.trace_core.proofs.PairTestsDecide.{related_decides}
 use Rattle.site_core.specs.Capturing.{IsBlockedBy, IsFirstBlock, IsFree, IsHeldHere, IsPassed, IsReason, Reason, taken, blocked, site_before, EachPassesBefore, IsCaptured, IsFirstRefused}
-use Rattle.site_core.specs.CapturingLaws.{EventsHaveAnOutcome}
+use Rattle.site_core.specs.CapturingLaws.{BlockedEventsLeadOut, EventsHaveAnOutcome}
 use Rattle.site_core.specs.Quarantines.{Quarantine, held, item_cmp}
 use Rattle.site_core.specs.Sources.{moved_items}
 use Rattle.site_core.proofs.Captures.{none_refused}
@@ -144,3 +144,8 @@ events_have_an_outcome s q given = elim (each_or_refused s q given (length given
   | inl pass ↦ inl (kept_with s.events (judged s.events given), record { all_pass = pass; kept = refl })
   | inr refused ↦ inr refused
 ]
+
+pub blocked_events_lead_out : BlockedEventsLeadOut
+blocked_events_lead_out s q given place r i first =
+    let b = first.refused.refused.1.blocked in
+    (first.refused.event, first.refused.stands, record { source = b.source; target = b.target; added = b.new.0; new = b.new.1; leaves = b.leaves })

@@ -1,15 +1,17 @@
 //! What the step of a site has to mean, each law named by a function with an empty body whose contract is
 //! the law.
 
-ghost use Rattle.site_core.specs.CapturingLaws.{CapturesLeadNoFurther, EventsHaveAnOutcome};
+ghost use Rattle.site_core.specs.CapturingLaws.{BlockedEventsLeadOut, CapturesLeadNoFurther, EventsHaveAnOutcome};
 ghost use Rattle.site_core.specs.StepLaws.{AnswersTellChanges, CapturesGrow, CapturesKeepTheDocument, ClearsFixes, CountIsFixed, DocumentsHaveAnOutcome, DoneIsNotRefused, EffectsAreFixed, IdleFramesChangeNothing, MessagesAreForTheSite, MessagesAreTaken, MessagesHaveAnOutcome, OpensFixes, RefusalsAreFixed, SignalsAreOfTheSite, SignalsClear, SignalsHaveAnOutcome, StartsHaveAnOutcome, StartsOpen, TakesFixes};
 
 /// A document that is captured is kept, and is so many fresh events, one after another, none of which leads a
-/// quarantined item to a pair that isn't at this site and quarantined under the same recall.
+/// quarantined item to a pair that isn't at this site and quarantined under the same recall. An event is
+/// blocked only where it would.
 pub fn a_capture_leads_no_further()
     ensures grows { CapturesGrow }
     ensures keeps { CapturesKeepTheDocument }
     ensures leads_no_further { CapturesLeadNoFurther }
+    ensures blocked { BlockedEventsLeadOut }
 {}
 
 /// A start brings the root's spread under the recall that it begins, and tells of each shipment of it.
