@@ -1,4 +1,4 @@
--- An input has an outcome other than want of memory, where the lists that it makes are there.
+-- An input has an outcome other than want of memory.
 use Rattle.std.proofs.Common.{◌≡◌, ◌≢◌, ◌⊎◌, ◌==◌, inl, inr, ℕ, suc, ◌+◌, ◌<◌, ◌≤◌, ◌^◌, Bool, true, false, List, [], ◌∷◌, length, Option, Some, None, Result, Ok, Err, refl, sym, ap, subst, ◌∙◌, arith}
 use Rattle.std.specs.Prelude.{IsTrue, is_some}
 use mathlib.Core.Bool.{false≢true}
@@ -37,10 +37,11 @@ use Rattle.site_core.specs.Quarantines.{Quarantine, held}
 use Rattle.site_core.specs.Records.{Record, IsNumber, IsRecallAmong, IsMessageAmong}
 use Rattle.site_core.specs.Spreading.{IsKnownItem}
 use Rattle.site_core.specs.Steps.{Does, IsForSite, MayStart, MayTake, Starts, Takes, Clears, IsReadAs, CapturesUpTo, HasNoNumbers, AreTooMany, IsOwnMessage, HasRow, reply}
-use Rattle.site_core.specs.StepLaws.{HasOutcome, DocumentsHaveAnOutcome, StartsHaveAnOutcome, MessagesHaveAnOutcome, SignalsHaveAnOutcome}
+use Rattle.site_core.specs.StepLaws.{HasOutcome, InputsHaveAnOutcome}
 use Rattle.site_core.proofs.Growths.{with_events}
 use Rattle.site_core.proofs.Holders.{holding, holders_exact}
 use Rattle.site_core.proofs.Quarantining.{with_new_items}
+use Rattle.site_core.proofs.StepLists.{spread_listed, newly_listed, shipments_listed}
 use Rattle.site_core.proofs.Questions.{Decided, all_of, alike, none_of, is_equal, is_below}
 use Rattle.site_core.proofs.EventOutcomes.{events_have_an_outcome}
 
@@ -111,7 +112,7 @@ module _ (s : Record) (bytes : List ℕ) where
   refused_at doc read place taken h = inr (refusals.IdTaken (suc place), id_is_none (suc place), record { doc = doc; read = read; refused = (place, refl, h) })
   refused_at doc read place (blocked r i) h = inr (refusals.Blocked r i (suc place), block_is_none r i (suc place), record { doc = doc; read = read; refused = (place, refl, h) })
 
-pub documents_have_an_outcome : DocumentsHaveAnOutcome
+documents_have_an_outcome : (s : Record) (bytes : List ℕ) → HasOutcome s (Capture bytes)
 documents_have_an_outcome s bytes = elim (is_utf8 bytes) as (λ b. is_utf8 bytes ≡ b → HasOutcome s (Capture bytes)) [
   | true ↦ λ is. as_read (text_document s.sites bytes) (inl (IsUtf8-from_is_utf8 bytes is, refl))
   | false ↦ λ is. as_read (Err (whole fields.Document kinds.Syntax)) (inr (λ text. false≢true (sym is ∙ is_utf8-from_IsUtf8 bytes text), refl))
@@ -130,10 +131,14 @@ documents_have_an_outcome s bytes = elim (is_utf8 bytes) as (λ b. is_utf8 bytes
 
 -- Starts.
 
-pub starts_have_an_outcome : StartsHaveAnOutcome
-starts_have_an_outcome s root may_start = elim (is_known s root) [
+starts_have_an_outcome : (s : Record) (root : List ℕ) → HasOutcome s (Start root)
+starts_have_an_outcome s root = elim (is_known s root) [
   | inr unknown ↦ inr (refusals.UnknownItem, item_is_none, unknown)
-  | inl known ↦ by_numbers (may_start known)
+  | inl known ↦
+      let spread = spread_listed s.captured root in
+      let new = newly_listed s.captured s.quarantine (next_own s.engagement) root in
+      let out = shipments_listed s.captured spread.list in
+      by_numbers (spread.list, new.0, out.0, record { known = known; ascending = spread.ascending; exact = spread.exact; newly = new.1; shipped = out.1 })
 ]
   where
     done : (spread new : List (List ℕ)) (out : List (ℕ × List ℕ)) → MayStart s root spread new out → (HasNoNumbers s.engagement out → ⊥) → HasOutcome s (Start root)
@@ -172,12 +177,14 @@ module _ (s : Record) (m : Message) (dest : ℕ) (r : Recall) (i : List ℕ) (ne
   unseen_done : HasOutcome s (Deliver (frames.Recall m dest r i))
   unseen_done = take_with (received s.engagement m r out).1 refl (unseen_is_taken s.engagement m r out may.unseen).1
 
-pub messages_have_an_outcome : MessagesHaveAnOutcome
-messages_have_an_outcome s m dest r i new out newly shipped = elim (is_for_site s m dest r) [
+messages_have_an_outcome : (s : Record) (m : Message) (dest : ℕ) (r : Recall) (i : List ℕ) → HasOutcome s (Deliver (frames.Recall m dest r i))
+messages_have_an_outcome s m dest r i = elim (is_for_site s m dest r) [
   | inr foreign ↦ inr (refusals.NotMine, mine_is_none, foreign)
   | inl mine ↦ elim (get s.engagement.seen m) as (λ o. get s.engagement.seen m ≡ o → HasOutcome s (Deliver (frames.Recall m dest r i))) [
     | Some q ↦ λ is. inl (effects.Repeat, s, (record { mine = mine; seen = ap is_some is }, refl))
     | None ↦ λ is.
+        let (new, newly) = newly_listed s.captured s.quarantine r i in
+        let (out, shipped) = shipments_listed s.captured new in
         let may : MayTake s m dest r i new out = record { mine = mine; unseen = is; newly = newly; shipped = shipped } in
         elim (is_below (2 ^ 62 + 1) (s.engagement.next_message + length out)) [
           | inl many ↦ inr (refusals.NumbersSpent, spent_is_none, record { new = new; out = out; may = may; spent = many })
@@ -201,7 +208,7 @@ module _ (s : Record) (m : Message) (by : ℕ) (row : Row) (has : HasRow s m row
   standing_done : HasOutcome s (Deliver (frames.Signal m by))
   standing_done = clear_with (signalled s.engagement m.number).1 refl (standing_is_cleared s.engagement m.number row has.stands).1
 
-pub signals_have_an_outcome : SignalsHaveAnOutcome
+signals_have_an_outcome : (s : Record) (m : Message) (by : ℕ) → HasOutcome s (Deliver (frames.Signal m by))
 signals_have_an_outcome s m by = elim (is_own s m) [
   | inr foreign ↦ inr (refusals.NotMine, mine_is_none, inl foreign)
   | inl mine ↦ elim (get s.engagement.outbox m.number) as (λ o. get s.engagement.outbox m.number ≡ o → HasOutcome s (Deliver (frames.Signal m by))) [
@@ -214,3 +221,9 @@ signals_have_an_outcome s m by = elim (is_own s m) [
         ]
   ] refl
 ]
+
+pub inputs_have_an_outcome : InputsHaveAnOutcome
+inputs_have_an_outcome s (Capture bytes) = documents_have_an_outcome s bytes
+inputs_have_an_outcome s (Start root) = starts_have_an_outcome s root
+inputs_have_an_outcome s (Deliver (frames.Recall m dest r i)) = messages_have_an_outcome s m dest r i
+inputs_have_an_outcome s (Deliver (frames.Signal m by)) = signals_have_an_outcome s m by

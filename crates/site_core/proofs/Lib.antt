@@ -4,6 +4,7 @@ pub mod Captures
 pub mod ChangesTold
 pub mod Changes
 pub mod Clearings
+pub mod Closures
 pub mod Deliveries
 pub mod EventOutcomes
 pub mod Growths
@@ -19,6 +20,7 @@ pub mod OneEffect
 pub mod OneOutcome
 pub mod OneRefusal
 pub mod Openings
+pub mod Ordered
 pub mod Places
 pub mod Quarantining
 pub mod Questions
@@ -27,5 +29,6 @@ pub mod Results
 pub mod SameLists
 pub mod Shipped
 pub mod SourcesFound
+pub mod StepLists
 pub mod Takings
 pub mod WaysFix

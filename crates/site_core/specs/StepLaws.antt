@@ -18,9 +18,7 @@ use Rattle.site_core.specs.declared.outcomes.Refusal.{Refusal}
 use Rattle.site_core.specs.declared.outcomes.Refusal.TheVariants as refusals
 use Rattle.site_core.specs.Quarantines.{HasNoEmptySet}
 use Rattle.site_core.specs.Records.{Record}
-use Rattle.site_core.specs.Shipments.{AreShipments}
-use Rattle.site_core.specs.Spreading.{IsKnownItem, AreNewlyHeld}
-use Rattle.site_core.specs.Steps.{Does, Refuses, IsReadAs, IsForSite, IsOwnMessage, MayStart, changes}
+use Rattle.site_core.specs.Steps.{Does, Refuses, IsReadAs, IsForSite, IsOwnMessage, changes}
 use Rattle.site_core.specs.Ways.{GrowsBy, CountsNew, Opens, TakesMessage, ClearsRow}
 
 -- Each effect in its way.
@@ -132,25 +130,10 @@ RefusalsAreFixed =
     (s : Record) (input : SiteInput) (a b : Refusal)
     → a ≢ refusals.NoMemory → b ≢ refusals.NoMemory → Refuses s input a → Refuses s input b → a ≡ b
 
--- No gap: an input is done, or is refused for a reason other than want of memory. Where a step makes lists, they are
--- premises: the calls that make them show that there are some.
+-- No gap: an input is done, or is refused for a reason other than want of memory.
+
 abbrev pub HasOutcome : Record → SiteInput → Type 0
 HasOutcome s input = ((e : Effects) × (t : Record) × Does s input e t) ⊎ ((why : Refusal) × (why ≢ refusals.NoMemory) × Refuses s input why)
 
-abbrev pub DocumentsHaveAnOutcome : Type 0
-DocumentsHaveAnOutcome = (s : Record) (bytes : List ℕ) → HasOutcome s (Capture bytes)
-
--- an item that isn't known is refused, and one that is known is recalled, unless the numbers are spent
-abbrev pub StartsHaveAnOutcome : Type 0
-StartsHaveAnOutcome =
-    (s : Record) (root : List ℕ)
-    → (IsKnownItem s.captured s.quarantine root → (spread new : List (List ℕ)) × (out : List (ℕ × List ℕ)) × MayStart s root spread new out)
-    → HasOutcome s (Start root)
-
-abbrev pub MessagesHaveAnOutcome : Type 0
-MessagesHaveAnOutcome =
-    (s : Record) (m : Message) (dest : ℕ) (r : Recall) (i : List ℕ) (new : List (List ℕ)) (out : List (ℕ × List ℕ))
-    → AreNewlyHeld s.captured s.quarantine r i new → AreShipments s.captured new out → HasOutcome s (Deliver (frames.Recall m dest r i))
-
-abbrev pub SignalsHaveAnOutcome : Type 0
-SignalsHaveAnOutcome = (s : Record) (m : Message) (by : ℕ) → HasOutcome s (Deliver (frames.Signal m by))
+abbrev pub InputsHaveAnOutcome : Type 0
+InputsHaveAnOutcome = (s : Record) (input : SiteInput) → HasOutcome s input

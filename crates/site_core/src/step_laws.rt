@@ -2,7 +2,7 @@
 //! the law.
 
 ghost use Rattle.site_core.specs.CapturingLaws.{BlockedEventsLeadOut, CapturesLeadNoFurther, EventsHaveAnOutcome};
-ghost use Rattle.site_core.specs.StepLaws.{AnswersTellChanges, CapturesGrow, CapturesKeepTheDocument, ClearsFixes, CountIsFixed, DocumentsHaveAnOutcome, DoneIsNotRefused, EffectsAreFixed, IdleFramesChangeNothing, MessagesAreForTheSite, MessagesAreTaken, MessagesHaveAnOutcome, OpensFixes, RefusalsAreFixed, SignalsAreOfTheSite, SignalsClear, SignalsHaveAnOutcome, StartsHaveAnOutcome, StartsOpen, TakesFixes};
+ghost use Rattle.site_core.specs.StepLaws.{AnswersTellChanges, CapturesGrow, CapturesKeepTheDocument, ClearsFixes, CountIsFixed, DoneIsNotRefused, EffectsAreFixed, IdleFramesChangeNothing, InputsHaveAnOutcome, MessagesAreForTheSite, MessagesAreTaken, OpensFixes, RefusalsAreFixed, SignalsAreOfTheSite, SignalsClear, StartsOpen, TakesFixes};
 
 /// A document that is captured is kept, and is so many fresh events, one after another, none of which leads a
 /// quarantined item to a pair that isn't at this site and quarantined under the same recall. An event is
@@ -61,12 +61,8 @@ pub fn an_input_has_one_outcome()
     ensures refusals { RefusalsAreFixed }
 {}
 
-/// An input has an outcome other than want of memory. The lists that a start or a message makes are
-/// premises.
+/// Every input has an outcome other than want of memory.
 pub fn an_input_has_an_outcome()
     ensures events { EventsHaveAnOutcome }
-    ensures documents { DocumentsHaveAnOutcome }
-    ensures starts { StartsHaveAnOutcome }
-    ensures messages { MessagesHaveAnOutcome }
-    ensures signals { SignalsHaveAnOutcome }
+    ensures inputs { InputsHaveAnOutcome }
 {}
