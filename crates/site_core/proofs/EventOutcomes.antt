@@ -1,5 +1,5 @@
 -- The events of a document are captured, or one of them is refused first.
-use Rattle.std.proofs.Common.{◌≡◌, ◌≢◌, ◌⊎◌, ◌==◌, inl, inr, ℕ, zero, suc, ◌<◌, ◌≤◌, ◌&&◌, not, Bool, true, false, List, ◌++◌, length, Some, refl, sym, ap, subst, ◌∙◌, arith}
+use Rattle.std.proofs.Common.{◌≡◌, ◌≢◌, ◌⊎◌, ◌==◌, inl, inr, ℕ, zero, suc, ◌≤◌, ◌&&◌, not, Bool, true, false, List, ◌++◌, length, Some, refl, sym, subst, ◌∙◌, arith}
 use Rattle.std.specs.Prelude.{IsTrue}
 use mathlib.Core.Bool.{false≢true}
 use Rattle.std.specs.Bool.{Decides}
@@ -13,18 +13,18 @@ use Rattle.event_json.specs.Events.{Content}
 use Rattle.frame_core.specs.Identifiers.{recall_cmp}
 use Rattle.frame_core.specs.Numbers.{Recall}
 use Rattle.frame_core.specs.Orders.{recall_total, recall_exact}
-use Rattle.trace_core.specs.Adding.{Addition, judged, kept_with, standing_among}
+use Rattle.trace_core.specs.Adding.{judged, kept_with, standing_among}
 use Rattle.trace_core.specs.PairTests.{is_related}
 use Rattle.trace_core.specs.Pairs.{IsRelated}
 use Rattle.trace_core.specs.Sites.{SiteEvents}
-use Rattle.trace_core.specs.Spreads.{IsNewTarget, with_event}
+use Rattle.trace_core.specs.Spreads.{with_event}
 use Rattle.trace_core.specs.Targets.{site_targets}
 use Rattle.trace_core.specs.declared.adding.Standing.TheVariants.{Fresh, Known, Taken}
 use Rattle.trace_core.specs.declared.pairs.Pair.{Pair}
 use Rattle.trace_core.proofs.HasTargets.{site_has_target}
 use Rattle.trace_core.proofs.Members.{contains-flat_map, list_any_witness, list_any_member}
 use Rattle.trace_core.proofs.PairTestsDecide.{related_decides}
-use Rattle.site_core.specs.Capturing.{IsBlockedBy, IsFirstBlock, IsFree, IsHeldHere, IsPassed, IsReason, Reason, taken, blocked, site_before, EachPassesBefore, IsCaptured, IsFirstRefused}
+use Rattle.site_core.specs.Capturing.{IsBlockedBy, IsFirstBlock, IsFree, IsHeldHere, IsPassed, IsReason, Reason, taken, blocked, site_before, EachPassesBefore, IsFirstRefused}
 use Rattle.site_core.specs.CapturingLaws.{BlockedEventsLeadOut, EventsHaveAnOutcome}
 use Rattle.site_core.specs.Quarantines.{Quarantine, held, item_cmp}
 use Rattle.site_core.specs.Sources.{moved_items}

@@ -1,12 +1,10 @@
 -- An input has an outcome other than want of memory.
-use Rattle.std.proofs.Common.{◌≡◌, ◌≢◌, ◌⊎◌, ◌==◌, inl, inr, ℕ, suc, ◌+◌, ◌<◌, ◌≤◌, ◌^◌, Bool, true, false, List, [], ◌∷◌, length, Option, Some, None, Result, Ok, Err, refl, sym, ap, subst, ◌∙◌, arith}
+use Rattle.std.proofs.Common.{◌≡◌, ◌≢◌, ◌==◌, inl, inr, ℕ, suc, ◌+◌, ◌<◌, ◌^◌, true, false, List, [], ◌∷◌, length, Some, None, Result, Ok, Err, refl, sym, ap, subst, ◌∙◌, arith}
 use Rattle.std.specs.Prelude.{IsTrue, is_some}
 use mathlib.Core.Bool.{false≢true}
-use Rattle.std.specs.Cmp.{nat_cmp_total}
-use Rattle.std.specs.FinMap.{nat_cmp-IsAntisymmetric, get, entries}
+use Rattle.std.specs.FinMap.{get, entries}
 use Rattle.std.specs.List.{Any, Contains, list_any}
-use Rattle.std.specs.Str.{IsUtf8, is_utf8}
-use Rattle.std.proofs.lemmas.Bool.{cases_lt}
+use Rattle.std.specs.Str.{is_utf8}
 use Rattle.std.proofs.lemmas.Str.{IsUtf8-from_is_utf8, is_utf8-from_IsUtf8}
 use Rattle.event_json.specs.Documents.{whole, text_document}
 use Rattle.event_json.specs.declared.doc_faults.DocFault.{DocFault}
@@ -16,7 +14,6 @@ use Rattle.event_json.specs.declared.documents.Doc.{Doc}
 use Rattle.frame_core.specs.declared.frames.Frame.TheVariants as frames
 use Rattle.frame_core.specs.declared.rows.Row.{Row}
 use Rattle.frame_core.specs.Numbers.{Recall, Message}
-use Rattle.frame_core.proofs.Lookups.{one_key}
 use Rattle.scholten_core.specs.Changes.{next_own, begun, received, signalled}
 use Rattle.scholten_core.specs.Replies.{TellsTaken, TellsCleared}
 use Rattle.scholten_core.specs.declared.outcomes.Received.{Received}
@@ -34,9 +31,9 @@ use Rattle.site_core.specs.declared.outcomes.Effects.TheVariants as effects
 use Rattle.site_core.specs.declared.outcomes.Refusal.TheVariants as refusals
 use Rattle.site_core.specs.Capturing.{Reason, taken, blocked, IsFirstRefused}
 use Rattle.site_core.specs.Quarantines.{Quarantine, held}
-use Rattle.site_core.specs.Records.{Record, IsNumber, IsRecallAmong, IsMessageAmong}
+use Rattle.site_core.specs.Records.{Record, IsNumber}
 use Rattle.site_core.specs.Spreading.{IsKnownItem}
-use Rattle.site_core.specs.Steps.{Does, IsForSite, MayStart, MayTake, Starts, Takes, Clears, IsReadAs, CapturesUpTo, HasNoNumbers, AreTooMany, IsOwnMessage, HasRow, reply}
+use Rattle.site_core.specs.Steps.{IsForSite, MayStart, MayTake, Clears, IsReadAs, HasNoNumbers, AreTooMany, IsOwnMessage, HasRow}
 use Rattle.site_core.specs.StepLaws.{HasOutcome, InputsHaveAnOutcome}
 use Rattle.site_core.proofs.Growths.{with_events}
 use Rattle.site_core.proofs.Holders.{holding, holders_exact}
@@ -55,9 +52,9 @@ is_for_site : (s : Record) (m : Message) (dest : ℕ) (r : Recall) → Decided (
 is_for_site s m dest r =
     let n = length s.sites in
     alike {P = ((dest ≡ s.engagement.me) × (m.site ≢ s.engagement.me)) × (((m.site < n) × IsNumber m.number) × ((r.site < n) × IsNumber r.number))}
-        (λ h. record { here = h.0.0; elsewhere = h.0.1; message = record { site = h.1.0.0; number = h.1.0.1 }; recall = record { site = h.1.1.0; number = h.1.1.1 } })
-        (λ h. ((h.here, h.elsewhere), ((h.message.site, h.message.number), (h.recall.site, h.recall.number))))
-        (all_of (all_of (is_equal dest s.engagement.me) (none_of (is_equal m.site s.engagement.me))) (all_of (all_of (is_below m.site n) (is_number m.number)) (all_of (is_below r.site n) (is_number r.number))))
+    (λ h. record { here = h.0.0; elsewhere = h.0.1; message = record { site = h.1.0.0; number = h.1.0.1 }; recall = record { site = h.1.1.0; number = h.1.1.1 } })
+    (λ h. ((h.here, h.elsewhere), ((h.message.site, h.message.number), (h.recall.site, h.recall.number))))
+    (all_of (all_of (is_equal dest s.engagement.me) (none_of (is_equal m.site s.engagement.me))) (all_of (all_of (is_below m.site n) (is_number m.number)) (all_of (is_below r.site n) (is_number r.number))))
 
 is_own : (s : Record) (m : Message) → Decided (IsOwnMessage s m)
 is_own s m = alike {P = (m.site ≡ s.engagement.me) × IsNumber m.number} (λ h. record { site = h.0; number = h.1 }) (λ h. (h.site, h.number)) (all_of (is_equal m.site s.engagement.me) (is_number m.number))

@@ -35,31 +35,40 @@ module _ {K : Type 0} (cmp : K → K → Ordering) (total : IsTotalOrder cmp) (e
   with_one k [] up = record {
     list = k ∷ [];
     ascending = first_ascends k [] (λ y there. absurd (contains_none y there)) none_ascend;
-    exact = λ j. (contains_cases k j [], λ either. elim either [
-      | inl same ↦ subst (Contains (k ∷ [])) same (contains_here k [])
-      | inr there ↦ contains_there k j [] there
-    ]);
+    exact = λ j. (
+      contains_cases k j [],
+      λ either. elim either [
+        | inl same ↦ subst (Contains (k ∷ [])) same (contains_here k [])
+        | inr there ↦ contains_there k j [] there
+      ],
+    );
   }
   with_one k (x ∷ xs) up = elim (cmp k x) as (λ o. cmp k x ≡ o → ListsAll cmp (λ j. (k ≡ j) ⊎ Contains (x ∷ xs) j)) [
     | Less ↦ λ e. record {
-        list = k ∷ x ∷ xs;
-        ascending = first_ascends k (x ∷ xs) (λ y there. elim (contains_cases x y xs there) [
-          | inl same ↦ subst (λ z. cmp k z ≡ Less) same e
-          | inr later ↦ total.trans k x y e (head_below cmp x xs up y later)
-        ]) up;
-        exact = λ j. (contains_cases k j (x ∷ xs), λ either. elim either [
+      list = k ∷ x ∷ xs;
+      ascending = first_ascends k (x ∷ xs) (λ y there. elim (contains_cases x y xs there) [
+        | inl same ↦ subst (λ z. cmp k z ≡ Less) same e
+        | inr later ↦ total.trans k x y e (head_below cmp x xs up y later)
+      ]) up;
+      exact = λ j. (
+        contains_cases k j (x ∷ xs),
+        λ either. elim either [
           | inl same ↦ subst (Contains (k ∷ x ∷ xs)) same (contains_here k (x ∷ xs))
           | inr there ↦ contains_there k j (x ∷ xs) there
-        ]);
-      }
+        ],
+      );
+    }
     | Equal ↦ λ e. record {
-        list = x ∷ xs;
-        ascending = up;
-        exact = λ j. (λ there. inr there, λ either. elim either [
+      list = x ∷ xs;
+      ascending = up;
+      exact = λ j. (
+        λ there. inr there,
+        λ either. elim either [
           | inl same ↦ subst (Contains (x ∷ xs)) (sym (exact k x e) ∙ same) (contains_here x xs)
           | inr there ↦ there
-        ]);
-      }
+        ],
+      );
+    }
     | Greater ↦ λ e. behind e (with_one k xs (tail_ascends cmp x xs up))
   ] refl
     where
