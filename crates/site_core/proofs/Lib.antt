@@ -4,12 +4,15 @@ pub mod Captures
 pub mod Changes
 pub mod ChangesTold
 pub mod Clearings
+pub mod Closures
 pub mod Deliveries
 pub mod Documents
+pub mod EventOutcomes
 pub mod Growths
 pub mod Held
 pub mod HeldLaws
 pub mod Holders
+pub mod InputOutcomes
 pub mod ItemOrder
 pub mod ItemSets
 pub mod Named
@@ -18,8 +21,10 @@ pub mod OneEffect
 pub mod OneOutcome
 pub mod OneRefusal
 pub mod Openings
+pub mod Ordered
 pub mod Places
 pub mod Quarantining
+pub mod Questions
 pub mod Records
 pub mod Results
 pub mod SameLists
@@ -28,6 +33,7 @@ pub mod ShipsAmong
 pub mod Soundness
 pub mod SourcesFound
 pub mod Starting
+pub mod StepLists
 pub mod Stepping
 pub mod Taking
 pub mod Takings

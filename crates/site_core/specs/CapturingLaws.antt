@@ -1,12 +1,12 @@
 -- What capturing has to mean.
-use Rattle.std.specs.Prelude.{◌≡◌, ◌⊎◌, ℕ, IsTrue, List}
+use Rattle.std.specs.Prelude.{◌≡◌, ◌⊎◌, ℕ, IsTrue, List, [], ◌∷◌, ◌++◌, slice_get, Some}
 use Rattle.event_json.specs.Events.{Content}
 use Rattle.frame_core.specs.Numbers.{Recall}
 use Rattle.trace_core.specs.Adding.{Addition}
 use Rattle.trace_core.specs.Pairs.{IsRelated}
 use Rattle.trace_core.specs.Sites.{SiteEvents}
 use Rattle.trace_core.specs.declared.pairs.Pair.{Pair}
-use Rattle.site_core.specs.Capturing.{IsHeldHere, Reason, IsCaptured, IsFirstRefused}
+use Rattle.site_core.specs.Capturing.{Reason, blocked, site_before, IsCaptured, IsFirstRefused}
 use Rattle.site_core.specs.Quarantines.{Quarantine, held}
 
 -- events are captured in one way, or first refused at one place for one reason, and not both
@@ -18,10 +18,32 @@ pub record HaveOneOutcome (s : SiteEvents) (q : Quarantine) (given : List Conten
 abbrev pub EventsHaveOneOutcome : Type 0
 EventsHaveOneOutcome = (s : SiteEvents) (q : Quarantine) (given : List Content) → HaveOneOutcome s q given
 
+-- and there is one of the two
+abbrev pub EventsHaveAnOutcome : Type 0
+EventsHaveAnOutcome =
+    (s : SiteEvents) (q : Quarantine) (given : List Content)
+    → ((a : Addition) × IsCaptured s q given a) ⊎ ((place : ℕ) × (reason : Reason) × IsFirstRefused s q given place reason)
+
 -- what a quarantined item is related to once events are captured it was related to before, or it is quarantined
 -- here under the same recall
 abbrev pub CapturesLeadNoFurther : Type 0
 CapturesLeadNoFurther =
     (s : SiteEvents) (q : Quarantine) (given : List Content) (a : Addition) → IsCaptured s q given a
     → (r : Recall) (i : List ℕ) (p : Pair) → IsTrue (held q r i) → IsRelated (record s { events = a.events }) i p
-    → IsRelated s i p ⊎ IsHeldHere s q r p
+    → IsRelated s i p ⊎ ((p.site ≡ s.me) × IsTrue (held q r p.item))
+
+-- the event would relate the item, which is quarantined under the recall, to a pair that nothing relates it to yet
+-- and that isn't quarantined here under the recall
+pub record LeadsOut (s : SiteEvents) (q : Quarantine) (e : Content) (r : Recall) (i : List ℕ) : Type 0 where
+  pub source : IsTrue (held q r i)
+  pub target : Pair
+  pub added : IsRelated (record s { events = s.events ++ e ∷ [] }) i target
+  pub new : IsRelated s i target → ⊥
+  pub leaves : (target.site ≡ s.me) × IsTrue (held q r target.item) → ⊥
+
+-- an event is blocked for that alone
+abbrev pub BlockedEventsLeadOut : Type 0
+BlockedEventsLeadOut =
+    (s : SiteEvents) (q : Quarantine) (given : List Content) (place : ℕ) (r : Recall) (i : List ℕ)
+    → IsFirstRefused s q given place (blocked r i)
+    → (e : Content) × (slice_get given place ≡ Some e) × LeadsOut (site_before s given place) q e r i

@@ -9,7 +9,7 @@ use Rattle.frame_core.specs.declared.rows.Row.{Row}
 use Rattle.frame_core.specs.Numbers.{Recall, Message}
 use Rattle.scholten_core.specs.declared.outcomes.Signalled.{Signalled}
 use Rattle.scholten_core.specs.declared.outcomes.Signalled.TheVariants as signals
-use Rattle.scholten_core.specs.Replies.{TellsBegun, TellsTaken, TellsCleared}
+use Rattle.scholten_core.specs.Replies.{BecomesParent, TellsBegun, TellsCleared}
 use Rattle.site_core.specs.declared.inputs.SiteInput.{SiteInput}
 use Rattle.site_core.specs.declared.inputs.SiteInput.TheVariants.{Capture, Start, Deliver}
 use Rattle.site_core.specs.declared.outcomes.Effects.{Effects}
@@ -18,7 +18,7 @@ use Rattle.site_core.specs.declared.outcomes.Refusal.{Refusal}
 use Rattle.site_core.specs.declared.outcomes.Refusal.TheVariants as refusals
 use Rattle.site_core.specs.Quarantines.{HasNoEmptySet}
 use Rattle.site_core.specs.Records.{Record}
-use Rattle.site_core.specs.Steps.{Does, Refuses, IsReadAs, IsForSite, IsOwnMessage, changes, reply}
+use Rattle.site_core.specs.Steps.{Does, Refuses, IsReadAs, IsForSite, IsOwnMessage, changes}
 use Rattle.site_core.specs.Ways.{GrowsBy, CountsNew, Opens, TakesMessage, ClearsRow}
 
 -- Each effect in its way.
@@ -45,12 +45,17 @@ StartsOpen =
     → Does s (Start root) (effects.Started recall quarantined numbered ended) t
     → Opens s t root × CountsNew s t recall quarantined × TellsBegun s.engagement t.engagement (record { recall = recall; numbered = numbered; ended = ended })
 
+-- the answer counts the messages, and the signal is owed where the message became the parent
+pub record TellsOwed (s t : Record) (m : Message) (r : Recall) (numbered : ℕ) (owed : Bool) : Type 0 where
+  pub messages : t.engagement.next_message ≡ s.engagement.next_message + numbered
+  pub parent : IsTrue owed ↔ BecomesParent s.engagement t.engagement m r
+
 -- a message that is received is for the site, and is taken, and the answer tells what is owed for it
 abbrev pub MessagesAreTaken : Type 0
 MessagesAreTaken =
     (s t : Record) (m : Message) (dest : ℕ) (r : Recall) (i : List ℕ) (quarantined numbered : ℕ) (owed : Bool)
     → Does s (Deliver (frames.Recall m dest r i)) (effects.Received quarantined numbered owed) t
-    → IsForSite s m dest r × TakesMessage s t m r i × CountsNew s t r quarantined × TellsTaken s.engagement t.engagement m r (reply numbered owed)
+    → IsForSite s m dest r × TakesMessage s t m r i × CountsNew s t r quarantined × TellsOwed s t m r numbered owed
 
 -- the row of the signal's number goes to the signer, and is cleared, and the answer tells what follows
 pub record ClearsFor (s t : Record) (m : Message) (by : ℕ) (answer : Signalled) : Type 0 where
@@ -124,3 +129,11 @@ abbrev pub RefusalsAreFixed : Type 0
 RefusalsAreFixed =
     (s : Record) (input : SiteInput) (a b : Refusal)
     → a ≢ refusals.NoMemory → b ≢ refusals.NoMemory → Refuses s input a → Refuses s input b → a ≡ b
+
+-- No gap: an input is done, or is refused for a reason other than want of memory.
+
+abbrev pub HasOutcome : Record → SiteInput → Type 0
+HasOutcome s input = ((e : Effects) × (t : Record) × Does s input e t) ⊎ ((why : Refusal) × (why ≢ refusals.NoMemory) × Refuses s input why)
+
+abbrev pub InputsHaveAnOutcome : Type 0
+InputsHaveAnOutcome = (s : Record) (input : SiteInput) → HasOutcome s input

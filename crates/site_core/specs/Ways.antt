@@ -9,7 +9,6 @@ use Rattle.std.specs.List.Sorted.{IsStrictlySortedBy}
 use Rattle.event_json.specs.Events.{Content}
 use Rattle.frame_core.specs.Numbers.{Recall, Message}
 use Rattle.frame_core.specs.declared.rows.Row.{Row}
-use Rattle.scholten_core.specs.Changes.{next_own}
 use Rattle.scholten_core.specs.Effects.{Begins}
 use Rattle.scholten_core.specs.Effects as effects
 use Rattle.trace_core.specs.Adding.{standing_among}
@@ -17,7 +16,6 @@ use Rattle.trace_core.specs.Pairs.{IsRelated, IsShipped}
 use Rattle.trace_core.specs.Spreads.{AreAscendingItems, IsSpread, with_event}
 use Rattle.trace_core.specs.declared.adding.Standing.TheVariants.{Fresh}
 use Rattle.trace_core.specs.declared.pairs.Pair.{Pair}
-use Rattle.site_core.specs.Capturing.{IsHeldHere}
 use Rattle.site_core.specs.Quarantines.{held}
 use Rattle.site_core.specs.Records.{Record}
 use Rattle.site_core.specs.Shipments.{shipment_cmp}
@@ -36,6 +34,10 @@ Spreads s i j = IsSpread s.captured (i ∷ []) j
 abbrev pub ShipsTo : Record → List ℕ → ℕ → Type 0
 ShipsTo s i u = IsShipped s.captured i (record { site = u; item = i })
 
+-- the recall that the site would begin next
+abbrev pub next_own : Record → Recall
+next_own s = record { site = s.engagement.me; number = s.engagement.next_recall }
+
 -- an unsignalled message tells the site that the item is recalled
 abbrev pub Tells : Record → ℕ → Recall → List ℕ → Type 0
 Tells s u r i = (n : ℕ) × (get s.engagement.outbox n ≡ Some (record { dest = u; recall = r; item = i }))
@@ -53,7 +55,7 @@ pub record Grows (s t : Record) : Type 0 where
   pub related_kept : (i : List ℕ) (p : Pair) → IsRelated s.captured i p → IsRelated t.captured i p
   -- a new pair of a quarantined item is here, and quarantined under the same recalls
   pub related_origin : (i : List ℕ) (p : Pair) → IsRelated t.captured i p
-      → IsRelated s.captured i p ⊎ ((r : Recall) → Holds s r i → IsHeldHere s.captured s.quarantine r p)
+      → IsRelated s.captured i p ⊎ ((r : Recall) → Holds s r i → (p.site ≡ s.captured.me) × Holds s r p.item)
 
 -- so many fresh events came, one after another
 abbrev pub GrowsBy : Record → ℕ → Record → Type 0
@@ -94,8 +96,8 @@ pub record CountsNew (s t : Record) (r : Recall) (count : ℕ) : Type 0 where
 -- held before, as only a restored record does.
 
 pub record Opens (s t : Record) (root : List ℕ) : Type 0 where
-  pub quarantines : Quarantines s t (next_own s.engagement) root
-  pub told : (j : List ℕ) (u : ℕ) → Spreads s root j → ShipsTo s j u → Tells t u (next_own s.engagement) j
+  pub quarantines : Quarantines s t (next_own s) root
+  pub told : (j : List ℕ) (u : ℕ) → Spreads s root j → ShipsTo s j u → Tells t u (next_own s) j
   pub out : List (ℕ × List ℕ)
   pub once : IsStrictlySortedBy shipment_cmp out
   pub exact : (u : ℕ) (j : List ℕ) → Contains out (u, j) ↔ (Spreads s root j × ShipsTo s j u)

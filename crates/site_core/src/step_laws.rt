@@ -1,15 +1,17 @@
 //! What the step of a site has to mean, each law named by a function with an empty body whose contract is
 //! the law.
 
-ghost use Rattle.site_core.specs.CapturingLaws.{CapturesLeadNoFurther};
-ghost use Rattle.site_core.specs.StepLaws.{AnswersTellChanges, CapturesGrow, CapturesKeepTheDocument, ClearsFixes, CountIsFixed, DoneIsNotRefused, EffectsAreFixed, IdleFramesChangeNothing, MessagesAreForTheSite, MessagesAreTaken, OpensFixes, RefusalsAreFixed, SignalsAreOfTheSite, SignalsClear, StartsOpen, TakesFixes};
+ghost use Rattle.site_core.specs.CapturingLaws.{BlockedEventsLeadOut, CapturesLeadNoFurther, EventsHaveAnOutcome};
+ghost use Rattle.site_core.specs.StepLaws.{AnswersTellChanges, CapturesGrow, CapturesKeepTheDocument, ClearsFixes, CountIsFixed, DoneIsNotRefused, EffectsAreFixed, IdleFramesChangeNothing, InputsHaveAnOutcome, MessagesAreForTheSite, MessagesAreTaken, OpensFixes, RefusalsAreFixed, SignalsAreOfTheSite, SignalsClear, StartsOpen, TakesFixes};
 
 /// A document that is captured is kept, and is so many fresh events, one after another, none of which leads a
-/// quarantined item to a pair that isn't at this site and quarantined under the same recall.
+/// quarantined item to a pair that isn't at this site and quarantined under the same recall. An event is
+/// blocked only where it would.
 pub fn a_capture_leads_no_further()
     ensures grows { CapturesGrow }
     ensures keeps { CapturesKeepTheDocument }
     ensures leads_no_further { CapturesLeadNoFurther }
+    ensures blocked { BlockedEventsLeadOut }
 {}
 
 /// A start brings the root's spread under the recall that it begins, and tells of each shipment of it.
@@ -57,4 +59,10 @@ pub fn an_input_has_one_outcome()
     ensures effects { EffectsAreFixed }
     ensures not_both { DoneIsNotRefused }
     ensures refusals { RefusalsAreFixed }
+{}
+
+/// Every input has an outcome other than want of memory.
+pub fn an_input_has_an_outcome()
+    ensures events { EventsHaveAnOutcome }
+    ensures inputs { InputsHaveAnOutcome }
 {}
