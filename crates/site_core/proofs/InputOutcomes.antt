@@ -1,5 +1,5 @@
 -- An input has an outcome other than want of memory.
-use Rattle.std.proofs.Common.{◌≡◌, ◌≢◌, ◌==◌, inl, inr, ℕ, suc, ◌+◌, ◌<◌, ◌^◌, true, false, List, [], ◌∷◌, length, Some, None, Result, Ok, Err, refl, sym, ap, subst, ◌∙◌, arith}
+use Rattle.std.proofs.Common.{◌≡◌, ◌≢◌, ◌==◌, inl, inr, ℕ, suc, ◌+◌, ◌<◌, ◌≤◌, ◌^◌, true, false, List, [], ◌∷◌, length, Some, None, Result, Ok, Err, refl, sym, ap, subst, ◌∙◌, arith}
 use Rattle.std.specs.Prelude.{IsTrue, is_some}
 use mathlib.Core.Bool.{false≢true}
 use Rattle.std.specs.FinMap.{get, entries}
@@ -33,13 +33,14 @@ use Rattle.site_core.specs.Capturing.{Reason, taken, blocked, IsFirstRefused}
 use Rattle.site_core.specs.Quarantines.{Quarantine, held}
 use Rattle.site_core.specs.Records.{Record, IsNumber}
 use Rattle.site_core.specs.Spreading.{IsKnownItem}
-use Rattle.site_core.specs.Steps.{IsForSite, MayStart, MayTake, Clears, IsReadAs, HasNoNumbers, AreTooMany, IsOwnMessage, HasRow}
+use Rattle.site_core.specs.Steps.{IsForSite, MayStart, MayTake, Clears, IsReadAs, HaveNumbers, IsOwnMessage, HasRow}
 use Rattle.site_core.specs.StepLaws.{HasOutcome, InputsHaveAnOutcome}
 use Rattle.site_core.proofs.Growths.{with_events}
 use Rattle.site_core.proofs.Holders.{holding, holders_exact}
 use Rattle.site_core.proofs.Quarantining.{with_new_items}
 use Rattle.site_core.proofs.StepLists.{spread_listed, newly_listed, shipments_listed}
 use Rattle.site_core.proofs.Questions.{Decided, all_of, alike, none_of, is_equal, is_below}
+use Rattle.std.proofs.lemmas.Bool.{cases_lt}
 use Rattle.site_core.proofs.EventOutcomes.{events_have_an_outcome}
 
 -- Questions that have an answer.
@@ -138,37 +139,37 @@ starts_have_an_outcome s root = elim (is_known s root) [
       by_numbers (spread.list, new.0, out.0, record { known = known; ascending = spread.ascending; exact = spread.exact; newly = new.1; shipped = out.1 })
 ]
   where
-    done : (spread new : List (List ℕ)) (out : List (ℕ × List ℕ)) → MayStart s root spread new out → (HasNoNumbers s.engagement out → ⊥) → HasOutcome s (Start root)
-    done spread new out may unspent = inl (
+    done : (spread new : List (List ℕ)) (out : List (ℕ × List ℕ)) → MayStart s root spread new out → (s.engagement.next_recall ≤ 2 ^ 62) × HaveNumbers s.engagement out → HasOutcome s (Start root)
+    done spread new out may enough = inl (
       effects.Started (next_own s.engagement) (length new) (length out) (length out == 0),
       with_new_items s (next_own s.engagement) new (begun s.engagement root out),
-      record { spread = spread; new = new; out = out; may = may; unspent = unspent; next = refl; held = refl; told = refl; at_once = refl; after = refl },
+      record { spread = spread; new = new; out = out; may = may; enough = enough; next = refl; held = refl; told = refl; at_once = refl; after = refl },
     )
 
     by_numbers : ((spread new : List (List ℕ)) × (out : List (ℕ × List ℕ)) × MayStart s root spread new out) → HasOutcome s (Start root)
-    by_numbers (spread, new, out, may) = elim (is_below (2 ^ 62) s.engagement.next_recall) [
+    by_numbers (spread, new, out, may) = elim (cases_lt (2 ^ 62) s.engagement.next_recall) [
       | inl last ↦ inr (refusals.NumbersSpent, spent_is_none, record { spread = spread; new = new; out = out; may = may; spent = inl last })
-      | inr left ↦ elim (is_below (2 ^ 62 + 1) (s.engagement.next_message + length out)) [
+      | inr left ↦ elim (cases_lt (2 ^ 62 + 1) (s.engagement.next_message + length out)) [
         | inl many ↦ inr (refusals.NumbersSpent, spent_is_none, record { spread = spread; new = new; out = out; may = may; spent = inr many })
-        | inr few ↦ done spread new out may (λ spent. elim spent [ inl last ↦ left last | inr many ↦ few many ])
+        | inr few ↦ done spread new out may (left, few)
       ]
     ]
 
 -- Messages.
 
 module _ (s : Record) (m : Message) (dest : ℕ) (r : Recall) (i : List ℕ) (new : List (List ℕ)) (out : List (ℕ × List ℕ))
-    (may : MayTake s m dest r i new out) (unspent : AreTooMany s.engagement out → ⊥) where
+    (may : MayTake s m dest r i new out) (enough : HaveNumbers s.engagement out) where
   take_with : (answer : Received) → (received s.engagement m r out).1 ≡ answer → TellsTaken s.engagement (received s.engagement m r out).0 m r answer → HasOutcome s (Deliver (frames.Recall m dest r i))
   take_with replies.Repeat is tells = absurd tells
   take_with (replies.Owe n) is tells = inl (
     effects.Received (length new) n true,
     with_new_items s r new (received s.engagement m r out).0,
-    record { new = new; out = out; may = may; unspent = unspent; held = refl; engaged = λ k. ((received s.engagement m r out).0, is k); after = refl },
+    record { new = new; out = out; may = may; enough = enough; held = refl; engaged = λ k. ((received s.engagement m r out).0, is k); after = refl },
   )
   take_with (replies.SignalNow n) is tells = inl (
     effects.Received (length new) n false,
     with_new_items s r new (received s.engagement m r out).0,
-    record { new = new; out = out; may = may; unspent = unspent; held = refl; engaged = λ k. ((received s.engagement m r out).0, is k); after = refl },
+    record { new = new; out = out; may = may; enough = enough; held = refl; engaged = λ k. ((received s.engagement m r out).0, is k); after = refl },
   )
 
   unseen_done : HasOutcome s (Deliver (frames.Recall m dest r i))
@@ -183,7 +184,7 @@ messages_have_an_outcome s m dest r i = elim (is_for_site s m dest r) [
         let (new, newly) = newly_listed s.captured s.quarantine r i in
         let (out, shipped) = shipments_listed s.captured new in
         let may : MayTake s m dest r i new out = record { mine = mine; unseen = is; newly = newly; shipped = shipped } in
-        elim (is_below (2 ^ 62 + 1) (s.engagement.next_message + length out)) [
+        elim (cases_lt (2 ^ 62 + 1) (s.engagement.next_message + length out)) [
           | inl many ↦ inr (refusals.NumbersSpent, spent_is_none, record { new = new; out = out; may = may; spent = many })
           | inr few ↦ unseen_done s m dest r i new out may few
         ]
