@@ -7,7 +7,6 @@ pub mod HeldLaws
 pub mod Holders
 pub mod ItemOrder
 pub mod ItemSets
-pub mod Named
 pub mod Newly
 pub mod OneOutcome
 pub mod Places

@@ -7,10 +7,12 @@ pub mod GatheringSteps
 pub mod Growing
 pub mod HasTargets
 pub mod Members
-pub mod MentionSteps
 pub mod PairLaws
 pub mod PairOrder
 pub mod PairTestsDecide
+pub mod PlaceLists
+pub mod PlaceSteps
+pub mod RelatedPlaces
 pub mod SearchSteps
 pub mod SetMembers
 pub mod SiteFinding

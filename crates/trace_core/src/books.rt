@@ -1,31 +1,31 @@
-ghost use Rattle.std.specs.Prelude.{◌≡◌, ◌++◌, ◌∷◌, [], ◌<◌, true, ℕ, IfOk, OnOk, OnErr, Contains, length, take, get_or, slice_get, option_map};
-ghost use Rattle.event_json.specs.Events.{Content};
-ghost use Rattle.trace_core.specs.Mentions.{starts};
+ghost use Rattle.std.specs.Prelude.{◌≡◌, ◌++◌, ◌∷◌, [], ◌-◌, IfOk, OnOk, OnErr, length, take, slice_get, option_map};
+ghost use Rattle.std.specs.List.{list_any};
+ghost use Rattle.trace_core.specs.Places.{names_item, places_where};
 
-use crate::mentions::{Mention, mention_event, places_of};
+use crate::places::{Places, forget_items_of, note_items_of};
 use epc_core::Epc;
 use event_json::Event;
 use std::alloc::{AllocError, Global};
-use std::collections::BTreeSet;
+use std::collections::BTreeMap;
 use std::marker::Model;
 
-/// Events in the order in which they came, and where items are mentioned among them.
+/// Events in the order in which they came, and at which places items are named among them.
 #[derive(Debug, Drop)]
 pub struct Book {
     events: Vec<Event>,
-    mentions: BTreeSet<Mention>,
+    items: BTreeMap<Epc, Places>,
 }
 
 impl Model for Book {
     ghost use Rattle.std.specs.Prelude.{List};
     ghost use Rattle.event_json.specs.Events.{Content};
-    ghost use Rattle.trace_core.specs.Mentions.{HasEachMention};
+    ghost use Rattle.trace_core.specs.Places.{item_places, names_item, IsIndex};
 
     ghost Value = { List Content };
 
     ghost view = { λ b. b.events.items };
 
-    ghost invariant = { λ b. HasEachMention b.mentions b.events.items };
+    ghost invariant = { λ b. IsIndex (item_places b.items) names_item b.events.items };
 }
 
 impl Book {
@@ -35,7 +35,7 @@ impl Book {
     {
         Book {
             events: Vec::new(alloc),
-            mentions: BTreeSet::new(alloc),
+            items: BTreeMap::new(alloc),
         }
     }
 
@@ -65,29 +65,51 @@ impl Book {
         *self.events.allocator()
     }
 
-    /// Adds an event at the end.
+    /// Adds an event at the end. An `Err` changes nothing: what was added is taken away again.
     pub fn push(&mut self, event: Event) -> Result<(), AllocError>
         ensures ok { OnOk result (self.new ≡ self.old ++ event ∷ []) }
         ensures err { OnErr result (self.new ≡ self.old) }
     {
         let alloc = self.alloc();
-        mention_event(alloc, &mut self.mentions, event.body(), self.events.len())?;
-        self.events.push(event)?;
+        self.events.reserve(1)?;
+        note_items_of(alloc, &mut self.items, event.body(), self.events.len())?;
+        self.events.push_reserved(event);
         Ok(())
     }
 
-    /// Leaves the first events alone. Takes no memory.
+    /// Leaves the first events alone. It costs the events that go, and takes no memory.
     pub fn truncate(&mut self, kept: usize)
         ensures { self.new ≡ take kept self.old }
     {
-        self.events.truncate(kept);
+        while kept < self.len() {
+            self.pop();
+        }
     }
 
-    /// The places of all events that ship the item or take it in. There may be others among them.
-    pub fn places_of(&self, item: &Epc) -> Result<Vec<usize>, AllocError>
-        ensures { IfOk result (λ places. (k : ℕ) (e : Content) → k < length self.now → get_or self.now k e ≡ e → starts item.now e.body ≡ true → Contains places.items k) }
+    /// Takes the last event away. Takes no memory.
+    fn pop(&mut self)
+        ensures { self.new ≡ take (length self.old - 1) self.old }
     {
-        places_of(self.alloc(), &self.mentions, item)
+        if let Some(event) = self.events.pop() {
+            forget_items_of(&mut self.items, event.body(), self.events.len());
+        }
+    }
+
+    /// The places of the events that name an item, ascending.
+    pub fn places_of(&self, item: &Epc) -> &[usize]
+        ensures { result.now ≡ places_where (names_item item.now) self.now }
+    {
+        match self.items.get(item) {
+            Some(places) => places.as_slice(),
+            None => &[],
+        }
+    }
+
+    /// Whether an event names the item. Takes no memory.
+    pub fn mentions(&self, item: &Epc) -> bool
+        ensures { result ≡ list_any (names_item item.now) self.now }
+    {
+        self.items.contains_key(item)
     }
 
     /// An equal book.

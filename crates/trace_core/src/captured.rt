@@ -1,7 +1,8 @@
-ghost use Rattle.std.specs.Prelude.{◌≡◌, ◌↔◌, [], Ok, IfOk, IfErr, OnErr, Contains, length, take, slice_get, option_map};
+ghost use Rattle.std.specs.Prelude.{◌≡◌, ◌↔◌, [], Ok, IfOk, IfErr, OnErr, IsTrue, Any, Contains, length, take, slice_get, option_map};
 ghost use Rattle.trace_core.specs.declared.pairs.Pair.{Pair};
 ghost use Rattle.trace_core.specs.Adding.{standing_among, with_fresh, adding, FaultOf};
 ghost use Rattle.trace_core.specs.Pairs.{IsRelated, IsStrictlyAscending};
+ghost use Rattle.trace_core.specs.Spreads.{items_of};
 
 use crate::adding::{AddFault, Added, Standing, add_if_fresh, append_fresh, standing_among};
 use crate::books::Book;
@@ -57,6 +58,13 @@ impl Captured {
         ensures { option_map (λ e. e.now) result ≡ slice_get self.now.events place }
     {
         self.book.get(place)
+    }
+
+    /// Whether one of the captured events names the item. It costs a look-up, and takes no memory.
+    pub fn mentions(&self, item: &Epc) -> bool
+        ensures { IsTrue result ↔ Any (λ e. Contains (items_of e.body) item.now) self.now.events }
+    {
+        self.book.mentions(item)
     }
 
     /// How an event stands among the captured ones. Takes no memory.
@@ -119,7 +127,7 @@ impl Captured {
     {
         let alloc = self.book.alloc();
         let mut pairs = BTreeSet::new(alloc);
-        for place in &self.book.places_of(item)? {
+        for place in self.book.places_of(item) {
             if let Some(event) = self.book.get(*place) {
                 gather(
                     alloc,

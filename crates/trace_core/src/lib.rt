@@ -10,9 +10,9 @@ mod captured;
 mod chains;
 mod gathering;
 pub mod laws;
-mod mentions;
 mod ordered_keys;
 mod pairs;
+mod places;
 mod searches;
 mod spreads;
 #[cfg(test)]
