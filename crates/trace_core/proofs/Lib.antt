@@ -2,7 +2,6 @@ pub mod AddedPairs
 pub mod AddingSteps
 pub mod Booleans
 pub mod ChainLaws
-pub mod EventIds
 pub mod GatheringSteps
 pub mod Growing
 pub mod HasTargets
@@ -17,5 +16,6 @@ pub mod SearchSteps
 pub mod SetMembers
 pub mod SiteFinding
 pub mod SpreadSteps
+pub mod StandingPlaces
 pub mod Standings
 pub mod TrailSteps

@@ -5,25 +5,33 @@ use Rattle.std.specs.BTreeMap.{BTreeMap, UpdatesBy}
 use Rattle.std.specs.Cmp.Lexicographic.{slice_cmp}
 use Rattle.std.specs.List.{list_any, Contains}
 use Rattle.std.specs.Ordering.{nat_cmp}
+use Rattle.std.specs.String.{string_bytes, string_cmp}
+use Rattle.std.specs.declared.string.String.{String}
+use Rattle.std.specs.declared.alloc.Global.{Global}
 use Rattle.std.proofs.Math.Seq.{get_or-append_seam}
 use Rattle.std.proofs.lemmas.Bool.{cases_Bool, cond-true, cond-false, eqb-true, eq-eqb}
 use Rattle.std.proofs.lemmas.List.{take_at, take_all, take-append-drop}
 use Rattle.std.proofs.lemmas.List.Folds.{list_any_more, list_any-append}
-use Rattle.std.proofs.lemmas.Map.Text.{is_eq-slice_cmp}
+use Rattle.std.proofs.lemmas.Map.Text.{is_eq-slice_cmp, btree_map_updates_text}
 use Rattle.std.proofs.lemmas.Option.{slice_get-get_or, slice_get_cases, get_or_from_slice_get}
 use Rattle.std.proofs.lemmas.Slice.Eq.{bytes_eq-Decides}
 use Rattle.event_json.specs.declared.bodies.Body.{Body}
 use Rattle.event_json.specs.declared.bodies.Body.TheVariants.{Make}
 use Rattle.trace_core.specs.PairTests.{lists, same_item}
 use Rattle.trace_core.specs.Spreads.{items_of}
-use Rattle.trace_core.specs.Places.{kept, or_none, is_place, ends_with, with_last, without_last, item_places, IsNoted, AreEarlier, Notes, NotesSome, Forgets, ForgetsIn, KeepsNone, left_of, is_emptied}
+use Rattle.trace_core.specs.Places.{kept, or_none, is_place, ends_with, with_last, without_last, item_places, text_places, IsNoted, AreEarlier, Notes, NotesSome, Forgets, ForgetsIn, KeepsNone, left_of, is_emptied}
 
 -- what a look-up of an item finds after a change at one
 pub item_found : (old new : BTreeMap (List ℕ) (List ℕ)) (k : List ℕ) (w : Option (List ℕ)) → UpdatesBy (slice_cmp nat_cmp) (slice_cmp nat_cmp k) old new w
     → (i : List ℕ) → item_places new i ≡ cond (same_item k i) w (item_places old i)
 item_found old new k w upd i = upd.0 i ∙ ap (λ b. cond b w (item_places old i)) (is_eq-slice_cmp k i)
 
-kept_all : (places : List ℕ) → or_none (kept places) ≡ places
+-- the same of a text
+pub text_found : (old new : BTreeMap (String Global) (List ℕ)) (bytes : List ℕ) (w : Option (List ℕ)) → UpdatesBy string_cmp (λ k. slice_cmp nat_cmp bytes (string_bytes k)) old new w
+    → (i : List ℕ) → text_places new i ≡ cond (same_item bytes i) w (text_places old i)
+text_found old new bytes w upd i = btree_map_updates_text bytes old new w upd i
+
+pub kept_all : (places : List ℕ) → or_none (kept places) ≡ places
 kept_all [] = refl
 kept_all (k ∷ ks) = refl
 
@@ -209,13 +217,6 @@ notes_all found found' place items n past = subst (λ xs. Notes found found' pla
 pub forgets_all : (found found' : List ℕ → Option (List ℕ)) (place : ℕ) (items : List (List ℕ)) (n : ℕ) → length items ≤ n → Forgets found found' place (lists (take n items)) → Forgets found found' place (lists items)
 forgets_all found found' place items n past = subst (λ xs. Forgets found found' place (lists xs)) (take_all n items past)
 
--- at the beginning nothing is noted or taken away
-pub notes_nothing : (found : List ℕ → Option (List ℕ)) (place : ℕ) → Notes found found place (λ i. false)
-notes_nothing found place earlier noted before is i = is i ∙ ap (λ b. kept (earlier i ++ cond b (place ∷ []) [])) (sym (or_no (noted i)))
-
-pub forgets_nothing : (found : List ℕ → Option (List ℕ)) (place : ℕ) → Forgets found found place (λ i. false)
-forgets_nothing found place earlier noted before is i = is i ∙ ap (λ b. kept (earlier i ++ cond b (place ∷ []) [])) (sym (and_yes (noted i)))
-
 -- some of the second keys after all of the first
 pub notes_some_more : (first second third : List ℕ → Option (List ℕ)) (place : ℕ) (xs ys all : List ℕ → Bool) → ((i : List ℕ) → all i ≡ (xs i || ys i)) → Notes first second place xs → NotesSome second third place ys → NotesSome first third place all
 notes_some_more first second third place xs ys all both one two = record {
@@ -251,17 +252,22 @@ pub after_fault : {A E P : Type 0} (result : Result A E) → P → OnErr result 
 after_fault (Ok a) p = tt
 after_fault (Err e) p = p
 
--- a new item, with its first place
-pub noted_new : (old cur new : BTreeMap (List ℕ) (List ℕ)) (key copy places : List ℕ) (place : ℕ) → UpdatesBy (slice_cmp nat_cmp) (slice_cmp nat_cmp copy) cur new (Some places)
-    → cur ≡ old → copy ≡ key → places ≡ place ∷ [] → None ≡ item_places old key → Notes (item_places old) (item_places new) place (same_item key)
-noted_new old cur new key copy places place upd as_before copied one none =
-    noted_key (item_places old) (item_places new) place key places
-    (λ i. item_found cur new copy (Some places) upd i
-    ∙ ap (λ (m : BTreeMap (List ℕ) (List ℕ)). cond (same_item copy i) (Some places) (item_places m i)) as_before
-    ∙ ap (λ k. cond (same_item k i) (Some places) (item_places old i)) copied)
+-- a new key, with its first place
+pub noted_new : (old cur new : List ℕ → Option (List ℕ)) (key copy places : List ℕ) (place : ℕ) → ((i : List ℕ) → new i ≡ cond (same_item copy i) (Some places) (cur i))
+    → cur ≡ old → copy ≡ key → places ≡ place ∷ [] → None ≡ old key → Notes old new place (same_item key)
+noted_new old cur new key copy places place changed as_before copied one none =
+    noted_key old new place key places
+    (λ i. changed i ∙ ap (λ (f : List ℕ → Option (List ℕ)). cond (same_item copy i) (Some places) (f i)) as_before ∙ ap (λ k. cond (same_item k i) (Some places) (old i)) copied)
     (one ∙ ap (λ o. with_last place (or_none o)) none)
 
 -- the items of a transformation
 pub made_items : (b : Body) (id : Option (List ℕ)) (ins outs xs ys : List (List ℕ)) → b ≡ Make id ins outs → xs ≡ ins → ys ≡ outs → (i : List ℕ) → lists (items_of b) i ≡ (lists xs i || lists ys i)
 made_items b id ins outs xs ys is are_ins are_outs i =
     ap (λ c. lists (items_of c) i) is ∙ list_any-append (λ j. same_item j i) ins outs ∙ ap (λ zs. lists zs i || lists outs i) (sym are_ins) ∙ ap (λ zs. lists xs i || lists zs i) (sym are_outs)
+
+-- noted for no key, or taken away from none
+pub notes_none : (found : List ℕ → Option (List ℕ)) (place : ℕ) (keys : List ℕ → Bool) → ((i : List ℕ) → keys i ≡ false) → Notes found found place keys
+notes_none found place keys none earlier noted before is i = is i ∙ ap (λ b. kept (earlier i ++ cond b (place ∷ []) [])) (sym (ap (λ b. noted i || b) (none i) ∙ or_no (noted i)))
+
+pub forgets_no_key : (found : List ℕ → Option (List ℕ)) (place : ℕ) (keys : List ℕ → Bool) → ((i : List ℕ) → keys i ≡ false) → Forgets found found place keys
+forgets_no_key found place keys none earlier noted before is i = is i ∙ ap (λ b. kept (earlier i ++ cond b (place ∷ []) [])) (sym (ap (λ b. noted i && not b) (none i) ∙ and_yes (noted i)))

@@ -1,5 +1,5 @@
 -- The places of the events that name an item lead to all that relates it.
-use Rattle.std.proofs.Common.{◌≡◌, ◌==◌, not, ◌&&◌, ◌<◌, ◌≤◌, ◌+◌, ℕ, Bool, true, false, ◌||◌, List, take, length, get_or, slice_get, ◌↔◌, Option, Some, None, refl, sym, ap, ◌∙◌, ⊎_elim}
+use Rattle.std.proofs.Common.{◌≡◌, ◌==◌, not, ◌&&◌, ◌<◌, ◌≤◌, ◌+◌, ℕ, Bool, true, false, ◌||◌, List, take, length, get_or, slice_get, ◌↔◌, Option, Some, None, refl, sym, ap, subst, ◌∙◌, ⊎_elim}
 use mathlib.Core.Bool.{false≢true}
 use Rattle.std.specs.BTreeSet.{BTreeSet}
 use Rattle.std.specs.List.{list_any, Contains}
@@ -12,15 +12,17 @@ use Rattle.event_json.specs.Events.{Content}
 use Rattle.event_json.specs.declared.bodies.Body.{Body}
 use Rattle.event_json.specs.declared.bodies.Body.TheVariants.{Note, Ship, Make}
 use Rattle.trace_core.specs.declared.pairs.Pair.{Pair}
-use Rattle.trace_core.specs.Gathering.{is_in, shipped_by, made_by, joined_by, related_by}
-use Rattle.trace_core.specs.PairTests.{lists, same_item, ships, takes_in, gives_out, is_related}
-use Rattle.trace_core.specs.Pairs.{IsRelated}
-use Rattle.trace_core.specs.Places.{places_where, names_item}
+use Rattle.trace_core.specs.Gathering.{is_in, shipped_by, made_by, joined_by, joins, related_by}
+use Rattle.trace_core.specs.PairTests.{lists, same_id, same_item, ships, takes_in, gives_out, is_related}
+use Rattle.trace_core.specs.Pairs.{make_id, HaveOneId, IsRelated}
+use Rattle.trace_core.specs.Places.{places_where, names_item, at_place, IsPartAt}
 use Rattle.trace_core.specs.Sites.{SiteEvents}
 use Rattle.trace_core.specs.Spreads.{items_of}
 use Rattle.trace_core.proofs.GatheringSteps.{is_related-by_events, related_exact}
 use Rattle.trace_core.proofs.Members.{list_any_witness, list_any_member}
-use Rattle.trace_core.proofs.PlaceLists.{place_there}
+use Rattle.trace_core.proofs.PlaceLists.{place_there, place_passes, any_at_places}
+use Rattle.trace_core.proofs.Booleans.{list_any-same}
+use Rattle.trace_core.proofs.PairTestsDecide.{same_id_decides}
 
 -- what an event at a place relates the item to
 abbrev pub related_at : ℕ → List Content → List ℕ → Option Content → Pair → Bool
@@ -90,3 +92,46 @@ one_more_place s item cur new places n k below at gathered so_far p =
     let more : list_any (λ k. related_at s.me s.events item (slice_get s.events k) p) (take (n + 1) places) ≡ (list_any (λ k. related_at s.me s.events item (slice_get s.events k) p) (take n places) || related_at s.me s.events item (slice_get s.events k) p) =
     list_any_more (λ k. related_at s.me s.events item (slice_get s.events k) p) places n k below ∙ ap (λ j. list_any (λ k. related_at s.me s.events item (slice_get s.events k) p) (take n places) || related_at s.me s.events item (slice_get s.events j) p) (sym at) in
     gathered p ∙ ap (λ b. b || related_at s.me s.events item (slice_get s.events k) p) (so_far p) ∙ sym more
+
+same_id_either : (a b : Option (List ℕ)) → same_id a b ≡ same_id b a
+same_id_either a b = same_from_decides {P = HaveOneId a b} _ _ (same_id_decides a b)
+    (λ h. let (id, first, second) = (same_id_decides b a).0 h in (id, second, first), λ (id, first, second). (same_id_decides b a).1 (id, second, first))
+
+and_either : (a b : Bool) → (a && b) ≡ (b && a)
+and_either true true = refl
+and_either true false = refl
+and_either false true = refl
+and_either false false = refl
+
+-- the places of the parts of a body's transformation
+pub parts_found : (events : List Content) (body : Body) (places : List ℕ) (o : Option (List ℕ)) → places ≡ places_where (λ e. same_id (make_id e.body) o) events → o ≡ make_id body
+    → places ≡ places_where (λ e. same_id (make_id e.body) (make_id body)) events
+parts_found events body places o are is = are ∙ ap (λ (p : Option (List ℕ)). places_where (λ e. same_id (make_id e.body) p) events) is
+
+-- they give out what is joined to the body
+pub joined_at_places : (events : List Content) (body : Body) (j : List ℕ) (places : List ℕ) (n : ℕ) → length places ≤ n → places ≡ places_where (λ e. same_id (make_id e.body) (make_id body)) events
+    → list_any (λ k. at_place (λ e. gives_out j e.body) (slice_get events k)) (take n places) ≡ joined_by events body j
+joined_at_places events body j places n past are =
+    ap (list_any (λ k. at_place (λ e. gives_out j e.body) (slice_get events k))) (take_all n places past ∙ are)
+    ∙ any_at_places (λ e. same_id (make_id e.body) (make_id body)) (λ e. gives_out j e.body) events
+    ∙ list_any-same (λ e. same_id (make_id e.body) (make_id body) && gives_out j e.body) (λ e. same_id (make_id body) (make_id e.body) && gives_out j e.body)
+    (λ e. ap (λ b. b && gives_out j e.body) (same_id_either (make_id e.body) (make_id body))) events
+
+-- one of them takes the item in
+pub joins_at_places : (events : List Content) (item : List ℕ) (body : Body) (places : List ℕ) → places ≡ places_where (λ e. same_id (make_id e.body) (make_id body)) events
+    → list_any (λ k. at_place (λ e. takes_in item e.body) (slice_get events k)) places ≡ joins events item body
+joins_at_places events item body places are =
+    ap (list_any (λ k. at_place (λ e. takes_in item e.body) (slice_get events k))) are
+    ∙ any_at_places (λ e. same_id (make_id e.body) (make_id body)) (λ e. takes_in item e.body) events
+    ∙ list_any-same (λ e. same_id (make_id e.body) (make_id body) && takes_in item e.body) (λ e. takes_in item e.body && same_id (make_id e.body) (make_id body))
+    (λ e. and_either (same_id (make_id e.body) (make_id body)) (takes_in item e.body)) events
+
+-- the places of an id are those at which a part of its transformation stands
+pub parts_exact : (events : List Content) (id : List ℕ) (places : List ℕ) → places ≡ places_where (λ e. same_id (make_id e.body) (Some id)) events → (k : ℕ) → Contains places k ↔ IsPartAt events id k
+parts_exact events id places are k = (
+  λ h. let (e, below, at, same) = place_passes (λ e. same_id (make_id e.body) (Some id)) events k (subst (λ ps. Contains ps k) are h) in
+      let (own, first, second) = (same_id_decides (make_id e.body) (Some id)).0 same in
+      (e, slice_get-get_or events k e below ∙ ap Some at, first ∙ sym second),
+  λ (e, stands, is). let (below, at) = slice_there events k e stands in
+      subst (λ ps. Contains ps k) (sym are) (place_there (λ e. same_id (make_id e.body) (Some id)) events k e below at ((same_id_decides (make_id e.body) (Some id)).1 (id, is, refl))),
+)

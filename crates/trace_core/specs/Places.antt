@@ -1,11 +1,15 @@
 -- At which places of a list of events keys are named, and what an index of that has.
 use Rattle.std.specs.Prelude.{◌≡◌, ◌==◌, ◌<◌, ◌-◌, ℕ, Bool, true, false, not, cond, ◌&&◌, ◌||◌, if◌then◌else◌, List, [], ◌∷◌, ◌++◌, Option, Some, None, Contains, length, take, slice_get, map, filter}
-use Rattle.std.specs.BTreeMap.{BTreeMap, get}
+use Rattle.std.specs.BTreeMap.{BTreeMap, get, get_by_text}
 use Rattle.std.specs.List.{enumerate_from}
 use Rattle.std.specs.Cmp.Lexicographic.{slice_cmp}
 use Rattle.std.specs.Ordering.{nat_cmp}
+use Rattle.std.specs.declared.string.String.{String}
+use Rattle.std.specs.declared.alloc.Global.{Global}
 use Rattle.event_json.specs.Events.{Content}
-use Rattle.trace_core.specs.PairTests.{lists, same_item}
+use Rattle.trace_core.specs.PairTests.{lists, same_item, same_id}
+use Rattle.trace_core.specs.Pairs.{make_id}
+use Rattle.trace_core.specs.declared.indexes.Index.{Index}
 use Rattle.trace_core.specs.Spreads.{items_of}
 
 -- the places, from 0, of those that pass, ascending
@@ -43,13 +47,45 @@ without_last place places = if ends_with place places then take (length places -
 abbrev pub item_places : BTreeMap (List ℕ) (List ℕ) → List ℕ → Option (List ℕ)
 item_places index item = get (slice_cmp nat_cmp) index item
 
+-- what is looked up in an index of texts
+abbrev pub text_places : BTreeMap (String Global) (List ℕ) → List ℕ → Option (List ℕ)
+text_places index text = get_by_text index text
+
 -- the event names the item
 abbrev pub names_item : List ℕ → Content → Bool
 names_item item e = lists (items_of e.body) item
 
+-- the event has the eventID
+abbrev pub has_id : List ℕ → Content → Bool
+has_id id e = same_id e.id (Some id)
+
+-- the event is a transformation with this id
+abbrev pub has_part : List ℕ → Content → Bool
+has_part id e = same_id (make_id e.body) (Some id)
+
+-- what is looked up under an id, nothing where there is none
+abbrev pub id_places : BTreeMap (String Global) (List ℕ) → Option (List ℕ) → List ℕ
+id_places index None = []
+id_places index (Some id) = or_none (text_places index id)
+
+-- whether an event stands there, and passes
+abbrev pub at_place : (Content → Bool) → Option Content → Bool
+at_place p None = false
+at_place p (Some e) = p e
+
+-- at the place stands a part of the transformation with this id
+abbrev pub IsPartAt : List Content → List ℕ → ℕ → Type 0
+IsPartAt events id place = (e : Content) × (slice_get events place ≡ Some e) × (make_id e.body ≡ Some id)
+
 -- a look-up finds the places of the events that name the key, no more and no fewer, for each key
 abbrev pub IsIndex : (List ℕ → Option (List ℕ)) → (List ℕ → Content → Bool) → List Content → Type 0
 IsIndex found names events = (key : List ℕ) → found key ≡ kept (places_where (names key) events)
+
+-- the index says just what the events say
+pub record HasPlaces (index : Index) (events : List Content) : Type 0 where
+  pub items : IsIndex (item_places index.items) names_item events
+  pub ids : IsIndex (text_places index.ids) has_id events
+  pub parts : IsIndex (text_places index.parts) has_part events
 
 -- the earlier places of each key, and this one for those keys that it is noted for
 abbrev pub IsNoted : (List ℕ → Option (List ℕ)) → (List ℕ → List ℕ) → ℕ → (List ℕ → Bool) → Type 0

@@ -1,31 +1,36 @@
 ghost use Rattle.std.specs.Prelude.{◌≡◌, ◌++◌, ◌∷◌, [], ◌-◌, IfOk, OnOk, OnErr, length, take, slice_get, option_map};
 ghost use Rattle.std.specs.List.{list_any};
-ghost use Rattle.trace_core.specs.Places.{names_item, places_where};
+ghost use Rattle.event_json.specs.Contents.{same_content};
+ghost use Rattle.trace_core.specs.Adding.{standing_among};
+ghost use Rattle.trace_core.specs.Pairs.{make_id};
+ghost use Rattle.trace_core.specs.PairTests.{same_id};
+ghost use Rattle.trace_core.specs.Places.{at_place, names_item, places_where};
 
-use crate::places::{Places, forget_items_of, note_items_of};
+use crate::adding::Standing;
+use crate::ids::places_of_id;
+use crate::indexes::Index;
 use epc_core::Epc;
-use event_json::Event;
+use event_json::{Event, PlainText};
 use std::alloc::{AllocError, Global};
-use std::collections::BTreeMap;
 use std::marker::Model;
 
-/// Events in the order in which they came, and at which places items are named among them.
+/// Events in the order in which they came, and an index of what they name.
 #[derive(Debug, Drop)]
 pub struct Book {
     events: Vec<Event>,
-    items: BTreeMap<Epc, Places>,
+    index: Index,
 }
 
 impl Model for Book {
     ghost use Rattle.std.specs.Prelude.{List};
     ghost use Rattle.event_json.specs.Events.{Content};
-    ghost use Rattle.trace_core.specs.Places.{item_places, names_item, IsIndex};
+    ghost use Rattle.trace_core.specs.Places.{HasPlaces};
 
     ghost Value = { List Content };
 
     ghost view = { λ b. b.events.items };
 
-    ghost invariant = { λ b. IsIndex (item_places b.items) names_item b.events.items };
+    ghost invariant = { λ b. HasPlaces b.index b.events.items };
 }
 
 impl Book {
@@ -35,7 +40,7 @@ impl Book {
     {
         Book {
             events: Vec::new(alloc),
-            items: BTreeMap::new(alloc),
+            index: Index::new(alloc),
         }
     }
 
@@ -53,13 +58,6 @@ impl Book {
         self.events.get(place)
     }
 
-    /// The events.
-    pub fn as_slice(&self) -> &[Event]
-        ensures { result.now ≡ self.now }
-    {
-        self.events.as_slice()
-    }
-
     /// What memory is taken from.
     pub fn alloc(&self) -> Global {
         *self.events.allocator()
@@ -72,7 +70,7 @@ impl Book {
     {
         let alloc = self.alloc();
         self.events.reserve(1)?;
-        note_items_of(alloc, &mut self.items, event.body(), self.events.len())?;
+        self.index.note(alloc, &event, self.events.len())?;
         self.events.push_reserved(event);
         Ok(())
     }
@@ -91,7 +89,7 @@ impl Book {
         ensures { self.new ≡ take (length self.old - 1) self.old }
     {
         if let Some(event) = self.events.pop() {
-            forget_items_of(&mut self.items, event.body(), self.events.len());
+            self.index.forget(&event, self.events.len());
         }
     }
 
@@ -99,9 +97,47 @@ impl Book {
     pub fn places_of(&self, item: &Epc) -> &[usize]
         ensures { result.now ≡ places_where (names_item item.now) self.now }
     {
-        match self.items.get(item) {
+        match self.index.items.get(item) {
             Some(places) => places.as_slice(),
             None => &[],
+        }
+    }
+
+    /// The places of the transformations that have an id, ascending; none where there is no id.
+    pub fn parts_of(&self, id: Option<&PlainText>) -> &[usize]
+        ensures { result.now ≡ places_where (λ e. same_id (make_id e.body) (option_map (λ t. t.now) id.entry)) self.now }
+    {
+        places_of_id(&self.index.parts, id)
+    }
+
+    /// How an event stands among these. It costs those of its eventID, and takes no memory.
+    pub fn standing(&self, event: &Event) -> Standing
+        ensures { result ≡ standing_among self.now event.now }
+    {
+        let places = places_of_id(&self.index.ids, event.id());
+        if places.is_empty() {
+            Standing::Fresh
+        } else if self.is_among(places, event) {
+            Standing::Known
+        } else {
+            Standing::Taken
+        }
+    }
+
+    /// Whether an equal event stands at one of the places.
+    fn is_among(&self, places: &[usize], event: &Event) -> bool
+        ensures { result ≡ list_any (λ k. at_place (λ e. same_content e event.now) (slice_get self.now k)) places.now }
+    {
+        places.iter().any(|place| self.is_at(*place, event))
+    }
+
+    /// Whether an equal event stands at a place.
+    fn is_at(&self, place: usize, event: &Event) -> bool
+        ensures { result ≡ at_place (λ e. same_content e event.now) (slice_get self.now place) }
+    {
+        match self.get(place) {
+            Some(own) => *own == *event,
+            None => false,
         }
     }
 
@@ -109,7 +145,7 @@ impl Book {
     pub fn mentions(&self, item: &Epc) -> bool
         ensures { result ≡ list_any (names_item item.now) self.now }
     {
-        self.items.contains_key(item)
+        self.index.items.contains_key(item)
     }
 
     /// An equal book.

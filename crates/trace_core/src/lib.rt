@@ -9,6 +9,8 @@ mod books;
 mod captured;
 mod chains;
 mod gathering;
+mod ids;
+mod indexes;
 pub mod laws;
 mod ordered_keys;
 mod pairs;

@@ -20,4 +20,5 @@ returns-in-Some-clause-err c = on_err_weaker c.note.result
 
 -- the item is new
 pub returns-clause-ok : goal.returns-clause-ok
-returns-clause-ok c = noted_new c.args.index.now _ c.insert.new.self c.args.item.now _ _ c.args.place c.in_ok-insert.ensures.updates c.get_mut.follows.holds-at-none c.in_ok-copy.ensures c.in_ok-places.ensures c.in_default.ensures.value
+returns-clause-ok c = noted_new (item_places c.args.index.now) (item_places c.get_mut.follows.lender-at-none) (item_places c.insert.new.self) c.args.item.now _ _ c.args.place (item_found c.get_mut.follows.lender-at-none c.insert.new.self _ _ c.in_ok-insert.ensures.updates)
+    (ap item_places c.get_mut.follows.holds-at-none) c.in_ok-copy.ensures c.in_ok-places.ensures c.in_default.ensures.value
