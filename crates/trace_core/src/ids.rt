@@ -8,10 +8,7 @@ use std::alloc::{AllocError, Global};
 use std::collections::BTreeMap;
 
 /// The places of an id, none where there is no id.
-pub fn places_of_id<'a>(
-    index: &'a BTreeMap<String, Places>,
-    id: Option<&PlainText>,
-) -> &'a [usize]
+pub fn places_of_id<'a>(index: &'a BTreeMap<String, Places>, id: Option<&PlainText>) -> &'a [usize]
     ensures { result.now ≡ id_places index.now (option_map (λ t. t.now) id.entry) }
 {
     match id {
