@@ -3,6 +3,7 @@ pub mod AddingSteps
 pub mod Booleans
 pub mod ChainLaws
 pub mod GatheringSteps
+pub mod GroupSteps
 pub mod Growing
 pub mod HasTargets
 pub mod Members

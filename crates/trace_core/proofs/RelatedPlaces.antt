@@ -26,8 +26,7 @@ use Rattle.trace_core.proofs.PairTestsDecide.{same_id_decides}
 
 -- what an event at a place relates the item to
 abbrev pub related_at : ℕ → List Content → List ℕ → Option Content → Pair → Bool
-related_at me events item None p = false
-related_at me events item (Some e) p = related_by me events item e.body p
+related_at me events item o p = at_place (λ e. related_by me events item e.body p) o
 
 ships_named : (item : List ℕ) (site : ℕ) (b : Body) → ships item site b ≡ true → lists (items_of b) item ≡ true
 ships_named item site (Note items) h = absurd (false≢true h)
@@ -54,7 +53,7 @@ at_some me events item (Some e) p h = (e, refl, h)
 absent : {X : Type 0} (o : Option X) (x : X) → o ≡ None → o ≡ Some x → ⊥
 absent o x none some = cc
 
-slice_there : (xs : List Content) (i : ℕ) (x : Content) → slice_get xs i ≡ Some x → (i < length xs) × (get_or xs i x ≡ x)
+pub slice_there : (xs : List Content) (i : ℕ) (x : Content) → slice_get xs i ≡ Some x → (i < length xs) × (get_or xs i x ≡ x)
 slice_there xs i x h = ⊎_elim
     (λ (y, below, is, at). (below, get_or_from_slice_get xs i x x h))
     (λ (past, none). absurd (absent (slice_get xs i) x none h))

@@ -1,6 +1,7 @@
 pub mod Adding
 pub mod Chains
 pub mod Gathering
+pub mod Groups
 pub mod Laws
 pub mod PairTests
 pub mod Pairs

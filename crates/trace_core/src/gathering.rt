@@ -33,7 +33,7 @@ pub fn gather(
 }
 
 /// Adds the item at each other site that it was shipped to.
-fn gather_shipped(
+pub fn gather_shipped(
     alloc: Global,
     me: SiteNo,
     item: &Epc,
@@ -72,7 +72,7 @@ fn gather_at_sites(
 }
 
 /// Adds the outputs of each Make that has the id of this one.
-fn gather_joined(
+pub fn gather_joined(
     alloc: Global,
     me: SiteNo,
     book: &Book,

@@ -9,6 +9,7 @@ mod books;
 mod captured;
 mod chains;
 mod gathering;
+mod groups;
 mod ids;
 mod indexes;
 pub mod laws;
