@@ -20,3 +20,4 @@ pub mod SpreadSteps
 pub mod StandingPlaces
 pub mod Standings
 pub mod TrailSteps
+pub mod Visiting

@@ -1,6 +1,7 @@
 ghost use Rattle.std.specs.Prelude.{◌≡◌, ◌==◌, ◌&&◌, ◌||◌, true, ℕ, List, Some, OnOk, slice_get};
 ghost use Rattle.event_json.specs.Events.{Content};
 ghost use Rattle.trace_core.specs.declared.pairs.Pair.{Pair};
+ghost use Rattle.trace_core.specs.Chains.{RelatesFrom};
 ghost use Rattle.trace_core.specs.Gathering.{related_by};
 ghost use Rattle.trace_core.specs.Groups.{outs_of, IsGiven, AddsUnseen, SeesOnly};
 ghost use Rattle.trace_core.specs.Pairs.{IsRelated};
@@ -24,9 +25,28 @@ pub struct Group {
     pub first: usize,
 }
 
+/// Adds the pairs that a site relates a pair to, but for those that transformations gave which were seen
+/// before. There are none where the pair is at another site.
+pub fn gather_unseen_from(
+    alloc: Global,
+    site: &Captured,
+    number: usize,
+    node: &Pair,
+    seen: &mut BTreeSet<Group>,
+    pairs: &mut BTreeSet<Pair>,
+) -> Result<(), AllocError>
+    ensures added { OnOk result (AddsUnseen (IsGiven site.now number) (RelatesFrom site.now node.now) seen.old seen.new pairs.old pairs.new) }
+    ensures only { OnOk result (SeesOnly number seen.old seen.new) }
+{
+    if site.me() == node.site {
+        gather_unseen(alloc, site, number, &node.item, seen, pairs)?;
+    }
+    Ok(())
+}
+
 /// Adds the pairs that an item at a site is related to, but for those that transformations gave which were
 /// seen before. It costs the events that name the item, and the outputs of transformations that are new.
-pub fn gather_unseen(
+fn gather_unseen(
     alloc: Global,
     site: &Captured,
     number: usize,

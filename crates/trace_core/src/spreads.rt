@@ -10,6 +10,7 @@ ghost use Rattle.trace_core.specs.Spreads.{AreAscendingItems, IsSpread, AreLooks
 use crate::books::Book;
 use crate::captured::Captured;
 use crate::chains::add_related;
+use crate::groups::{Group, gather_unseen_from};
 use crate::gathering::{gather, gather_outputs, make_id, takes_in};
 use crate::ordered_keys::keys_in_order;
 use crate::pairs::Pair;
@@ -81,6 +82,24 @@ impl Relation for SitePairs<'_> {
     ghost relates = { λ r. RelatesFrom r.site.now };
 
     ghost all_targets = { λ r. site_targets r.site.now };
+
+    ghost use Rattle.trace_core.specs.Groups.{IsGiven};
+
+    ghost gives = { λ r. IsGiven r.site.now 0 };
+
+    fn none_seen(&self, alloc: Global) -> BTreeSet<Group> {
+        BTreeSet::new(alloc)
+    }
+
+    fn gather_unseen(
+        &self,
+        alloc: Global,
+        node: &Pair,
+        seen: &mut BTreeSet<Group>,
+        pairs: &mut BTreeSet<Pair>,
+    ) -> Result<(), AllocError> {
+        gather_unseen_from(alloc, self.site, 0, node, seen, pairs)
+    }
 
     fn targets(&self, alloc: Global, node: &Pair) -> Result<Vec<Pair>, AllocError> {
         let mut targets = Vec::new(alloc);
