@@ -17,14 +17,14 @@ use Rattle.event_json.specs.declared.bodies.Body.{Body}
 use Rattle.trace_core.specs.declared.groups.Group.{Group}
 use Rattle.trace_core.specs.declared.pairs.Pair.{Pair}
 use Rattle.trace_core.specs.Gathering.{is_in, shipped_by, made_by, joined_by, related_by}
-use Rattle.trace_core.specs.Groups.{group_cmp, IsSeen, outs_of, Gives, IsGiven, IsGivenBy, AddsUnseen, SeesOnly}
-use Rattle.trace_core.specs.Pairs.{pair_cmp, make_id, HaveOneId, IsRelated}
+use Rattle.trace_core.specs.Groups.{group_cmp, IsSeen, outs_of, Gives, IsGiven, AddsUnseen, SeesOnly}
+use Rattle.trace_core.specs.Pairs.{make_id, IsRelated}
 use Rattle.trace_core.specs.PairTests.{same_id, takes_in, gives_out, is_related}
 use Rattle.trace_core.specs.Places.{at_place, places_where, names_item}
 use Rattle.trace_core.specs.Searches.{IsFound}
 use Rattle.trace_core.specs.Sites.{SiteEvents}
 use Rattle.trace_core.proofs.Booleans.{more_inside}
-use Rattle.trace_core.proofs.Members.{list_any_member, list_any_witness}
+use Rattle.trace_core.proofs.Members.{list_any_member}
 use Rattle.trace_core.proofs.PairTestsDecide.{same_id_decides, related_decides}
 use Rattle.trace_core.proofs.PlaceLists.{place_passes}
 use Rattle.trace_core.proofs.RelatedPlaces.{slice_there, related_at, related_by_places}

@@ -3,7 +3,7 @@ use Rattle.std.proofs.Common.{◌≡◌, ◌==◌, ◌<◌, ◌-◌, ◌+◌, �
 use mathlib.Core.Bool.{false≢true}
 use Rattle.std.specs.BTreeMap.{BTreeMap, UpdatesBy}
 use Rattle.std.specs.Cmp.Lexicographic.{slice_cmp}
-use Rattle.std.specs.List.{list_any, Contains}
+use Rattle.std.specs.List.{Contains}
 use Rattle.std.specs.Ordering.{nat_cmp}
 use Rattle.std.specs.String.{string_bytes, string_cmp}
 use Rattle.std.specs.declared.string.String.{String}
@@ -19,7 +19,7 @@ use Rattle.event_json.specs.declared.bodies.Body.{Body}
 use Rattle.event_json.specs.declared.bodies.Body.TheVariants.{Make}
 use Rattle.trace_core.specs.PairTests.{lists, same_item}
 use Rattle.trace_core.specs.Spreads.{items_of}
-use Rattle.trace_core.specs.Places.{kept, or_none, is_place, ends_with, with_last, without_last, item_places, text_places, IsNoted, AreEarlier, Notes, NotesSome, Forgets, ForgetsIn, KeepsNone, left_of, is_emptied}
+use Rattle.trace_core.specs.Places.{kept, or_none, is_place, ends_with, with_last, without_last, item_places, text_places, Notes, NotesSome, Forgets, ForgetsIn, KeepsNone, left_of, is_emptied}
 
 -- what a look-up of an item finds after a change at one
 pub item_found : (old new : BTreeMap (List ℕ) (List ℕ)) (k : List ℕ) (w : Option (List ℕ)) → UpdatesBy (slice_cmp nat_cmp) (slice_cmp nat_cmp k) old new w

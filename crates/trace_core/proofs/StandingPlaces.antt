@@ -9,7 +9,6 @@ use Rattle.std.proofs.lemmas.Bool.Decides.{same_from_decides}
 use Rattle.event_json.specs.Events.{Content}
 use Rattle.event_json.specs.Contents.{same_content}
 use Rattle.event_json.proofs.ContentLaws.{content_decides}
-use Rattle.trace_core.specs.declared.adding.Standing.{Standing}
 use Rattle.trace_core.specs.declared.adding.Standing.TheVariants.{Fresh, Known, Taken}
 use Rattle.trace_core.specs.Adding.{standing_among}
 use Rattle.trace_core.specs.PairTests.{same_id}

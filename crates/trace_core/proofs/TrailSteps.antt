@@ -1,12 +1,12 @@
 -- The steps of a search, and the trails that they leave.
-use Rattle.std.proofs.Common.{◌≡◌, ◌≢◌, ◌<◌, ◌≤◌, ◌+◌, ◌-◌, ℕ, zero, suc, true, false, not, cond, List, [], ◌∷◌, ◌++◌, map, length, get_or, All, AllPairs, ◌↔◌, refl, sym, ap, ◌∙◌, subst, inl, inr, ⊎_elim, append_assoc, length-append, arith}
+use Rattle.std.proofs.Common.{◌≡◌, ◌≢◌, ◌<◌, ◌≤◌, ◌+◌, ◌-◌, ℕ, zero, suc, true, false, not, cond, List, [], ◌∷◌, ◌++◌, map, length, get_or, All, ◌↔◌, refl, sym, ap, ◌∙◌, subst, inl, inr, ⊎_elim, append_assoc, length-append, arith}
 use mathlib.Core.Logic.{◌⊎◌}
 use Rattle.std.specs.BTreeSet.{BTreeSet, contains, Updates, IsOrdered, btree_set_len}
 use Rattle.std.specs.Cmp.{eq_by_cmp_equiv}
 use Rattle.std.specs.List.{Contains}
 use Rattle.std.proofs.lemmas.Bool.{cases_Bool, cases_lt, cases_eq}
 use Rattle.std.proofs.lemmas.List.{get_or_default, get_or_append_left, get_or-append_right, get_or-map, map-append, length-map}
-use Rattle.std.proofs.lemmas.List.Elements.{All-nil, All-append, All-weaker, All-cons, All-get_or, Contains-append_left, Contains-append_right, Contains-push}
+use Rattle.std.proofs.lemmas.List.Elements.{All-nil, All-append, All-weaker, All-cons, All-get_or, Contains-append_left, Contains-append_right}
 use Rattle.std.proofs.lemmas.List.Kept.{AllPairs-cons}
 use Rattle.std.proofs.lemmas.List.Quantifiers.{all_pairs_push}
 use Rattle.std.proofs.lemmas.Map.Keys.{IsDistinct-from_sorted}

@@ -82,7 +82,10 @@ fn gather_unseen_at(
         gather_shipped(alloc, me, item, event.body(), pairs)?;
         if takes_in(item, event.body()) {
             let first = first_part(book, place, event.body());
-            if seen.insert(Group { site: number, first })? {
+            if seen.insert(Group {
+                site: number,
+                first,
+            })? {
                 gather_outputs(alloc, me, event.body(), pairs)?;
                 gather_joined(alloc, me, book, event.body(), pairs)?;
             }

@@ -61,14 +61,7 @@ pub fn closure<R: Relation>(
     let mut seen = relation.none_seen(alloc);
     note_all(alloc, &mut found, &mut waiting, starts)?;
     while let Some(node) = waiting.pop() {
-        visit(
-            alloc,
-            relation,
-            &node,
-            &mut seen,
-            &mut found,
-            &mut waiting,
-        )?;
+        visit(alloc, relation, &node, &mut seen, &mut found, &mut waiting)?;
     }
     keys_in_order(alloc, found)
 }

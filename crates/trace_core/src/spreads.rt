@@ -10,8 +10,8 @@ ghost use Rattle.trace_core.specs.Spreads.{AreAscendingItems, IsSpread, AreLooks
 use crate::books::Book;
 use crate::captured::Captured;
 use crate::chains::add_related;
-use crate::groups::{Group, gather_unseen_from};
 use crate::gathering::{gather, gather_outputs, make_id, takes_in};
+use crate::groups::{Group, gather_unseen_from};
 use crate::ordered_keys::keys_in_order;
 use crate::pairs::Pair;
 use crate::searches::{Relation, closure};

@@ -1,4 +1,4 @@
-use Rattle.std.proofs.Common.{sym, subst, ◌∙◌}
+use Rattle.std.proofs.Common.{subst}
 use Rattle.std.specs.List.{Contains}
 use Rattle.trace_core.proofs.GroupSteps.{first_gives, first_among}
 use Rattle.trace_core.proofs.RelatedPlaces.{parts_found}

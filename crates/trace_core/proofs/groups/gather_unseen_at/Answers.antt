@@ -1,4 +1,4 @@
-use Rattle.std.proofs.Common.{◌==◌, ◌&&◌, ◌||◌, not, sym, ap, ◌∙◌}
+use Rattle.std.proofs.Common.{◌==◌, ◌&&◌, ◌||◌, sym, ap, ◌∙◌}
 use Rattle.event_json.specs.declared.bodies.Body.{Body}
 use Rattle.trace_core.specs.Gathering.{is_in, shipped_by, joined_by}
 use Rattle.trace_core.specs.Groups.{outs_of}

@@ -1,4 +1,4 @@
-use Rattle.std.proofs.Common.{List, not, ◌+◌, cond, sym, subst, ap, ◌∙◌, arith}
+use Rattle.std.proofs.Common.{List, ◌+◌, cond, sym, subst, ap, ◌∙◌, arith}
 use Rattle.std.specs.BTreeSet.{btree_set_len}
 use Rattle.std.proofs.lemmas.Bool.{both_ways}
 use Rattle.trace_core.specs.Chains.{Related, sites_at}

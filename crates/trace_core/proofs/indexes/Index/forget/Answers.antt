@@ -1,4 +1,3 @@
-use Rattle.std.proofs.Common.{option_map}
 use Rattle.trace_core.specs.Pairs.{make_id}
 use Rattle.trace_core.specs.Places.{item_places, text_places, names_item, has_id, has_part}
 use Rattle.trace_core.proofs.PlaceLists.{forgets_items_of, forgets_id, id_of_body, index_less}
