@@ -1,5 +1,3 @@
-use Rattle.std.proofs.Common.{Some, sym, subst}
-use Rattle.site_core.specs.Sources.{FindsParts}
 use Rattle.site_core.proofs.SourcesFound.{no_parts}
 use Rattle.site_core.proofs.sources.add_joined.Goals as goal
 
