@@ -15,7 +15,6 @@ pub mod Holders
 pub mod InputOutcomes
 pub mod ItemOrder
 pub mod ItemSets
-pub mod Named
 pub mod Newly
 pub mod OneEffect
 pub mod OneOutcome

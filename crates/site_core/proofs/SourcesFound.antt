@@ -1,29 +1,27 @@
 -- The sources of the pairs that an event adds, and what is found of them.
-use Rattle.std.proofs.Common.{◌≡◌, ◌⊎◌, inl, inr, ℕ, ◌+◌, ◌<◌, ◌≤◌, true, false, List, Option, Some, None, take, get_or, length, sym, subst, ◌∙◌, ⊎_elim}
+use Rattle.std.proofs.Common.{◌≡◌, ◌⊎◌, inl, inr, ℕ, ◌+◌, ◌<◌, ◌≤◌, true, List, Option, Some, None, take, get_or, length, ◌↔◌, sym, ap, subst, ◌∙◌, ⊎_elim}
 use Rattle.std.specs.BTreeSet.{BTreeSet, Updates}
 use Rattle.std.specs.Cmp.Lexicographic.{slice_cmp}
 use Rattle.std.specs.List.{Any, Contains, slice_get}
 use Rattle.std.specs.Ordering.{nat_cmp}
-use mathlib.Core.Bool.{false≢true}
 use Rattle.std.proofs.lemmas.Cmp.{nat_list_cmp_total}
 use Rattle.std.proofs.lemmas.List.{take_all}
 use Rattle.std.proofs.lemmas.Map.Lookups.{exact_bytes}
 use Rattle.std.proofs.lemmas.Map.Views.{btree_set_contains_iff}
+use Rattle.std.proofs.lemmas.Option.{slice_get-get_or}
 use Rattle.event_json.specs.Events.{Content}
 use Rattle.event_json.specs.declared.bodies.Body.{Body}
 use Rattle.event_json.specs.declared.bodies.Body.TheVariants.{Note, Ship, Make}
 use Rattle.trace_core.specs.declared.pairs.Pair.{Pair}
 use Rattle.trace_core.specs.Pairs.{Ships, TakesIn, make_id, HaveOneId}
-use Rattle.trace_core.specs.PairTests.{same_id}
+use Rattle.trace_core.specs.Places.{IsPartAt}
 use Rattle.trace_core.specs.Searches.{IsFound}
 use Rattle.trace_core.specs.Sites.{SiteEvents}
 use Rattle.trace_core.specs.Spreads.{IsNewTarget}
 use Rattle.trace_core.proofs.AddedPairs.{related_with}
-use Rattle.trace_core.proofs.PairTestsDecide.{same_id_decides}
 use Rattle.trace_core.proofs.SetMembers.{found-insert, contains_more}
 use Rattle.site_core.specs.Quarantines.{item_cmp}
-use Rattle.site_core.specs.Sources.{moved_items, FindsAlso, FindsPart, FindsPartAt, FindsParts}
-use Rattle.site_core.proofs.Places.{taken_more, member_more, some_stands}
+use Rattle.site_core.specs.Sources.{moved_items, FindsAlso, FindsMovedAt, FindsParts}
 
 ships_moved : (i : List ℕ) (site : ℕ) (b : Body) → Ships i site b → Contains (moved_items b) i
 ships_moved i site (Note items) h = absurd h
@@ -62,21 +60,35 @@ found_more first old new items k i copy below at same upd so_far =
       all = λ j there. ⊎_elim (λ before. found j (inl (so_far.all j before))) (λ is. found j (inr (same ∙ is))) ((contains_more items k i below at j).0 there);
     }
 
-pub part_found : (id : Option (List ℕ)) (events : List Content) (k : ℕ) (first old new : BTreeSet (List ℕ)) → k < length events → FindsPartAt id (slice_get events k) old new
-    → FindsParts id (take k events) first old → FindsParts id (take (k + 1) events) first new
-part_found id events k first old new below part so_far =
-    let (e, stands) = some_stands events k below in
-    let found : FindsPart id e old new = subst (λ o. FindsPartAt id o old new) stands part in
-    record {
-      stay = λ i h. found.stay i (so_far.stay i h);
-      all = λ f there one i moves. ⊎_elim
-          (λ before. found.stay i (so_far.all f before one i moves))
-          (λ same. found.all (subst (λ (g : Content). HaveOneId (make_id g.body) id) (sym same) one) i (subst (λ (g : Content). Contains (moved_items g.body) i) (sym same) moves))
-          (member_more (take k events) (take (k + 1) events) e f (taken_more events k e stands) there);
-    }
+-- what the events at the places move is found
+pub record FindsAtPlaces (events : List Content) (places : List ℕ) (old new : BTreeSet (List ℕ)) : Type 0 where
+  pub stay : (i : List ℕ) → IsFound item_cmp old i → IsFound item_cmp new i
+  pub all : (k : ℕ) → Contains places k → (e : Content) → slice_get events k ≡ Some e → (i : List ℕ) → Contains (moved_items e.body) i → IsFound item_cmp new i
 
-pub all_parts : (id : Option (List ℕ)) (events : List Content) (n : ℕ) (first found : BTreeSet (List ℕ)) → length events ≤ n → FindsParts id (take n events) first found → FindsParts id events first found
-all_parts id events n first found past so_far = subst (λ es. FindsParts id es first found) (take_all n events past) so_far
+moved_stays : (o : Option Content) (old new : BTreeSet (List ℕ)) → FindsMovedAt o old new → (i : List ℕ) → IsFound item_cmp old i → IsFound item_cmp new i
+moved_stays None old new also = also.stay
+moved_stays (Some e) old new also = also.stay
+
+-- one place more
+pub place_found : (events : List Content) (places : List ℕ) (n k : ℕ) (first old new : BTreeSet (List ℕ)) → n < length places → k ≡ get_or places n k → FindsMovedAt (slice_get events k) old new
+    → FindsAtPlaces events (take n places) first old → FindsAtPlaces events (take (n + 1) places) first new
+place_found events places n k first old new below at moved so_far = record {
+  stay = λ i h. moved_stays (slice_get events k) old new moved i (so_far.stay i h);
+  all = λ j there e stands i moves. ⊎_elim
+      (λ before. moved_stays (slice_get events k) old new moved i (so_far.all j before e stands i moves))
+      (λ same. let found : FindsAlso old new (moved_items e.body) = subst (λ o. FindsMovedAt o old new) (ap (slice_get events) same ∙ stands) moved in found.all i moves)
+      ((contains_more places n k below at j).0 there);
+}
+
+-- the places are those of the parts
+pub all_parts : (events : List Content) (id : List ℕ) (places : List ℕ) (n : ℕ) (first found : BTreeSet (List ℕ)) → length places ≤ n → ((k : ℕ) → Contains places k ↔ IsPartAt events id k)
+    → FindsAtPlaces events (take n places) first found → FindsParts (Some id) events first found
+all_parts events id places n first found past exact so_far = record {
+  stay = so_far.stay;
+  all = λ e (k, lt, at) (own, is, same) i moves.
+      let stands : slice_get events k ≡ Some e = slice_get-get_or events k e lt ∙ ap Some at in
+      so_far.all k (subst (λ ps. Contains ps k) (sym (take_all n places past)) ((exact k).1 (e, stands, is ∙ sym same))) e stands i moves;
+}
 
 -- without an id there are no parts
 pub no_parts : (events : List Content) (found : BTreeSet (List ℕ)) (o : Option (List ℕ)) → None ≡ o → FindsParts o events found found
@@ -84,16 +96,6 @@ no_parts events found o none = record { stay = λ i h. h; all = λ e there (id, 
   where
     no_such : (o : Option (List ℕ)) (id : List ℕ) → None ≡ o → o ≡ Some id → ⊥
     no_such o id h k = cc
-
--- the event isn't a part
-pub other_part : (id : List ℕ) (e : Content) (b : Body) (found : BTreeSet (List ℕ)) → b ≡ e.body → same_id (make_id b) (Some id) ≡ false → FindsPart (Some id) e found found
-other_part id e b found is other = record {
-  stay = λ i h. h;
-  all = λ one i moves. absurd (false≢true (sym other ∙ (same_id_decides (make_id b) (Some id)).1 (subst (λ c. HaveOneId (make_id c) (Some id)) (sym is) one)));
-}
-
-pub own_part : (id : Option (List ℕ)) (e : Content) (b : Body) (old new : BTreeSet (List ℕ)) → b ≡ e.body → FindsAlso old new (moved_items b) → FindsPart id e old new
-own_part id e b old new is also = record { stay = also.stay; all = λ one i moves. also.all i (subst (λ c. Contains (moved_items c) i) (sym is) moves) }
 
 -- the list has each source of a new pair
 pub sources_listed : (s : SiteEvents) (e : Content) (b b' : Body) (first own all : BTreeSet (List ℕ)) (items : List (List ℕ)) → b ≡ e.body → b' ≡ e.body → FindsAlso first own (moved_items b)

@@ -19,17 +19,12 @@ pub record FindsAlso (old new : BTreeSet (List ℕ)) (items : List (List ℕ)) :
   pub stay : (i : List ℕ) → IsFound item_cmp old i → IsFound item_cmp new i
   pub all : (i : List ℕ) → Contains items i → IsFound item_cmp new i
 
--- what was found is found, and what the event moves if it is a part of the transformation with this id
-pub record FindsPart (id : Option (List ℕ)) (e : Content) (old new : BTreeSet (List ℕ)) : Type 0 where
-  pub stay : (i : List ℕ) → IsFound item_cmp old i → IsFound item_cmp new i
-  pub all : HaveOneId (make_id e.body) id → (i : List ℕ) → Contains (moved_items e.body) i → IsFound item_cmp new i
+-- what was found is found, and what the event moves that stands at a place, if one does
+abbrev pub FindsMovedAt : Option Content → BTreeSet (List ℕ) → BTreeSet (List ℕ) → Type 0
+FindsMovedAt None old new = FindsAlso old new []
+FindsMovedAt (Some e) old new = FindsAlso old new (moved_items e.body)
 
--- the same of the event that stands at a place, if one does
-abbrev pub FindsPartAt : Option (List ℕ) → Option Content → BTreeSet (List ℕ) → BTreeSet (List ℕ) → Type 0
-FindsPartAt id None old new = (i : List ℕ) → IsFound item_cmp old i → IsFound item_cmp new i
-FindsPartAt id (Some e) old new = FindsPart id e old new
-
--- the same of each of these events
+-- what was found is found, and what those of these events move that are parts of the transformation with this id
 pub record FindsParts (id : Option (List ℕ)) (events : List Content) (old new : BTreeSet (List ℕ)) : Type 0 where
   pub stay : (i : List ℕ) → IsFound item_cmp old i → IsFound item_cmp new i
   pub all : (e : Content) → Contains events e → HaveOneId (make_id e.body) id → (i : List ℕ) → Contains (moved_items e.body) i → IsFound item_cmp new i

@@ -1,6 +1,6 @@
 -- What a recall comes to hold at a site, and which items a site knows.
 use mathlib.Core.Logic.{◌⊎◌}
-use Rattle.std.specs.Prelude.{◌↔◌, ℕ, Bool, false, Option, Some, None, List, [], ◌∷◌, IsTrue, Any, Contains}
+use Rattle.std.specs.Prelude.{◌↔◌, ℕ, List, [], ◌∷◌, IsTrue, Any, Contains}
 use Rattle.frame_core.specs.Numbers.{Recall}
 use Rattle.trace_core.specs.Sites.{SiteEvents}
 use Rattle.trace_core.specs.Spreads.{AreAscendingItems, IsSpread, items_of}
@@ -14,8 +14,3 @@ pub record AreNewlyHeld (s : SiteEvents) (q : Quarantine) (r : Recall) (i : List
 -- an event of the site names the item, or it is quarantined there under some recall
 abbrev pub IsKnownItem : SiteEvents → Quarantine → List ℕ → Type 0
 IsKnownItem s q i = Any (λ e. Contains (items_of e.body) i) s.events ⊎ ((r : Recall) × IsTrue (held q r i))
-
--- whether there is one, and it passes
-abbrev pub is_some_with : {X : Type 0} → (X → Bool) → Option X → Bool
-is_some_with p None = false
-is_some_with p (Some x) = p x

@@ -1,9 +1,8 @@
 ghost use Rattle.std.specs.Prelude.{◌≡◌, IfOk, OnOk, ℕ, List, Some, Contains, option_map, slice_get};
 ghost use Rattle.trace_core.specs.declared.pairs.Pair.{Pair};
 ghost use Rattle.trace_core.specs.Pairs.{make_id};
-ghost use Rattle.trace_core.specs.PairTests.{same_id};
 ghost use Rattle.trace_core.specs.Spreads.{AreAscendingItems, IsNewTarget};
-ghost use Rattle.site_core.specs.Sources.{moved_items, FindsAlso, FindsPart, FindsPartAt, FindsParts};
+ghost use Rattle.site_core.specs.Sources.{moved_items, FindsAlso, FindsMovedAt, FindsParts};
 
 use crate::ordered_keys::keys_in_order;
 use epc_core::Epc;
@@ -38,7 +37,7 @@ fn add_joined(
     }
 }
 
-/// Adds what the captured parts of a transformation move.
+/// Adds what the captured parts of a transformation move. It costs these parts.
 fn add_parts(
     alloc: Global,
     captured: &Captured,
@@ -47,41 +46,25 @@ fn add_parts(
 ) -> Result<(), AllocError>
     ensures { OnOk result (FindsParts (Some id.now) captured.now.events found.old found.new) }
 {
-    for place in 0..captured.len() {
-        add_part_at(alloc, captured, place, id, found)?;
+    let places = captured.parts_of(id)?;
+    for place in &places {
+        add_moved_at(alloc, captured, *place, found)?;
     }
     Ok(())
 }
 
-/// Adds what the event at a place moves, if it is a part of the transformation with this id.
-fn add_part_at(
+/// Adds what the event at a place moves.
+fn add_moved_at(
     alloc: Global,
     captured: &Captured,
     place: usize,
-    id: &PlainText,
     found: &mut BTreeSet<Epc>,
 ) -> Result<(), AllocError>
-    ensures { OnOk result (FindsPartAt (Some id.now) (slice_get captured.now.events place) found.old found.new) }
+    ensures { OnOk result (FindsMovedAt (slice_get captured.now.events place) found.old found.new) }
 {
     match captured.event(place) {
-        Some(event) => add_part(alloc, event, id, found),
+        Some(event) => add_moved(alloc, event.body(), found),
         None => Ok(()),
-    }
-}
-
-/// Adds what an event moves, if it is a part of the transformation with this id.
-fn add_part(
-    alloc: Global,
-    event: &Event,
-    id: &PlainText,
-    found: &mut BTreeSet<Epc>,
-) -> Result<(), AllocError>
-    ensures { OnOk result (FindsPart (Some id.now) event.now found.old found.new) }
-{
-    if is_part(event.body(), id) {
-        add_moved(alloc, event.body(), found)
-    } else {
-        Ok(())
     }
 }
 
@@ -92,16 +75,6 @@ fn part_id(body: &Body) -> Option<&PlainText>
     match body {
         Body::Make { id, .. } => id.as_ref(),
         _ => None,
-    }
-}
-
-/// Whether the body is a transformation with this id.
-fn is_part(body: &Body, id: &PlainText) -> bool
-    ensures { result ≡ same_id (make_id body.now) (Some id.now) }
-{
-    match body {
-        Body::Make { id: Some(own), .. } => own.as_str() == id.as_str(),
-        _ => false,
     }
 }
 

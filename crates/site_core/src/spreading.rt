@@ -1,13 +1,11 @@
-ghost use Rattle.std.specs.Prelude.{◌≡◌, ◌↔◌, ◌∷◌, [], ℕ, List, IfOk, IsTrue, Any, Contains, filter, not, slice_get};
-ghost use Rattle.trace_core.specs.Spreads.{AreAscendingItems, IsSpread, items_of};
+ghost use Rattle.std.specs.Prelude.{◌≡◌, ◌↔◌, ◌∷◌, [], ℕ, List, IfOk, IsTrue, Contains, filter, not};
+ghost use Rattle.trace_core.specs.Spreads.{AreAscendingItems, IsSpread};
 ghost use Rattle.site_core.specs.Quarantines.{held};
-ghost use Rattle.site_core.specs.Spreading.{AreNewlyHeld, IsKnownItem, is_some_with};
-ghost use Rattle.trace_core.specs.PairTests.{lists};
+ghost use Rattle.site_core.specs.Spreading.{AreNewlyHeld, IsKnownItem};
 
 use crate::holding::is_held;
 use crate::quarantines::Quarantine;
 use epc_core::Epc;
-use event_json::Body;
 use frame_core::RecallId;
 use std::alloc::{AllocError, Global};
 use trace_core::Captured;
@@ -60,51 +58,10 @@ pub fn newly_held(
     not_held(alloc, quarantine, recall, items)
 }
 
-/// Whether one of the captured events names the item, or it is quarantined under some recall.
+/// Whether one of the captured events names the item, or it is quarantined under some recall. It doesn't
+/// go through the events.
 pub fn is_known(captured: &Captured, quarantine: &Quarantine, item: &Epc) -> bool
     ensures { IsTrue result ↔ IsKnownItem captured.now quarantine.now item.now }
 {
-    is_held(quarantine, item) || is_captured(captured, item)
-}
-
-/// Whether one of the captured events names the item.
-fn is_captured(captured: &Captured, item: &Epc) -> bool
-    ensures { IsTrue result ↔ Any (λ e. Contains (items_of e.body) item.now) captured.now.events }
-{
-    for place in 0..captured.len() {
-        if is_named_at(captured, place, item) {
-            return true;
-        }
-    }
-    false
-}
-
-/// Whether the event at a place names the item.
-fn is_named_at(captured: &Captured, place: usize, item: &Epc) -> bool
-    ensures { result ≡ is_some_with (λ e. lists (items_of e.body) item.now) (slice_get captured.now.events place) }
-{
-    match captured.event(place) {
-        Some(event) => names(event.body(), item),
-        None => false,
-    }
-}
-
-/// Whether a body names the item.
-fn names(body: &Body, item: &Epc) -> bool
-    ensures { result ≡ lists (items_of body.now) item.now }
-{
-    match body {
-        Body::Note { items } => is_listed(items.as_slice(), item),
-        Body::Ship { items, .. } => is_listed(items.as_slice(), item),
-        Body::Make { ins, outs, .. } => {
-            is_listed(ins.as_slice(), item) || is_listed(outs.as_slice(), item)
-        }
-    }
-}
-
-/// Whether the item is one of a list.
-fn is_listed(items: &[Epc], item: &Epc) -> bool
-    ensures { result ≡ lists items.now item.now }
-{
-    items.contains(item)
+    is_held(quarantine, item) || captured.mentions(item)
 }

@@ -14,7 +14,7 @@ use Rattle.std.proofs.lemmas.Map.Keys.{IsDistinct-from_sorted}
 use Rattle.std.proofs.lemmas.Map.Lookups.{CmpEqualImpliesEq}
 use Rattle.std.proofs.lemmas.Map.Made.{length-le_from_is_member}
 use Rattle.std.proofs.lemmas.Map.Views.{btree_set_contains_iff, list_any-from_Contains, tells_apart}
-use Rattle.trace_core.specs.Searches.{IsFound, NotesAll}
+use Rattle.trace_core.specs.Searches.{IsFound, NotesAll, Visits}
 use Rattle.trace_core.proofs.Members.{contains_here, contains_cases, contains_none}
 use Rattle.trace_core.specs.Relations.{Reaches, ReachedFrom}
 use Rattle.trace_core.proofs.ChainLaws.{reached_start, reached_step, reached_holds}
@@ -117,21 +117,21 @@ module _ {K : Type 0} (cmp : K → K → Ordering) (R : K → K → Type 0) (sta
 
   -- the targets of a node that was waiting are noted
   pub search_goes_on : (found found' : BTreeSet K) (waiting rest waiting' : List K) (node : K) (nodes : List K)
-      → Searches cmp R starts targets found waiting → waiting ≡ rest ++ node ∷ [] → ((n : K) → Contains nodes n ↔ R node n) → ((n : K) → Contains nodes n → Contains targets n) → NotesAll cmp found found' rest waiting' nodes
-      → Searches cmp R starts targets found' waiting'
-  search_goes_on found found' waiting rest waiting' node nodes so_far popped related has noted =
+      → Searches cmp R starts targets found waiting → waiting ≡ rest ++ node ∷ [] → ((n : K) → Contains nodes n → R node n) → ((n : K) → R node n → IsFound cmp found' n) → ((n : K) → Contains nodes n → Contains targets n)
+      → NotesAll cmp found found' rest waiting' nodes → Searches cmp R starts targets found' waiting'
+  search_goes_on found found' waiting rest waiting' node nodes so_far popped sound all has noted =
       let was_waiting : Contains waiting node = subst (λ xs. Contains xs node) (sym popped) (Contains-push rest node) in
       let still_waiting : (n : K) → Contains rest n → Contains waiting n = λ n h. subst (λ xs. Contains xs n) (sym popped) (Contains-append_left rest (node ∷ []) n h) in
       let node_reached = so_far.sound node (so_far.waiting_found node was_waiting) in
       record {
         starts_found = λ n h. noted.found_stay n (so_far.starts_found n h);
-        sound = λ n h. ⊎_elim (λ before. so_far.sound n before) (λ new. reached_step R starts node n node_reached ((related n).0 new.0)) (noted.found_only n h);
+        sound = λ n h. ⊎_elim (λ before. so_far.sound n before) (λ new. reached_step R starts node n node_reached (sound n new.0)) (noted.found_only n h);
         waiting_found = λ n h. ⊎_elim (λ before. noted.found_stay n (so_far.waiting_found n (still_waiting n before))) (λ new. noted.nodes_found n new) (noted.waiting_only n h);
         followed = λ n h. ⊎_elim
             (λ before. ⊎_elim
             (λ waited. ⊎_elim
             (λ at. inl (noted.waiting_stay n at))
-            (λ last. inr (λ m r. noted.nodes_found m ((related m).1 (subst (λ x. R x m) (sym (only_one node n last)) r))))
+            (λ last. inr (λ m r. all m (subst (λ x. R x m) (sym (only_one node n last)) r)))
             (Contains-append_cases rest (node ∷ []) n (subst (λ xs. Contains xs n) popped waited)))
             (λ follows. inr (λ m r. noted.found_stay m (follows m r)))
             (so_far.followed n before))
@@ -140,6 +140,21 @@ module _ {K : Type 0} (cmp : K → K → Ordering) (R : K → K → Type 0) (sta
         bounded = λ n h. ⊎_elim (λ before. so_far.bounded n before) (λ new. Contains-append_right starts targets n (has n new.0)) (noted.found_only n h);
         ordered = noted.ordered so_far.ordered;
       }
+
+  -- what a search has found, and what was given by what it has seen
+  pub record GroupSearches {S : Type 0} (G : S → K → Type 0) (seen : S) (found : BTreeSet K) (waiting : List K) : Type 0 where
+    pub searched : Searches cmp R starts targets found waiting
+    pub given : (n : K) → G seen n → IsFound cmp found n
+
+  -- a node that was waiting is visited
+  pub visit_goes_on : {S : Type 0} (G : S → K → Type 0) (seen seen' : S) (found found' : BTreeSet K) (waiting rest waiting' : List K) (node : K) → GroupSearches G seen found waiting → waiting ≡ rest ++ node ∷ []
+      → Visits cmp (R node) G seen seen' found found' rest waiting' → ((n : K) → R node n → Contains targets n) → GroupSearches G seen' found' waiting'
+  visit_goes_on G seen seen' found found' waiting rest waiting' node so_far popped visited has = record {
+    searched = search_goes_on found found' waiting rest waiting' node visited.nodes so_far.searched popped visited.sound
+        (λ n r. ⊎_elim (λ there. visited.noted.nodes_found n there) (λ before. visited.noted.found_stay n (so_far.given n before)) (visited.complete n r))
+        (λ n h. has n (visited.sound n h)) visited.noted;
+    given = λ n h. ⊎_elim (λ before. visited.noted.found_stay n (so_far.given n before)) (λ there. visited.noted.nodes_found n there) (visited.given n h);
+  }
 
   module _ (o : IsTotalOrder cmp) where
     -- no more is found than there are starts and targets

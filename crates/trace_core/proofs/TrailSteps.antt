@@ -1,12 +1,12 @@
 -- The steps of a search, and the trails that they leave.
-use Rattle.std.proofs.Common.{◌≡◌, ◌≢◌, ◌<◌, ◌≤◌, ◌+◌, ◌-◌, ℕ, zero, suc, true, false, not, cond, List, [], ◌∷◌, ◌++◌, map, length, get_or, All, AllPairs, ◌↔◌, refl, sym, ap, ◌∙◌, subst, inl, inr, ⊎_elim, append_assoc, length-append, arith}
+use Rattle.std.proofs.Common.{◌≡◌, ◌≢◌, ◌<◌, ◌≤◌, ◌+◌, ◌-◌, ℕ, zero, suc, true, false, not, cond, List, [], ◌∷◌, ◌++◌, map, length, get_or, All, ◌↔◌, refl, sym, ap, ◌∙◌, subst, inl, inr, ⊎_elim, append_assoc, length-append, arith}
 use mathlib.Core.Logic.{◌⊎◌}
 use Rattle.std.specs.BTreeSet.{BTreeSet, contains, Updates, IsOrdered, btree_set_len}
 use Rattle.std.specs.Cmp.{eq_by_cmp_equiv}
 use Rattle.std.specs.List.{Contains}
 use Rattle.std.proofs.lemmas.Bool.{cases_Bool, cases_lt, cases_eq}
 use Rattle.std.proofs.lemmas.List.{get_or_default, get_or_append_left, get_or-append_right, get_or-map, map-append, length-map}
-use Rattle.std.proofs.lemmas.List.Elements.{All-nil, All-append, All-weaker, All-cons, All-get_or, Contains-append_left, Contains-append_right, Contains-push}
+use Rattle.std.proofs.lemmas.List.Elements.{All-nil, All-append, All-weaker, All-cons, All-get_or, Contains-append_left, Contains-append_right}
 use Rattle.std.proofs.lemmas.List.Kept.{AllPairs-cons}
 use Rattle.std.proofs.lemmas.List.Quantifiers.{all_pairs_push}
 use Rattle.std.proofs.lemmas.Map.Keys.{IsDistinct-from_sorted}
@@ -15,7 +15,7 @@ use Rattle.std.proofs.lemmas.Map.Views.{btree_set_contains_iff, list_any-from_Co
 use Rattle.trace_core.specs.declared.pairs.Pair.{Pair}
 use Rattle.trace_core.specs.declared.trails.Step.{Step}
 use Rattle.trace_core.specs.Pairs.{pair_cmp}
-use Rattle.trace_core.specs.Relations.{IsChain, last_of, Reaches}
+use Rattle.trace_core.specs.Relations.{IsChain, last_of, Reaches, Chain}
 use Rattle.trace_core.specs.Searches.{IsFound, NotesAll}
 use Rattle.trace_core.specs.Trails.{HaveNoRepeats, IsAt, pairs_of, GoBack, IsPath, IsTraced, NotesSteps}
 use Rattle.trace_core.proofs.ChainLaws.{reached_holds}
@@ -95,6 +95,15 @@ trace_back steps place last before pairs pairs' s t copy (a, rest, path, are) ba
     let is : a ≡ s = one_at steps place a s (path_head steps (place, a) rest last path) at in
     (t, (place, a) ∷ rest, (there, ap (λ (x : Step). x.from) is ∙ from, subst (λ n. n < place) from (back place s at later), path), pushed ∙ ap (λ p. p ∷ pairs) same ∙ ap (λ ps. t.pair ∷ ps) are)
 
+-- a step has the pair, and was found from this place or an earlier one
+abbrev pub IsNear : List Step → ℕ → Pair → Type 0
+IsNear steps k q = (j : ℕ) × (t : Step) × IsAt steps j t × (t.pair ≡ q) × (t.from ≤ k)
+
+-- so many steps lead to the place
+abbrev pub IsDepth : List Step → ℕ → ℕ → Type 0
+IsDepth steps k zero = k ≡ 0
+IsDepth steps k (suc d) = (s : Step) × IsAt steps k s × (k ≢ 0) × IsDepth steps s.from d
+
 -- what holds of a search while steps are left; R relates, and all has each target
 pub record Trailing (R : Pair → Pair → Type 0) (root target : Pair) (all : List Pair) (steps : List Step) (seen : BTreeSet Pair) (place : ℕ) : Type 0 where
   pub begun : (s : Step) → IsAt steps 0 s → s.pair ≡ root
@@ -110,6 +119,9 @@ pub record Trailing (R : Pair → Pair → Type 0) (root target : Pair) (all : L
   pub count : btree_set_len seen ≡ length steps
   pub ordered : IsOrdered pair_cmp seen
   pub within : place ≤ length steps
+  pub mono : (j k : ℕ) (s t : Step) → IsAt steps j s → IsAt steps k t → j ≤ k → s.from ≤ t.from
+  pub behind : (k : ℕ) (s : Step) → IsAt steps k s → s.from ≤ place
+  pub near : (k : ℕ) (s : Step) → IsAt steps k s → k < place → (q : Pair) → R s.pair q → IsNear steps k q
 
 module _ (R : Pair → Pair → Type 0) (root target : Pair) (all : List Pair) where
   single : (x y : Pair) → Contains (x ∷ []) y → x ≡ y
@@ -127,6 +139,8 @@ module _ (R : Pair → Pair → Type 0) (root target : Pair) (all : List Pair) w
       let found : (q : Pair) → IsFound pair_cmp seen q → root ≡ q = λ q h. ⊎_elim (λ before. absurd (not_before q before)) (λ e. sym same_key ∙ e) ((found-insert pair_cmp pairs_total pairs_exact empty seen key upd q).0 h) in
       let find : (q : Pair) → root ≡ q → IsFound pair_cmp seen q = λ q h. (found-insert pair_cmp pairs_total pairs_exact empty seen key upd q).1 (inr (same_key ∙ h)) in
       let first : (k : ℕ) → k < length steps → k ≡ 0 = λ k lt. omega (arith, lt, ap length is) in
+      let from_root : (k : ℕ) (s : Step) → IsAt steps k s → s.from ≡ 0 = λ k s (lt, at).
+      ap (λ (x : Step). x.from) (sym at ∙ ap (λ (xs : List Step). get_or xs k s) is ∙ ap (λ n. get_or (step ∷ []) n s) (first k lt)) in
       record {
         begun = λ s (lt, at). ap (λ (x : Step). x.pair) (sym at ∙ ap (λ (xs : List Step). get_or xs 0 s) is) ∙ same;
         some = omega (arith, ap length is);
@@ -141,6 +155,9 @@ module _ (R : Pair → Pair → Type 0) (root target : Pair) (all : List Pair) w
         count = omega (arith, one, ap length no_keys, ap length is);
         ordered = ordered;
         within = omega arith;
+        mono = λ j k s t at at' le. omega (arith, from_root j s at, from_root k t at');
+        behind = λ k s at. omega (arith, from_root k s at);
+        near = λ k s at below. absurd (omega (arith, below));
       }
 
   module _ (steps added : List Step) (place : ℕ) (targets : List Pair) (from : All (λ s. (s.from ≡ place) × Contains targets s.pair) added) where
@@ -187,8 +204,33 @@ module _ (R : Pair → Pair → Type 0) (root target : Pair) (all : List Pair) w
           count = omega (arith, notes.count, so_far.count, length-map steps (λ (s : Step). s.pair), length-map (steps ++ added) (λ (s : Step). s.pair));
           ordered = notes.ordered so_far.ordered;
           within = omega (arith, here.0, len);
+          mono = λ j k x y at at' le. ⊎_elim
+              (λ old. ⊎_elim
+              (λ old'. so_far.mono j k x y old old' le)
+              (λ (past, is, there). omega (arith, so_far.behind j x old, is))
+              (new_at k y at'))
+              (λ (past, is, there). ⊎_elim
+              (λ old'. absurd (omega (arith, past, le, old'.0)))
+              (λ (past', is', there'). omega (arith, is, is'))
+              (new_at k y at'))
+              (new_at j x at);
+          behind = λ k x at. let le = behind_here k x at in omega (arith, le);
+          near = λ k t at below q related. ⊎_elim
+              (λ same.
+              let found = notes.nodes_found q ((exact q).1 (subst (λ (x : Step). R x.pair q) (one_at steps place t s (subst (λ n. IsAt steps n t) same (old_place k t at (omega (arith, same, here.0)))) here) related)) in
+              let listed : Contains (pairs_of (steps ++ added)) q = ⊎_elim (λ before. notes.waiting_stay q (so_far.only q before)) (λ new. new.1) (notes.found_only q found) in
+              let (x, (j, lt, is), pair) = contains-from_map (λ (x : Step). x.pair) (steps ++ added) q listed in
+              let le = behind_here j x (lt, is) in
+              (j, x, (lt, is), pair, omega (arith, le, same)))
+              (λ other.
+              let (j, x, there, pair, le) = so_far.near k t (old_place k t at (omega (arith, below, here.0))) (earlier k below other) q related in
+              (j, x, old_at j x there, pair, le))
+              (cases_eq k place);
         }
       where
+        behind_here : (k : ℕ) (x : Step) → IsAt (steps ++ added) k x → x.from ≤ place
+        behind_here k x at = ⊎_elim (λ old. so_far.behind k x old) (λ (past, is, there). omega (arith, is)) (new_at k x at)
+
         earlier : (k : ℕ) → k < place + 1 → (k ≡ place → ⊥) → k < place
         earlier k below other = ⊎_elim (λ lt. lt) (λ past. absurd (other (omega (arith, below, past)))) (cases_lt k place)
 
@@ -231,6 +273,64 @@ module _ (R : Pair → Pair → Type 0) (root target : Pair) (all : List Pair) w
     path_chain a (b ∷ rest) last z (at, from, below, more) end =
         let (chain, ends) = path_chain b rest last z more end in
         ((so_far.linked b.0 a.1 b.1 (path_head steps b rest last more) (λ zero. omega (arith, zero, below)) (subst (λ n. IsAt steps n a.1) (sym from) at), chain), ends)
+
+    -- a step before another one is no deeper
+    no_deeper : (e j k d : ℕ) → j ≤ k → IsDepth steps j d → IsDepth steps k e → d ≤ e
+    no_deeper e j k zero le deep deep' = omega arith
+    no_deeper zero j k (suc d) le (s, at, later, deep) deep' = absurd (later (omega (arith, le, deep')))
+    no_deeper (suc e) j k (suc d) le (s, at, later, deep) (t, at', later', deep') =
+        let below = no_deeper e s.from t.from d (so_far.mono j k s t at at' le) deep deep' in omega (arith, below)
+
+    -- a path is as long as its last step is deep
+    path_depth : (a : ℕ × Step) (rest : List (ℕ × Step)) (last d : ℕ) → IsPath steps (a ∷ rest) last → IsDepth steps a.0 d → IsDepth steps last (d + length rest)
+    path_depth a [] last d (at, is) deep = let same : d + 0 ≡ d = omega arith in subst (λ n. IsDepth steps last n) (sym same) (subst (λ n. IsDepth steps n d) is deep)
+    path_depth a (b ∷ rest) last d (at, from, below, more) deep =
+        let next : suc d + length rest ≡ d + length (b ∷ rest) = omega arith in
+        subst (λ n. IsDepth steps last n) next (path_depth b rest last (suc d) more (b.1, path_head steps b rest last more, λ zero. omega (arith, zero, below), subst (λ n. IsDepth steps n d) (sym from) deep))
+
+    -- each place has a depth, no deeper than a later one's
+    has_depth : (n k : ℕ) → k ≤ n → k < length steps → (d : ℕ) × IsDepth steps k d
+    has_depth zero k le lt = (0, omega (arith, le))
+    has_depth (suc n) k le lt = ⊎_elim
+        (λ first. (0, first))
+        (λ later.
+        let (s, lt', at) = element steps k lt in
+        let below = so_far.back k s (lt', at) later in
+        let (d, deep) = has_depth n s.from (omega (arith, below, le)) (omega (arith, below, lt)) in
+        (suc d, (s, (lt', at), later, deep)))
+        (cases_eq k 0)
+
+    -- what a chain of so many steps reaches is found as near, unless the search hasn't come so far
+    near_found : (e : ℕ) → IsDepth steps place e → (m : ℕ) (q : Pair) → Chain R root m q → (e ≤ m) ⊎ ((k : ℕ) × (s : Step) × (d : ℕ) × IsAt steps k s × (s.pair ≡ q) × IsDepth steps k d × (d ≤ m))
+    near_found e deep zero q same = let (s, lt, at) = element steps 0 so_far.some in inr (0, s, 0, (lt, at), so_far.begun s (lt, at) ∙ same, refl, omega arith)
+    near_found e deep (suc m) q (z, chain, related) = ⊎_elim
+        (λ past. inl (omega (arith, past)))
+        (λ (k, s, d, at, is, deep', le). ⊎_elim
+        (λ below.
+        let (j, t, there, pair, from) = so_far.near k s at below q (subst (λ (x : Pair). R x q) (sym is) related) in
+        let (f, found) = has_depth t.from t.from (omega arith) (omega (arith, from, at.0)) in
+        let small = no_deeper d t.from k f from found deep' in
+        ⊎_elim
+        (λ first. inr (j, t, 0, there, pair, first, omega arith))
+        (λ later. inr (j, t, suc f, there, pair, (t, there, later, found), omega (arith, small, le)))
+        (cases_eq j 0))
+        (λ past. let deeper = no_deeper d place k e past deep deep' in inl (omega (arith, deeper, le)))
+        (cases_lt k place))
+        (near_found e deep m z chain)
+
+    -- the trail has no more pairs than any chain
+    pub traced_shortest : (s : Step) (pairs : List Pair) → IsAt steps place s → s.pair ≡ target → IsTraced steps 0 place pairs → (n : ℕ) → Chain R root n target → length pairs ≤ suc n
+    traced_shortest s pairs here found (a, rest, path, are) n chain =
+        let deep : IsDepth steps place (0 + length rest) = path_depth (0, a) rest place 0 path refl in
+        let long : length pairs ≡ suc (length rest) = ap length are ∙ length-map ((0, a) ∷ rest) (λ b. b.1.pair) in
+        let least : length rest ≤ n = ⊎_elim
+        (λ le. omega (arith, le))
+        (λ (k, t, d, at, is, deep', le). ⊎_elim
+        (λ below. absurd (so_far.missed k t at below is))
+        (λ past. let deeper = no_deeper d place k (0 + length rest) past deep deep' in omega (arith, deeper, le))
+        (cases_lt k place))
+        (near_found (0 + length rest) deep n target chain) in
+        omega (arith, long, least)
 
     -- the trail of a step
     pub traced_chain : (s : Step) (pairs : List Pair) → IsAt steps place s → s.pair ≡ target → IsTraced steps 0 place pairs

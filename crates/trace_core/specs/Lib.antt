@@ -1,10 +1,11 @@
 pub mod Adding
 pub mod Chains
 pub mod Gathering
+pub mod Groups
 pub mod Laws
-pub mod Mentions
 pub mod PairTests
 pub mod Pairs
+pub mod Places
 pub mod Relations
 pub mod Searches
 pub mod Sites

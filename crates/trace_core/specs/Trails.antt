@@ -1,11 +1,11 @@
 -- A chain of related pairs between two pairs.
-use Rattle.std.specs.Prelude.{◌≡◌, ◌≢◌, ℕ, ◌<◌, List, [], ◌∷◌, ◌++◌, map, length, get_or, All, AllPairs, Contains}
+use Rattle.std.specs.Prelude.{◌≡◌, ◌≢◌, ℕ, suc, ◌<◌, ◌≤◌, List, [], ◌∷◌, ◌++◌, map, length, get_or, All, AllPairs, Contains}
 use Rattle.std.specs.BTreeSet.{BTreeSet}
 use Rattle.trace_core.specs.declared.pairs.Pair.{Pair}
 use Rattle.trace_core.specs.declared.trails.Step.{Step}
 use Rattle.trace_core.specs.Chains.{Related}
 use Rattle.trace_core.specs.Pairs.{pair_cmp}
-use Rattle.trace_core.specs.Relations.{IsChain, last_of}
+use Rattle.trace_core.specs.Relations.{IsChain, last_of, Chain}
 use Rattle.trace_core.specs.Searches.{IsFound, NotesAll}
 use Rattle.trace_core.specs.Sites.{SiteEvents}
 
@@ -16,6 +16,10 @@ IsTrail sites root target pairs = (rest : List Pair) × (pairs ≡ root ∷ rest
 -- no pair comes twice
 abbrev pub HaveNoRepeats : List Pair → Type 0
 HaveNoRepeats pairs = AllPairs (λ p q. p ≢ q) pairs
+
+-- no chain from the root to the target has fewer pairs
+abbrev pub IsShortest : List SiteEvents → Pair → Pair → List Pair → Type 0
+IsShortest sites root target pairs = (n : ℕ) → Chain (Related sites) root n target → length pairs ≤ suc n
 
 -- this step stands at the place
 abbrev pub IsAt : List Step → ℕ → Step → Type 0

@@ -1,11 +1,8 @@
-ghost use Rattle.std.specs.Prelude.{◌≡◌, Some, Ok, IfOk, IfErr, OnErr, length, take};
-ghost use Rattle.std.specs.List.{list_any};
+ghost use Rattle.std.specs.Prelude.{◌≡◌, Ok, IfOk, IfErr, OnErr, length, take};
 ghost use Rattle.trace_core.specs.Adding.{standing_among, with_fresh, adding, FaultOf};
-ghost use Rattle.event_json.specs.Contents.{same_content};
-ghost use Rattle.trace_core.specs.PairTests.{same_id};
 
 use crate::books::Book;
-use event_json::{Event, PlainText};
+use event_json::Event;
 use std::alloc::AllocError;
 use thiserror::Error;
 
@@ -71,51 +68,10 @@ pub fn add_if_fresh(events: &mut Book, event: Event) -> Result<Standing, AllocEr
     ensures ok { IfOk result (λ standing. events.new ≡ with_fresh events.old event standing) }
     ensures err { OnErr result (events.new ≡ events.old) }
 {
-    let standing = standing_among(events.as_slice(), &event);
+    let standing = events.standing(&event);
     match standing {
         Standing::Fresh => events.push(event)?,
         Standing::Known | Standing::Taken => {}
     }
     Ok(standing)
-}
-
-/// How an event stands to the events so far.
-#[tactic(auto, unfolding(crate::specs::Adding::standing_among))]
-pub fn standing_among(events: &[Event], event: &Event) -> Standing
-    ensures { result ≡ standing_among events.now event.now }
-{
-    if !is_id_used(events, event) {
-        Standing::Fresh
-    } else if is_known(events, event) {
-        Standing::Known
-    } else {
-        Standing::Taken
-    }
-}
-
-/// Whether one of the events is the same.
-fn is_known(events: &[Event], event: &Event) -> bool
-    ensures { result ≡ list_any (λ f. same_content f event.now) events.now }
-{
-    events.iter().any(|e| *e == *event)
-}
-
-/// Whether the event has an eventID, and one of the events has it too.
-fn is_id_used(events: &[Event], event: &Event) -> bool
-    ensures { result ≡ list_any (λ f. same_id f.id event.now.id) events.now }
-{
-    match event.id() {
-        Some(id) => events.iter().any(|e| has_id(e, id)),
-        None => false,
-    }
-}
-
-/// Whether the event has this eventID.
-fn has_id(event: &Event, id: &PlainText) -> bool
-    ensures { result ≡ same_id event.now.id (Some id.now) }
-{
-    match event.id() {
-        Some(own) => own.as_str() == id.as_str(),
-        None => false,
-    }
 }

@@ -1,31 +1,36 @@
-ghost use Rattle.std.specs.Prelude.{◌≡◌, ◌++◌, ◌∷◌, [], ◌<◌, true, ℕ, IfOk, OnOk, OnErr, Contains, length, take, get_or, slice_get, option_map};
-ghost use Rattle.event_json.specs.Events.{Content};
-ghost use Rattle.trace_core.specs.Mentions.{starts};
+ghost use Rattle.std.specs.Prelude.{◌≡◌, ◌++◌, ◌∷◌, [], ◌-◌, IfOk, OnOk, OnErr, length, take, slice_get, option_map};
+ghost use Rattle.std.specs.List.{list_any};
+ghost use Rattle.event_json.specs.Contents.{same_content};
+ghost use Rattle.trace_core.specs.Adding.{standing_among};
+ghost use Rattle.trace_core.specs.Pairs.{make_id};
+ghost use Rattle.trace_core.specs.PairTests.{same_id};
+ghost use Rattle.trace_core.specs.Places.{at_place, names_item, places_where};
 
-use crate::mentions::{Mention, mention_event, places_of};
+use crate::adding::Standing;
+use crate::ids::places_of_id;
+use crate::indexes::Index;
 use epc_core::Epc;
-use event_json::Event;
+use event_json::{Event, PlainText};
 use std::alloc::{AllocError, Global};
-use std::collections::BTreeSet;
 use std::marker::Model;
 
-/// Events in the order in which they came, and where items are mentioned among them.
+/// Events in the order in which they came, and an index of what they name.
 #[derive(Debug, Drop)]
 pub struct Book {
     events: Vec<Event>,
-    mentions: BTreeSet<Mention>,
+    index: Index,
 }
 
 impl Model for Book {
     ghost use Rattle.std.specs.Prelude.{List};
     ghost use Rattle.event_json.specs.Events.{Content};
-    ghost use Rattle.trace_core.specs.Mentions.{HasEachMention};
+    ghost use Rattle.trace_core.specs.Places.{HasPlaces};
 
     ghost Value = { List Content };
 
     ghost view = { λ b. b.events.items };
 
-    ghost invariant = { λ b. HasEachMention b.mentions b.events.items };
+    ghost invariant = { λ b. HasPlaces b.index b.events.items };
 }
 
 impl Book {
@@ -35,7 +40,7 @@ impl Book {
     {
         Book {
             events: Vec::new(alloc),
-            mentions: BTreeSet::new(alloc),
+            index: Index::new(alloc),
         }
     }
 
@@ -53,41 +58,94 @@ impl Book {
         self.events.get(place)
     }
 
-    /// The events.
-    pub fn as_slice(&self) -> &[Event]
-        ensures { result.now ≡ self.now }
-    {
-        self.events.as_slice()
-    }
-
     /// What memory is taken from.
     pub fn alloc(&self) -> Global {
         *self.events.allocator()
     }
 
-    /// Adds an event at the end.
+    /// Adds an event at the end. An `Err` changes nothing: what was added is taken away again.
     pub fn push(&mut self, event: Event) -> Result<(), AllocError>
         ensures ok { OnOk result (self.new ≡ self.old ++ event ∷ []) }
         ensures err { OnErr result (self.new ≡ self.old) }
     {
         let alloc = self.alloc();
-        mention_event(alloc, &mut self.mentions, event.body(), self.events.len())?;
-        self.events.push(event)?;
+        self.events.reserve(1)?;
+        self.index.note(alloc, &event, self.events.len())?;
+        self.events.push_reserved(event);
         Ok(())
     }
 
-    /// Leaves the first events alone. Takes no memory.
+    /// Leaves the first events alone. It costs the events that go, and takes no memory.
     pub fn truncate(&mut self, kept: usize)
         ensures { self.new ≡ take kept self.old }
     {
-        self.events.truncate(kept);
+        while kept < self.len() {
+            self.pop();
+        }
     }
 
-    /// The places of all events that ship the item or take it in. There may be others among them.
-    pub fn places_of(&self, item: &Epc) -> Result<Vec<usize>, AllocError>
-        ensures { IfOk result (λ places. (k : ℕ) (e : Content) → k < length self.now → get_or self.now k e ≡ e → starts item.now e.body ≡ true → Contains places.items k) }
+    /// Takes the last event away. Takes no memory.
+    fn pop(&mut self)
+        ensures { self.new ≡ take (length self.old - 1) self.old }
     {
-        places_of(self.alloc(), &self.mentions, item)
+        if let Some(event) = self.events.pop() {
+            self.index.forget(&event, self.events.len());
+        }
+    }
+
+    /// The places of the events that name an item, ascending.
+    pub fn places_of(&self, item: &Epc) -> &[usize]
+        ensures { result.now ≡ places_where (names_item item.now) self.now }
+    {
+        match self.index.items.get(item) {
+            Some(places) => places.as_slice(),
+            None => &[],
+        }
+    }
+
+    /// The places of the transformations that have an id, ascending; none where there is no id.
+    pub fn parts_of(&self, id: Option<&PlainText>) -> &[usize]
+        ensures { result.now ≡ places_where (λ e. same_id (make_id e.body) (option_map (λ t. t.now) id.entry)) self.now }
+    {
+        places_of_id(&self.index.parts, id)
+    }
+
+    /// How an event stands among these. It costs those of its eventID, and takes no memory.
+    pub fn standing(&self, event: &Event) -> Standing
+        ensures { result ≡ standing_among self.now event.now }
+    {
+        let places = places_of_id(&self.index.ids, event.id());
+        if places.is_empty() {
+            Standing::Fresh
+        } else if self.is_among(places, event) {
+            Standing::Known
+        } else {
+            Standing::Taken
+        }
+    }
+
+    /// Whether an equal event stands at one of the places.
+    fn is_among(&self, places: &[usize], event: &Event) -> bool
+        ensures { result ≡ list_any (λ k. at_place (λ e. same_content e event.now) (slice_get self.now k)) places.now }
+    {
+        places.iter().any(|place| self.is_at(*place, event))
+    }
+
+    /// Whether an equal event stands at a place.
+    fn is_at(&self, place: usize, event: &Event) -> bool
+        ensures { result ≡ at_place (λ e. same_content e event.now) (slice_get self.now place) }
+    {
+        match self.get(place) {
+            Some(own) => *own == *event,
+            None => false,
+        }
+    }
+
+    /// Whether an event names the item. Takes no memory.
+    pub fn mentions(&self, item: &Epc) -> bool
+        ensures { result ≡ list_any (names_item item.now) self.now }
+    {
+        self.index.items.contains_key(item)
     }
 
     /// An equal book.

@@ -1,15 +1,17 @@
-ghost use Rattle.std.specs.Prelude.{◌≡◌, ◌↔◌, [], Ok, IfOk, IfErr, OnErr, Contains, length, take, slice_get, option_map};
+ghost use Rattle.std.specs.Prelude.{◌≡◌, ◌↔◌, ◌<◌, ℕ, [], Ok, IfOk, IfErr, OnErr, IsTrue, Any, AllPairs, Contains, length, take, slice_get, option_map};
 ghost use Rattle.trace_core.specs.declared.pairs.Pair.{Pair};
 ghost use Rattle.trace_core.specs.Adding.{standing_among, with_fresh, adding, FaultOf};
 ghost use Rattle.trace_core.specs.Pairs.{IsRelated, IsStrictlyAscending};
+ghost use Rattle.trace_core.specs.Places.{IsPartAt};
+ghost use Rattle.trace_core.specs.Spreads.{items_of};
 
-use crate::adding::{AddFault, Added, Standing, add_if_fresh, append_fresh, standing_among};
+use crate::adding::{AddFault, Added, Standing, add_if_fresh, append_fresh};
 use crate::books::Book;
 use crate::gathering::gather;
 use crate::ordered_keys::keys_in_order;
 use crate::pairs::Pair;
 use epc_core::Epc;
-use event_json::{Event, Sequence, SiteNo};
+use event_json::{Event, PlainText, Sequence, SiteNo};
 use std::alloc::{AllocError, Global};
 use std::collections::BTreeSet;
 use std::marker::Model;
@@ -59,11 +61,18 @@ impl Captured {
         self.book.get(place)
     }
 
+    /// Whether one of the captured events names the item. It costs a look-up, and takes no memory.
+    pub fn mentions(&self, item: &Epc) -> bool
+        ensures { IsTrue result ↔ Any (λ e. Contains (items_of e.body) item.now) self.now.events }
+    {
+        self.book.mentions(item)
+    }
+
     /// How an event stands among the captured ones. Takes no memory.
     pub fn standing(&self, event: &Event) -> Standing
         ensures { result ≡ standing_among self.now.events event.now }
     {
-        standing_among(self.book.as_slice(), event)
+        self.book.standing(event)
     }
 
     /// Adds one event if it is fresh, and tells how it stood.
@@ -119,26 +128,29 @@ impl Captured {
     {
         let alloc = self.book.alloc();
         let mut pairs = BTreeSet::new(alloc);
-        for place in &self.book.places_of(item)? {
+        for place in self.book.places_of(item) {
             if let Some(event) = self.book.get(*place) {
-                gather(
-                    alloc,
-                    self.me,
-                    self.book.as_slice(),
-                    item,
-                    event.body(),
-                    &mut pairs,
-                )?;
+                gather(alloc, self.me, &self.book, item, event.body(), &mut pairs)?;
             }
         }
         keys_in_order(alloc, pairs)
     }
 
-    /// The events.
-    pub(crate) fn events(&self) -> &[Event]
+    /// The places of the captured parts of a transformation: of the transformations that have this
+    /// transformationID, ascending. It costs these.
+    pub fn parts_of(&self, id: &PlainText) -> Result<Vec<usize>, AllocError>
+        ensures ascending { IfOk result (λ places. AllPairs (λ j k. j < k) places.items) }
+        ensures exact { IfOk result (λ places. (k : ℕ) → Contains places.items k ↔ IsPartAt self.now.events id.now k) }
+    {
+        let alloc = self.book.alloc();
+        copy_places(alloc, self.book.parts_of(Some(id)))
+    }
+
+    /// The events, and the index of what they name.
+    pub(crate) fn book(&self) -> &Book
         ensures { result.now ≡ self.now.events }
     {
-        self.book.as_slice()
+        &self.book
     }
 
     /// What the site's memory is taken from.
@@ -155,4 +167,11 @@ impl Captured {
             book: self.book.copy(alloc)?,
         })
     }
+}
+
+/// The same places.
+fn copy_places(alloc: Global, places: &[usize]) -> Result<Vec<usize>, AllocError>
+    ensures { IfOk result (λ copies. copies.items ≡ places.now) }
+{
+    places.to_vec(alloc)
 }

@@ -6,9 +6,11 @@ ghost use Rattle.trace_core.specs.Chains.{Related, RelatesFrom, sites_at};
 ghost use Rattle.trace_core.specs.Relations.{Reaches};
 
 use crate::captured::Captured;
+use crate::groups::{Group, gather_unseen_from};
 use crate::pairs::Pair;
 use crate::searches::{Relation, closure};
 use std::alloc::{AllocError, Global};
+use std::collections::BTreeSet;
 
 /// The related pairs of several sites.
 #[derive(Drop)]
@@ -24,6 +26,27 @@ impl Relation for RelatedPairs<'_> {
     ghost relates = { λ r. Related (sites_at r.sites.now) };
 
     ghost all_targets = { λ r. all_targets (sites_at r.sites.now) };
+
+    ghost use Rattle.trace_core.specs.Groups.{IsGivenBy};
+
+    ghost gives = { λ r. IsGivenBy (sites_at r.sites.now) };
+
+    fn none_seen(&self, alloc: Global) -> BTreeSet<Group> {
+        BTreeSet::new(alloc)
+    }
+
+    fn gather_unseen(
+        &self,
+        alloc: Global,
+        node: &Pair,
+        seen: &mut BTreeSet<Group>,
+        pairs: &mut BTreeSet<Pair>,
+    ) -> Result<(), AllocError> {
+        for number in 0..self.sites.len() {
+            gather_unseen_from(alloc, self.sites[number], number, node, seen, pairs)?;
+        }
+        Ok(())
+    }
 
     fn targets(&self, alloc: Global, node: &Pair) -> Result<Vec<Pair>, AllocError> {
         let mut targets = Vec::new(alloc);

@@ -1,13 +1,15 @@
-ghost use Rattle.std.specs.Prelude.{◌≡◌, ◌==◌, not, ◌&&◌, ◌||◌, OnOk, option_map};
+ghost use Rattle.std.specs.Prelude.{◌≡◌, ◌==◌, not, ◌&&◌, ◌||◌, OnOk, option_map, slice_get};
 ghost use Rattle.std.specs.List.{list_any};
 ghost use Rattle.trace_core.specs.declared.pairs.Pair.{Pair};
 ghost use Rattle.trace_core.specs.Gathering.{is_in, related_by, shipped_by, joined_by};
-ghost use Rattle.trace_core.specs.PairTests.{same_item, takes_in, gives_out, lists, same_id};
+ghost use Rattle.trace_core.specs.PairTests.{same_item, takes_in, gives_out, lists};
 ghost use Rattle.trace_core.specs.Pairs.{make_id};
+ghost use Rattle.trace_core.specs.Places.{at_place};
 
+use crate::books::Book;
 use crate::pairs::Pair;
 use epc_core::Epc;
-use event_json::{Body, Event, PlainText, Sequence, SiteNo};
+use event_json::{Body, PlainText, Sequence, SiteNo};
 use std::alloc::{AllocError, Global};
 use std::collections::BTreeSet;
 
@@ -15,23 +17,23 @@ use std::collections::BTreeSet;
 pub fn gather(
     alloc: Global,
     me: SiteNo,
-    events: &[Event],
+    book: &Book,
     item: &Epc,
     body: &Body,
     pairs: &mut BTreeSet<Pair>,
 ) -> Result<(), AllocError>
-    ensures { OnOk result ((p : Pair) → is_in pairs.new p ≡ (is_in pairs.old p || related_by me events.now item.now body.now p)) }
+    ensures { OnOk result ((p : Pair) → is_in pairs.new p ≡ (is_in pairs.old p || related_by me book.now item.now body.now p)) }
 {
     gather_shipped(alloc, me, item, body, pairs)?;
     if takes_in(item, body) {
         gather_outputs(alloc, me, body, pairs)?;
-        gather_joined(alloc, me, events, body, pairs)?;
+        gather_joined(alloc, me, book, body, pairs)?;
     }
     Ok(())
 }
 
 /// Adds the item at each other site that it was shipped to.
-fn gather_shipped(
+pub fn gather_shipped(
     alloc: Global,
     me: SiteNo,
     item: &Epc,
@@ -70,22 +72,33 @@ fn gather_at_sites(
 }
 
 /// Adds the outputs of each Make that has the id of this one.
-fn gather_joined(
+pub fn gather_joined(
     alloc: Global,
     me: SiteNo,
-    events: &[Event],
+    book: &Book,
     body: &Body,
     pairs: &mut BTreeSet<Pair>,
 ) -> Result<(), AllocError>
-    ensures { OnOk result ((p : Pair) → is_in pairs.new p ≡ (is_in pairs.old p || (p.site == me && joined_by events.now body.now p.item))) }
+    ensures { OnOk result ((p : Pair) → is_in pairs.new p ≡ (is_in pairs.old p || (p.site == me && joined_by book.now body.now p.item))) }
 {
-    if make_id(body).is_none() {
-        return Ok(());
+    for place in book.parts_of(make_id(body)) {
+        gather_outputs_at(alloc, me, book, *place, pairs)?;
     }
-    for event in events {
-        if is_same_make(body, event.body()) {
-            gather_outputs(alloc, me, event.body(), pairs)?;
-        }
+    Ok(())
+}
+
+/// Adds the outputs of the Make at a place.
+fn gather_outputs_at(
+    alloc: Global,
+    me: SiteNo,
+    book: &Book,
+    place: usize,
+    pairs: &mut BTreeSet<Pair>,
+) -> Result<(), AllocError>
+    ensures { OnOk result ((p : Pair) → is_in pairs.new p ≡ (is_in pairs.old p || (p.site == me && at_place (λ e. gives_out p.item e.body) (slice_get book.now place)))) }
+{
+    if let Some(event) = book.get(place) {
+        gather_outputs(alloc, me, event.body(), pairs)?;
     }
     Ok(())
 }
@@ -133,18 +146,8 @@ pub fn takes_in(item: &Epc, body: &Body) -> bool
     }
 }
 
-/// Whether both are a Make, with equal ids.
-pub fn is_same_make(body: &Body, other: &Body) -> bool
-    ensures { result ≡ same_id (make_id body.now) (make_id other.now) }
-{
-    match (make_id(body), make_id(other)) {
-        (Some(id), Some(other_id)) => id.as_str() == other_id.as_str(),
-        _ => false,
-    }
-}
-
 /// The id of a Make, where it has one.
-fn make_id(body: &Body) -> Option<&PlainText>
+pub fn make_id(body: &Body) -> Option<&PlainText>
     ensures { option_map (λ t. t.now) result ≡ make_id body.now }
 {
     match body {

@@ -9,10 +9,13 @@ mod books;
 mod captured;
 mod chains;
 mod gathering;
+mod groups;
+mod ids;
+mod indexes;
 pub mod laws;
-mod mentions;
 mod ordered_keys;
 mod pairs;
+mod places;
 mod searches;
 mod spreads;
 #[cfg(test)]

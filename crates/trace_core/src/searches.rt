@@ -2,8 +2,12 @@ ghost use Rattle.std.specs.Prelude.{◌≡◌, ◌∷◌, [], List, Contains, �
 ghost use Rattle.trace_core.specs.declared.pairs.Pair.{Pair};
 ghost use Rattle.trace_core.specs.Pairs.{pair_cmp, IsStrictlyAscending};
 ghost use Rattle.trace_core.specs.Relations.{ReachedFrom};
-ghost use Rattle.trace_core.specs.Searches.{NotesAll};
+ghost use Rattle.trace_core.specs.Searches.{NotesAll, Visits};
+ghost use Rattle.std.specs.BTreeSet.{BTreeSet};
+ghost use Rattle.trace_core.specs.declared.groups.Group.{Group};
+ghost use Rattle.trace_core.specs.Groups.{AddsUnseen};
 
+use crate::groups::Group;
 use crate::ordered_keys::keys_in_order;
 use crate::pairs::Pair;
 use std::alloc::{AllocError, Global};
@@ -17,13 +21,33 @@ pub trait Relation {
     /// A list that has each target.
     ghost all_targets: { Self → List Pair };
 
+    /// Which pairs the transformations give that were seen.
+    ghost gives: { Self → BTreeSet Group → Pair → Type 0 };
+
+    /// No transformation: it gives nothing. Takes no memory.
+    fn none_seen(&self, alloc: Global) -> BTreeSet<Group>
+        ensures { (q : Pair) → gives self.now result q → ⊥ };
+
+    /// Adds the pairs that a pair is related to, but for those that transformations gave which were seen
+    /// before.
+    fn gather_unseen(
+        &self,
+        alloc: Global,
+        node: &Pair,
+        seen: &mut BTreeSet<Group>,
+        pairs: &mut BTreeSet<Pair>,
+    ) -> Result<(), AllocError>
+        ensures added { OnOk result (AddsUnseen (gives self.now) (relates self.now node.now) seen.old seen.new pairs.old pairs.new) }
+        ensures bounded { (q : Pair) → relates self.now node.now q → Contains (all_targets self.now) q };
+
     /// The pairs that a pair is related to, in any order.
     fn targets(&self, alloc: Global, node: &Pair) -> Result<Vec<Pair>, AllocError>
         ensures exact { IfOk result (λ targets. (q : Pair) → Contains targets.items q ↔ relates self.now node.now q) }
         ensures bounded { IfOk result (λ targets. (q : Pair) → Contains targets.items q → Contains (all_targets self.now) q) };
 }
 
-/// All that chains of a relation reach from some pairs, these among them, ascending.
+/// All that chains of a relation reach from some pairs, these among them, ascending. Each pair is visited
+/// once, and each transformation through the first of its inputs that is visited.
 pub fn closure<R: Relation>(
     alloc: Global,
     relation: &R,
@@ -34,12 +58,29 @@ pub fn closure<R: Relation>(
 {
     let mut found = BTreeSet::new(alloc);
     let mut waiting = Vec::new(alloc);
+    let mut seen = relation.none_seen(alloc);
     note_all(alloc, &mut found, &mut waiting, starts)?;
     while let Some(node) = waiting.pop() {
-        let targets = relation.targets(alloc, &node)?;
-        note_all(alloc, &mut found, &mut waiting, targets)?;
+        visit(alloc, relation, &node, &mut seen, &mut found, &mut waiting)?;
     }
     keys_in_order(alloc, found)
+}
+
+/// Notes what a pair is related to, but for what transformations gave that were seen before.
+fn visit<R: Relation>(
+    alloc: Global,
+    relation: &R,
+    node: &Pair,
+    seen: &mut BTreeSet<Group>,
+    found: &mut BTreeSet<Pair>,
+    waiting: &mut Vec<Pair>,
+) -> Result<(), AllocError>
+    ensures visited { OnOk result (Visits pair_cmp (R.relates relation.now node.now) (R.gives relation.now) seen.old seen.new found.old found.new waiting.old.items waiting.new.items) }
+    ensures bounded { OnOk result ((q : Pair) → R.relates relation.now node.now q → Contains (R.all_targets relation.now) q) }
+{
+    let mut targets = BTreeSet::new(alloc);
+    relation.gather_unseen(alloc, node, seen, &mut targets)?;
+    note_all(alloc, found, waiting, keys_in_order(alloc, targets)?)
 }
 
 /// Notes pairs as found. Those that weren't found before are waiting.

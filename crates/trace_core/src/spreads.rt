@@ -1,12 +1,17 @@
-ghost use Rattle.std.specs.Prelude.{◌≡◌, ◌↔◌, ◌||◌, IfOk, OnOk, ℕ, List, Contains, map};
+ghost use Rattle.std.specs.Prelude.{◌≡◌, ◌↔◌, ◌||◌, IfOk, OnOk, ℕ, List, Contains, map, slice_get};
+ghost use Rattle.std.specs.List.{list_any};
 ghost use Rattle.trace_core.specs.declared.pairs.Pair.{Pair};
 ghost use Rattle.trace_core.specs.Gathering.{is_in, added_by, joins};
 ghost use Rattle.trace_core.specs.Pairs.{IsStrictlyAscending};
+ghost use Rattle.trace_core.specs.PairTests.{takes_in};
+ghost use Rattle.trace_core.specs.Places.{at_place};
 ghost use Rattle.trace_core.specs.Spreads.{AreAscendingItems, IsSpread, AreLooks, IsNewTarget};
 
+use crate::books::Book;
 use crate::captured::Captured;
 use crate::chains::add_related;
-use crate::gathering::{gather, gather_outputs, is_same_make, takes_in};
+use crate::gathering::{gather, gather_outputs, make_id, takes_in};
+use crate::groups::{Group, gather_unseen_from};
 use crate::ordered_keys::keys_in_order;
 use crate::pairs::Pair;
 use crate::searches::{Relation, closure};
@@ -51,7 +56,7 @@ impl Captured {
         gather_added(
             alloc,
             self.me(),
-            self.events(),
+            self.book(),
             item,
             event.body(),
             &mut pairs,
@@ -77,6 +82,24 @@ impl Relation for SitePairs<'_> {
     ghost relates = { λ r. RelatesFrom r.site.now };
 
     ghost all_targets = { λ r. site_targets r.site.now };
+
+    ghost use Rattle.trace_core.specs.Groups.{IsGiven};
+
+    ghost gives = { λ r. IsGiven r.site.now 0 };
+
+    fn none_seen(&self, alloc: Global) -> BTreeSet<Group> {
+        BTreeSet::new(alloc)
+    }
+
+    fn gather_unseen(
+        &self,
+        alloc: Global,
+        node: &Pair,
+        seen: &mut BTreeSet<Group>,
+        pairs: &mut BTreeSet<Pair>,
+    ) -> Result<(), AllocError> {
+        gather_unseen_from(alloc, self.site, 0, node, seen, pairs)
+    }
 
     fn targets(&self, alloc: Global, node: &Pair) -> Result<Vec<Pair>, AllocError> {
         let mut targets = Vec::new(alloc);
@@ -118,23 +141,40 @@ fn items_at(alloc: Global, me: SiteNo, pairs: &[Pair]) -> Result<Vec<Epc>, Alloc
 fn gather_added(
     alloc: Global,
     me: SiteNo,
-    events: &[Event],
+    book: &Book,
     item: &Epc,
     body: &Body,
     pairs: &mut BTreeSet<Pair>,
 ) -> Result<(), AllocError>
-    ensures { OnOk result ((p : Pair) → is_in pairs.new p ≡ (is_in pairs.old p || added_by me events.now item.now body.now p)) }
+    ensures { OnOk result ((p : Pair) → is_in pairs.new p ≡ (is_in pairs.old p || added_by me book.now item.now body.now p)) }
 {
-    gather(alloc, me, events, item, body, pairs)?;
-    if joins(events, item, body) {
+    gather(alloc, me, book, item, body, pairs)?;
+    if joins(book, item, body) {
         gather_outputs(alloc, me, body, pairs)?;
     }
     Ok(())
 }
 
 /// Whether one of the events takes the item into a transformation that has this one's id.
-fn joins(events: &[Event], item: &Epc, body: &Body) -> bool
-    ensures { result ≡ joins events.now item.now body.now }
+fn joins(book: &Book, item: &Epc, body: &Body) -> bool
+    ensures { result ≡ joins book.now item.now body.now }
 {
-    events.iter().any(|e| takes_in(item, e.body()) && is_same_make(e.body(), body))
+    takes_in_at(book, book.parts_of(make_id(body)), item)
+}
+
+/// Whether a Make at one of the places has the item as an input.
+fn takes_in_at(book: &Book, places: &[usize], item: &Epc) -> bool
+    ensures { result ≡ list_any (λ k. at_place (λ e. takes_in item.now e.body) (slice_get book.now k)) places.now }
+{
+    places.iter().any(|place| is_taken_in(book, *place, item))
+}
+
+/// Whether a Make at a place has the item as an input.
+fn is_taken_in(book: &Book, place: usize, item: &Epc) -> bool
+    ensures { result ≡ at_place (λ e. takes_in item.now e.body) (slice_get book.now place) }
+{
+    match book.get(place) {
+        Some(event) => takes_in(item, event.body()),
+        None => false,
+    }
 }

@@ -1,10 +1,9 @@
 mod makers;
 
-use crate::adding::Standing;
-use crate::chains::reach;
 use makers::Told::*;
 use makers::{
-    adds, answers, captured, chain, leads, pair_of, parts, reaches, read, relates, spreads,
+    adds, answers, captured, chain, comes_back, has_parts, leads, parts, reaches, reaches_so_many,
+    relates, spreads,
 };
 use std::test::Fail;
 
@@ -102,8 +101,7 @@ fn copies_a_site(rt: HostRuntime) -> Result<(), Fail> {
 fn follows_a_long_chain_inside_a_site(rt: HostRuntime) -> Result<(), Fail> {
     let alloc = rt.alloc();
     let site = chain(alloc, 1000)?;
-    let root = pair_of(alloc, 0, "i0")?;
-    assert_eq!(rt; reach(alloc, &[&site], &root)?.len(), 1001);
+    assert!(rt; reaches_so_many(alloc, &site, "0", 1001)?);
     Ok(())
 }
 
@@ -116,8 +114,15 @@ fn spreads_inside_a_site_alone(rt: HostRuntime) -> Result<(), Fail> {
         &[&[Make("x", "y"), Ship("y", "b"), Make("y", "z")]],
     )?;
     assert!(rt; spreads(alloc, &site, "x", 3, 6)?);
-    let wide = parts(alloc, 50)?;
-    assert!(rt; spreads(alloc, &wide, "i0", 51, 151)?);
+    Ok(())
+}
+
+#[test]
+fn looks_at_each_part_once(rt: HostRuntime) -> Result<(), Fail> {
+    let alloc = rt.alloc();
+    let site = parts(alloc, 1000)?;
+    assert!(rt; spreads(alloc, &site, "i0", 1001, 3001)?);
+    assert!(rt; has_parts(alloc, &site, "t", 2000)?);
     Ok(())
 }
 
@@ -145,13 +150,7 @@ fn leads_by_the_nearest_way(rt: HostRuntime) -> Result<(), Fail> {
 fn takes_back_the_last_events(rt: HostRuntime) -> Result<(), Fail> {
     let alloc = rt.alloc();
     let mut site = captured(alloc, 0, &[&[Seen("x", 0), Make("x", "y")]])?;
-    let events = read(alloc, &[Seen("x", 0)])?.events;
-    for event in events.as_slice() {
-        assert_eq!(rt; site.standing(event), Standing::Known);
-        site.truncate(0);
-        assert_eq!(rt; site.add_event(event.copy(alloc)?)?, Standing::Fresh);
-    }
-    assert_eq!(rt; site.len(), 1);
+    assert!(rt; comes_back(alloc, &mut site, Seen("x", 0), "y")?);
     assert!(rt; site.event(0).is_some() && site.event(1).is_none());
     Ok(())
 }

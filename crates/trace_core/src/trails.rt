@@ -1,7 +1,7 @@
 ghost use Rattle.std.specs.Prelude.{◌≡◌, ◌<◌, ◌∷◌, [], IfOk, IfSome, IfNone, OnOk, length};
 ghost use Rattle.trace_core.specs.Chains.{Related, sites_at};
 ghost use Rattle.trace_core.specs.Relations.{Reaches};
-ghost use Rattle.trace_core.specs.Trails.{IsTrail, HaveNoRepeats, GoBack, IsTraced, NotesSteps};
+ghost use Rattle.trace_core.specs.Trails.{IsTrail, HaveNoRepeats, IsShortest, GoBack, IsTraced, NotesSteps};
 
 use crate::captured::Captured;
 use crate::chains::RelatedPairs;
@@ -19,9 +19,8 @@ pub struct Step {
     pub from: usize,
 }
 
-/// A chain of related pairs from a root to a target, as `reach` follows them, without repeats. The
-/// search finds near pairs first, so no chain has fewer pairs. `None` exactly where the target isn't
-/// reached.
+/// A chain of related pairs from a root to a target, as `reach` follows them, without repeats. No chain
+/// has fewer pairs. `None` exactly where the target isn't reached.
 pub fn trail(
     alloc: Global,
     sites: &[&Captured],
@@ -30,6 +29,7 @@ pub fn trail(
 ) -> Result<Option<Vec<Pair>>, AllocError>
     ensures trail { IfOk result (λ found. IfSome found (λ pairs. IsTrail (sites_at sites.now) root.now target.now pairs.items)) }
     ensures once { IfOk result (λ found. IfSome found (λ pairs. HaveNoRepeats pairs.items)) }
+    ensures shortest { IfOk result (λ found. IfSome found (λ pairs. IsShortest (sites_at sites.now) root.now target.now pairs.items)) }
     ensures none { IfOk result (λ found. IfNone found (Reaches (Related (sites_at sites.now)) root.now target.now → ⊥)) }
 {
     let relation = RelatedPairs { sites };

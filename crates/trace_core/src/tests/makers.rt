@@ -1,11 +1,12 @@
 //! Sites and events of the tests. Sites A to D are numbers 0 to 3, with the addresses a to d.
 
+use crate::adding::Standing;
 use crate::captured::Captured;
 use crate::chains::reach;
 use crate::pairs::Pair;
 use crate::trails::trail;
 use epc_core::Epc;
-use event_json::{Doc, SiteNo, Sites, read_document};
+use event_json::{Doc, PlainText, SiteNo, Sites, read_document};
 use std::alloc::{AllocError, Global};
 use std::test::Fail;
 
@@ -151,15 +152,58 @@ pub fn captured(alloc: Global, number: u64, documents: &[&[Told<'_>]]) -> Result
     Ok(captured)
 }
 
-/// A site with transformations of i0 into i1, of i1 into i2 and so on.
+/// What the items of a long chain begin with: texts that are told apart at their ends alone.
+const BEGINNING: &str =
+    "urn:example:one-long-beginning-that-all-items-of-this-chain-share:one-long-beginning-that-all-items-of-this-chain-share:";
+
+/// A site with transformations of item 0 into item 1, of item 1 into item 2 and so on.
 pub fn chain(alloc: Global, steps: u64) -> Result<Captured, Fail> {
     let mut site = Captured::new(alloc, site_of(0)?);
     for step in 0..steps {
-        let input = format!(in alloc; "i{step}")?;
-        let output = format!(in alloc; "i{}", step + 1)?;
+        let input = format!(in alloc; "{BEGINNING}{step}")?;
+        let output = format!(in alloc; "{BEGINNING}{}", step + 1)?;
         site.add(read(alloc, &[Told::Make(&input, &output)])?.events)?;
     }
     Ok(site)
+}
+
+/// Whether an item of a chain reaches so many pairs.
+pub fn reaches_so_many(
+    alloc: Global,
+    site: &Captured,
+    item: &str,
+    wanted: usize,
+) -> Result<bool, Fail> {
+    let text = format!(in alloc; "{BEGINNING}{item}")?;
+    let root = pair_of(alloc, 0, &text)?;
+    Ok(reach(alloc, &[site], &root)?.len() == wanted)
+}
+
+/// Whether a transformation has so many captured parts.
+pub fn has_parts(alloc: Global, site: &Captured, id: &str, wanted: usize) -> Result<bool, Fail> {
+    match PlainText::read(alloc, id)? {
+        Some(id) => Ok(site.parts_of(&id)?.len() == wanted),
+        None => Ok(false),
+    }
+}
+
+/// Whether an event that stands at the site comes back once all are taken away, and an item that later
+/// events named doesn't.
+pub fn comes_back(
+    alloc: Global,
+    site: &mut Captured,
+    event: Told<'_>,
+    gone: &str,
+) -> Result<bool, Fail> {
+    let gone = Epc::read(alloc, gone)?;
+    let events = read(alloc, &[event])?.events;
+    let Some(event) = events.as_slice().first() else {
+        return Ok(false);
+    };
+    let stood = site.standing(event) == Standing::Known && site.mentions(&gone);
+    site.truncate(0);
+    let fresh = site.add_event(event.copy(alloc)?)? == Standing::Fresh;
+    Ok(stood && fresh && site.len() == 1 && !site.mentions(&gone))
 }
 
 fn number_of(sites: &[Captured]) -> u64 {

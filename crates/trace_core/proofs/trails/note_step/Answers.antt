@@ -1,6 +1,6 @@
-use Rattle.std.proofs.Common.{not, ◌+◌, cond, true, sym, ap, ◌∙◌}
+use Rattle.std.proofs.Common.{not, ◌+◌, cond, sym, ap, ◌∙◌}
 use Rattle.std.specs.BTreeSet.{btree_set_len}
-use Rattle.std.proofs.lemmas.Bool.{both_ways, not-true, not-false}
+use Rattle.std.proofs.lemmas.Bool.{both_ways}
 use Rattle.trace_core.proofs.TrailSteps.{new_step, seen_step}
 use Rattle.trace_core.proofs.trails.note_step.Goals as goal
 

@@ -1,4 +1,4 @@
-use Rattle.std.proofs.Common.{List, not, ◌+◌, cond, sym, subst, ap, ◌∙◌, arith}
+use Rattle.std.proofs.Common.{List, ◌+◌, cond, sym, subst, ap, ◌∙◌, arith}
 use Rattle.std.specs.BTreeSet.{btree_set_len}
 use Rattle.std.proofs.lemmas.Bool.{both_ways}
 use Rattle.trace_core.specs.Chains.{Related, sites_at}
@@ -6,7 +6,7 @@ use Rattle.trace_core.specs.declared.trails.Step.{Step}
 use Rattle.trace_core.specs.Targets.{all_targets}
 use Rattle.trace_core.specs.Trails.{IsTraced}
 use Rattle.trace_core.proofs.PairOrder.{same_pair_decides}
-use Rattle.trace_core.proofs.TrailSteps.{one_at, trailing_begins, trailing_goes_on, steps_le, trailing_ends, traced_chain, traced_apart}
+use Rattle.trace_core.proofs.TrailSteps.{one_at, trailing_begins, trailing_goes_on, steps_le, trailing_ends, traced_chain, traced_apart, traced_shortest}
 use Rattle.trace_core.proofs.trails.trail.Goals as goal
 
 pub loop-place-init : goal.loop-place-init
@@ -16,6 +16,12 @@ loop-place-init c = trailing_begins (Related (sites_at c.args.sites.now)) c.args
 
 pub returns-then-eq-clause-trail : goal.returns-then-eq-clause-trail
 returns-then-eq-clause-trail c = traced_chain (Related (sites_at c.args.sites.now)) c.args.root.now c.args.target.now (all_targets (sites_at c.args.sites.now)) c.loop-place.steps.items c.loop-place.seen c.loop-place.place
+    c.loop-place.invariant c.index.result.now c.in_ok-traced.field-0.items (omega arith, sym c.index.ensures)
+    ((same_pair_decides c.index.result.now.pair c.args.target.now).0 (sym c.eq.ensures ∙ c.if-eq.true))
+    (subst (λ (xs : List Step). IsTraced xs 0 c.loop-place.place c.in_ok-traced.field-0.items) c.deref.ensures.value c.in_ok-traced.ensures)
+
+pub returns-then-eq-clause-shortest : goal.returns-then-eq-clause-shortest
+returns-then-eq-clause-shortest c = traced_shortest (Related (sites_at c.args.sites.now)) c.args.root.now c.args.target.now (all_targets (sites_at c.args.sites.now)) c.loop-place.steps.items c.loop-place.seen c.loop-place.place
     c.loop-place.invariant c.index.result.now c.in_ok-traced.field-0.items (omega arith, sym c.index.ensures)
     ((same_pair_decides c.index.result.now.pair c.args.target.now).0 (sym c.eq.ensures ∙ c.if-eq.true))
     (subst (λ (xs : List Step). IsTraced xs 0 c.loop-place.place c.in_ok-traced.field-0.items) c.deref.ensures.value c.in_ok-traced.ensures)

@@ -2,7 +2,7 @@ use Rattle.std.proofs.Common.{◌≡◌, take, slice_get}
 use Rattle.std.specs.List.{list_any}
 use Rattle.trace_core.specs.declared.pairs.Pair.{Pair}
 use Rattle.trace_core.specs.Gathering.{is_in}
-use Rattle.trace_core.proofs.MentionSteps.{related_at}
+use Rattle.trace_core.proofs.RelatedPlaces.{related_at}
 use Rattle.trace_core.proofs.captured.Captured.related.Given as goal
 
 -- the pairs that the events at the places so far relate the item to

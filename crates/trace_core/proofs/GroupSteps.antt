@@ -1,0 +1,293 @@
+-- What a search adds that comes to each transformation once.
+use Rattle.std.proofs.Common.{◌≡◌, ◌==◌, ℕ, ◌<◌, ◌≤◌, ◌+◌, Bool, true, false, not, ◌&&◌, ◌||◌, List, Option, Some, None, length, take, get_or, slice_get, ◌↔◌, refl, sym, ap, subst, ◌∙◌, inl, inr, ⊎_elim}
+use mathlib.Core.Bool.{false≢true}
+use mathlib.Core.Logic.{◌⊎◌}
+use Rattle.std.specs.BTreeSet.{BTreeSet, Updates}
+use Rattle.std.specs.Cmp.{IsTotalOrder}
+use Rattle.std.specs.List.{list_any, Contains}
+use Rattle.std.specs.Ordering.{nat_cmp}
+use Rattle.std.proofs.lemmas.Bool.{or_cases, and_parts, eqb-true, eq-eqb}
+use Rattle.std.proofs.lemmas.Cmp.{then_total, on_total, nat_cmp_total}
+use Rattle.std.proofs.lemmas.List.{take_all}
+use Rattle.std.proofs.lemmas.List.Folds.{list_any_more}
+use Rattle.std.proofs.lemmas.Map.Lookups.{CmpEqualImpliesEq, exact_pairs, exact_unsigned}
+use Rattle.std.proofs.lemmas.Option.{slice_get-get_or, slice_get_cases, get_or_from_slice_get}
+use Rattle.event_json.specs.Events.{Content}
+use Rattle.event_json.specs.declared.bodies.Body.{Body}
+use Rattle.trace_core.specs.declared.groups.Group.{Group}
+use Rattle.trace_core.specs.declared.pairs.Pair.{Pair}
+use Rattle.trace_core.specs.Gathering.{is_in, shipped_by, made_by, joined_by, related_by}
+use Rattle.trace_core.specs.Groups.{group_cmp, IsSeen, outs_of, Gives, IsGiven, AddsUnseen, SeesOnly}
+use Rattle.trace_core.specs.Pairs.{make_id, IsRelated}
+use Rattle.trace_core.specs.PairTests.{same_id, takes_in, gives_out, is_related}
+use Rattle.trace_core.specs.Places.{at_place, places_where, names_item}
+use Rattle.trace_core.specs.Searches.{IsFound}
+use Rattle.trace_core.specs.Sites.{SiteEvents}
+use Rattle.trace_core.proofs.Booleans.{more_inside}
+use Rattle.trace_core.proofs.Members.{list_any_member}
+use Rattle.trace_core.proofs.PairTestsDecide.{same_id_decides, related_decides}
+use Rattle.trace_core.proofs.PlaceLists.{place_passes}
+use Rattle.trace_core.proofs.RelatedPlaces.{slice_there, related_at, related_by_places}
+use Rattle.trace_core.proofs.SetMembers.{found-insert}
+
+pub groups_exact : CmpEqualImpliesEq group_cmp
+groups_exact a b h = ap (λ (p : ℕ × ℕ). record { site = p.0; first = p.1 }) (exact_pairs nat_cmp nat_cmp exact_unsigned exact_unsigned (a.site, a.first) (b.site, b.first) h)
+
+pub groups_total : IsTotalOrder group_cmp
+groups_total = then_total (on_total (λ g. g.site) nat_cmp_total) (on_total (λ g. g.first) nat_cmp_total)
+
+module _ (events : List Content) (j : List ℕ) where
+  or_same : (a b : Bool) → (a ≡ true → b ≡ true) → (a || b) ≡ b
+  or_same true b h = sym (h refl)
+  or_same false b h = refl
+
+  -- among events with an id, what it gives is what is joined to it
+  outs_joined : (e : Content) (id : List ℕ) → Contains events e → make_id e.body ≡ Some id → outs_of events j e.body ≡ joined_by events e.body j
+  outs_joined e id there is = or_same (gives_out j e.body) (joined_by events e.body j) (λ gives.
+      list_any_member (λ f. same_id (make_id e.body) (make_id f.body) && gives_out j f.body) events e there
+      (ap (λ b. b && gives_out j e.body) ((same_id_decides (make_id e.body) (make_id e.body)).1 (id, is, is)) ∙ gives))
+
+  -- so parts of one transformation give the same
+  pub same_outs : (e f : Content) → Contains events e → Contains events f → same_id (make_id e.body) (make_id f.body) ≡ true → outs_of events j e.body ≡ outs_of events j f.body
+  same_outs e f there there' same =
+      let (id, first, second) = (same_id_decides (make_id e.body) (make_id f.body)).0 same in
+      outs_joined e id there first
+      ∙ ap (λ o. list_any (λ g. same_id o (make_id g.body) && gives_out j g.body) events) (first ∙ sym second)
+      ∙ sym (outs_joined f id there' second)
+
+  -- the first part
+  pub first_gives : (k first : ℕ) (e : Content) (b : Body) → slice_get events k ≡ Some e → e.body ≡ b → Contains (places_where (λ f. same_id (make_id f.body) (make_id b)) events) first
+      → at_place (λ f. outs_of events j f.body) (slice_get events first) ≡ outs_of events j b
+  first_gives k first e b stands is among =
+      let (f, below, at, same) = place_passes (λ f. same_id (make_id f.body) (make_id b)) events first among in
+      ap (at_place (λ f. outs_of events j f.body)) (slice_get-get_or events first f below ∙ ap Some at)
+      ∙ same_outs f e (first, below, at) (let (lt, at') = slice_there events k e stands in (k, lt, at')) (ap (λ (c : Body). same_id (make_id f.body) (make_id c)) is ∙ same)
+      ∙ ap (outs_of events j) is
+
+  pub own_gives : (k : ℕ) (e : Content) (b : Body) → slice_get events k ≡ Some e → e.body ≡ b → at_place (λ f. outs_of events j f.body) (slice_get events k) ≡ outs_of events j b
+  own_gives k e b stands is = ap (at_place (λ f. outs_of events j f.body)) stands ∙ ap (outs_of events j) is
+
+module _ (G : BTreeSet Group → Pair → Type 0) where
+  -- nothing to add
+  pub adds_none : (P : Pair → Type 0) (seen : BTreeSet Group) (pairs : BTreeSet Pair) → ((q : Pair) → P q → ⊥) → AddsUnseen G P seen seen pairs pairs
+  adds_none P seen pairs none = record {
+    stay = λ q h. h;
+    sound = λ q h. inl h;
+    complete = λ q h. absurd (none q h);
+    given = λ q h. inl h;
+  }
+
+  -- all was given before
+  pub adds_given : (P : Pair → Type 0) (seen : BTreeSet Group) (pairs : BTreeSet Pair) → ((q : Pair) → P q → G seen q) → AddsUnseen G P seen seen pairs pairs
+  adds_given P seen pairs all = record {
+    stay = λ q h. h;
+    sound = λ q h. inl h;
+    complete = λ q h. inr (all q h);
+    given = λ q h. inl h;
+  }
+
+  -- one after another
+  pub adds_both : (P Q : Pair → Type 0) (a b c : BTreeSet Group) (x y z : BTreeSet Pair) → AddsUnseen G P a b x y → AddsUnseen G Q b c y z → AddsUnseen G (λ q. P q ⊎ Q q) a c x z
+  adds_both P Q a b c x y z one two = record {
+    stay = λ q h. two.stay q (one.stay q h);
+    sound = λ q h. ⊎_elim
+        (λ before. ⊎_elim (λ first. inl first) (λ p. inr (inl p)) (one.sound q before))
+        (λ new. inr (inr new))
+        (two.sound q h);
+    complete = λ q h. ⊎_elim
+        (λ p. ⊎_elim (λ there. inl (two.stay q there)) (λ before. inr before) (one.complete q p))
+        (λ r. ⊎_elim (λ there. inl there) (λ before. ⊎_elim (λ first. inr first) (λ there. inl (two.stay q there)) (one.given q before)) (two.complete q r))
+        h;
+    given = λ q h. ⊎_elim
+        (λ before. ⊎_elim (λ first. inl first) (λ there. inr (two.stay q there)) (one.given q before))
+        (λ there. inr there)
+        (two.given q h);
+  }
+
+  -- the same pairs said in another way
+  pub adds_same : (P Q : Pair → Type 0) (a b : BTreeSet Group) (x y : BTreeSet Pair) → ((q : Pair) → P q ↔ Q q) → AddsUnseen G P a b x y → AddsUnseen G Q a b x y
+  adds_same P Q a b x y same one = record {
+    stay = one.stay;
+    sound = λ q h. ⊎_elim (λ before. inl before) (λ p. inr ((same q).0 p)) (one.sound q h);
+    complete = λ q h. one.complete q ((same q).1 h);
+    given = one.given;
+  }
+
+-- a set that has some pairs more, and transformations that were seen before alone
+pub adds_pairs : (G : BTreeSet Group → Pair → Type 0) (p : Pair → Bool) (seen : BTreeSet Group) (old new : BTreeSet Pair) → ((q : Pair) → is_in new q ≡ (is_in old q || p q)) → AddsUnseen G (λ q. p q ≡ true) seen seen old new
+adds_pairs G p seen old new are = record {
+  stay = λ q h. are q ∙ ap (λ b. b || p q) h;
+  sound = λ q h. or_cases (is_in old q) (p q) (sym (are q) ∙ h);
+  complete = λ q h. inl (are q ∙ ap (λ b. is_in old q || b) h ∙ or_yes (is_in old q));
+  given = λ q h. inl h;
+}
+  where
+    or_yes : (b : Bool) → (b || true) ≡ true
+    or_yes true = refl
+    or_yes false = refl
+
+-- a transformation is seen now, and all that it gives is added
+pub adds_group : (s : SiteEvents) (site first : ℕ) (p : Pair → Bool) (seen seen' : BTreeSet Group) (old new : BTreeSet Pair) → Updates group_cmp seen seen' (record { site = site; first = first }) true
+    → ((q : Pair) → is_in new q ≡ (is_in old q || p q)) → ((q : Pair) → Gives s first q → p q ≡ true) → AddsUnseen (λ groups q. IsGiven s site groups q) (λ q. p q ≡ true) seen seen' old new
+adds_group s site first p seen seen' old new upd are gives =
+    let plain = adds_pairs (λ groups q. IsGiven s site groups q) p seen old new are in
+    record {
+      stay = plain.stay;
+      sound = plain.sound;
+      complete = plain.complete;
+      given = λ q (other, there, given). ⊎_elim
+          (λ before. inl (other, before, given))
+          (λ same. inr (are q ∙ ap (λ b. is_in old q || b) (gives q (subst (λ n. Gives s n q) (sym (ap (λ (g : Group). g.first) same)) given)) ∙ or_yes (is_in old q)))
+          ((found-insert group_cmp groups_total groups_exact seen seen' (record { site = site; first = first }) upd (record { site = site; first = other })).0 there);
+    }
+  where
+    or_yes : (b : Bool) → (b || true) ≡ true
+    or_yes true = refl
+    or_yes false = refl
+
+pub sees_none : (site : ℕ) (seen : BTreeSet Group) → SeesOnly site seen seen
+sees_none site seen g h = inl h
+
+pub sees_one : (site first : ℕ) (seen seen' : BTreeSet Group) → Updates group_cmp seen seen' (record { site = site; first = first }) true → SeesOnly site seen seen'
+sees_one site first seen seen' upd g h = ⊎_elim
+    (λ before. inl before)
+    (λ same. inr (sym (ap (λ (x : Group). x.site) same)))
+    ((found-insert group_cmp groups_total groups_exact seen seen' (record { site = site; first = first }) upd g).0 h)
+
+pub sees_both : (site : ℕ) (a b c : BTreeSet Group) → SeesOnly site a b → SeesOnly site b c → SeesOnly site a c
+sees_both site a b c one two g h = ⊎_elim (λ before. one g before) (λ own. inr own) (two g h)
+
+-- a transformation that was seen before adds nothing
+adds_again : (s : SiteEvents) (site first : ℕ) (P : Pair → Type 0) (seen seen' : BTreeSet Group) (pairs : BTreeSet Pair) → Updates group_cmp seen seen' (record { site = site; first = first }) true → IsSeen seen site first
+    → ((q : Pair) → P q → Gives s first q) → AddsUnseen (λ groups q. IsGiven s site groups q) P seen seen' pairs pairs
+adds_again s site first P seen seen' pairs upd there gives = record {
+  stay = λ q h. h;
+  sound = λ q h. inl h;
+  complete = λ q h. inr (first, there, gives q h);
+  given = λ q (other, found, given). ⊎_elim
+      (λ before. inl (other, before, given))
+      (λ same. inl (other, subst (λ (g : Group). IsFound group_cmp seen g) same there, given))
+      ((found-insert group_cmp groups_total groups_exact seen seen' (record { site = site; first = first }) upd (record { site = site; first = other })).0 found);
+}
+
+module _ (s : SiteEvents) (item : List ℕ) (e : Content) where
+  -- an output of the event's transformation, at the site
+  abbrev pub makes : Pair → Bool
+  makes q = q.site == s.me && outs_of s.events q.item e.body
+
+  made_by_taking : takes_in item e.body ≡ true → (q : Pair) → made_by s.me s.events item e.body q ≡ makes q
+  made_by_taking takes q = ap (λ b. q.site == s.me && (b && outs_of s.events q.item e.body)) takes
+
+  either_related : takes_in item e.body ≡ true → (q : Pair) → ((shipped_by s.me item e.body q ≡ true) ⊎ (makes q ≡ true)) ↔ (related_by s.me s.events item e.body q ≡ true)
+  either_related takes q = (
+    λ h. ap (λ b. shipped_by s.me item e.body q || b) (made_by_taking takes q) ∙ or_true (shipped_by s.me item e.body q) (makes q) h,
+    λ h. or_cases (shipped_by s.me item e.body q) (makes q) (ap (λ b. shipped_by s.me item e.body q || b) (sym (made_by_taking takes q)) ∙ h),
+  )
+    where
+      or_true : (a b : Bool) → (a ≡ true) ⊎ (b ≡ true) → (a || b) ≡ true
+      or_true true b h = refl
+      or_true false b h = ⊎_elim (λ no. absurd (false≢true no)) (λ yes. yes) h
+
+  only_shipped : takes_in item e.body ≡ false → (q : Pair) → (shipped_by s.me item e.body q ≡ true) ↔ (related_by s.me s.events item e.body q ≡ true)
+  only_shipped takes q =
+      let none : made_by s.me s.events item e.body q ≡ false = ap (λ b. q.site == s.me && (b && outs_of s.events q.item e.body)) takes ∙ and_no (q.site == s.me) in
+      let same : related_by s.me s.events item e.body q ≡ shipped_by s.me item e.body q = ap (λ b. shipped_by s.me item e.body q || b) none ∙ or_no (shipped_by s.me item e.body q) in
+      (λ h. same ∙ h, λ h. sym same ∙ h)
+    where
+      and_no : (a : Bool) → (a && false) ≡ false
+      and_no true = refl
+      and_no false = refl
+
+      or_no : (a : Bool) → (a || false) ≡ a
+      or_no true = refl
+      or_no false = refl
+
+  module _ (k site : ℕ) (stands : slice_get s.events k ≡ Some e) (seen seen' : BTreeSet Group) (x y : BTreeSet Pair) (shipped : (q : Pair) → is_in y q ≡ (is_in x q || shipped_by s.me item e.body q)) where
+    abbrev RelatedHere : Pair → Type 0
+    RelatedHere q = at_place (λ f. related_by s.me s.events item f.body q) (slice_get s.events k) ≡ true
+
+    here : (P : Pair → Type 0) (z : BTreeSet Pair) (b : BTreeSet Group) → ((q : Pair) → P q ↔ (related_by s.me s.events item e.body q ≡ true)) → AddsUnseen (λ groups q. IsGiven s site groups q) P seen b x z
+        → AddsUnseen (λ groups q. IsGiven s site groups q) RelatedHere seen b x z
+    here P z b same = adds_same (λ groups q. IsGiven s site groups q) P RelatedHere seen b x z (λ q.
+        let is : at_place (λ f. related_by s.me s.events item f.body q) (slice_get s.events k) ≡ related_by s.me s.events item e.body q = ap (at_place (λ f. related_by s.me s.events item f.body q)) stands in
+        (λ h. is ∙ (same q).0 h, λ h. (same q).1 (sym is ∙ h)))
+
+    shipped_adds : AddsUnseen (λ groups q. IsGiven s site groups q) (λ q. shipped_by s.me item e.body q ≡ true) seen seen x y
+    shipped_adds = adds_pairs (λ groups q. IsGiven s site groups q) (λ q. shipped_by s.me item e.body q) seen x y shipped
+
+    -- the event isn't a transformation of the item
+    pub event_ships : takes_in item e.body ≡ false → AddsUnseen (λ groups q. IsGiven s site groups q) RelatedHere seen seen x y
+    event_ships takes = here (λ q. shipped_by s.me item e.body q ≡ true) y seen (only_shipped takes) shipped_adds
+
+    module _ (first : ℕ) (takes : takes_in item e.body ≡ true) (stood_for : (j : List ℕ) → at_place (λ f. outs_of s.events j f.body) (slice_get s.events first) ≡ outs_of s.events j e.body) (upd : Updates group_cmp seen seen' (record { site = site; first = first }) true) where
+      -- its transformation is new
+      pub event_new : (w z : BTreeSet Pair) → ((q : Pair) → is_in w q ≡ (is_in y q || (q.site == s.me && gives_out q.item e.body))) → ((q : Pair) → is_in z q ≡ (is_in w q || (q.site == s.me && joined_by s.events e.body q.item)))
+          → AddsUnseen (λ groups q. IsGiven s site groups q) RelatedHere seen seen' x z
+      event_new w z gave joined =
+          let made : (q : Pair) → is_in z q ≡ (is_in y q || makes q) = λ q.
+          joined q ∙ ap (λ b. b || (q.site == s.me && joined_by s.events e.body q.item)) (gave q) ∙ more_inside (is_in y q) (q.site == s.me) (gives_out q.item e.body) (joined_by s.events e.body q.item) in
+          here (λ q. (shipped_by s.me item e.body q ≡ true) ⊎ (makes q ≡ true)) z seen' (either_related takes)
+          (adds_both (λ groups q. IsGiven s site groups q) (λ q. shipped_by s.me item e.body q ≡ true) (λ q. makes q ≡ true) seen seen seen' x y z shipped_adds
+          (adds_group s site first makes seen seen' y z upd made (λ q (own, given). ap (λ b. b && outs_of s.events q.item e.body) (eq-eqb q.site s.me own) ∙ sym (stood_for q.item) ∙ given)))
+
+      -- it was seen before
+      pub event_again : IsSeen seen site first → AddsUnseen (λ groups q. IsGiven s site groups q) RelatedHere seen seen' x y
+      event_again there =
+          here (λ q. (shipped_by s.me item e.body q ≡ true) ⊎ (makes q ≡ true)) y seen' (either_related takes)
+          (adds_both (λ groups q. IsGiven s site groups q) (λ q. shipped_by s.me item e.body q ≡ true) (λ q. makes q ≡ true) seen seen seen' x y y shipped_adds
+          (adds_again s site first (λ q. makes q ≡ true) seen seen' y upd there
+          (λ q made. let (own, outs) = and_parts (q.site == s.me) (outs_of s.events q.item e.body) made in (eqb-true q.site s.me own, stood_for q.item ∙ outs))))
+
+absent : (o : Option ℕ) (x : ℕ) → o ≡ None → o ≡ Some x → ⊥
+absent o x none some = cc
+
+-- the first of a list is one of it
+pub first_among : (places : List ℕ) (k : ℕ) → Some k ≡ slice_get places 0 → Contains places k
+first_among places k is = ⊎_elim
+    (λ (y, below, at, there). (0, below, get_or_from_slice_get places 0 k k (sym is)))
+    (λ (past, none). absurd (absent (slice_get places 0) k none (sym is)))
+    (slice_get_cases places 0).1
+
+-- a key that isn't new was there
+pub was_seen : {b : Bool} (there : Bool) → b ≡ not there → b ≡ false → there ≡ true
+was_seen true is h = refl
+was_seen {b} false is h = absurd (false≢true (sym h ∙ is))
+
+same_site : (me : ℕ) (events : List Content) (s : SiteEvents) → me ≡ s.me → events ≡ s.events → record { me = me; events = events } ≡ s
+same_site me events s is are = ap (λ (m : ℕ). record { me = m; events = events }) is ∙ ap (λ (es : List Content). record { me = s.me; events = es }) are
+
+-- what the event at a place relates the item to
+abbrev pub HereOf : SiteEvents → List ℕ → ℕ → Pair → Type 0
+HereOf t item k q = at_place (λ e. related_by t.me t.events item e.body q) (slice_get t.events k) ≡ true
+
+module _ (s : SiteEvents) (item : List ℕ) (site : ℕ) (places : List ℕ) where
+  -- what the events at the first so many places relate the item to
+  abbrev pub SoFar : ℕ → Pair → Type 0
+  SoFar n q = list_any (λ k. related_at s.me s.events item (slice_get s.events k) q) (take n places) ≡ true
+
+  -- one place more
+  pub place_added : (n k me : ℕ) (events : List Content) (a b c : BTreeSet Group) (x y z : BTreeSet Pair) → n < length places → k ≡ get_or places n k → me ≡ s.me → events ≡ s.events
+      → AddsUnseen (λ groups q. IsGiven s site groups q) (SoFar n) a b x y → AddsUnseen (λ groups q. IsGiven (record { me = me; events = events }) site groups q) (HereOf (record { me = me; events = events }) item k) b c y z
+      → AddsUnseen (λ groups q. IsGiven s site groups q) (SoFar (n + 1)) a c x z
+  place_added n k me events a b c x y z below at is are so_far added =
+      let now : AddsUnseen (λ groups q. IsGiven s site groups q) (HereOf s item k) b c y z =
+      subst (λ (t : SiteEvents). AddsUnseen (λ groups q. IsGiven t site groups q) (HereOf t item k) b c y z) (same_site me events s is are) added in
+      adds_same (λ groups q. IsGiven s site groups q) (λ q. SoFar n q ⊎ HereOf s item k q) (SoFar (n + 1)) a c x z
+      (λ q.
+      let test : ℕ → Bool = λ j. related_at s.me s.events item (slice_get s.events j) q in
+      let more : list_any test (take (n + 1) places) ≡ (list_any test (take n places) || test k) = list_any_more test places n k below ∙ ap (λ j. list_any test (take n places) || test j) (sym at) in
+      (λ h. more ∙ either (list_any test (take n places)) (test k) h, λ h. or_cases (list_any test (take n places)) (test k) (sym more ∙ h)))
+      (adds_both (λ groups q. IsGiven s site groups q) (SoFar n) (HereOf s item k) a b c x y z so_far now)
+    where
+      either : (a b : Bool) → (a ≡ true) ⊎ (b ≡ true) → (a || b) ≡ true
+      either true b h = refl
+      either false b h = ⊎_elim (λ no. absurd (false≢true no)) (λ yes. yes) h
+
+  -- all places
+  pub places_added : (n : ℕ) (a b : BTreeSet Group) (x y : BTreeSet Pair) → length places ≤ n → places ≡ places_where (names_item item) s.events
+      → AddsUnseen (λ groups q. IsGiven s site groups q) (SoFar n) a b x y → AddsUnseen (λ groups q. IsGiven s site groups q) (λ q. IsRelated s item q) a b x y
+  places_added n a b x y past are = adds_same (λ groups q. IsGiven s site groups q) (SoFar n) (λ q. IsRelated s item q) a b x y (λ q.
+      let is : list_any (λ k. related_at s.me s.events item (slice_get s.events k) q) (take n places) ≡ is_related s item q =
+      ap (list_any (λ k. related_at s.me s.events item (slice_get s.events k) q)) (take_all n places past ∙ are) ∙ related_by_places s item q in
+      let decides = related_decides s item q in
+      (λ h. decides.0 (sym is ∙ h), λ h. is ∙ decides.1 h))

@@ -1,0 +1,136 @@
+-- The places of the events that name an item lead to all that relates it.
+use Rattle.std.proofs.Common.{◌≡◌, ◌==◌, not, ◌&&◌, ◌<◌, ◌≤◌, ◌+◌, ℕ, Bool, true, false, ◌||◌, List, take, length, get_or, slice_get, ◌↔◌, Option, Some, None, refl, sym, ap, subst, ◌∙◌, ⊎_elim}
+use mathlib.Core.Bool.{false≢true}
+use Rattle.std.specs.BTreeSet.{BTreeSet}
+use Rattle.std.specs.List.{list_any, Contains}
+use Rattle.std.proofs.lemmas.Bool.{or_cases, and_parts}
+use Rattle.std.proofs.lemmas.Bool.Decides.{same_from_decides}
+use Rattle.std.proofs.lemmas.List.{take_all}
+use Rattle.std.proofs.lemmas.List.Folds.{list_any_more, list_any-append}
+use Rattle.std.proofs.lemmas.Option.{slice_get-get_or, slice_get_cases, get_or_from_slice_get}
+use Rattle.event_json.specs.Events.{Content}
+use Rattle.event_json.specs.declared.bodies.Body.{Body}
+use Rattle.event_json.specs.declared.bodies.Body.TheVariants.{Note, Ship, Make}
+use Rattle.trace_core.specs.declared.pairs.Pair.{Pair}
+use Rattle.trace_core.specs.Gathering.{is_in, shipped_by, made_by, joined_by, joins, related_by}
+use Rattle.trace_core.specs.PairTests.{lists, same_id, same_item, ships, takes_in, gives_out, is_related}
+use Rattle.trace_core.specs.Pairs.{make_id, HaveOneId, IsRelated}
+use Rattle.trace_core.specs.Places.{places_where, names_item, at_place, IsPartAt}
+use Rattle.trace_core.specs.Sites.{SiteEvents}
+use Rattle.trace_core.specs.Spreads.{items_of}
+use Rattle.trace_core.proofs.GatheringSteps.{is_related-by_events, related_exact}
+use Rattle.trace_core.proofs.Members.{list_any_witness, list_any_member}
+use Rattle.trace_core.proofs.PlaceLists.{place_there, place_passes, any_at_places}
+use Rattle.trace_core.proofs.Booleans.{list_any-same}
+use Rattle.trace_core.proofs.PairTestsDecide.{same_id_decides}
+
+-- what an event at a place relates the item to
+abbrev pub related_at : ℕ → List Content → List ℕ → Option Content → Pair → Bool
+related_at me events item o p = at_place (λ e. related_by me events item e.body p) o
+
+ships_named : (item : List ℕ) (site : ℕ) (b : Body) → ships item site b ≡ true → lists (items_of b) item ≡ true
+ships_named item site (Note items) h = absurd (false≢true h)
+ships_named item site (Ship items sites outside) h = (and_parts (lists items item) (list_any (λ s. s == site) sites) h).0
+ships_named item site (Make id ins outs) h = absurd (false≢true h)
+
+takes_named : (item : List ℕ) (b : Body) → takes_in item b ≡ true → lists (items_of b) item ≡ true
+takes_named item (Note items) h = absurd (false≢true h)
+takes_named item (Ship items sites outside) h = absurd (false≢true h)
+takes_named item (Make id ins outs) h = list_any-append (λ i. same_item i item) ins outs ∙ ap (λ b. b || lists outs item) h
+
+related_named : (me : ℕ) (events : List Content) (item : List ℕ) (b : Body) (p : Pair) → related_by me events item b p ≡ true → lists (items_of b) item ≡ true
+related_named me events item b p h = ⊎_elim
+    (λ ship. let shipped = (and_parts (not (p.site == me)) (ships item p.site b && same_item item p.item) ship).1 in
+    ships_named item p.site b (and_parts (ships item p.site b) (same_item item p.item) shipped).0)
+    (λ make. let made = (and_parts (p.site == me) (takes_in item b && (gives_out p.item b || joined_by events b p.item)) make).1 in
+    takes_named item b (and_parts (takes_in item b) (gives_out p.item b || joined_by events b p.item) made).0)
+    (or_cases (shipped_by me item b p) (made_by me events item b p) h)
+
+at_some : (me : ℕ) (events : List Content) (item : List ℕ) (o : Option Content) (p : Pair) → related_at me events item o p ≡ true → (e : Content) × (o ≡ Some e) × (related_by me events item e.body p ≡ true)
+at_some me events item None p h = absurd (false≢true h)
+at_some me events item (Some e) p h = (e, refl, h)
+
+absent : {X : Type 0} (o : Option X) (x : X) → o ≡ None → o ≡ Some x → ⊥
+absent o x none some = cc
+
+pub slice_there : (xs : List Content) (i : ℕ) (x : Content) → slice_get xs i ≡ Some x → (i < length xs) × (get_or xs i x ≡ x)
+slice_there xs i x h = ⊎_elim
+    (λ (y, below, is, at). (below, get_or_from_slice_get xs i x x h))
+    (λ (past, none). absurd (absent (slice_get xs i) x none h))
+    (slice_get_cases xs i).1
+
+-- the events that name the item relate it to what all events do
+pub related_by_places : (s : SiteEvents) (item : List ℕ) (p : Pair) → list_any (λ k. related_at s.me s.events item (slice_get s.events k) p) (places_where (names_item item) s.events) ≡ is_related s item p
+related_by_places s item p =
+    let places = places_where (names_item item) s.events in
+    let by_event = is_related-by_events s item p in
+    same_from_decides {P = is_related s item p ≡ true} _ _ (
+      λ h. let (k, in', at) = list_any_witness (λ k. related_at s.me s.events item (slice_get s.events k) p) places h in
+          let (e, is, related) = at_some s.me s.events item (slice_get s.events k) p at in
+          let (below, there) = slice_there s.events k e is in
+          by_event ∙ list_any_member (λ e. related_by s.me s.events item e.body p) s.events e (k, below, there) related,
+      λ h. let (e, (k, below, there), related) = list_any_witness (λ e. related_by s.me s.events item e.body p) s.events (sym by_event ∙ h) in
+          list_any_member (λ k. related_at s.me s.events item (slice_get s.events k) p) places k (place_there (names_item item) s.events k e below there (related_named s.me s.events item e.body p related))
+          (ap (λ o. related_at s.me s.events item o p) (slice_get-get_or s.events k e below ∙ ap Some there) ∙ related),
+    )
+    (λ h. h, λ h. h)
+
+-- at the end of the places
+pub related_at_places : (s : SiteEvents) (item : List ℕ) (set : BTreeSet Pair) (pairs : List Pair) (places : List ℕ) (n : ℕ) → pairs ≡ set.keys → length places ≤ n
+    → places ≡ places_where (names_item item) s.events
+    → ((p : Pair) → is_in set p ≡ list_any (λ k. related_at s.me s.events item (slice_get s.events k) p) (take n places)) → (p : Pair) → Contains pairs p ↔ IsRelated s item p
+related_at_places s item set pairs places n keys past are so_far = related_exact s item set pairs keys
+    (λ p. so_far p ∙ ap (list_any (λ k. related_at s.me s.events item (slice_get s.events k) p)) (take_all n places past ∙ are) ∙ related_by_places s item p)
+
+-- one more place
+pub one_more_place : (s : SiteEvents) (item : List ℕ) (cur new : BTreeSet Pair) (places : List ℕ) (n k : ℕ) → n < length places → k ≡ get_or places n k
+    → ((p : Pair) → is_in new p ≡ (is_in cur p || related_at s.me s.events item (slice_get s.events k) p))
+    → ((p : Pair) → is_in cur p ≡ list_any (λ k. related_at s.me s.events item (slice_get s.events k) p) (take n places))
+    → (p : Pair) → is_in new p ≡ list_any (λ k. related_at s.me s.events item (slice_get s.events k) p) (take (n + 1) places)
+one_more_place s item cur new places n k below at gathered so_far p =
+    let more : list_any (λ k. related_at s.me s.events item (slice_get s.events k) p) (take (n + 1) places) ≡ (list_any (λ k. related_at s.me s.events item (slice_get s.events k) p) (take n places) || related_at s.me s.events item (slice_get s.events k) p) =
+    list_any_more (λ k. related_at s.me s.events item (slice_get s.events k) p) places n k below ∙ ap (λ j. list_any (λ k. related_at s.me s.events item (slice_get s.events k) p) (take n places) || related_at s.me s.events item (slice_get s.events j) p) (sym at) in
+    gathered p ∙ ap (λ b. b || related_at s.me s.events item (slice_get s.events k) p) (so_far p) ∙ sym more
+
+same_id_either : (a b : Option (List ℕ)) → same_id a b ≡ same_id b a
+same_id_either a b = same_from_decides {P = HaveOneId a b} _ _ (same_id_decides a b)
+    (λ h. let (id, first, second) = (same_id_decides b a).0 h in (id, second, first), λ (id, first, second). (same_id_decides b a).1 (id, second, first))
+
+and_either : (a b : Bool) → (a && b) ≡ (b && a)
+and_either true true = refl
+and_either true false = refl
+and_either false true = refl
+and_either false false = refl
+
+-- the places of the parts of a body's transformation
+pub parts_found : (events : List Content) (body : Body) (places : List ℕ) (o : Option (List ℕ)) → places ≡ places_where (λ e. same_id (make_id e.body) o) events → o ≡ make_id body
+    → places ≡ places_where (λ e. same_id (make_id e.body) (make_id body)) events
+parts_found events body places o are is = are ∙ ap (λ (p : Option (List ℕ)). places_where (λ e. same_id (make_id e.body) p) events) is
+
+-- they give out what is joined to the body
+pub joined_at_places : (events : List Content) (body : Body) (j : List ℕ) (places : List ℕ) (n : ℕ) → length places ≤ n → places ≡ places_where (λ e. same_id (make_id e.body) (make_id body)) events
+    → list_any (λ k. at_place (λ e. gives_out j e.body) (slice_get events k)) (take n places) ≡ joined_by events body j
+joined_at_places events body j places n past are =
+    ap (list_any (λ k. at_place (λ e. gives_out j e.body) (slice_get events k))) (take_all n places past ∙ are)
+    ∙ any_at_places (λ e. same_id (make_id e.body) (make_id body)) (λ e. gives_out j e.body) events
+    ∙ list_any-same (λ e. same_id (make_id e.body) (make_id body) && gives_out j e.body) (λ e. same_id (make_id body) (make_id e.body) && gives_out j e.body)
+    (λ e. ap (λ b. b && gives_out j e.body) (same_id_either (make_id e.body) (make_id body))) events
+
+-- one of them takes the item in
+pub joins_at_places : (events : List Content) (item : List ℕ) (body : Body) (places : List ℕ) → places ≡ places_where (λ e. same_id (make_id e.body) (make_id body)) events
+    → list_any (λ k. at_place (λ e. takes_in item e.body) (slice_get events k)) places ≡ joins events item body
+joins_at_places events item body places are =
+    ap (list_any (λ k. at_place (λ e. takes_in item e.body) (slice_get events k))) are
+    ∙ any_at_places (λ e. same_id (make_id e.body) (make_id body)) (λ e. takes_in item e.body) events
+    ∙ list_any-same (λ e. same_id (make_id e.body) (make_id body) && takes_in item e.body) (λ e. takes_in item e.body && same_id (make_id e.body) (make_id body))
+    (λ e. and_either (same_id (make_id e.body) (make_id body)) (takes_in item e.body)) events
+
+-- the places of an id are those at which a part of its transformation stands
+pub parts_exact : (events : List Content) (id : List ℕ) (places : List ℕ) → places ≡ places_where (λ e. same_id (make_id e.body) (Some id)) events → (k : ℕ) → Contains places k ↔ IsPartAt events id k
+parts_exact events id places are k = (
+  λ h. let (e, below, at, same) = place_passes (λ e. same_id (make_id e.body) (Some id)) events k (subst (λ ps. Contains ps k) are h) in
+      let (own, first, second) = (same_id_decides (make_id e.body) (Some id)).0 same in
+      (e, slice_get-get_or events k e below ∙ ap Some at, first ∙ sym second),
+  λ (e, stands, is). let (below, at) = slice_there events k e stands in
+      subst (λ ps. Contains ps k) (sym are) (place_there (λ e. same_id (make_id e.body) (Some id)) events k e below at ((same_id_decides (make_id e.body) (Some id)).1 (id, is, refl))),
+)

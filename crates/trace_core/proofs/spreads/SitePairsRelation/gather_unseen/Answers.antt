@@ -1,0 +1,5 @@
+use Rattle.trace_core.proofs.HasTargets.{site_has_target}
+use Rattle.trace_core.proofs.spreads.SitePairsRelation.gather_unseen.Goals as goal
+
+pub returns-clause-bounded : goal.returns-clause-bounded
+returns-clause-bounded c q h = site_has_target c.args.self.now.site.now c.args.node.now.item q h.1
