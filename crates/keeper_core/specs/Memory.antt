@@ -11,6 +11,7 @@ use Rattle.keeper_core.specs.declared.faults.Keep.{Keep}
 use Rattle.keeper_core.specs.declared.faults.Keep.TheVariants.{Old, New}
 use Rattle.keeper_core.specs.declared.faults.KeepFault.{KeepFault}
 use Rattle.keeper_core.specs.declared.faults.KeepFault.TheVariants.{NoMemory, Refused, Device, Closed}
+use Rattle.keeper_core.specs.declared.faults.Unopened.{Unopened}
 use Rattle.keeper_core.specs.Keeping.{IsAfter, IsRefusedFor}
 
 pub record InMemory : Type 0 where
@@ -64,6 +65,10 @@ AppliesIn true (Some keep) old input answer new = FailsIn old input keep answer 
 abbrev pub StopsWhereOpen : Bool → InMemory → SiteInput → Keep → Bool → InMemory → Type 0
 StopsWhereOpen true old input keep done new = StopsIn old input keep done new
 StopsWhereOpen false old input keep done new = (done ≡ true) × (new ≡ old)
+
+-- an opening, of an open keeper too: it stays armed
+abbrev pub ReopensIn : InMemory → Result InMemory (Unopened InMemory) → Type 0
+ReopensIn old result = result ≡ Ok (record old { is_open = true })
 
 -- how it is stored
 abbrev keep_of : Bool → Keep

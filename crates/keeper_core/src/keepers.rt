@@ -1,6 +1,11 @@
-ghost use Rattle.std.specs.Prelude.{◌≡◌, ℕ, ◌≤◌, Option, Some, None, Ok, Err, IfOk, IfErr, MatchResult, is_ok, option_map};
+ghost use Rattle.std.specs.Prelude.{◌≡◌, ℕ, ◌≤◌, Bool, Option, Some, None, Result, Ok, Err, IfOk, IfErr, MatchResult, is_ok, option_map};
 ghost use Rattle.site_core.specs.Records.{Record};
 ghost use Rattle.site_core.specs.Steps.{CopiesRecord};
+ghost use Rattle.site_core.specs.declared.inputs.SiteInput.{SiteInput};
+ghost use Rattle.site_core.specs.declared.outcomes.Effects.{Effects};
+ghost use Rattle.keeper_core.specs.declared.faults.Keep.{Keep};
+ghost use Rattle.keeper_core.specs.declared.faults.KeepFault.{KeepFault};
+ghost use Rattle.keeper_core.specs.declared.faults.Unopened.{Unopened};
 ghost use Rattle.keeper_core.specs.Keeping.{Applies, Stops, StaysClosed, HindersOpening, Rises};
 
 use crate::faults::{Keep, KeepFault, Unopened};
@@ -18,6 +23,12 @@ pub trait SiteKeeper: Drop {
 
     /// How often the device has failed.
     ghost failed: { Self → ℕ };
+
+    /// What a step, a stop and an opening do to a keeper of this kind, for a caller that knows the kind. A kind
+    /// that promises no more than the clauses below promises nothing here.
+    ghost applies: { Self → SiteInput → Result Effects KeepFault → Self → Type 0 };
+    ghost stops: { Self → SiteInput → Keep → Bool → Self → Type 0 };
+    ghost reopens: { Self → Result Self (Unopened Self) → Type 0 };
 
     /// The record, or None while the keeper is closed.
     fn view(&self) -> Option<&SiteState>
@@ -39,7 +50,8 @@ pub trait SiteKeeper: Drop {
         ensures memory { (old : Record) → shown self.old ≡ Some old → result ≡ Err KeepFault.NoMemory → CopiesRecord old input }
         ensures closed { shown self.old ≡ None → (result ≡ Err KeepFault.Closed) × (self.new ≡ self.old) }
         ensures cause { result ≡ Err KeepFault.Device → Rises (failed self.old) (failed self.new) }
-        ensures count { failed self.old ≤ failed self.new };
+        ensures count { failed self.old ≤ failed self.new }
+        ensures kind { applies self.old input result self.new };
 
     /// A step of which nothing is told, since the site stops in it: the keeper is closed then. On a closed keeper
     /// it changes nothing.
@@ -49,7 +61,8 @@ pub trait SiteKeeper: Drop {
     fn stop(&mut self, input: SiteInput, keep: Keep) -> Result<(), AllocError>
         ensures open { (old : Record) → shown self.old ≡ Some old → Stops old input keep (is_ok result) (shown self.new) (may self.new) }
         ensures closed { shown self.old ≡ None → self.new ≡ self.old }
-        ensures count { failed self.old ≤ failed self.new };
+        ensures count { failed self.old ≤ failed self.new }
+        ensures kind { stops self.old input keep (is_ok result) self.new };
 
     /// Opens a closed keeper, in one of the records that the stop may have left. An open one is handed back as it
     /// is.
@@ -62,7 +75,8 @@ pub trait SiteKeeper: Drop {
         ensures opened { shown self ≡ None → IfOk result (λ keeper. (r : Record) × may self r × (shown keeper ≡ Some r)) }
         ensures unopened { IfErr result (λ u. HindersOpening u.fault × StaysClosed (may self) (shown u.keeper) (may u.keeper)) }
         ensures cause { IfErr result (λ u. u.fault ≡ KeepFault.Device → Rises (failed self) (failed u.keeper)) }
-        ensures count { MatchResult result (λ keeper. failed self ≤ failed keeper) (λ u. failed self ≤ failed u.keeper) };
+        ensures count { MatchResult result (λ keeper. failed self ≤ failed keeper) (λ u. failed self ≤ failed u.keeper) }
+        ensures kind { reopens self result };
 
     /// A closed keeper may be opened in some record: what is said of each such record isn't said of none.
     fn may_be_opened(&self)

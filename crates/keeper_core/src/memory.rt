@@ -2,7 +2,7 @@ ghost use Rattle.std.specs.Prelude.{◌≡◌, ◌≤◌, true, Some, None, Ok, 
 ghost use Rattle.site_core.specs.Records.{Record};
 ghost use Rattle.site_core.specs.Steps.{CopiesRecord};
 ghost use Rattle.keeper_core.specs.Keeping.{Applies, Stops, StaysClosed, HindersOpening, Rises};
-ghost use Rattle.keeper_core.specs.Memory.{shown_in, MayIn, StepsIn, StopsIn, FailsIn, AppliesIn, StopsWhereOpen, one_more};
+ghost use Rattle.keeper_core.specs.Memory.{shown_in, MayIn, StepsIn, StopsIn, FailsIn, AppliesIn, StopsWhereOpen, ReopensIn, one_more};
 
 use crate::faults::{Keep, KeepFault, Unopened};
 use crate::keepers::SiteKeeper;
@@ -106,6 +106,14 @@ impl SiteKeeper for MemoryKeeper {
 
     ghost failed = { λ k. k.failures };
 
+    // What a keeper in memory does is settled: nothing fails but an armed step, which leaves the record that it was
+    // armed with; a stop leaves the record that it is told to keep; and an opening is never hindered.
+    ghost applies = { λ k. AppliesIn k.is_open k.armed k };
+
+    ghost stops = { λ k. StopsWhereOpen k.is_open k };
+
+    ghost reopens = { ReopensIn };
+
     fn view(&self) -> Option<&SiteState> {
         if self.is_open {
             Some(&self.state)
@@ -124,8 +132,7 @@ impl SiteKeeper for MemoryKeeper {
         ensures closed { shown_in self.old ≡ None → (result ≡ Err KeepFault.Closed) × (self.new ≡ self.old) }
         ensures cause { result ≡ Err KeepFault.Device → Rises self.old.failures self.new.failures }
         ensures count { self.old.failures ≤ self.new.failures }
-        // What it does is settled: nothing fails but an armed step, and that one leaves the record it was armed with.
-        ensures exact { AppliesIn self.old.is_open self.old.armed self.old input result self.new }
+        ensures kind { AppliesIn self.old.is_open self.old.armed self.old input result self.new }
     {
         if !self.is_open {
             return Err(KeepFault::Closed);
@@ -140,8 +147,7 @@ impl SiteKeeper for MemoryKeeper {
         ensures open { (old : Record) → shown_in self.old ≡ Some old → Stops old input keep (is_ok result) (shown_in self.new) (MayIn self.new) }
         ensures closed { shown_in self.old ≡ None → self.new ≡ self.old }
         ensures count { self.old.failures ≤ self.new.failures }
-        // It isn't left to chance which record stands.
-        ensures exact { StopsWhereOpen self.old.is_open self.old input keep (is_ok result) self.new }
+        ensures kind { StopsWhereOpen self.old.is_open self.old input keep (is_ok result) self.new }
     {
         if !self.is_open {
             return Ok(());
@@ -155,8 +161,7 @@ impl SiteKeeper for MemoryKeeper {
         ensures unopened { IfErr result (λ u. HindersOpening u.fault × StaysClosed (MayIn self) (shown_in u.keeper) (MayIn u.keeper)) }
         ensures cause { IfErr result (λ u. u.fault ≡ KeepFault.Device → Rises self.failures u.keeper.failures) }
         ensures count { MatchResult result (λ keeper. self.failures ≤ keeper.failures) (λ u. self.failures ≤ u.keeper.failures) }
-        // It is never hindered, and stays armed.
-        ensures exact { result ≡ Ok (record self { is_open = true }) }
+        ensures kind { ReopensIn self result }
     {
         let mut keeper = self;
         keeper.is_open = true;
