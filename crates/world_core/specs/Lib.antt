@@ -1,7 +1,8 @@
 pub mod Answers
 pub mod Faults
-pub mod KeptSteps
 pub mod Keepers
+pub mod KeptSteps
+pub mod Kinds
 pub mod Laws
 pub mod Recalls
 pub mod Turns

@@ -4,6 +4,7 @@ ghost use Rattle.std.specs.Prelude.{◌≡◌, ◌<◌, None, IfOk, option_map, 
 ghost use Rattle.frame_core.specs.Rows.{frame_of};
 ghost use Rattle.world_core.specs.Turns.{Turns, TurnsAt, Sends, ReopensTo, addressee, frame_at, input_at};
 ghost use Rattle.world_core.specs.Keepers.{StandsAs, ComesFrom, MayBe, ChangesAt};
+ghost use Rattle.world_core.specs.Kinds.{KeeperReopens, KeeperTurns, KeepersTurn};
 ghost use Rattle.world_core.specs.Answers.{answer_of, hindrance};
 
 use crate::events::{Answer, WorldEvent, WorldInput};
@@ -21,8 +22,9 @@ pub fn step_at<K: SiteKeeper>(
     site: SiteNo,
     input: WorldInput,
 ) -> Answer
-    ensures { ComesFrom (StandsAs (K.shown keeper.old) (K.may keeper.old)) (StandsAs (K.shown keeper.new) (K.may keeper.new))
+    ensures world { ComesFrom (StandsAs (K.shown keeper.old) (K.may keeper.old)) (StandsAs (K.shown keeper.new) (K.may keeper.new))
         (λ old new. TurnsAt old sent.now (WorldEvent.Step site input) result new sent.now) }
+    ensures kind { KeeperTurns K.applies K.stops K.reopens (K.shown keeper.old) keeper.old sent.now (WorldEvent.Step site input) result keeper.new sent.now }
 {
     if keeper.view().is_none() {
         return Answer::Fault(KeepFault::Closed);
@@ -98,8 +100,9 @@ pub fn stop_at<K: SiteKeeper>(
     input: WorldInput,
     keep: Keep,
 ) -> Answer
-    ensures { ComesFrom (StandsAs (K.shown keeper.old) (K.may keeper.old)) (StandsAs (K.shown keeper.new) (K.may keeper.new))
+    ensures world { ComesFrom (StandsAs (K.shown keeper.old) (K.may keeper.old)) (StandsAs (K.shown keeper.new) (K.may keeper.new))
         (λ old new. TurnsAt old sent.now (WorldEvent.Stop site input keep) result new sent.now) }
+    ensures kind { KeeperTurns K.applies K.stops K.reopens (K.shown keeper.old) keeper.old sent.now (WorldEvent.Stop site input keep) result keeper.new sent.now }
 {
     if keeper.view().is_none() {
         return Answer::Fault(KeepFault::Closed);
@@ -125,8 +128,9 @@ pub fn send_from<K: SiteKeeper>(
     site: SiteNo,
     place: u64,
 ) -> Answer
-    ensures { ComesFrom (StandsAs (K.shown keeper.now) (K.may keeper.now)) (StandsAs (K.shown keeper.now) (K.may keeper.now))
+    ensures world { ComesFrom (StandsAs (K.shown keeper.now) (K.may keeper.now)) (StandsAs (K.shown keeper.now) (K.may keeper.now))
         (λ old new. TurnsAt old sent.old.items (WorldEvent.Send site place) result new sent.new.items) }
+    ensures kind { KeeperTurns K.applies K.stops K.reopens (K.shown keeper.now) keeper.now sent.old.items (WorldEvent.Send site place) result keeper.now sent.new.items }
 {
     match keeper.view() {
         None => Answer::Fault(KeepFault::Closed),
@@ -162,8 +166,9 @@ pub fn reopen_at<K: SiteKeeper>(
 ) -> Answer
     requires in_range { place < vec_len keepers.old }
     requires its_place { place ≡ site }
-    ensures { ChangesAt keepers.old.items site keepers.new.items (λ was now. ComesFrom (StandsAs (K.shown was) (K.may was)) (StandsAs (K.shown now) (K.may now))
+    ensures world { ChangesAt keepers.old.items site keepers.new.items (λ was now. ComesFrom (StandsAs (K.shown was) (K.may was)) (StandsAs (K.shown now) (K.may now))
         (λ old new. TurnsAt old sent.now (WorldEvent.Reopen site) result new sent.now)) }
+    ensures kind { ChangesAt keepers.old.items site keepers.new.items (λ was now. KeeperTurns K.applies K.stops K.reopens (K.shown was) was sent.now (WorldEvent.Reopen site) result now sent.now) }
 {
     if keepers[place].view().is_some() {
         return Answer::NotClosed;
@@ -177,8 +182,9 @@ pub fn reopen_at<K: SiteKeeper>(
 /// Opens a closed keeper.
 fn reopened<K: SiteKeeper>(keeper: K) -> (K, Answer)
     requires { K.shown keeper ≡ None }
-    ensures { ComesFrom (StandsAs (K.shown keeper) (K.may keeper)) (StandsAs (K.shown result.0) (K.may result.0))
+    ensures world { ComesFrom (StandsAs (K.shown keeper) (K.may keeper)) (StandsAs (K.shown result.0) (K.may result.0))
         (λ old new. ReopensTo old result.1 new) }
+    ensures kind { KeeperReopens K.reopens keeper result.1 result.0 }
 {
     match keeper.reopen() {
         Ok(keeper) => (keeper, Answer::Reopened),
@@ -203,8 +209,9 @@ pub fn take_turn<K: SiteKeeper>(
     sent: &mut Vec<Frame>,
     event: WorldEvent,
 ) -> Answer
-    ensures { ComesFrom (MayBe K.shown K.may (record { keepers = keepers.old.items; sent = sent.old.items })) (MayBe K.shown K.may (record { keepers = keepers.new.items; sent = sent.new.items }))
+    ensures world { ComesFrom (MayBe K.shown K.may (record { keepers = keepers.old.items; sent = sent.old.items })) (MayBe K.shown K.may (record { keepers = keepers.new.items; sent = sent.new.items }))
         (λ old new. Turns old event result new) }
+    ensures kind { KeepersTurn K.shown K.applies K.stops K.reopens (record { keepers = keepers.old.items; sent = sent.old.items }) event result (record { keepers = keepers.new.items; sent = sent.new.items }) }
 {
     let place = event.site().number() as usize;
     if place >= keepers.len() {
