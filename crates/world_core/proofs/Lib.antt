@@ -1,0 +1,5 @@
+pub mod KeptSteps
+pub mod Lifting
+pub mod OneSite
+pub mod Running
+pub mod Showing
