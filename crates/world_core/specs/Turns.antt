@@ -52,14 +52,14 @@ Steps old (Some input) (Done effects) new = (r : Record) × Does old input effec
 Steps old (Some input) (Fault (Refused why)) new = IsRefusedFor old input why × (new ≡ Up old)
 Steps old (Some input) (Fault Device) new = GoesDown old input new
 Steps old (Some input) (Fault Store) new = GoesDown old input new
-Steps old input NoMemory new = new ≡ Up old
+Steps old (Some input) NoMemory new = new ≡ Up old
 Steps old None NoFrame new = new ≡ Up old
 Steps old input answer new = ⊥
 
 abbrev pub Stops : Record → Option SiteInput → Keep → Answer → Standing → Type 0
 Stops old (Some input) Old Stopped new = new ≡ Down old
 Stops old (Some input) New Stopped new = GoesDown old input new
-Stops old input keep NoMemory new = new ≡ Up old
+Stops old (Some input) keep NoMemory new = new ≡ Up old
 Stops old None keep NoFrame new = new ≡ Up old
 Stops old input keep answer new = ⊥
 

@@ -1,7 +1,7 @@
 //! One event at the keeper of its site.
 
-ghost use Rattle.std.specs.Prelude.{◌≡◌, ◌<◌, None, IfOk, option_map, vec_len};
-ghost use Rattle.frame_core.specs.Rows.{frame_of};
+ghost use Rattle.std.specs.Prelude.{◌≡◌, ◌<◌, None, IfOk, IsSome, OnErr, option_map, vec_len};
+ghost use Rattle.site_core.specs.Emitting.{frame_at as emitted};
 ghost use Rattle.world_core.specs.Turns.{Turns, TurnsAt, Sends, ReopensTo, addressee, frame_at, input_at};
 ghost use Rattle.world_core.specs.Keepers.{StandsAs, ComesFrom, MayBe, ChangesAt};
 ghost use Rattle.world_core.specs.Kinds.{KeeperReopens, KeeperTurns, KeepersTurn};
@@ -9,9 +9,9 @@ ghost use Rattle.world_core.specs.Answers.{answer_of, hindrance};
 
 use crate::events::{Answer, WorldEvent, WorldInput};
 use event_json::SiteNo;
-use frame_core::{Frame, FrameView};
+use frame_core::Frame;
 use keeper_core::{Keep, KeepFault, SiteKeeper};
-use site_core::{Effects, SiteInput, emittable};
+use site_core::{Effects, SiteInput, SiteState, emittable};
 use std::alloc::{AllocError, Global};
 
 /// A step of a site.
@@ -43,7 +43,8 @@ fn input_for(
     site: SiteNo,
     input: WorldInput,
 ) -> Result<Option<SiteInput>, AllocError>
-    ensures { IfOk result (λ found. found ≡ input_at sent.now site input) }
+    ensures found { IfOk result (λ found. found ≡ input_at sent.now site input) }
+    ensures memory { OnErr result (IsSome (input_at sent.now site input)) }
 {
     match input {
         WorldInput::Capture(bytes) => Ok(Some(SiteInput::Capture(bytes))),
@@ -134,15 +135,15 @@ pub fn send_from<K: SiteKeeper>(
 {
     match keeper.view() {
         None => Answer::Fault(KeepFault::Closed),
-        Some(state) => send(alloc, emittable(state, place), sent),
+        Some(state) => send(alloc, state, place, sent),
     }
 }
 
-/// Adds a copy of a frame to those sent.
-fn send(alloc: Global, frame: Option<FrameView<'_>>, sent: &mut Vec<Frame>) -> Answer
-    ensures { Sends (option_map frame_of frame) sent.old.items result sent.new.items }
+/// Adds a copy of a frame that the record makes emittable to those sent.
+fn send(alloc: Global, state: &SiteState, place: u64, sent: &mut Vec<Frame>) -> Answer
+    ensures { Sends (emitted state.now.engagement place) sent.old.items result sent.new.items }
 {
-    match frame {
+    match emittable(state, place) {
         None => Answer::NoFrame,
         Some(frame) => match frame.to_frame(alloc) {
             Err(_) => Answer::NoMemory,
@@ -158,18 +159,13 @@ fn send(alloc: Global, frame: Option<FrameView<'_>>, sent: &mut Vec<Frame>) -> A
 }
 
 /// Opens the keeper of a site, where it is closed.
-pub fn reopen_at<K: SiteKeeper>(
-    keepers: &mut Vec<K>,
-    place: usize,
-    sent: &[Frame],
-    site: SiteNo,
-) -> Answer
-    requires in_range { place < vec_len keepers.old }
-    requires its_place { place ≡ site }
+pub fn reopen_at<K: SiteKeeper>(keepers: &mut Vec<K>, sent: &[Frame], site: SiteNo) -> Answer
+    requires { site < vec_len keepers.old }
     ensures world { ChangesAt keepers.old.items site keepers.new.items (λ was now. ComesFrom (StandsAs (K.shown was) (K.may was)) (StandsAs (K.shown now) (K.may now))
         (λ old new. TurnsAt old sent.now (WorldEvent.Reopen site) result new sent.now)) }
     ensures kind { ChangesAt keepers.old.items site keepers.new.items (λ was now. KeeperTurns K.applies K.stops K.reopens (K.shown was) was sent.now (WorldEvent.Reopen site) result now sent.now) }
 {
+    let place = site.number() as usize;
     if keepers[place].view().is_some() {
         return Answer::NotClosed;
     }
@@ -233,6 +229,6 @@ pub fn take_turn<K: SiteKeeper>(
             site,
             from,
         ),
-        WorldEvent::Reopen { site } => reopen_at(keepers, place, sent, site),
+        WorldEvent::Reopen { site } => reopen_at(keepers, sent, site),
     }
 }

@@ -3,6 +3,7 @@ ghost use Rattle.frame_core.specs.Rows.{frame_of};
 ghost use Rattle.site_core.specs.Records.{Record};
 ghost use Rattle.world_core.specs.Faults.{AreFresh, AreOneWorld, HindersKeepers, IfClosed};
 ghost use Rattle.world_core.specs.Keepers.{AllShow, ComesFrom, IsFirstClosed, MayBe};
+ghost use Rattle.world_core.specs.Kinds.{KeepersTurn};
 ghost use Rattle.world_core.specs.KeptSteps.{SitesStand};
 ghost use Rattle.world_core.specs.Recalls.{ended_in, quarantined};
 ghost use Rattle.world_core.specs.Turns.{Turns, Runs, frame_at};
@@ -62,7 +63,9 @@ impl<K: SiteKeeper> World<K> {
 
     /// One event, and what it is answered.
     pub fn turn(&mut self, event: WorldEvent) -> Answer
-        ensures { ComesFrom (MayBe K.shown K.may self.old) (MayBe K.shown K.may self.new) (λ old new. Turns old event result new) }
+        ensures world { ComesFrom (MayBe K.shown K.may self.old) (MayBe K.shown K.may self.new) (λ old new. Turns old event result new) }
+        // For a caller that knows what this kind of keeper promises.
+        ensures kind { KeepersTurn K.shown K.applies K.stops K.reopens self.old event result self.new }
     {
         take_turn(self.alloc, &mut self.keepers, &mut self.sent, event)
     }
