@@ -1,3 +1,6 @@
+pub mod InPlace
+pub mod Freshness
+pub mod Holding
 pub mod KeptSteps
 pub mod KeeperKinds
 pub mod Lifting

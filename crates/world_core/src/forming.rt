@@ -1,6 +1,6 @@
 //! Whether records are those of a world in which nothing happened yet.
 
-ghost use Rattle.std.specs.Prelude.{◌≡◌, ◌↔◌, IsTrue, IsFalse, None, OnOk, IfErr, IfSome, List, map};
+ghost use Rattle.std.specs.Prelude.{◌≡◌, ◌↔◌, ◌<◌, IsTrue, IsFalse, None, OnOk, IfErr, IfSome, List, length, map};
 ghost use Rattle.site_core.specs.Records.{Record, fresh};
 ghost use Rattle.world_core.specs.Faults.{AreOneWorld, AreFresh, Hinders, HindersKeepers, IsFirstOther, IsInPlace, SomeIsNotFresh};
 ghost use Rattle.world_core.specs.Keepers.{AllShow};
@@ -61,7 +61,8 @@ fn first_other(states: &[&SiteState]) -> Option<u64>
 
 /// Whether the record is of these sites, and has this number.
 fn is_in_place(state: &SiteState, sites: &Sites, place: u64) -> bool
-    ensures { IsTrue result ↔ IsInPlace sites.now place state.now }
+    ensures yes { IsTrue result ↔ IsInPlace sites.now place state.now }
+    ensures within { IsTrue result → place < length sites.now }
 {
     state.sites() == sites && state.me().number() == place
 }
@@ -83,12 +84,14 @@ fn are_fresh(states: &[&SiteState]) -> bool
 fn is_fresh(state: &SiteState) -> bool
     ensures { IsTrue result ↔ (state.now ≡ fresh state.now.sites state.now.engagement.me) }
 {
-    state.captured().len() == 0
-        && state.quarantine().by_recall().len() == 0
-        && state.outbox().len() == 0
-        && state.seen().len() == 0
-        && state.parents().len() == 0
-        && state.own_recalls().len() == 0
-        && state.next_message() == 1
-        && state.next_recall() == 1
+    // The own number tells the proof that the record is sound.
+    let _me = state.me();
+    (state.captured().len() == 0)
+        & (state.quarantine().by_recall().len() == 0)
+        & (state.outbox().len() == 0)
+        & (state.seen().len() == 0)
+        & (state.parents().len() == 0)
+        & (state.own_recalls().len() == 0)
+        & (state.next_message() == 1)
+        & (state.next_recall() == 1)
 }
