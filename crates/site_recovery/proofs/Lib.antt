@@ -1,0 +1,17 @@
+pub mod Changes
+pub mod Chains
+pub mod Parents
+pub mod Growing
+pub mod Spreading
+pub mod Taking
+pub mod Clearing
+pub mod Opening
+pub mod EndedStays
+pub mod OneSite
+pub mod Lifting
+pub mod Emitted
+pub mod OneStep
+pub mod Places
+pub mod Exact
+pub mod EmptySites
+pub mod Worlds

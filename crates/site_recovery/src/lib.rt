@@ -1,0 +1,4 @@
+//! When the records of all sites fit together, and that each event keeps them so.
+#![tactic(auto)]
+
+pub mod laws;
