@@ -15,3 +15,4 @@ pub mod Places
 pub mod Exact
 pub mod EmptySites
 pub mod Worlds
+pub mod Joined
