@@ -12,6 +12,7 @@ pub mod Lifting
 pub mod Emitted
 pub mod OneStep
 pub mod Places
+pub mod OneAfterAnother
 pub mod Exact
 pub mod EmptySites
 pub mod Worlds

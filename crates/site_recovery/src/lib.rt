@@ -1,4 +1,5 @@
 //! When the records of all sites fit together, and that each event keeps them so.
 #![tactic(auto)]
 
+mod every;
 pub mod laws;
