@@ -1,3 +1,4 @@
+pub mod Checking
 pub mod Fit
 pub mod FittingAt
 pub mod Laws

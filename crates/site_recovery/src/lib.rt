@@ -3,3 +3,4 @@
 
 mod every;
 pub mod laws;
+mod looks;
