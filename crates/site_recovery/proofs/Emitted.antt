@@ -24,26 +24,7 @@ use Rattle.trace_core.proofs.SetMembers.{contains-from_map}
 use Rattle.site_core.specs.Emitting.{emittable, message_frame, message_frames, signal_frame, signal_frames, is_parent}
 use Rattle.site_recovery.specs.Fit.{FrameFits}
 use Rattle.site_recovery.specs.Looks.{World, parent}
-
--- an entry of a map is found by its key
-module _ {K X : Type 0} {R : K → K → Ordering} (o : IsTotalOrder R) where
-  found_among : (es : List (K × X)) → T (is_sorted R es) → (k : K) (v : X) → Contains es (k, v) → find R k es ≡ Some v
-  found_among [] up k v at = absurd (contains_none (k, v) at)
-  found_among (e ∷ es) up k v at = elim (contains_cases e (k, v) es at) as (λ _. find R k (e ∷ es) ≡ Some v) [
-    | inl is ↦
-        let tie : R k e.0 ≡ Equal = subst (λ (z : K × X). R k z.0 ≡ Equal) (sym is) (tied_itself o k) in
-        ap (λ r. cond (is_eq r) (Some e.1) (find R k es)) tie ∙ ap (λ (z : K × X). Some z.1) is
-    | inr later ↦
-        let further = found_among es (second (below_all R e.0 es) (is_sorted R es) up) k v later in
-        elim (R k e.0) as (λ r. R k e.0 ≡ r → find R k (e ∷ es) ≡ Some v) [
-          | Less ↦ λ apart. ap (λ r. cond (is_eq r) (Some e.1) (find R k es)) apart ∙ further
-          | Equal ↦ λ tie. let twice : None ≡ Some v = sym (find_above o e.0 k es tie (first (below_all R e.0 es) (is_sorted R es) up)) ∙ further in cc
-          | Greater ↦ λ apart. ap (λ r. cond (is_eq r) (Some e.1) (find R k es)) apart ∙ further
-        ] refl
-  ]
-
-  entry_found : (m : FinMap R X) (k : K) (v : X) → Contains (entries m) (k, v) → get m k ≡ Some v
-  entry_found m k v at = get-entries m k ∙ found_among (entries m) (entries_sorted m) k v at
+use Rattle.site_recovery.proofs.Entries.{entry_found}
 
 -- what a filter leaves passes
 passing : {X : Type 0} (p : X → Bool) (xs : List X) (y : X) → Contains (filter p xs) y → Contains xs y × (p y ≡ true)
