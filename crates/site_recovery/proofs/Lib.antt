@@ -4,6 +4,7 @@ pub mod Chains
 pub mod Parents
 pub mod Growing
 pub mod SameRows
+pub mod SitesInTurn
 pub mod Spreading
 pub mod Taking
 pub mod Clearing

@@ -6,7 +6,7 @@ use Rattle.std.specs.List.{Contains}
 use Rattle.std.proofs.lemmas.List.{get_or_default}
 use Rattle.trace_core.proofs.Members.{contains_here, contains_there, contains_cases, contains_none}
 
-lower_or_last : (k n : ℕ) → k < n + 1 → (k < n) ⊎ (k ≡ n)
+pub lower_or_last : (k n : ℕ) → k < n + 1 → (k < n) ⊎ (k ≡ n)
 lower_or_last k n low = elim (ltb k n) as (λ t. ltb k n ≡ t → (k < n) ⊎ (k ≡ n)) [
   | true ↦ λ e. inl (grind arith)
   | false ↦ λ e. inr (grind (arith, low))

@@ -6,4 +6,5 @@ mod every;
 mod homeward;
 pub mod laws;
 mod looks;
+mod numbers;
 mod waiting;
