@@ -7,4 +7,5 @@ mod homeward;
 pub mod laws;
 mod looks;
 mod numbers;
+mod pairs;
 mod waiting;
