@@ -1,4 +1,5 @@
 pub mod InPlace
+pub mod Fitting
 pub mod Freshness
 pub mod Holding
 pub mod KeptSteps
