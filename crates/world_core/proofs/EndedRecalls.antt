@@ -12,9 +12,13 @@ use Rattle.trace_core.specs.Chains.{Related}
 use Rattle.trace_core.specs.Relations.{Reaches}
 use Rattle.trace_core.specs.declared.pairs.Pair.{Pair}
 use Rattle.trace_core.proofs.PairOrder.{one_ascending}
-use Rattle.world_core.specs.Laws.{EndsAreExact, EndedStays, QuarantinesAscend, RunsComeOut, RunsFromTheStartComeOut}
+use Rattle.world_core.specs.Laws.{ComesOut, EndsAreExact, EndedStays, QuarantinesAscend, RunsComeOut, RunsFromTheStartComeOut}
 use Rattle.world_core.specs.Recalls.{HasEnded, quarantined}
-use Rattle.world_core.specs.Worlds.{WorldFits, record_of, records}
+use Rattle.world_core.specs.Turns.{Runs}
+use Rattle.world_core.specs.Keepers.{ComesFrom}
+use Rattle.world_core.specs.declared.events.Answer.{Answer}
+use Rattle.world_core.specs.declared.events.WorldEvent.{WorldEvent}
+use Rattle.world_core.specs.Worlds.{WorldFits, WorldState, record_of, records}
 use Rattle.world_core.proofs.Fitting.{run_keeps, runs_keep_the_fit}
 use Rattle.world_core.proofs.FreshSites.{fresh_sites_fit}
 use Rattle.world_core.proofs.HeldPairs.{pairs_ascend, pairs_held}
@@ -72,3 +76,8 @@ runs_come_out old new events answers fits run =
 
 pub runs_from_the_start_come_out : RunsFromTheStartComeOut
 runs_from_the_start_come_out old new events answers one fresh none run = runs_come_out old new events answers (fresh_sites_fit old one fresh none) run
+
+-- whatever world comes by a run from one of those that fit comes out so
+pub comes_out : (was now : WorldState → Type 0) (events : List WorldEvent) (answers : List Answer)
+    → ((old : WorldState) → was old → WorldFits old) → ComesFrom was now (λ old new. Runs old events answers new) → ComesFrom was now (λ old new. ComesOut old events answers new)
+comes_out was now events answers fit runs new may = let r = runs new may in (r.0, r.1, runs_come_out r.0 new events answers (fit r.0 r.1) r.2)

@@ -5,7 +5,7 @@ ghost use Rattle.world_core.specs.Faults.{AreFresh, AreOneWorld, HindersKeepers,
 ghost use Rattle.trace_core.specs.Pairs.{IsStrictlyAscending};
 ghost use Rattle.world_core.specs.Keepers.{AllShow, ComesFrom, IsFirstClosed, MayBe, SitesFit};
 ghost use Rattle.world_core.specs.Kinds.{KeepersTurn};
-ghost use Rattle.world_core.specs.KeptSteps.{SitesStand};
+ghost use Rattle.world_core.specs.Laws.{ComesOut};
 ghost use Rattle.world_core.specs.Recalls.{AreExactOnceEnded, ended_in, quarantined};
 ghost use Rattle.world_core.specs.Turns.{Turns, Runs, frame_at};
 ghost use Rattle.world_core.specs.Worlds.{WorldState};
@@ -75,13 +75,14 @@ impl<K: SiteKeeper> World<K> {
     }
 
     /// A list of events, one after another, and the answer to each. Each site stands then as its answered steps in
-    /// order, with each step that it stopped in whole or absent.
+    /// order, with each step that it went down in whole or absent; and whenever the site that began a recall has recorded
+    /// its end, what is quarantined under it, at all sites, is what its root reaches, and stays so.
     ///
     /// # Errors
     /// Where there is no room for all answers: before the first event, and nothing changes.
     pub fn run(&mut self, events: Vec<WorldEvent>) -> Result<Vec<Answer>, AllocError>
         ensures run { IfOk result (λ answers. ComesFrom (MayBe K.shown K.may self.old) (MayBe K.shown K.may self.new) (λ old new. Runs old events.items answers.items new)) }
-        ensures kept { IfOk result (λ answers. ComesFrom (MayBe K.shown K.may self.old) (MayBe K.shown K.may self.new) (λ old new. SitesStand old events.items answers.items new)) }
+        ensures out { IfOk result (λ answers. ComesFrom (MayBe K.shown K.may self.old) (MayBe K.shown K.may self.new) (λ old new. ComesOut old events.items answers.items new)) }
         ensures err { OnErr result (self.new ≡ self.old) }
     {
         let mut answers = Vec::with_capacity(self.alloc, events.len())?;
