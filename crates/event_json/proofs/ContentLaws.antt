@@ -7,9 +7,10 @@ use Rattle.std.specs.Cmp.Lexicographic.{pointwise}
 use Rattle.std.proofs.lemmas.Bool.Decides.{Decides-and, Decides-eqb, Decides-int_eq, Decides-like}
 use Rattle.std.proofs.lemmas.Slice.Eq.{bytes_eq-Decides, slice_eq-Decides}
 use Rattle.event_json.specs.Events.{Content}
+use Rattle.event_json.specs.Sites.{Site}
 use Rattle.event_json.specs.declared.bodies.Body.{Body}
 use Rattle.event_json.specs.declared.bodies.Body.TheVariants.{Note, Ship, Make}
-use Rattle.event_json.specs.Contents.{same_text, same_texts, same_body, same_content}
+use Rattle.event_json.specs.Contents.{same_text, same_texts, same_body, same_content, same_site}
 
 texts_decides : (xs ys : List (List ℕ)) → Decides (same_texts xs ys) (xs ≡ ys)
 texts_decides xs ys = slice_eq-Decides (λ a b. bytes_eq-Decides a b) xs ys _ refl
@@ -45,3 +46,13 @@ pub content_decides : (e f : Content) → Decides (same_content e f) (e ≡ f)
 unfolding same_content
 content_decides e f = Decides-like _ (same_parts e f) (λ h. (ap (λ c. c.id) h, (ap (λ c. c.instant) h, ap (λ c. c.body) h)))
     (Decides-and _ _ (option_decides e.id f.id) (Decides-and _ _ (Decides-int_eq e.instant f.instant) (body_decides e.body f.body)))
+
+same_fields : (s t : Site) → (s.name ≡ t.name) × (s.addresses ≡ t.addresses) → s ≡ t
+same_fields s t h = ap (λ (n : List ℕ). record s { name = n }) h.0 ∙ ap (λ (a : List (List ℕ)). record t { addresses = a }) h.1
+
+site_decides : (s t : Site) → Decides (same_site s t) (s ≡ t)
+unfolding same_site
+site_decides s t = Decides-like _ (same_fields s t) (λ h. (ap (λ c. c.name) h, ap (λ c. c.addresses) h)) (Decides-and _ _ (bytes_eq-Decides s.name t.name) (texts_decides s.addresses t.addresses))
+
+pub lists_decide : (s t : List Site) → Decides (pointwise same_site s t) (s ≡ t)
+lists_decide s t = slice_eq-Decides site_decides s t _ refl

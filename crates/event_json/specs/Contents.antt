@@ -1,10 +1,12 @@
--- Whether two events have the same content: the same eventID, instant and body, lists in order.
+-- Whether two events have the same content: the same eventID, instant and body, lists in order; and whether two sites
+-- have the same name and addresses.
 use Rattle.std.specs.Prelude.{ℕ, Bool, List, [], Option, None, nat_eq}
 use Rattle.std.specs.Option.{option_eq}
 use Rattle.std.specs.Ordering.{int_eq, on, eq_of_both}
 use Rattle.std.specs.Cmp.{IsEquivalence, and_equiv, on_equiv, nat_eq_equiv, int_eq_equiv}
 use Rattle.std.specs.Cmp.Lexicographic.{pointwise, lists_equiv, options_equiv, nat_list_eq_equiv}
 use Rattle.event_json.specs.Events.{Content}
+use Rattle.event_json.specs.Sites.{Site}
 use Rattle.event_json.specs.declared.bodies.Body.{Body}
 use Rattle.event_json.specs.declared.bodies.Body.TheVariants.{Note, Ship, Make}
 
@@ -47,7 +49,10 @@ same_body = eq_of_both (on kind_of nat_eq) (eq_of_both (on id_of (option_eq same
 unfoldable pub same_content : Content → Content → Bool
 same_content = eq_of_both (on (λ e. e.id) (option_eq same_text)) (eq_of_both (on (λ e. e.instant) int_eq) (on (λ e. e.body) same_body))
 
--- both are equivalences, as `==` has to be
+unfoldable pub same_site : Site → Site → Bool
+same_site = eq_of_both (on (λ s. s.name) same_text) (on (λ s. s.addresses) same_texts)
+
+-- all are equivalences, as `==` has to be
 pub body_equiv : IsEquivalence same_body
 unfolding same_body
 body_equiv =
@@ -60,3 +65,7 @@ unfolding same_content
 content_equiv =
     and_equiv (on_equiv (λ e. e.id) (options_equiv nat_list_eq_equiv))
     (and_equiv (on_equiv (λ e. e.instant) int_eq_equiv) (on_equiv (λ e. e.body) body_equiv))
+
+pub site_equiv : IsEquivalence same_site
+unfolding same_site
+site_equiv = and_equiv (on_equiv (λ s. s.name) nat_list_eq_equiv) (on_equiv (λ s. s.addresses) (lists_equiv nat_list_eq_equiv))

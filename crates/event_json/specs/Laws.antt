@@ -1,5 +1,6 @@
 -- Laws of a document's reading: what any right definition of it meets, and together only this one.
 use Rattle.std.specs.Prelude.{All, ◌≡◌, ◌↔◌, ℕ, zero, suc, ◌+◌, ◌<◌, ◌≤◌, ◌⊎◌, IsTrue, IsOk, List, [], ◌∷◌, length, slice_get, filter, filter_map, is_none, Option, Some, None, Ok, Err}
+use Rattle.std.specs.Cmp.Lexicographic.{pointwise}
 use Rattle.serde_json.specs.Data.{Data, Items, no_items, item}
 use Rattle.event_json.specs.declared.bodies.Body.{Body}
 use Rattle.event_json.specs.declared.bodies.Body.TheVariants.{Note, Ship}
@@ -8,7 +9,7 @@ use Rattle.event_json.specs.declared.doc_faults.DocFaultKind.TheVariants as kind
 use Rattle.event_json.specs.declared.doc_faults.Flaw.{Flaw}
 use Rattle.event_json.specs.declared.doc_faults.DocFault.{DocFault}
 use Rattle.event_json.specs.declared.documents.Doc.{Doc}
-use Rattle.event_json.specs.Contents.{same_body, same_content}
+use Rattle.event_json.specs.Contents.{same_body, same_content, same_site}
 use Rattle.event_json.specs.Documents.{whole, event_list, events_of, document_of, text_document}
 use Rattle.event_json.specs.EventReading.{event_of, shipment}
 use Rattle.event_json.specs.Events.{Content}
@@ -87,4 +88,4 @@ DocumentsShipToSites =
 
 -- the tests of `==` find what is equal
 abbrev pub EqualIsSame : Type 0
-EqualIsSame = ((b c : Body) → IsTrue (same_body b c) ↔ (b ≡ c)) × ((e f : Content) → IsTrue (same_content e f) ↔ (e ≡ f))
+EqualIsSame = ((b c : Body) → IsTrue (same_body b c) ↔ (b ≡ c)) × ((e f : Content) → IsTrue (same_content e f) ↔ (e ≡ f)) × ((s t : List Site) → IsTrue (pointwise same_site s t) ↔ (s ≡ t))

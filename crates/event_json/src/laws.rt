@@ -31,7 +31,7 @@ pub fn documents_ship_to_sites()
     ensures { DocumentsShipToSites }
 {}
 
-/// Bodies and events that are compared as equal are the same, and only those.
+/// Bodies, events and lists of sites that are compared as equal are the same, and only those.
 pub fn equal_is_same()
     ensures { EqualIsSame }
 {}

@@ -25,6 +25,20 @@ impl Model for Entry {
     ghost view = { λ e. record { name = string_bytes e.name; addresses = e.addresses.items } };
 }
 
+impl PartialEq for Entry {
+    ghost use Rattle.std.specs.Cmp as Cmp;
+    ghost use Rattle.event_json.specs.Contents.{same_site, site_equiv};
+
+    ghost eq = { same_site };
+
+    ghost laws = { Cmp.partial_equiv_from_equiv site_equiv };
+
+    #[tactic(auto, unfolding(crate::specs::Contents::same_site))]
+    fn eq(&self, other: &Entry) -> bool {
+        self.name == other.name && self.addresses == other.addresses
+    }
+}
+
 impl Entry {
     pub(crate) fn new(name: String, addresses: Vec<PlainText>) -> Entry
         ensures { result ≡ record { name = string_bytes name; addresses = addresses.items } }

@@ -101,6 +101,28 @@ impl Model for Sites {
     ghost invariant = { λ s. AreSites s.sites.items };
 }
 
+/// Two lists are equal where they have the same sites in the same order, each with the same addresses in order.
+impl PartialEq for Sites {
+    ghost use Rattle.std.specs.Cmp as Cmp;
+    ghost use Rattle.std.specs.Cmp.Lexicographic.{pointwise, lists_equiv};
+    ghost use Rattle.event_json.specs.Contents.{same_site, site_equiv};
+
+    ghost eq = { pointwise same_site };
+
+    ghost laws = { Cmp.partial_equiv_from_equiv (lists_equiv site_equiv) };
+
+    fn eq(&self, other: &Sites) -> bool {
+        self.sites.as_slice() == other.sites.as_slice()
+    }
+}
+
+impl Eq for Sites {
+    ghost use Rattle.std.specs.Cmp.Lexicographic.{lists_equiv};
+    ghost use Rattle.event_json.specs.Contents.{site_equiv};
+
+    ghost laws = { lists_equiv site_equiv };
+}
+
 impl Sites {
     /// No sites. Takes no memory; what is added comes from the allocator.
     pub fn new(alloc: Global) -> Sites

@@ -1,0 +1,84 @@
+ghost use Rattle.std.specs.Prelude.{◌≡◌, ℕ, ◌≤◌, Bool, Option, Some, None, Result, Ok, Err, IfOk, IfErr, MatchResult, is_ok, option_map};
+ghost use Rattle.site_core.specs.Records.{Record};
+ghost use Rattle.site_core.specs.Steps.{CopiesRecord};
+ghost use Rattle.site_core.specs.declared.inputs.SiteInput.{SiteInput};
+ghost use Rattle.site_core.specs.declared.outcomes.Effects.{Effects};
+ghost use Rattle.keeper_core.specs.declared.faults.Keep.{Keep};
+ghost use Rattle.keeper_core.specs.declared.faults.KeepFault.{KeepFault};
+ghost use Rattle.keeper_core.specs.declared.faults.Unopened.{Unopened};
+ghost use Rattle.keeper_core.specs.Keeping.{Applies, Stops, StaysClosed, HindersOpening, Rises};
+
+use crate::faults::{Keep, KeepFault, Unopened};
+use site_core::{Effects, SiteInput, SiteState};
+use std::alloc::AllocError;
+
+/// What keeps the record of one site. It is open and shows the record, or closed, by a stop or by a failure,
+/// until it is opened again. A step that was answered stands after every stop and every opening.
+pub trait SiteKeeper: Drop {
+    /// The record that it shows. None while it is closed.
+    ghost shown: { Self → Option Record };
+
+    /// The records in which it may be opened while it is closed.
+    ghost may: { Self → Record → Type 0 };
+
+    /// How often the device has failed.
+    ghost failed: { Self → ℕ };
+
+    /// What a step, a stop and an opening do to a keeper of this kind, for a caller that knows the kind. A kind
+    /// that promises no more than the clauses below promises nothing here.
+    ghost applies: { Self → SiteInput → Result Effects KeepFault → Self → Type 0 };
+    ghost stops: { Self → SiteInput → Keep → Bool → Self → Type 0 };
+    ghost reopens: { Self → Result Self (Unopened Self) → Type 0 };
+
+    /// The record, or None while the keeper is closed.
+    fn view(&self) -> Option<&SiteState>
+        ensures { option_map (λ state. state.now) result ≡ shown self.now };
+
+    /// How often the device has failed, at most 2^64 - 1 times: there the count stays.
+    fn failures(&self) -> u64
+        ensures { result ≡ failed self.now };
+
+    /// A step of the site. Once its effects are answered, the record after it is kept.
+    ///
+    /// # Errors
+    /// `Closed` exactly while the keeper is closed, and nothing changes. `Refused` where the step refuses the
+    /// input, and `NoMemory`, but for no input that a look at the record answers: the keeper stays open with the
+    /// record that it had. After `Device`, which comes only where [`SiteKeeper::failures`] rose, and after `Store`
+    /// it is closed, to be opened in the record before the input or in the one after it.
+    fn apply(&mut self, input: SiteInput) -> Result<Effects, KeepFault>
+        ensures open { (old : Record) → shown self.old ≡ Some old → Applies old input result (shown self.new) (may self.new) }
+        ensures memory { (old : Record) → shown self.old ≡ Some old → result ≡ Err KeepFault.NoMemory → CopiesRecord old input }
+        ensures closed { shown self.old ≡ None → (result ≡ Err KeepFault.Closed) × (self.new ≡ self.old) }
+        ensures cause { result ≡ Err KeepFault.Device → Rises (failed self.old) (failed self.new) }
+        ensures count { failed self.old ≤ failed self.new }
+        ensures kind { applies self.old input result self.new };
+
+    /// A step of which nothing is told, since the site stops in it: the keeper is closed then. On a closed keeper
+    /// it changes nothing.
+    ///
+    /// # Errors
+    /// Where memory runs out, and an open keeper stays open with the record that it had.
+    fn stop(&mut self, input: SiteInput, keep: Keep) -> Result<(), AllocError>
+        ensures open { (old : Record) → shown self.old ≡ Some old → Stops old input keep (is_ok result) (shown self.new) (may self.new) }
+        ensures closed { shown self.old ≡ None → self.new ≡ self.old }
+        ensures count { failed self.old ≤ failed self.new }
+        ensures kind { stops self.old input keep (is_ok result) self.new };
+
+    /// Opens a closed keeper, in one of the records that the stop may have left. An open one is handed back as it
+    /// is.
+    ///
+    /// # Errors
+    /// The keeper, still closed, with no other records than before, and why: `NoMemory`, `Store`, or `Device`, which
+    /// comes only where [`SiteKeeper::failures`] rose.
+    fn reopen(self) -> Result<Self, Unopened<Self>>
+        ensures open { (r : Record) → shown self ≡ Some r → result ≡ Ok self }
+        ensures opened { shown self ≡ None → IfOk result (λ keeper. (r : Record) × may self r × (shown keeper ≡ Some r)) }
+        ensures unopened { IfErr result (λ u. HindersOpening u.fault × StaysClosed (may self) (shown u.keeper) (may u.keeper)) }
+        ensures cause { IfErr result (λ u. u.fault ≡ KeepFault.Device → Rises (failed self) (failed u.keeper)) }
+        ensures count { MatchResult result (λ keeper. failed self ≤ failed keeper) (λ u. failed self ≤ failed u.keeper) }
+        ensures kind { reopens self result };
+
+    /// A closed keeper may be opened in some record: what is said of each such record isn't said of none.
+    fn may_be_opened(&self)
+        ensures { shown self.now ≡ None → (r : Record) × may self.now r };
+}

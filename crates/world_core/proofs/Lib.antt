@@ -1,0 +1,9 @@
+pub mod InPlace
+pub mod Freshness
+pub mod Holding
+pub mod KeptSteps
+pub mod KeeperKinds
+pub mod Lifting
+pub mod OneSite
+pub mod Running
+pub mod Showing

@@ -1,0 +1,57 @@
+-- What the places of faults say.
+use Rattle.std.specs.Prelude.{◌≡◌, ◌≢◌, ⊤, ℕ, ◌<◌, ◌⊎◌, List, length, slice_get, Option, Some}
+use Rattle.event_json.specs.Sites.{Site}
+use Rattle.site_core.specs.Records.{Record, fresh}
+use Rattle.world_core.specs.Keepers.{AllShow, IsFirstClosed}
+use Rattle.world_core.specs.declared.faults.ViewFault.{ViewFault}
+use Rattle.world_core.specs.declared.faults.ViewFault.TheVariants.{NoMemory, Closed}
+use Rattle.world_core.specs.declared.faults.WorldFault.{WorldFault}
+use Rattle.world_core.specs.declared.faults.WorldFault.TheVariants as worlds
+
+-- where the fault is a closed site, it is one with this
+abbrev pub IfClosed : ViewFault → (ℕ → Type 0) → Type 0
+IfClosed NoMemory P = ⊤
+IfClosed (Closed site) P = P site
+
+-- the record is of these sites, and in its place
+abbrev pub IsInPlace : List Site → ℕ → Record → Type 0
+IsInPlace sites place r = (r.sites ≡ sites) × (r.engagement.me ≡ place)
+
+-- the records are of all these sites, in the order of their numbers
+pub record AreAllOf (sites : List Site) (records : List Record) : Type 0 where
+  pub number : length records ≡ length sites
+  pub each : (place : ℕ) (r : Record) → slice_get records place ≡ Some r → IsInPlace sites place r
+
+-- they are of all sites that the first one lists
+abbrev pub AreOneWorld : List Record → Type 0
+AreOneWorld records = (first : Record) × (slice_get records 0 ≡ Some first) × AreAllOf first.sites records
+
+-- in this place stands a record of the sites that the first one lists
+abbrev pub StandsRight : List Record → ℕ → Type 0
+StandsRight records place = (first : Record) × (r : Record) × (slice_get records 0 ≡ Some first) × (slice_get records place ≡ Some r) × IsInPlace first.sites place r
+
+-- the least place that holds another record, or none though the sites go on; 0 where there are no records
+pub record IsFirstOther (records : List Record) (place : ℕ) : Type 0 where
+  pub before : (p : ℕ) → p < place → StandsRight records p
+  pub here : StandsRight records place → ⊥
+  pub meant : (first : Record) → slice_get records 0 ≡ Some first → (place < length records) ⊎ (place < length first.sites)
+
+-- nothing happened yet at the sites
+abbrev pub AreFresh : List Record → Type 0
+AreFresh records = (place : ℕ) (r : Record) → slice_get records place ≡ Some r → r ≡ fresh r.sites r.engagement.me
+
+-- something happened at a site
+abbrev pub SomeIsNotFresh : List Record → Type 0
+SomeIsNotFresh records = (place : ℕ) × (r : Record) × (slice_get records place ≡ Some r) × (r ≢ fresh r.sites r.engagement.me)
+
+-- why records that are all shown make no world
+abbrev pub Hinders : WorldFault → List Record → Type 0
+Hinders (worlds.OtherSites place) records = IsFirstOther records place
+Hinders worlds.Misfit records = AreOneWorld records × SomeIsNotFresh records
+Hinders other records = ⊥
+
+-- why keepers make no world: one is closed, which is told first, or all show their records
+abbrev pub HindersKeepers : {K : Type 0} → (K → Option Record) → List K → WorldFault → Type 0
+HindersKeepers shown keepers worlds.NoMemory = ⊤
+HindersKeepers shown keepers (worlds.Closed place) = IsFirstClosed shown keepers place
+HindersKeepers shown keepers fault = (records : List Record) × AllShow shown keepers records × Hinders fault records

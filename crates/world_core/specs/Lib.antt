@@ -1,0 +1,9 @@
+pub mod Answers
+pub mod Faults
+pub mod Keepers
+pub mod KeptSteps
+pub mod Kinds
+pub mod Laws
+pub mod Recalls
+pub mod Turns
+pub mod Worlds

@@ -1,0 +1,234 @@
+//! One event at the keeper of its site.
+
+ghost use Rattle.std.specs.Prelude.{◌≡◌, ◌<◌, None, IfOk, IsSome, OnErr, option_map, vec_len};
+ghost use Rattle.site_core.specs.Emitting.{frame_at as emitted};
+ghost use Rattle.world_core.specs.Turns.{Turns, TurnsAt, Sends, ReopensTo, addressee, frame_at, input_at};
+ghost use Rattle.world_core.specs.Keepers.{StandsAs, ComesFrom, MayBe, ChangesAt};
+ghost use Rattle.world_core.specs.Kinds.{KeeperReopens, KeeperTurns, KeepersTurn};
+ghost use Rattle.world_core.specs.Answers.{answer_of, hindrance};
+
+use crate::events::{Answer, WorldEvent, WorldInput};
+use event_json::SiteNo;
+use frame_core::Frame;
+use keeper_core::{Keep, KeepFault, SiteKeeper};
+use site_core::{Effects, SiteInput, SiteState, emittable};
+use std::alloc::{AllocError, Global};
+
+/// A step of a site.
+pub fn step_at<K: SiteKeeper>(
+    alloc: Global,
+    keeper: &mut K,
+    sent: &[Frame],
+    site: SiteNo,
+    input: WorldInput,
+) -> Answer
+    ensures world { ComesFrom (StandsAs (K.shown keeper.old) (K.may keeper.old)) (StandsAs (K.shown keeper.new) (K.may keeper.new))
+        (λ old new. TurnsAt old sent.now (WorldEvent.Step site input) result new sent.now) }
+    ensures kind { KeeperTurns K.applies K.stops K.reopens (K.shown keeper.old) keeper.old sent.now (WorldEvent.Step site input) result keeper.new sent.now }
+{
+    if keeper.view().is_none() {
+        return Answer::Fault(KeepFault::Closed);
+    }
+    match input_for(alloc, sent, site, input) {
+        Err(_) => Answer::NoMemory,
+        Ok(None) => Answer::NoFrame,
+        Ok(Some(input)) => answered(keeper.apply(input)),
+    }
+}
+
+/// What the site is handed, or None where there is no such frame for it.
+fn input_for(
+    alloc: Global,
+    sent: &[Frame],
+    site: SiteNo,
+    input: WorldInput,
+) -> Result<Option<SiteInput>, AllocError>
+    ensures found { IfOk result (λ found. found ≡ input_at sent.now site input) }
+    ensures memory { OnErr result (IsSome (input_at sent.now site input)) }
+{
+    match input {
+        WorldInput::Capture(bytes) => Ok(Some(SiteInput::Capture(bytes))),
+        WorldInput::Start(root) => Ok(Some(SiteInput::Start(root))),
+        WorldInput::Deliver(place) => match sent_at(sent, place) {
+            None => Ok(None),
+            Some(frame) => {
+                if addressee(frame) != site {
+                    return Ok(None);
+                }
+                Ok(Some(SiteInput::Deliver(frame.copy(alloc)?)))
+            }
+        },
+    }
+}
+
+/// The frame sent at a place, from 1.
+pub fn sent_at(sent: &[Frame], place: u64) -> Option<&Frame>
+    ensures { option_map (λ f. f.now) result ≡ frame_at sent.now place }
+{
+    if place == 0 || place > sent.len() as u64 {
+        return None;
+    }
+    sent.get((place - 1) as usize)
+}
+
+/// The site that a frame is for.
+fn addressee(frame: &Frame) -> SiteNo
+    ensures { result ≡ addressee frame.now }
+{
+    match frame {
+        Frame::Recall { dest, .. } => *dest,
+        Frame::Signal { id, .. } => id.site,
+    }
+}
+
+/// What the keeper's answer is told as.
+fn answered(applied: Result<Effects, KeepFault>) -> Answer
+    ensures { result ≡ answer_of applied }
+{
+    match applied {
+        Ok(effects) => Answer::Done(effects),
+        Err(KeepFault::NoMemory) => Answer::NoMemory,
+        Err(fault) => Answer::Fault(fault),
+    }
+}
+
+/// A stop of a site within a step.
+pub fn stop_at<K: SiteKeeper>(
+    alloc: Global,
+    keeper: &mut K,
+    sent: &[Frame],
+    site: SiteNo,
+    input: WorldInput,
+    keep: Keep,
+) -> Answer
+    ensures world { ComesFrom (StandsAs (K.shown keeper.old) (K.may keeper.old)) (StandsAs (K.shown keeper.new) (K.may keeper.new))
+        (λ old new. TurnsAt old sent.now (WorldEvent.Stop site input keep) result new sent.now) }
+    ensures kind { KeeperTurns K.applies K.stops K.reopens (K.shown keeper.old) keeper.old sent.now (WorldEvent.Stop site input keep) result keeper.new sent.now }
+{
+    if keeper.view().is_none() {
+        return Answer::Fault(KeepFault::Closed);
+    }
+    match input_for(alloc, sent, site, input) {
+        Err(_) => Answer::NoMemory,
+        Ok(None) => Answer::NoFrame,
+        Ok(Some(input)) => {
+            if keeper.stop(input, keep).is_ok() {
+                Answer::Stopped
+            } else {
+                Answer::NoMemory
+            }
+        }
+    }
+}
+
+/// Sends a frame that the record of a site makes emittable.
+pub fn send_from<K: SiteKeeper>(
+    alloc: Global,
+    keeper: &K,
+    sent: &mut Vec<Frame>,
+    site: SiteNo,
+    place: u64,
+) -> Answer
+    ensures world { ComesFrom (StandsAs (K.shown keeper.now) (K.may keeper.now)) (StandsAs (K.shown keeper.now) (K.may keeper.now))
+        (λ old new. TurnsAt old sent.old.items (WorldEvent.Send site place) result new sent.new.items) }
+    ensures kind { KeeperTurns K.applies K.stops K.reopens (K.shown keeper.now) keeper.now sent.old.items (WorldEvent.Send site place) result keeper.now sent.new.items }
+{
+    match keeper.view() {
+        None => Answer::Fault(KeepFault::Closed),
+        Some(state) => send(alloc, state, place, sent),
+    }
+}
+
+/// Adds a copy of a frame that the record makes emittable to those sent.
+fn send(alloc: Global, state: &SiteState, place: u64, sent: &mut Vec<Frame>) -> Answer
+    ensures { Sends (emitted state.now.engagement place) sent.old.items result sent.new.items }
+{
+    match emittable(state, place) {
+        None => Answer::NoFrame,
+        Some(frame) => match frame.to_frame(alloc) {
+            Err(_) => Answer::NoMemory,
+            Ok(frame) => {
+                if sent.push(frame).is_ok() {
+                    Answer::Sent(sent.len() as u64)
+                } else {
+                    Answer::NoMemory
+                }
+            }
+        },
+    }
+}
+
+/// Opens the keeper of a site, where it is closed.
+pub fn reopen_at<K: SiteKeeper>(keepers: &mut Vec<K>, sent: &[Frame], site: SiteNo) -> Answer
+    requires { site < vec_len keepers.old }
+    ensures world { ChangesAt keepers.old.items site keepers.new.items (λ was now. ComesFrom (StandsAs (K.shown was) (K.may was)) (StandsAs (K.shown now) (K.may now))
+        (λ old new. TurnsAt old sent.now (WorldEvent.Reopen site) result new sent.now)) }
+    ensures kind { ChangesAt keepers.old.items site keepers.new.items (λ was now. KeeperTurns K.applies K.stops K.reopens (K.shown was) was sent.now (WorldEvent.Reopen site) result now sent.now) }
+{
+    let place = site.number() as usize;
+    if keepers[place].view().is_some() {
+        return Answer::NotClosed;
+    }
+    let (keeper, answer) = reopened(keepers.remove(place));
+    // There is room where it stood.
+    let _ = keepers.insert(place, keeper);
+    answer
+}
+
+/// Opens a closed keeper.
+fn reopened<K: SiteKeeper>(keeper: K) -> (K, Answer)
+    requires { K.shown keeper ≡ None }
+    ensures world { ComesFrom (StandsAs (K.shown keeper) (K.may keeper)) (StandsAs (K.shown result.0) (K.may result.0))
+        (λ old new. ReopensTo old result.1 new) }
+    ensures kind { KeeperReopens K.reopens keeper result.1 result.0 }
+{
+    match keeper.reopen() {
+        Ok(keeper) => (keeper, Answer::Reopened),
+        Err(unopened) => (unopened.keeper, hindered(unopened.fault)),
+    }
+}
+
+/// What kept a keeper from being opened.
+fn hindered(fault: KeepFault) -> Answer
+    ensures { result ≡ hindrance fault }
+{
+    match fault {
+        KeepFault::NoMemory => Answer::NoMemory,
+        fault => Answer::NotReopened(fault),
+    }
+}
+
+/// One event.
+pub fn take_turn<K: SiteKeeper>(
+    alloc: Global,
+    keepers: &mut Vec<K>,
+    sent: &mut Vec<Frame>,
+    event: WorldEvent,
+) -> Answer
+    ensures world { ComesFrom (MayBe K.shown K.may (record { keepers = keepers.old.items; sent = sent.old.items })) (MayBe K.shown K.may (record { keepers = keepers.new.items; sent = sent.new.items }))
+        (λ old new. Turns old event result new) }
+    ensures kind { KeepersTurn K.shown K.applies K.stops K.reopens (record { keepers = keepers.old.items; sent = sent.old.items }) event result (record { keepers = keepers.new.items; sent = sent.new.items }) }
+{
+    let place = event.site().number() as usize;
+    if place >= keepers.len() {
+        return Answer::NoSite;
+    }
+    match event {
+        WorldEvent::Step { site, input } => {
+            let keeper = &mut keepers[place];
+            step_at(alloc, keeper, sent, site, input)
+        }
+        WorldEvent::Stop { site, input, keep } => {
+            let keeper = &mut keepers[place];
+            stop_at(alloc, keeper, sent, site, input, keep)
+        }
+        WorldEvent::Send { site, place: from } => send_from(
+            alloc,
+            &keepers[place],
+            sent,
+            site,
+            from,
+        ),
+        WorldEvent::Reopen { site } => reopen_at(keepers, sent, site),
+    }
+}

@@ -1,0 +1,139 @@
+ghost use Rattle.std.specs.Prelude.{◌≡◌, List, [], IfOk, IfErr, OnOk, OnErr, option_map, option_and_then, slice_get};
+ghost use Rattle.frame_core.specs.Rows.{frame_of};
+ghost use Rattle.site_core.specs.Records.{Record};
+ghost use Rattle.world_core.specs.Faults.{AreFresh, AreOneWorld, HindersKeepers, IfClosed};
+ghost use Rattle.world_core.specs.Keepers.{AllShow, ComesFrom, IsFirstClosed, MayBe};
+ghost use Rattle.world_core.specs.Kinds.{KeepersTurn};
+ghost use Rattle.world_core.specs.KeptSteps.{SitesStand};
+ghost use Rattle.world_core.specs.Recalls.{ended_in, quarantined};
+ghost use Rattle.world_core.specs.Turns.{Turns, Runs, frame_at};
+ghost use Rattle.world_core.specs.Worlds.{WorldState};
+
+use crate::events::{Answer, WorldEvent};
+use crate::faults::{NotAWorld, ViewFault};
+use crate::forming::together;
+use crate::recalls::{ended_at, pairs_of};
+use crate::turns::{sent_at, take_turn};
+use crate::views::{each_stands, views};
+use event_json::SiteNo;
+use frame_core::{Frame, FrameView, RecallId};
+use keeper_core::SiteKeeper;
+use site_core::SiteState;
+use std::alloc::{AllocError, Global};
+use std::marker::Model;
+use trace_core::Pair;
+
+/// All sites, each with its keeper, in the order of their numbers, and the frames that were ever sent.
+#[derive(Drop)]
+pub struct World<K: SiteKeeper> {
+    keepers: Vec<K>,
+    sent: Vec<Frame>,
+    alloc: Global,
+}
+
+impl<K: SiteKeeper> Model for World<K> {
+    ghost use Rattle.world_core.specs.Keepers.{Sites};
+
+    ghost Value = { Sites K };
+
+    ghost view = { λ w. record { keepers = w.keepers.items; sent = w.sent.items } };
+}
+
+impl<K: SiteKeeper> World<K> {
+    /// The world of these keepers, each open, one for each site of the list that all of them have, in order. Nothing
+    /// happened at them yet, and no frame was sent.
+    ///
+    /// # Errors
+    /// In this order: `Closed`, `OtherSites`, `Misfit`. The keepers are handed back as they were.
+    pub fn new(alloc: Global, keepers: Vec<K>) -> Result<World<K>, NotAWorld<K>>
+        ensures world { IfOk result (λ world. world ≡ record { keepers = keepers.items; sent = [] }) }
+        ensures shown { OnOk result ((records : List Record) × AllShow K.shown keepers.items records × AreOneWorld records × AreFresh records) }
+        ensures back { IfErr result (λ e. e.keepers.items ≡ keepers.items) }
+        ensures err { IfErr result (λ e. HindersKeepers K.shown keepers.items e.fault) }
+    {
+        match together(alloc, &keepers) {
+            Ok(()) => Ok(World {
+                keepers,
+                sent: Vec::new(alloc),
+                alloc,
+            }),
+            Err(fault) => Err(NotAWorld { keepers, fault }),
+        }
+    }
+
+    /// One event, and what it is answered.
+    pub fn turn(&mut self, event: WorldEvent) -> Answer
+        ensures world { ComesFrom (MayBe K.shown K.may self.old) (MayBe K.shown K.may self.new) (λ old new. Turns old event result new) }
+        // For a caller that knows what this kind of keeper promises.
+        ensures kind { KeepersTurn K.shown K.applies K.stops K.reopens self.old event result self.new }
+    {
+        take_turn(self.alloc, &mut self.keepers, &mut self.sent, event)
+    }
+
+    /// A list of events, one after another, and the answer to each. Each site stands then as its answered steps in
+    /// order, with each step that it stopped in whole or absent.
+    ///
+    /// # Errors
+    /// Where there is no room for all answers: before the first event, and nothing changes.
+    pub fn run(&mut self, events: Vec<WorldEvent>) -> Result<Vec<Answer>, AllocError>
+        ensures run { IfOk result (λ answers. ComesFrom (MayBe K.shown K.may self.old) (MayBe K.shown K.may self.new) (λ old new. Runs old events.items answers.items new)) }
+        ensures kept { IfOk result (λ answers. ComesFrom (MayBe K.shown K.may self.old) (MayBe K.shown K.may self.new) (λ old new. SitesStand old events.items answers.items new)) }
+        ensures err { OnErr result (self.new ≡ self.old) }
+    {
+        let mut answers = Vec::with_capacity(self.alloc, events.len())?;
+        for event in events {
+            // There is room for it.
+            let answer = self.turn(event);
+            let _ = answers.push(answer);
+        }
+        Ok(answers)
+    }
+
+    /// The record of a site, or None while it is closed, and where there is no such site.
+    pub fn view(&self, site: SiteNo) -> Option<&SiteState>
+        ensures { option_map (λ s. s.now) result ≡ option_and_then K.shown (slice_get self.now.keepers site) }
+    {
+        self.keepers.get(site.number() as usize)?.view()
+    }
+
+    /// The frame that was sent at a place, from 1.
+    pub fn frame(&self, place: u64) -> Option<FrameView<'_>>
+        ensures { option_map frame_of result ≡ frame_at self.now.sent place }
+    {
+        Some(sent_at(&self.sent, place)?.view())
+    }
+
+    /// What is quarantined under a recall, at all sites: by site, and then by item.
+    ///
+    /// # Errors
+    /// `Closed` with the least site that is closed.
+    pub fn quarantined(&self, recall: RecallId) -> Result<Vec<Pair>, ViewFault>
+        ensures ok { IfOk result (λ pairs. (records : List Record) × AllShow K.shown self.now.keepers records × (pairs.items ≡ quarantined recall records)) }
+        ensures closed { IfErr result (λ fault. IfClosed fault (IsFirstClosed K.shown self.now.keepers)) }
+    {
+        let states = views(self.alloc, &self.keepers)?;
+        Ok(pairs_of(self.alloc, &states, recall)?)
+    }
+
+    /// Whether a recall has ended. None where the site that began it is closed, and where it has no such recall.
+    /// Takes no memory.
+    pub fn ended(&self, recall: RecallId) -> Option<bool>
+        ensures { result ≡ option_and_then (ended_in recall) (option_and_then K.shown (slice_get self.now.keepers recall.site)) }
+    {
+        ended_at(self.view(recall.site)?, recall)
+    }
+
+    /// The sites may be some world: what is said of each that they may be isn't said of none.
+    pub fn stands(&self)
+        ensures { (world : WorldState) × MayBe K.shown K.may self.now world }
+    {
+        each_stands(&self.keepers);
+    }
+
+    /// The keepers, in the order of their sites.
+    pub fn into_keepers(self) -> Vec<K>
+        ensures { result.items ≡ self.keepers }
+    {
+        self.keepers
+    }
+}
