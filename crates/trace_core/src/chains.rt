@@ -31,6 +31,13 @@ impl Relation for RelatedPairs<'_> {
 
     ghost gives = { λ r. IsGivenBy (sites_at r.sites.now) };
 
+    // nothing is claimed of how many looks several sites take
+    ghost bounds_looks = { λ r. ⊥ };
+
+    ghost outputs = { λ r. 0 };
+
+    ghost unseen = { λ r seen. 0 };
+
     fn none_seen(&self, alloc: Global) -> BTreeSet<Group> {
         BTreeSet::new(alloc)
     }
@@ -41,14 +48,25 @@ impl Relation for RelatedPairs<'_> {
         node: &Pair,
         seen: &mut BTreeSet<Group>,
         pairs: &mut BTreeSet<Pair>,
+        looks: &mut u64,
     ) -> Result<(), AllocError> {
         for number in 0..self.sites.len() {
-            gather_unseen_from(alloc, self.sites[number], number, node, seen, pairs)?;
+            let site = self.sites[number];
+            gather_unseen_from(alloc, site, number, true, node, seen, pairs, looks)?;
         }
         Ok(())
     }
+}
 
-    fn targets(&self, alloc: Global, node: &Pair) -> Result<Vec<Pair>, AllocError> {
+impl RelatedPairs<'_> {
+    ghost use Rattle.trace_core.specs.Chains.{Related, sites_at};
+    ghost use Rattle.trace_core.specs.Targets.{all_targets};
+
+    /// The pairs that a pair is related to, in any order.
+    pub fn targets(&self, alloc: Global, node: &Pair) -> Result<Vec<Pair>, AllocError>
+        ensures exact { IfOk result (λ targets. (q : Pair) → Contains targets.items q ↔ Related (sites_at self.now.sites.now) node.now q) }
+        ensures bounded { IfOk result (λ targets. (q : Pair) → Contains targets.items q → Contains (all_targets (sites_at self.now.sites.now)) q) }
+    {
         let mut targets = Vec::new(alloc);
         for site in self.sites {
             add_related(site, node, &mut targets)?;
@@ -75,7 +93,8 @@ pub fn reach(alloc: Global, sites: &[&Captured], root: &Pair) -> Result<Vec<Pair
     ensures ascending { IfOk result (λ pairs. IsStrictlyAscending pairs.items) }
     ensures reached { IfOk result (λ pairs. (p : Pair) → Contains pairs.items p ↔ Reaches (Related (sites_at sites.now)) root.now p) }
 {
+    let mut looks = 0;
     let mut starts = Vec::new(alloc);
     starts.push(root.copy(alloc)?)?;
-    closure(alloc, &RelatedPairs { sites }, starts)
+    closure(alloc, &RelatedPairs { sites }, starts, &mut looks)
 }

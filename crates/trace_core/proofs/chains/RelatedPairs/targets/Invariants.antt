@@ -1,5 +1,5 @@
 use Rattle.trace_core.proofs.SiteFinding.{AreTargetsOf}
-use Rattle.trace_core.proofs.chains.RelatedPairsRelation.targets.Given as goal
+use Rattle.trace_core.proofs.chains.RelatedPairs.targets.Given as goal
 
 -- what the sites so far relate the node to
 abbrev pub invariant-loop-site : goal.invariant-loop-site

@@ -2,7 +2,7 @@ use Rattle.std.proofs.Common.{arith}
 use Rattle.trace_core.specs.Chains.{sites_at}
 use Rattle.trace_core.proofs.HasTargets.{has_targets}
 use Rattle.trace_core.proofs.SiteFinding.{no_sites, one_more, all_sites}
-use Rattle.trace_core.proofs.chains.RelatedPairsRelation.targets.Goals as goal
+use Rattle.trace_core.proofs.chains.RelatedPairs.targets.Goals as goal
 
 pub loop-site-init : goal.loop-site-init
 loop-site-init c = no_sites c.args.self.now.sites.now c.args.node.now _ c.new-targets.ensures.items
