@@ -292,12 +292,13 @@ module _ (s : SiteEvents) (item : List ℕ) (q : Pair) where
       let places = places_where (names_item item) s.events in
       let is : (q.site == s.me) ≡ true → list_any (λ k. sought_at false s item q (slice_get s.events k)) places ≡ is_related s item q = λ own.
       list_any-same (λ k. sought_at false s item q (slice_get s.events k)) (λ k. related_at s.me s.events item (slice_get s.events k) q) (λ k. own_sought own (slice_get s.events k)) places ∙ related_by_places s item q in
-      let decides = related_decides s item q in
-      (λ h.
-      let (k, in', at) = list_any_witness (λ k. sought_at false s item q (slice_get s.events k)) places h in
-      let own = own_only (slice_get s.events k) at in
-      ⊎_elim (λ (other, same, any). absurd (other (eqb-true q.site s.me own))) (λ made. made) (decides.0 (sym (is own) ∙ h)),
-      λ (own, any). is (eq-eqb q.site s.me own) ∙ decides.1 (inr (own, any)))
+      let decides = related_decides s item q in (
+        λ h.
+            let (k, in', at) = list_any_witness (λ k. sought_at false s item q (slice_get s.events k)) places h in
+            let own = own_only (slice_get s.events k) at in
+            ⊎_elim (λ (other, same, any). absurd (other (eqb-true q.site s.me own))) (λ made. made) (decides.0 (sym (is own) ∙ h)),
+        λ (own, any). is (eq-eqb q.site s.me own) ∙ decides.1 (inr (own, any)),
+      )
 
 module _ (ships : Bool) (s : SiteEvents) (item : List ℕ) (site : ℕ) (places : List ℕ) where
   -- what the events at the first so many places lead the item to

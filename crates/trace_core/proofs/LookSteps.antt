@@ -108,9 +108,11 @@ module _ (site : ℕ) (events : List Content) where
   -- before anything is looked at
   pub all_unseen : (seen : BTreeSet Group) → unseen_outputs site events seen ≤ sum_by (λ e. output_count e.body) events
   unfolding unseen_outputs
-  all_unseen seen = omega (arith,
+  all_unseen seen = omega (
+    arith,
     sum_by-le-sum_by (left_at seen) (λ (a : ℕ × Content). output_count a.1.body) (enumerate_from 0 events) (λ a. some_of (contains group_cmp seen (record { site = site; first = first_of events a.0 a.1.body })) (output_count a.1.body)),
-    sum_placed (λ (e : Content). output_count e.body) 0 events)
+    sum_placed (λ (e : Content). output_count e.body) 0 events,
+  )
     where
       some_of : (b : Bool) (n : ℕ) → cond b 0 n ≤ n
       some_of true n = omega arith

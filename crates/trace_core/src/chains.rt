@@ -1,8 +1,7 @@
-ghost use mathlib.Core.Logic.{◌⊎◌};
-ghost use Rattle.std.specs.Prelude.{◌≡◌, ◌↔◌, IfOk, OnOk, Contains};
+ghost use Rattle.std.specs.Prelude.{◌≡◌, ◌↔◌, IfOk, Contains};
 ghost use Rattle.trace_core.specs.declared.pairs.Pair.{Pair};
 ghost use Rattle.trace_core.specs.Pairs.{IsStrictlyAscending};
-ghost use Rattle.trace_core.specs.Chains.{Related, RelatesFrom, sites_at};
+ghost use Rattle.trace_core.specs.Chains.{Related, sites_at};
 ghost use Rattle.trace_core.specs.Relations.{Reaches};
 
 use crate::captured::Captured;
@@ -56,33 +55,6 @@ impl Relation for RelatedPairs<'_> {
         }
         Ok(())
     }
-}
-
-impl RelatedPairs<'_> {
-    ghost use Rattle.trace_core.specs.Chains.{Related, sites_at};
-    ghost use Rattle.trace_core.specs.Targets.{all_targets};
-
-    /// The pairs that a pair is related to, in any order.
-    pub fn targets(&self, alloc: Global, node: &Pair) -> Result<Vec<Pair>, AllocError>
-        ensures exact { IfOk result (λ targets. (q : Pair) → Contains targets.items q ↔ Related (sites_at self.now.sites.now) node.now q) }
-        ensures bounded { IfOk result (λ targets. (q : Pair) → Contains targets.items q → Contains (all_targets (sites_at self.now.sites.now)) q) }
-    {
-        let mut targets = Vec::new(alloc);
-        for site in self.sites {
-            add_related(site, node, &mut targets)?;
-        }
-        Ok(targets)
-    }
-}
-
-/// Adds the pairs that a site relates a pair to. There are none where the pair is at another site.
-pub fn add_related(site: &Captured, node: &Pair, targets: &mut Vec<Pair>) -> Result<(), AllocError>
-    ensures { OnOk result ((p : Pair) → Contains targets.new.items p ↔ (Contains targets.old.items p ⊎ RelatesFrom site.now node.now p)) }
-{
-    if site.me() == node.site {
-        targets.append(&mut site.related(&node.item)?)?;
-    }
-    Ok(())
 }
 
 /// All that chains of related pairs reach from a pair, itself among them, ascending and without

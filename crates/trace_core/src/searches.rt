@@ -2,7 +2,7 @@ ghost use Rattle.std.specs.Prelude.{◌≡◌, ◌≤◌, ◌+◌, ◌++◌, ◌
 ghost use Rattle.trace_core.specs.declared.pairs.Pair.{Pair};
 ghost use Rattle.trace_core.specs.Pairs.{pair_cmp, IsStrictlyAscending};
 ghost use Rattle.trace_core.specs.Relations.{ReachedFrom};
-ghost use Rattle.trace_core.specs.Searches.{NotesAll, Visits};
+ghost use Rattle.trace_core.specs.Searches.{NotesAll, AreUnseen, Visits};
 ghost use Rattle.std.specs.BTreeSet.{BTreeSet};
 ghost use Rattle.trace_core.specs.declared.groups.Group.{Group};
 ghost use Rattle.trace_core.specs.Groups.{AddsUnseen};
@@ -113,9 +113,27 @@ fn visit<R: Relation>(
     ensures visited { OnOk result (Visits pair_cmp (R.relates relation.now node.now) (R.gives relation.now) seen.old seen.new found.old found.new waiting.old.items waiting.new.items) }
     ensures bounded { OnOk result ((q : Pair) → R.relates relation.now node.now q → Contains (R.all_targets relation.now) q) }
 {
+    let targets = unseen_targets(alloc, relation, node, seen, looks)?;
+    note_all(alloc, found, waiting, targets)
+}
+
+/// The pairs that a pair is related to, but for those that transformations gave which were seen before,
+/// ascending.
+pub fn unseen_targets<R: Relation>(
+    alloc: Global,
+    relation: &R,
+    node: &Pair,
+    seen: &mut BTreeSet<Group>,
+    looks: &mut u64,
+) -> Result<Vec<Pair>, AllocError>
+    ensures least { OnOk result (looks.old ≤ looks.new) }
+    ensures most { OnOk result (R.bounds_looks relation.now → looks.new + R.unseen relation.now seen.new ≤ looks.old + R.unseen relation.now seen.old) }
+    ensures unseen { IfOk result (λ targets. AreUnseen (R.relates relation.now node.now) (R.gives relation.now) seen.old seen.new targets.items) }
+    ensures bounded { OnOk result ((q : Pair) → R.relates relation.now node.now q → Contains (R.all_targets relation.now) q) }
+{
     let mut targets = BTreeSet::new(alloc);
     relation.gather_unseen(alloc, node, seen, &mut targets, looks)?;
-    note_all(alloc, found, waiting, keys_in_order(alloc, targets)?)
+    keys_in_order(alloc, targets)
 }
 
 /// Notes pairs as found. Those that weren't found before are waiting.

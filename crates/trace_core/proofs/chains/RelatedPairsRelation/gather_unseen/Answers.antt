@@ -7,8 +7,8 @@ use Rattle.trace_core.proofs.chains.RelatedPairsRelation.gather_unseen.Goals as 
 pub loop-number-preserved : goal.loop-number-preserved
 loop-number-preserved c = record {
   added = one_site (sites_at c.args.self.now.sites.now) c.args.node.now c.loop-number.number _ c.args.seen.now c.loop-number.seen c.gather_unseen_from.new.seen
-    c.args.pairs.now c.loop-number.pairs c.gather_unseen_from.new.pairs (site_stands c.args.self.now.sites.now c.loop-number.number c.index-self-number.result (omega (arith, c.loop-number-test.true)))
-    c.loop-number.invariant.added c.in_ok-gather_unseen_from.ensures.added c.in_ok-gather_unseen_from.ensures.only;
+      c.args.pairs.now c.loop-number.pairs c.gather_unseen_from.new.pairs (site_stands c.args.self.now.sites.now c.loop-number.number c.index-self-number.result (omega (arith, c.loop-number-test.true)))
+      c.loop-number.invariant.added c.in_ok-gather_unseen_from.ensures.added c.in_ok-gather_unseen_from.ensures.only;
   least = omega (arith, c.loop-number.invariant.least, c.in_ok-gather_unseen_from.ensures.looks.least);
 }
 
