@@ -4,7 +4,6 @@ use Rattle.std.specs.Cmp.{IsTotalOrder}
 use Rattle.std.specs.Ordering.{nat_cmp}
 use Rattle.std.proofs.lemmas.Cmp.{then_total, on_total, nat_cmp_total}
 use Rattle.std.proofs.lemmas.Map.Lookups.{CmpEqualImpliesEq, exact_pairs, exact_unsigned}
-use Rattle.trace_core.specs.declared.groups.Group.{Group}
 use Rattle.trace_core.specs.Groups.{group_cmp}
 
 pub groups_exact : CmpEqualImpliesEq group_cmp

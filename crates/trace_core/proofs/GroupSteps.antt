@@ -3,14 +3,10 @@ use Rattle.std.proofs.Common.{◌≡◌, ◌==◌, ℕ, ◌<◌, ◌≤◌, ◌+
 use mathlib.Core.Bool.{false≢true}
 use mathlib.Core.Logic.{◌⊎◌}
 use Rattle.std.specs.BTreeSet.{BTreeSet, Updates}
-use Rattle.std.specs.Cmp.{IsTotalOrder}
 use Rattle.std.specs.List.{list_any, Contains}
-use Rattle.std.specs.Ordering.{nat_cmp}
 use Rattle.std.proofs.lemmas.Bool.{or_cases, and_parts, eqb-true, eq-eqb}
-use Rattle.std.proofs.lemmas.Cmp.{then_total, on_total, nat_cmp_total}
 use Rattle.std.proofs.lemmas.List.{take_all}
 use Rattle.std.proofs.lemmas.List.Folds.{list_any_more}
-use Rattle.std.proofs.lemmas.Map.Lookups.{CmpEqualImpliesEq, exact_pairs, exact_unsigned}
 use Rattle.std.proofs.lemmas.Option.{slice_get-get_or, slice_get_cases, get_or_from_slice_get}
 use Rattle.event_json.specs.Events.{Content}
 use Rattle.event_json.specs.declared.bodies.Body.{Body}
@@ -18,7 +14,7 @@ use Rattle.trace_core.specs.declared.groups.Group.{Group}
 use Rattle.trace_core.specs.declared.pairs.Pair.{Pair}
 use Rattle.trace_core.specs.Gathering.{is_in, shipped_by, made_by, joined_by}
 use Rattle.trace_core.specs.Groups.{group_cmp, IsSeen, outs_of, Gives, IsGiven, AddsUnseen, SeesOnly, sought_by, IsSought}
-use Rattle.trace_core.specs.Pairs.{make_id, IsRelated}
+use Rattle.trace_core.specs.Pairs.{make_id}
 use Rattle.trace_core.specs.PairTests.{same_id, same_item, ships, takes_in, gives_out, is_related}
 use Rattle.trace_core.specs.Places.{at_place, places_where, names_item}
 use Rattle.trace_core.specs.Searches.{IsFound}

@@ -1,5 +1,5 @@
 -- The looks of a search: one for each node that was taken from the work list, and those at outputs.
-use Rattle.std.proofs.Common.{◌≡◌, ◌<◌, ◌≤◌, ◌+◌, ◌-◌, ◌^◌, ℕ, List, [], ◌∷◌, ◌++◌, length, sym, ap, inl, inr, ⊎_elim, arith, length-append}
+use Rattle.std.proofs.Common.{◌≡◌, ◌≤◌, ◌+◌, ◌-◌, ◌^◌, ℕ, List, [], ◌∷◌, ◌++◌, length, ap, inl, inr, ⊎_elim, arith, length-append}
 use mathlib.Core.Logic.{◌⊎◌}
 use Rattle.std.specs.BTreeSet.{BTreeSet, btree_set_len}
 use Rattle.trace_core.specs.declared.pairs.Pair.{Pair}

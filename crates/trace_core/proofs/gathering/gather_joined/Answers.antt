@@ -2,7 +2,7 @@ use Rattle.std.proofs.Common.{◌==◌, ◌&&◌, ◌||◌, ℕ, List, slice_get
 use Rattle.trace_core.specs.Gathering.{is_in}
 use Rattle.trace_core.specs.Groups.{outputs_at}
 use Rattle.trace_core.specs.Looks.{LooksAtMost}
-use Rattle.trace_core.proofs.LookSteps.{looks_more, looks_of_all}
+use Rattle.trace_core.proofs.LookSteps.{looks_of_all}
 use Rattle.trace_core.proofs.RelatedPlaces.{parts_found, joined_at_places}
 use Rattle.trace_core.proofs.gathering.gather_joined.Goals as goal
 

@@ -5,8 +5,8 @@ use Rattle.trace_core.specs.Groups.{outs_of, first_of, group_outputs}
 use Rattle.trace_core.specs.Looks.{LooksAtMost}
 use Rattle.trace_core.specs.Pairs.{make_id}
 use Rattle.trace_core.specs.PairTests.{takes_in}
-use Rattle.trace_core.proofs.GroupSteps.{event_ships, event_new, event_again, sees_one, was_seen, wasnt_seen}
-use Rattle.trace_core.proofs.LookSteps.{group_looked, group_passed, looks_none}
+use Rattle.trace_core.proofs.GroupSteps.{event_new, event_again, sees_one, was_seen, wasnt_seen}
+use Rattle.trace_core.proofs.LookSteps.{group_looked, group_passed}
 use Rattle.trace_core.proofs.RelatedPlaces.{slice_there}
 use Rattle.trace_core.proofs.groups.gather_unseen_at.Goals as goal
 

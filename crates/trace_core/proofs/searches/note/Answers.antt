@@ -1,4 +1,4 @@
-use Rattle.std.proofs.Common.{not, ◌+◌, cond, sym, ap, ◌∙◌}
+use Rattle.std.proofs.Common.{◌+◌, cond, ap, ◌∙◌}
 use Rattle.std.specs.BTreeSet.{btree_set_len}
 use Rattle.trace_core.specs.Pairs.{pair_cmp}
 use Rattle.trace_core.proofs.PairOrder.{pairs_exact}
