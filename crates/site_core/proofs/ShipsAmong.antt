@@ -22,7 +22,7 @@ abbrev pub AllShipAmong : ℕ → List Content → Type 0
 AllShipAmong sites events = All (λ e. ShipsAmong sites e.body) events
 
 -- a site that an event ships to
-shipped_within : (sites : ℕ) (i : List ℕ) (to : ℕ) (body : Body) → ShipsAmong sites body → Ships i to body → to < sites
+pub shipped_within : (sites : ℕ) (i : List ℕ) (to : ℕ) (body : Body) → ShipsAmong sites body → Ships i to body → to < sites
 shipped_within sites i to (Note items) among ships = absurd ships
 shipped_within sites i to (Ship items traced outside) among ships = All-contains (λ t. t < sites) traced to among ships.1
 shipped_within sites i to (Make id ins outs) among ships = absurd ships

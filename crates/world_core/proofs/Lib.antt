@@ -1,4 +1,8 @@
 pub mod InPlace
+pub mod EndedRecalls
+pub mod Fitting
+pub mod FreshSites
+pub mod HeldPairs
 pub mod Freshness
 pub mod Holding
 pub mod KeptSteps

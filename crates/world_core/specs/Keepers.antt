@@ -3,7 +3,7 @@ use Rattle.std.specs.Prelude.{◌≡◌, ℕ, ◌<◌, Option, Some, None, List,
 use Rattle.std.specs.List.{AllZip}
 use Rattle.frame_core.specs.declared.frames.Frame.{Frame}
 use Rattle.site_core.specs.Records.{Record}
-use Rattle.world_core.specs.Worlds.{Standing, Up, Down, WorldState}
+use Rattle.world_core.specs.Worlds.{Standing, Up, Down, WorldState, WorldFits}
 
 -- the keeper of each site, in order, and the frames sent
 pub record Sites (K : Type 0) : Type 0 where
@@ -22,6 +22,10 @@ MayBe shown may sites world = AllZip (λ k standing. StandsAs (shown k) (may k) 
 -- each that it may be now comes, by the change, from one that it might be before
 abbrev pub ComesFrom : {W : Type 0} → (W → Type 0) → (W → Type 0) → (W → W → Type 0) → Type 0
 ComesFrom {W} was now change = (new : W) → now new → (old : W) × was old × change old new
+
+-- whatever world the sites may be, it fits together
+abbrev pub SitesFit : {K : Type 0} → (K → Option Record) → (K → Record → Type 0) → Sites K → Type 0
+SitesFit shown may sites = (world : WorldState) → MayBe shown may sites world → WorldFits world
 
 -- one keeper changed, so
 abbrev pub ChangesAt : {K : Type 0} → List K → ℕ → List K → (K → K → Type 0) → Type 0

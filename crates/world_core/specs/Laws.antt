@@ -1,10 +1,14 @@
 -- What every run of a world keeps.
-use Rattle.std.specs.Prelude.{◌≡◌, ◌++◌, List}
+use Rattle.std.specs.Prelude.{◌≡◌, ℕ, ◌++◌, List, []}
 use Rattle.frame_core.specs.declared.frames.Frame.{Frame}
 use Rattle.world_core.specs.declared.events.WorldEvent.{WorldEvent}
 use Rattle.world_core.specs.declared.events.Answer.{Answer}
-use Rattle.world_core.specs.Worlds.{WorldState}
-use Rattle.world_core.specs.Turns.{Runs}
+use Rattle.frame_core.specs.Numbers.{Recall}
+use Rattle.trace_core.specs.Pairs.{IsStrictlyAscending}
+use Rattle.world_core.specs.Faults.{AreFresh, AreOneWorld}
+use Rattle.world_core.specs.Recalls.{AreExactOnceEnded, HasEnded, StaysEnded, quarantined}
+use Rattle.world_core.specs.Worlds.{WorldState, WorldFits, records}
+use Rattle.world_core.specs.Turns.{Turns, Runs}
 use Rattle.world_core.specs.KeptSteps.{SitesStand}
 
 -- What was sent stays sent, in its place.
@@ -14,3 +18,28 @@ FramesStay = (old new : WorldState) (events : List WorldEvent) (answers : List A
 -- After every run each site stands as its kept steps.
 abbrev pub SitesStandAsKept : Type 0
 SitesStandAsKept = (old new : WorldState) (events : List WorldEvent) (answers : List Answer) → Runs old events answers new → SitesStand old events answers new
+
+-- Sites at which nothing happened yet fit together, and no frame was sent.
+abbrev pub FreshSitesFit : Type 0
+FreshSitesFit = (world : WorldState) → AreOneWorld (records world) → AreFresh (records world) → world.sent ≡ [] → WorldFits world
+
+-- Each event, whatever it is answered, leaves the sites fitting together. So does every run.
+abbrev pub TurnsKeepTheFit : Type 0
+TurnsKeepTheFit = (old new : WorldState) (event : WorldEvent) (answer : Answer) → WorldFits old → Turns old event answer new → WorldFits new
+
+abbrev pub RunsKeepTheFit : Type 0
+RunsKeepTheFit = (old new : WorldState) (events : List WorldEvent) (answers : List Answer) → WorldFits old → Runs old events answers new → WorldFits new
+
+-- In sites that fit together, what is quarantined under an ended recall is what its root reaches, neither more nor less.
+abbrev pub EndsAreExact : Type 0
+EndsAreExact = (world : WorldState) (recall : Recall) → WorldFits world → AreExactOnceEnded recall (records world) (quarantined recall (records world))
+
+-- Each pair is told once, by site and then by item.
+abbrev pub QuarantinesAscend : Type 0
+QuarantinesAscend = (world : WorldState) (recall : Recall) → WorldFits world → IsStrictlyAscending (quarantined recall (records world))
+
+-- A recall that has ended stays so, with the same pairs, whatever happens.
+abbrev pub EndedStays : Type 0
+EndedStays =
+    (old new : WorldState) (events : List WorldEvent) (answers : List Answer) (recall : Recall) (root : List ℕ)
+    → WorldFits old → Runs old events answers new → HasEnded recall root (records old) → StaysEnded recall root (records old) (records new)

@@ -2,6 +2,9 @@
 use Rattle.std.specs.Prelude.{List, map}
 use Rattle.frame_core.specs.declared.frames.Frame.{Frame}
 use Rattle.site_core.specs.Records.{Record}
+use Rattle.site_recovery.specs.Fit.{Fits}
+use Rattle.site_recovery.specs.Laws.{AreInPlace}
+use Rattle.site_recovery.specs.Looks.{world_of}
 
 -- A site is up with its record, or down. What it will be opened in is settled when it goes down, and seen when it
 -- is opened.
@@ -21,3 +24,8 @@ pub record WorldState : Type 0 where
 
 abbrev pub records : WorldState → List Record
 records world = map record_of world.sites
+
+-- each record is in its site's place, and the records of all sites, up or down, fit together with all frames sent
+pub record WorldFits (world : WorldState) : Type 0 where
+  pub places : AreInPlace (records world)
+  pub fits : Fits (world_of (records world)) world.sent

@@ -1,9 +1,28 @@
 //! Laws of runs. Each is a function with an empty body whose contract is the law.
 
-ghost use Rattle.world_core.specs.Laws.{FramesStay, SitesStandAsKept};
+ghost use Rattle.world_core.specs.Laws.{EndedStays, EndsAreExact, FramesStay, FreshSitesFit, QuarantinesAscend, RunsKeepTheFit, SitesStandAsKept, TurnsKeepTheFit};
 
 /// After every run a site stands as its answered steps in order, with each that it went down in whole or absent.
 pub fn sites_stand_as_their_kept_steps()
     ensures frames { FramesStay }
     ensures sites { SitesStandAsKept }
+{}
+
+/// Whatever happens, whatever it is answered, the records of all sites, up or down, fit together with all frames sent.
+pub fn runs_keep_the_fit()
+    ensures fresh { FreshSitesFit }
+    ensures turn { TurnsKeepTheFit }
+    ensures run { RunsKeepTheFit }
+{}
+
+/// Whenever the site that began a recall has recorded its end, what is quarantined under it, at all sites, is what chains
+/// of made and shipped items lead to from its root: neither more nor less.
+pub fn an_end_is_exact()
+    ensures ascending { QuarantinesAscend }
+    ensures exact { EndsAreExact }
+{}
+
+/// A recall that has ended stays so, with the same pairs.
+pub fn an_ended_recall_stays()
+    ensures { EndedStays }
 {}

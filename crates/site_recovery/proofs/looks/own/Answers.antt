@@ -1,0 +1,6 @@
+use Rattle.site_recovery.specs.Checking.{world_at}
+use Rattle.site_recovery.proofs.Absent.{none_begun}
+use Rattle.site_recovery.proofs.looks.own.Goals as goal
+
+pub returns-in-None : goal.returns-in-None
+returns-in-None c = none_begun (world_at c.args.sites.now) c.args.site c.in-None.ensures c.args.number

@@ -1,0 +1,24 @@
+-- What the check of the records answers.
+use Rattle.std.specs.Prelude.{◌≡◌, ℕ, ◌<◌, List, [], map, length, Option, Some, None}
+use Rattle.std.specs.Borrow.{Bor}
+use Rattle.site_core.specs.Records.{Record, fresh}
+use Rattle.site_recovery.specs.FittingAt.{Condition, number_of, FitAt}
+use Rattle.site_recovery.specs.Looks.{World, world_of}
+
+-- the records that references point to
+abbrev pub records_at : List (Bor Record) → List Record
+records_at refs = map (λ r. r.now) refs
+
+-- the world of these records
+abbrev pub world_at : List (Bor Record) → World
+world_at refs = world_of (records_at refs)
+
+-- the least site below n at which something doesn't hold, if there is one
+abbrev pub IsLeastUnmet : ℕ → (ℕ → Type 0) → Option ℕ → Type 0
+IsLeastUnmet n P None = (s : ℕ) → s < n → P s
+IsLeastUnmet n P (Some s) = (s < n) × (P s → ⊥) × ((t : ℕ) → t < s → P t)
+
+-- the record of a site, where there is such a site; past the end one that keeps nothing
+abbrev pub Finds : World → ℕ → Option (Bor Record) → Type 0
+Finds W s None = W s ≡ fresh [] s
+Finds W s (Some site) = site.now ≡ W s

@@ -1,0 +1,5 @@
+pub mod Checking
+pub mod Fit
+pub mod FittingAt
+pub mod Laws
+pub mod Looks

@@ -1,0 +1,58 @@
+-- What is quarantined under an ended recall, and that it stays so.
+use Rattle.std.proofs.Common.{◌≡◌, ◌↔◌, ℕ, ◌<◌, Some, List, [], length, map, sym, ◌∙◌, ap, subst, slice_get, Contains}
+use Rattle.std.specs.FinMap.{get}
+use Rattle.std.proofs.lemmas.List.{length-map}
+use Rattle.std.proofs.lemmas.Option.{slice_get-get_or, slice_get_within, get_or_from_slice_get}
+use Rattle.frame_core.specs.Numbers.{Recall}
+use Rattle.site_core.specs.Records.{Record, fresh}
+use Rattle.site_recovery.specs.Laws.{AreInPlace, captured_of}
+use Rattle.site_recovery.specs.Looks.{world_of, own}
+use Rattle.site_recovery.proofs.Worlds.{ends_are_exact}
+use Rattle.trace_core.specs.Chains.{Related}
+use Rattle.trace_core.specs.Relations.{Reaches}
+use Rattle.trace_core.specs.declared.pairs.Pair.{Pair}
+use Rattle.trace_core.proofs.PairOrder.{one_ascending}
+use Rattle.world_core.specs.Laws.{EndsAreExact, EndedStays, QuarantinesAscend}
+use Rattle.world_core.specs.Recalls.{HasEnded, quarantined}
+use Rattle.world_core.specs.Worlds.{WorldFits, record_of, records}
+use Rattle.world_core.proofs.Fitting.{run_keeps}
+use Rattle.world_core.proofs.HeldPairs.{pairs_ascend, pairs_held}
+use Rattle.world_core.proofs.KeptSteps.{sites_stand}
+
+begun_at : (recall : Recall) (root : List ℕ) (rs : List Record) (h : HasEnded recall root rs) → own (world_of rs) recall.site recall.number ≡ Some h.own
+begun_at recall root rs h = ap (λ (r : Record). get r.engagement.own recall.number) (get_or_from_slice_get rs recall.site h.initiator (fresh [] recall.site) h.there) ∙ h.begun
+
+pub quarantines_ascend : QuarantinesAscend
+quarantines_ascend world recall fits = pairs_ascend recall (records world) fits.places
+
+pub ended_is_exact : EndsAreExact
+ended_is_exact world recall fits root h p =
+    let rs = records world in
+    let held = pairs_held recall rs fits.places p in
+    let exact = ends_are_exact rs fits.places fits.fits.records_fit recall h.own (begun_at recall root rs h) h.ended p.site p.item in
+    subst (λ i. Contains (quarantined recall rs) p ↔ Reaches (Related (captured_of rs)) (record { site = recall.site; item = i }) p) h.from
+    (λ at. exact.0 (held.0 at), λ reach. held.1 (exact.1 reach))
+
+pub ended_stays : EndedStays
+ended_stays old new events answers recall root fits run h =
+    let k = run_keeps old new events answers fits run in
+    let was = begun_at recall root (records old) h in
+    let stays = k.still.ended_stay recall (h.own, was, h.ended) in
+    let count : length (records new) ≡ length (records old) = length-map new.sites record_of ∙ (sites_stand old new events answers run).count ∙ sym (length-map old.sites record_of) in
+    let below : recall.site < length (records new) = subst (λ n. recall.site < n) (sym count) (slice_get_within (records old) recall.site h.initiator h.there) in
+    record {
+      still = record {
+        initiator = world_of (records new) recall.site;
+        there = slice_get-get_or (records new) recall.site (fresh [] recall.site) below;
+        own = h.own;
+        begun = stays.entry ∙ was;
+        from = h.from;
+        ended = h.ended;
+      };
+      same = one_ascending (quarantined recall (records new)) (quarantined recall (records old)) (pairs_ascend recall (records new) k.places) (pairs_ascend recall (records old) fits.places)
+          (λ p.
+          let now = pairs_held recall (records new) k.places p in
+          let then' = pairs_held recall (records old) fits.places p in
+          let same = stays.quarantine p.site p.item in
+          (λ at. then'.1 (same.0 (now.0 at)), λ at. now.1 (same.1 (then'.0 at))));
+    }
