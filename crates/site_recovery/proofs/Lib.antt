@@ -3,6 +3,7 @@ pub mod Changes
 pub mod Chains
 pub mod Parents
 pub mod Growing
+pub mod QuarantinedItems
 pub mod RelatedItems
 pub mod SameRows
 pub mod SitesInTurn

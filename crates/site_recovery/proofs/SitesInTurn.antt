@@ -36,7 +36,7 @@ some_site (y ∷ ys) s below =
     let at : get_or (y ∷ ys) s x ≡ x = get_or_default (y ∷ ys) s x y below in
     (x, (s, below, at), site_of (y ∷ ys) s x below at)
 
-past_end : (refs : List (Bor Record)) (s : ℕ) → length refs ≤ s → world_at refs s ≡ fresh [] s
+pub past_end : (refs : List (Bor Record)) (s : ℕ) → length refs ≤ s → world_at refs s ≡ fresh [] s
 past_end refs s past = get_or_past (records_at refs) s (fresh [] s) (subst (λ n. n ≤ s) (sym (counted refs)) past)
 
 -- what each record passes, each site passes
@@ -95,3 +95,6 @@ each_recall_of refs all P b decides =
           let one = some_held (world_at refs) s (all s (subst (λ n. s < n) (sym (counted refs)) below)).sound.no_empty_set r items is in
           every s r one.0 one.1),
     )
+
+pub place_of : (refs : List (Bor Record)) → AreAllSites (records_at refs) → (s : ℕ) → s < length refs → (world_at refs s).engagement.me ≡ s
+place_of refs all s below = (all s (subst (λ n. s < n) (sym (counted refs)) below)).place.engagement

@@ -1,11 +1,14 @@
 //! When the records of all sites fit together, and that each event keeps them so.
 #![tactic(auto)]
 
+mod closing;
 mod conditions;
 mod every;
 mod homeward;
+mod justifying;
 pub mod laws;
 mod looks;
 mod numbers;
 mod pairs;
+mod telling;
 mod waiting;
