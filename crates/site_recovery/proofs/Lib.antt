@@ -4,6 +4,7 @@ pub mod Chains
 pub mod Parents
 pub mod Growing
 pub mod QuarantinedItems
+pub mod ReachOfRoots
 pub mod RelatedItems
 pub mod SameRows
 pub mod SitesInTurn

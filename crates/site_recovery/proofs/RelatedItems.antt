@@ -87,3 +87,18 @@ made_decided c i pairs items b exact decides = (
   λ h j inside. decides.0 h (record { site = c.me; item = j }) ((exact (record { site = c.me; item = j })).1 inside) refl,
   λ all. decides.1 (λ p at here. all p.item (subst (λ z. IsRelated c i (record { site = z; item = p.item })) here ((exact p).0 at))),
 )
+
+one_pair : (p q : Pair) → (p ≡ q) ⊎ (p ≢ q)
+one_pair p q = elim (one_place p.site q.site) as (λ _. (p ≡ q) ⊎ (p ≢ q)) [
+  | inr apart ↦ inr (λ same. apart (ap (λ (z : Pair). z.site) same))
+  | inl site ↦ elim (one_key item_total item_exact p.item q.item) as (λ _. (p ≡ q) ⊎ (p ≢ q)) [
+    | inr apart ↦ inr (λ same. apart (ap (λ (z : Pair). z.item) same))
+    | inl item ↦ inl (λ i. record { site = site i; item = item i })
+  ]
+]
+
+pub among_decided : (pairs : List Pair) (q : Pair) (b : Bool) → (IsTrue b ↔ ((p : Pair) → Contains pairs p → p ≡ q → ⊥)) → IsTrue (not b) ↔ Contains pairs q
+among_decided pairs q b decides =
+    denied b ((p : Pair) → Contains pairs p → p ≡ q → ⊥) (Contains pairs q) decides
+        (λ some. let p = found_one (λ p. p ≡ q) (λ p. one_pair p q) pairs some in subst (Contains pairs) p.2 p.1)
+        (λ at none. none q at refl)

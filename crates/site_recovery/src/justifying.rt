@@ -1,24 +1,12 @@
 //! What is quarantined and told of has its reason.
-ghost use Rattle.std.specs.Prelude.{◌≡◌, ◌↔◌, ℕ, List, IfOk, IsTrue, Some, Contains};
-ghost use Rattle.trace_core.specs.declared.pairs.Pair.{Pair};
-ghost use Rattle.site_recovery.specs.Checking.{records_at, world_at};
-ghost use Rattle.site_recovery.specs.Fit.{LeadsTo};
-ghost use Rattle.site_recovery.specs.Laws.{captured_of};
-ghost use Rattle.trace_core.specs.Chains.{Related};
-ghost use Rattle.trace_core.specs.Pairs.{IsStrictlyAscending};
-ghost use Rattle.trace_core.specs.Relations.{Reaches};
-
 use crate::conditions::Condition;
-use crate::every::{EntryTest, Test, each_entry, each_key};
-use crate::looks::own;
+use crate::every::{EntryTest, each_entry};
 use crate::pairs::ships;
-use epc_core::Epc;
 use event_json::SiteNo;
 use frame_core::{RecallId, Row};
 use scholten_core::Own;
-use site_core::{ItemSet, SiteState};
+use site_core::SiteState;
 use std::alloc::{AllocError, Global};
-use trace_core::{Captured, Pair, reach};
 
 /// A recall of the site whose root is quarantined there.
 #[derive(Drop)]

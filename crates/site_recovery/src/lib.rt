@@ -10,5 +10,6 @@ pub mod laws;
 mod looks;
 mod numbers;
 mod pairs;
+mod reaching;
 mod telling;
 mod waiting;
