@@ -15,6 +15,7 @@ pub mod Climbing
 pub mod Opening
 pub mod EndedStays
 pub mod OneSite
+pub mod LeastMisfit
 pub mod Lifting
 pub mod Emitted
 pub mod Entries

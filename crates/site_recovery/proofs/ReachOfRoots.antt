@@ -1,5 +1,5 @@
 -- The pairs that a recall's root reaches.
-use Rattle.std.proofs.Common.{◌≡◌, ◌↔◌, ℕ, List, [], ◌∷◌, map, Bor, Some, refl, sym, ap, ◌∙◌, subst}
+use Rattle.std.proofs.Common.{◌≡◌, ◌↔◌, List, [], ◌∷◌, map, Bor, Some, refl, sym, ap, ◌∙◌, subst}
 use Rattle.std.specs.List.{Contains}
 use Rattle.frame_core.specs.Numbers.{Recall}
 use Rattle.scholten_core.specs.declared.own_recalls.Own.{Own}
@@ -21,10 +21,10 @@ pub root_reaches : (records : List Record) (r : Recall) (o : Own) (root : Pair) 
     → ((p : Pair) → Contains pairs p ↔ Reaches (Related sites) root p) → (p : Pair) → Contains pairs p ↔ IsReachedBy records r p
 root_reaches records r o root sites pairs begun at listed exact p =
     let reach : Contains pairs p ↔ Reaches (Related (captured_of records)) (record { site = r.site; item = o.root }) p =
-        subst (λ z. Contains pairs p ↔ Reaches (Related (captured_of records)) z p) at (subst (λ z. Contains pairs p ↔ Reaches (Related z) root p) listed (exact p)) in (
+    subst (λ z. Contains pairs p ↔ Reaches (Related (captured_of records)) z p) at (subst (λ z. Contains pairs p ↔ Reaches (Related z) root p) listed (exact p)) in (
       λ h. (o, sym begun, reach.0 h),
       λ (q, is, chain).
-        let one : Some q ≡ Some o = sym is ∙ sym begun in
-        let same : q ≡ o = cc in
-        reach.1 (subst (λ (z : Own). Reaches (Related (captured_of records)) (record { site = r.site; item = z.root }) p) same chain),
+          let one : Some q ≡ Some o = sym is ∙ sym begun in
+          let same : q ≡ o = cc in
+          reach.1 (subst (λ (z : Own). Reaches (Related (captured_of records)) (record { site = r.site; item = z.root }) p) same chain),
     )

@@ -1,5 +1,5 @@
 -- The records that references point to, one site after another.
-use Rattle.std.proofs.Common.{◌≡◌, ◌⊎◌, ◌↔◌, inl, inr, ℕ, zero, suc, ◌+◌, ◌<◌, ◌≤◌, Bool, true, false, List, [], ◌∷◌, length, get_or, map, Bor, Option, Some, None, is_some, refl, sym, ap, ◌∙◌, subst, arith}
+use Rattle.std.proofs.Common.{◌≡◌, ◌↔◌, inl, inr, ℕ, ◌<◌, ◌≤◌, Bool, List, [], ◌∷◌, length, get_or, Bor, Some, None, is_some, refl, sym, ap, ◌∙◌, subst, arith}
 use Rattle.std.specs.FinMap.{get}
 use Rattle.std.specs.FinMap as finite
 use Rattle.std.specs.Prelude.{IsTrue}
@@ -9,9 +9,9 @@ use mathlib.Core.Bool.{false≢true}
 use Rattle.frame_core.specs.Numbers.{Recall, Message}
 use Rattle.site_core.specs.ItemSets.{Items, item_cmp}
 use Rattle.site_core.specs.ItemSets as set
-use Rattle.site_core.specs.Quarantines.{HasNoEmptySet, or_none, held}
+use Rattle.site_core.specs.Quarantines.{HasNoEmptySet, or_none}
 use Rattle.site_core.specs.Records.{Record, fresh}
-use Rattle.site_recovery.specs.Checking.{records_at, world_at, IsLeastUnmet}
+use Rattle.site_recovery.specs.Checking.{records_at, world_at}
 use Rattle.site_recovery.specs.FittingAt.{AreAllSites}
 use Rattle.site_recovery.specs.Looks.{World, Held, seen}
 use Rattle.site_core.proofs.Held.{none_held}
@@ -20,7 +20,6 @@ use Rattle.trace_core.proofs.Members.{contains_here}
 use Rattle.site_recovery.proofs.Absent.{none_seen, no_item}
 use Rattle.site_recovery.proofs.Entries.{entry_found}
 use Rattle.site_recovery.proofs.Exact.{within_or_past}
-use Rattle.site_recovery.proofs.OneAfterAnother.{lower_or_last}
 
 counted : (refs : List (Bor Record)) → length (records_at refs) ≡ length refs
 counted refs = length-map refs (λ r. r.now)

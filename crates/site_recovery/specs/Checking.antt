@@ -1,5 +1,5 @@
 -- What the check of the records answers.
-use Rattle.std.specs.Prelude.{◌≡◌, ℕ, ◌<◌, List, [], map, length, Option, Some, None}
+use Rattle.std.specs.Prelude.{◌≡◌, ℕ, ◌<◌, List, [], map, Option, Some, None}
 use Rattle.std.specs.Borrow.{Bor}
 use Rattle.frame_core.specs.Numbers.{Recall}
 use Rattle.scholten_core.specs.declared.own_recalls.Own.{Own}
@@ -7,7 +7,6 @@ use Rattle.trace_core.specs.Chains.{Related}
 use Rattle.trace_core.specs.Relations.{Reaches}
 use Rattle.trace_core.specs.declared.pairs.Pair.{Pair}
 use Rattle.site_core.specs.Records.{Record, fresh}
-use Rattle.site_recovery.specs.FittingAt.{Condition, number_of, FitAt}
 use Rattle.site_recovery.specs.Laws.{captured_of}
 use Rattle.site_recovery.specs.Looks.{World, world_of, own}
 

@@ -37,6 +37,7 @@ impl EntryTest<RecallId, ItemSet> for ClosedSet<'_> {
 }
 
 /// What is made at the site of an item that is quarantined there is quarantined there.
+#[derive(Drop)]
 pub(crate) struct Closed;
 
 impl Condition for Closed {

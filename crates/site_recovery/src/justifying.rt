@@ -31,6 +31,7 @@ impl EntryTest<u64, Own> for HeldRoot<'_> {
 }
 
 /// The roots of the site's recalls are quarantined there.
+#[derive(Drop)]
 pub(crate) struct Rooted;
 
 impl Condition for Rooted {
@@ -63,12 +64,15 @@ impl EntryTest<u64, Row> for JustRow<'_> {
     ghost holds = { λ t _ x. Holds t.state.now x.recall x.item × ShipsTo t.state.now x.item x.dest };
 
     fn passes(&self, alloc: Global, _number: &u64, row: &Row) -> Result<bool, AllocError> {
-        Ok(self.state.quarantine().holds(row.recall, &row.item)
-            && ships(alloc, self.state, &row.item, row.dest)?)
+        Ok(
+            self.state.quarantine().holds(row.recall, &row.item)
+                && ships(alloc, self.state, &row.item, row.dest)?,
+        )
     }
 }
 
 /// What the site's rows tell of is quarantined there, and was shipped to where they go.
+#[derive(Drop)]
 pub(crate) struct RowsJustified;
 
 impl Condition for RowsJustified {

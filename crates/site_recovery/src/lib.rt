@@ -1,6 +1,7 @@
 //! When the records of all sites fit together, and that each event keeps them so.
 #![tactic(auto)]
 
+mod checking;
 mod closing;
 mod conditions;
 mod every;
@@ -13,3 +14,5 @@ mod pairs;
 mod reaching;
 mod telling;
 mod waiting;
+
+pub use checking::{CheckFault, check_world};

@@ -119,6 +119,7 @@ impl EntryTest<RecallId, ItemSet> for ReachedSet<'_> {
 }
 
 /// What is quarantined at the site is in reach of its recall's root.
+#[derive(Drop)]
 pub(crate) struct Reached;
 
 impl Condition for Reached {
@@ -136,6 +137,10 @@ impl Condition for Reached {
         site: SiteNo,
         state: &SiteState,
     ) -> Result<bool, AllocError> {
-        each_entry(alloc, state.quarantine().by_recall(), &ReachedSet { sites, site })
+        each_entry(
+            alloc,
+            state.quarantine().by_recall(),
+            &ReachedSet { sites, site },
+        )
     }
 }

@@ -99,6 +99,7 @@ impl<'b> Test<&'b SiteState> for Telling<'_> {
 }
 
 /// What was shipped to the site from a quarantine is quarantined here, or told of.
+#[derive(Drop)]
 pub(crate) struct Told;
 
 impl Condition for Told {
@@ -179,6 +180,7 @@ impl<'b> Test<&'b SiteState> for Taking<'_> {
 }
 
 /// What a row tells of is quarantined at the site that it goes to, once its message was seen there.
+#[derive(Drop)]
 pub(crate) struct Taken;
 
 impl Condition for Taken {

@@ -1,4 +1,4 @@
-use Rattle.std.proofs.Common.{map, take, Bor, ap, ◌∙◌}
+use Rattle.std.proofs.Common.{map, Bor, ap, ◌∙◌}
 use Rattle.std.proofs.lemmas.List.{take_all}
 use Rattle.site_core.specs.Records.{Record}
 use Rattle.site_recovery.proofs.ReachOfRoots.{captured_at_once}

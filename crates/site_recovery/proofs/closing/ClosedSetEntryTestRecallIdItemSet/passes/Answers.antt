@@ -1,26 +1,11 @@
-use Rattle.std.proofs.Common.{◌≡◌, ◌⊎◌, ◌↔◌, inl, inr, ℕ, ◌<◌, List, Bor, Some, None, refl, sym, ap, ◌∙◌, subst}
-use Rattle.std.specs.FinMap.{get, entries}
+use Rattle.std.proofs.Common.{◌↔◌, ℕ, List}
 use Rattle.std.specs.List.{Contains}
-use Rattle.std.specs.Prelude.{IsTrue, length}
+use Rattle.std.specs.Prelude.{IsTrue}
 use Rattle.std.proofs.lemmas.Result.{IfOk-weaker}
-use mathlib.Core.Bool.{false≢true}
-use Rattle.frame_core.specs.Numbers.{Recall}
-use Rattle.frame_core.specs.declared.rows.Row.{Row}
-use Rattle.scholten_core.specs.declared.own_recalls.Own.{Own}
 use Rattle.trace_core.specs.Spreads.{Inside}
 use Rattle.site_core.specs.ItemSets.{Items}
 use Rattle.site_core.specs.ItemSets as set
-use Rattle.site_core.specs.Records.{Record}
-use Rattle.site_core.specs.Ways as ways
-use Rattle.site_recovery.specs.Checking.{world_at}
-use Rattle.site_recovery.specs.Fit.{Tells}
-use Rattle.site_recovery.specs.FittingAt.{IsClosedAt}
-use Rattle.site_recovery.specs.Looks.{Held, Makes, Ships, row, seen, own}
-use Rattle.site_recovery.proofs.Absent.{no_item, no_row}
-use Rattle.site_recovery.proofs.Exact.{within_or_past}
-use Rattle.site_recovery.proofs.MapsOfSites.{Each, each_row, each_own, each_kept}
-use Rattle.site_recovery.proofs.QuarantinedItems.{each_item, each_held, held_is, kept_set}
-use Rattle.site_recovery.proofs.SitesInTurn.{each_site, past_end, place_of}
+use Rattle.site_recovery.proofs.QuarantinedItems.{each_item}
 use Rattle.site_recovery.proofs.closing.ClosedSetEntryTestRecallIdItemSet.passes.Goals as goal
 
 pub returns : goal.returns
@@ -28,9 +13,9 @@ returns c =
     let captured = c.args.self.now.state.now.captured in
     let items = c.args.items.now in
     IfOk-weaker c.each_key.result
-        (λ b. IsTrue b ↔ ((i : List ℕ) → Contains c.items.result.now.keys i → (j : List ℕ) → Inside captured i j → IsTrue (set.contains items j)))
-        (λ b. IsTrue b ↔ ((i j : List ℕ) → IsTrue (set.contains items i) → Inside captured i j → IsTrue (set.contains items j)))
-        (λ b decides.
-            let each = each_item items c.items.result.now.keys c.items.ensures.items (λ i. (j : List ℕ) → Inside captured i j → IsTrue (set.contains items j)) b decides in
-            (λ h i j is. each.0 h i is j, λ all. each.1 (λ i is j. all i j is)))
-        c.each_key.ensures
+    (λ b. IsTrue b ↔ ((i : List ℕ) → Contains c.items.result.now.keys i → (j : List ℕ) → Inside captured i j → IsTrue (set.contains items j)))
+    (λ b. IsTrue b ↔ ((i j : List ℕ) → IsTrue (set.contains items i) → Inside captured i j → IsTrue (set.contains items j)))
+    (λ b decides.
+    let each = each_item items c.items.result.now.keys c.items.ensures.items (λ i. (j : List ℕ) → Inside captured i j → IsTrue (set.contains items j)) b decides in
+    (λ h i j is. each.0 h i is j, λ all. each.1 (λ i is j. all i j is)))
+    c.each_key.ensures

@@ -1,4 +1,4 @@
-use Rattle.std.proofs.Common.{◌≡◌, ◌↔◌, ℕ, List, sym, subst}
+use Rattle.std.proofs.Common.{◌↔◌, ℕ, List, sym, subst}
 use Rattle.std.specs.List.{Contains}
 use Rattle.std.specs.Prelude.{IsTrue}
 use Rattle.std.proofs.lemmas.Result.{IfOk-weaker}
@@ -17,9 +17,9 @@ returns c =
     let pairs = c.as_slice.result.now in
     let exact : (p : Pair) → Contains pairs p ↔ IsReachedBy records r p = λ p. subst (λ ps. Contains ps p ↔ IsReachedBy records r p) (sym c.as_slice.ensures.value) (c.in_ok-pairs.ensures p) in
     IfOk-weaker c.each_key.result
-        (λ b. IsTrue b ↔ ((i : List ℕ) → Contains c.items.result.now.keys i → Contains pairs (record { site = s; item = i })))
-        (λ b. IsTrue b ↔ ((i : List ℕ) → IsTrue (set.contains items i) → IsReachedBy records r (record { site = s; item = i })))
-        (λ b decides.
-            let each = each_item items c.items.result.now.keys c.items.ensures.items (λ i. Contains pairs (record { site = s; item = i })) b decides in
-            (λ h i is. (exact (record { site = s; item = i })).0 (each.0 h i is), λ all. each.1 (λ i is. (exact (record { site = s; item = i })).1 (all i is))))
-        c.each_key.ensures
+    (λ b. IsTrue b ↔ ((i : List ℕ) → Contains c.items.result.now.keys i → Contains pairs (record { site = s; item = i })))
+    (λ b. IsTrue b ↔ ((i : List ℕ) → IsTrue (set.contains items i) → IsReachedBy records r (record { site = s; item = i })))
+    (λ b decides.
+    let each = each_item items c.items.result.now.keys c.items.ensures.items (λ i. Contains pairs (record { site = s; item = i })) b decides in
+    (λ h i is. (exact (record { site = s; item = i })).0 (each.0 h i is), λ all. each.1 (λ i is. (exact (record { site = s; item = i })).1 (all i is))))
+    c.each_key.ensures

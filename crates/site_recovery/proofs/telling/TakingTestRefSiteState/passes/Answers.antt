@@ -1,26 +1,12 @@
-use Rattle.std.proofs.Common.{◌≡◌, ◌⊎◌, ◌↔◌, inl, inr, ℕ, ◌<◌, List, Bor, Some, None, refl, sym, ap, ◌∙◌, subst}
-use Rattle.std.specs.FinMap.{get, entries}
-use Rattle.std.specs.List.{Contains}
-use Rattle.std.specs.Prelude.{IsTrue, length}
+use Rattle.std.proofs.Common.{◌≡◌, ◌↔◌, ℕ, Some, refl, subst}
+use Rattle.std.specs.FinMap.{get}
+use Rattle.std.specs.Prelude.{IsTrue}
 use Rattle.std.proofs.lemmas.Result.{IfOk-weaker}
-use mathlib.Core.Bool.{false≢true}
 use Rattle.frame_core.specs.Numbers.{Recall}
 use Rattle.frame_core.specs.declared.rows.Row.{Row}
-use Rattle.scholten_core.specs.declared.own_recalls.Own.{Own}
-use Rattle.trace_core.specs.Spreads.{Inside}
-use Rattle.site_core.specs.ItemSets.{Items}
-use Rattle.site_core.specs.ItemSets as set
-use Rattle.site_core.specs.Records.{Record}
-use Rattle.site_core.specs.Ways as ways
 use Rattle.site_recovery.specs.Checking.{world_at}
-use Rattle.site_recovery.specs.Fit.{Tells}
-use Rattle.site_recovery.specs.FittingAt.{IsClosedAt}
-use Rattle.site_recovery.specs.Looks.{Held, Makes, Ships, row, seen, own}
-use Rattle.site_recovery.proofs.Absent.{no_item, no_row}
-use Rattle.site_recovery.proofs.Exact.{within_or_past}
-use Rattle.site_recovery.proofs.MapsOfSites.{Each, each_row, each_own, each_kept}
-use Rattle.site_recovery.proofs.QuarantinedItems.{each_item, each_held, held_is, kept_set}
-use Rattle.site_recovery.proofs.SitesInTurn.{each_site, past_end, place_of}
+use Rattle.site_recovery.specs.Looks.{Held, seen}
+use Rattle.site_recovery.proofs.MapsOfSites.{Each, each_row}
 use Rattle.site_recovery.proofs.telling.TakingTestRefSiteState.passes.Goals as goal
 
 pub returns : goal.returns
@@ -29,9 +15,9 @@ returns c =
     let state = c.args.state.now.now in
     let W = world_at t.sites.now in
     IfOk-weaker c.each_entry.result
-        (λ b. IsTrue b ↔ Each c.outbox.result.now.entries (λ n x. (q : Recall) → x.dest ≡ t.to → seen W t.to (record { site = c.me.result; number = n }) ≡ Some q → Held W t.to x.recall x.item))
-        (λ b. IsTrue b ↔ ((n : ℕ) (x : Row) → get state.engagement.outbox n ≡ Some x → (q : Recall) → x.dest ≡ t.to → seen W t.to (record { site = state.engagement.me; number = n }) ≡ Some q → Held W t.to x.recall x.item))
-        (λ b decides. subst (λ z. IsTrue b ↔ ((n : ℕ) (x : Row) → get state.engagement.outbox n ≡ Some x → (q : Recall) → x.dest ≡ t.to → seen W t.to (record { site = z; number = n }) ≡ Some q → Held W t.to x.recall x.item)) c.me.ensures.me
-          (each_row (λ _. state) 0 state refl b c.outbox.result.now.entries c.outbox.ensures.entries
-            (λ n x. (q : Recall) → x.dest ≡ t.to → seen W t.to (record { site = c.me.result; number = n }) ≡ Some q → Held W t.to x.recall x.item) decides))
-        c.each_entry.ensures
+    (λ b. IsTrue b ↔ Each c.outbox.result.now.entries (λ n x. (q : Recall) → x.dest ≡ t.to → seen W t.to (record { site = c.me.result; number = n }) ≡ Some q → Held W t.to x.recall x.item))
+    (λ b. IsTrue b ↔ ((n : ℕ) (x : Row) → get state.engagement.outbox n ≡ Some x → (q : Recall) → x.dest ≡ t.to → seen W t.to (record { site = state.engagement.me; number = n }) ≡ Some q → Held W t.to x.recall x.item))
+    (λ b decides. subst (λ z. IsTrue b ↔ ((n : ℕ) (x : Row) → get state.engagement.outbox n ≡ Some x → (q : Recall) → x.dest ≡ t.to → seen W t.to (record { site = z; number = n }) ≡ Some q → Held W t.to x.recall x.item)) c.me.ensures.me
+    (each_row (λ _. state) 0 state refl b c.outbox.result.now.entries c.outbox.ensures.entries
+    (λ n x. (q : Recall) → x.dest ≡ t.to → seen W t.to (record { site = c.me.result; number = n }) ≡ Some q → Held W t.to x.recall x.item) decides))
+    c.each_entry.ensures
