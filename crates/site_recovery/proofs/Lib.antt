@@ -20,7 +20,7 @@ pub mod Lifting
 pub mod Emitted
 pub mod Entries
 pub mod OneStep
-pub mod Places
+pub mod KeptPlaces
 pub mod MapsOfSites
 pub mod OneAfterAnother
 pub mod Exact

@@ -11,8 +11,10 @@ pub mod laws;
 mod looks;
 mod numbers;
 mod pairs;
+mod places;
 mod reaching;
 mod telling;
 mod waiting;
 
 pub use checking::{CheckFault, check_world};
+pub use places::are_all_sites;
