@@ -18,7 +18,6 @@ pub mod RelatedPlaces
 pub mod SearchLooks
 pub mod SearchSteps
 pub mod SetMembers
-pub mod SiteFinding
 pub mod SpreadSteps
 pub mod StandingPlaces
 pub mod Standings

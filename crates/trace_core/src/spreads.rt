@@ -31,7 +31,8 @@ impl Captured {
     }
 
     /// The spread of the given items, and how many looks it took. A look is one item taken from the
-    /// work list, or one output member of a transformation.
+    /// work list, or one output member of a transformation that is looked at, which happens once to each.
+    /// At 2^64 - 1 the count stays.
     pub fn spread_counted(&self, items: &[Epc]) -> Result<(Vec<Epc>, u64), AllocError>
         ensures ascending { IfOk result (λ counted. AreAscendingItems counted.0.items) }
         ensures exact { IfOk result (λ counted. (j : List ℕ) → Contains counted.0.items j ↔ IsSpread self.now items.now j) }
