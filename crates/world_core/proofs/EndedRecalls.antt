@@ -12,10 +12,15 @@ use Rattle.trace_core.specs.Chains.{Related}
 use Rattle.trace_core.specs.Relations.{Reaches}
 use Rattle.trace_core.specs.declared.pairs.Pair.{Pair}
 use Rattle.trace_core.proofs.PairOrder.{one_ascending}
-use Rattle.world_core.specs.Laws.{EndsAreExact, EndedStays, QuarantinesAscend}
+use Rattle.world_core.specs.Laws.{ComesOut, EndsAreExact, EndedStays, QuarantinesAscend, RunsComeOut, RunsFromTheStartComeOut}
 use Rattle.world_core.specs.Recalls.{HasEnded, quarantined}
-use Rattle.world_core.specs.Worlds.{WorldFits, record_of, records}
-use Rattle.world_core.proofs.Fitting.{run_keeps}
+use Rattle.world_core.specs.Turns.{Runs}
+use Rattle.world_core.specs.Keepers.{ComesFrom}
+use Rattle.world_core.specs.declared.events.Answer.{Answer}
+use Rattle.world_core.specs.declared.events.WorldEvent.{WorldEvent}
+use Rattle.world_core.specs.Worlds.{WorldFits, WorldState, record_of, records}
+use Rattle.world_core.proofs.Fitting.{run_keeps, runs_keep_the_fit}
+use Rattle.world_core.proofs.FreshSites.{fresh_sites_fit}
 use Rattle.world_core.proofs.HeldPairs.{pairs_ascend, pairs_held}
 use Rattle.world_core.proofs.KeptSteps.{sites_stand}
 
@@ -56,3 +61,23 @@ ended_stays old new events answers recall root fits run h =
           let same = stays.quarantine p.site p.item in
           (λ at. then'.1 (same.0 (now.0 at)), λ at. now.1 (same.1 (then'.0 at))));
     }
+
+-- All of it together.
+
+pub runs_come_out : RunsComeOut
+runs_come_out old new events answers fits run =
+    let now = runs_keep_the_fit old new events answers fits run in
+    record {
+      stand = sites_stand old new events answers run;
+      exact = λ recall. ended_is_exact new recall now;
+      ascend = λ recall. quarantines_ascend new recall now;
+      stay = λ recall root. ended_stays old new events answers recall root fits run;
+    }
+
+pub runs_from_the_start_come_out : RunsFromTheStartComeOut
+runs_from_the_start_come_out old new events answers one fresh none run = runs_come_out old new events answers (fresh_sites_fit old one fresh none) run
+
+-- whatever world comes by a run from one of those that fit comes out so
+pub comes_out : (was now : WorldState → Type 0) (events : List WorldEvent) (answers : List Answer)
+    → ((old : WorldState) → was old → WorldFits old) → ComesFrom was now (λ old new. Runs old events answers new) → ComesFrom was now (λ old new. ComesOut old events answers new)
+comes_out was now events answers fit runs new may = let r = runs new may in (r.0, r.1, runs_come_out r.0 new events answers (fit r.0 r.1) r.2)

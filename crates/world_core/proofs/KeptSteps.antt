@@ -20,7 +20,6 @@ use Rattle.world_core.specs.declared.events.Answer.TheVariants.{Done, Fault, Sen
 use Rattle.world_core.specs.Worlds.{Standing, Up, Down, WorldState, record_of, records}
 use Rattle.world_core.specs.Turns.{site_of, input_at, input_of_frame, frame_at, GoesDown, Steps, Stops, Sends, Reopens, TurnsAt, TurnsFrom, Turns, Runs}
 use Rattle.world_core.specs.KeptSteps.{Handed, Answered, Broken, StandsAfter, SitesStand, input_told, handed, handed_to}
-use Rattle.world_core.specs.Keepers.{ComesFrom}
 
 -- One place of a list.
 
@@ -225,7 +224,3 @@ sites_stand old new events answers h = record {
       let k = run_kept old new events answers site r new.sent [] (sym (append-nil new.sent)) h at in
       record { now = k.0; there = k.1; kept = k.2 };
 }
-
--- whatever world comes from another by a run, each of its sites stands so
-pub stand_from : (was now : WorldState → Type 0) (events : List WorldEvent) (answers : List Answer) → ComesFrom was now (λ old new. Runs old events answers new) → ComesFrom was now (λ old new. SitesStand old events answers new)
-stand_from was now events answers runs new may = let r = runs new may in (r.0, r.1, sites_stand r.0 new events answers r.2)

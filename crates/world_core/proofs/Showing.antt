@@ -2,9 +2,17 @@
 use Rattle.std.proofs.Common.{◌≡◌, ℕ, zero, suc, ◌+◌, ◌<◌, Option, Some, None, List, [], ◌∷◌, ◌++◌, length, get_or, take, refl, sym, ◌∙◌, ap, subst, arith, slice_get}
 use Rattle.std.specs.List.{AllZip}
 use Rattle.std.proofs.lemmas.List.{take_more}
+use Rattle.frame_core.specs.Numbers.{Recall}
+use Rattle.frame_core.specs.declared.frames.Frame.{Frame}
 use Rattle.site_core.specs.Records.{Record}
-use Rattle.world_core.specs.Worlds.{Standing, Up, Down}
-use Rattle.world_core.specs.Keepers.{StandsAs}
+use Rattle.trace_core.specs.Pairs.{IsStrictlyAscending}
+use Rattle.trace_core.specs.declared.pairs.Pair.{Pair}
+use Rattle.world_core.specs.Faults.{AreFresh, AreOneWorld}
+use Rattle.world_core.specs.Keepers.{AllShow, Sites, SitesFit, StandsAs}
+use Rattle.world_core.specs.Recalls.{AreExactOnceEnded, quarantined}
+use Rattle.world_core.specs.Worlds.{Standing, Up, Down, WorldState, record_of, records}
+use Rattle.world_core.proofs.EndedRecalls.{ended_is_exact, quarantines_ascend}
+use Rattle.world_core.proofs.FreshSites.{fresh_sites_fit}
 
 module _ {A B : Type 0} (R : A → B → Type 0) where
   zip_push : (xs : List A) (ys : List B) (x : A) (y : B) → AllZip R xs ys → R x y → AllZip R (xs ++ x ∷ []) (ys ++ y ∷ [])
@@ -34,3 +42,62 @@ module _ {K : Type 0} (shown : K → Option Record) (may : K → Record → Type
       let one : (standing : Standing) × R k standing =
       elim (shown k) as (λ o. shown k ≡ o → (standing : Standing) × R k standing) [ Some r ↦ λ e. (Up r, e) | None ↦ λ e. let m = some e in (Down m.0, (e, m.1)) ] refl in
       (sites ++ one.0 ∷ [], zip_more R keepers i sites k one.0 in' is z one.1)
+
+module _ {K : Type 0} (shown : K → Option Record) (may : K → Record → Type 0) where
+  -- where all keepers are open, there is one list of records that they show
+  pub shown_once : (keepers : List K) (rs ss : List Record) → AllShow shown keepers rs → AllShow shown keepers ss → rs ≡ ss
+  shown_once [] [] [] a b = refl
+  shown_once (k ∷ ks) (r ∷ rs) (s ∷ ss) a b =
+      let o : Some r ≡ Some s = sym a.0 ∙ b.0 in
+      let e : r ≡ s = cc in
+      let t = shown_once ks rs ss a.1 b.1 in
+      cc
+  shown_once [] [] (s ∷ ss) a b = absurd b
+  shown_once [] (r ∷ rs) ss a b = absurd a
+  shown_once (k ∷ ks) [] ss a b = absurd a
+  shown_once (k ∷ ks) (r ∷ rs) [] a b = absurd b
+
+  -- and one world that they may be
+  shown_records : (keepers : List K) (rs : List Record) (sites : List Standing) → AllShow shown keepers rs → AllZip (λ k standing. StandsAs (shown k) (may k) standing) keepers sites → map record_of sites ≡ rs
+  shown_records [] [] [] a z = refl
+  shown_records (k ∷ ks) (r ∷ rs) (Up q ∷ rest) a z =
+      let o : Some q ≡ Some r = sym z.0 ∙ a.0 in
+      let e : q ≡ r = cc in
+      let t = shown_records ks rs rest a.1 z.1 in
+      cc
+  shown_records (k ∷ ks) (r ∷ rs) (Down q ∷ rest) a z = let o : None ≡ Some r = sym z.0.0 ∙ a.0 in cc
+  shown_records [] [] (standing ∷ rest) a z = absurd z
+  shown_records [] (r ∷ rs) sites a z = absurd a
+  shown_records (k ∷ ks) [] sites a z = absurd a
+  shown_records (k ∷ ks) (r ∷ rs) [] a z = absurd z
+
+  all_up : (keepers : List K) (rs : List Record) → AllShow shown keepers rs → AllZip (λ k standing. StandsAs (shown k) (may k) standing) keepers (map (λ r. Up r) rs)
+  all_up [] [] a = tt
+  all_up (k ∷ ks) (r ∷ rs) a = (a.0, all_up ks rs a.1)
+  all_up [] (r ∷ rs) a = absurd a
+  all_up (k ∷ ks) [] a = absurd a
+
+  same_records : (rs : List Record) → map record_of (map (λ r. Up r) rs) ≡ rs
+  same_records [] = refl
+  same_records (r ∷ rs) = ap (λ qs. r ∷ qs) (same_records rs)
+
+  -- sites that show records at which nothing happened yet
+  pub fresh_shown : (keepers : List K) (sent : List Frame) (rs : List Record) → AllShow shown keepers rs → AreOneWorld rs → AreFresh rs → sent ≡ [] → SitesFit shown may (record { keepers = keepers; sent = sent })
+  fresh_shown keepers sent rs a one fresh none world z =
+      let same = shown_records keepers rs world.sites a z.0 in
+      fresh_sites_fit world (subst AreOneWorld (sym same) one) (subst AreFresh (sym same) fresh) (z.1 ∙ none)
+
+  -- what is told of the records that all sites show holds of all that they show
+  pub shown_exact : (sites : Sites K) (recall : Recall) (rs : List Record) (pairs : List Pair) → SitesFit shown may sites → AllShow shown sites.keepers rs → pairs ≡ quarantined recall rs
+      → IsStrictlyAscending pairs × ((ss : List Record) → AllShow shown sites.keepers ss → AreExactOnceEnded recall ss pairs)
+  shown_exact sites recall rs pairs fit a are =
+      let world : WorldState = record { sites = map (λ r. Up r) rs; sent = sites.sent } in
+      let fits = fit world (all_up sites.keepers rs a, refl) in
+      let same : map record_of (map (λ r. Up r) rs) ≡ rs = same_records rs in
+      (
+        subst IsStrictlyAscending (sym (are ∙ ap (quarantined recall) (sym same))) (quarantines_ascend world recall fits),
+        λ ss b.
+            let one : records world ≡ ss = same ∙ shown_once sites.keepers rs ss a b in
+            subst (AreExactOnceEnded recall ss) (sym (are ∙ ap (quarantined recall) (shown_once sites.keepers rs ss a b)))
+            (subst (λ qs. AreExactOnceEnded recall qs (quarantined recall qs)) one (ended_is_exact world recall fits)),
+      )

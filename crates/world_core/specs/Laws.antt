@@ -43,3 +43,26 @@ abbrev pub EndedStays : Type 0
 EndedStays =
     (old new : WorldState) (events : List WorldEvent) (answers : List Answer) (recall : Recall) (root : List ℕ)
     → WorldFits old → Runs old events answers new → HasEnded recall root (records old) → StaysEnded recall root (records old) (records new)
+
+-- What a run makes of sites that fit together.
+pub record ComesOut (old : WorldState) (events : List WorldEvent) (answers : List Answer) (new : WorldState) : Type 0 where
+  -- each site stands as its answered steps in order, with each step that it went down in whole or absent
+  pub stand : SitesStand old events answers new
+  -- whenever the site that began a recall has recorded its end, what is quarantined under it, at all sites, is what its root
+  -- reaches
+  pub exact : (recall : Recall) → AreExactOnceEnded recall (records new) (quarantined recall (records new))
+  -- in which each pair is told once
+  pub ascend : (recall : Recall) → IsStrictlyAscending (quarantined recall (records new))
+  -- and a recall that has ended stays so, with the same pairs
+  pub stay : (recall : Recall) (root : List ℕ) → HasEnded recall root (records old) → StaysEnded recall root (records old) (records new)
+
+-- So it does whatever happens, in whatever order, and whatever it is answered: steps that are refused, lost, repeated or
+-- late frames, sites that stop within a step and are opened again.
+abbrev pub RunsComeOut : Type 0
+RunsComeOut = (old new : WorldState) (events : List WorldEvent) (answers : List Answer) → WorldFits old → Runs old events answers new → ComesOut old events answers new
+
+-- So it does from the start.
+abbrev pub RunsFromTheStartComeOut : Type 0
+RunsFromTheStartComeOut =
+    (old new : WorldState) (events : List WorldEvent) (answers : List Answer)
+    → AreOneWorld (records old) → AreFresh (records old) → old.sent ≡ [] → Runs old events answers new → ComesOut old events answers new

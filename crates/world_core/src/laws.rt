@@ -1,6 +1,6 @@
 //! Laws of runs. Each is a function with an empty body whose contract is the law.
 
-ghost use Rattle.world_core.specs.Laws.{EndedStays, EndsAreExact, FramesStay, FreshSitesFit, QuarantinesAscend, RunsKeepTheFit, SitesStandAsKept, TurnsKeepTheFit};
+ghost use Rattle.world_core.specs.Laws.{EndedStays, EndsAreExact, FramesStay, FreshSitesFit, QuarantinesAscend, RunsComeOut, RunsFromTheStartComeOut, RunsKeepTheFit, SitesStandAsKept, TurnsKeepTheFit};
 ghost use Rattle.world_core.specs.SendingLaws.{FramesWereEmittable};
 
 /// After every run a site stands as its answered steps in order, with each that it went down in whole or absent.
@@ -26,6 +26,14 @@ pub fn an_end_is_exact()
 /// A recall that has ended stays so, with the same pairs.
 pub fn an_ended_recall_stays()
     ensures { EndedStays }
+{}
+
+/// After any list of events, answered from sites that fit together, as those do at which nothing happened yet: each site
+/// stands as its answered steps in order, with each step that it went down in whole or absent; and whenever the site that
+/// began a recall has recorded its end, what is quarantined under it, at all sites, is what its root reaches, and stays so.
+pub fn the_headline()
+    ensures runs { RunsComeOut }
+    ensures start { RunsFromTheStartComeOut }
 {}
 
 /// Every frame that a run sent was emittable, at a moment of the run, by the record of a site that was up.

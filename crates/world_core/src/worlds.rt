@@ -2,10 +2,11 @@ ghost use Rattle.std.specs.Prelude.{◌≡◌, List, [], IfOk, IfErr, OnOk, OnEr
 ghost use Rattle.frame_core.specs.Rows.{frame_of};
 ghost use Rattle.site_core.specs.Records.{Record};
 ghost use Rattle.world_core.specs.Faults.{AreFresh, AreOneWorld, HindersKeepers, IfClosed};
-ghost use Rattle.world_core.specs.Keepers.{AllShow, ComesFrom, IsFirstClosed, MayBe};
+ghost use Rattle.trace_core.specs.Pairs.{IsStrictlyAscending};
+ghost use Rattle.world_core.specs.Keepers.{AllShow, ComesFrom, IsFirstClosed, MayBe, SitesFit};
 ghost use Rattle.world_core.specs.Kinds.{KeepersTurn};
-ghost use Rattle.world_core.specs.KeptSteps.{SitesStand};
-ghost use Rattle.world_core.specs.Recalls.{ended_in, quarantined};
+ghost use Rattle.world_core.specs.Laws.{ComesOut};
+ghost use Rattle.world_core.specs.Recalls.{AreExactOnceEnded, ended_in, quarantined};
 ghost use Rattle.world_core.specs.Turns.{Turns, Runs, frame_at};
 ghost use Rattle.world_core.specs.Worlds.{WorldState};
 
@@ -32,11 +33,14 @@ pub struct World<K: SiteKeeper> {
 }
 
 impl<K: SiteKeeper> Model for World<K> {
-    ghost use Rattle.world_core.specs.Keepers.{Sites};
+    ghost use Rattle.world_core.specs.Keepers.{Sites, SitesFit};
 
     ghost Value = { Sites K };
 
     ghost view = { λ w. record { keepers = w.keepers.items; sent = w.sent.items } };
+
+    // In whatever records the closed sites are opened, all fit together.
+    ghost invariant = { λ w. SitesFit K.shown K.may (record { keepers = w.keepers.items; sent = w.sent.items }) };
 }
 
 impl<K: SiteKeeper> World<K> {
@@ -71,13 +75,14 @@ impl<K: SiteKeeper> World<K> {
     }
 
     /// A list of events, one after another, and the answer to each. Each site stands then as its answered steps in
-    /// order, with each step that it stopped in whole or absent.
+    /// order, with each step that it went down in whole or absent; and whenever the site that began a recall has recorded
+    /// its end, what is quarantined under it, at all sites, is what its root reaches, and stays so.
     ///
     /// # Errors
     /// Where there is no room for all answers: before the first event, and nothing changes.
     pub fn run(&mut self, events: Vec<WorldEvent>) -> Result<Vec<Answer>, AllocError>
         ensures run { IfOk result (λ answers. ComesFrom (MayBe K.shown K.may self.old) (MayBe K.shown K.may self.new) (λ old new. Runs old events.items answers.items new)) }
-        ensures kept { IfOk result (λ answers. ComesFrom (MayBe K.shown K.may self.old) (MayBe K.shown K.may self.new) (λ old new. SitesStand old events.items answers.items new)) }
+        ensures out { IfOk result (λ answers. ComesFrom (MayBe K.shown K.may self.old) (MayBe K.shown K.may self.new) (λ old new. ComesOut old events.items answers.items new)) }
         ensures err { OnErr result (self.new ≡ self.old) }
     {
         let mut answers = Vec::with_capacity(self.alloc, events.len())?;
@@ -103,12 +108,16 @@ impl<K: SiteKeeper> World<K> {
         Some(sent_at(&self.sent, place)?.view())
     }
 
-    /// What is quarantined under a recall, at all sites: by site, and then by item.
+    /// What is quarantined under a recall, at all sites: each pair once, by site, and then by item. Once the site that
+    /// began the recall has recorded its end, these are just the pairs that chains of made and shipped items reach from its
+    /// root, through the events that all sites captured.
     ///
     /// # Errors
     /// `Closed` with the least site that is closed.
     pub fn quarantined(&self, recall: RecallId) -> Result<Vec<Pair>, ViewFault>
         ensures ok { IfOk result (λ pairs. (records : List Record) × AllShow K.shown self.now.keepers records × (pairs.items ≡ quarantined recall records)) }
+        ensures ascending { IfOk result (λ pairs. IsStrictlyAscending pairs.items) }
+        ensures exact { IfOk result (λ pairs. (records : List Record) → AllShow K.shown self.now.keepers records → AreExactOnceEnded recall records pairs.items) }
         ensures closed { IfErr result (λ fault. IfClosed fault (IsFirstClosed K.shown self.now.keepers)) }
     {
         let states = views(self.alloc, &self.keepers)?;
@@ -123,9 +132,10 @@ impl<K: SiteKeeper> World<K> {
         ended_at(self.view(recall.site)?, recall)
     }
 
-    /// The sites may be some world: what is said of each that they may be isn't said of none.
+    /// The sites may be some world: what is said of each that they may be isn't said of none. Each fits together.
     pub fn stands(&self)
-        ensures { (world : WorldState) × MayBe K.shown K.may self.now world }
+        ensures some { (world : WorldState) × MayBe K.shown K.may self.now world }
+        ensures fits { SitesFit K.shown K.may self.now }
     {
         each_stands(&self.keepers);
     }
