@@ -1,8 +1,7 @@
 -- Every frame of a run was emittable by the record of an open site, at a moment of the run.
-use Rattle.std.proofs.Common.{◌≡◌, ◌⊎◌, ℕ, Option, Some, None, List, [], ◌∷◌, ◌++◌, Contains, refl, sym, ◌∙◌, ap, subst, inl, inr, ⊎_elim, slice_get}
+use Rattle.std.proofs.Common.{◌≡◌, ◌⊎◌, ℕ, Option, Some, None, List, [], ◌∷◌, ◌++◌, Contains, refl, ap, subst, inl, inr, ⊎_elim, slice_get}
 use Rattle.frame_core.specs.declared.frames.Frame.{Frame}
 use Rattle.site_core.specs.Emitting as emitting
-use Rattle.site_core.specs.Records.{Record}
 use Rattle.trace_core.proofs.Members.{contains_here, contains_there, contains_cases, contains_none}
 use Rattle.world_core.specs.declared.events.WorldEvent.{WorldEvent}
 use Rattle.world_core.specs.declared.events.WorldEvent.TheVariants.{Step, Send, Stop, Reopen}
@@ -10,7 +9,7 @@ use Rattle.world_core.specs.declared.events.Answer.{Answer}
 use Rattle.world_core.specs.declared.events.Answer.TheVariants.{Sent, NoFrame, NoMemory}
 use Rattle.world_core.specs.SendingLaws.{IsEmittable, WasEmittable}
 use Rattle.world_core.specs.Worlds.{Standing, Up, Down, WorldState}
-use Rattle.world_core.specs.Turns.{site_of, Sends, TurnsAt, TurnsFrom, Turns, Runs}
+use Rattle.world_core.specs.Turns.{site_of, Sends, TurnsAt, TurnsFrom, Runs}
 
 pushed : (sent : List Frame) (x y : Frame) → Contains (sent ++ x ∷ []) y → Contains sent y ⊎ (x ≡ y)
 pushed [] x y h = ⊎_elim (λ e. inr e) (λ none. absurd (contains_none y none)) (contains_cases x y [] h)
