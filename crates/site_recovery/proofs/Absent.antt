@@ -3,8 +3,6 @@ use Rattle.std.proofs.Common.{◌≡◌, ℕ, false, List, [], None, sym, ap, �
 use Rattle.std.specs.Ordering.{nat_cmp}
 use Rattle.std.specs.FinMap.{get-empty}
 use Rattle.std.specs.FinMap as map
-use Rattle.std.specs.Prelude.{slice_get}
-use Rattle.std.proofs.lemmas.List.{get_or_past}
 use Rattle.frame_core.specs.Identifiers.{recall_cmp, message_cmp}
 use Rattle.frame_core.specs.Numbers.{Recall, Message}
 use Rattle.site_core.specs.Quarantines.{held}

@@ -1,5 +1,5 @@
 -- The climb along parents takes at most as many steps as there are sites.
-use Rattle.std.proofs.Common.{◌≡◌, ◌≢◌, ◌⊎◌, ◌↔◌, inl, inr, ℕ, zero, suc, ◌+◌, ◌-◌, ◌<◌, ◌≤◌, Bool, true, false, cond, ◌||◌, List, [], ◌∷◌, length, Option, Some, None, refl, sym, ap, ◌∙◌, subst, arith, eqb, eqb-true, eq-eqb, ne_eqb, true≢false}
+use Rattle.std.proofs.Common.{◌≡◌, ◌↔◌, inl, inr, ℕ, zero, suc, ◌+◌, ◌-◌, ◌<◌, ◌≤◌, Bool, true, false, cond, ◌||◌, List, [], ◌∷◌, length, Option, Some, None, refl, sym, ap, ◌∙◌, subst, arith, eqb, eqb-true, eq-eqb, ne_eqb, true≢false}
 use Rattle.std.specs.Prelude.{IsTrue}
 use Rattle.std.specs.List.{IsDistinct, AllByRecursion, list_any}
 use Rattle.std.proofs.lemmas.List.{get_or_past}
@@ -100,13 +100,13 @@ module _ (W : World) (r : Recall) (n counter here start : ℕ) (so_far : reaches
   pub stuck_now : counter < n → eqb here r.site ≡ false → None ≡ parent W here r → false ≡ reaches W r n start
   stuck_now low away none =
       sym (ap (λ b. cond b true (elim (parent W here r) [ None ↦ false | Some m ↦ reaches W r (n - (counter + 1)) m.site ])) away
-          ∙ ap (λ (p : Option Message). elim p [ None ↦ false | Some m ↦ reaches W r (n - (counter + 1)) m.site ]) (sym none))
+      ∙ ap (λ (p : Option Message). elim p [ None ↦ false | Some m ↦ reaches W r (n - (counter + 1)) m.site ]) (sym none))
       ∙ left_over low
 
   pub one_up : counter < n → eqb here r.site ≡ false → (m : Message) → Some m ≡ parent W here r → reaches W r (n - (counter + 1)) m.site ≡ reaches W r n start
   one_up low away m up =
       sym (ap (λ b. cond b true (elim (parent W here r) [ None ↦ false | Some m ↦ reaches W r (n - (counter + 1)) m.site ])) away
-          ∙ ap (λ (p : Option Message). elim p [ None ↦ false | Some m ↦ reaches W r (n - (counter + 1)) m.site ]) (sym up))
+      ∙ ap (λ (p : Option Message). elim p [ None ↦ false | Some m ↦ reaches W r (n - (counter + 1)) m.site ]) (sym up))
       ∙ left_over low
 
   pub at_end : n ≤ counter → eqb here r.site ≡ reaches W r n start

@@ -1,5 +1,5 @@
 -- The entries of a map are what is found in it.
-use Rattle.std.proofs.Common.{◌≡◌, ◌↔◌, ◌⊎◌, inl, inr, Bool, true, false, cond, List, [], ◌∷◌, Some, None, refl, sym, ap, ◌∙◌, subst}
+use Rattle.std.proofs.Common.{◌≡◌, ◌↔◌, inl, inr, Bool, cond, List, [], ◌∷◌, Some, None, refl, sym, ap, ◌∙◌, subst}
 use Rattle.std.specs.Prelude.{T, IsTrue}
 use Rattle.std.specs.Cmp.{IsTotalOrder}
 use Rattle.std.specs.Ordering.{is_eq}
@@ -38,9 +38,9 @@ module _ {K X : Type 0} {R : K → K → Ordering} (o : IsTotalOrder R) where
     found_there (e ∷ es) k v is = elim (R k e.0) as (λ r. R k e.0 ≡ r → cond (is_eq r) (Some e.1) (find R k es) ≡ Some v → Contains (e ∷ es) (k, v)) [
       | Less ↦ λ _ h. contains_there e (k, v) es (found_there es k v h)
       | Equal ↦ λ tie h.
-        let value : e.1 ≡ v = cc in
-        let same : e ≡ (k, v) = (λ i. (sym (exact k e.0 tie) i, value i)) in
-        subst (Contains (e ∷ es)) same (contains_here e es)
+          let value : e.1 ≡ v = cc in
+          let same : e ≡ (k, v) = (λ i. (sym (exact k e.0 tie) i, value i)) in
+          subst (Contains (e ∷ es)) same (contains_here e es)
       | Greater ↦ λ _ h. contains_there e (k, v) es (found_there es k v h)
     ] refl is
 

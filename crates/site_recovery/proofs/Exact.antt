@@ -75,10 +75,17 @@ module _ (records : List Record) (places : AreInPlace records) where
         | inr made ↦ inl (sym (made.0 ∙ me), inr (refl, made.1))
       ]
 
+  -- reach by looks, and by the relation of several sites
+  pub reached_related : (a : ℕ) (root : List ℕ) (p : Pair) → Reaches (LeadsTo (world_of records)) (record { site = a; item = root }) p ↔ Reaches (Related (captured_of records)) (record { site = a; item = root }) p
+  reached_related a root p = (
+    reach_widens (LeadsTo (world_of records)) (Related (captured_of records)) leads_related (record { site = a; item = root }) p,
+    reach_widens (Related (captured_of records)) (LeadsTo (world_of records)) related_leads (record { site = a; item = root }) p,
+  )
+
   pub ends_exactly : Fit (world_of records) → (r : Recall) (o : Own) → own (world_of records) r.site r.number ≡ Some o → IsTrue o.ended
       → (s : ℕ) (i : List ℕ) → Held (world_of records) s r i ↔ Reaches (Related (captured_of records)) (record { site = r.site; item = o.root }) (record { site = s; item = i })
   ends_exactly f r o is ended s i =
       let exact = exact_end (world_of records) f r o is ended s i in (
-        λ h. reach_widens (LeadsTo (world_of records)) (Related (captured_of records)) leads_related _ _ (exact.0 h),
-        λ reach. exact.1 (reach_widens (Related (captured_of records)) (LeadsTo (world_of records)) related_leads _ _ reach),
+        λ h. (reached_related r.site o.root (record { site = s; item = i })).0 (exact.0 h),
+        λ reach. exact.1 ((reached_related r.site o.root (record { site = s; item = i })).1 reach),
       )

@@ -3,6 +3,8 @@ pub mod Changes
 pub mod Chains
 pub mod Parents
 pub mod Growing
+pub mod QuarantinedItems
+pub mod ReachOfRoots
 pub mod RelatedItems
 pub mod SameRows
 pub mod SitesInTurn
@@ -13,11 +15,12 @@ pub mod Climbing
 pub mod Opening
 pub mod EndedStays
 pub mod OneSite
+pub mod LeastMisfit
 pub mod Lifting
 pub mod Emitted
 pub mod Entries
 pub mod OneStep
-pub mod Places
+pub mod KeptPlaces
 pub mod MapsOfSites
 pub mod OneAfterAnother
 pub mod Exact

@@ -1,5 +1,5 @@
 -- A test of each element of a list, one after another.
-use Rattle.std.proofs.Common.{◌≡◌, ◌⊎◌, ◌↔◌, inl, inr, ℕ, zero, suc, ◌+◌, ◌<◌, ◌≤◌, Bool, true, false, List, [], ◌∷◌, length, get_or, Option, Some, None, refl, sym, ap, ◌∙◌, subst, arith, ltb}
+use Rattle.std.proofs.Common.{◌≡◌, ◌⊎◌, ◌↔◌, inl, inr, ℕ, ◌+◌, ◌<◌, ◌≤◌, Bool, true, false, List, [], ◌∷◌, length, get_or, refl, sym, ap, ◌∙◌, subst, arith, ltb}
 use mathlib.Core.Bool.{false≢true}
 use Rattle.std.specs.Prelude.{IsTrue}
 use Rattle.std.specs.List.{Contains}
@@ -51,8 +51,8 @@ module _ {X : Type 0} (P : X → Type 0) where
   one_more_passed whole n y is passes so_far k x low within at = elim (lower_or_last k n low) as (λ _. P x) [
     | inl lower ↦ so_far k x lower within at
     | inr last ↦
-      let same : y ≡ x = is ∙ get_or_default whole n y x (subst (λ j. j < length whole) last within) ∙ ap (λ j. get_or whole j x) (sym last) ∙ at in
-      subst P same passes
+        let same : y ≡ x = is ∙ get_or_default whole n y x (subst (λ j. j < length whole) last within) ∙ ap (λ j. get_or whole j x) (sym last) ∙ at in
+        subst P same passes
   ]
 
   pub all_below_passed : (whole : List X) (n : ℕ) → length whole ≤ n → PassedBelow whole n → (x : X) → Contains whole x → P x

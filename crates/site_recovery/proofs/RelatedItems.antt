@@ -6,8 +6,6 @@ use Rattle.std.specs.Cmp.{nat_cmp_total}
 use Rattle.std.specs.FinMap.{FinMap, get, entries, nat_cmp-IsAntisymmetric}
 use Rattle.std.specs.List.{Contains, Any}
 use Rattle.std.specs.Prelude.{IsTrue}
-use Rattle.event_json.specs.Events.{Content}
-use Rattle.frame_core.specs.Numbers.{Recall}
 use Rattle.frame_core.specs.Orders.{recall_total, recall_exact}
 use Rattle.frame_core.specs.declared.rows.Row.{Row}
 use Rattle.frame_core.proofs.Lookups.{one_key}
@@ -29,11 +27,11 @@ found_one P decide [] some = absurd (some (λ x at _. contains_none x at))
 found_one P decide (y ∷ ys) some = elim (decide y) [
   | inl here ↦ (y, contains_here y ys, here)
   | inr fails ↦
-    let later = found_one P decide ys (λ none. some (λ x at holds. elim (contains_cases y x ys at) as (λ _. ⊥) [
-      | inl same ↦ fails (subst P (sym same) holds)
-      | inr there ↦ none x there holds
-    ])) in
-    (later.0, contains_there y later.0 ys later.1, later.2)
+      let later = found_one P decide ys (λ none. some (λ x at holds. elim (contains_cases y x ys at) as (λ _. ⊥) [
+        | inl same ↦ fails (subst P (sym same) holds)
+        | inr there ↦ none x there holds
+      ])) in
+      (later.0, contains_there y later.0 ys later.1, later.2)
 ]
 
 -- a test that fails where something is there
@@ -58,8 +56,8 @@ pub ships_decided : (c : SiteEvents) (i : List ℕ) (to : ℕ) (pairs : List Pai
     → (IsTrue b ↔ ((p : Pair) → Contains pairs p → p.site ≡ to → ⊥)) → IsTrue (not b) ↔ IsShipped c i (record { site = to; item = i })
 ships_decided c i to pairs b exact apart decides =
     denied b ((p : Pair) → Contains pairs p → p.site ≡ to → ⊥) (IsShipped c i (record { site = to; item = i })) decides
-        (λ some. let p = found_one (λ p. p.site ≡ to) (λ p. one_place p.site to) pairs some in shipped_to c i to p.0 apart p.2 ((exact p.0).0 p.1))
-        (λ shipped none. none (record { site = to; item = i }) ((exact (record { site = to; item = i })).1 (inl shipped)) refl)
+    (λ some. let p = found_one (λ p. p.site ≡ to) (λ p. one_place p.site to) pairs some in shipped_to c i to p.0 apart p.2 ((exact p.0).0 p.1))
+    (λ shipped none. none (record { site = to; item = i }) ((exact (record { site = to; item = i })).1 (inl shipped)) refl)
 
 one_row : (x y : Row) → (x ≡ y) ⊎ (x ≢ y)
 one_row x y = elim (one_place x.dest y.dest) as (λ _. (x ≡ y) ⊎ (x ≢ y)) [
@@ -76,10 +74,10 @@ one_row x y = elim (one_place x.dest y.dest) as (λ _. (x ≡ y) ⊎ (x ≢ y)) 
 pub tells_decided : (m : FinMap nat_cmp Row) (es : List (ℕ × Row)) → es ≡ entries m → (x : Row) (b : Bool) → (IsTrue b ↔ Each es (λ _ y. y ≡ x → ⊥)) → IsTrue (not b) ↔ ((n : ℕ) × (get m n ≡ Some x))
 tells_decided m es same x b decides =
     denied b (Each es (λ _ y. y ≡ x → ⊥)) ((n : ℕ) × (get m n ≡ Some x)) decides
-        (λ some.
-            let e = found_one (λ (e : ℕ × Row). e.1 ≡ x) (λ e. one_row e.1 x) es (λ none. some (λ k v at. none (k, v) at)) in
-            (e.0.0, entry_found nat_cmp_total m e.0.0 e.0.1 (subst (λ xs. Contains xs e.0) same e.1) ∙ ap Some e.2))
-        (λ told none. none told.0 x (subst (λ xs. Contains xs (told.0, x)) (sym same) (entry_there nat_cmp_total nat_cmp-IsAntisymmetric m told.0 x told.1)) refl)
+    (λ some.
+    let e = found_one (λ (e : ℕ × Row). e.1 ≡ x) (λ e. one_row e.1 x) es (λ none. some (λ k v at. none (k, v) at)) in
+    (e.0.0, entry_found nat_cmp_total m e.0.0 e.0.1 (subst (λ xs. Contains xs e.0) same e.1) ∙ ap Some e.2))
+    (λ told none. none told.0 x (subst (λ xs. Contains xs (told.0, x)) (sym same) (entry_there nat_cmp_total nat_cmp-IsAntisymmetric m told.0 x told.1)) refl)
 
 pub made_decided : (c : SiteEvents) (i : List ℕ) (pairs : List Pair) (items : Items) (b : Bool) → AreRelated c i pairs
     → (IsTrue b ↔ ((p : Pair) → Contains pairs p → p.site ≡ c.me → IsTrue (set.contains items p.item))) → IsTrue b ↔ ((j : List ℕ) → Inside c i j → IsTrue (set.contains items j))
@@ -87,3 +85,18 @@ made_decided c i pairs items b exact decides = (
   λ h j inside. decides.0 h (record { site = c.me; item = j }) ((exact (record { site = c.me; item = j })).1 inside) refl,
   λ all. decides.1 (λ p at here. all p.item (subst (λ z. IsRelated c i (record { site = z; item = p.item })) here ((exact p).0 at))),
 )
+
+one_pair : (p q : Pair) → (p ≡ q) ⊎ (p ≢ q)
+one_pair p q = elim (one_place p.site q.site) as (λ _. (p ≡ q) ⊎ (p ≢ q)) [
+  | inr apart ↦ inr (λ same. apart (ap (λ (z : Pair). z.site) same))
+  | inl site ↦ elim (one_key item_total item_exact p.item q.item) as (λ _. (p ≡ q) ⊎ (p ≢ q)) [
+    | inr apart ↦ inr (λ same. apart (ap (λ (z : Pair). z.item) same))
+    | inl item ↦ inl (λ i. record { site = site i; item = item i })
+  ]
+]
+
+pub among_decided : (pairs : List Pair) (q : Pair) (b : Bool) → (IsTrue b ↔ ((p : Pair) → Contains pairs p → p ≡ q → ⊥)) → IsTrue (not b) ↔ Contains pairs q
+among_decided pairs q b decides =
+    denied b ((p : Pair) → Contains pairs p → p ≡ q → ⊥) (Contains pairs q) decides
+    (λ some. let p = found_one (λ p. p ≡ q) (λ p. one_pair p q) pairs some in subst (Contains pairs) p.2 p.1)
+    (λ at none. none q at refl)

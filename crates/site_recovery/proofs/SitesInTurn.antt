@@ -1,5 +1,5 @@
 -- The records that references point to, one site after another.
-use Rattle.std.proofs.Common.{◌≡◌, ◌⊎◌, ◌↔◌, inl, inr, ℕ, zero, suc, ◌+◌, ◌<◌, ◌≤◌, Bool, true, false, List, [], ◌∷◌, length, get_or, map, Bor, Option, Some, None, is_some, refl, sym, ap, ◌∙◌, subst, arith}
+use Rattle.std.proofs.Common.{◌≡◌, ◌↔◌, inl, inr, ℕ, ◌<◌, ◌≤◌, Bool, List, [], ◌∷◌, length, get_or, Bor, Some, None, is_some, refl, sym, ap, ◌∙◌, subst, arith}
 use Rattle.std.specs.FinMap.{get}
 use Rattle.std.specs.FinMap as finite
 use Rattle.std.specs.Prelude.{IsTrue}
@@ -9,9 +9,9 @@ use mathlib.Core.Bool.{false≢true}
 use Rattle.frame_core.specs.Numbers.{Recall, Message}
 use Rattle.site_core.specs.ItemSets.{Items, item_cmp}
 use Rattle.site_core.specs.ItemSets as set
-use Rattle.site_core.specs.Quarantines.{HasNoEmptySet, or_none, held}
+use Rattle.site_core.specs.Quarantines.{HasNoEmptySet, or_none}
 use Rattle.site_core.specs.Records.{Record, fresh}
-use Rattle.site_recovery.specs.Checking.{records_at, world_at, IsLeastUnmet}
+use Rattle.site_recovery.specs.Checking.{records_at, world_at}
 use Rattle.site_recovery.specs.FittingAt.{AreAllSites}
 use Rattle.site_recovery.specs.Looks.{World, Held, seen}
 use Rattle.site_core.proofs.Held.{none_held}
@@ -20,7 +20,6 @@ use Rattle.trace_core.proofs.Members.{contains_here}
 use Rattle.site_recovery.proofs.Absent.{none_seen, no_item}
 use Rattle.site_recovery.proofs.Entries.{entry_found}
 use Rattle.site_recovery.proofs.Exact.{within_or_past}
-use Rattle.site_recovery.proofs.OneAfterAnother.{lower_or_last}
 
 counted : (refs : List (Bor Record)) → length (records_at refs) ≡ length refs
 counted refs = length-map refs (λ r. r.now)
@@ -36,7 +35,7 @@ some_site (y ∷ ys) s below =
     let at : get_or (y ∷ ys) s x ≡ x = get_or_default (y ∷ ys) s x y below in
     (x, (s, below, at), site_of (y ∷ ys) s x below at)
 
-past_end : (refs : List (Bor Record)) (s : ℕ) → length refs ≤ s → world_at refs s ≡ fresh [] s
+pub past_end : (refs : List (Bor Record)) (s : ℕ) → length refs ≤ s → world_at refs s ≡ fresh [] s
 past_end refs s past = get_or_past (records_at refs) s (fresh [] s) (subst (λ n. n ≤ s) (sym (counted refs)) past)
 
 -- what each record passes, each site passes
@@ -95,3 +94,6 @@ each_recall_of refs all P b decides =
           let one = some_held (world_at refs) s (all s (subst (λ n. s < n) (sym (counted refs)) below)).sound.no_empty_set r items is in
           every s r one.0 one.1),
     )
+
+pub place_of : (refs : List (Bor Record)) → AreAllSites (records_at refs) → (s : ℕ) → s < length refs → (world_at refs s).engagement.me ≡ s
+place_of refs all s below = (all s (subst (λ n. s < n) (sym (counted refs)) below)).place.engagement

@@ -10,7 +10,7 @@ use Rattle.site_recovery.proofs.EmptySites.{empty_sites_fit}
 use Rattle.site_recovery.proofs.Exact.{ends_exactly}
 use Rattle.site_recovery.proofs.OneSite.{set_here, set_elsewhere}
 use Rattle.site_recovery.proofs.OneStep.{still_steps}
-use Rattle.site_recovery.proofs.Places.{step_keeps_places}
+use Rattle.site_recovery.proofs.KeptPlaces.{step_keeps_places}
 use Rattle.trace_core.proofs.Members.{contains_cases, contains_none}
 
 pub ends_are_exact : EndsAreExact

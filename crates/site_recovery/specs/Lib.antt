@@ -3,3 +3,4 @@ pub mod Fit
 pub mod FittingAt
 pub mod Laws
 pub mod Looks
+pub mod Misfits

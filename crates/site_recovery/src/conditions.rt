@@ -27,6 +27,7 @@ pub(crate) trait Condition {
 }
 
 /// Two conditions together.
+#[derive(Drop)]
 pub(crate) struct Both<A, B> {
     pub(crate) first: A,
     pub(crate) second: B,
@@ -42,8 +43,10 @@ impl<A: Condition, B: Condition> Condition for Both<A, B> {
         site: SiteNo,
         state: &SiteState,
     ) -> Result<bool, AllocError> {
-        Ok(self.first.holds_at(alloc, sites, site, state)?
-            && self.second.holds_at(alloc, sites, site, state)?)
+        Ok(
+            self.first.holds_at(alloc, sites, site, state)?
+                && self.second.holds_at(alloc, sites, site, state)?,
+        )
     }
 }
 

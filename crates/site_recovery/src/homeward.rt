@@ -45,13 +45,16 @@ impl EntryTest<RecallId, MsgId> for StandingParent<'_> {
         recall: &RecallId,
         message: &MsgId,
     ) -> Result<bool, AllocError> {
-        Ok(seen(self.sites, self.site, *message) == Some(*recall)
-            && has_row(self.sites, *message, self.site, *recall))
+        Ok(
+            seen(self.sites, self.site, *message) == Some(*recall)
+                && has_row(self.sites, *message, self.site, *recall),
+        )
     }
 }
 
 /// The site has seen each of its parents under the parent's recall, and the row stands where it was
 /// sent.
+#[derive(Drop)]
 pub(crate) struct ParentsStand;
 
 impl Condition for ParentsStand {
@@ -112,6 +115,7 @@ impl EntryTest<RecallId, MsgId> for HomewardRecall<'_> {
 }
 
 /// The site isn't engaged for its own recalls, and from it parents lead to the initiator.
+#[derive(Drop)]
 pub(crate) struct ParentsLeadHome;
 
 impl Condition for ParentsLeadHome {

@@ -1,11 +1,20 @@
 //! When the records of all sites fit together, and that each event keeps them so.
 #![tactic(auto)]
 
+mod checking;
+mod closing;
 mod conditions;
 mod every;
 mod homeward;
+mod justifying;
 pub mod laws;
 mod looks;
 mod numbers;
 mod pairs;
+mod places;
+mod reaching;
+mod telling;
 mod waiting;
+
+pub use checking::{CheckFault, check_world};
+pub use places::are_all_sites;

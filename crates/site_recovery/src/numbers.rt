@@ -28,6 +28,7 @@ impl<V> EntryTest<u64, V> for BelowNext {
 }
 
 /// The numbers of the site's rows are below its next message number.
+#[derive(Drop)]
 pub(crate) struct RowsBelow;
 
 impl Condition for RowsBelow {
@@ -50,6 +51,7 @@ impl Condition for RowsBelow {
 }
 
 /// The numbers of the site's own recalls are below its next recall number.
+#[derive(Drop)]
 pub(crate) struct OwnBelow;
 
 impl Condition for OwnBelow {
@@ -106,6 +108,7 @@ impl<'a> Test<&'a SiteState> for MessageBelow {
 }
 
 /// The numbers of the site's messages are below its next one where they were seen.
+#[derive(Drop)]
 pub(crate) struct SeenBelow;
 
 impl Condition for SeenBelow {
@@ -163,6 +166,7 @@ impl<'a> Test<&'a SiteState> for RecallBelow {
 }
 
 /// The numbers of the site's recalls are below its next one where items are quarantined under them.
+#[derive(Drop)]
 pub(crate) struct HeldBelow;
 
 impl Condition for HeldBelow {

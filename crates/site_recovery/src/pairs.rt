@@ -79,9 +79,9 @@ pub(crate) fn tells(
 
 /// What is made of items of a site's set.
 #[derive(Drop)]
-struct Made<'a> {
-    state: &'a SiteState,
-    items: &'a ItemSet,
+pub(crate) struct Made<'a> {
+    pub(crate) state: &'a SiteState,
+    pub(crate) items: &'a ItemSet,
 }
 
 impl Test<Pair> for Made<'_> {

@@ -56,12 +56,15 @@ impl EntryTest<u64, Row> for WaitingRow<'_> {
     ghost holds = { λ t n x. IsEngaged (world_at t.sites.now) t.site x.recall ⊎ ((t.site ≡ x.recall.site) × IsLive (world_at t.sites.now) x.recall) };
 
     fn passes(&self, _alloc: Global, _number: &u64, row: &Row) -> Result<bool, AllocError> {
-        Ok(is_engaged(self.sites, self.site, row.recall)
-            || (self.site == row.recall.site && is_live(self.sites, row.recall)))
+        Ok(
+            is_engaged(self.sites, self.site, row.recall)
+                || (self.site == row.recall.site && is_live(self.sites, row.recall)),
+        )
     }
 }
 
 /// The site has rows only of recalls that it is engaged for, or that it began and that haven't ended.
+#[derive(Drop)]
 pub(crate) struct Waiting;
 
 impl Condition for Waiting {
@@ -100,6 +103,7 @@ impl EntryTest<u64, Row> for QuietRow<'_> {
 }
 
 /// The site has no row of a recall that it began and that has ended.
+#[derive(Drop)]
 pub(crate) struct EndsAreQuiet;
 
 impl Condition for EndsAreQuiet {

@@ -51,16 +51,16 @@ is_related-by_events s item p =
     ∙ ap (λ b. ((other && list_any ship s.events) && same) || b) made)
 
 -- a list's item is one more of the items at the site
-pub one_more_item : (old cur new : BTreeSet Pair) (me : ℕ) (items : List (List ℕ)) (i : ℕ) (y x : List ℕ) → i < length items → y ≡ get_or items i y → x ≡ y
-    → Updates pair_cmp cur new (record { site = me; item = x }) true
+pub one_more_item : (old cur new : BTreeSet Pair) (me : ℕ) (items : List (List ℕ)) (i : ℕ) (y : List ℕ) → i < length items → y ≡ get_or items i y
+    → ((p : Pair) → is_in new p ≡ (is_in cur p || (p.site == me && same_item y p.item)))
     → ((p : Pair) → is_in cur p ≡ (is_in old p || (p.site == me && lists (take i items) p.item)))
     → (p : Pair) → is_in new p ≡ (is_in old p || (p.site == me && lists (take (i + 1) items) p.item))
-one_more_item old cur new me items i y x lt at copied upd so_far p =
-    let more : lists (take (i + 1) items) p.item ≡ (lists (take i items) p.item || same_item x p.item) =
-    list_any_more (λ j. same_item j p.item) items i y lt ∙ ap (λ z. lists (take i items) p.item || same_item z p.item) (sym at ∙ sym copied) in
-    is_in-insert cur new (record { site = me; item = x }) upd p
-    ∙ ap (λ b. b || (p.site == me && same_item x p.item)) (so_far p)
-    ∙ more_inside (is_in old p) (p.site == me) (lists (take i items) p.item) (same_item x p.item)
+one_more_item old cur new me items i y lt at added so_far p =
+    let more : lists (take (i + 1) items) p.item ≡ (lists (take i items) p.item || same_item y p.item) =
+    list_any_more (λ j. same_item j p.item) items i y lt ∙ ap (λ z. lists (take i items) p.item || same_item z p.item) (sym at) in
+    added p
+    ∙ ap (λ b. b || (p.site == me && same_item y p.item)) (so_far p)
+    ∙ more_inside (is_in old p) (p.site == me) (lists (take i items) p.item) (same_item y p.item)
     ∙ ap (λ b. is_in old p || (p.site == me && b)) (sym more)
 
 -- at another site

@@ -1,40 +1,31 @@
 -- What a search adds that comes to each transformation once.
-use Rattle.std.proofs.Common.{◌≡◌, ◌==◌, ℕ, ◌<◌, ◌≤◌, ◌+◌, Bool, true, false, not, ◌&&◌, ◌||◌, List, Option, Some, None, length, take, get_or, slice_get, ◌↔◌, refl, sym, ap, subst, ◌∙◌, inl, inr, ⊎_elim}
+use Rattle.std.proofs.Common.{◌≡◌, ◌==◌, ℕ, ◌<◌, ◌≤◌, ◌+◌, Bool, true, false, not, ◌&&◌, ◌||◌, List, [], ◌∷◌, Option, Some, None, length, take, get_or, slice_get, ◌↔◌, refl, sym, ap, subst, ◌∙◌, inl, inr, ⊎_elim}
 use mathlib.Core.Bool.{false≢true}
 use mathlib.Core.Logic.{◌⊎◌}
 use Rattle.std.specs.BTreeSet.{BTreeSet, Updates}
-use Rattle.std.specs.Cmp.{IsTotalOrder}
 use Rattle.std.specs.List.{list_any, Contains}
-use Rattle.std.specs.Ordering.{nat_cmp}
 use Rattle.std.proofs.lemmas.Bool.{or_cases, and_parts, eqb-true, eq-eqb}
-use Rattle.std.proofs.lemmas.Cmp.{then_total, on_total, nat_cmp_total}
 use Rattle.std.proofs.lemmas.List.{take_all}
 use Rattle.std.proofs.lemmas.List.Folds.{list_any_more}
-use Rattle.std.proofs.lemmas.Map.Lookups.{CmpEqualImpliesEq, exact_pairs, exact_unsigned}
 use Rattle.std.proofs.lemmas.Option.{slice_get-get_or, slice_get_cases, get_or_from_slice_get}
 use Rattle.event_json.specs.Events.{Content}
 use Rattle.event_json.specs.declared.bodies.Body.{Body}
 use Rattle.trace_core.specs.declared.groups.Group.{Group}
 use Rattle.trace_core.specs.declared.pairs.Pair.{Pair}
-use Rattle.trace_core.specs.Gathering.{is_in, shipped_by, made_by, joined_by, related_by}
-use Rattle.trace_core.specs.Groups.{group_cmp, IsSeen, outs_of, Gives, IsGiven, AddsUnseen, SeesOnly}
-use Rattle.trace_core.specs.Pairs.{make_id, IsRelated}
-use Rattle.trace_core.specs.PairTests.{same_id, takes_in, gives_out, is_related}
+use Rattle.trace_core.specs.Gathering.{is_in, shipped_by, made_by, joined_by}
+use Rattle.trace_core.specs.Groups.{group_cmp, IsSeen, outs_of, Gives, IsGiven, AddsUnseen, SeesOnly, sought_by, IsSought}
+use Rattle.trace_core.specs.Pairs.{make_id}
+use Rattle.trace_core.specs.PairTests.{same_id, same_item, ships, takes_in, gives_out, is_related}
 use Rattle.trace_core.specs.Places.{at_place, places_where, names_item}
 use Rattle.trace_core.specs.Searches.{IsFound}
 use Rattle.trace_core.specs.Sites.{SiteEvents}
-use Rattle.trace_core.proofs.Booleans.{more_inside}
-use Rattle.trace_core.proofs.Members.{list_any_member}
+use Rattle.trace_core.proofs.Booleans.{list_any-same}
+use Rattle.trace_core.proofs.GroupOrder.{groups_total, groups_exact}
+use Rattle.trace_core.proofs.Members.{list_any_member, list_any_witness}
 use Rattle.trace_core.proofs.PairTestsDecide.{same_id_decides, related_decides}
 use Rattle.trace_core.proofs.PlaceLists.{place_passes}
 use Rattle.trace_core.proofs.RelatedPlaces.{slice_there, related_at, related_by_places}
 use Rattle.trace_core.proofs.SetMembers.{found-insert}
-
-pub groups_exact : CmpEqualImpliesEq group_cmp
-groups_exact a b h = ap (λ (p : ℕ × ℕ). record { site = p.0; first = p.1 }) (exact_pairs nat_cmp nat_cmp exact_unsigned exact_unsigned (a.site, a.first) (b.site, b.first) h)
-
-pub groups_total : IsTotalOrder group_cmp
-groups_total = then_total (on_total (λ g. g.site) nat_cmp_total) (on_total (λ g. g.first) nat_cmp_total)
 
 module _ (events : List Content) (j : List ℕ) where
   or_same : (a b : Bool) → (a ≡ true → b ≡ true) → (a || b) ≡ b
@@ -42,7 +33,7 @@ module _ (events : List Content) (j : List ℕ) where
   or_same false b h = refl
 
   -- among events with an id, what it gives is what is joined to it
-  outs_joined : (e : Content) (id : List ℕ) → Contains events e → make_id e.body ≡ Some id → outs_of events j e.body ≡ joined_by events e.body j
+  pub outs_joined : (e : Content) (id : List ℕ) → Contains events e → make_id e.body ≡ Some id → outs_of events j e.body ≡ joined_by events e.body j
   outs_joined e id there is = or_same (gives_out j e.body) (joined_by events e.body j) (λ gives.
       list_any_member (λ f. same_id (make_id e.body) (make_id f.body) && gives_out j f.body) events e there
       (ap (λ b. b && gives_out j e.body) ((same_id_decides (make_id e.body) (make_id e.body)).1 (id, is, is)) ∙ gives))
@@ -63,6 +54,18 @@ module _ (events : List Content) (j : List ℕ) where
       ap (at_place (λ f. outs_of events j f.body)) (slice_get-get_or events first f below ∙ ap Some at)
       ∙ same_outs f e (first, below, at) (let (lt, at') = slice_there events k e stands in (k, lt, at')) (ap (λ (c : Body). same_id (make_id f.body) (make_id c)) is ∙ same)
       ∙ ap (outs_of events j) is
+
+  -- an event without an id gives its own outputs
+  pub outs_alone : (b : Body) → make_id b ≡ None → outs_of events j b ≡ gives_out j b
+  outs_alone b none = ap (λ o. gives_out j b || list_any (λ f. same_id o (make_id f.body) && gives_out j f.body) events) none ∙ ap (λ c. gives_out j b || c) (none_joined events) ∙ or_no (gives_out j b)
+    where
+      none_joined : (fs : List Content) → list_any (λ f. same_id None (make_id f.body) && gives_out j f.body) fs ≡ false
+      none_joined [] = refl
+      none_joined (f ∷ fs) = none_joined fs
+
+      or_no : (a : Bool) → (a || false) ≡ a
+      or_no true = refl
+      or_no false = refl
 
   pub own_gives : (k : ℕ) (e : Content) (b : Body) → slice_get events k ≡ Some e → e.body ≡ b → at_place (λ f. outs_of events j f.body) (slice_get events k) ≡ outs_of events j b
   own_gives k e b stands is = ap (at_place (λ f. outs_of events j f.body)) stands ∙ ap (outs_of events j) is
@@ -170,28 +173,32 @@ adds_again s site first P seen seen' pairs upd there gives = record {
       ((found-insert group_cmp groups_total groups_exact seen seen' (record { site = site; first = first }) upd (record { site = site; first = other })).0 found);
 }
 
-module _ (s : SiteEvents) (item : List ℕ) (e : Content) where
+module _ (ships : Bool) (s : SiteEvents) (item : List ℕ) (e : Content) where
   -- an output of the event's transformation, at the site
   abbrev pub makes : Pair → Bool
   makes q = q.site == s.me && outs_of s.events q.item e.body
 
+  -- shipped, where shipments are asked for
+  abbrev pub sends : Pair → Bool
+  sends q = ships && shipped_by s.me item e.body q
+
   made_by_taking : takes_in item e.body ≡ true → (q : Pair) → made_by s.me s.events item e.body q ≡ makes q
   made_by_taking takes q = ap (λ b. q.site == s.me && (b && outs_of s.events q.item e.body)) takes
 
-  either_related : takes_in item e.body ≡ true → (q : Pair) → ((shipped_by s.me item e.body q ≡ true) ⊎ (makes q ≡ true)) ↔ (related_by s.me s.events item e.body q ≡ true)
-  either_related takes q = (
-    λ h. ap (λ b. shipped_by s.me item e.body q || b) (made_by_taking takes q) ∙ or_true (shipped_by s.me item e.body q) (makes q) h,
-    λ h. or_cases (shipped_by s.me item e.body q) (makes q) (ap (λ b. shipped_by s.me item e.body q || b) (sym (made_by_taking takes q)) ∙ h),
+  either_sought : takes_in item e.body ≡ true → (q : Pair) → ((sends q ≡ true) ⊎ (makes q ≡ true)) ↔ (sought_by ships s.me s.events item e.body q ≡ true)
+  either_sought takes q = (
+    λ h. ap (λ b. sends q || b) (made_by_taking takes q) ∙ or_true (sends q) (makes q) h,
+    λ h. or_cases (sends q) (makes q) (ap (λ b. sends q || b) (sym (made_by_taking takes q)) ∙ h),
   )
     where
       or_true : (a b : Bool) → (a ≡ true) ⊎ (b ≡ true) → (a || b) ≡ true
       or_true true b h = refl
       or_true false b h = ⊎_elim (λ no. absurd (false≢true no)) (λ yes. yes) h
 
-  only_shipped : takes_in item e.body ≡ false → (q : Pair) → (shipped_by s.me item e.body q ≡ true) ↔ (related_by s.me s.events item e.body q ≡ true)
-  only_shipped takes q =
+  only_sent : takes_in item e.body ≡ false → (q : Pair) → (sends q ≡ true) ↔ (sought_by ships s.me s.events item e.body q ≡ true)
+  only_sent takes q =
       let none : made_by s.me s.events item e.body q ≡ false = ap (λ b. q.site == s.me && (b && outs_of s.events q.item e.body)) takes ∙ and_no (q.site == s.me) in
-      let same : related_by s.me s.events item e.body q ≡ shipped_by s.me item e.body q = ap (λ b. shipped_by s.me item e.body q || b) none ∙ or_no (shipped_by s.me item e.body q) in
+      let same : sought_by ships s.me s.events item e.body q ≡ sends q = ap (λ b. sends q || b) none ∙ or_no (sends q) in
       (λ h. same ∙ h, λ h. sym same ∙ h)
     where
       and_no : (a : Bool) → (a && false) ≡ false
@@ -202,39 +209,36 @@ module _ (s : SiteEvents) (item : List ℕ) (e : Content) where
       or_no true = refl
       or_no false = refl
 
-  module _ (k site : ℕ) (stands : slice_get s.events k ≡ Some e) (seen seen' : BTreeSet Group) (x y : BTreeSet Pair) (shipped : (q : Pair) → is_in y q ≡ (is_in x q || shipped_by s.me item e.body q)) where
-    abbrev RelatedHere : Pair → Type 0
-    RelatedHere q = at_place (λ f. related_by s.me s.events item f.body q) (slice_get s.events k) ≡ true
+  module _ (k site : ℕ) (stands : slice_get s.events k ≡ Some e) (seen seen' : BTreeSet Group) (x y : BTreeSet Pair) (sent : (q : Pair) → is_in y q ≡ (is_in x q || sends q)) where
+    abbrev SoughtHere : Pair → Type 0
+    SoughtHere q = at_place (λ f. sought_by ships s.me s.events item f.body q) (slice_get s.events k) ≡ true
 
-    here : (P : Pair → Type 0) (z : BTreeSet Pair) (b : BTreeSet Group) → ((q : Pair) → P q ↔ (related_by s.me s.events item e.body q ≡ true)) → AddsUnseen (λ groups q. IsGiven s site groups q) P seen b x z
-        → AddsUnseen (λ groups q. IsGiven s site groups q) RelatedHere seen b x z
-    here P z b same = adds_same (λ groups q. IsGiven s site groups q) P RelatedHere seen b x z (λ q.
-        let is : at_place (λ f. related_by s.me s.events item f.body q) (slice_get s.events k) ≡ related_by s.me s.events item e.body q = ap (at_place (λ f. related_by s.me s.events item f.body q)) stands in
+    here : (P : Pair → Type 0) (z : BTreeSet Pair) (b : BTreeSet Group) → ((q : Pair) → P q ↔ (sought_by ships s.me s.events item e.body q ≡ true)) → AddsUnseen (λ groups q. IsGiven s site groups q) P seen b x z
+        → AddsUnseen (λ groups q. IsGiven s site groups q) SoughtHere seen b x z
+    here P z b same = adds_same (λ groups q. IsGiven s site groups q) P SoughtHere seen b x z (λ q.
+        let is : at_place (λ f. sought_by ships s.me s.events item f.body q) (slice_get s.events k) ≡ sought_by ships s.me s.events item e.body q = ap (at_place (λ f. sought_by ships s.me s.events item f.body q)) stands in
         (λ h. is ∙ (same q).0 h, λ h. (same q).1 (sym is ∙ h)))
 
-    shipped_adds : AddsUnseen (λ groups q. IsGiven s site groups q) (λ q. shipped_by s.me item e.body q ≡ true) seen seen x y
-    shipped_adds = adds_pairs (λ groups q. IsGiven s site groups q) (λ q. shipped_by s.me item e.body q) seen x y shipped
+    sent_adds : AddsUnseen (λ groups q. IsGiven s site groups q) (λ q. sends q ≡ true) seen seen x y
+    sent_adds = adds_pairs (λ groups q. IsGiven s site groups q) sends seen x y sent
 
     -- the event isn't a transformation of the item
-    pub event_ships : takes_in item e.body ≡ false → AddsUnseen (λ groups q. IsGiven s site groups q) RelatedHere seen seen x y
-    event_ships takes = here (λ q. shipped_by s.me item e.body q ≡ true) y seen (only_shipped takes) shipped_adds
+    pub event_ships : takes_in item e.body ≡ false → AddsUnseen (λ groups q. IsGiven s site groups q) SoughtHere seen seen x y
+    event_ships takes = here (λ q. sends q ≡ true) y seen (only_sent takes) sent_adds
 
     module _ (first : ℕ) (takes : takes_in item e.body ≡ true) (stood_for : (j : List ℕ) → at_place (λ f. outs_of s.events j f.body) (slice_get s.events first) ≡ outs_of s.events j e.body) (upd : Updates group_cmp seen seen' (record { site = site; first = first }) true) where
       -- its transformation is new
-      pub event_new : (w z : BTreeSet Pair) → ((q : Pair) → is_in w q ≡ (is_in y q || (q.site == s.me && gives_out q.item e.body))) → ((q : Pair) → is_in z q ≡ (is_in w q || (q.site == s.me && joined_by s.events e.body q.item)))
-          → AddsUnseen (λ groups q. IsGiven s site groups q) RelatedHere seen seen' x z
-      event_new w z gave joined =
-          let made : (q : Pair) → is_in z q ≡ (is_in y q || makes q) = λ q.
-          joined q ∙ ap (λ b. b || (q.site == s.me && joined_by s.events e.body q.item)) (gave q) ∙ more_inside (is_in y q) (q.site == s.me) (gives_out q.item e.body) (joined_by s.events e.body q.item) in
-          here (λ q. (shipped_by s.me item e.body q ≡ true) ⊎ (makes q ≡ true)) z seen' (either_related takes)
-          (adds_both (λ groups q. IsGiven s site groups q) (λ q. shipped_by s.me item e.body q ≡ true) (λ q. makes q ≡ true) seen seen seen' x y z shipped_adds
+      pub event_new : (z : BTreeSet Pair) → ((q : Pair) → is_in z q ≡ (is_in y q || makes q)) → AddsUnseen (λ groups q. IsGiven s site groups q) SoughtHere seen seen' x z
+      event_new z made =
+          here (λ q. (sends q ≡ true) ⊎ (makes q ≡ true)) z seen' (either_sought takes)
+          (adds_both (λ groups q. IsGiven s site groups q) (λ q. sends q ≡ true) (λ q. makes q ≡ true) seen seen seen' x y z sent_adds
           (adds_group s site first makes seen seen' y z upd made (λ q (own, given). ap (λ b. b && outs_of s.events q.item e.body) (eq-eqb q.site s.me own) ∙ sym (stood_for q.item) ∙ given)))
 
       -- it was seen before
-      pub event_again : IsSeen seen site first → AddsUnseen (λ groups q. IsGiven s site groups q) RelatedHere seen seen' x y
+      pub event_again : IsSeen seen site first → AddsUnseen (λ groups q. IsGiven s site groups q) SoughtHere seen seen' x y
       event_again there =
-          here (λ q. (shipped_by s.me item e.body q ≡ true) ⊎ (makes q ≡ true)) y seen' (either_related takes)
-          (adds_both (λ groups q. IsGiven s site groups q) (λ q. shipped_by s.me item e.body q ≡ true) (λ q. makes q ≡ true) seen seen seen' x y y shipped_adds
+          here (λ q. (sends q ≡ true) ⊎ (makes q ≡ true)) y seen' (either_sought takes)
+          (adds_both (λ groups q. IsGiven s site groups q) (λ q. sends q ≡ true) (λ q. makes q ≡ true) seen seen seen' x y y sent_adds
           (adds_again s site first (λ q. makes q ≡ true) seen seen' y upd there
           (λ q made. let (own, outs) = and_parts (q.site == s.me) (outs_of s.events q.item e.body) made in (eqb-true q.site s.me own, stood_for q.item ∙ outs))))
 
@@ -253,31 +257,65 @@ pub was_seen : {b : Bool} (there : Bool) → b ≡ not there → b ≡ false →
 was_seen true is h = refl
 was_seen {b} false is h = absurd (false≢true (sym h ∙ is))
 
+-- a key that is new wasn't there
+pub wasnt_seen : {b : Bool} (there : Bool) → b ≡ not there → b ≡ true → there ≡ false
+wasnt_seen false is h = refl
+wasnt_seen {b} true is h = absurd (false≢true (sym is ∙ h))
+
 same_site : (me : ℕ) (events : List Content) (s : SiteEvents) → me ≡ s.me → events ≡ s.events → record { me = me; events = events } ≡ s
 same_site me events s is are = ap (λ (m : ℕ). record { me = m; events = events }) is ∙ ap (λ (es : List Content). record { me = s.me; events = es }) are
 
--- what the event at a place relates the item to
-abbrev pub HereOf : SiteEvents → List ℕ → ℕ → Pair → Type 0
-HereOf t item k q = at_place (λ e. related_by t.me t.events item e.body q) (slice_get t.events k) ≡ true
+-- what the event at a place leads the item to
+abbrev pub sought_at : Bool → SiteEvents → List ℕ → Pair → Option Content → Bool
+sought_at ships t item q o = at_place (λ e. sought_by ships t.me t.events item e.body q) o
 
-module _ (s : SiteEvents) (item : List ℕ) (site : ℕ) (places : List ℕ) where
-  -- what the events at the first so many places relate the item to
+module _ (s : SiteEvents) (item : List ℕ) (q : Pair) where
+  own_sought : (q.site == s.me) ≡ true → (o : Option Content) → sought_at false s item q o ≡ related_at s.me s.events item o q
+  own_sought own None = refl
+  own_sought own (Some e) = sym (ap (λ b. (not b && (ships item q.site e.body && same_item item q.item)) || made_by s.me s.events item e.body q) own)
+
+  own_only : (o : Option Content) → sought_at false s item q o ≡ true → (q.site == s.me) ≡ true
+  own_only None h = absurd (false≢true h)
+  own_only (Some e) h = (and_parts (q.site == s.me) (takes_in item e.body && outs_of s.events q.item e.body) h).0
+
+  -- the events that name the item lead to all that is sought
+  pub sought_places : (ships : Bool) → (list_any (λ k. sought_at ships s item q (slice_get s.events k)) (places_where (names_item item) s.events) ≡ true) ↔ IsSought ships s item q
+  sought_places true =
+      let is = related_by_places s item q in
+      let decides = related_decides s item q in
+      (λ h. decides.0 (sym is ∙ h), λ h. is ∙ decides.1 h)
+  sought_places false =
+      let places = places_where (names_item item) s.events in
+      let is : (q.site == s.me) ≡ true → list_any (λ k. sought_at false s item q (slice_get s.events k)) places ≡ is_related s item q = λ own.
+      list_any-same (λ k. sought_at false s item q (slice_get s.events k)) (λ k. related_at s.me s.events item (slice_get s.events k) q) (λ k. own_sought own (slice_get s.events k)) places ∙ related_by_places s item q in
+      let decides = related_decides s item q in (
+        λ h.
+            let (k, in', at) = list_any_witness (λ k. sought_at false s item q (slice_get s.events k)) places h in
+            let own = own_only (slice_get s.events k) at in
+            ⊎_elim (λ (other, same, any). absurd (other (eqb-true q.site s.me own))) (λ made. made) (decides.0 (sym (is own) ∙ h)),
+        λ (own, any). is (eq-eqb q.site s.me own) ∙ decides.1 (inr (own, any)),
+      )
+
+module _ (ships : Bool) (s : SiteEvents) (item : List ℕ) (site : ℕ) (places : List ℕ) where
+  -- what the events at the first so many places lead the item to
   abbrev pub SoFar : ℕ → Pair → Type 0
-  SoFar n q = list_any (λ k. related_at s.me s.events item (slice_get s.events k) q) (take n places) ≡ true
+  SoFar n q = list_any (λ k. sought_at ships s item q (slice_get s.events k)) (take n places) ≡ true
 
   -- one place more
   pub place_added : (n k me : ℕ) (events : List Content) (a b c : BTreeSet Group) (x y z : BTreeSet Pair) → n < length places → k ≡ get_or places n k → me ≡ s.me → events ≡ s.events
-      → AddsUnseen (λ groups q. IsGiven s site groups q) (SoFar n) a b x y → AddsUnseen (λ groups q. IsGiven (record { me = me; events = events }) site groups q) (HereOf (record { me = me; events = events }) item k) b c y z
+      → AddsUnseen (λ groups q. IsGiven s site groups q) (SoFar n) a b x y
+      → AddsUnseen (λ groups q. IsGiven (record { me = me; events = events }) site groups q) (λ q. sought_at ships (record { me = me; events = events }) item q (slice_get events k) ≡ true) b c y z
       → AddsUnseen (λ groups q. IsGiven s site groups q) (SoFar (n + 1)) a c x z
   place_added n k me events a b c x y z below at is are so_far added =
-      let now : AddsUnseen (λ groups q. IsGiven s site groups q) (HereOf s item k) b c y z =
-      subst (λ (t : SiteEvents). AddsUnseen (λ groups q. IsGiven t site groups q) (HereOf t item k) b c y z) (same_site me events s is are) added in
-      adds_same (λ groups q. IsGiven s site groups q) (λ q. SoFar n q ⊎ HereOf s item k q) (SoFar (n + 1)) a c x z
+      let HereOf : SiteEvents → Pair → Type 0 = λ t q. sought_at ships t item q (slice_get t.events k) ≡ true in
+      let now : AddsUnseen (λ groups q. IsGiven s site groups q) (HereOf s) b c y z =
+      subst (λ (t : SiteEvents). AddsUnseen (λ groups q. IsGiven t site groups q) (HereOf t) b c y z) (same_site me events s is are) added in
+      adds_same (λ groups q. IsGiven s site groups q) (λ q. SoFar n q ⊎ HereOf s q) (SoFar (n + 1)) a c x z
       (λ q.
-      let test : ℕ → Bool = λ j. related_at s.me s.events item (slice_get s.events j) q in
+      let test : ℕ → Bool = λ j. sought_at ships s item q (slice_get s.events j) in
       let more : list_any test (take (n + 1) places) ≡ (list_any test (take n places) || test k) = list_any_more test places n k below ∙ ap (λ j. list_any test (take n places) || test j) (sym at) in
       (λ h. more ∙ either (list_any test (take n places)) (test k) h, λ h. or_cases (list_any test (take n places)) (test k) (sym more ∙ h)))
-      (adds_both (λ groups q. IsGiven s site groups q) (SoFar n) (HereOf s item k) a b c x y z so_far now)
+      (adds_both (λ groups q. IsGiven s site groups q) (SoFar n) (HereOf s) a b c x y z so_far now)
     where
       either : (a b : Bool) → (a ≡ true) ⊎ (b ≡ true) → (a || b) ≡ true
       either true b h = refl
@@ -285,9 +323,8 @@ module _ (s : SiteEvents) (item : List ℕ) (site : ℕ) (places : List ℕ) whe
 
   -- all places
   pub places_added : (n : ℕ) (a b : BTreeSet Group) (x y : BTreeSet Pair) → length places ≤ n → places ≡ places_where (names_item item) s.events
-      → AddsUnseen (λ groups q. IsGiven s site groups q) (SoFar n) a b x y → AddsUnseen (λ groups q. IsGiven s site groups q) (λ q. IsRelated s item q) a b x y
-  places_added n a b x y past are = adds_same (λ groups q. IsGiven s site groups q) (SoFar n) (λ q. IsRelated s item q) a b x y (λ q.
-      let is : list_any (λ k. related_at s.me s.events item (slice_get s.events k) q) (take n places) ≡ is_related s item q =
-      ap (list_any (λ k. related_at s.me s.events item (slice_get s.events k) q)) (take_all n places past ∙ are) ∙ related_by_places s item q in
-      let decides = related_decides s item q in
-      (λ h. decides.0 (sym is ∙ h), λ h. is ∙ decides.1 h))
+      → AddsUnseen (λ groups q. IsGiven s site groups q) (SoFar n) a b x y → AddsUnseen (λ groups q. IsGiven s site groups q) (λ q. IsSought ships s item q) a b x y
+  places_added n a b x y past are = adds_same (λ groups q. IsGiven s site groups q) (SoFar n) (λ q. IsSought ships s item q) a b x y (λ q.
+      let is = ap (list_any (λ k. sought_at ships s item q (slice_get s.events k))) (take_all n places past ∙ are) in
+      let sought = sought_places s item q ships in
+      (λ h. sought.0 (sym is ∙ h), λ h. is ∙ sought.1 h))

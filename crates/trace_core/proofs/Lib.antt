@@ -3,9 +3,11 @@ pub mod AddingSteps
 pub mod Booleans
 pub mod ChainLaws
 pub mod GatheringSteps
+pub mod GroupOrder
 pub mod GroupSteps
 pub mod Growing
 pub mod HasTargets
+pub mod LookSteps
 pub mod Members
 pub mod PairLaws
 pub mod PairOrder
@@ -13,9 +15,9 @@ pub mod PairTestsDecide
 pub mod PlaceLists
 pub mod PlaceSteps
 pub mod RelatedPlaces
+pub mod SearchLooks
 pub mod SearchSteps
 pub mod SetMembers
-pub mod SiteFinding
 pub mod SpreadSteps
 pub mod StandingPlaces
 pub mod Standings

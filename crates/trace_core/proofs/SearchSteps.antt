@@ -150,10 +150,10 @@ module _ {K : Type 0} (cmp : K → K → Ordering) (R : K → K → Type 0) (sta
   pub visit_goes_on : {S : Type 0} (G : S → K → Type 0) (seen seen' : S) (found found' : BTreeSet K) (waiting rest waiting' : List K) (node : K) → GroupSearches G seen found waiting → waiting ≡ rest ++ node ∷ []
       → Visits cmp (R node) G seen seen' found found' rest waiting' → ((n : K) → R node n → Contains targets n) → GroupSearches G seen' found' waiting'
   visit_goes_on G seen seen' found found' waiting rest waiting' node so_far popped visited has = record {
-    searched = search_goes_on found found' waiting rest waiting' node visited.nodes so_far.searched popped visited.sound
-        (λ n r. ⊎_elim (λ there. visited.noted.nodes_found n there) (λ before. visited.noted.found_stay n (so_far.given n before)) (visited.complete n r))
-        (λ n h. has n (visited.sound n h)) visited.noted;
-    given = λ n h. ⊎_elim (λ before. visited.noted.found_stay n (so_far.given n before)) (λ there. visited.noted.nodes_found n there) (visited.given n h);
+    searched = search_goes_on found found' waiting rest waiting' node visited.nodes so_far.searched popped visited.unseen.sound
+        (λ n r. ⊎_elim (λ there. visited.noted.nodes_found n there) (λ before. visited.noted.found_stay n (so_far.given n before)) (visited.unseen.complete n r))
+        (λ n h. has n (visited.unseen.sound n h)) visited.noted;
+    given = λ n h. ⊎_elim (λ before. visited.noted.found_stay n (so_far.given n before)) (λ there. visited.noted.nodes_found n there) (visited.unseen.given n h);
   }
 
   module _ (o : IsTotalOrder cmp) where

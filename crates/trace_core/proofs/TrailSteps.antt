@@ -1,5 +1,5 @@
 -- The steps of a search, and the trails that they leave.
-use Rattle.std.proofs.Common.{◌≡◌, ◌≢◌, ◌<◌, ◌≤◌, ◌+◌, ◌-◌, ℕ, zero, suc, true, false, not, cond, List, [], ◌∷◌, ◌++◌, map, length, get_or, All, ◌↔◌, refl, sym, ap, ◌∙◌, subst, inl, inr, ⊎_elim, append_assoc, length-append, arith}
+use Rattle.std.proofs.Common.{◌≡◌, ◌≢◌, ◌<◌, ◌≤◌, ◌+◌, ◌-◌, ℕ, zero, suc, true, false, not, cond, List, [], ◌∷◌, ◌++◌, map, length, get_or, All, refl, sym, ap, ◌∙◌, subst, inl, inr, ⊎_elim, append_assoc, length-append, arith}
 use mathlib.Core.Logic.{◌⊎◌}
 use Rattle.std.specs.BTreeSet.{BTreeSet, contains, Updates, IsOrdered, btree_set_len}
 use Rattle.std.specs.Cmp.{eq_by_cmp_equiv}
@@ -12,11 +12,12 @@ use Rattle.std.proofs.lemmas.List.Quantifiers.{all_pairs_push}
 use Rattle.std.proofs.lemmas.Map.Keys.{IsDistinct-from_sorted}
 use Rattle.std.proofs.lemmas.Map.Made.{length-le_from_is_member}
 use Rattle.std.proofs.lemmas.Map.Views.{btree_set_contains_iff, list_any-from_Contains}
+use Rattle.trace_core.specs.declared.groups.Group.{Group}
 use Rattle.trace_core.specs.declared.pairs.Pair.{Pair}
 use Rattle.trace_core.specs.declared.trails.Step.{Step}
 use Rattle.trace_core.specs.Pairs.{pair_cmp}
 use Rattle.trace_core.specs.Relations.{IsChain, last_of, Reaches, Chain}
-use Rattle.trace_core.specs.Searches.{IsFound, NotesAll}
+use Rattle.trace_core.specs.Searches.{IsFound, NotesAll, AreUnseen}
 use Rattle.trace_core.specs.Trails.{HaveNoRepeats, IsAt, pairs_of, GoBack, IsPath, IsTraced, NotesSteps}
 use Rattle.trace_core.proofs.ChainLaws.{reached_holds}
 use Rattle.trace_core.proofs.Members.{contains_none, contains_cases, contains_here, contains_there, contains-map}
@@ -175,10 +176,11 @@ module _ (R : Pair → Pair → Type 0) (root target : Pair) (all : List Pair) w
         (cases_lt k (length steps))
 
     longer : (seen seen' : BTreeSet Pair) (s : Step) → Trailing R root target all steps seen place → IsAt steps place s → (s.pair ≡ target → ⊥)
-        → ((q : Pair) → Contains targets q ↔ R s.pair q) → ((q : Pair) → Contains targets q → Contains all q) → NotesAll pair_cmp seen seen' (pairs_of steps) (pairs_of (steps ++ added)) targets
+        → ((q : Pair) → Contains targets q → R s.pair q) → ((q : Pair) → R s.pair q → Contains targets q ⊎ IsFound pair_cmp seen q) → ((q : Pair) → Contains targets q → Contains all q) → NotesAll pair_cmp seen seen' (pairs_of steps) (pairs_of (steps ++ added)) targets
         → HaveNoRepeats (pairs_of (steps ++ added)) → Trailing R root target all (steps ++ added) seen' (place + 1)
-    longer seen seen' s so_far here missed exact has notes apart =
+    longer seen seen' s so_far here missed sound complete has notes apart =
         let len = length-append steps added in
+        let found_here : (q : Pair) → R s.pair q → IsFound pair_cmp seen' q = λ q related. ⊎_elim (λ there. notes.nodes_found q there) (λ before. notes.found_stay q before) (complete q related) in
         let old_place : (k : ℕ) (t : Step) → IsAt (steps ++ added) k t → k < length steps → IsAt steps k t =
         λ k t at below. ⊎_elim (λ old. old) (λ new. absurd (omega (arith, below, new.0))) (new_at k t at) in
         record {
@@ -187,13 +189,13 @@ module _ (R : Pair → Pair → Type 0) (root target : Pair) (all : List Pair) w
           back = λ k t at later. ⊎_elim (λ old. so_far.back k t old later) (λ (past, is, there). omega (arith, past, is, here.0)) (new_at k t at);
           linked = λ k x t at later from. ⊎_elim
               (λ old. so_far.linked k x t old later (old_place t.from x from (omega (arith, so_far.back k t old later, old.0))))
-              (λ (past, is, there). subst (λ (y : Step). R y.pair t.pair) (one_at steps place s x here (subst (λ n. IsAt steps n x) is (old_place t.from x from (omega (arith, is, here.0))))) ((exact t.pair).0 there))
+              (λ (past, is, there). subst (λ (y : Step). R y.pair t.pair) (one_at steps place s x here (subst (λ n. IsAt steps n x) is (old_place t.from x from (omega (arith, is, here.0))))) (sound t.pair there))
               (new_at k t at);
           apart = apart;
           listed = λ q h. ⊎_elim (λ before. notes.found_stay q (so_far.listed q before)) (λ new. notes.nodes_found q new) (notes.waiting_only q h);
           only = λ q h. ⊎_elim (λ before. notes.waiting_stay q (so_far.only q before)) (λ new. new.1) (notes.found_only q h);
           followed = λ k t at below q related. ⊎_elim
-              (λ same. notes.nodes_found q ((exact q).1 (subst (λ (x : Step). R x.pair q) (one_at steps place t s (subst (λ n. IsAt steps n t) same (old_place k t at (omega (arith, same, here.0)))) here) related)))
+              (λ same. found_here q (subst (λ (x : Step). R x.pair q) (one_at steps place t s (subst (λ n. IsAt steps n t) same (old_place k t at (omega (arith, same, here.0)))) here) related))
               (λ other. notes.found_stay q (so_far.followed k t (old_place k t at (omega (arith, below, here.0))) (earlier k below other) q related))
               (cases_eq k place);
           missed = λ k t at below is. ⊎_elim
@@ -217,7 +219,7 @@ module _ (R : Pair → Pair → Type 0) (root target : Pair) (all : List Pair) w
           behind = λ k x at. let le = behind_here k x at in omega (arith, le);
           near = λ k t at below q related. ⊎_elim
               (λ same.
-              let found = notes.nodes_found q ((exact q).1 (subst (λ (x : Step). R x.pair q) (one_at steps place t s (subst (λ n. IsAt steps n t) same (old_place k t at (omega (arith, same, here.0)))) here) related)) in
+              let found = found_here q (subst (λ (x : Step). R x.pair q) (one_at steps place t s (subst (λ n. IsAt steps n t) same (old_place k t at (omega (arith, same, here.0)))) here) related) in
               let listed : Contains (pairs_of (steps ++ added)) q = ⊎_elim (λ before. notes.waiting_stay q (so_far.only q before)) (λ new. new.1) (notes.found_only q found) in
               let (x, (j, lt, is), pair) = contains-from_map (λ (x : Step). x.pair) (steps ++ added) q listed in
               let le = behind_here j x (lt, is) in
@@ -236,12 +238,25 @@ module _ (R : Pair → Pair → Type 0) (root target : Pair) (all : List Pair) w
 
   -- the targets of the step at the place are noted
   pub trailing_goes_on : (steps steps' : List Step) (seen seen' : BTreeSet Pair) (place : ℕ) (s : Step) (targets : List Pair) → Trailing R root target all steps seen place → IsAt steps place s → (s.pair ≡ target → ⊥)
-      → ((q : Pair) → Contains targets q ↔ R s.pair q) → ((q : Pair) → Contains targets q → Contains all q) → NotesSteps steps steps' seen seen' place targets → Trailing R root target all steps' seen' (place + 1)
-  trailing_goes_on steps steps' seen seen' place s targets so_far here missed exact has noted =
+      → ((q : Pair) → Contains targets q → R s.pair q) → ((q : Pair) → R s.pair q → Contains targets q ⊎ IsFound pair_cmp seen q) → ((q : Pair) → Contains targets q → Contains all q) → NotesSteps steps steps' seen seen' place targets → Trailing R root target all steps' seen' (place + 1)
+  trailing_goes_on steps steps' seen seen' place s targets so_far here missed sound complete has noted =
       let apart : HaveNoRepeats (pairs_of (steps ++ noted.added)) = subst (λ (xs : List Step). HaveNoRepeats (pairs_of xs)) noted.appended (noted.apart so_far.listed so_far.apart) in
       let notes : NotesAll pair_cmp seen seen' (pairs_of steps) (pairs_of (steps ++ noted.added)) targets = subst (λ (xs : List Step). NotesAll pair_cmp seen seen' (pairs_of steps) (pairs_of xs) targets) noted.appended noted.notes in
       subst (λ (xs : List Step). Trailing R root target all xs seen' (place + 1)) (sym noted.appended)
-      (longer steps noted.added place targets noted.from_place seen seen' s so_far here missed exact has notes apart)
+      (longer steps noted.added place targets noted.from_place seen seen' s so_far here missed sound complete has notes apart)
+
+  -- what holds of a search that comes to each transformation once
+  pub record TrailingGroups (G : BTreeSet Group → Pair → Type 0) (groups : BTreeSet Group) (steps : List Step) (seen : BTreeSet Pair) (place : ℕ) : Type 0 where
+    pub trails : Trailing R root target all steps seen place
+    pub given : (q : Pair) → G groups q → IsFound pair_cmp seen q
+
+  pub unseen_noted : (G : BTreeSet Group → Pair → Type 0) (groups groups' : BTreeSet Group) (steps steps' : List Step) (seen seen' : BTreeSet Pair) (place : ℕ) (s : Step) (targets : List Pair) → TrailingGroups G groups steps seen place
+      → IsAt steps place s → (s.pair ≡ target → ⊥) → AreUnseen (R s.pair) G groups groups' targets → ((q : Pair) → R s.pair q → Contains all q) → NotesSteps steps steps' seen seen' place targets → TrailingGroups G groups' steps' seen' (place + 1)
+  unseen_noted G groups groups' steps steps' seen seen' place s targets so_far here missed unseen has noted = record {
+    trails = trailing_goes_on steps steps' seen seen' place s targets so_far.trails here missed unseen.sound
+        (λ q related. ⊎_elim (λ there. inl there) (λ before. inr (so_far.given q before)) (unseen.complete q related)) (λ q there. has q (unseen.sound q there)) noted;
+    given = λ q h. ⊎_elim (λ before. noted.notes.found_stay q (so_far.given q before)) (λ there. noted.notes.nodes_found q there) (unseen.given q h);
+  }
 
   -- no more steps than targets, and the root
   pub steps_le : (steps : List Step) (seen : BTreeSet Pair) (place : ℕ) → Trailing R root target all steps seen place → length steps ≤ suc (length all)

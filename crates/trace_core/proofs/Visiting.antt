@@ -15,25 +15,27 @@ use Rattle.std.proofs.lemmas.List.{length-map, get_or-map}
 use Rattle.trace_core.specs.Chains.{Related, RelatesFrom, sites_at}
 use Rattle.trace_core.specs.Groups.{group_cmp, Gives, IsGiven, IsGivenBy, AddsUnseen, SeesOnly}
 use Rattle.trace_core.specs.Pairs.{pair_cmp, IsRelated}
-use Rattle.trace_core.specs.Searches.{IsFound, NotesAll, Visits}
+use Rattle.trace_core.specs.Searches.{IsFound, NotesAll, AreUnseen, Visits}
 use Rattle.trace_core.specs.Sites.{SiteEvents}
 use Rattle.trace_core.proofs.GroupSteps.{adds_both, adds_same, adds_none}
 use Rattle.trace_core.proofs.PairOrder.{pairs_total, pairs_exact}
 
--- what is gathered is noted
-pub visited : (G : BTreeSet Group → Pair → Type 0) (R : Pair → Type 0) (seen seen' : BTreeSet Group) (none targets : BTreeSet Pair) (nodes : List Pair) (found found' : BTreeSet Pair) (waiting waiting' : List Pair)
-    → none.keys ≡ [] → AddsUnseen G R seen seen' none targets → nodes ≡ targets.keys → NotesAll pair_cmp found found' waiting waiting' nodes → Visits pair_cmp R G seen seen' found found' waiting waiting'
-visited G R seen seen' none targets nodes found found' waiting waiting' empty added keys noted =
+-- what is gathered
+pub gathered : (G : BTreeSet Group → Pair → Type 0) (R : Pair → Type 0) (seen seen' : BTreeSet Group) (none targets : BTreeSet Pair) (nodes : List Pair) → none.keys ≡ [] → AddsUnseen G R seen seen' none targets → nodes ≡ targets.keys → AreUnseen R G seen seen' nodes
+gathered G R seen seen' none targets nodes empty added keys =
     let not_before : (n : Pair) → IsFound pair_cmp none n → ⊥ = λ n h. false≢true (subst (λ ks. list_any (is_at (pair_cmp n)) ks ≡ true) empty h) in
     let listed : (n : Pair) → IsFound pair_cmp targets n → Contains nodes n = λ n h. subst (λ ks. Contains ks n) (sym keys) ((btree_set_contains_iff pairs_total pairs_exact targets n).0 h) in
-    let gathered : (n : Pair) → Contains nodes n → IsFound pair_cmp targets n = λ n h. (btree_set_contains_iff pairs_total pairs_exact targets n).1 (subst (λ ks. Contains ks n) keys h) in
+    let there : (n : Pair) → Contains nodes n → IsFound pair_cmp targets n = λ n h. (btree_set_contains_iff pairs_total pairs_exact targets n).1 (subst (λ ks. Contains ks n) keys h) in
     record {
-      nodes = nodes;
-      noted = noted;
-      sound = λ n h. ⊎_elim (λ before. absurd (not_before n before)) (λ r. r) (added.sound n (gathered n h));
-      complete = λ n r. ⊎_elim (λ there. inl (listed n there)) (λ before. inr before) (added.complete n r);
-      given = λ n h. ⊎_elim (λ before. inl before) (λ there. inr (listed n there)) (added.given n h);
+      sound = λ n h. ⊎_elim (λ before. absurd (not_before n before)) (λ r. r) (added.sound n (there n h));
+      complete = λ n r. ⊎_elim (λ found. inl (listed n found)) (λ before. inr before) (added.complete n r);
+      given = λ n h. ⊎_elim (λ before. inl before) (λ found. inr (listed n found)) (added.given n h);
     }
+
+-- and noted
+pub visited : (G : BTreeSet Group → Pair → Type 0) (R : Pair → Type 0) (seen seen' : BTreeSet Group) (nodes : List Pair) (found found' : BTreeSet Pair) (waiting waiting' : List Pair)
+    → AreUnseen R G seen seen' nodes → NotesAll pair_cmp found found' waiting waiting' nodes → Visits pair_cmp R G seen seen' found found' waiting waiting'
+visited G R seen seen' nodes found found' waiting waiting' unseen noted = record { nodes = nodes; noted = noted; unseen = unseen }
 
 -- no transformation gives anything
 pub none_given : (s : SiteEvents) (site : ℕ) (none : BTreeSet Group) → none.keys ≡ [] → (q : Pair) → IsGiven s site none q → ⊥

@@ -1,19 +1,21 @@
 -- Transformations that a search comes to once: all parts of one id at a site, or one without an id.
-use Rattle.std.specs.Prelude.{◌≡◌, ℕ, Bool, true, ◌||◌, List, Some, slice_get}
+use Rattle.std.specs.Prelude.{◌≡◌, ◌≤◌, ◌+◌, ℕ, Bool, true, false, ◌&&◌, ◌||◌, cond, List, Option, None, Some, slice_get, sum_by}
 use mathlib.Core.Logic.{◌⊎◌}
-use Rattle.std.specs.BTreeSet.{BTreeSet}
+use Rattle.std.specs.BTreeSet.{BTreeSet, contains}
+use Rattle.std.specs.List.{enumerate_from}
 use Rattle.std.specs.declared.cmp.Ordering.{Ordering}
 use Rattle.std.specs.Ordering.{nat_cmp, ordering_then}
 use Rattle.event_json.specs.Events.{Content}
 use Rattle.event_json.specs.declared.bodies.Body.{Body}
 use Rattle.trace_core.specs.declared.groups.Group.{Group}
 use Rattle.trace_core.specs.declared.pairs.Pair.{Pair}
-use Rattle.trace_core.specs.Gathering.{joined_by}
-use Rattle.trace_core.specs.Pairs.{pair_cmp}
-use Rattle.trace_core.specs.PairTests.{gives_out}
-use Rattle.trace_core.specs.Places.{at_place}
+use Rattle.trace_core.specs.Gathering.{joined_by, shipped_by, made_by}
+use Rattle.trace_core.specs.Pairs.{pair_cmp, make_id, IsMade, IsRelated}
+use Rattle.trace_core.specs.PairTests.{gives_out, same_id}
+use Rattle.trace_core.specs.Places.{at_place, places_where}
 use Rattle.trace_core.specs.Searches.{IsFound}
 use Rattle.trace_core.specs.Sites.{SiteEvents}
+use Rattle.trace_core.specs.Spreads.{output_count}
 
 -- by site, and then by first part
 abbrev pub group_cmp : Group → Group → Ordering
@@ -48,3 +50,46 @@ pub record AddsUnseen (G : BTreeSet Group → Pair → Type 0) (P : Pair → Typ
 -- only this site's transformations are seen now
 abbrev pub SeesOnly : ℕ → BTreeSet Group → BTreeSet Group → Type 0
 SeesOnly site seen seen' = (g : Group) → IsFound group_cmp seen' g → IsFound group_cmp seen g ⊎ (g.site ≡ site)
+
+-- how many outputs the event at a place has
+abbrev pub outputs_at : Option Content → ℕ
+outputs_at None = 0
+outputs_at (Some e) = output_count e.body
+
+-- the places of the parts of a transformation that has an id
+abbrev pub parts_of : List Content → Body → List ℕ
+parts_of events b = places_where (λ f. same_id (make_id f.body) (make_id b)) events
+
+abbrev pub or_place : ℕ → Option ℕ → ℕ
+or_place place None = place
+or_place place (Some first) = first
+
+-- the place that stands for the transformation of the event at a place: its first part's, and its own where it has no id
+abbrev pub first_of : List Content → ℕ → Body → ℕ
+first_of events place b = or_place place (slice_get (parts_of events b) 0)
+
+-- how many outputs a transformation has, all its parts together
+abbrev pub group_outputs : List Content → Body → Option (List ℕ) → ℕ
+group_outputs events b None = output_count b
+group_outputs events b (Some id) = sum_by (λ k. outputs_at (slice_get events k)) (parts_of events b)
+
+-- how many outputs the transformations have that weren't seen
+unfoldable pub unseen_outputs : ℕ → List Content → BTreeSet Group → ℕ
+unseen_outputs site events seen = sum_by (λ a. cond (contains group_cmp seen (record { site = site; first = first_of events a.0 a.1.body })) 0 (output_count a.1.body)) (enumerate_from 0 events)
+
+-- each look is an output of a transformation that is seen now and wasn't before
+pub record LooksAtUnseen (site : ℕ) (events : List Content) (seen seen' : BTreeSet Group) (looks looks' : ℕ) : Type 0 where
+  pub least : looks ≤ looks'
+  pub most : looks' + unseen_outputs site events seen' ≤ looks + unseen_outputs site events seen
+
+-- related by this event; inside the site alone, where shipments aren't asked for
+abbrev pub sought_by : Bool → ℕ → List Content → List ℕ → Body → Pair → Bool
+sought_by ships me events item b q = (ships && shipped_by me item b q) || made_by me events item b q
+
+abbrev pub IsSought : Bool → SiteEvents → List ℕ → Pair → Type 0
+IsSought true s item q = IsRelated s item q
+IsSought false s item q = IsMade s item q
+
+-- the site is that of p, and p's item is related to q there, inside the site alone where shipments aren't asked for
+abbrev pub SeeksFrom : Bool → SiteEvents → Pair → Pair → Type 0
+SeeksFrom ships s p q = (s.me ≡ p.site) × IsSought ships s p.item q

@@ -3,6 +3,7 @@ pub mod Chains
 pub mod Gathering
 pub mod Groups
 pub mod Laws
+pub mod Looks
 pub mod PairTests
 pub mod Pairs
 pub mod Places

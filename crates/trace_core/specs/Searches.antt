@@ -17,10 +17,14 @@ pub record NotesAll {K : Type 0} (cmp : K → K → Ordering) (found found' : BT
   pub ordered : IsOrdered cmp found → IsOrdered cmp found'
   pub count : btree_set_len found' + length waiting ≡ btree_set_len found + length waiting'
 
--- a node is visited: nodes that it is related to are noted, and each that isn't was given by what was seen before; what is given by what is seen now is noted
-pub record Visits {K S : Type 0} (cmp : K → K → Ordering) (R : K → Type 0) (G : S → K → Type 0) (seen seen' : S) (found found' : BTreeSet K) (waiting waiting' : List K) : Type 0 where
-  pub nodes : List K
-  pub noted : NotesAll cmp found found' waiting waiting' nodes
+-- nodes that R has, and each that isn't among them was given by what was seen before; what is given by what is seen now is among them
+pub record AreUnseen {K S : Type 0} (R : K → Type 0) (G : S → K → Type 0) (seen seen' : S) (nodes : List K) : Type 0 where
   pub sound : (n : K) → Contains nodes n → R n
   pub complete : (n : K) → R n → Contains nodes n ⊎ G seen n
   pub given : (n : K) → G seen' n → G seen n ⊎ Contains nodes n
+
+-- a node is visited: the nodes that it is related to are noted, but for those that were given by what was seen before
+pub record Visits {K S : Type 0} (cmp : K → K → Ordering) (R : K → Type 0) (G : S → K → Type 0) (seen seen' : S) (found found' : BTreeSet K) (waiting waiting' : List K) : Type 0 where
+  pub nodes : List K
+  pub noted : NotesAll cmp found found' waiting waiting' nodes
+  pub unseen : AreUnseen R G seen seen' nodes

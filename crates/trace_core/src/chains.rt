@@ -1,8 +1,7 @@
-ghost use mathlib.Core.Logic.{◌⊎◌};
-ghost use Rattle.std.specs.Prelude.{◌≡◌, ◌↔◌, IfOk, OnOk, Contains};
+ghost use Rattle.std.specs.Prelude.{◌≡◌, ◌↔◌, IfOk, Contains};
 ghost use Rattle.trace_core.specs.declared.pairs.Pair.{Pair};
 ghost use Rattle.trace_core.specs.Pairs.{IsStrictlyAscending};
-ghost use Rattle.trace_core.specs.Chains.{Related, RelatesFrom, sites_at};
+ghost use Rattle.trace_core.specs.Chains.{Related, sites_at};
 ghost use Rattle.trace_core.specs.Relations.{Reaches};
 
 use crate::captured::Captured;
@@ -31,6 +30,13 @@ impl Relation for RelatedPairs<'_> {
 
     ghost gives = { λ r. IsGivenBy (sites_at r.sites.now) };
 
+    // nothing is claimed of how many looks several sites take
+    ghost bounds_looks = { λ r. ⊥ };
+
+    ghost outputs = { λ r. 0 };
+
+    ghost unseen = { λ r seen. 0 };
+
     fn none_seen(&self, alloc: Global) -> BTreeSet<Group> {
         BTreeSet::new(alloc)
     }
@@ -41,30 +47,14 @@ impl Relation for RelatedPairs<'_> {
         node: &Pair,
         seen: &mut BTreeSet<Group>,
         pairs: &mut BTreeSet<Pair>,
+        looks: &mut u64,
     ) -> Result<(), AllocError> {
         for number in 0..self.sites.len() {
-            gather_unseen_from(alloc, self.sites[number], number, node, seen, pairs)?;
+            let site = self.sites[number];
+            gather_unseen_from(alloc, site, number, true, node, seen, pairs, looks)?;
         }
         Ok(())
     }
-
-    fn targets(&self, alloc: Global, node: &Pair) -> Result<Vec<Pair>, AllocError> {
-        let mut targets = Vec::new(alloc);
-        for site in self.sites {
-            add_related(site, node, &mut targets)?;
-        }
-        Ok(targets)
-    }
-}
-
-/// Adds the pairs that a site relates a pair to. There are none where the pair is at another site.
-pub fn add_related(site: &Captured, node: &Pair, targets: &mut Vec<Pair>) -> Result<(), AllocError>
-    ensures { OnOk result ((p : Pair) → Contains targets.new.items p ↔ (Contains targets.old.items p ⊎ RelatesFrom site.now node.now p)) }
-{
-    if site.me() == node.site {
-        targets.append(&mut site.related(&node.item)?)?;
-    }
-    Ok(())
 }
 
 /// All that chains of related pairs reach from a pair, itself among them, ascending and without
@@ -75,7 +65,8 @@ pub fn reach(alloc: Global, sites: &[&Captured], root: &Pair) -> Result<Vec<Pair
     ensures ascending { IfOk result (λ pairs. IsStrictlyAscending pairs.items) }
     ensures reached { IfOk result (λ pairs. (p : Pair) → Contains pairs.items p ↔ Reaches (Related (sites_at sites.now)) root.now p) }
 {
+    let mut looks = 0;
     let mut starts = Vec::new(alloc);
     starts.push(root.copy(alloc)?)?;
-    closure(alloc, &RelatedPairs { sites }, starts)
+    closure(alloc, &RelatedPairs { sites }, starts, &mut looks)
 }

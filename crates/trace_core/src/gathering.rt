@@ -1,12 +1,16 @@
-ghost use Rattle.std.specs.Prelude.{◌≡◌, ◌==◌, not, ◌&&◌, ◌||◌, OnOk, option_map, slice_get};
+ghost use Rattle.std.specs.Prelude.{◌≡◌, ◌==◌, not, ◌&&◌, ◌||◌, OnOk, length, option_map, slice_get, sum_by};
 ghost use Rattle.std.specs.List.{list_any};
 ghost use Rattle.trace_core.specs.declared.pairs.Pair.{Pair};
 ghost use Rattle.trace_core.specs.Gathering.{is_in, related_by, shipped_by, joined_by};
+ghost use Rattle.trace_core.specs.Groups.{parts_of, outputs_at};
+ghost use Rattle.trace_core.specs.Looks.{one_look, LooksAtMost};
 ghost use Rattle.trace_core.specs.PairTests.{same_item, takes_in, gives_out, lists};
 ghost use Rattle.trace_core.specs.Pairs.{make_id};
 ghost use Rattle.trace_core.specs.Places.{at_place};
+ghost use Rattle.trace_core.specs.Spreads.{output_count};
 
 use crate::books::Book;
+use crate::looks::count_look;
 use crate::pairs::Pair;
 use epc_core::Epc;
 use event_json::{Body, PlainText, Sequence, SiteNo};
@@ -24,10 +28,11 @@ pub fn gather(
 ) -> Result<(), AllocError>
     ensures { OnOk result ((p : Pair) → is_in pairs.new p ≡ (is_in pairs.old p || related_by me book.now item.now body.now p)) }
 {
+    let mut looks = 0;
     gather_shipped(alloc, me, item, body, pairs)?;
     if takes_in(item, body) {
-        gather_outputs(alloc, me, body, pairs)?;
-        gather_joined(alloc, me, book, body, pairs)?;
+        gather_outputs(alloc, me, body, pairs, &mut looks)?;
+        gather_joined(alloc, me, book, body, pairs, &mut looks)?;
     }
     Ok(())
 }
@@ -71,68 +76,92 @@ fn gather_at_sites(
     Ok(())
 }
 
-/// Adds the outputs of each Make that has the id of this one.
+/// Adds the outputs of each Make that has the id of this one. Each is a look.
 pub fn gather_joined(
     alloc: Global,
     me: SiteNo,
     book: &Book,
     body: &Body,
     pairs: &mut BTreeSet<Pair>,
+    looks: &mut u64,
 ) -> Result<(), AllocError>
-    ensures { OnOk result ((p : Pair) → is_in pairs.new p ≡ (is_in pairs.old p || (p.site == me && joined_by book.now body.now p.item))) }
+    ensures looks { OnOk result (LooksAtMost (sum_by (λ k. outputs_at (slice_get book.now k)) (parts_of book.now body.now)) looks.old looks.new) }
+    ensures added { OnOk result ((p : Pair) → is_in pairs.new p ≡ (is_in pairs.old p || (p.site == me && joined_by book.now body.now p.item))) }
 {
     for place in book.parts_of(make_id(body)) {
-        gather_outputs_at(alloc, me, book, *place, pairs)?;
+        gather_outputs_at(alloc, me, book, *place, pairs, looks)?;
     }
     Ok(())
 }
 
-/// Adds the outputs of the Make at a place.
+/// Adds the outputs of the Make at a place. Each is a look.
 fn gather_outputs_at(
     alloc: Global,
     me: SiteNo,
     book: &Book,
     place: usize,
     pairs: &mut BTreeSet<Pair>,
+    looks: &mut u64,
 ) -> Result<(), AllocError>
-    ensures { OnOk result ((p : Pair) → is_in pairs.new p ≡ (is_in pairs.old p || (p.site == me && at_place (λ e. gives_out p.item e.body) (slice_get book.now place)))) }
+    ensures looks { OnOk result (LooksAtMost (outputs_at (slice_get book.now place)) looks.old looks.new) }
+    ensures added { OnOk result ((p : Pair) → is_in pairs.new p ≡ (is_in pairs.old p || (p.site == me && at_place (λ e. gives_out p.item e.body) (slice_get book.now place)))) }
 {
     if let Some(event) = book.get(place) {
-        gather_outputs(alloc, me, event.body(), pairs)?;
+        gather_outputs(alloc, me, event.body(), pairs, looks)?;
     }
     Ok(())
 }
 
-/// Adds the outputs of a Make.
+/// Adds the outputs of a Make. Each is a look.
 pub fn gather_outputs(
     alloc: Global,
     me: SiteNo,
     body: &Body,
     pairs: &mut BTreeSet<Pair>,
+    looks: &mut u64,
 ) -> Result<(), AllocError>
-    ensures { OnOk result ((p : Pair) → is_in pairs.new p ≡ (is_in pairs.old p || (p.site == me && gives_out p.item body.now))) }
+    ensures looks { OnOk result (LooksAtMost (output_count body.now) looks.old looks.new) }
+    ensures added { OnOk result ((p : Pair) → is_in pairs.new p ≡ (is_in pairs.old p || (p.site == me && gives_out p.item body.now))) }
 {
     if let Body::Make { outs, .. } = body {
-        gather_items(alloc, me, outs.as_slice(), pairs)?;
+        gather_items(alloc, me, outs.as_slice(), pairs, looks)?;
     }
     Ok(())
 }
 
-/// Adds each of the items at a site.
+/// Adds each of the items at a site. Each is a look.
 fn gather_items(
     alloc: Global,
     me: SiteNo,
     items: &[Epc],
     pairs: &mut BTreeSet<Pair>,
+    looks: &mut u64,
 ) -> Result<(), AllocError>
-    ensures { OnOk result ((p : Pair) → is_in pairs.new p ≡ (is_in pairs.old p || (p.site == me && lists items.now p.item))) }
+    ensures looks { OnOk result (LooksAtMost (length items.now) looks.old looks.new) }
+    ensures added { OnOk result ((p : Pair) → is_in pairs.new p ≡ (is_in pairs.old p || (p.site == me && lists items.now p.item))) }
 {
     for item in items {
-        pairs.insert(Pair {
-            site: me,
-            item: item.copy(alloc)?,
-        })?;
+        look_at_output(alloc, me, item, pairs, looks)?;
     }
+    Ok(())
+}
+
+/// Looks at an output: adds it at a site.
+fn look_at_output(
+    alloc: Global,
+    me: SiteNo,
+    item: &Epc,
+    pairs: &mut BTreeSet<Pair>,
+    looks: &mut u64,
+) -> Result<(), AllocError>
+    ensures looks { looks.new ≡ one_look looks.old }
+    ensures added { OnOk result ((p : Pair) → is_in pairs.new p ≡ (is_in pairs.old p || (p.site == me && same_item item.now p.item))) }
+{
+    count_look(looks);
+    pairs.insert(Pair {
+        site: me,
+        item: item.copy(alloc)?,
+    })?;
     Ok(())
 }
 

@@ -1,10 +1,10 @@
-ghost use Rattle.std.specs.Prelude.{◌≡◌, ◌==◌, ◌&&◌, ◌||◌, true, ℕ, List, Some, OnOk, slice_get};
+ghost use Rattle.std.specs.Prelude.{◌≡◌, ◌==◌, ◌&&◌, ◌||◌, true, ℕ, List, Some, OnOk, Contains, slice_get};
 ghost use Rattle.event_json.specs.Events.{Content};
 ghost use Rattle.trace_core.specs.declared.pairs.Pair.{Pair};
-ghost use Rattle.trace_core.specs.Chains.{RelatesFrom};
-ghost use Rattle.trace_core.specs.Gathering.{related_by};
-ghost use Rattle.trace_core.specs.Groups.{outs_of, IsGiven, AddsUnseen, SeesOnly};
-ghost use Rattle.trace_core.specs.Pairs.{IsRelated};
+ghost use Rattle.trace_core.specs.Gathering.{is_in, shipped_by};
+ghost use Rattle.trace_core.specs.Groups.{outs_of, IsGiven, AddsUnseen, SeesOnly, first_of, group_outputs, LooksAtUnseen, sought_by, IsSought, SeeksFrom};
+ghost use Rattle.trace_core.specs.Looks.{LooksAtMost};
+ghost use Rattle.trace_core.specs.Pairs.{make_id};
 ghost use Rattle.trace_core.specs.Places.{at_place};
 
 use crate::books::Book;
@@ -25,21 +25,25 @@ pub struct Group {
     pub first: usize,
 }
 
-/// Adds the pairs that a site relates a pair to, but for those that transformations gave which were seen
-/// before. There are none where the pair is at another site.
+/// Adds the pairs that a site relates a pair to, those at other sites where shipments are asked for, but
+/// for those that transformations gave which were seen before. There are none where the pair is at another
+/// site.
 pub fn gather_unseen_from(
     alloc: Global,
     site: &Captured,
     number: usize,
+    ships: bool,
     node: &Pair,
     seen: &mut BTreeSet<Group>,
     pairs: &mut BTreeSet<Pair>,
+    looks: &mut u64,
 ) -> Result<(), AllocError>
-    ensures added { OnOk result (AddsUnseen (IsGiven site.now number) (RelatesFrom site.now node.now) seen.old seen.new pairs.old pairs.new) }
+    ensures added { OnOk result (AddsUnseen (IsGiven site.now number) (SeeksFrom ships site.now node.now) seen.old seen.new pairs.old pairs.new) }
     ensures only { OnOk result (SeesOnly number seen.old seen.new) }
+    ensures looks { OnOk result (LooksAtUnseen number site.now.events seen.old seen.new looks.old looks.new) }
 {
     if site.me() == node.site {
-        gather_unseen(alloc, site, number, &node.item, seen, pairs)?;
+        gather_unseen(alloc, site, number, ships, &node.item, seen, pairs, looks)?;
     }
     Ok(())
 }
@@ -50,16 +54,30 @@ fn gather_unseen(
     alloc: Global,
     site: &Captured,
     number: usize,
+    ships: bool,
     item: &Epc,
     seen: &mut BTreeSet<Group>,
     pairs: &mut BTreeSet<Pair>,
+    looks: &mut u64,
 ) -> Result<(), AllocError>
-    ensures added { OnOk result (AddsUnseen (λ groups q. IsGiven site.now number groups q) (λ q. IsRelated site.now item.now q) seen.old seen.new pairs.old pairs.new) }
+    ensures added { OnOk result (AddsUnseen (λ groups q. IsGiven site.now number groups q) (λ q. IsSought ships site.now item.now q) seen.old seen.new pairs.old pairs.new) }
     ensures only { OnOk result (SeesOnly number seen.old seen.new) }
+    ensures looks { OnOk result (LooksAtUnseen number site.now.events seen.old seen.new looks.old looks.new) }
 {
     let book = site.book();
     for place in book.places_of(item) {
-        gather_unseen_at(alloc, site.me(), book, number, item, *place, seen, pairs)?;
+        gather_unseen_at(
+            alloc,
+            site.me(),
+            book,
+            number,
+            ships,
+            item,
+            *place,
+            seen,
+            pairs,
+            looks,
+        )?;
     }
     Ok(())
 }
@@ -70,34 +88,73 @@ fn gather_unseen_at(
     me: SiteNo,
     book: &Book,
     number: usize,
+    ships: bool,
     item: &Epc,
     place: usize,
     seen: &mut BTreeSet<Group>,
     pairs: &mut BTreeSet<Pair>,
+    looks: &mut u64,
 ) -> Result<(), AllocError>
-    ensures added { OnOk result (AddsUnseen (λ groups q. IsGiven (record { me = me; events = book.now }) number groups q) (λ q. at_place (λ e. related_by me book.now item.now e.body q) (slice_get book.now place) ≡ true) seen.old seen.new pairs.old pairs.new) }
+    ensures added { OnOk result (AddsUnseen (λ groups q. IsGiven (record { me = me; events = book.now }) number groups q) (λ q. at_place (λ e. sought_by ships me book.now item.now e.body q) (slice_get book.now place) ≡ true) seen.old seen.new pairs.old pairs.new) }
     ensures only { OnOk result (SeesOnly number seen.old seen.new) }
+    ensures looks { OnOk result (LooksAtUnseen number book.now seen.old seen.new looks.old looks.new) }
 {
     if let Some(event) = book.get(place) {
-        gather_shipped(alloc, me, item, event.body(), pairs)?;
+        gather_asked(alloc, me, ships, item, event.body(), pairs)?;
         if takes_in(item, event.body()) {
             let first = first_part(book, place, event.body());
             if seen.insert(Group {
                 site: number,
                 first,
             })? {
-                gather_outputs(alloc, me, event.body(), pairs)?;
-                gather_joined(alloc, me, book, event.body(), pairs)?;
+                gather_group(alloc, me, book, event.body(), pairs, looks)?;
             }
         }
     }
     Ok(())
 }
 
+/// Adds the item at each other site that it was shipped to, where shipments are asked for.
+fn gather_asked(
+    alloc: Global,
+    me: SiteNo,
+    ships: bool,
+    item: &Epc,
+    body: &Body,
+    pairs: &mut BTreeSet<Pair>,
+) -> Result<(), AllocError>
+    ensures { OnOk result ((q : Pair) → is_in pairs.new q ≡ (is_in pairs.old q || (ships && shipped_by me item.now body.now q))) }
+{
+    if ships {
+        gather_shipped(alloc, me, item, body, pairs)?;
+    }
+    Ok(())
+}
+
+/// Adds all outputs of a transformation: of each part with its id, and its own where it has none. Each is a
+/// look.
+fn gather_group(
+    alloc: Global,
+    me: SiteNo,
+    book: &Book,
+    body: &Body,
+    pairs: &mut BTreeSet<Pair>,
+    looks: &mut u64,
+) -> Result<(), AllocError>
+    ensures added { OnOk result ((e : Content) → Contains book.now e → e.body ≡ body.now → (q : Pair) → is_in pairs.new q ≡ (is_in pairs.old q || (q.site == me && outs_of book.now q.item body.now))) }
+    ensures looks { OnOk result (LooksAtMost (group_outputs book.now body.now (make_id body.now)) looks.old looks.new) }
+{
+    match make_id(body) {
+        Some(_) => gather_joined(alloc, me, book, body, pairs, looks),
+        None => gather_outputs(alloc, me, body, pairs, looks),
+    }
+}
+
 /// The place that stands for the transformation of the event at a place: that of the first part with its
 /// id, and its own where it has none.
 fn first_part(book: &Book, place: usize, body: &Body) -> usize
-    ensures { (e : Content) (j : List ℕ) → slice_get book.now place ≡ Some e → e.body ≡ body.now → at_place (λ f. outs_of book.now j f.body) (slice_get book.now result) ≡ outs_of book.now j body.now }
+    ensures first { result ≡ first_of book.now place body.now }
+    ensures outputs { (e : Content) (j : List ℕ) → slice_get book.now place ≡ Some e → e.body ≡ body.now → at_place (λ f. outs_of book.now j f.body) (slice_get book.now result) ≡ outs_of book.now j body.now }
 {
     match book.parts_of(make_id(body)).first() {
         Some(first) => *first,

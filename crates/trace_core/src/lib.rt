@@ -13,6 +13,7 @@ mod groups;
 mod ids;
 mod indexes;
 pub mod laws;
+mod looks;
 mod ordered_keys;
 mod pairs;
 mod places;

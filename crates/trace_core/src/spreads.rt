@@ -9,7 +9,6 @@ ghost use Rattle.trace_core.specs.Spreads.{AreAscendingItems, IsSpread, AreLooks
 
 use crate::books::Book;
 use crate::captured::Captured;
-use crate::chains::add_related;
 use crate::gathering::{gather, gather_outputs, make_id, takes_in};
 use crate::groups::{Group, gather_unseen_from};
 use crate::ordered_keys::keys_in_order;
@@ -27,22 +26,24 @@ impl Captured {
         ensures ascending { IfOk result (λ found. AreAscendingItems found.items) }
         ensures exact { IfOk result (λ found. (j : List ℕ) → Contains found.items j ↔ IsSpread self.now items.now j) }
     {
-        let alloc = self.alloc();
-        let starts = pairs_at(alloc, self.me(), items)?;
-        let found = closure(alloc, &SitePairs { site: self }, starts)?;
-        items_at(alloc, self.me(), &found)
+        let (found, _) = self.spread_counted(items)?;
+        Ok(found)
     }
 
     /// The spread of the given items, and how many looks it took. A look is one item taken from the
-    /// work list, or one output member of a transformation.
+    /// work list, or one output member of a transformation that is looked at, which happens once to each.
+    /// At 2^64 - 1 the count stays.
     pub fn spread_counted(&self, items: &[Epc]) -> Result<(Vec<Epc>, u64), AllocError>
         ensures ascending { IfOk result (λ counted. AreAscendingItems counted.0.items) }
         ensures exact { IfOk result (λ counted. (j : List ℕ) → Contains counted.0.items j ↔ IsSpread self.now items.now j) }
         ensures looks { IfOk result (λ counted. AreLooks self.now items.now counted.0.items counted.1) }
     {
-        let found = self.spread(items)?;
-        let looks = found.len() as u64;
-        Ok((found, looks))
+        let alloc = self.alloc();
+        let mut looks = 0;
+        let starts = pairs_at(alloc, self.me(), items)?;
+        let found = closure(alloc, &SitePairs { site: self }, starts, &mut looks)?;
+        let items = items_at(alloc, self.me(), &found)?;
+        Ok((items, looks))
     }
 
     /// The targets of the pairs from an item that adding an event would give, and that aren't there
@@ -69,23 +70,31 @@ impl Captured {
     }
 }
 
-/// The related pairs of one site.
+/// The related pairs of one site that stay in it.
 #[derive(Drop)]
 struct SitePairs<'a> {
     site: &'a Captured,
 }
 
 impl Relation for SitePairs<'_> {
-    ghost use Rattle.trace_core.specs.Chains.{RelatesFrom};
+    ghost use Rattle.std.specs.Prelude.{⊤, false, sum_by};
+    ghost use Rattle.trace_core.specs.Groups.{SeeksFrom, unseen_outputs};
+    ghost use Rattle.trace_core.specs.Spreads.{output_count};
     ghost use Rattle.trace_core.specs.Targets.{site_targets};
 
-    ghost relates = { λ r. RelatesFrom r.site.now };
+    ghost relates = { λ r. SeeksFrom false r.site.now };
 
     ghost all_targets = { λ r. site_targets r.site.now };
 
     ghost use Rattle.trace_core.specs.Groups.{IsGiven};
 
     ghost gives = { λ r. IsGiven r.site.now 0 };
+
+    ghost bounds_looks = { λ r. ⊤ };
+
+    ghost outputs = { λ r. sum_by (λ e. output_count e.body) r.site.now.events };
+
+    ghost unseen = { λ r seen. unseen_outputs 0 r.site.now.events seen };
 
     fn none_seen(&self, alloc: Global) -> BTreeSet<Group> {
         BTreeSet::new(alloc)
@@ -97,14 +106,9 @@ impl Relation for SitePairs<'_> {
         node: &Pair,
         seen: &mut BTreeSet<Group>,
         pairs: &mut BTreeSet<Pair>,
+        looks: &mut u64,
     ) -> Result<(), AllocError> {
-        gather_unseen_from(alloc, self.site, 0, node, seen, pairs)
-    }
-
-    fn targets(&self, alloc: Global, node: &Pair) -> Result<Vec<Pair>, AllocError> {
-        let mut targets = Vec::new(alloc);
-        add_related(self.site, node, &mut targets)?;
-        Ok(targets)
+        gather_unseen_from(alloc, self.site, 0, false, node, seen, pairs, looks)
     }
 }
 
@@ -148,9 +152,10 @@ fn gather_added(
 ) -> Result<(), AllocError>
     ensures { OnOk result ((p : Pair) → is_in pairs.new p ≡ (is_in pairs.old p || added_by me book.now item.now body.now p)) }
 {
+    let mut looks = 0;
     gather(alloc, me, book, item, body, pairs)?;
     if joins(book, item, body) {
-        gather_outputs(alloc, me, body, pairs)?;
+        gather_outputs(alloc, me, body, pairs, &mut looks)?;
     }
     Ok(())
 }

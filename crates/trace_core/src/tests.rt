@@ -113,7 +113,7 @@ fn spreads_inside_a_site_alone(rt: HostRuntime) -> Result<(), Fail> {
         0,
         &[&[Make("x", "y"), Ship("y", "b"), Make("y", "z")]],
     )?;
-    assert!(rt; spreads(alloc, &site, "x", 3, 6)?);
+    assert!(rt; spreads(alloc, &site, "x", 3, 5)?);
     Ok(())
 }
 
@@ -121,7 +121,7 @@ fn spreads_inside_a_site_alone(rt: HostRuntime) -> Result<(), Fail> {
 fn looks_at_each_part_once(rt: HostRuntime) -> Result<(), Fail> {
     let alloc = rt.alloc();
     let site = parts(alloc, 1000)?;
-    assert!(rt; spreads(alloc, &site, "i0", 1001, 3001)?);
+    assert!(rt; spreads(alloc, &site, "i0", 1001, 2001)?);
     assert!(rt; has_parts(alloc, &site, "t", 2000)?);
     Ok(())
 }

@@ -6,7 +6,7 @@ ghost use Rattle.trace_core.specs.Trails.{IsTrail, HaveNoRepeats, IsShortest, Go
 use crate::captured::Captured;
 use crate::chains::RelatedPairs;
 use crate::pairs::Pair;
-use crate::searches::Relation;
+use crate::searches::{Relation, unseen_targets};
 use std::alloc::{AllocError, Global};
 use std::collections::{BTreeSet, VecDeque};
 
@@ -20,7 +20,7 @@ pub struct Step {
 }
 
 /// A chain of related pairs from a root to a target, as `reach` follows them, without repeats. No chain
-/// has fewer pairs. `None` exactly where the target isn't reached.
+/// has fewer pairs. `None` exactly where the target isn't reached. Each transformation is come to once.
 pub fn trail(
     alloc: Global,
     sites: &[&Captured],
@@ -33,6 +33,8 @@ pub fn trail(
     ensures none { IfOk result (λ found. IfNone found (Reaches (Related (sites_at sites.now)) root.now target.now → ⊥)) }
 {
     let relation = RelatedPairs { sites };
+    let mut groups = relation.none_seen(alloc);
+    let mut looks = 0;
     let mut steps = Vec::new(alloc);
     let mut seen = BTreeSet::new(alloc);
     steps.push(Step {
@@ -45,7 +47,8 @@ pub fn trail(
         if steps[place].pair == *target {
             return Ok(Some(traced(alloc, &steps, place)?));
         }
-        let targets = relation.targets(alloc, &steps[place].pair)?;
+        let node = &steps[place].pair;
+        let targets = unseen_targets(alloc, &relation, node, &mut groups, &mut looks)?;
         note_steps(alloc, &mut steps, &mut seen, place, targets)?;
         place += 1;
     }

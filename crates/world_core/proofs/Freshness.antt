@@ -1,5 +1,5 @@
 -- A record at which nothing happened yet is one that keeps nothing, with the first numbers.
-use Rattle.std.proofs.Common.{◌≡◌, ℕ, Bool, IsTrue, nat_eq, List, [], length, refl, sym, ◌∙◌, ap}
+use Rattle.std.proofs.Common.{◌≡◌, ℕ, nat_eq, List, [], length, ◌∙◌, ap}
 use mathlib.Core.Bool.{◌&&◌}
 use Rattle.std.specs.Bool.{Decides}
 use Rattle.std.specs.Ordering.{nat_cmp}
@@ -13,7 +13,6 @@ use Rattle.scholten_core.specs.Engagement.{Engagement}
 use Rattle.scholten_core.specs.declared.own_recalls.Own.{Own}
 use Rattle.site_core.specs.Quarantines.{Quarantine}
 use Rattle.site_core.specs.Records.{Record, fresh, fresh_engagement}
-use Rattle.trace_core.specs.Sites.{SiteEvents}
 use Rattle.world_core.proofs.InPlace.{list_decides, map_decides, next_decides}
 
 -- the parts of a record that tell

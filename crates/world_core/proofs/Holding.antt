@@ -1,5 +1,5 @@
 -- What a site holds under a recall.
-use Rattle.std.proofs.Common.{◌≡◌, ℕ, ◌+◌, ◌<◌, Option, Some, None, List, [], ◌∷◌, ◌++◌, length, get_or, take, map, refl, sym, ◌∙◌, ap}
+use Rattle.std.proofs.Common.{◌≡◌, ℕ, ◌+◌, ◌<◌, Some, None, List, [], ◌∷◌, ◌++◌, length, get_or, take, map, sym, ◌∙◌, ap}
 use Rattle.std.proofs.lemmas.List.{nil_from_length, flat_map_more, map_push, take_more}
 use Rattle.std.specs.FinMap as finite
 use Rattle.frame_core.specs.Numbers.{Recall}

@@ -1,20 +1,20 @@
 -- Records in their places, and records of sites at which nothing happened yet.
-use Rattle.std.proofs.Common.{◌≡◌, ◌↔◌, ℕ, zero, suc, ◌+◌, ◌<◌, ◌≤◌, Bool, true, false, IsTrue, nat_eq, Option, Some, None, List, [], ◌∷◌, length, get_or, map, refl, sym, ◌∙◌, ap, subst, inl, inr, ⊎_elim, arith, slice_get}
-use mathlib.Core.Bool.{false≢true, ◌&&◌}
+use Rattle.std.proofs.Common.{◌≡◌, ◌↔◌, ℕ, zero, suc, ◌+◌, ◌<◌, ◌≤◌, Bool, true, false, IsTrue, nat_eq, Some, None, List, [], ◌∷◌, length, get_or, map, refl, sym, ◌∙◌, ap, subst, inl, inr, ⊎_elim, arith, slice_get}
+use mathlib.Core.Bool.{false≢true}
 use Rattle.std.specs.Bool.{Decides}
 use Rattle.std.specs.Cmp.Lexicographic.{pointwise}
 use Rattle.std.specs.Option.{option_map}
 use Rattle.std.specs.declared.cmp.Ordering.{Ordering}
 use Rattle.std.specs.FinMap as finite
 use Rattle.std.proofs.lemmas.Bool.{cases_eq}
-use Rattle.std.proofs.lemmas.Bool.Decides.{Decides-and, Decides-eqb}
+use Rattle.std.proofs.lemmas.Bool.Decides.{Decides-eqb}
 use Rattle.std.proofs.lemmas.List.{nil_from_length}
 use Rattle.std.proofs.lemmas.Option.{same_Some, slice_get-map, slice_get_read, slice_get_within}
 use Rattle.event_json.specs.Contents.{same_site}
 use Rattle.event_json.specs.Sites.{Site}
 use Rattle.event_json.proofs.ContentLaws.{lists_decide}
-use Rattle.site_core.specs.Records.{Record, IsSound, fresh}
-use Rattle.world_core.specs.Faults.{IsInPlace, AreAllOf, AreOneWorld, StandsRight, IsFirstOther, AreFresh, SomeIsNotFresh}
+use Rattle.site_core.specs.Records.{Record, IsSound}
+use Rattle.world_core.specs.Faults.{IsInPlace, AreOneWorld, StandsRight, IsFirstOther}
 
 -- One place after another.
 

@@ -1,12 +1,13 @@
-pub mod InPlace
+pub mod Emitted
 pub mod EndedRecalls
 pub mod Fitting
 pub mod FreshSites
-pub mod HeldPairs
 pub mod Freshness
+pub mod HeldPairs
 pub mod Holding
-pub mod KeptSteps
+pub mod InPlace
 pub mod KeeperKinds
+pub mod KeptSteps
 pub mod Lifting
 pub mod OneSite
 pub mod Running

@@ -3,7 +3,6 @@ use Rattle.std.proofs.Common.{◌≡◌, ℕ, ◌⊎◌, Bool, true, false, not,
 use mathlib.Core.Bool.{false≢true}
 use Rattle.std.specs.Option.{option_map, is_some}
 use Rattle.site_core.specs.Records.{Record}
-use Rattle.site_core.specs.Steps.{Does}
 use Rattle.site_core.specs.declared.inputs.SiteInput.{SiteInput}
 use Rattle.site_core.specs.declared.outcomes.Effects.{Effects}
 use Rattle.keeper_core.specs.Keeping.{Applies, IsAfter, Stops, StaysClosed, HindersOpening}

@@ -5,5 +5,6 @@ pub mod KeptSteps
 pub mod Kinds
 pub mod Laws
 pub mod Recalls
+pub mod SendingLaws
 pub mod Turns
 pub mod Worlds

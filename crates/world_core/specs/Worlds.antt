@@ -1,5 +1,5 @@
 -- A world at one moment: a record for each site, and each frame that was ever sent.
-use Rattle.std.specs.Prelude.{ℕ, List, map}
+use Rattle.std.specs.Prelude.{List, map}
 use Rattle.frame_core.specs.declared.frames.Frame.{Frame}
 use Rattle.site_core.specs.Records.{Record}
 use Rattle.site_recovery.specs.Fit.{Fits}

@@ -1,6 +1,7 @@
 //! Laws of runs. Each is a function with an empty body whose contract is the law.
 
 ghost use Rattle.world_core.specs.Laws.{EndedStays, EndsAreExact, FramesStay, FreshSitesFit, QuarantinesAscend, RunsComeOut, RunsFromTheStartComeOut, RunsKeepTheFit, SitesStandAsKept, TurnsKeepTheFit};
+ghost use Rattle.world_core.specs.SendingLaws.{FramesWereEmittable};
 
 /// After every run a site stands as its answered steps in order, with each that it went down in whole or absent.
 pub fn sites_stand_as_their_kept_steps()
@@ -33,4 +34,9 @@ pub fn an_ended_recall_stays()
 pub fn the_headline()
     ensures runs { RunsComeOut }
     ensures start { RunsFromTheStartComeOut }
+{}
+
+/// Every frame that a run sent was emittable, at a moment of the run, by the record of a site that was up.
+pub fn frames_were_emittable()
+    ensures { FramesWereEmittable }
 {}

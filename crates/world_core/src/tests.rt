@@ -24,21 +24,19 @@ fn recall() -> Result<RecallId, Fail> {
     })
 }
 
-/// An open keeper of one of two sites.
-fn keeper(alloc: Global, number: u64) -> Result<MemoryKeeper, Fail> {
+/// An open keeper of the first or the second of two sites.
+fn keeper(alloc: Global, second: bool) -> Result<MemoryKeeper, Fail> {
     let mut sites = Sites::new(alloc);
-    sites.add("A", &["a"])?;
-    sites.add("B", &["b"])?;
-    if number >= sites.len() {
-        return Err("no such site".into());
-    }
-    Ok(MemoryKeeper::new(SiteState::new(alloc, sites, site(number)?)))
+    let a = sites.add("A", &["a"])?;
+    let b = sites.add("B", &["b"])?;
+    let me = if second { b } else { a };
+    Ok(MemoryKeeper::new(SiteState::new(alloc, sites, me)))
 }
 
 fn two_sites(alloc: Global) -> Result<World<MemoryKeeper>, Fail> {
     let mut keepers = Vec::new(alloc);
-    keepers.push(keeper(alloc, 0)?)?;
-    keepers.push(keeper(alloc, 1)?)?;
+    keepers.push(keeper(alloc, false)?)?;
+    keepers.push(keeper(alloc, true)?)?;
     Ok(World::new(alloc, keepers).map_err(|_| "no world")?)
 }
 
@@ -149,8 +147,8 @@ fn a_recall_spreads_and_ends(rt: HostRuntime) -> Result<(), Fail> {
 /// Why two keepers of these sites make no world, once the first one's next capture failed where it is to fail.
 fn refused(
     alloc: Global,
-    first: u64,
-    second: u64,
+    first: bool,
+    second: bool,
     fails: Option<Keep>,
 ) -> Result<Option<WorldFault>, Fail> {
     let mut one = keeper(alloc, first)?;
@@ -174,9 +172,9 @@ fn refused(
 #[test]
 fn a_world_is_of_all_sites_in_order(rt: HostRuntime) -> Result<(), Fail> {
     let alloc = rt.alloc();
-    assert!(rt; refused(alloc, 0, 0, None)? == Some(WorldFault::OtherSites(1)));
-    assert!(rt; refused(alloc, 1, 1, Some(Keep::New))? == Some(WorldFault::OtherSites(0)));
-    assert!(rt; refused(alloc, 0, 1, Some(Keep::New))? == Some(WorldFault::Misfit));
-    assert!(rt; refused(alloc, 0, 1, Some(Keep::Old))? == None);
+    assert!(rt; refused(alloc, false, false, None)? == Some(WorldFault::OtherSites(1)));
+    assert!(rt; refused(alloc, true, true, Some(Keep::New))? == Some(WorldFault::OtherSites(0)));
+    assert!(rt; refused(alloc, false, true, Some(Keep::New))? == Some(WorldFault::Misfit));
+    assert!(rt; refused(alloc, false, true, Some(Keep::Old))? == None);
     Ok(())
 }

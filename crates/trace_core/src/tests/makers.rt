@@ -91,18 +91,18 @@ pub fn leads(
     }
 }
 
-/// Whether the spread of an item at site A is the items that are wanted, within so many looks.
+/// Whether the spread of an item at site A has so many items, by so many looks.
 pub fn spreads(
     alloc: Global,
     site: &Captured,
     item: &str,
     wanted: usize,
-    most: u64,
+    wanted_looks: u64,
 ) -> Result<bool, Fail> {
     let items = [Epc::read(alloc, item)?];
     let (found, looks) = site.spread_counted(&items)?;
     let plain = site.spread(&items)?;
-    Ok(found.len() == wanted && plain.len() == wanted && looks <= most)
+    Ok(found.len() == wanted && plain.len() == wanted && looks == wanted_looks)
 }
 
 /// Whether an event at site A would give an item the pairs that are wanted.

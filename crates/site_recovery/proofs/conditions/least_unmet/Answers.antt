@@ -1,4 +1,4 @@
-use Rattle.std.proofs.Common.{◌<◌, ℕ, length, sym, ap, ◌∙◌, subst, inl, inr}
+use Rattle.std.proofs.Common.{◌<◌, length, sym, ap, ◌∙◌, subst, inl, inr}
 use mathlib.Core.Bool.{false≢true}
 use Rattle.site_recovery.specs.Checking.{world_at}
 use Rattle.site_recovery.proofs.OneAfterAnother.{lower_or_last}

@@ -16,7 +16,7 @@ returns-then-not-branch g c = (
 pub loop-key-preserved : goal.loop-key-preserved
 loop-key-preserved g c =
     one_passed (λ e. g.T.EntryTest.holds c.args.test.now e.0 e.1) c.args.map.now.entries c.loop-key.key-iterator c.next.new.self (c.in-Some.key.now, c.in-Some.value.now)
-        c.in-Some.ensures.steps (c.in_ok-passes.ensures.0 c.if-not-branch.false) c.loop-key.invariant
+    c.in-Some.ensures.steps (c.in_ok-passes.ensures.0 c.if-not-branch.false) c.loop-key.invariant
 
 pub returns : goal.returns
 returns g c = (

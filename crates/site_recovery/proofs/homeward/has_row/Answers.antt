@@ -9,4 +9,4 @@ use Rattle.site_recovery.proofs.homeward.has_row.Goals as goal
 pub returns-then-eq : goal.returns-then-eq
 returns-then-eq c =
     row_decided (row (world_at c.args.sites.now) c.args.message.site c.args.message.number) (row_of c.in-Some.row) c.args.site c.args.recall c.eq-then-eq.result
-        (c.in-Some.ensures ∙ ap (λ (z : Message). row (world_at c.args.sites.now) z.site z.number) c.message.view_is) (sym c.if-eq.ensures) c.eq-then-eq.ensures
+    (c.in-Some.ensures ∙ ap (λ (z : Message). row (world_at c.args.sites.now) z.site z.number) c.message.view_is) (sym c.if-eq.ensures) c.eq-then-eq.ensures

@@ -4,7 +4,6 @@ use Rattle.trace_core.proofs.searches.visit.Goals as goal
 
 pub returns-clause-visited : goal.returns-clause-visited
 returns-clause-visited g c = on_ok_weaker c.note_all.result
-    (visited (g.R.Relation.gives c.args.relation.now) (g.R.Relation.relates c.args.relation.now c.args.node.now) c.args.seen.now c.gather_unseen.new.seen c.new-targets.result c.gather_unseen.new.pairs
-    c.in_ok-keys_in_order.field-0.items c.args.found.now c.note_all.new.found c.args.waiting.now.items c.note_all.new.waiting.items
-    c.new-targets.ensures.empty c.in_ok-gather_unseen.ensures.added c.in_ok-keys_in_order.ensures.keys)
+    (visited (g.R.Relation.gives c.args.relation.now) (g.R.Relation.relates c.args.relation.now c.args.node.now) c.args.seen.now c.unseen_targets.new.seen
+    c.in_ok-targets.targets.items c.args.found.now c.note_all.new.found c.args.waiting.now.items c.note_all.new.waiting.items c.in_ok-targets.ensures.unseen)
     c.note_all.ensures

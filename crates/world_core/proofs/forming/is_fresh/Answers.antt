@@ -1,4 +1,4 @@
-use Rattle.std.proofs.Common.{length, sym, ◌∙◌, ap}
+use Rattle.std.proofs.Common.{length, ◌∙◌, ap}
 use Rattle.std.specs.FinMap.{entries}
 use Rattle.world_core.proofs.Freshness.{fresh_decides}
 use Rattle.world_core.proofs.forming.is_fresh.Goals as goal

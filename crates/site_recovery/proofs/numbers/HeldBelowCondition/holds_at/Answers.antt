@@ -17,8 +17,8 @@ returns c =
     let q = c.args.site in
     let next : c.next_recall-next.result ≡ next_recall W q = c.next_recall-next.ensures.next ∙ ap (λ z. z.engagement.next_recall) c.requires.here in
     IfOk-weaker c.each_element.result
-        (λ b. IsTrue b ↔ ((x : Bor Record) → Contains c.args.sites.now x → (r : Recall) (items : Items) → get x.now.quarantine r ≡ Some items → r.site ≡ q → r.number < c.next_recall-next.result))
-        (λ b. IsTrue b ↔ ((s : ℕ) (r : Recall) (i : List ℕ) → Held W s r i → r.site ≡ q → r.number < next_recall W q))
-        (λ b decides. subst (λ z. IsTrue b ↔ ((s : ℕ) (r : Recall) (i : List ℕ) → Held W s r i → r.site ≡ q → r.number < z)) next
-          (each_recall_of c.args.sites.now c.requires.all (λ r. r.site ≡ q → r.number < c.next_recall-next.result) b decides))
-        c.each_element.ensures
+    (λ b. IsTrue b ↔ ((x : Bor Record) → Contains c.args.sites.now x → (r : Recall) (items : Items) → get x.now.quarantine r ≡ Some items → r.site ≡ q → r.number < c.next_recall-next.result))
+    (λ b. IsTrue b ↔ ((s : ℕ) (r : Recall) (i : List ℕ) → Held W s r i → r.site ≡ q → r.number < next_recall W q))
+    (λ b decides. subst (λ z. IsTrue b ↔ ((s : ℕ) (r : Recall) (i : List ℕ) → Held W s r i → r.site ≡ q → r.number < z)) next
+    (each_recall_of c.args.sites.now c.requires.all (λ r. r.site ≡ q → r.number < c.next_recall-next.result) b decides))
+    c.each_element.ensures

@@ -13,8 +13,8 @@ returns c =
     let s = c.args._site in
     let next : c.next_recall-next.result ≡ next_recall W s = c.next_recall-next.ensures.next ∙ ap (λ z. z.engagement.next_recall) c.requires.here in
     IfOk-weaker c.each_entry.result
-        (λ b. IsTrue b ↔ Each c.own_recalls.result.now.entries (λ n _. n < c.next_recall-next.result))
-        (λ b. IsTrue b ↔ ((n : ℕ) (x : Own) → own W s n ≡ Some x → n < next_recall W s))
-        (λ b decides. subst (λ z. IsTrue b ↔ ((n : ℕ) (x : Own) → own W s n ≡ Some x → n < z)) next
-          (each_own W s c.args.state.now c.requires.here b c.own_recalls.result.now.entries c.own_recalls.ensures.entries (λ n _. n < c.next_recall-next.result) decides))
-        c.each_entry.ensures
+    (λ b. IsTrue b ↔ Each c.own_recalls.result.now.entries (λ n _. n < c.next_recall-next.result))
+    (λ b. IsTrue b ↔ ((n : ℕ) (x : Own) → own W s n ≡ Some x → n < next_recall W s))
+    (λ b decides. subst (λ z. IsTrue b ↔ ((n : ℕ) (x : Own) → own W s n ≡ Some x → n < z)) next
+    (each_own W s c.args.state.now c.requires.here b c.own_recalls.result.now.entries c.own_recalls.ensures.entries (λ n _. n < c.next_recall-next.result) decides))
+    c.each_entry.ensures

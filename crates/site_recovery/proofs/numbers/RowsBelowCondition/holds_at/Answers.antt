@@ -13,8 +13,8 @@ returns c =
     let s = c.args._site in
     let next : c.next_message-next.result ≡ next_message W s = c.next_message-next.ensures.next ∙ ap (λ z. z.engagement.next_message) c.requires.here in
     IfOk-weaker c.each_entry.result
-        (λ b. IsTrue b ↔ Each c.outbox.result.now.entries (λ n _. n < c.next_message-next.result))
-        (λ b. IsTrue b ↔ ((n : ℕ) (x : Row) → row W s n ≡ Some x → n < next_message W s))
-        (λ b decides. subst (λ z. IsTrue b ↔ ((n : ℕ) (x : Row) → row W s n ≡ Some x → n < z)) next
-          (each_row W s c.args.state.now c.requires.here b c.outbox.result.now.entries c.outbox.ensures.entries (λ n _. n < c.next_message-next.result) decides))
-        c.each_entry.ensures
+    (λ b. IsTrue b ↔ Each c.outbox.result.now.entries (λ n _. n < c.next_message-next.result))
+    (λ b. IsTrue b ↔ ((n : ℕ) (x : Row) → row W s n ≡ Some x → n < next_message W s))
+    (λ b decides. subst (λ z. IsTrue b ↔ ((n : ℕ) (x : Row) → row W s n ≡ Some x → n < z)) next
+    (each_row W s c.args.state.now c.requires.here b c.outbox.result.now.entries c.outbox.ensures.entries (λ n _. n < c.next_message-next.result) decides))
+    c.each_entry.ensures

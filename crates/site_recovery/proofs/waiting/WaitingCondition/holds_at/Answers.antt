@@ -12,7 +12,7 @@ returns c =
     let W = world_at c.args.sites.now in
     let s = c.args.site in
     IfOk-weaker c.each_entry.result
-        (λ b. IsTrue b ↔ Each c.outbox.result.now.entries (λ n x. IsEngaged W s x.recall ⊎ ((s ≡ x.recall.site) × IsLive W x.recall)))
-        (λ b. IsTrue b ↔ WaitsRightlyAt W s)
-        (λ b decides. each_row W s c.args.state.now c.requires.here b c.outbox.result.now.entries c.outbox.ensures.entries (λ n x. IsEngaged W s x.recall ⊎ ((s ≡ x.recall.site) × IsLive W x.recall)) decides)
-        c.each_entry.ensures
+    (λ b. IsTrue b ↔ Each c.outbox.result.now.entries (λ n x. IsEngaged W s x.recall ⊎ ((s ≡ x.recall.site) × IsLive W x.recall)))
+    (λ b. IsTrue b ↔ WaitsRightlyAt W s)
+    (λ b decides. each_row W s c.args.state.now c.requires.here b c.outbox.result.now.entries c.outbox.ensures.entries (λ n x. IsEngaged W s x.recall ⊎ ((s ≡ x.recall.site) × IsLive W x.recall)) decides)
+    c.each_entry.ensures

@@ -1,0 +1,123 @@
+-- The first condition that fails.
+use Rattle.std.proofs.Common.{◌≡◌, ◌⊎◌, ◌↔◌, inl, inr, ℕ, List, Some, Result, Ok, Err, ◌+◌, ◌<◌, ◌==◌, if◌then◌else◌, refl, sym, ap, ◌∙◌, subst, arith}
+use Rattle.std.specs.Prelude.{IsErrAnd, IfErr}
+use Rattle.frame_core.specs.Numbers.{Recall, Message}
+use Rattle.frame_core.specs.declared.rows.Row.{Row}
+use Rattle.scholten_core.specs.declared.own_recalls.Own.{Own}
+use Rattle.site_recovery.specs.FittingAt.{Condition, Closed, Told, Justified, Waiting, ParentsStand, ParentsLeadHome, EndsAreQuiet, NumbersAreBelow, number_of, FitAt}
+use Rattle.site_recovery.specs.Fit.{Tells, IsInReach}
+use Rattle.site_recovery.specs.Looks.{World, Held, Ships, row, seen, own, next_message, next_recall}
+use Rattle.site_recovery.specs.Misfits.{TellsMisfit, TellsUnmet}
+use Rattle.site_recovery.specs.declared.checking.CheckFault.{CheckFault}
+use Rattle.site_recovery.specs.declared.checking.CheckFault.TheVariants.{NoMemory, Misfit}
+use Rattle.site_recovery.proofs.OneAfterAnother.{lower_or_last}
+
+abbrev condition_of : ℕ → Condition
+condition_of n =
+    if n == 1 then Closed else
+    if n == 2 then Told else
+    if n == 3 then Justified else
+    if n == 4 then Waiting else
+    if n == 5 then ParentsStand else
+    if n == 6 then ParentsLeadHome else
+    if n == 9 then EndsAreQuiet else NumbersAreBelow
+
+known_by_number : (c : Condition) → condition_of (number_of c) ≡ c
+known_by_number Closed = refl
+known_by_number Told = refl
+known_by_number Justified = refl
+known_by_number Waiting = refl
+known_by_number ParentsStand = refl
+known_by_number ParentsLeadHome = refl
+known_by_number EndsAreQuiet = refl
+known_by_number NumbersAreBelow = refl
+
+one_number : (c d : Condition) → number_of c ≡ number_of d → c ≡ d
+one_number c d same = sym (known_by_number c) ∙ ap condition_of same ∙ known_by_number d
+
+module _ (n : ℕ) (W : World) where
+  -- the conditions of lower numbers hold at all sites
+  abbrev pub Before : ℕ → Type 0
+  Before number = (c : Condition) (s : ℕ) → number_of c < number → s < n → FitAt W c s
+
+  pub none_before : Before 1
+  none_before Closed s low = absurd (omega (arith, low))
+  none_before Told s low = absurd (omega (arith, low))
+  none_before Justified s low = absurd (omega (arith, low))
+  none_before Waiting s low = absurd (omega (arith, low))
+  none_before ParentsStand s low = absurd (omega (arith, low))
+  none_before ParentsLeadHome s low = absurd (omega (arith, low))
+  none_before EndsAreQuiet s low = absurd (omega (arith, low))
+  none_before NumbersAreBelow s low = absurd (omega (arith, low))
+
+  pub one_more_holds : (d : Condition) → Before (number_of d) → ((s : ℕ) → s < n → FitAt W d s) → Before (number_of d + 1)
+  one_more_holds d before holds c s low below = elim (lower_or_last (number_of c) (number_of d) low) as (λ _. FitAt W c s) [
+    | inl lower ↦ before c s lower below
+    | inr last ↦ subst (λ z. FitAt W z s) (one_number d c (sym last)) (holds s below)
+  ]
+
+  -- no condition of the records has the numbers 7 and 8
+  pub past_the_frames : Before 7 → Before 9
+  past_the_frames before Closed s low = before Closed s (omega arith)
+  past_the_frames before Told s low = before Told s (omega arith)
+  past_the_frames before Justified s low = before Justified s (omega arith)
+  past_the_frames before Waiting s low = before Waiting s (omega arith)
+  past_the_frames before ParentsStand s low = before ParentsStand s (omega arith)
+  past_the_frames before ParentsLeadHome s low = before ParentsLeadHome s (omega arith)
+  past_the_frames before EndsAreQuiet s low = absurd (omega (arith, low))
+  past_the_frames before NumbersAreBelow s low = absurd (omega (arith, low))
+
+  pub all_hold : Before 11 → (c : Condition) (s : ℕ) → s < n → FitAt W c s
+  all_hold before Closed s = before Closed s (omega arith)
+  all_hold before Told s = before Told s (omega arith)
+  all_hold before Justified s = before Justified s (omega arith)
+  all_hold before Waiting s = before Waiting s (omega arith)
+  all_hold before ParentsStand s = before ParentsStand s (omega arith)
+  all_hold before ParentsLeadHome s = before ParentsLeadHome s (omega arith)
+  all_hold before EndsAreQuiet s = before EndsAreQuiet s (omega arith)
+  all_hold before NumbersAreBelow s = before NumbersAreBelow s (omega arith)
+
+  pub least_misfit : (c : Condition) (P : ℕ → Type 0) → ((s : ℕ) → P s ↔ FitAt W c s) → Before (number_of c) → (fault : CheckFault) → TellsUnmet (number_of c) n P fault → TellsMisfit n W fault
+  least_misfit c P same before NoMemory told = told
+  least_misfit c P same before (Misfit number site) (is, (below, fails, least)) = record {
+    condition = c;
+    numbered = is;
+    below = below;
+    fails = λ holds. fails ((same site).1 holds);
+    least_condition = λ d s low. before d s (subst (λ z. number_of d < z) is low);
+    least_site = λ s low. (same s).0 (least s low);
+  }
+
+-- The conditions that are tested in parts.
+module _ (W : World) where
+  abbrev pub ToldParts : ℕ → Type 0
+  ToldParts t =
+      ((s : ℕ) (r : Recall) (i : List ℕ) → Held W s r i → Ships W s i t → Tells W s t r i ⊎ Held W t r i)
+      × ((s n : ℕ) (x : Row) (q : Recall) → row W s n ≡ Some x → x.dest ≡ t → seen W t (record { site = s; number = n }) ≡ Some q → Held W t x.recall x.item)
+
+  pub told_parts : (t : ℕ) → ToldParts t ↔ FitAt W Told t
+  told_parts t = (λ b. record { told = b.0; taken = b.1 }, λ f. (f.told, f.taken))
+
+  abbrev pub JustifiedParts : ℕ → Type 0
+  JustifiedParts s =
+      ((r : Recall) (i : List ℕ) → Held W s r i → IsInReach W r s i)
+      × (((k : ℕ) (o : Own) → own W s k ≡ Some o → Held W s (record { site = s; number = k }) o.root)
+      × ((n : ℕ) (x : Row) → row W s n ≡ Some x → Held W s x.recall x.item × Ships W s x.item x.dest))
+
+  pub justified_parts : (s : ℕ) → JustifiedParts s ↔ FitAt W Justified s
+  justified_parts s = (λ b. record { reached = b.0; rooted = b.1.0; rows = b.1.1 }, λ f. (f.reached, (f.rooted, f.rows)))
+
+  abbrev pub BelowParts : ℕ → Type 0
+  BelowParts q =
+      (((n : ℕ) (x : Row) → row W q n ≡ Some x → n < next_message W q)
+      × ((s : ℕ) (m : Message) (r : Recall) → seen W s m ≡ Some r → m.site ≡ q → m.number < next_message W q))
+      × (((k : ℕ) (o : Own) → own W q k ≡ Some o → k < next_recall W q)
+      × ((s : ℕ) (r : Recall) (i : List ℕ) → Held W s r i → r.site ≡ q → r.number < next_recall W q))
+
+  pub below_parts : (q : ℕ) → BelowParts q ↔ FitAt W NumbersAreBelow q
+  below_parts q = (λ b. record { rows = b.0.0; seen = b.0.1; own = b.1.0; held = b.1.1 }, λ f. ((f.rows, f.seen), (f.own, f.held)))
+
+-- What holds of each fault that is handed on.
+pub handed_on : (r : Result (Unit {0}) CheckFault) (x : CheckFault) (Q : CheckFault → Type 0) → IsErrAnd r (λ e. e ≡ x) → Q x → IfErr r Q
+handed_on (Ok u) x Q h q = tt
+handed_on (Err e) x Q h q = subst Q (sym h) q

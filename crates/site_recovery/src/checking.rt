@@ -1,0 +1,99 @@
+ghost use Rattle.std.specs.Prelude.{◌<◌, ℕ, [], length, OnOk, IfErr};
+ghost use Rattle.site_recovery.specs.Checking.{records_at, world_at};
+ghost use Rattle.site_recovery.specs.Fit.{Fits};
+ghost use Rattle.site_recovery.specs.FittingAt.{AreAllSites};
+ghost use Rattle.site_recovery.specs.Misfits.{TellsMisfit, TellsUnmet};
+
+use crate::closing::Closed;
+use crate::conditions::{Both, Condition, least_unmet};
+use crate::homeward::{ParentsLeadHome, ParentsStand};
+use crate::justifying::{Rooted, RowsJustified};
+use crate::numbers::{HeldBelow, OwnBelow, RowsBelow, SeenBelow};
+use crate::reaching::Reached;
+use crate::telling::{Taken, Told};
+use crate::waiting::{EndsAreQuiet, Waiting};
+use event_json::SiteNo;
+use site_core::SiteState;
+use std::alloc::Global;
+use thiserror::Error;
+
+/// Why records weren't found to fit together.
+#[derive(Clone, Copy, Debug, Drop, PartialEq, Eq, Error)]
+pub enum CheckFault {
+    /// Memory ran out.
+    #[error("memory ran out")]
+    NoMemory,
+    /// A condition fails.
+    #[error("the records don't fit together: condition {condition} fails")]
+    Misfit {
+        /// The number of the least condition that fails.
+        condition: u64,
+        /// The least site that is charged with it.
+        site: SiteNo,
+    },
+}
+
+/// Whether a condition holds at each site.
+fn check<C: Condition>(
+    alloc: Global,
+    sites: &[&SiteState],
+    number: u64,
+    condition: &C,
+) -> Result<(), CheckFault>
+    requires all { AreAllSites (records_at sites.now) }
+    ensures ok { OnOk result ((s : ℕ) → s < length sites.now → C.holds condition.now (world_at sites.now) s) }
+    ensures fault { IfErr result (TellsUnmet number (length sites.now) (C.holds condition.now (world_at sites.now))) }
+{
+    match least_unmet(alloc, sites, condition) {
+        Ok(None) => Ok(()),
+        Ok(Some(site)) => Err(CheckFault::Misfit {
+            condition: number,
+            site,
+        }),
+        Err(_) => Err(CheckFault::NoMemory),
+    }
+}
+
+/// Checks that the records of all sites, in the order of their numbers, fit together while no frame is in
+/// flight.
+///
+/// # Errors
+/// `Misfit` with the least condition that fails and the least site that is charged with it, and
+/// `NoMemory`.
+pub fn check_world(alloc: Global, sites: &[&SiteState]) -> Result<(), CheckFault>
+    requires all { AreAllSites (records_at sites.now) }
+    ensures ok { OnOk result (Fits (world_at sites.now) []) }
+    ensures fault { IfErr result (TellsMisfit (length sites.now) (world_at sites.now)) }
+{
+    let told = Both {
+        first: Told,
+        second: Taken,
+    };
+    let justified = Both {
+        first: Reached,
+        second: Both {
+            first: Rooted,
+            second: RowsJustified,
+        },
+    };
+    let below = Both {
+        first: Both {
+            first: RowsBelow,
+            second: SeenBelow,
+        },
+        second: Both {
+            first: OwnBelow,
+            second: HeldBelow,
+        },
+    };
+    check(alloc, sites, 1, &Closed)?;
+    check(alloc, sites, 2, &told)?;
+    check(alloc, sites, 3, &justified)?;
+    check(alloc, sites, 4, &Waiting)?;
+    check(alloc, sites, 5, &ParentsStand)?;
+    check(alloc, sites, 6, &ParentsLeadHome)?;
+    // Conditions 7 and 8 are of frames that were sent, and there are none.
+    check(alloc, sites, 9, &EndsAreQuiet)?;
+    check(alloc, sites, 10, &below)?;
+    Ok(())
+}
