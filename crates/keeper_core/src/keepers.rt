@@ -27,7 +27,9 @@ pub trait SiteKeeper: Drop {
     /// What a step, a stop and an opening do to a keeper of this kind, for a caller that knows the kind. A kind
     /// that promises no more than the clauses below promises nothing here.
     ghost applies: { Self → SiteInput → Result Effects KeepFault → Self → Type 0 };
+
     ghost stops: { Self → SiteInput → Keep → Bool → Self → Type 0 };
+
     ghost reopens: { Self → Result Self (Unopened Self) → Type 0 };
 
     /// The record, or None while the keeper is closed.

@@ -14,6 +14,8 @@ mod pairs;
 mod places;
 mod reaching;
 mod telling;
+#[cfg(test)]
+mod tests;
 mod waiting;
 
 pub use checking::{CheckFault, check_world};

@@ -1,5 +1,5 @@
 -- Records that keepers show, one after another.
-use Rattle.std.proofs.Common.{◌≡◌, ℕ, zero, suc, ◌+◌, ◌<◌, Option, Some, None, List, [], ◌∷◌, ◌++◌, length, get_or, take, refl, sym, ◌∙◌, ap, subst, arith, slice_get}
+use Rattle.std.proofs.Common.{◌≡◌, ℕ, zero, suc, ◌+◌, ◌<◌, Option, Some, None, List, [], ◌∷◌, ◌++◌, length, get_or, map, take, refl, sym, ◌∙◌, ap, subst, arith, slice_get}
 use Rattle.std.specs.List.{AllZip}
 use Rattle.std.proofs.lemmas.List.{take_more}
 use Rattle.frame_core.specs.Numbers.{Recall}
@@ -93,8 +93,7 @@ module _ {K : Type 0} (shown : K → Option Record) (may : K → Record → Type
   shown_exact sites recall rs pairs fit a are =
       let world : WorldState = record { sites = map (λ r. Up r) rs; sent = sites.sent } in
       let fits = fit world (all_up sites.keepers rs a, refl) in
-      let same : map record_of (map (λ r. Up r) rs) ≡ rs = same_records rs in
-      (
+      let same : map record_of (map (λ r. Up r) rs) ≡ rs = same_records rs in (
         subst IsStrictlyAscending (sym (are ∙ ap (quarantined recall) (sym same))) (quarantines_ascend world recall fits),
         λ ss b.
             let one : records world ≡ ss = same ∙ shown_once sites.keepers rs ss a b in

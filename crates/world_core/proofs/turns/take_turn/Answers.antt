@@ -1,4 +1,4 @@
-use Rattle.std.proofs.Common.{◌≤◌, ◌∙◌, length, vec_len, ap, arith, slice_set}
+use Rattle.std.proofs.Common.{◌≤◌, ◌∙◌, length, vec_len, refl, ap, arith, slice_set}
 use Rattle.world_core.specs.Turns.{site_of}
 use Rattle.world_core.specs.declared.events.WorldEvent.TheVariants.{Step, Send, Stop, Reopen}
 use Rattle.world_core.proofs.Lifting.{turn_at, turn_lent, no_site, read_at, kept_at}
