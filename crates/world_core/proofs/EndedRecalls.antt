@@ -1,16 +1,15 @@
 -- What is quarantined under an ended recall, and that it stays so.
-use Rattle.std.proofs.Common.{◌≡◌, ◌↔◌, ℕ, ◌<◌, Some, List, [], length, map, sym, ◌∙◌, ap, subst, slice_get, Contains}
+use Rattle.std.proofs.Common.{◌≡◌, ◌↔◌, ℕ, ◌<◌, Some, List, [], length, sym, ◌∙◌, ap, subst, Contains}
 use Rattle.std.specs.FinMap.{get}
 use Rattle.std.proofs.lemmas.List.{length-map}
 use Rattle.std.proofs.lemmas.Option.{slice_get-get_or, slice_get_within, get_or_from_slice_get}
 use Rattle.frame_core.specs.Numbers.{Recall}
 use Rattle.site_core.specs.Records.{Record, fresh}
-use Rattle.site_recovery.specs.Laws.{AreInPlace, captured_of}
+use Rattle.site_recovery.specs.Laws.{captured_of}
 use Rattle.site_recovery.specs.Looks.{world_of, own}
 use Rattle.site_recovery.proofs.Worlds.{ends_are_exact}
 use Rattle.trace_core.specs.Chains.{Related}
 use Rattle.trace_core.specs.Relations.{Reaches}
-use Rattle.trace_core.specs.declared.pairs.Pair.{Pair}
 use Rattle.trace_core.proofs.PairOrder.{one_ascending}
 use Rattle.world_core.specs.Laws.{ComesOut, EndsAreExact, EndedStays, QuarantinesAscend, RunsComeOut, RunsFromTheStartComeOut}
 use Rattle.world_core.specs.Recalls.{HasEnded, quarantined}

@@ -1,17 +1,16 @@
 -- Each turn keeps the records of all sites and the frames sent fitting together, and leaves each ended recall as it
 -- was: one of the laws of the records for each way in which a turn changes them.
-use Rattle.std.proofs.Common.{◌≡◌, ◌↔◌, ℕ, zero, suc, ◌<◌, ◌==◌, Option, Some, None, List, [], ◌∷◌, ◌++◌, length, map, set, refl, sym, ◌∙◌, ap, subst, ⊎_elim, Contains, slice_get, slice_set}
+use Rattle.std.proofs.Common.{◌≡◌, ℕ, zero, suc, ◌<◌, Option, Some, None, List, [], ◌∷◌, ◌++◌, length, map, refl, sym, ◌∙◌, ap, subst, ⊎_elim, Contains, slice_get, slice_set}
 use Rattle.std.proofs.lemmas.List.{map-set, set-get_or}
 use Rattle.std.specs.Option.{option_map}
 use Rattle.std.proofs.lemmas.Option.{cond_some, same_Some, slice_get_within, get_or_from_slice_get, slice_get-map}
-use Rattle.frame_core.specs.Numbers.{Recall}
 use Rattle.frame_core.specs.declared.frames.Frame.{Frame}
 use Rattle.site_core.specs.Emitting as emitting
 use Rattle.site_core.specs.Records.{Record, fresh}
 use Rattle.site_core.specs.declared.inputs.SiteInput.{SiteInput}
 use Rattle.site_core.specs.declared.inputs.SiteInput.TheVariants as inputs
 use Rattle.site_recovery.specs.Fit.{Fits, IsEnded}
-use Rattle.site_recovery.specs.Laws.{AreInPlace, FitsStill, StaysAs, WasSent}
+use Rattle.site_recovery.specs.Laws.{AreInPlace, FitsStill, WasSent}
 use Rattle.site_recovery.specs.Looks.{world_of}
 use Rattle.site_recovery.proofs.Worlds.{steps_keep_the_fit, sends_keep_the_fit}
 use Rattle.keeper_core.specs.Keeping.{IsAfter}

@@ -1,5 +1,5 @@
 -- The list of what is quarantined under a recall: it ascends, and has the pairs that are held.
-use Rattle.std.proofs.Common.{◌≡◌, ◌↔◌, ◌⊎◌, inl, inr, ℕ, zero, suc, ◌<◌, ◌≤◌, Option, Some, None, List, [], ◌∷◌, ◌++◌, length, map, refl, sym, ◌∙◌, ap, subst, arith, slice_get, Contains}
+use Rattle.std.proofs.Common.{◌≡◌, ◌↔◌, inl, inr, ℕ, zero, suc, ◌<◌, Some, List, [], ◌∷◌, ◌++◌, length, map, refl, sym, ◌∙◌, ap, subst, arith, slice_get, Contains}
 use mathlib.Core.Bool.{false≢true}
 use Rattle.std.specs.Prelude.{T, IsTrue}
 use Rattle.std.specs.Cmp.Lexicographic.{slice_cmp}

@@ -1,6 +1,6 @@
 -- What an event does to keepers of one kind, for a caller that knows what the kind promises: which keepers stand
 -- afterwards, where the worlds that they may be leave something open.
-use Rattle.std.specs.Prelude.{◌≡◌, ◌⊎◌, ℕ, Bool, true, false, List, slice_get, slice_set, Option, Some, None, Result, Ok, Err}
+use Rattle.std.specs.Prelude.{◌≡◌, ◌⊎◌, Bool, true, false, List, slice_get, slice_set, Option, Some, None, Result, Ok, Err}
 use Rattle.frame_core.specs.declared.frames.Frame.{Frame}
 use Rattle.site_core.specs.Emitting as site
 use Rattle.site_core.specs.Records.{Record}
