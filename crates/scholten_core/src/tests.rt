@@ -1,9 +1,9 @@
 ghost use Rattle.std.specs.Prelude.{◌≤◌, length};
 
-use crate::{Diffusion, Own, Received, Signalled};
+use crate::{Diffusion, Received, Signalled};
 use epc_core::Epc;
 use event_json::SiteNo;
-use frame_core::{LAST_NUMBER, MsgId, NumberFault, RecallId, Row, tables};
+use frame_core::{LAST_NUMBER, MsgId, NumberFault, RecallId};
 use std::alloc::Global;
 use std::collections::BTreeMap;
 use std::test::Fail;
@@ -32,19 +32,6 @@ fn first_recall() -> Result<RecallId, Fail> {
 /// A message for a site that the item x is recalled.
 fn told(alloc: Global, dest: u64) -> Result<(SiteNo, Epc), Fail> {
     Ok((site(dest)?, Epc::read(alloc, "x")?))
-}
-
-/// Site A with this own recall of x, which it begins next as number 2, and with a row of it for B at
-/// number 4.
-fn initiator(alloc: Global, ended: bool) -> Result<Diffusion, Fail> {
-    let (mut rows, mut own) = (BTreeMap::new(alloc), BTreeMap::new(alloc));
-    let (dest, item) = told(alloc, 1)?;
-    let recall = first_recall()?;
-    tables::put(&mut rows, 4, Row { dest, recall, item })?;
-    let root = Epc::read(alloc, "x")?;
-    tables::put(&mut own, 1, Own { root, ended })?;
-    let (seen, parents) = (BTreeMap::new(alloc), BTreeMap::new(alloc));
-    Ok(Diffusion::restore(alloc, site(0)?, rows, seen, parents, own, 5, 2)?)
 }
 
 /// Site D with nothing but one number left.
@@ -119,41 +106,6 @@ fn a_recall_with_nobody_to_tell_has_ended(rt: HostRuntime) -> Result<(), Fail> {
     let mut a = Diffusion::new(rt.alloc(), site(0)?);
     let ended = a.begin(root, &[])?.ended;
     assert!(rt; ended && a.next_recall() == 2 && a.next_message() == 1);
-    Ok(())
-}
-
-/// Whether a site with its row 4 of the first recall answers so to a message of it, and to the signal for
-/// that row.
-fn answers(d: &mut Diffusion, taken: Received, cleared: Signalled) -> Result<bool, Fail> {
-    let received = d.receive(message(1, 1)?, first_recall()?, &[])?;
-    Ok(received == taken && d.signalled(4) == cleared)
-}
-
-// No run leads to these records: a live initiator isn't engaged by a message of its own recall; one whose
-// recall has ended is, and that recall isn't ended again.
-#[test]
-fn a_restored_initiator_follows_the_rules(rt: HostRuntime) -> Result<(), Fail> {
-    let mut live = initiator(rt.alloc(), false)?;
-    let recall = first_recall()?;
-    let follows = answers(
-        &mut live,
-        Received::SignalNow { numbered: 0 },
-        Signalled::Ended(recall),
-    );
-    assert!(rt; follows?);
-    Ok(())
-}
-
-#[test]
-fn an_ended_initiator_is_engaged_as_another_site(rt: HostRuntime) -> Result<(), Fail> {
-    let mut ended = initiator(rt.alloc(), true)?;
-    let parent = message(1, 1)?;
-    let follows = answers(
-        &mut ended,
-        Received::Owe { numbered: 0 },
-        Signalled::ParentDue(parent),
-    );
-    assert!(rt; follows?);
     Ok(())
 }
 

@@ -7,6 +7,8 @@ pub mod Clearings
 pub mod Closures
 pub mod Deliveries
 pub mod Documents
+pub mod Entries
+pub mod EventsAmong
 pub mod EventOutcomes
 pub mod Growths
 pub mod Held
@@ -16,6 +18,7 @@ pub mod InputOutcomes
 pub mod ItemOrder
 pub mod ItemSets
 pub mod Newly
+pub mod OneAfterAnother
 pub mod OneEffect
 pub mod OneOutcome
 pub mod OneRefusal

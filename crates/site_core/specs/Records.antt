@@ -46,6 +46,13 @@ pub record IsRowAmong (sites : ℕ) (at : ℕ) (row : Row) : Type 0 where
   pub dest : row.dest < sites
   pub recall : IsRecallAmong sites row.recall
 
+-- every site of an engagement is of the list, and every number is one that messages and recalls have
+pub record IsEngagementAmong (sites : ℕ) (d : Engagement) : Type 0 where
+  pub rows : (number : ℕ) (row : Row) → map.get d.outbox number ≡ Some row → IsRowAmong sites number row
+  pub seen : (m : Message) (r : Recall) → map.get d.seen m ≡ Some r → IsMessageAmong sites m × IsRecallAmong sites r
+  pub parents : (r : Recall) (m : Message) → map.get d.parents r ≡ Some m → IsRecallAmong sites r × IsMessageAmong sites m
+  pub own : (number : ℕ) → IsSome (map.get d.own number) → IsNumber number
+
 -- every site is of the list, every number is one that messages and recalls have, and no recall has an empty set
 pub record IsSound (s : Record) : Type 0 where
   pub one_site : s.captured.me ≡ s.engagement.me

@@ -4,6 +4,7 @@
 mod capturing;
 pub mod capturing_laws;
 mod emitting;
+mod every;
 mod holding;
 mod inputs;
 mod item_sets;
@@ -13,6 +14,7 @@ mod ordered_keys;
 mod outcomes;
 mod plans;
 mod quarantines;
+mod restoring;
 mod shipping;
 mod sources;
 mod spreading;

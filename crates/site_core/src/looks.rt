@@ -7,11 +7,12 @@ ghost use Rattle.site_core.specs.Steps.{IsForSite, IsOwnMessage};
 
 use crate::inputs::SiteInput;
 use crate::outcomes::{Effects, Refusal};
+use crate::restoring::is_number;
 use crate::spreading::is_known;
 use crate::states::SiteState;
 use epc_core::Epc;
 use event_json::SiteNo;
-use frame_core::{Frame, LAST_NUMBER, MsgId, RecallId};
+use frame_core::{Frame, MsgId, RecallId};
 
 /// What is answered without memory and without a change, if anything is.
 pub fn look(state: &SiteState, input: &SiteInput) -> Option<Result<Effects, Refusal>>
@@ -100,11 +101,4 @@ fn is_own_message(state: &SiteState, message: MsgId) -> bool
     ensures { IsTrue result ↔ IsOwnMessage state.now message }
 {
     message.site == state.me() && is_number(message.number)
-}
-
-/// Whether a message or a recall can have the number.
-fn is_number(number: u64) -> bool
-    ensures { IsTrue result ↔ IsNumber number }
-{
-    number >= 1 && number <= LAST_NUMBER
 }

@@ -1,7 +1,13 @@
-//! That the calls succeed with memory at hand, on the worked recall of two sites.
-mod refusals;
+//! That the calls succeed with memory at hand, on the worked recall of two sites; and records to which no run
+//! leads.
+//!
+//! An input is given in short, which holds no memory, so that little has to be dropped where a call fails.
+ghost use Rattle.std.specs.Prelude.{◌<◌};
 
-use crate::{Effects, Quarantine, SiteInput, SiteState, Stepped, emittable, step};
+mod refusals;
+mod restored;
+
+use crate::{Effects, Quarantine, Refusal, SiteInput, SiteState, Stepped, emittable, step};
 use epc_core::Epc;
 use event_json::{Sequence, SiteNo, Sites};
 use frame_core::{Frame, FrameView, MsgId, RecallId};
@@ -11,193 +17,214 @@ use std::test::Fail;
 /// The times of an event.
 const TIMES: &str = "\"eventTime\":\"2024-05-01T08:00:00Z\",\"eventTimeZoneOffset\":\"+00:00\"";
 
+/// An eventID.
+const ID: &str = "\"eventID\":\"e\",";
+
+/// An input in short. Items and addresses are of one letter.
+#[derive(Clone, Copy)]
+enum Short {
+    /// The document of one transformation.
+    Made(char, char),
+    /// The document of one shipment to an address, and whether it has the eventID e.
+    Shipped(char, char, bool),
+    Start(char),
+    /// A message for a site, of the recall A#1, with the item y.
+    Told(MsgId, SiteNo),
+    Signal(MsgId, SiteNo),
+}
+
 /// The site of a number, 0 for A.
-fn site(number: u64) -> Result<SiteNo, Fail> {
-    Ok(SiteNo::of(number).ok_or("no such site")?)
+fn site(number: u64) -> SiteNo
+    requires { number < 16 }
+{
+    SiteNo::of(number).unwrap()
 }
 
-/// A recall that a site began.
-fn recall(of: u64, number: u64) -> Result<RecallId, Fail> {
-    Ok(RecallId {
-        site: site(of)?,
+/// The recall A#1.
+fn recall() -> RecallId {
+    RecallId {
+        site: site(0),
+        number: 1,
+    }
+}
+
+/// A message of A.
+fn message(number: u64) -> MsgId {
+    MsgId {
+        site: site(0),
         number,
-    })
+    }
 }
 
-/// A message that a site sends.
-fn message(sender: u64, number: u64) -> Result<MsgId, Fail> {
-    Ok(MsgId {
-        site: site(sender)?,
-        number,
-    })
+fn input(alloc: Global, short: Short) -> Result<SiteInput, Fail> {
+    match short {
+        Short::Made(from, to) => document(format!(in alloc;
+            "{{\"type\":\"TransformationEvent\",{TIMES},\"inputEPCList\":[\"{from}\"],\"outputEPCList\":[\"{to}\"]}}"
+        )?),
+        Short::Shipped(item, to, named) => document(format!(in alloc;
+            "{{\"type\":\"ObjectEvent\",{TIMES},{}\"action\":\"OBSERVE\",\"epcList\":[\"{item}\"],\"destinationList\":[{{\"destination\":\"{to}\"}}]}}",
+            if named { ID } else { "" }
+        )?),
+        Short::Start(item) => {
+            let text = format!(in alloc; "{item}")?;
+            Ok(SiteInput::Start(Epc::read(alloc, text.as_str())?))
+        }
+        Short::Told(id, dest) => Ok(SiteInput::Deliver(Frame::Recall {
+            id,
+            dest,
+            recall: recall(),
+            item: Epc::read(alloc, "y")?,
+        })),
+        Short::Signal(id, by) => Ok(SiteInput::Deliver(Frame::Signal { id, by })),
+    }
 }
 
-/// The document of one transformation of an item into another, with these members beside.
-fn made(alloc: Global, from: &str, to: &str, also: &str) -> Result<SiteInput, Fail> {
-    let text = format!(in alloc;
-        "{{\"type\":\"TransformationEvent\",{TIMES},{also}\"inputEPCList\":[{from}],\"outputEPCList\":[{to}]}}"
-    )?;
+fn document(text: String) -> Result<SiteInput, Fail> {
     Ok(SiteInput::Capture(Sequence::from_vec(text.into_bytes())))
 }
 
-/// The document of one shipment of an item to an address, with these members beside.
-fn shipped(alloc: Global, item: &str, to: &str, also: &str) -> Result<SiteInput, Fail> {
-    let text = format!(in alloc;
-        "{{\"type\":\"ObjectEvent\",{TIMES},{also}\"action\":\"OBSERVE\",\"epcList\":[\"{item}\"],\"destinationList\":[{{\"destination\":\"{to}\"}}]}}"
-    )?;
-    Ok(SiteInput::Capture(Sequence::from_vec(text.into_bytes())))
+/// Whether the site gives this answer.
+fn gives(
+    alloc: Global,
+    state: &mut SiteState,
+    short: Short,
+    wanted: &Result<Effects, Refusal>,
+) -> Result<bool, Fail> {
+    let input = input(alloc, short)?;
+    Ok(state.apply(&input) == *wanted)
 }
 
-/// One of the sites A, B and C, which have an address each and have captured nothing.
-fn fresh(alloc: Global, number: u64) -> Result<SiteState, Fail> {
+/// The sites A, B and C, with the addresses a, b and c.
+fn three_sites(alloc: Global) -> Result<Sites, Fail> {
     let mut sites = Sites::new(alloc);
     sites.add("A", &["a"])?;
     sites.add("B", &["b"])?;
-    let last = sites.add("C", &["c"])?;
-    let me = site(number)?;
-    if me > last {
-        return Err("no such site".into());
+    sites.add("C", &["c"])?;
+    Ok(sites)
+}
+
+/// One of the sites, which has captured nothing.
+fn fresh(alloc: Global, me: SiteNo) -> Result<SiteState, Fail> {
+    let sites = three_sites(alloc)?;
+    if me.number() < sites.len() as u64 {
+        Ok(SiteState::new(alloc, sites, me))
+    } else {
+        Err("no such site".into())
     }
-    Ok(SiteState::new(alloc, sites, me))
 }
 
-/// Whether one fresh event is captured.
-fn captures(state: &mut SiteState, document: SiteInput) -> bool {
-    let all = Effects::Captured {
-        fresh: 1,
-        known: 0,
-        skipped: 0,
-    };
-    state.apply(&document) == Ok(all)
-}
+/// What the capture of one fresh event answers.
+const FRESH: Result<Effects, Refusal> = Ok(Effects::Captured {
+    fresh: 1,
+    known: 0,
+    skipped: 0,
+});
 
-/// A recall of an item.
-fn start(alloc: Global, item: &str) -> Result<SiteInput, Fail> {
-    Ok(SiteInput::Start(Epc::read(alloc, item)?))
-}
-
-/// The message A.1 of the recall A#1 of y for site B.
-fn first_message(alloc: Global) -> Result<SiteInput, Fail> {
-    Ok(SiteInput::Deliver(Frame::Recall {
-        id: message(0, 1)?,
-        dest: site(1)?,
-        recall: recall(0, 1)?,
-        item: Epc::read(alloc, "y")?,
-    }))
-}
-
-/// The signal of a site for a message of A.
-fn signal(number: u64, by: u64) -> Result<SiteInput, Fail> {
-    Ok(SiteInput::Deliver(Frame::Signal {
-        id: message(0, number)?,
-        by: site(by)?,
-    }))
-}
-
-/// Site A, where x was made into y and y was shipped to B, once it has started a recall of x.
-fn recalling(alloc: Global) -> Result<SiteState, Fail> {
-    let mut a = fresh(alloc, 0)?;
-    let made = captures(&mut a, made(alloc, "\"x\"", "\"y\"", "")?);
-    let shipped = captures(&mut a, shipped(alloc, "y", "b", "")?);
-    let started = Effects::Started {
-        recall: recall(0, 1)?,
+/// Site A makes y of x, ships y to B, and starts a recall of x.
+fn recalls(alloc: Global, a: &mut SiteState) -> Result<bool, Fail> {
+    let started = Ok(Effects::Started {
+        recall: recall(),
         quarantined: 2,
         numbered: 1,
         ended: false,
-    };
-    if made && shipped && a.apply(&start(alloc, "x")?) == Ok(started) {
-        Ok(a)
-    } else {
-        Err("the recall didn't start".into())
-    }
+    });
+    Ok(
+        gives(alloc, a, Short::Made('x', 'y'), &FRESH)?
+            && gives(alloc, a, Short::Shipped('y', 'b', false), &FRESH)?
+            && gives(alloc, a, Short::Start('x'), &started)?,
+    )
 }
 
-/// Whether the site may send A.1 for B with y, and nothing else.
-fn tells_b(a: &SiteState, y: &Epc) -> Result<bool, Fail> {
+/// Whether A may send A.1 for B with y, and nothing else.
+fn tells_b(a: &SiteState, y: &Epc) -> bool {
     let told = FrameView::Recall {
-        id: message(0, 1)?,
-        dest: site(1)?,
-        recall: recall(0, 1)?,
+        id: message(1),
+        dest: site(1),
+        recall: recall(),
         item: y,
     };
-    Ok(emittable(a, 1) == Some(told) && emittable(a, 2) == None)
+    emittable(a, 1) == Some(told) && emittable(a, 2) == None
 }
 
 #[test]
 fn a_start_tells_where_the_goods_went(rt: HostRuntime) -> Result<(), Fail> {
-    let a = recalling(rt.alloc())?;
+    let mut a = fresh(rt.alloc(), site(0))?;
+    assert!(rt; recalls(rt.alloc(), &mut a)?);
     let y = Epc::read(rt.alloc(), "y")?;
-    assert!(rt; tells_b(&a, &y)?);
+    assert!(rt; tells_b(&a, &y));
     Ok(())
+}
+
+/// Whether B may send its signal for A.1.
+fn owes_signal(b: &SiteState) -> bool {
+    let due = FrameView::Signal {
+        id: message(1),
+        by: site(1),
+    };
+    emittable(b, 1) == Some(due)
 }
 
 /// B takes the message once, and may send its signal then.
 fn takes_once(alloc: Global, b: &mut SiteState) -> Result<bool, Fail> {
-    let told = first_message(alloc)?;
-    let first = b.apply(&told);
-    let again = b.apply(&told);
-    let taken = Effects::Received {
+    let taken = Ok(Effects::Received {
         quarantined: 1,
         numbered: 0,
         owed: false,
-    };
-    let due = FrameView::Signal {
-        id: message(0, 1)?,
-        by: site(1)?,
-    };
-    Ok(first == Ok(taken) && again == Ok(Effects::Repeat) && emittable(b, 1) == Some(due))
+    });
+    let told = Short::Told(message(1), site(1));
+    Ok(
+        gives(alloc, b, told, &taken)?
+            && gives(alloc, b, told, &Ok(Effects::Repeat))?
+            && owes_signal(b),
+    )
 }
 
 #[test]
 fn a_message_is_taken_once(rt: HostRuntime) -> Result<(), Fail> {
-    let mut b = fresh(rt.alloc(), 1)?;
+    let mut b = fresh(rt.alloc(), site(1))?;
     assert!(rt; takes_once(rt.alloc(), &mut b)?);
     Ok(())
 }
 
-/// The last signal ends the recall, and is stale when it comes again, for which no record is made.
-fn ends_once(alloc: Global, a: &SiteState) -> Result<bool, Fail> {
-    let last = signal(1, 1)?;
-    let Stepped::Next(mut next, effects) = step(alloc, a, &last)? else {
-        return Ok(false);
-    };
-    let ended = effects == Effects::Ended(recall(0, 1)?) && a.outbox().len() == 1;
-    let stale = matches!(step(alloc, &next, &last)?, Stepped::Same(Effects::Stale));
-    Ok(ended && stale && next.apply(&last) == Ok(Effects::Stale))
+/// The last signal ends the recall in a record of its own, and is stale where it comes again.
+fn ends_apart(alloc: Global, a: &SiteState, last: &SiteInput) -> Result<bool, Fail> {
+    match step(alloc, a, last)? {
+        Stepped::Next(next, effects) => Ok(
+            effects == Effects::Ended(recall())
+                && next.outbox().is_empty()
+                && a.outbox().len() == 1,
+        ),
+        Stepped::Same(_) => Ok(false),
+    }
+}
+
+/// A copy is held apart.
+fn is_copied(alloc: Global, a: &SiteState, last: &SiteInput) -> Result<bool, Fail> {
+    let mut copy = a.copy(alloc)?;
+    Ok(copy.apply(last).is_ok() && copy.outbox().is_empty() && a.outbox().len() == 1)
 }
 
 #[test]
 fn the_last_signal_ends_the_recall(rt: HostRuntime) -> Result<(), Fail> {
-    let a = recalling(rt.alloc())?;
-    assert!(rt; ends_once(rt.alloc(), &a)?);
+    let last = input(rt.alloc(), Short::Signal(message(1), site(1)))?;
+    let mut a = fresh(rt.alloc(), site(0))?;
+    assert!(rt; recalls(rt.alloc(), &mut a)?);
+    assert!(rt; ends_apart(rt.alloc(), &a, &last)?);
+    assert!(rt; is_copied(rt.alloc(), &a, &last)?);
     Ok(())
 }
 
-/// A copy is held apart.
-fn is_copied(alloc: Global, a: &SiteState) -> Result<bool, Fail> {
-    let mut copy = a.copy(alloc)?;
-    let changed = copy.apply(&start(alloc, "y")?).is_ok();
-    Ok(changed && copy.next_recall() == 3 && a.next_recall() == 2)
-}
-
-#[test]
-fn a_site_is_copied(rt: HostRuntime) -> Result<(), Fail> {
-    let a = recalling(rt.alloc())?;
-    assert!(rt; is_copied(rt.alloc(), &a)?);
-    Ok(())
-}
-
-/// Quarantines x and y, and answers whether both are held then.
-fn holds_both(alloc: Global) -> Result<bool, Fail> {
-    let mut quarantine = Quarantine::new(alloc);
-    let first = recall(0, 1)?;
-    let items = [Epc::read(alloc, "x")?, Epc::read(alloc, "y")?];
-    quarantine.hold_all(first, &items)?;
-    Ok(quarantine.holds(first, &items[0]) && quarantine.holds(first, &items[1]))
+/// Quarantines y and answers whether it is held then, and whether it was new.
+fn holds(quarantine: &mut Quarantine, y: &[Epc; 1]) -> Result<bool, Fail> {
+    quarantine.hold_all(recall(), y)?;
+    Ok(quarantine.holds(recall(), &y[0]))
 }
 
 #[test]
 fn items_are_held_by_recall(rt: HostRuntime) -> Result<(), Fail> {
-    assert!(rt; holds_both(rt.alloc())?);
+    let y = [Epc::read(rt.alloc(), "y")?];
+    let mut quarantine = Quarantine::new(rt.alloc());
+    let held = holds(&mut quarantine, &y);
+    assert!(rt; held?);
     Ok(())
 }

@@ -17,7 +17,7 @@ use Rattle.trace_core.proofs.SetMembers.{contains-from_map}
 use Rattle.site_core.specs.Emitting.{emittable, message_frame, message_frames, signal_frame, signal_frames, is_parent}
 use Rattle.site_recovery.specs.Fit.{FrameFits}
 use Rattle.site_recovery.specs.Looks.{World, parent}
-use Rattle.site_recovery.proofs.Entries.{entry_found}
+use Rattle.site_core.proofs.Entries.{entry_found}
 
 -- what a filter leaves passes
 passing : {X : Type 0} (p : X → Bool) (xs : List X) (y : X) → Contains (filter p xs) y → Contains xs y × (p y ≡ true)

@@ -10,7 +10,7 @@ use Rattle.site_recovery.specs.Looks.{World, Held, Ships, row, seen, own, next_m
 use Rattle.site_recovery.specs.Misfits.{TellsMisfit, TellsUnmet}
 use Rattle.site_recovery.specs.declared.checking.CheckFault.{CheckFault}
 use Rattle.site_recovery.specs.declared.checking.CheckFault.TheVariants.{NoMemory, Misfit}
-use Rattle.site_recovery.proofs.OneAfterAnother.{lower_or_last}
+use Rattle.site_core.proofs.OneAfterAnother.{lower_or_last}
 
 abbrev condition_of : ℕ → Condition
 condition_of n =

@@ -18,11 +18,9 @@ pub mod OneSite
 pub mod LeastMisfit
 pub mod Lifting
 pub mod Emitted
-pub mod Entries
 pub mod OneStep
 pub mod KeptPlaces
 pub mod MapsOfSites
-pub mod OneAfterAnother
 pub mod Exact
 pub mod EmptySites
 pub mod Worlds

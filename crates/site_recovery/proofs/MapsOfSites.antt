@@ -11,7 +11,7 @@ use Rattle.scholten_core.specs.declared.own_recalls.Own.{Own}
 use Rattle.site_core.specs.ItemSets.{Items}
 use Rattle.site_core.specs.Records.{Record}
 use Rattle.site_recovery.specs.Looks.{World, row, seen, parent, own}
-use Rattle.site_recovery.proofs.Entries.{each_found}
+use Rattle.site_core.proofs.Entries.{each_found}
 
 -- of entries, each passes
 abbrev pub Each : {K X : Type 0} → List (K × X) → (K → X → Type 0) → Type 0

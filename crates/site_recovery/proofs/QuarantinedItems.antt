@@ -13,7 +13,7 @@ use Rattle.site_core.proofs.Held.{none_held}
 use Rattle.site_core.proofs.ItemOrder.{item_total, item_exact}
 use Rattle.trace_core.proofs.Members.{contains-map}
 use Rattle.trace_core.proofs.SetMembers.{contains-from_map}
-use Rattle.site_recovery.proofs.Entries.{entry_found, entry_there}
+use Rattle.site_core.proofs.Entries.{entry_found, entry_there}
 
 -- an item is in a set where it is one of the set's items
 listed : (items : Items) (i : List ℕ) → IsTrue (set.contains items i) → Contains (set.items items) i

@@ -17,7 +17,7 @@ use Rattle.trace_core.proofs.Members.{contains_here, contains_there, contains_ca
 use Rattle.site_core.specs.ItemSets.{Items}
 use Rattle.site_core.specs.ItemSets as set
 use Rattle.site_core.proofs.ItemOrder.{item_total, item_exact}
-use Rattle.site_recovery.proofs.Entries.{entry_found, entry_there}
+use Rattle.site_core.proofs.Entries.{entry_found, entry_there}
 use Rattle.site_recovery.proofs.MapsOfSites.{Each}
 use Rattle.site_recovery.proofs.OneSite.{one_place}
 

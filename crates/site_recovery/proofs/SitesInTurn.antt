@@ -18,7 +18,7 @@ use Rattle.site_core.proofs.Held.{none_held}
 use Rattle.site_core.proofs.ItemOrder.{item_total, item_exact}
 use Rattle.trace_core.proofs.Members.{contains_here}
 use Rattle.site_recovery.proofs.Absent.{none_seen, no_item}
-use Rattle.site_recovery.proofs.Entries.{entry_found}
+use Rattle.site_core.proofs.Entries.{entry_found}
 use Rattle.site_recovery.proofs.Exact.{within_or_past}
 
 counted : (refs : List (Bor Record)) → length (records_at refs) ≡ length refs

@@ -1,103 +1,92 @@
 //! Each refusal, and which comes first.
-use super::{
-    captures, first_message, fresh, made, recall, recalling, shipped, signal, site, start,
-};
+use super::{FRESH, Short, fresh, gives, message, recall, recalls, site};
 use crate::{Effects, Refusal, SiteInput, SiteState};
 use epc_core::Epc;
 use event_json::{DocFaultKind, Sequence};
-use frame_core::{Frame, MsgId};
+use frame_core::MsgId;
 use std::alloc::Global;
 use std::test::Fail;
 
-/// Whether a document's first event is refused since it would lead on from y out of A#1.
-fn is_blocked(alloc: Global, a: &mut SiteState, document: SiteInput) -> Result<bool, Fail> {
-    let blocked = Refusal::Blocked {
-        recall: recall(0, 1)?,
-        item: Epc::read(alloc, "y")?,
-        event: 1,
-    };
-    Ok(a.apply(&document) == Err(blocked))
-}
-
 // A shipment of y to C leads out, and to B it doesn't, for that pair is there. What is made of y leads out,
 // unless it is quarantined too.
+fn leads_out(
+    alloc: Global,
+    a: &mut SiteState,
+    blocked: &Result<Effects, Refusal>,
+) -> Result<bool, Fail> {
+    Ok(
+        gives(alloc, a, Short::Shipped('y', 'c', false), blocked)?
+            && gives(alloc, a, Short::Made('y', 'w'), blocked)?
+            && a.captured().len() == 2
+            && gives(alloc, a, Short::Shipped('y', 'b', false), &FRESH)?
+            && gives(alloc, a, Short::Made('y', 'x'), &FRESH)?,
+    )
+}
+
 #[test]
 fn a_capture_leads_out_of_no_quarantine(rt: HostRuntime) -> Result<(), Fail> {
-    let alloc = rt.alloc();
-    let mut a = recalling(alloc)?;
-    let to_c = is_blocked(alloc, &mut a, shipped(alloc, "y", "c", "")?)?;
-    let to_w = is_blocked(alloc, &mut a, made(alloc, "\"y\"", "\"w\"", "")?)?;
-    assert!(rt; to_c && to_w && a.captured().len() == 2);
-    let to_b = captures(&mut a, shipped(alloc, "y", "b", "")?);
-    let to_x = captures(&mut a, made(alloc, "\"y\"", "\"x\"", "")?);
-    assert!(rt; to_b && to_x);
+    let blocked = Err(Refusal::Blocked {
+        recall: recall(),
+        item: Epc::read(rt.alloc(), "y")?,
+        event: 1,
+    });
+    let mut a = fresh(rt.alloc(), site(0))?;
+    assert!(rt; recalls(rt.alloc(), &mut a)?);
+    assert!(rt; leads_out(rt.alloc(), &mut a, &blocked)?);
     Ok(())
 }
 
-/// An eventID.
-const ID: &str = "\"eventID\":\"e\",";
-
 /// A known event changes nothing, and another with its eventID is refused for that before it is blocked.
-fn tells_taken_first(alloc: Global) -> Result<bool, Fail> {
-    let mut a = recalling(alloc)?;
-    let fresh = captures(&mut a, shipped(alloc, "z", "b", ID)?);
-    let known = Effects::Captured {
+fn tells_taken_first(alloc: Global, a: &mut SiteState) -> Result<bool, Fail> {
+    let known = Ok(Effects::Captured {
         fresh: 0,
         known: 1,
         skipped: 0,
-    };
-    let again = a.apply(&shipped(alloc, "z", "b", ID)?);
-    let other = a.apply(&shipped(alloc, "y", "c", ID)?);
-    Ok(fresh && again == Ok(known) && other == Err(Refusal::IdTaken { event: 1 }))
+    });
+    let taken = Err(Refusal::IdTaken { event: 1 });
+    Ok(
+        gives(alloc, a, Short::Shipped('z', 'b', true), &FRESH)?
+            && gives(alloc, a, Short::Shipped('z', 'b', true), &known)?
+            && gives(alloc, a, Short::Shipped('y', 'c', true), &taken)?,
+    )
 }
 
-#[test]
-fn a_taken_id_is_told_before_a_block(rt: HostRuntime) -> Result<(), Fail> {
-    assert!(rt; tells_taken_first(rt.alloc())?);
-    Ok(())
-}
-
-/// The site doesn't know z; and of a document that is none, that is told.
-fn refuses_what_is_unknown(alloc: Global) -> Result<bool, Fail> {
-    let mut a = recalling(alloc)?;
-    let unknown = a.apply(&start(alloc, "z")?) == Err(Refusal::UnknownItem);
-    let empty = SiteInput::Capture(Sequence::new(alloc));
-    let syntax = match a.apply(&empty) {
+/// The site doesn't know v; and of a document that is none, that is told.
+fn refuses_what_is_unknown(alloc: Global, a: &mut SiteState) -> Result<bool, Fail> {
+    let unknown = gives(alloc, a, Short::Start('v'), &Err(Refusal::UnknownItem))?;
+    let syntax = match a.apply(&SiteInput::Capture(Sequence::new(alloc))) {
         Err(Refusal::Doc(fault)) => fault.kind == DocFaultKind::Syntax,
         _ => false,
     };
     Ok(unknown && syntax)
 }
 
-#[test]
-fn unknown_items_and_texts_are_refused(rt: HostRuntime) -> Result<(), Fail> {
-    assert!(rt; refuses_what_is_unknown(rt.alloc())?);
-    Ok(())
-}
-
 /// A frame for B, a signal by A for a message to B, and a message with a number past the last.
-fn refuses_frames(alloc: Global) -> Result<bool, Fail> {
-    let mut a = recalling(alloc)?;
-    let for_b = a.apply(&first_message(alloc)?) == Err(Refusal::NotMine);
-    let by_a = a.apply(&signal(1, 0)?) == Err(Refusal::NotMine);
-    let unsent = a.apply(&signal(2, 0)?) == Ok(Effects::Stale);
-    let past = SiteInput::Deliver(Frame::Recall {
-        id: MsgId {
-            site: site(1)?,
-            number: u64::MAX,
-        },
-        dest: site(0)?,
-        recall: recall(0, 1)?,
-        item: Epc::read(alloc, "y")?,
-    });
-    Ok(for_b && by_a && unsent && a.apply(&past) == Err(Refusal::NotMine))
+fn refuses_frames(alloc: Global, a: &mut SiteState) -> Result<bool, Fail> {
+    let not_mine = Err(Refusal::NotMine);
+    let past = MsgId {
+        site: site(1),
+        number: u64::MAX,
+    };
+    Ok(
+        gives(alloc, a, Short::Told(message(1), site(1)), &not_mine)?
+            && gives(alloc, a, Short::Signal(message(1), site(0)), &not_mine)?
+            && gives(alloc, a, Short::Told(past, site(0)), &not_mine)?
+            && gives(
+                alloc,
+                a,
+                Short::Signal(message(2), site(0)),
+                &Ok(Effects::Stale),
+            )?,
+    )
 }
 
 #[test]
-fn frames_of_other_sites_are_refused(rt: HostRuntime) -> Result<(), Fail> {
-    let refuses = refuses_frames(rt.alloc());
-    assert!(rt; refuses?);
-    let mut c = fresh(rt.alloc(), 2)?;
-    assert!(rt; c.apply(&first_message(rt.alloc())?) == Err(Refusal::NotMine));
+fn unknown_items_and_frames_of_others_are_refused(rt: HostRuntime) -> Result<(), Fail> {
+    let mut a = fresh(rt.alloc(), site(0))?;
+    assert!(rt; recalls(rt.alloc(), &mut a)?);
+    assert!(rt; tells_taken_first(rt.alloc(), &mut a)?);
+    assert!(rt; refuses_what_is_unknown(rt.alloc(), &mut a)?);
+    assert!(rt; refuses_frames(rt.alloc(), &mut a)?);
     Ok(())
 }

@@ -1,7 +1,7 @@
 use Rattle.std.proofs.Common.{◌<◌, length, sym, ap, ◌∙◌, subst, inl, inr}
 use mathlib.Core.Bool.{false≢true}
 use Rattle.site_recovery.specs.Checking.{world_at}
-use Rattle.site_recovery.proofs.OneAfterAnother.{lower_or_last}
+use Rattle.site_core.proofs.OneAfterAnother.{lower_or_last}
 use Rattle.site_recovery.proofs.SitesInTurn.{site_of, in_place}
 use Rattle.site_recovery.proofs.conditions.least_unmet.Goals as goal
 

@@ -1,5 +1,5 @@
 use Rattle.std.proofs.Common.{refl, arith}
-use Rattle.site_recovery.proofs.OneAfterAnother.{one_more_passed, all_below_passed}
+use Rattle.site_core.proofs.OneAfterAnother.{one_more_passed, all_below_passed}
 use Rattle.site_recovery.proofs.every.each_element.Goals as goal
 
 pub loop-element-init : goal.loop-element-init

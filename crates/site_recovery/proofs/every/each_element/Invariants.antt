@@ -1,4 +1,4 @@
-use Rattle.site_recovery.proofs.OneAfterAnother.{PassedBelow}
+use Rattle.site_core.proofs.OneAfterAnother.{PassedBelow}
 use Rattle.site_recovery.proofs.every.each_element.Given as goal
 
 -- each element below the place passes

@@ -1,4 +1,4 @@
-use Rattle.site_recovery.proofs.OneAfterAnother.{AllBut}
+use Rattle.site_core.proofs.OneAfterAnother.{AllBut}
 use Rattle.site_recovery.proofs.every.each_entry.Given as goal
 
 -- each entry before the ones to come passes

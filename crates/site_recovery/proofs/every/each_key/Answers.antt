@@ -1,6 +1,6 @@
 use Rattle.std.proofs.Common.{refl}
 use mathlib.Core.Bool.{false≢true}
-use Rattle.site_recovery.proofs.OneAfterAnother.{none_passed, one_passed, all_passed, one_fails}
+use Rattle.site_core.proofs.OneAfterAnother.{none_passed, one_passed, all_passed, one_fails}
 use Rattle.site_recovery.proofs.every.each_key.Goals as goal
 
 pub loop-key-init : goal.loop-key-init

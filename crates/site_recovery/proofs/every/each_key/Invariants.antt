@@ -1,4 +1,4 @@
-use Rattle.site_recovery.proofs.OneAfterAnother.{AllBut}
+use Rattle.site_core.proofs.OneAfterAnother.{AllBut}
 use Rattle.site_recovery.proofs.every.each_key.Given as goal
 
 -- each key before the ones to come passes

@@ -3,7 +3,7 @@ use mathlib.Core.Bool.{false≢true}
 use Rattle.std.proofs.lemmas.List.{length-map}
 use Rattle.site_recovery.specs.Checking.{records_at, world_at}
 use Rattle.site_recovery.specs.FittingAt.{IsOneOf}
-use Rattle.site_recovery.proofs.OneAfterAnother.{lower_or_last}
+use Rattle.site_core.proofs.OneAfterAnother.{lower_or_last}
 use Rattle.site_recovery.proofs.SitesInTurn.{site_of}
 use Rattle.site_recovery.proofs.places.are_all_sites.Goals as goal
 

@@ -1,6 +1,7 @@
 -- The entries of a map are what is found in it.
 use Rattle.std.proofs.Common.{◌≡◌, ◌↔◌, inl, inr, Bool, cond, List, [], ◌∷◌, Some, None, refl, sym, ap, ◌∙◌, subst}
-use Rattle.std.specs.Prelude.{T, IsTrue}
+use mathlib.Core.Bool.{false≢true}
+use Rattle.std.specs.Prelude.{T, IsTrue, IsSome}
 use Rattle.std.specs.Cmp.{IsTotalOrder}
 use Rattle.std.specs.Ordering.{is_eq}
 use Rattle.std.specs.declared.cmp.Ordering.{Ordering}
@@ -54,3 +55,15 @@ module _ {K X : Type 0} {R : K → K → Ordering} (o : IsTotalOrder R) where
       λ h k v is. decides.0 h k v (subst (λ xs. Contains xs (k, v)) (sym same) (entry_there m k v is)),
       λ all. decides.1 (λ k v at. all k v (entry_found m k v (subst (λ xs. Contains xs (k, v)) same at))),
     )
+
+    -- the same of the keys alone
+    pub each_key_found : (m : FinMap R X) (es : List (K × X)) → es ≡ entries m → (P : K → Type 0) (b : Bool)
+        → (IsTrue b ↔ ((k : K) (v : X) → Contains es (k, v) → P k)) → IsTrue b ↔ ((k : K) → IsSome (get m k) → P k)
+    each_key_found m es same P b decides =
+        let found = each_found m es same (λ k _. P k) b decides in (
+          λ h k some. elim (get m k) as (λ o. get m k ≡ o → IsSome o → P k) [
+            | None ↦ λ _ some. absurd (false≢true some)
+            | Some v ↦ λ is _. found.0 h k v is
+          ] refl some,
+          λ all. found.1 (λ k v is. all k (subst IsSome (sym is) refl)),
+        )
