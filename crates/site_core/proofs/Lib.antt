@@ -17,6 +17,7 @@ pub mod Holders
 pub mod InputOutcomes
 pub mod ItemOrder
 pub mod ItemSets
+pub mod NamedFrames
 pub mod Newly
 pub mod OneAfterAnother
 pub mod OneEffect

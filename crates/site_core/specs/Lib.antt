@@ -7,6 +7,7 @@ pub mod Holding
 pub mod ItemSets
 pub mod Laws
 pub mod Looks
+pub mod Naming
 pub mod Plans
 pub mod Quarantines
 pub mod Records

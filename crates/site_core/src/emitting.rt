@@ -64,7 +64,7 @@ fn signal_at(state: &SiteState, place: u64) -> Option<FrameView<'_>>
 }
 
 /// Whether a message is the parent of some recall.
-fn is_parent(state: &SiteState, message: MsgId) -> bool
+pub(crate) fn is_parent(state: &SiteState, message: MsgId) -> bool
     ensures { result ≡ is_parent state.now.engagement message }
 {
     for (_, parent) in state.parents() {

@@ -1,6 +1,7 @@
 //! Laws of what a site keeps, for proofs of the crates above. Each is a function with an empty body whose
 //! contract is the law.
 
+ghost use Rattle.site_core.specs.Naming.{FramesHaveNames};
 ghost use Rattle.site_core.specs.Laws.{OneItemMoreIsHeld, MoreItemsAreHeld, MoreItemsLeaveNoEmptySet, StepsStaySound, WhatIsHeldIsAll};
 
 /// What is held with more items under a recall is those items under that recall, and what was held
@@ -19,4 +20,9 @@ pub fn a_quarantine_is_what_it_holds()
 /// A step leaves a sound record sound.
 pub fn steps_stay_sound()
     ensures { StepsStaySound }
+{}
+
+/// The frames that a site may send are those that have a name, and each has one.
+pub fn frames_have_names()
+    ensures { FramesHaveNames }
 {}
