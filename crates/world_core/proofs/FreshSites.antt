@@ -16,7 +16,7 @@ use Rattle.world_core.proofs.InPlace.{none_other}
 use Rattle.world_core.specs.Worlds.{records}
 
 module _ (rs : List Record) (one : AreOneWorld rs) (new : AreFresh rs) where
-  fresh_at : (s : ℕ) → s < length rs → world_of rs s ≡ fresh one.0.sites s
+  pub fresh_at : (s : ℕ) → s < length rs → world_of rs s ≡ fresh one.0.sites s
   fresh_at s below =
       let r = world_of rs s in
       let at : slice_get rs s ≡ Some r = slice_get-get_or rs s (fresh [] s) below in

@@ -12,3 +12,5 @@ pub mod OneSite
 pub mod Running
 pub mod Showing
 pub mod Telling
+pub mod Counted
+pub mod Counting

@@ -1,5 +1,6 @@
 //! Laws of runs. Each is a function with an empty body whose contract is the law.
 
+ghost use Rattle.world_core.specs.Counting.{MessagesAreCounted};
 ghost use Rattle.world_core.specs.FormingLaws.{FreshSitesMakeAWorld, OnlyMemoryHindersAWorld};
 ghost use Rattle.world_core.specs.Laws.{EndedStays, EndsAreExact, FramesStay, FreshSitesFit, QuarantinesAscend, RunsComeOut, RunsFromTheStartComeOut, RunsKeepTheFit, SitesStandAsKept, TurnsKeepTheFit};
 ghost use Rattle.world_core.specs.SendingLaws.{FramesWereEmittable};
@@ -47,4 +48,10 @@ pub fn the_headline()
 /// Every frame that a run sent was emittable, at a moment of the run, by the record of a site that was up.
 pub fn frames_were_emittable()
     ensures { FramesWereEmittable }
+{}
+
+/// After every run from sites at which nothing happened yet a recall has as many messages as there are shipments of what
+/// is quarantined under it: each shipment is told by one message, however often its frame was sent.
+pub fn messages_are_counted()
+    ensures { MessagesAreCounted }
 {}
