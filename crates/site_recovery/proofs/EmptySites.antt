@@ -19,13 +19,13 @@ use Rattle.site_recovery.specs.Looks.{World, world_of, Held, row, seen, parent, 
 use Rattle.site_recovery.proofs.Exact.{within_or_past}
 
 module _ (W : World) (empty : (s : ℕ) → (sites : List Site) × (W s ≡ fresh sites s)) where
-  no_item : (s : ℕ) (r : Recall) (i : List ℕ) → Held W s r i → ⊥
+  pub no_item : (s : ℕ) (r : Recall) (i : List ℕ) → Held W s r i → ⊥
   no_item s r i h = false≢true (sym (ap (λ z. held z.quarantine r i) (empty s).1 ∙ none_held map.empty r i (get-empty recall_cmp r)) ∙ h)
 
-  no_row : (s n : ℕ) (x : Row) → row W s n ≡ Some x → ⊥
+  pub no_row : (s n : ℕ) (x : Row) → row W s n ≡ Some x → ⊥
   no_row s n x e = let none : None ≡ Some x = sym (ap (λ z. map.get z.engagement.outbox n) (empty s).1 ∙ get-empty nat_cmp n) ∙ e in cc
 
-  none_seen : (s : ℕ) (m : Message) (r : Recall) → seen W s m ≡ Some r → ⊥
+  pub none_seen : (s : ℕ) (m : Message) (r : Recall) → seen W s m ≡ Some r → ⊥
   none_seen s m r e = let none : None ≡ Some r = sym (ap (λ z. map.get z.engagement.seen m) (empty s).1 ∙ get-empty message_cmp m) ∙ e in cc
 
   no_parent : (s : ℕ) (r : Recall) (m : Message) → parent W s r ≡ Some m → ⊥
@@ -55,10 +55,11 @@ module _ (W : World) (empty : (s : ℕ) → (sites : List Site) × (W s ≡ fres
     held_below = λ s r i h. absurd (no_item s r i h);
   }
 
+pub each_is_empty : (sites : List Site) (records : List Record) → ((s : ℕ) → s < length records → world_of records s ≡ fresh sites s) → (s : ℕ) → (all : List Site) × (world_of records s ≡ fresh all s)
+each_is_empty sites records empty s = elim (within_or_past s (length records)) as (λ _. (all : List Site) × (world_of records s ≡ fresh all s)) [
+  | inl below ↦ (sites, empty s below)
+  | inr past ↦ ([], get_or_past records s (fresh [] s) past)
+]
+
 pub empty_sites_fit : (sites : List Site) (records : List Record) → ((s : ℕ) → s < length records → world_of records s ≡ fresh sites s) → Fits (world_of records) []
-empty_sites_fit sites records empty =
-    let each : (s : ℕ) → (all : List Site) × (world_of records s ≡ fresh all s) = λ s. elim (within_or_past s (length records)) as (λ _. (all : List Site) × (world_of records s ≡ fresh all s)) [
-      | inl below ↦ (sites, empty s below)
-      | inr past ↦ ([], get_or_past records s (fresh [] s) past)
-    ] in
-    record { records_fit = empty_fit (world_of records) each; frames_fit = λ f at. absurd (contains_none f at) }
+empty_sites_fit sites records empty = record { records_fit = empty_fit (world_of records) (each_is_empty sites records empty); frames_fit = λ f at. absurd (contains_none f at) }

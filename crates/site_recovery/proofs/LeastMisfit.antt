@@ -79,11 +79,11 @@ module _ (n : ℕ) (W : World) where
 
   pub least_misfit : (c : Condition) (P : ℕ → Type 0) → ((s : ℕ) → P s ↔ FitAt W c s) → Before (number_of c) → (fault : CheckFault) → TellsUnmet (number_of c) n P fault → TellsMisfit n W fault
   least_misfit c P same before NoMemory told = told
-  least_misfit c P same before (Misfit number site) (is, (below, fails, least)) = record {
+  least_misfit c P same before (Misfit m) (is, (below, fails, least)) = record {
     condition = c;
     numbered = is;
     below = below;
-    fails = λ holds. fails ((same site).1 holds);
+    fails = λ holds. fails ((same m.site).1 holds);
     least_condition = λ d s low. before d s (subst (λ z. number_of d < z) is low);
     least_site = λ s low. (same s).0 (least s low);
   }
@@ -116,6 +116,35 @@ module _ (W : World) where
 
   pub below_parts : (q : ℕ) → BelowParts q ↔ FitAt W NumbersAreBelow q
   below_parts q = (λ b. record { rows = b.0.0; seen = b.0.1; own = b.1.0; held = b.1.1 }, λ f. ((f.rows, f.seen), (f.own, f.held)))
+
+-- The conditions that were found to hold, one after another.
+module _ (n : ℕ) (W : World) where
+  abbrev pub Holds : (ℕ → Type 0) → Type 0
+  Holds P = (s : ℕ) → s < n → P s
+
+  pub before_2 : Holds (FitAt W Closed) → Before n W 2
+  before_2 h1 = one_more_holds n W Closed (none_before n W) h1
+
+  pub before_3 : Holds (FitAt W Closed) → Holds (ToldParts W) → Before n W 3
+  before_3 h1 h2 = one_more_holds n W Told (before_2 h1) (λ s below. (told_parts W s).0 (h2 s below))
+
+  pub before_4 : Holds (FitAt W Closed) → Holds (ToldParts W) → Holds (JustifiedParts W) → Before n W 4
+  before_4 h1 h2 h3 = one_more_holds n W Justified (before_3 h1 h2) (λ s below. (justified_parts W s).0 (h3 s below))
+
+  pub before_5 : Before n W 4 → Holds (FitAt W Waiting) → Before n W 5
+  before_5 b h4 = one_more_holds n W Waiting b h4
+
+  pub before_6 : Before n W 4 → Holds (FitAt W Waiting) → Holds (FitAt W ParentsStand) → Before n W 6
+  before_6 b h4 h5 = one_more_holds n W ParentsStand (before_5 b h4) h5
+
+  pub before_9 : Before n W 4 → Holds (FitAt W Waiting) → Holds (FitAt W ParentsStand) → Holds (FitAt W ParentsLeadHome) → Before n W 9
+  before_9 b h4 h5 h6 = past_the_frames n W (one_more_holds n W ParentsLeadHome (before_6 b h4 h5) h6)
+
+  pub before_10 : Before n W 9 → Holds (FitAt W EndsAreQuiet) → Before n W 10
+  before_10 b h9 = one_more_holds n W EndsAreQuiet b h9
+
+  pub before_11 : Before n W 10 → Holds (BelowParts W) → Before n W 11
+  before_11 b h10 = one_more_holds n W NumbersAreBelow b (λ s below. (below_parts W s).0 (h10 s below))
 
 -- What holds of each fault that is handed on.
 pub handed_on : (r : Result (Unit {0}) CheckFault) (x : CheckFault) (Q : CheckFault → Type 0) → IsErrAnd r (λ e. e ≡ x) → Q x → IfErr r Q

@@ -119,17 +119,17 @@ still_clears V W s n x sent f c at =
 
 -- The record of one site is put in another's place.
 
-abbrev put : World → ℕ → Record → World
+abbrev pub put : World → ℕ → Record → World
 put V s new t = cond (eqb t s) new (V t)
 
-put_here : (V : World) (s : ℕ) (new : Record) → put V s new s ≡ new
+pub put_here : (V : World) (s : ℕ) (new : Record) → put V s new s ≡ new
 put_here V s new = ap (λ b. cond b new (V s)) (eq-eqb s s refl)
 
-put_elsewhere : (V : World) (s : ℕ) (new : Record) → SameElsewhere V (put V s new) s
+pub put_elsewhere : (V : World) (s : ℕ) (new : Record) → SameElsewhere V (put V s new) s
 put_elsewhere V s new t away = ap (λ b. cond b new (V t)) (ne_eqb t s away)
 
 -- worlds that are the same at the site and elsewhere are one
-one_world : (V W : World) (s : ℕ) → W s ≡ V s → SameElsewhere V W s → W ≡ V
+pub one_world : (V W : World) (s : ℕ) → W s ≡ V s → SameElsewhere V W s → W ≡ V
 one_world V W s here elsewhere =
     let each : (t : ℕ) → W t ≡ V t = λ t. elim (one_place t s) as (λ _. W t ≡ V t) [
       | inl at ↦ ap W at ∙ here ∙ ap V (sym at)

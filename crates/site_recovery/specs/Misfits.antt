@@ -18,9 +18,9 @@ pub record IsMisfit (n : ℕ) (W : World) (number site : ℕ) : Type 0 where
 -- memory may always run out
 abbrev pub TellsMisfit : ℕ → World → CheckFault → Type 0
 TellsMisfit n W NoMemory = ⊤
-TellsMisfit n W (Misfit number site) = IsMisfit n W number site
+TellsMisfit n W (Misfit m) = IsMisfit n W m.condition m.site
 
 -- something of the number doesn't hold at each of n sites
 abbrev pub TellsUnmet : ℕ → ℕ → (ℕ → Type 0) → CheckFault → Type 0
 TellsUnmet number n P NoMemory = ⊤
-TellsUnmet number n P (Misfit at site) = (at ≡ number) × IsLeastUnmet n P (Some site)
+TellsUnmet number n P (Misfit m) = (m.condition ≡ number) × IsLeastUnmet n P (Some m.site)

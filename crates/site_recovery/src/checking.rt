@@ -17,6 +17,15 @@ use site_core::SiteState;
 use std::alloc::Global;
 use thiserror::Error;
 
+/// Where records don't fit together.
+#[derive(Clone, Copy, Debug, Drop, PartialEq, Eq)]
+pub struct Misfit {
+    /// The number of the least condition that fails: 1 to 6, 9 or 10.
+    pub condition: u64,
+    /// The least site that is charged with it.
+    pub site: SiteNo,
+}
+
 /// Why records weren't found to fit together.
 #[derive(Clone, Copy, Debug, Drop, PartialEq, Eq, Error)]
 pub enum CheckFault {
@@ -24,13 +33,8 @@ pub enum CheckFault {
     #[error("memory ran out")]
     NoMemory,
     /// A condition fails.
-    #[error("the records don't fit together: condition {condition} fails")]
-    Misfit {
-        /// The number of the least condition that fails.
-        condition: u64,
-        /// The least site that is charged with it.
-        site: SiteNo,
-    },
+    #[error("the records don't fit together")]
+    Misfit(Misfit),
 }
 
 /// Whether a condition holds at each site.
@@ -46,10 +50,10 @@ fn check<C: Condition>(
 {
     match least_unmet(alloc, sites, condition) {
         Ok(None) => Ok(()),
-        Ok(Some(site)) => Err(CheckFault::Misfit {
+        Ok(Some(site)) => Err(CheckFault::Misfit(Misfit {
             condition: number,
             site,
-        }),
+        })),
         Err(_) => Err(CheckFault::NoMemory),
     }
 }

@@ -18,5 +18,5 @@ mod telling;
 mod tests;
 mod waiting;
 
-pub use checking::{CheckFault, check_world};
+pub use checking::{CheckFault, Misfit, check_world};
 pub use places::are_all_sites;

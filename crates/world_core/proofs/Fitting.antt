@@ -28,7 +28,7 @@ use Rattle.world_core.specs.Turns.{GoesDown, Reopens, Runs, Sends, Steps, Stops,
 use Rattle.world_core.specs.Worlds.{Standing, Up, Down, WorldState, WorldFits, record_of, records}
 
 -- The ways in which a turn changes the record of its site, and the frames sent.
-data Way (old : Record) (sent : List Frame) (new : Record) (now : List Frame) : Type 0 where
+pub data Way (old : Record) (sent : List Frame) (new : Record) (now : List Frame) : Type 0 where
   stays : new ≡ old → now ≡ sent → Way old sent new now
   goes_on : (input : SiteInput) → WasSent sent input → IsAfter old input new → now ≡ sent → Way old sent new now
   tells : (frame : Frame) → Contains (emitting.emittable old.engagement) frame → new ≡ old → now ≡ sent ++ frame ∷ [] → Way old sent new now
@@ -96,7 +96,7 @@ send_way old sent now place (Some frame) NoMemory new e h same = stays same h
 send_way old sent now place None NoFrame new e h same = stays same h
 send_way old sent now place found answer new e h same = absurd h
 
-turn_way : (old : Standing) (sent : List Frame) (event : WorldEvent) (answer : Answer) (new : Standing) (now : List Frame) → TurnsAt old sent event answer new now → Way (record_of old) sent (record_of new) now
+pub turn_way : (old : Standing) (sent : List Frame) (event : WorldEvent) (answer : Answer) (new : Standing) (now : List Frame) → TurnsAt old sent event answer new now → Way (record_of old) sent (record_of new) now
 turn_way (Up r) sent (Step site told) answer new now h = step_way r sent now h.1 (input_at sent site told) answer new (input_sent sent site told) h.0
 turn_way (Up r) sent (Stop site told keep) answer new now h = stop_way r sent now h.1 (input_at sent site told) keep answer new (input_sent sent site told) h.0
 turn_way (Up r) sent (Send site place) answer new now h = send_way r sent now place (emitting.frame_at r.engagement place) answer (record_of new) refl h.0 (ap record_of h.1)
@@ -136,7 +136,7 @@ way_keeps rs sent site new now places fits below (tells frame among same more) =
     (subst (λ l. KeepsAll rs l (sent ++ frame ∷ [])) (sym (set-get_or rs site (fresh [] site))) (same_ended rs (sent ++ frame ∷ []) places (sends_keep_the_fit rs sent site frame places fits below among))))
 
 -- the record of a site that stands so
-record_at : (sites : List Standing) (site : ℕ) (standing : Standing) → slice_get sites site ≡ Some standing → (site < length (map record_of sites)) × (world_of (map record_of sites) site ≡ record_of standing)
+pub record_at : (sites : List Standing) (site : ℕ) (standing : Standing) → slice_get sites site ≡ Some standing → (site < length (map record_of sites)) × (world_of (map record_of sites) site ≡ record_of standing)
 record_at sites site standing e =
     let there : slice_get (map record_of sites) site ≡ Some (record_of standing) = slice_get-map record_of sites site ∙ ap (option_map record_of) e in
     (slice_get_within _ site (record_of standing) there, get_or_from_slice_get _ site (record_of standing) (fresh [] site) there)

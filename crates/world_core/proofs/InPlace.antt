@@ -1,19 +1,18 @@
--- Records in their places, and records of sites at which nothing happened yet.
+-- Records in their places.
 use Rattle.std.proofs.Common.{◌≡◌, ◌↔◌, ℕ, zero, suc, ◌+◌, ◌<◌, ◌≤◌, Bool, true, false, IsTrue, nat_eq, Some, None, List, [], ◌∷◌, length, get_or, map, refl, sym, ◌∙◌, ap, subst, inl, inr, ⊎_elim, arith, slice_get}
 use mathlib.Core.Bool.{false≢true}
 use Rattle.std.specs.Bool.{Decides}
 use Rattle.std.specs.Cmp.Lexicographic.{pointwise}
 use Rattle.std.specs.Option.{option_map}
-use Rattle.std.specs.declared.cmp.Ordering.{Ordering}
-use Rattle.std.specs.FinMap as finite
 use Rattle.std.proofs.lemmas.Bool.{cases_eq}
 use Rattle.std.proofs.lemmas.Bool.Decides.{Decides-eqb}
-use Rattle.std.proofs.lemmas.List.{nil_from_length}
-use Rattle.std.proofs.lemmas.Option.{same_Some, slice_get-map, slice_get_read, slice_get_within}
+use Rattle.std.proofs.lemmas.Option.{same_Some, slice_get-get_or, slice_get-map, slice_get_read, slice_get_within}
 use Rattle.event_json.specs.Contents.{same_site}
 use Rattle.event_json.specs.Sites.{Site}
 use Rattle.event_json.proofs.ContentLaws.{lists_decide}
-use Rattle.site_core.specs.Records.{Record, IsSound}
+use Rattle.site_core.specs.Records.{Record, IsSound, fresh}
+use Rattle.site_recovery.specs.FittingAt.{AreAllSites}
+use Rattle.site_recovery.specs.Looks.{world_of}
 use Rattle.world_core.specs.Faults.{IsInPlace, AreOneWorld, StandsRight, IsFirstOther}
 
 -- One place after another.
@@ -87,16 +86,30 @@ wanting rs first i at e h less = record {
   meant = λ f is. inr (subst (λ x. i < length x.sites) (same_Some first f (sym at ∙ is)) less);
 }
 
-pub all_of : (rs : List Record) (first : Record) → slice_get rs 0 ≡ Some first → length rs ≡ length first.sites → AreInPlaceTo first.sites (length rs) rs → AreOneWorld rs
+all_of : (rs : List Record) (first : Record) → slice_get rs 0 ≡ Some first → length rs ≡ length first.sites → AreInPlaceTo first.sites (length rs) rs → AreOneWorld rs
 all_of rs first at number h = (first, at, record { number = number; each = all_places (IsInPlace first.sites) rs (length rs) (omega arith) h })
 
--- A record at which nothing happened.
+-- the same of what references show
+pub one_world : {X : Type 0} (xs : List X) (f : X → Record) (first : X) (sites : List Site) → Some first ≡ slice_get xs 0 → sites ≡ (f first).sites → length (map f xs) ≡ length sites → AreInPlaceTo sites (length (map f xs)) (map f xs) → AreOneWorld (map f xs)
+one_world xs f first sites is lent number h =
+    all_of (map f xs) (f first) (first_there f xs first is) (number ∙ ap length lent) (subst (λ l. AreInPlaceTo l (length (map f xs)) (map f xs)) lent h)
 
-pub list_decides : {X : Type 0} (xs : List X) (n : ℕ) → n ≡ length xs → Decides (nat_eq n 0) (xs ≡ [])
-list_decides xs n e = (λ h. nil_from_length xs (sym e ∙ (Decides-eqb n 0).0 h), λ h. (Decides-eqb n 0).1 (e ∙ ap length h))
+-- records in their places, each of them sound, are those of all sites
+pub all_sites : (rs : List Record) → AreOneWorld rs → ((p : ℕ) (r : Record) → slice_get rs p ≡ Some r → IsSound r) → AreAllSites rs
+all_sites rs one sound s below =
+    let r = world_of rs s in
+    let at : slice_get rs s ≡ Some r = slice_get-get_or rs s (fresh [] s) below in
+    let right = one.2.each s r at in
+    let is = sound s r at in
+    record {
+      place = record { captured = is.one_site ∙ right.1; engagement = right.1 };
+      sound = is;
+      all = ap length right.0 ∙ sym one.2.number;
+    }
 
-pub map_decides : {K X : Type 0} (R : K → K → Ordering) (m : finite.FinMap R X) (n : ℕ) → n ≡ length (finite.entries m) → Decides (nat_eq n 0) (m ≡ finite.empty)
-map_decides {K} {X} R m n e = (λ h. finite.empty_of_len m (finite.len-entries m ∙ sym e ∙ (Decides-eqb n 0).0 h), λ h. (Decides-eqb n 0).1 (e ∙ sym (finite.len-entries m) ∙ ap finite.len h ∙ finite.len-empty R X))
-
-pub next_decides : (m n : ℕ) → n ≡ m → Decides (nat_eq n 1) (m ≡ 1)
-next_decides m n e = (λ h. sym e ∙ (Decides-eqb n 1).0 h, λ h. (Decides-eqb n 1).1 (e ∙ h))
+-- where all records are of one world, no place is another's
+pub none_other : (rs : List Record) → AreOneWorld rs → (place : ℕ) → IsFirstOther rs place → ⊥
+none_other rs one place other =
+    let below : place < length rs = ⊎_elim (λ h. h) (λ h. subst (λ n. place < n) (sym one.2.number) h) (other.meant one.0 one.1) in
+    let r = some_there rs place below in
+    other.here (one.0, r.0, one.1, r.1, one.2.each place r.0 r.1)

@@ -2,7 +2,6 @@ pub mod Emitted
 pub mod EndedRecalls
 pub mod Fitting
 pub mod FreshSites
-pub mod Freshness
 pub mod HeldPairs
 pub mod Holding
 pub mod InPlace
@@ -12,3 +11,6 @@ pub mod Lifting
 pub mod OneSite
 pub mod Running
 pub mod Showing
+pub mod Telling
+pub mod Counted
+pub mod Counting

@@ -2,17 +2,22 @@
 use Rattle.std.proofs.Common.{◌≡◌, ℕ, zero, suc, ◌+◌, ◌<◌, Option, Some, None, List, [], ◌∷◌, ◌++◌, length, get_or, map, take, refl, sym, ◌∙◌, ap, subst, arith, slice_get}
 use Rattle.std.specs.List.{AllZip}
 use Rattle.std.proofs.lemmas.List.{take_more}
+use Rattle.std.proofs.lemmas.Option.{same_Some}
 use Rattle.frame_core.specs.Numbers.{Recall}
 use Rattle.frame_core.specs.declared.frames.Frame.{Frame}
 use Rattle.site_core.specs.Records.{Record}
 use Rattle.trace_core.specs.Pairs.{IsStrictlyAscending}
 use Rattle.trace_core.specs.declared.pairs.Pair.{Pair}
-use Rattle.world_core.specs.Faults.{AreFresh, AreOneWorld}
+use Rattle.site_recovery.specs.Fit.{Fits}
+use Rattle.site_recovery.specs.Looks.{world_of}
+use Rattle.world_core.specs.Faults.{HindersKeepers, MakeAWorld}
+use Rattle.world_core.specs.declared.faults.WorldFault.{WorldFault}
+use Rattle.world_core.specs.declared.faults.WorldFault.TheVariants as worlds
 use Rattle.world_core.specs.Keepers.{AllShow, Sites, SitesFit, StandsAs}
 use Rattle.world_core.specs.Recalls.{AreExactOnceEnded, quarantined}
 use Rattle.world_core.specs.Worlds.{Standing, Up, Down, WorldState, record_of, records}
 use Rattle.world_core.proofs.EndedRecalls.{ended_is_exact, quarantines_ascend}
-use Rattle.world_core.proofs.FreshSites.{fresh_sites_fit}
+use Rattle.world_core.proofs.FreshSites.{memory_alone}
 
 module _ {A B : Type 0} (R : A → B → Type 0) where
   zip_push : (xs : List A) (ys : List B) (x : A) (y : B) → AllZip R xs ys → R x y → AllZip R (xs ++ x ∷ []) (ys ++ y ∷ [])
@@ -57,6 +62,12 @@ module _ {K : Type 0} (shown : K → Option Record) (may : K → Record → Type
   shown_once (k ∷ ks) [] ss a b = absurd a
   shown_once (k ∷ ks) (r ∷ rs) [] a b = absurd b
 
+  shown_there : (keepers : List K) (rs : List Record) → AllShow shown keepers rs → (place : ℕ) (k : K) → slice_get keepers place ≡ Some k → (r : Record) × (shown k ≡ Some r)
+  shown_there [] rs a place k e = let n : None ≡ Some k = e in cc
+  shown_there (x ∷ xs) [] a place k e = absurd a
+  shown_there (x ∷ xs) (r ∷ rs) a zero k e = let same : x ≡ k = same_Some x k e in (r, subst (λ z. shown z ≡ Some r) same a.0)
+  shown_there (x ∷ xs) (r ∷ rs) a (suc place) k e = shown_there xs rs a.1 place k e
+
   -- and one world that they may be
   shown_records : (keepers : List K) (rs : List Record) (sites : List Standing) → AllShow shown keepers rs → AllZip (λ k standing. StandsAs (shown k) (may k) standing) keepers sites → map record_of sites ≡ rs
   shown_records [] [] [] a z = refl
@@ -81,11 +92,22 @@ module _ {K : Type 0} (shown : K → Option Record) (may : K → Record → Type
   same_records [] = refl
   same_records (r ∷ rs) = ap (λ qs. r ∷ qs) (same_records rs)
 
-  -- sites that show records at which nothing happened yet
-  pub fresh_shown : (keepers : List K) (sent : List Frame) (rs : List Record) → AllShow shown keepers rs → AreOneWorld rs → AreFresh rs → sent ≡ [] → SitesFit shown may (record { keepers = keepers; sent = sent })
-  fresh_shown keepers sent rs a one fresh none world z =
+  -- sites that show records which make a world
+  pub fit_shown : (keepers : List K) (sent : List Frame) (rs : List Record) → AllShow shown keepers rs → MakeAWorld rs → sent ≡ [] → SitesFit shown may (record { keepers = keepers; sent = sent })
+  fit_shown keepers sent rs a make none world z =
       let same = shown_records keepers rs world.sites a z.0 in
-      fresh_sites_fit world (subst AreOneWorld (sym same) one) (subst AreFresh (sym same) fresh) (z.1 ∙ none)
+      let here : MakeAWorld (records world) = subst MakeAWorld (sym same) make in
+      record { places = here.places; fits = subst (Fits (world_of (records world))) (sym (z.1 ∙ none)) here.fit }
+
+  -- nothing but want of memory hinders them
+  pub only_memory_hinders : (keepers : List K) (rs : List Record) → AllShow shown keepers rs → MakeAWorld rs → (fault : WorldFault) → HindersKeepers shown keepers fault → fault ≡ worlds.NoMemory
+  only_memory_hinders keepers rs a make worlds.NoMemory h = refl
+  only_memory_hinders keepers rs a make (worlds.Closed place) h =
+      let shows = shown_there keepers rs a place h.0.0 h.0.1 in
+      let o : None ≡ Some shows.0 = sym h.0.2 ∙ shows.1 in
+      cc
+  only_memory_hinders keepers rs a make (worlds.OtherSites place) (ss, b, hinders) = memory_alone ss (subst MakeAWorld (shown_once keepers rs ss a b) make) (worlds.OtherSites place) hinders
+  only_memory_hinders keepers rs a make (worlds.Misfit misfit) (ss, b, hinders) = memory_alone ss (subst MakeAWorld (shown_once keepers rs ss a b) make) (worlds.Misfit misfit) hinders
 
   -- what is told of the records that all sites show holds of all that they show
   pub shown_exact : (sites : Sites K) (recall : Recall) (rs : List Record) (pairs : List Pair) → SitesFit shown may sites → AllShow shown sites.keepers rs → pairs ≡ quarantined recall rs

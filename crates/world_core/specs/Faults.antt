@@ -1,7 +1,12 @@
 -- What the places of faults say.
-use Rattle.std.specs.Prelude.{◌≡◌, ◌≢◌, ⊤, ℕ, ◌<◌, ◌⊎◌, List, length, slice_get, Option, Some}
+use Rattle.std.specs.Prelude.{◌≡◌, ⊤, ℕ, ◌<◌, ◌⊎◌, List, [], length, slice_get, Option, Some}
 use Rattle.event_json.specs.Sites.{Site}
 use Rattle.site_core.specs.Records.{Record, fresh}
+use Rattle.site_recovery.specs.Fit.{Fits}
+use Rattle.site_recovery.specs.Laws.{AreInPlace}
+use Rattle.site_recovery.specs.Looks.{world_of}
+use Rattle.site_recovery.specs.Misfits.{IsMisfit}
+use Rattle.site_recovery.specs.declared.checking.Misfit.{Misfit}
 use Rattle.world_core.specs.Keepers.{AllShow, IsFirstClosed}
 use Rattle.world_core.specs.declared.faults.ViewFault.{ViewFault}
 use Rattle.world_core.specs.declared.faults.ViewFault.TheVariants.{NoMemory, Closed}
@@ -40,15 +45,22 @@ pub record IsFirstOther (records : List Record) (place : ℕ) : Type 0 where
 abbrev pub AreFresh : List Record → Type 0
 AreFresh records = (place : ℕ) (r : Record) → slice_get records place ≡ Some r → r ≡ fresh r.sites r.engagement.me
 
--- something happened at a site
-abbrev pub SomeIsNotFresh : List Record → Type 0
-SomeIsNotFresh records = (place : ℕ) × (r : Record) × (slice_get records place ≡ Some r) × (r ≢ fresh r.sites r.engagement.me)
+-- they are of all sites, in their places, and fit together while no frame was sent
+pub record MakeAWorld (records : List Record) : Type 0 where
+  pub one : AreOneWorld records
+  pub places : AreInPlace records
+  pub fit : Fits (world_of records) []
 
--- why records that are all shown make no world
+-- they are of all sites, and of the conditions that fail this is the least, and this is the least site at which it fails
+abbrev pub DontFit : List Record → Misfit → Type 0
+DontFit records misfit = AreOneWorld records × IsMisfit (length records) (world_of records) misfit.condition misfit.site
+
+-- why records that are all shown make no world, where memory doesn't run out
 abbrev pub Hinders : WorldFault → List Record → Type 0
+Hinders worlds.NoMemory records = ⊤
 Hinders (worlds.OtherSites place) records = IsFirstOther records place
-Hinders worlds.Misfit records = AreOneWorld records × SomeIsNotFresh records
-Hinders other records = ⊥
+Hinders (worlds.Misfit misfit) records = DontFit records misfit
+Hinders (worlds.Closed place) records = ⊥
 
 -- why keepers make no world: one is closed, which is told first, or all show their records
 abbrev pub HindersKeepers : {K : Type 0} → (K → Option Record) → List K → WorldFault → Type 0

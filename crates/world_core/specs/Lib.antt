@@ -1,5 +1,7 @@
 pub mod Answers
+pub mod Counting
 pub mod Faults
+pub mod FormingLaws
 pub mod Keepers
 pub mod KeptSteps
 pub mod Kinds

@@ -1,6 +1,7 @@
 ghost use Rattle.std.specs.Prelude.{◌≡◌};
 ghost use Rattle.world_core.specs.declared.faults.ViewFault.TheVariants.{NoMemory};
 
+use site_recovery::Misfit;
 use std::alloc::{AllocError, AllocFailed};
 use thiserror::Error;
 
@@ -41,9 +42,10 @@ pub enum WorldFault {
     /// place, or is wanting. 0 where there are no keepers.
     #[error("the keeper at {0} is of other sites")]
     OtherSites(u64),
-    /// The records don't fit together: something happened at a site already.
+    /// The records don't fit together while no frame is in flight: the least condition that fails, and the least
+    /// site that is charged with it.
     #[error("the sites don't fit together")]
-    Misfit,
+    Misfit(Misfit),
     /// The keeper at this place, from 0, is closed, and none before it.
     #[error("the keeper at {0} is closed")]
     Closed(u64),

@@ -1,8 +1,9 @@
-//! Whether records are those of a world in which nothing happened yet.
+//! Whether records are those of a world.
 
-ghost use Rattle.std.specs.Prelude.{◌≡◌, ◌↔◌, ◌<◌, IsTrue, IsFalse, None, OnOk, IfErr, IfSome, List, length, map};
-ghost use Rattle.site_core.specs.Records.{Record, fresh};
-ghost use Rattle.world_core.specs.Faults.{AreOneWorld, AreFresh, Hinders, HindersKeepers, IsFirstOther, IsInPlace, SomeIsNotFresh};
+ghost use Rattle.std.specs.Prelude.{◌≡◌, ◌↔◌, ◌<◌, IsTrue, None, OnOk, IfErr, IfSome, List, length, map};
+ghost use Rattle.site_core.specs.Records.{IsSound, Record};
+ghost use Rattle.site_recovery.specs.FittingAt.{AreAllSites};
+ghost use Rattle.world_core.specs.Faults.{AreOneWorld, Hinders, HindersKeepers, IsFirstOther, IsInPlace, MakeAWorld};
 ghost use Rattle.world_core.specs.Keepers.{AllShow};
 
 use crate::faults::{ViewFault, WorldFault};
@@ -10,37 +11,40 @@ use crate::views::views;
 use event_json::Sites;
 use keeper_core::SiteKeeper;
 use site_core::SiteState;
+use site_recovery::{CheckFault, check_world};
 use std::alloc::Global;
 
 /// Whether the keepers are open, and their records make a world.
 pub fn together<K: SiteKeeper>(alloc: Global, keepers: &[K]) -> Result<(), WorldFault>
-    ensures ok { OnOk result ((records : List Record) × AllShow K.shown keepers.now records × AreOneWorld records × AreFresh records) }
+    ensures ok { OnOk result ((records : List Record) × AllShow K.shown keepers.now records × MakeAWorld records) }
     ensures err { IfErr result (λ fault. HindersKeepers K.shown keepers.now fault) }
 {
     match views(alloc, keepers) {
         Err(ViewFault::NoMemory) => Err(WorldFault::NoMemory),
         Err(ViewFault::Closed(place)) => Err(WorldFault::Closed(place)),
-        Ok(states) => records_fit(&states),
+        Ok(states) => records_fit(alloc, &states),
     }
 }
 
 /// Whether the records make a world.
-fn records_fit(states: &[&SiteState]) -> Result<(), WorldFault>
-    ensures ok { OnOk result (AreOneWorld (map (λ s. s.now) states.now) × AreFresh (map (λ s. s.now) states.now)) }
+fn records_fit(alloc: Global, states: &[&SiteState]) -> Result<(), WorldFault>
+    ensures ok { OnOk result (MakeAWorld (map (λ s. s.now) states.now)) }
     ensures err { IfErr result (λ fault. Hinders fault (map (λ s. s.now) states.now)) }
 {
     if let Some(place) = first_other(states) {
         return Err(WorldFault::OtherSites(place));
     }
-    if !are_fresh(states) {
-        return Err(WorldFault::Misfit);
+    match check_world(alloc, states) {
+        Ok(()) => Ok(()),
+        Err(CheckFault::NoMemory) => Err(WorldFault::NoMemory),
+        Err(CheckFault::Misfit(misfit)) => Err(WorldFault::Misfit(misfit)),
     }
-    Ok(())
 }
 
 /// The first place with a record of other sites, or of another number, or without one.
 fn first_other(states: &[&SiteState]) -> Option<u64>
     ensures none { result ≡ None → AreOneWorld (map (λ s. s.now) states.now) }
+    ensures all { result ≡ None → AreAllSites (map (λ s. s.now) states.now) }
     ensures some { IfSome result (λ place. IsFirstOther (map (λ s. s.now) states.now) place) }
 {
     let Some(first) = states.first() else {
@@ -63,35 +67,7 @@ fn first_other(states: &[&SiteState]) -> Option<u64>
 fn is_in_place(state: &SiteState, sites: &Sites, place: u64) -> bool
     ensures yes { IsTrue result ↔ IsInPlace sites.now place state.now }
     ensures within { IsTrue result → place < length sites.now }
+    ensures sound { IsTrue result → IsSound state.now }
 {
     state.sites() == sites && state.me().number() == place
-}
-
-/// Whether nothing happened yet.
-fn are_fresh(states: &[&SiteState]) -> bool
-    ensures yes { IsTrue result → AreFresh (map (λ s. s.now) states.now) }
-    ensures no { IsFalse result → SomeIsNotFresh (map (λ s. s.now) states.now) }
-{
-    for state in states {
-        if !is_fresh(state) {
-            return false;
-        }
-    }
-    true
-}
-
-/// Whether nothing happened at the site yet.
-fn is_fresh(state: &SiteState) -> bool
-    ensures { IsTrue result ↔ (state.now ≡ fresh state.now.sites state.now.engagement.me) }
-{
-    // The own number tells the proof that the record is sound.
-    let _me = state.me();
-    (state.captured().len() == 0)
-        & (state.quarantine().by_recall().len() == 0)
-        & (state.outbox().len() == 0)
-        & (state.seen().len() == 0)
-        & (state.parents().len() == 0)
-        & (state.own_recalls().len() == 0)
-        & (state.next_message() == 1)
-        & (state.next_recall() == 1)
 }

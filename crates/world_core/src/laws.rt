@@ -1,7 +1,16 @@
 //! Laws of runs. Each is a function with an empty body whose contract is the law.
 
+ghost use Rattle.world_core.specs.Counting.{MessagesAreCounted};
+ghost use Rattle.world_core.specs.FormingLaws.{FreshSitesMakeAWorld, OnlyMemoryHindersAWorld};
 ghost use Rattle.world_core.specs.Laws.{EndedStays, EndsAreExact, FramesStay, FreshSitesFit, QuarantinesAscend, RunsComeOut, RunsFromTheStartComeOut, RunsKeepTheFit, SitesStandAsKept, TurnsKeepTheFit};
 ghost use Rattle.world_core.specs.SendingLaws.{FramesWereEmittable};
+
+/// The records of all sites in order, at which nothing happened yet, make a world; and only want of memory hinders records
+/// that make one.
+pub fn records_make_a_world()
+    ensures fresh { FreshSitesMakeAWorld }
+    ensures memory { OnlyMemoryHindersAWorld }
+{}
 
 /// After every run a site stands as its answered steps in order, with each that it went down in whole or absent.
 pub fn sites_stand_as_their_kept_steps()
@@ -39,4 +48,10 @@ pub fn the_headline()
 /// Every frame that a run sent was emittable, at a moment of the run, by the record of a site that was up.
 pub fn frames_were_emittable()
     ensures { FramesWereEmittable }
+{}
+
+/// After every run from sites at which nothing happened yet a recall has as many messages as there are shipments of what
+/// is quarantined under it: each shipment is told by one message, however often its frame was sent.
+pub fn messages_are_counted()
+    ensures { MessagesAreCounted }
 {}

@@ -1,9 +1,10 @@
 use crate::{Answer, World, WorldEvent, WorldFault, WorldInput};
 use epc_core::Epc;
 use event_json::{Sequence, SiteNo, Sites};
-use frame_core::RecallId;
+use frame_core::{Frame, MsgId, RecallId};
 use keeper_core::{Keep, KeepFault, MemoryKeeper, SiteKeeper};
 use site_core::{Effects, SiteState};
+use site_recovery::Misfit;
 use std::alloc::Global;
 use std::test::Fail;
 use trace_core::Pair;
@@ -144,21 +145,17 @@ fn a_recall_spreads_and_ends(rt: HostRuntime) -> Result<(), Fail> {
     Ok(())
 }
 
-/// Why two keepers of these sites make no world, once the first one's next capture failed where it is to fail.
+/// Why two keepers of these sites make no world, once the first one captured the document where it is to.
 fn refused(
     alloc: Global,
     first: bool,
     second: bool,
-    fails: Option<Keep>,
+    captures: bool,
 ) -> Result<Option<WorldFault>, Fail> {
     let mut one = keeper(alloc, first)?;
-    if let Some(keep) = fails {
+    if captures {
         let bytes = DOCUMENT.as_bytes().to_vec(alloc)?;
-        one.stop(
-            site_core::SiteInput::Capture(Sequence::from_vec(bytes)),
-            keep,
-        )?;
-        one = one.reopen().map_err(|_| "it stays closed")?;
+        one.apply(site_core::SiteInput::Capture(Sequence::from_vec(bytes)))?;
     }
     let mut keepers = Vec::new(alloc);
     keepers.push(one)?;
@@ -172,9 +169,40 @@ fn refused(
 #[test]
 fn a_world_is_of_all_sites_in_order(rt: HostRuntime) -> Result<(), Fail> {
     let alloc = rt.alloc();
-    assert!(rt; refused(alloc, false, false, None)? == Some(WorldFault::OtherSites(1)));
-    assert!(rt; refused(alloc, true, true, Some(Keep::New))? == Some(WorldFault::OtherSites(0)));
-    assert!(rt; refused(alloc, false, true, Some(Keep::New))? == Some(WorldFault::Misfit));
-    assert!(rt; refused(alloc, false, true, Some(Keep::Old))? == None);
+    assert!(rt; refused(alloc, false, false, false)? == Some(WorldFault::OtherSites(1)));
+    assert!(rt; refused(alloc, true, true, true)? == Some(WorldFault::OtherSites(0)));
+    assert!(rt; refused(alloc, false, true, true)? == None);
+    Ok(())
+}
+
+/// Whether site B, which was told of a recall that A never began, makes no world with A: the check names what doesn't
+/// fit, and the keepers are handed back.
+fn hands_back(alloc: Global) -> Result<bool, Fail> {
+    let mut told = keeper(alloc, true)?;
+    told.apply(site_core::SiteInput::Deliver(Frame::Recall {
+        id: MsgId {
+            site: site(0)?,
+            number: 1,
+        },
+        dest: site(1)?,
+        recall: recall()?,
+        item: Epc::read(alloc, "x")?,
+    }))?;
+    let mut keepers = Vec::new(alloc);
+    keepers.push(keeper(alloc, false)?)?;
+    keepers.push(told)?;
+    let misfit = WorldFault::Misfit(Misfit {
+        condition: 3,
+        site: site(1)?,
+    });
+    match World::new(alloc, keepers) {
+        Ok(_) => Ok(false),
+        Err(refused) => Ok(refused.fault == misfit && refused.keepers.len() == 2),
+    }
+}
+
+#[test]
+fn keepers_that_do_not_fit_are_handed_back(rt: HostRuntime) -> Result<(), Fail> {
+    assert!(rt; hands_back(rt.alloc())?);
     Ok(())
 }

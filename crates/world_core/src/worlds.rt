@@ -1,7 +1,7 @@
 ghost use Rattle.std.specs.Prelude.{◌≡◌, List, [], IfOk, IfErr, OnOk, OnErr, option_map, option_and_then, slice_get};
 ghost use Rattle.frame_core.specs.Rows.{frame_of};
 ghost use Rattle.site_core.specs.Records.{Record};
-ghost use Rattle.world_core.specs.Faults.{AreFresh, AreOneWorld, HindersKeepers, IfClosed};
+ghost use Rattle.world_core.specs.Faults.{HindersKeepers, IfClosed, MakeAWorld};
 ghost use Rattle.trace_core.specs.Pairs.{IsStrictlyAscending};
 ghost use Rattle.world_core.specs.Keepers.{AllShow, ComesFrom, IsFirstClosed, MayBe, SitesFit};
 ghost use Rattle.world_core.specs.Kinds.{KeepersTurn};
@@ -44,14 +44,14 @@ impl<K: SiteKeeper> Model for World<K> {
 }
 
 impl<K: SiteKeeper> World<K> {
-    /// The world of these keepers, each open, one for each site of the list that all of them have, in order. Nothing
-    /// happened at them yet, and no frame was sent.
+    /// The world of these keepers, each open, one for each site of the list that all of them have, in order. Their
+    /// records fit together, as those do at which nothing happened yet, and no frame was sent.
     ///
     /// # Errors
-    /// In this order: `Closed`, `OtherSites`, `Misfit`. The keepers are handed back as they were.
+    /// In this order: `Closed`, `OtherSites`, `Misfit`; and `NoMemory`. The keepers are handed back as they were.
     pub fn new(alloc: Global, keepers: Vec<K>) -> Result<World<K>, NotAWorld<K>>
         ensures world { IfOk result (λ world. world ≡ record { keepers = keepers.items; sent = [] }) }
-        ensures shown { OnOk result ((records : List Record) × AllShow K.shown keepers.items records × AreOneWorld records × AreFresh records) }
+        ensures shown { OnOk result ((records : List Record) × AllShow K.shown keepers.items records × MakeAWorld records) }
         ensures back { IfErr result (λ e. e.keepers.items ≡ keepers.items) }
         ensures err { IfErr result (λ e. HindersKeepers K.shown keepers.items e.fault) }
     {
