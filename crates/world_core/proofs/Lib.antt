@@ -9,6 +9,7 @@ pub mod KeeperKinds
 pub mod KeptSteps
 pub mod Lifting
 pub mod OneSite
+pub mod Posted
 pub mod Running
 pub mod Showing
 pub mod Telling

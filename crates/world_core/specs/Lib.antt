@@ -6,6 +6,7 @@ pub mod Keepers
 pub mod KeptSteps
 pub mod Kinds
 pub mod Laws
+pub mod Posting
 pub mod Recalls
 pub mod SendingLaws
 pub mod Turns

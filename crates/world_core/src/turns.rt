@@ -1,9 +1,12 @@
 //! One event at the keeper of its site.
 
-ghost use Rattle.std.specs.Prelude.{◌≡◌, ◌<◌, None, IfOk, IsSome, OnErr, option_map, vec_len};
+ghost use Rattle.std.specs.Prelude.{◌≡◌, ◌<◌, ℕ, Option, Some, None, IfOk, IsSome, OnErr, option_map, slice_get, vec_len};
+ghost use Rattle.frame_core.specs.declared.frames.Frame.{Frame};
 ghost use Rattle.site_core.specs.Emitting.{frame_at as emitted};
+ghost use Rattle.site_core.specs.Naming.{frame_named};
 ghost use Rattle.world_core.specs.Turns.{Turns, TurnsAt, Sends, ReopensTo, addressee, frame_at, input_at};
 ghost use Rattle.world_core.specs.Keepers.{StandsAs, ComesFrom, MayBe, ChangesAt};
+ghost use Rattle.world_core.specs.Posting.{IsPlaceAt, IsPlaceOf};
 ghost use Rattle.world_core.specs.Kinds.{KeeperReopens, KeeperTurns, KeepersTurn};
 ghost use Rattle.world_core.specs.Answers.{answer_of, hindrance};
 
@@ -11,7 +14,7 @@ use crate::events::{Answer, WorldEvent, WorldInput};
 use event_json::SiteNo;
 use frame_core::Frame;
 use keeper_core::{Keep, KeepFault, SiteKeeper};
-use site_core::{Effects, SiteInput, SiteState, emittable};
+use site_core::{Effects, FrameName, SiteInput, SiteState, emittable, frame_named};
 use std::alloc::{AllocError, Global};
 
 /// A step of a site.
@@ -135,26 +138,69 @@ pub fn send_from<K: SiteKeeper>(
 {
     match keeper.view() {
         None => Answer::Fault(KeepFault::Closed),
-        Some(state) => send(alloc, state, place, sent),
+        Some(state) => send(copy_at(alloc, state, place), sent),
     }
 }
 
-/// Adds a copy of a frame that the record makes emittable to those sent.
-fn send(alloc: Global, state: &SiteState, place: u64, sent: &mut Vec<Frame>) -> Answer
-    ensures { Sends (emitted state.now.engagement place) sent.old.items result sent.new.items }
+/// Sends the frame of a name, where the record of a site makes it emittable.
+pub fn send_named_from<K: SiteKeeper>(
+    alloc: Global,
+    keeper: &K,
+    sent: &mut Vec<Frame>,
+    site: SiteNo,
+    name: FrameName,
+) -> Answer
+    ensures { (place : ℕ) × IsPlaceOf (K.shown keeper.now) name place
+        × ComesFrom (StandsAs (K.shown keeper.now) (K.may keeper.now)) (StandsAs (K.shown keeper.now) (K.may keeper.now))
+        (λ old new. TurnsAt old sent.old.items (WorldEvent.Send site place) result new sent.new.items)
+        × KeeperTurns K.applies K.stops K.reopens (K.shown keeper.now) keeper.now sent.old.items (WorldEvent.Send site place) result keeper.now sent.new.items }
+{
+    match keeper.view() {
+        None => Answer::Fault(KeepFault::Closed),
+        Some(state) => send(copy_named(alloc, state, name), sent),
+    }
+}
+
+/// A copy of the frame at a place that the record makes emittable.
+fn copy_at(alloc: Global, state: &SiteState, place: u64) -> Result<Option<Frame>, AllocError>
+    ensures copy { IfOk result (λ frame. frame ≡ emitted state.now.engagement place) }
+    ensures memory { OnErr result (IsSome (emitted state.now.engagement place)) }
 {
     match emittable(state, place) {
-        None => Answer::NoFrame,
-        Some(frame) => match frame.to_frame(alloc) {
-            Err(_) => Answer::NoMemory,
-            Ok(frame) => {
-                if sent.push(frame).is_ok() {
-                    Answer::Sent(sent.len() as u64)
-                } else {
-                    Answer::NoMemory
-                }
+        None => Ok(None),
+        Some(frame) => Ok(Some(frame.to_frame(alloc)?)),
+    }
+}
+
+/// A copy of the frame of a name that the record makes emittable.
+fn copy_named(
+    alloc: Global,
+    state: &SiteState,
+    name: FrameName,
+) -> Result<Option<Frame>, AllocError>
+    ensures copy { IfOk result (λ frame. frame ≡ frame_named state.now.engagement name) }
+    ensures memory { OnErr result (IsSome (frame_named state.now.engagement name)) }
+{
+    match frame_named(state, name) {
+        None => Ok(None),
+        Some(frame) => Ok(Some(frame.to_frame(alloc)?)),
+    }
+}
+
+/// Adds a frame to those sent, where there is one and memory for its copy was found.
+fn send(frame: Result<Option<Frame>, AllocError>, sent: &mut Vec<Frame>) -> Answer
+    ensures { (wanted : Option Frame) → IfOk frame (λ f. f ≡ wanted) → OnErr frame (IsSome wanted) → Sends wanted sent.old.items result sent.new.items }
+{
+    match frame {
+        Err(_) => Answer::NoMemory,
+        Ok(None) => Answer::NoFrame,
+        Ok(Some(frame)) => {
+            if sent.push(frame).is_ok() {
+                Answer::Sent(sent.len() as u64)
+            } else {
+                Answer::NoMemory
             }
-        },
+        }
     }
 }
 
@@ -231,4 +277,30 @@ pub fn take_turn<K: SiteKeeper>(
         ),
         WorldEvent::Reopen { site } => reopen_at(keepers, sent, site),
     }
+}
+
+/// One event that sends the frame of a name.
+pub fn post<K: SiteKeeper>(
+    alloc: Global,
+    keepers: &Vec<K>,
+    sent: &mut Vec<Frame>,
+    site: SiteNo,
+    name: FrameName,
+) -> Answer
+    ensures { (place : ℕ) × IsPlaceAt K.shown keepers.now.items site name place
+        × ComesFrom (MayBe K.shown K.may (record { keepers = keepers.now.items; sent = sent.old.items })) (MayBe K.shown K.may (record { keepers = keepers.now.items; sent = sent.new.items }))
+        (λ old new. Turns old (WorldEvent.Send site place) result new)
+        × KeepersTurn K.shown K.applies K.stops K.reopens (record { keepers = keepers.now.items; sent = sent.old.items }) (WorldEvent.Send site place) result (record { keepers = keepers.now.items; sent = sent.new.items }) }
+{
+    match keeper_at(keepers, site) {
+        None => Answer::NoSite,
+        Some(keeper) => send_named_from(alloc, keeper, sent, site, name),
+    }
+}
+
+/// The keeper of a site.
+fn keeper_at<K>(keepers: &[K], site: SiteNo) -> Option<&K>
+    ensures { option_map (λ k. k.now) result ≡ slice_get keepers.now site }
+{
+    keepers.get(site.number() as usize)
 }

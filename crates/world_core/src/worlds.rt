@@ -1,4 +1,4 @@
-ghost use Rattle.std.specs.Prelude.{◌≡◌, List, [], IfOk, IfErr, OnOk, OnErr, option_map, option_and_then, slice_get};
+ghost use Rattle.std.specs.Prelude.{◌≡◌, ℕ, List, [], IfOk, IfErr, OnOk, OnErr, option_map, option_and_then, slice_get};
 ghost use Rattle.frame_core.specs.Rows.{frame_of};
 ghost use Rattle.site_core.specs.Records.{Record};
 ghost use Rattle.world_core.specs.Faults.{HindersKeepers, IfClosed, MakeAWorld};
@@ -6,6 +6,7 @@ ghost use Rattle.trace_core.specs.Pairs.{IsStrictlyAscending};
 ghost use Rattle.world_core.specs.Keepers.{AllShow, ComesFrom, IsFirstClosed, MayBe, SitesFit};
 ghost use Rattle.world_core.specs.Kinds.{KeepersTurn};
 ghost use Rattle.world_core.specs.Laws.{ComesOut};
+ghost use Rattle.world_core.specs.Posting.{IsPlaceAt};
 ghost use Rattle.world_core.specs.Recalls.{AreExactOnceEnded, ended_in, quarantined};
 ghost use Rattle.world_core.specs.Turns.{Turns, Runs, frame_at};
 ghost use Rattle.world_core.specs.Worlds.{WorldState};
@@ -14,12 +15,12 @@ use crate::events::{Answer, WorldEvent};
 use crate::faults::{NotAWorld, ViewFault};
 use crate::forming::together;
 use crate::recalls::{ended_at, pairs_of};
-use crate::turns::{sent_at, take_turn};
+use crate::turns::{post, sent_at, take_turn};
 use crate::views::{each_stands, views};
 use event_json::SiteNo;
 use frame_core::{Frame, FrameView, RecallId};
 use keeper_core::SiteKeeper;
-use site_core::SiteState;
+use site_core::{FrameName, SiteState};
 use std::alloc::{AllocError, Global};
 use std::marker::Model;
 use trace_core::Pair;
@@ -72,6 +73,17 @@ impl<K: SiteKeeper> World<K> {
         ensures kind { KeepersTurn K.shown K.applies K.stops K.reopens self.old event result self.new }
     {
         take_turn(self.alloc, &mut self.keepers, &mut self.sent, event)
+    }
+
+    /// Sends the frame of a name, and answers as a turn does that sends the frame at its place among those that the
+    /// record of the site makes emittable; `NoFrame` where it makes none of that name so. It looks that frame up, and
+    /// doesn't go through those before it.
+    pub fn post(&mut self, site: SiteNo, name: FrameName) -> Answer
+        ensures { (place : ℕ) × IsPlaceAt K.shown self.old.keepers site name place
+            × ComesFrom (MayBe K.shown K.may self.old) (MayBe K.shown K.may self.new) (λ old new. Turns old (WorldEvent.Send site place) result new)
+            × KeepersTurn K.shown K.applies K.stops K.reopens self.old (WorldEvent.Send site place) result self.new }
+    {
+        post(self.alloc, &self.keepers, &mut self.sent, site, name)
     }
 
     /// A list of events, one after another, and the answer to each. Each site stands then as its answered steps in
