@@ -113,7 +113,7 @@ pub fn check_world(alloc: Global, sites: &[&SiteState]) -> Result<(), CheckFault
     check(alloc, sites, 4, &Waiting)?;
     check(alloc, sites, 5, &ParentsStand)?;
     check(alloc, sites, 6, &ParentsLeadHome)?;
-    // Conditions 7 and 8 are of frames that were sent, and there are none.
+    // Conditions 7 and 8 are of frames that were sent, and there are none. 9 follows from 4 and 6.
     check(alloc, sites, 9, &EndsAreQuiet)?;
     check(alloc, sites, 10, &below)?;
     Ok(())
