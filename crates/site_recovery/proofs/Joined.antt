@@ -18,7 +18,7 @@ use Rattle.site_core.specs.Records.{Record, fresh}
 use Rattle.site_core.proofs.Held.{none_held}
 use Rattle.site_core.proofs.ShipsAmong.{shipped_within}
 use Rattle.site_recovery.specs.Fit.{Fit, Tells}
-use Rattle.site_recovery.specs.FittingAt.{Condition, Closed, Told, Justified, Waiting, ParentsStand, ParentsLeadHome, EndsAreQuiet, NumbersAreBelow, FitAt, AreAllSites}
+use Rattle.site_recovery.specs.FittingAt.{Condition, Closed, Told, Justified, Waiting, ParentsStand, ParentsLeadHome, EndsAreQuiet, NumbersAreBelow, FitAt, AreAllSites, QuietEndsFollow}
 use Rattle.site_recovery.specs.Looks.{World, world_of, Ships, Held, row, seen, parent, own}
 use Rattle.site_recovery.proofs.Exact.{within_or_past}
 
@@ -147,3 +147,13 @@ module _ (records : List Record) (all : AreAllSites records) where
     λ f c s _. conditions_from_fit W f c s,
     λ each. fit_from_conditions W (λ c s. elim (within_or_past s (length records)) as (λ _. FitAt W c s) [ inl below ↦ each c s below | inr past ↦ past_fits c s past ]),
   )
+
+-- where rows wait rightly, and no site is engaged for its own recall, an ended recall has no row left at its initiator
+pub quiet_ends_follow : QuietEndsFollow
+quiet_ends_follow W s waits home r at (o, is, ended) n x e same = elim (waits n x e) as (λ _. ⊥) [
+  | inl engaged ↦ (home x.recall engaged.0 engaged.1).0 (sym at ∙ sym (ap (λ (z : Recall). z.site) same))
+  | inr (here, live) ↦
+      let once : Some o ≡ Some live.0 = sym is ∙ sym (ap (λ (z : Recall). own W z.site z.number) same) ∙ live.1 in
+      let one : o ≡ live.0 = cc in
+      false≢true (sym live.2 ∙ ap (λ (z : Own). z.ended) (sym one) ∙ ended)
+]

@@ -98,15 +98,6 @@ module _ (W : World) where
   pub told_parts : (t : ℕ) → ToldParts t ↔ FitAt W Told t
   told_parts t = (λ b. record { told = b.0; taken = b.1 }, λ f. (f.told, f.taken))
 
-  abbrev pub JustifiedParts : ℕ → Type 0
-  JustifiedParts s =
-      ((r : Recall) (i : List ℕ) → Held W s r i → IsInReach W r s i)
-      × (((k : ℕ) (o : Own) → own W s k ≡ Some o → Held W s (record { site = s; number = k }) o.root)
-      × ((n : ℕ) (x : Row) → row W s n ≡ Some x → Held W s x.recall x.item × Ships W s x.item x.dest))
-
-  pub justified_parts : (s : ℕ) → JustifiedParts s ↔ FitAt W Justified s
-  justified_parts s = (λ b. record { reached = b.0; rooted = b.1.0; rows = b.1.1 }, λ f. (f.reached, (f.rooted, f.rows)))
-
   abbrev pub BelowParts : ℕ → Type 0
   BelowParts q =
       (((n : ℕ) (x : Row) → row W q n ≡ Some x → n < next_message W q)
@@ -128,8 +119,8 @@ module _ (n : ℕ) (W : World) where
   pub before_3 : Holds (FitAt W Closed) → Holds (ToldParts W) → Before n W 3
   before_3 h1 h2 = one_more_holds n W Told (before_2 h1) (λ s below. (told_parts W s).0 (h2 s below))
 
-  pub before_4 : Holds (FitAt W Closed) → Holds (ToldParts W) → Holds (JustifiedParts W) → Before n W 4
-  before_4 h1 h2 h3 = one_more_holds n W Justified (before_3 h1 h2) (λ s below. (justified_parts W s).0 (h3 s below))
+  pub before_4 : Holds (FitAt W Closed) → Holds (ToldParts W) → Holds (FitAt W Justified) → Before n W 4
+  before_4 h1 h2 h3 = one_more_holds n W Justified (before_3 h1 h2) h3
 
   pub before_5 : Before n W 4 → Holds (FitAt W Waiting) → Before n W 5
   before_5 b h4 = one_more_holds n W Waiting b h4

@@ -25,3 +25,7 @@ pub mod Exact
 pub mod EmptySites
 pub mod Worlds
 pub mod Joined
+pub mod Gathering
+pub mod ToldItems
+pub mod ReachedItems
+pub mod Justified

@@ -28,7 +28,7 @@ counted refs = length-map refs (λ r. r.now)
 pub site_of : (refs : List (Bor Record)) (k : ℕ) (x : Bor Record) → k < length refs → get_or refs k x ≡ x → world_at refs k ≡ x.now
 site_of refs k x below at = get_or-map (λ (r : Bor Record). r.now) refs k x (fresh [] k) below ∙ ap (λ (r : Bor Record). r.now) at
 
-some_site : (refs : List (Bor Record)) (s : ℕ) → s < length refs → (x : Bor Record) × Contains refs x × (world_at refs s ≡ x.now)
+pub some_site : (refs : List (Bor Record)) (s : ℕ) → s < length refs → (x : Bor Record) × Contains refs x × (world_at refs s ≡ x.now)
 some_site [] s below = absurd (omega (arith, below))
 some_site (y ∷ ys) s below =
     let x = get_or (y ∷ ys) s y in

@@ -89,6 +89,11 @@ pub record IsOneOf (sites : ℕ) (s : ℕ) (site : Record) : Type 0 where
 abbrev pub AreAllSites : List Record → Type 0
 AreAllSites records = (s : ℕ) → s < length records → IsOneOf (length records) s (world_of records s)
 
+-- A site that waits rightly and isn't engaged for its own recalls has no row of an ended one. So the ninth condition fails
+-- only where the fourth or the sixth does.
+abbrev pub QuietEndsFollow : Type 0
+QuietEndsFollow = (W : World) (s : ℕ) → WaitsRightlyAt W s → ParentsLeadHomeFrom W s → EndsAreQuietAt W s
+
 -- The records fit together exactly where each condition holds at each of the sites.
 abbrev pub FitIsByConditions : Type 0
 FitIsByConditions = (records : List Record) → AreAllSites records → Fit (world_of records) ↔ ((c : Condition) (s : ℕ) → s < length records → FitAt (world_of records) c s)

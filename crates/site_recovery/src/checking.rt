@@ -1,7 +1,7 @@
 ghost use Rattle.std.specs.Prelude.{◌<◌, ℕ, [], length, OnOk, IfErr};
 ghost use Rattle.site_recovery.specs.Checking.{records_at, world_at};
 ghost use Rattle.site_recovery.specs.Fit.{Fits};
-ghost use Rattle.site_recovery.specs.FittingAt.{AreAllSites};
+ghost use Rattle.site_recovery.specs.FittingAt.{AreAllSites, IsJustifiedAt};
 ghost use Rattle.site_recovery.specs.Misfits.{TellsMisfit, TellsUnmet};
 
 use crate::closing::Closed;
@@ -9,6 +9,7 @@ use crate::conditions::{Both, Condition, least_unmet};
 use crate::homeward::{ParentsLeadHome, ParentsStand};
 use crate::justifying::{Rooted, RowsJustified};
 use crate::numbers::{HeldBelow, OwnBelow, RowsBelow, SeenBelow};
+use crate::reached_items::all_reached;
 use crate::reaching::Reached;
 use crate::telling::{Taken, Told};
 use crate::waiting::{EndsAreQuiet, Waiting};
@@ -58,6 +59,29 @@ fn check<C: Condition>(
     }
 }
 
+/// Whether what is quarantined and told of has its reason, at each site.
+fn check_justified(alloc: Global, sites: &[&SiteState]) -> Result<(), CheckFault>
+    requires all { AreAllSites (records_at sites.now) }
+    ensures ok { OnOk result ((s : ℕ) → s < length sites.now → IsJustifiedAt (world_at sites.now) s) }
+    ensures fault { IfErr result (TellsUnmet 3 (length sites.now) (IsJustifiedAt (world_at sites.now))) }
+{
+    match all_reached(alloc, sites) {
+        Ok(reached) => {
+            let justified = Both {
+                first: Reached {
+                    reached: reached.as_slice(),
+                },
+                second: Both {
+                    first: Rooted,
+                    second: RowsJustified,
+                },
+            };
+            check(alloc, sites, 3, &justified)
+        }
+        Err(_) => Err(CheckFault::NoMemory),
+    }
+}
+
 /// Checks that the records of all sites, in the order of their numbers, fit together while no frame is in
 /// flight.
 ///
@@ -73,13 +97,6 @@ pub fn check_world(alloc: Global, sites: &[&SiteState]) -> Result<(), CheckFault
         first: Told,
         second: Taken,
     };
-    let justified = Both {
-        first: Reached,
-        second: Both {
-            first: Rooted,
-            second: RowsJustified,
-        },
-    };
     let below = Both {
         first: Both {
             first: RowsBelow,
@@ -92,11 +109,11 @@ pub fn check_world(alloc: Global, sites: &[&SiteState]) -> Result<(), CheckFault
     };
     check(alloc, sites, 1, &Closed)?;
     check(alloc, sites, 2, &told)?;
-    check(alloc, sites, 3, &justified)?;
+    check_justified(alloc, sites)?;
     check(alloc, sites, 4, &Waiting)?;
     check(alloc, sites, 5, &ParentsStand)?;
     check(alloc, sites, 6, &ParentsLeadHome)?;
-    // Conditions 7 and 8 are of frames that were sent, and there are none.
+    // Conditions 7 and 8 are of frames that were sent, and there are none. 9 follows from 4 and 6.
     check(alloc, sites, 9, &EndsAreQuiet)?;
     check(alloc, sites, 10, &below)?;
     Ok(())

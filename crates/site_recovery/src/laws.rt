@@ -1,6 +1,6 @@
 //! Laws of sites that fit together, each named by a function with an empty body whose contract is the law.
 
-ghost use Rattle.site_recovery.specs.FittingAt.{FitIsByConditions};
+ghost use Rattle.site_recovery.specs.FittingAt.{FitIsByConditions, QuietEndsFollow};
 ghost use Rattle.site_recovery.specs.Laws.{EmptySitesFit, EndsAreExact, FewerFramesFit, SendsKeepTheFit, StepsKeepTheFit};
 
 /// Once a recall has ended, the items that are quarantined under it are just those that chains of made
@@ -26,7 +26,9 @@ pub fn empty_sites_fit_together()
     ensures { EmptySitesFit }
 {}
 
-/// The records of all sites fit together exactly where each condition holds at each site.
+/// The records of all sites fit together exactly where each condition holds at each site. The ninth follows from
+/// the fourth and the sixth.
 pub fn conditions_make_the_fit()
-    ensures { FitIsByConditions }
+    ensures all { FitIsByConditions }
+    ensures ninth { QuietEndsFollow }
 {}

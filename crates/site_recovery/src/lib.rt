@@ -12,10 +12,12 @@ mod looks;
 mod numbers;
 mod pairs;
 mod places;
+mod reached_items;
 mod reaching;
 mod telling;
 #[cfg(test)]
 mod tests;
+mod told_items;
 mod waiting;
 
 pub use checking::{CheckFault, Misfit, check_world};

@@ -1,14 +1,12 @@
 //! What a site's events relate an item to.
 ghost use Rattle.std.specs.Prelude.{◌≡◌, ◌↔◌, ℕ, List, IfOk, IsTrue, Some};
-ghost use Rattle.std.specs.FinMap.{get};
 ghost use Rattle.trace_core.specs.Spreads.{Inside};
 ghost use Rattle.site_core.specs.ItemSets as set;
-ghost use Rattle.site_core.specs.Ways.{ShipsTo, Tells};
+ghost use Rattle.site_core.specs.Ways.{ShipsTo};
 
-use crate::every::{EntryTest, Test, each_element, each_entry};
+use crate::every::{Test, each_element};
 use epc_core::Epc;
 use event_json::SiteNo;
-use frame_core::{RecallId, Row};
 use site_core::{ItemSet, SiteState};
 use std::alloc::{AllocError, Global};
 use trace_core::Pair;
@@ -44,37 +42,6 @@ pub(crate) fn ships(
     }
     let pairs = captured.related(item)?;
     Ok(!each_element(alloc, pairs.as_slice(), &Elsewhere { site: to })?)
-}
-
-/// Another row than this.
-#[derive(Drop)]
-struct OtherRow<'a> {
-    dest: SiteNo,
-    recall: RecallId,
-    item: &'a Epc,
-}
-
-impl EntryTest<u64, Row> for OtherRow<'_> {
-    ghost use Rattle.std.specs.Prelude.{◌≡◌};
-
-    ghost holds = { λ t _ x. x ≡ record { dest = t.dest; recall = t.recall; item = t.item.now } → ⊥ };
-
-    fn passes(&self, _alloc: Global, _number: &u64, row: &Row) -> Result<bool, AllocError> {
-        Ok(row.dest != self.dest || row.recall != self.recall || row.item != *self.item)
-    }
-}
-
-/// Whether an unsignalled message of the site tells the other site that the item is recalled.
-pub(crate) fn tells(
-    alloc: Global,
-    state: &SiteState,
-    dest: SiteNo,
-    recall: RecallId,
-    item: &Epc,
-) -> Result<bool, AllocError>
-    ensures { IfOk result (λ told. IsTrue told ↔ Tells state.now dest recall item.now) }
-{
-    Ok(!each_entry(alloc, state.outbox(), &OtherRow { dest, recall, item })?)
 }
 
 /// What is made of items of a site's set.

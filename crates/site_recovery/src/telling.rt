@@ -4,11 +4,12 @@ ghost use Rattle.std.specs.Prelude.{◌≡◌, ◌⊎◌, ◌↔◌, ℕ, List, 
 use crate::conditions::Condition;
 use crate::every::{EntryTest, Test, each_element, each_entry, each_key};
 use crate::looks::{is_held, seen};
-use crate::pairs::{ships, tells};
+use crate::pairs::ships;
+use crate::told_items::told_to;
 use epc_core::Epc;
 use event_json::SiteNo;
 use frame_core::{MsgId, RecallId, Row};
-use site_core::{ItemSet, SiteState};
+use site_core::{ItemSet, Quarantine, SiteState};
 use std::alloc::{AllocError, Global};
 
 /// An item that the site `to` is told of, or that is quarantined there, where `from` shipped it there.
@@ -18,24 +19,23 @@ struct ToldItem<'a> {
     from: &'a SiteState,
     to: SiteNo,
     recall: RecallId,
+    told: &'a Quarantine,
 }
 
 impl Test<Epc> for ToldItem<'_> {
-    ghost use Rattle.std.specs.Prelude.{◌⊎◌};
-    ghost use Rattle.site_core.specs.Ways.{ShipsTo, Tells};
+    ghost use Rattle.std.specs.Prelude.{◌⊎◌, IsTrue};
+    ghost use Rattle.site_core.specs.Quarantines.{held};
+    ghost use Rattle.site_core.specs.Ways.{ShipsTo};
     ghost use Rattle.site_recovery.specs.Checking.{world_at};
     ghost use Rattle.site_recovery.specs.Looks.{Held};
 
-    ghost holds = { λ t i. ShipsTo t.from.now i t.to → Tells t.from.now t.to t.recall i ⊎ Held (world_at t.sites.now) t.to t.recall i };
+    ghost holds = { λ t i. ShipsTo t.from.now i t.to → IsTrue (held t.told.now t.recall i) ⊎ Held (world_at t.sites.now) t.to t.recall i };
 
     fn passes(&self, alloc: Global, item: &Epc) -> Result<bool, AllocError> {
-        if is_held(self.sites, self.to, self.recall, item) {
+        if is_held(self.sites, self.to, self.recall, item) || self.told.holds(self.recall, item) {
             return Ok(true);
         }
-        if !ships(alloc, self.from, item, self.to)? {
-            return Ok(true);
-        }
-        tells(alloc, self.from, self.to, self.recall, item)
+        Ok(!ships(alloc, self.from, item, self.to)?)
     }
 }
 
@@ -45,16 +45,18 @@ struct ToldFrom<'a> {
     sites: &'a [&'a SiteState],
     from: &'a SiteState,
     to: SiteNo,
+    told: &'a Quarantine,
 }
 
 impl EntryTest<RecallId, ItemSet> for ToldFrom<'_> {
     ghost use Rattle.std.specs.Prelude.{◌⊎◌, ℕ, List, IsTrue};
     ghost use Rattle.site_core.specs.ItemSets as set;
-    ghost use Rattle.site_core.specs.Ways.{ShipsTo, Tells};
+    ghost use Rattle.site_core.specs.Quarantines.{held};
+    ghost use Rattle.site_core.specs.Ways.{ShipsTo};
     ghost use Rattle.site_recovery.specs.Checking.{world_at};
     ghost use Rattle.site_recovery.specs.Looks.{Held};
 
-    ghost holds = { λ t r items. (i : List ℕ) → IsTrue (set.contains items i) → ShipsTo t.from.now i t.to → Tells t.from.now t.to r i ⊎ Held (world_at t.sites.now) t.to r i };
+    ghost holds = { λ t r items. (i : List ℕ) → IsTrue (set.contains items i) → ShipsTo t.from.now i t.to → IsTrue (held t.told.now r i) ⊎ Held (world_at t.sites.now) t.to r i };
 
     fn passes(
         &self,
@@ -67,6 +69,7 @@ impl EntryTest<RecallId, ItemSet> for ToldFrom<'_> {
             from: self.from,
             to: self.to,
             recall: *recall,
+            told: self.told,
         };
         each_key(alloc, items.items(), &told)
     }
@@ -89,12 +92,14 @@ impl<'b> Test<&'b SiteState> for Telling<'_> {
     ghost holds = { λ t s. (r : Recall) (i : List ℕ) → Holds s.now r i → ShipsTo s.now i t.to → Tells s.now t.to r i ⊎ Held (world_at t.sites.now) t.to r i };
 
     fn passes(&self, alloc: Global, state: &&'b SiteState) -> Result<bool, AllocError> {
-        let told = ToldFrom {
+        let told = told_to(alloc, *state, self.to)?;
+        let from = ToldFrom {
             sites: self.sites,
             from: *state,
             to: self.to,
+            told: &told,
         };
-        each_entry(alloc, state.quarantine().by_recall(), &told)
+        each_entry(alloc, state.quarantine().by_recall(), &from)
     }
 }
 

@@ -1,30 +1,52 @@
-use crate::{CheckFault, are_all_sites, check_world};
+mod conditions;
+
+use crate::{CheckFault, Misfit, are_all_sites, check_world};
 use epc_core::Epc;
 use event_json::{Sequence, SiteNo, Sites};
 use frame_core::{Frame, MsgId, RecallId};
-use site_core::{SiteInput, SiteState, Stepped, step};
+use site_core::{SiteInput, SiteState};
 use std::alloc::Global;
 use std::test::Fail;
 
 /// The times of an event.
 const TIMES: &str = "\"eventTime\":\"2024-05-01T08:00:00Z\",\"eventTimeZoneOffset\":\"+00:00\"";
 
-/// A document, to be captured.
-fn captured(alloc: Global, document: &str) -> Result<SiteInput, Fail> {
-    let bytes = document.as_bytes().to_vec(alloc)?;
-    Ok(SiteInput::Capture(Sequence::from_vec(bytes)))
+/// What a site was given.
+#[derive(Clone, Copy)]
+enum Given {
+    /// The item was made of the other one.
+    Made(&'static str, &'static str),
+    /// The item was shipped to the address.
+    Shipped(&'static str, &'static str),
+    /// A recall of the item.
+    Recalled(&'static str),
+    /// The first message of a site, which tells of the item under the first recall of A.
+    Told(u64, &'static str),
+    /// The signal of a site for the first message.
+    Signalled(u64),
 }
+
+use Given::{Made, Recalled, Shipped, Signalled, Told};
 
 /// The site of this number.
 fn number(number: u64) -> Result<SiteNo, Fail> {
     Ok(SiteNo::of(number).ok_or("no such site")?)
 }
 
-/// One of sites A and B, with an address each, which keeps nothing.
+/// The first message of a site.
+fn first_of(site: u64) -> Result<MsgId, Fail> {
+    Ok(MsgId {
+        site: number(site)?,
+        number: 1,
+    })
+}
+
+/// One of sites A, B and C, with an address each, which keeps nothing.
 fn empty(alloc: Global, me: u64) -> Result<SiteState, Fail> {
     let mut sites = Sites::new(alloc);
     sites.add("A", &["a"])?;
     sites.add("B", &["b"])?;
+    sites.add("C", &["c"])?;
     let me = number(me)?;
     if me.number() >= sites.len() {
         return Err(Fail::new("no such site"));
@@ -32,125 +54,114 @@ fn empty(alloc: Global, me: u64) -> Result<SiteState, Fail> {
     Ok(SiteState::new(alloc, sites, me))
 }
 
-/// The site after a step that changes it.
-fn after(alloc: Global, state: &SiteState, input: &SiteInput) -> Result<SiteState, Fail> {
-    match step(alloc, state, input)? {
-        Stepped::Next(next, _) => Ok(next),
-        Stepped::Same(_) => Err(Fail::new("nothing changed")),
+/// What the site is handed.
+fn input(alloc: Global, me: u64, given: Given) -> Result<SiteInput, Fail> {
+    let document = match given {
+        Made(of, item) => format!(in alloc;
+            "{{\"type\":\"TransformationEvent\",{TIMES},\"inputEPCList\":[\"{of}\"],\"outputEPCList\":[\"{item}\"]}}"
+        )?,
+        Shipped(item, to) => format!(in alloc;
+            "{{\"type\":\"ObjectEvent\",{TIMES},\"action\":\"OBSERVE\",\"epcList\":[\"{item}\"],\"destinationList\":[{{\"destination\":\"{to}\"}}]}}"
+        )?,
+        Recalled(root) => return Ok(SiteInput::Start(Epc::read(alloc, root)?)),
+        Told(from, item) => {
+            return Ok(SiteInput::Deliver(Frame::Recall {
+                id: first_of(from)?,
+                dest: number(me)?,
+                recall: RecallId {
+                    site: number(0)?,
+                    number: 1,
+                },
+                item: Epc::read(alloc, item)?,
+            }));
+        }
+        Signalled(by) => {
+            return Ok(SiteInput::Deliver(Frame::Signal {
+                id: first_of(me)?,
+                by: number(by)?,
+            }));
+        }
+    };
+    Ok(SiteInput::Capture(Sequence::from_vec(document.into_bytes())))
+}
+
+/// The site of the number once it was given all this, one after another.
+fn site(alloc: Global, me: u64, given: &[Given]) -> Result<SiteState, Fail> {
+    let mut state = empty(alloc, me)?;
+    for each in given {
+        state.apply(&input(alloc, me, *each)?)?;
+    }
+    Ok(state)
+}
+
+/// What the check says of three sites, None where they fit together.
+fn says(alloc: Global, a: &SiteState, b: &SiteState, c: &SiteState) -> Result<Option<Misfit>, Fail> {
+    let sites = [a, b, c];
+    if !are_all_sites(&sites) {
+        return Err(Fail::new("these aren't all sites"));
+    }
+    match check_world(alloc, &sites) {
+        Ok(()) => Ok(None),
+        Err(CheckFault::Misfit(misfit)) => Ok(Some(misfit)),
+        Err(CheckFault::NoMemory) => Err(Fail::new("memory ran out")),
     }
 }
 
-/// Site A, which made y of x and shipped it to B.
-fn first_run(alloc: Global) -> Result<SiteState, Fail> {
-    let makes = format!(in alloc;
-        "{{\"type\":\"TransformationEvent\",{TIMES},\"inputEPCList\":[\"x\"],\"outputEPCList\":[\"y\"]}}"
-    )?;
-    let ships = format!(in alloc;
-        "{{\"type\":\"ObjectEvent\",{TIMES},\"action\":\"OBSERVE\",\"epcList\":[\"y\"],\"destinationList\":[{{\"destination\":\"b\"}}]}}"
-    )?;
-    let site = after(alloc, &empty(alloc, 0)?, &captured(alloc, &makes)?)?;
-    after(alloc, &site, &captured(alloc, &ships)?)
-}
-
-/// The message that site A sends for its recall of x.
-fn message() -> Result<MsgId, Fail> {
-    Ok(MsgId {
-        site: number(0)?,
-        number: 1,
-    })
-}
-
-/// Site A after it began to recall x.
-fn begun(alloc: Global) -> Result<SiteState, Fail> {
-    let start = SiteInput::Start(Epc::read(alloc, "x")?);
-    after(alloc, &first_run(alloc)?, &start)
-}
-
-/// Site B after it took the message.
-fn told(alloc: Global) -> Result<SiteState, Fail> {
-    let recall = RecallId {
-        site: number(0)?,
-        number: 1,
+/// Whether the check of sites A, B and C, which were given this, names just this condition and site; 0 where they fit
+/// together.
+fn is_charged(
+    alloc: Global,
+    given: [&[Given]; 3],
+    condition: u64,
+    site_number: u64,
+) -> Result<bool, Fail> {
+    let wanted = match condition {
+        0 => None,
+        condition => Some(Misfit {
+            condition,
+            site: number(site_number)?,
+        }),
     };
-    let frame = Frame::Recall {
-        id: message()?,
-        dest: number(1)?,
-        recall,
-        item: Epc::read(alloc, "y")?,
-    };
-    after(alloc, &empty(alloc, 1)?, &SiteInput::Deliver(frame))
+    let a = site(alloc, 0, given[0])?;
+    let b = site(alloc, 1, given[1])?;
+    let c = site(alloc, 2, given[2])?;
+    Ok(says(alloc, &a, &b, &c)? == wanted)
 }
 
-/// Site A after B's signal, which ended the recall.
-fn ended(alloc: Global) -> Result<SiteState, Fail> {
-    let frame = Frame::Signal {
-        id: message()?,
-        by: number(1)?,
-    };
-    after(alloc, &begun(alloc)?, &SiteInput::Deliver(frame))
-}
+/// A made y of x and shipped it to B.
+const FIRST_RUN: [Given; 2] = [Made("x", "y"), Shipped("y", "b")];
 
-/// How far a site has come.
-#[derive(Clone, Copy)]
-enum Day {
-    Empty,
-    FirstRun,
-    Begun,
-    Told,
-    Ended,
-}
+/// Then it began to recall x.
+const BEGUN: [Given; 3] = [Made("x", "y"), Shipped("y", "b"), Recalled("x")];
 
-/// A site that has come so far, that of the number where it keeps nothing.
-fn on(alloc: Global, day: Day, me: u64) -> Result<SiteState, Fail> {
-    match day {
-        Day::Empty => empty(alloc, me),
-        Day::FirstRun => first_run(alloc),
-        Day::Begun => begun(alloc),
-        Day::Told => told(alloc),
-        Day::Ended => ended(alloc),
-    }
-}
-
-/// Whether the two sites fit together.
-fn fit(alloc: Global, a: Day, b: Day) -> Result<bool, Fail> {
-    let (a, b) = (on(alloc, a, 0)?, on(alloc, b, 1)?);
-    let sites = [&a, &b];
-    Ok(are_all_sites(&sites) && check_world(alloc, &sites).is_ok())
-}
-
-/// Whether the check names just this condition and this site.
-fn is_misfit(alloc: Global, a: Day, b: Day, condition: u64, site: u64) -> Result<bool, Fail> {
-    let fault = CheckFault::Misfit {
-        condition,
-        site: number(site)?,
-    };
-    let (a, b) = (on(alloc, a, 0)?, on(alloc, b, 1)?);
-    let sites = [&a, &b];
-    Ok(are_all_sites(&sites) && check_world(alloc, &sites) == Err(fault))
-}
-
-/// Whether the two sites are seen to be out of order, and one to be too few.
-fn sees_places(alloc: Global) -> Result<bool, Fail> {
-    let a = empty(alloc, 0)?;
-    let b = empty(alloc, 1)?;
-    Ok(!are_all_sites(&[&b, &a]) && !are_all_sites(&[&a]))
-}
+/// Then B's signal came, and the recall ended.
+const ENDED: [Given; 4] = [Made("x", "y"), Shipped("y", "b"), Recalled("x"), Signalled(1)];
 
 #[test]
 fn sites_fit_before_and_after_a_recall(rt: HostRuntime) -> Result<(), Fail> {
-    assert!(rt; fit(rt.alloc(), Day::FirstRun, Day::Empty)?);
-    assert!(rt; fit(rt.alloc(), Day::Begun, Day::Empty)?);
-    assert!(rt; fit(rt.alloc(), Day::Ended, Day::Told)?);
+    let alloc = rt.alloc();
+    assert!(rt; is_charged(alloc, [&FIRST_RUN, &[], &[]], 0, 0)?);
+    assert!(rt; is_charged(alloc, [&BEGUN, &[], &[]], 0, 0)?);
+    assert!(rt; is_charged(alloc, [&ENDED, &[Told(0, "y")], &[]], 0, 0)?);
     Ok(())
 }
 
 #[test]
 fn states_of_different_days_do_not_fit(rt: HostRuntime) -> Result<(), Fail> {
+    let alloc = rt.alloc();
     // A knows that the recall has ended, and B was never told.
-    assert!(rt; is_misfit(rt.alloc(), Day::Ended, Day::Empty, 2, 1)?);
+    assert!(rt; is_charged(alloc, [&ENDED, &[], &[]], 2, 1)?);
     // B was told of a recall that A never began.
-    assert!(rt; is_misfit(rt.alloc(), Day::Empty, Day::Told, 3, 1)?);
+    assert!(rt; is_charged(alloc, [&[], &[Told(0, "y")], &[]], 3, 1)?);
     Ok(())
+}
+
+/// Whether the sites are seen to be out of order, and two of three to be too few.
+fn sees_places(alloc: Global) -> Result<bool, Fail> {
+    let a = empty(alloc, 0)?;
+    let b = empty(alloc, 1)?;
+    let c = empty(alloc, 2)?;
+    Ok(!are_all_sites(&[&b, &a, &c]) && !are_all_sites(&[&a, &b]))
 }
 
 #[test]

@@ -1,0 +1,18 @@
+use Rattle.std.proofs.Common.{◌↔◌, ℕ, List}
+use Rattle.std.specs.List.{Contains}
+use Rattle.std.specs.Prelude.{IsTrue}
+use Rattle.std.proofs.lemmas.Result.{IfOk-weaker}
+use Rattle.site_core.specs.ItemSets as set
+use Rattle.site_core.specs.Quarantines.{held}
+use Rattle.site_recovery.proofs.QuarantinedItems.{each_item}
+use Rattle.site_recovery.proofs.reaching.HeldSetEntryTestRecallIdItemSet.passes.Goals as goal
+
+pub returns : goal.returns
+returns c =
+    let r = c.args.recall.now in
+    let reached = c.args.self.now.reached.now in
+    IfOk-weaker c.each_key.result
+    (λ b. IsTrue b ↔ ((i : List ℕ) → Contains c.items.result.now.keys i → IsTrue (held reached r i)))
+    (λ b. IsTrue b ↔ ((i : List ℕ) → IsTrue (set.contains c.args.items.now i) → IsTrue (held reached r i)))
+    (λ b decides. each_item c.args.items.now c.items.result.now.keys c.items.ensures.items (λ i. IsTrue (held reached r i)) b decides)
+    c.each_key.ensures
