@@ -22,7 +22,7 @@ use Rattle.site_recovery.specs.FittingAt.{AreAllSites}
 use Rattle.site_recovery.specs.Laws.{captured_of}
 use Rattle.site_recovery.specs.Looks.{own}
 use Rattle.site_recovery.proofs.Absent.{none_begun}
-use Rattle.site_recovery.proofs.Entries.{entry_found, entry_there}
+use Rattle.site_core.proofs.Entries.{entry_found, entry_there}
 use Rattle.site_recovery.proofs.Exact.{within_or_past}
 use Rattle.site_recovery.proofs.Gathering.{Gathered, all_gathered, none_gathered, one_gathered}
 use Rattle.site_recovery.proofs.OneSite.{one_place}

@@ -9,7 +9,7 @@ use Rattle.frame_core.specs.Numbers.{Recall}
 use Rattle.frame_core.specs.declared.rows.Row.{Row}
 use Rattle.site_core.specs.Quarantines.{Quarantine, held, with_item}
 use Rattle.site_core.proofs.HeldLaws.{held_one}
-use Rattle.site_recovery.proofs.Entries.{entry_found, entry_there}
+use Rattle.site_core.proofs.Entries.{entry_found, entry_there}
 
 -- the row tells the site of the item under the recall
 abbrev pub RowTells : ℕ → ℕ × Row → Recall × List ℕ → Type 0
