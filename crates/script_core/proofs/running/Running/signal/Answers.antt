@@ -1,0 +1,4 @@
+use Rattle.script_core.proofs.running.Running.signal.Goals as goal
+
+pub returns-in-Some-2 : goal.returns-in-Some-2
+returns-in-Some-2 c = ?
