@@ -1,4 +1,5 @@
 pub mod Ascending
+pub mod BeginningLemmas
 pub mod EventLemmas
 pub mod FieldLemmas
 pub mod FormLemmas
@@ -8,7 +9,9 @@ pub mod NumberLemmas
 pub mod OneAnswer
 pub mod OneHappening
 pub mod OnePump
+pub mod OpenLemmas
 pub mod OutcomeLemmas
+pub mod PumpLemmas
 pub mod ReachLists
 pub mod ReaderLemmas
 pub mod SessionLemmas

@@ -80,11 +80,12 @@ abbrev pub TakesPart : ℕ → World → List ℕ → World → Type 0
 TakesPart site w text after = Each (Exchanges site) (numbers_at w site) w text after
 
 -- a site is opened where it is down
+abbrev pub opened_at : List Standing → ℕ → Option Standing → List Standing
+opened_at sites n None = sites
+opened_at sites n (Some standing) = slice_set sites n (opened standing)
+
 abbrev pub with_opened : World → ℕ → World
-with_opened w n = record w { world = record w.world { sites = opened_in w.world.sites n (slice_get w.world.sites n) } } where
-  opened_in : List Standing → ℕ → Option Standing → List Standing
-  opened_in sites n None = sites
-  opened_in sites n (Some standing) = slice_set sites n (opened standing)
+with_opened w n = record w { world = record w.world { sites = opened_at w.world.sites n (slice_get w.world.sites n) } }
 
 -- every site that is down is opened
 abbrev pub all_opened : World → World

@@ -6,7 +6,7 @@ ghost use Rattle.script_core.specs.Requests.{keep_word};
 ghost use Rattle.script_core.specs.Tasks.{outcome_said};
 ghost use Rattle.script_core.specs.Words.{name_at, pairs_text, quarantine_text, count_text, quarantined_text, frame_text, armed_text, open_text, pumped_text};
 
-use crate::texts::{effects_text, ended_word, name_of, pair_lines, refusal_text, stopped_text};
+use crate::texts::{effects_text, name_of, pair_lines, quarantined_text, refusal_text, stopped_text};
 use crate::worlds::Outcome;
 use event_json::{SiteNo, Sites, SitesFault};
 use keeper_core::Keep;
@@ -214,9 +214,7 @@ impl Answer {
         ensures { IfOk result (λ a. answer_of a ≡ done (quarantine_text sites.now pairs.now ended)) }
     {
         let mut text = pair_lines(alloc, sites, pairs)?;
-        let count = pairs.len();
-        let word = ended_word(ended);
-        let line = format!(in alloc; "quarantined {count} {word}\n")?;
+        let line = quarantined_text(alloc, pairs.len(), ended)?;
         text.push_str(line.as_str())?;
         Ok(Answer::Done(text))
     }

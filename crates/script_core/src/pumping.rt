@@ -1,6 +1,7 @@
 //! Rounds in which all that stands is sent, delivered and answered: `pump`.
 
-ghost use Rattle.std.specs.Prelude.{◌≡◌, Some, IfOk, OnOk, option_and_then, string_bytes};
+ghost use Rattle.std.specs.Prelude.{◌≡◌, ◌<◌, map, length, Some, IfOk, OnOk, option_and_then, string_bytes};
+ghost use Rattle.std.specs.FinMap.{entries};
 ghost use Rattle.frame_core.specs.declared.frames.Frame.{Frame};
 ghost use Rattle.site_core.specs.Emitting.{frame_at as emitted_at};
 ghost use Rattle.site_core.specs.Records.{Record};
@@ -19,6 +20,7 @@ use crate::sending::{message_place, signal_place};
 use crate::texts::push_outcome;
 use event_json::SiteNo;
 use frame_core::MsgId;
+use site_core::SiteState;
 use std::alloc::{AllocError, Global};
 use world_core::WorldInput;
 
@@ -57,7 +59,9 @@ impl Running {
         Ok(())
     }
 
+    /// Opens a site where it is down.
     fn open_where_down(&mut self, site: SiteNo) -> Result<(), AllocError>
+        requires { site < length self.old.world.sites }
         ensures { OnOk result (self.new ≡ with_opened self.old site) }
     {
         if self.is_up(site) {
@@ -86,13 +90,10 @@ impl Running {
     fn row_numbers(&self, alloc: Global, site: SiteNo) -> Result<Vec<u64>, AllocError>
         ensures { IfOk result (λ numbers. numbers.items ≡ numbers_at self.now site) }
     {
-        let mut numbers = Vec::new(alloc);
-        if let Some(state) = self.state(site) {
-            for (number, _) in state.outbox() {
-                numbers.push(*number)?;
-            }
+        match self.state(site) {
+            Some(state) => numbers_of(alloc, state),
+            None => Ok(Vec::new(alloc)),
         }
-        Ok(numbers)
     }
 
     /// The message of a row goes to its site, and then the signal comes back, where it may be sent.
@@ -116,9 +117,10 @@ impl Running {
             site: state.me(),
             number,
         };
-        if let Some(place) = message_place(state, number)? {
-            self.carry(alloc, site, place, dest, text)?;
-        }
+        let Some(place) = message_place(state, number)? else {
+            return Ok(());
+        };
+        self.carry(alloc, site, place, dest, text)?;
         self.answer_back(alloc, dest, message, text)
     }
 
@@ -160,4 +162,15 @@ impl Running {
         let outcome = self.hand(to, WorldInput::Deliver(at))?;
         push_outcome(alloc, text, self.names(), to, &outcome)
     }
+}
+
+/// The numbers of the rows in an outbox.
+fn numbers_of(alloc: Global, state: &SiteState) -> Result<Vec<u64>, AllocError>
+    ensures { IfOk result (λ numbers. numbers.items ≡ map (λ e. e.0) (entries state.now.engagement.outbox)) }
+{
+    let mut numbers = Vec::new(alloc);
+    for (number, _) in state.outbox() {
+        numbers.push(*number)?;
+    }
+    Ok(numbers)
 }

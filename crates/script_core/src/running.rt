@@ -1,6 +1,6 @@
 //! The world of a script, and what its lines do to it.
 
-ghost use Rattle.std.specs.Prelude.{◌≡◌, ◌+◌, ◌≤◌, is_some, option_map, option_and_then, Some, None, IfOk, IfErr, OnOk, length, slice_get, slice_set};
+ghost use Rattle.std.specs.Prelude.{◌≡◌, ◌+◌, ◌<◌, ◌≤◌, IfSome, is_some, option_map, option_and_then, Some, None, IfOk, IfErr, OnOk, length, slice_get, slice_set};
 ghost use Rattle.frame_core.specs.declared.frames.Frame.{Frame};
 ghost use Rattle.frame_core.specs.Rows.{frame_of};
 ghost use Rattle.world_core.specs.Recalls.{ended_in, quarantined};
@@ -94,7 +94,8 @@ impl Running {
 
     /// The site of a name.
     pub(crate) fn find(&self, name: &str) -> Option<SiteNo>
-        ensures { result ≡ named self.now.sites name.now }
+        ensures found { result ≡ named self.now.sites name.now }
+        ensures stands { IfSome result (λ site. site < length self.now.world.sites) }
     {
         self.sites.find(name)
     }

@@ -76,7 +76,7 @@ pub(crate) fn message_place(state: &SiteState, number: u64) -> Result<Option<u64
 {
     let mut earlier = 0;
     for (row, _) in state.outbox() {
-        let place = next(earlier)?;
+        let place = sum(earlier, 1)?;
         if *row == number {
             return Ok(Some(place));
         }
@@ -105,9 +105,9 @@ fn due_place(state: &SiteState, message: MsgId) -> Result<Option<u64>, AllocErro
     let mut earlier = 0;
     for (seen, _) in state.seen() {
         if !is_parent(state, *seen) {
-            let place = next(earlier)?;
+            let place = sum(earlier, 1)?;
             if *seen == message {
-                return Ok(Some(messages.checked_add(place).ok_or(AllocError)?));
+                return Ok(Some(sum(messages, place)?));
             }
             earlier = place;
         }
@@ -115,11 +115,11 @@ fn due_place(state: &SiteState, message: MsgId) -> Result<Option<u64>, AllocErro
     Ok(None)
 }
 
-/// The next place. So many frames that there is none don't stand in memory.
-fn next(place: u64) -> Result<u64, AllocError>
-    ensures { IfOk result (λ next. next ≡ place + 1) }
+/// The sum of two counts of frames. So many frames that there is none don't stand in memory.
+fn sum(some: u64, more: u64) -> Result<u64, AllocError>
+    ensures { IfOk result (λ sum. sum ≡ some + more) }
 {
-    place.checked_add(1).ok_or(AllocError)
+    some.checked_add(more).ok_or(AllocError)
 }
 
 /// Whether a message is the parent of some recall.

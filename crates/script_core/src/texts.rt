@@ -3,7 +3,7 @@
 ghost use Rattle.std.specs.Prelude.{◌≡◌, ◌++◌, ◌∷◌, [], codes, IfOk, OnOk, string_bytes, unwrap_or, option_map, slice_get};
 ghost use Rattle.std.specs.Fmt.{decimal};
 ghost use Rattle.script_core.specs.Pumping.{pump_text};
-ghost use Rattle.script_core.specs.Words.{name_at, recall_text, message_text, ended_word, owed_word, captured_text, started_text, received_text, signalled_text, effects_text, doc_fault_text, blocked_text, refusal_text, stopped_text, ended_text, pair_text, each_pair};
+ghost use Rattle.script_core.specs.Words.{name_at, recall_text, message_text, ended_word, owed_word, captured_text, started_text, received_text, signalled_text, effects_text, doc_fault_text, blocked_text, refusal_text, stopped_text, ended_text, pair_text, each_pair, quarantined_text};
 
 use crate::worlds::Outcome;
 use epc_core::Epc;
@@ -47,7 +47,7 @@ pub(crate) fn message_text(
 }
 
 /// Whether a recall has ended.
-pub(crate) fn ended_word(ended: bool) -> &'static str
+fn ended_word(ended: bool) -> &'static str
     ensures { result.now ≡ ended_word ended }
 {
     if ended { "ended" } else { "open" }
@@ -288,6 +288,19 @@ fn push_ended(
     let recall = recall.as_str();
     let line = format!(in alloc; "ended {recall}\n")?;
     text.push_str(line.as_str())
+}
+
+/// How many pairs are quarantined under a recall, and whether it has ended.
+pub(crate) fn quarantined_text(
+    alloc: Global,
+    count: usize,
+    ended: bool,
+) -> Result<String, AllocError>
+    ensures { IfOk result (λ t. string_bytes t ≡ quarantined_text count ended) }
+{
+    let word = ended_word(ended);
+    let text = format!(in alloc; "quarantined {count} {word}\n")?;
+    Ok(text)
 }
 
 /// Each pair, a line for each.
