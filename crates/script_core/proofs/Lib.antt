@@ -5,6 +5,7 @@ pub mod FieldLemmas
 pub mod FormLemmas
 pub mod FrameLemmas
 pub mod KeeperLemmas
+pub mod MemoryLemmas
 pub mod NumberLemmas
 pub mod OneAnswer
 pub mod OneHappening

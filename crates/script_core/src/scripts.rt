@@ -75,6 +75,7 @@ impl Script {
     }
 
     /// Begins the world, once two sites stand. Only that takes memory.
+    #[tactic(auto, unfolding(crate::specs::State::begun))]
     fn begin(&mut self, alloc: Global) -> Result<(), AllocError>
         ensures ok { OnOk result (state_of self.new ≡ begun (state_of self.old)) }
         ensures err { OnErr result (BeginningTakesMemory (state_of self.old)) }
