@@ -215,3 +215,40 @@ step text =
             }
       ])
     ]
+
+-- ---- the fields of a text, counted
+
+pub blank_fields : (text : List ℕ) → length (first_field text) ≡ 0 → fields text ≡ []
+blank_fields text none = elim (step text) as (λ s. fields text ≡ []) [
+  | inl b ↦ b.none
+  | inr b ↦ let some = b.is_field.some in absurd (omega (arith, some, none))
+]
+
+pub more_fields : (text : List ℕ) → 0 < length (first_field text) → fields text ≡ first_field text ∷ fields (after_field text)
+more_fields text some = elim (step text) as (λ s. fields text ≡ first_field text ∷ fields (after_field text)) [
+  | inl b ↦ let none = ap length b.first in absurd (omega (arith, some, none))
+  | inr b ↦ b.all
+]
+
+pub past_fields : (text : List ℕ) → length (past_spaces text) ≡ 0 → fields text ≡ []
+past_fields text none =
+    let b = behind text in
+    ap fields b.is ∙ fields_more b.gap (past_spaces text) b.spaces ∙ ap fields (empty (past_spaces text) none) where
+  empty : (xs : List ℕ) → length xs ≡ 0 → xs ≡ []
+  empty [] e = refl
+  empty (x ∷ xs) e = absurd (omega (arith, e))
+
+pub some_fields : (text : List ℕ) → 0 < length (past_spaces text) → 0 < length (fields text)
+some_fields text some = elim (step text) as (λ s. 0 < length (fields text)) [
+  | inl b ↦ let none = ap length b.past in absurd (omega (arith, some, none))
+  | inr b ↦ let all = ap length b.all in omega (arith, all)
+]
+
+-- the same where the first field was read
+pub none_of : (text one : List ℕ) → one ≡ first_field text → length one ≡ 0 → fields text ≡ []
+none_of text one is none = blank_fields text (ap length (sym is) ∙ none)
+
+pub one_of : (text one rest : List ℕ) → one ≡ first_field text → rest ≡ after_field text → 0 < length one → fields text ≡ one ∷ fields rest
+one_of text one rest is then some =
+    let more : 0 < length (first_field text) = subst (λ (x : List ℕ). 0 < length x) is some in
+    more_fields text more ∙ ap (λ x. x ∷ fields (after_field text)) (sym is) ∙ ap (λ x. one ∷ fields x) (sym then)

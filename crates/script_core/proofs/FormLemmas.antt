@@ -1,13 +1,19 @@
 -- what is read field by field is what the line's form says
-use Rattle.std.proofs.Common.{◌≡◌, ℕ, Bool, true, false, not, ◌||◌, cond, List, [], ◌∷◌, ◌++◌, codes, refl, sym, ap, ◌∙◌, subst, arith, inl, inr, Option, Some, None}
-use Rattle.std.specs.Prelude.{bytes_eq}
+use Rattle.std.proofs.Common.{◌≡◌, ◌≤◌, ◌<◌, ℕ, Bool, true, false, not, ◌||◌, cond, List, [], ◌∷◌, ◌++◌, codes, refl, sym, ap, ◌∙◌, subst, arith, inl, inr, Option, Some, None}
+use Rattle.std.specs.Prelude.{bytes_eq, length, nat_le, option_map, option_and_then}
+use Rattle.std.proofs.lemmas.Bool.{le-leb, leb-true}
 use Rattle.std.proofs.lemmas.Slice.Eq.{bytes_eq-Decides}
 use Rattle.std.specs.Str.{is_utf8}
 use Rattle.std.proofs.lemmas.List.Elements.{All-from_recursion}
+use Rattle.keeper_core.specs.declared.faults.Keep.{Keep}
+use Rattle.keeper_core.specs.declared.faults.Keep.TheVariants.{Old, New}
 use Rattle.script_core.specs.Comments.{is_comment}
 use Rattle.script_core.specs.Fields.{is_space, fields, IsField, BeginsWithField}
-use Rattle.script_core.specs.Steps.{past_spaces, first_field, after_field, is_empty, capture_found, site_found, reach_found, found}
-use Rattle.script_core.specs.Requests.{capture, reach, Request, silent, site, task, IsCapture, HasForm, IsOfForm, AsksAs, Asks}
+use Rattle.script_core.specs.Numbers.{number_of, recall_of}
+use Rattle.script_core.specs.Steps.{past_spaces, first_field, after_field, is_empty, capture_found, site_found, keep_found, rounds_found, one_found, two_found, three_found, task_found, found, worded, AreFields}
+use Rattle.script_core.specs.Requests.{Task, capture, reach, recall, send, signal, deliver, stop, reopen, pump, quarantine, Request, silent, site, task, keep_word, most_rounds, AreWords, IsCapture, HasForm, IsOfForm, AsksAs, Asks}
+use Rattle.script_core.specs.declared.fields.Words.{Words}
+use Rattle.script_core.specs.declared.fields.Words.TheVariants as words
 use Rattle.script_core.proofs.FieldLemmas.{step, Begins, behind, fields_more, nonzero, some_of, first_at, after_at, past_more, past_here}
 
 -- the request that reading finds
@@ -51,38 +57,48 @@ found_site line name addresses form = elim (step line) as (λ s. reading_of line
       ]
 ]
 
--- no fields, no bytes but spaces
-past_all : (text : List ℕ) → fields text ≡ [] → past_spaces text ≡ []
-past_all text none = elim (step text) as (λ s. past_spaces text ≡ []) [
-  | inl b ↦ b.past
-  | inr b ↦ let bad = sym none ∙ b.all in cc
-]
-
-found_reach : (line name item : List ℕ) → fields line ≡ codes "reach" ∷ name ∷ item ∷ [] → reading_of line ≡ Some (task (reach name item))
+-- a line of other words
+found_words : (line word : List ℕ) (rest : List (List ℕ)) → fields line ≡ word ∷ rest → bytes_eq word (codes "capture") ≡ false → bytes_eq word (codes "site") ≡ false → reading_of line ≡ option_map task (task_found word rest)
 unfolding found
-found_reach line name item form = elim (step line) as (λ s. reading_of line ≡ Some (task (reach name item))) [
+found_words line word rest form capture_not site_not = elim (step line) as (λ s. reading_of line ≡ option_map task (task_found word rest)) [
   | inl b ↦ let bad = sym form ∙ b.none in cc
   | inr b ↦
-      let word : first_field line ≡ codes "reach" = let e = sym b.all ∙ form in cc in
-      let rest : fields (after_field line) ≡ name ∷ item ∷ [] = let e = sym b.all ∙ form in cc in
-      elim (step (after_field line)) as (λ s. reading_of line ≡ Some (task (reach name item))) [
-        | inl c ↦ let bad = sym rest ∙ c.none in cc
-        | inr c ↦
-            let first : first_field (after_field line) ≡ name = let e = sym c.all ∙ rest in cc in
-            let more : fields (after_field (after_field line)) ≡ item ∷ [] = let e = sym c.all ∙ rest in cc in
-            elim (step (after_field (after_field line))) as (λ s. reading_of line ≡ Some (task (reach name item))) [
-              | inl d ↦ let bad = sym more ∙ d.none in cc
-              | inr d ↦
-                  let second : first_field (after_field (after_field line)) ≡ item = let e = sym d.all ∙ more in cc in
-                  let last : fields (after_field (after_field (after_field line))) ≡ [] = let e = sym d.all ∙ more in cc in
-                  ap (λ w. found w (after_field line)) word
-                  ∙ ap (λ v. cond (v || not (is_empty (past_spaces (after_field (after_field (after_field line)))))) None (Some (task (reach (first_field (after_field line)) (first_field (after_field (after_field line))))))) (some_is _ d.is_field)
-                  ∙ ap (λ v. cond (not v) None (Some (task (reach (first_field (after_field line)) (first_field (after_field (after_field line))))))) (empty_is (past_spaces (after_field (after_field (after_field line)))) (past_all (after_field (after_field (after_field line))) last))
-                  ∙ ap (λ n. Some (task (reach n (first_field (after_field (after_field line)))))) first
-                  ∙ ap (λ i. Some (task (reach name i))) second
-            ]
-      ]
+      let first : first_field line ≡ word = let e = sym b.all ∙ form in cc in
+      let others : fields (after_field line) ≡ rest = let e = sym b.all ∙ form in cc in
+      let after = after_field line in
+      let captures = capture_found (first_field after) (past_spaces (after_field after)) in
+      let sites = site_found (first_field after) (after_field after) in
+      ap (λ w. found w after) first
+      ∙ ap (λ v. cond v (Some silent) (cond (bytes_eq word (codes "capture")) captures (cond (bytes_eq word (codes "site")) sites (option_map task (task_found word (fields after)))))) (some_is word (subst IsField first b.is_field))
+      ∙ ap (λ v. cond v captures (cond (bytes_eq word (codes "site")) sites (option_map task (task_found word (fields after))))) capture_not
+      ∙ ap (λ v. cond v sites (option_map task (task_found word (fields after)))) site_not
+      ∙ ap (λ fs. option_map task (task_found word fs)) others
 ]
+
+keep_is : (keep : Keep) → keep_found (keep_word keep) ≡ Some keep
+keep_is Old = refl
+keep_is New = refl
+
+few_is : (n : ℕ) → n ≤ most_rounds → rounds_found n ≡ Some (pump n)
+few_is n few = ap (λ v. cond v (Some (pump n)) None) (le-leb n most_rounds few)
+
+task_is : (words : List (List ℕ)) (t : Task) → AreWords words t → (word : List ℕ) × (rest : List (List ℕ)) × (words ≡ word ∷ rest) × (bytes_eq word (codes "capture") ≡ false) × (bytes_eq word (codes "site") ≡ false) × (task_found word rest ≡ Some t)
+unfolding one_found two_found three_found
+task_is words (capture name document) form = absurd form
+task_is words (reach name item) form = (codes "reach", name ∷ item ∷ [], form, refl, refl, refl)
+task_is words (recall name item) form = (codes "recall", name ∷ item ∷ [], form, refl, refl, refl)
+task_is words (send name number) (digits, form, value) = (codes "send", name ∷ digits ∷ [], form, refl, refl, ap (option_map (send name)) value)
+task_is words (signal name sender number) (digits, form, value) = (codes "signal", name ∷ sender ∷ digits ∷ [], form, refl, refl, ap (option_map (signal name sender)) value)
+task_is words (deliver place) (digits, form, value) = (codes "deliver", digits ∷ [], form, refl, refl, ap (option_map deliver) value)
+task_is words (stop name keep) form = (codes "stop", name ∷ keep_word keep ∷ [], form, refl, refl, ap (option_map (stop name)) (keep_is keep))
+task_is words (reopen name) form = (codes "reopen", name ∷ [], form, refl, refl, refl)
+task_is words (pump rounds) (digits, form, value, few) = (codes "pump", digits ∷ [], form, refl, refl, ap (option_and_then rounds_found) value ∙ few_is rounds few)
+task_is words (quarantine name number) (text, form, value) = (codes "quarantine", text ∷ [], form, refl, refl, ap (option_map (λ r. quarantine r.0 r.1)) value)
+
+found_task : (line : List ℕ) (t : Task) → AreWords (fields line) t → reading_of line ≡ Some (task t)
+found_task line t form =
+    let (word, rest, is, capture_not, site_not, finds) = task_is (fields line) t form in
+    found_words line word rest is capture_not site_not ∙ ap (option_map task) finds
 
 capture_word : IsField (codes "capture")
 capture_word = record { some = omega arith; within = All-from_recursion (λ b. is_space b ≡ false) (codes "capture") (refl, (refl, (refl, (refl, (refl, (refl, (refl, tt))))))) }
@@ -107,7 +123,15 @@ form_found : (line : List ℕ) (r : Request) → HasForm line r → reading_of l
 form_found line silent form = found_silent line form
 form_found line (site name addresses) form = found_site line name addresses form
 form_found line (task (capture name document)) form = found_capture line name document form
-form_found line (task (reach name item)) form = found_reach line name item form
+form_found line (task (reach name item)) form = found_task line (reach name item) form
+form_found line (task (recall name item)) form = found_task line (recall name item) form
+form_found line (task (send name number)) form = found_task line (send name number) form
+form_found line (task (signal name sender number)) form = found_task line (signal name sender number) form
+form_found line (task (deliver place)) form = found_task line (deliver place) form
+form_found line (task (stop name keep)) form = found_task line (stop name keep) form
+form_found line (task (reopen name)) form = found_task line (reopen name) form
+form_found line (task (pump rounds)) form = found_task line (pump rounds) form
+form_found line (task (quarantine name number)) form = found_task line (quarantine name number) form
 
 -- ---- what is found gives the form
 
@@ -175,64 +199,89 @@ site_form line b word =
           (same_some line (site name (fields rest)) (b.all ∙ ap (λ w. w ∷ fields (after_field line)) word ∙ ap (λ fs. codes "site" ∷ fs) c.all))
     ]
 
-reach_form : (line : List ℕ) → Begins line → first_field line ≡ codes "reach"
-    → Same line (reach_found (first_field (after_field line)) (first_field (after_field (after_field line))) (past_spaces (after_field (after_field (after_field line)))))
-reach_form line b word =
-    let name = first_field (after_field line) in
-    let third = after_field (after_field line) in
-    let item = first_field third in
-    let rest = after_field third in
-    let tail = is_empty (past_spaces rest) in
-    let found_so : Option Request = Some (task (reach name item)) in
-    elim (step third) as (λ s. Same line (reach_found name item (past_spaces rest))) [
-      | inl d ↦ subst (Same line) (sym (ap (λ v. cond (v || not tail) None found_so) (empty_is item d.first))) (same_none line)
-      | inr d ↦
-          let is = some_is item d.is_field in
-          elim (step (after_field line)) as (λ s. Same line (reach_found name item (past_spaces rest))) [
-            | inl c ↦ let bad : [] ≡ item ∷ fields rest = sym (ap fields c.after) ∙ d.all in cc
-            | inr c ↦ elim (behind rest).begins as (λ h. Same line (reach_found name item (past_spaces rest))) [
-              | inl none ↦
-                  let last : fields rest ≡ [] = ap fields (behind rest).is ∙ fields_more (behind rest).gap (past_spaces rest) (behind rest).spaces ∙ ap fields none in
-                  subst (Same line) (sym (ap (λ v. cond (v || not tail) None found_so) is ∙ ap (λ v. cond (not v) None found_so) (empty_is (past_spaces rest) none)))
-                  (same_some line (task (reach name item))
-                  (b.all ∙ ap (λ w. w ∷ fields (after_field line)) word ∙ ap (λ fs. codes "reach" ∷ fs) (c.all ∙ ap (λ fs. name ∷ fs) (d.all ∙ ap (λ fs. item ∷ fs) last))))
-              | inr begins ↦
-                  subst (Same line) (sym (ap (λ v. cond (v || not tail) None found_so) is ∙ ap (λ v. cond (not v) None found_so) (begun_is (past_spaces rest) begins))) (same_none line)
-            ]
-          ]
-    ]
-
 -- a word that is compared with a literal
 decided : (word literal : List ℕ) → bytes_eq word literal ≡ true → word ≡ literal
 decided word literal e = (bytes_eq-Decides word literal).0 e
+
+-- one test of a word
+tested : (line word literal : List ℕ) (x y : Option Request) → (word ≡ literal → Same line x) → Same line y → Same line (cond (bytes_eq word literal) x y)
+tested line word literal x y a b = elim (bytes_eq word literal) as (λ v. bytes_eq word literal ≡ v → Same line (cond v x y)) [ true ↦ λ e. a (decided word literal e) | false ↦ λ e. b ] refl
+
+-- the same for a task
+tests : (line word literal : List ℕ) (x y : Option Task) → (word ≡ literal → Same line (option_map task x)) → Same line (option_map task y)
+    → Same line (option_map task (cond (bytes_eq word literal) x y))
+tests line word literal x y a b =
+    elim (bytes_eq word literal) as (λ v. bytes_eq word literal ≡ v → Same line (option_map task (cond v x y))) [ true ↦ λ e. a (decided word literal e) | false ↦ λ e. b ] refl
+
+-- a part of a word that may not be read
+parted : {X : Type 0} (line : List ℕ) (f : X → Task) (o : Option X) → ((x : X) → o ≡ Some x → HasForm line (task (f x))) → Same line (option_map task (option_map f o))
+parted line f None h = same_none line
+parted line f (Some x) h = same_some line (task (f x)) (h x refl)
+
+keep_said : (text : List ℕ) (keep : Keep) → keep_found text ≡ Some keep → text ≡ keep_word keep
+keep_said text keep e =
+    elim (bytes_eq text (codes "old")) as (λ v. bytes_eq text (codes "old") ≡ v → cond v (Some Old) (cond (bytes_eq text (codes "new")) (Some New) None) ≡ Some keep → text ≡ keep_word keep) [
+      | true ↦ λ t k. let same : Old ≡ keep = cc in decided text (codes "old") t ∙ ap keep_word same
+      | false ↦ λ f k. elim (bytes_eq text (codes "new")) as (λ v. bytes_eq text (codes "new") ≡ v → cond v (Some New) None ≡ Some keep → text ≡ keep_word keep) [
+        | true ↦ λ t l. let same : New ≡ keep = cc in decided text (codes "new") t ∙ ap keep_word same
+        | false ↦ λ g l. cc
+      ] refl k
+    ] refl e
+
+-- a number of rounds
+few_rounds : (line digits : List ℕ) (o : Option ℕ) → number_of digits ≡ o → fields line ≡ codes "pump" ∷ digits ∷ [] → Same line (option_map task (option_and_then rounds_found o))
+few_rounds line digits None is form = same_none line
+few_rounds line digits (Some n) is form =
+    elim (nat_le n most_rounds) as (λ v. nat_le n most_rounds ≡ v → Same line (option_map task (cond v (Some (pump n)) None))) [
+      | true ↦ λ e. same_some line (task (pump n)) (digits, form, is, leb-true n most_rounds e)
+      | false ↦ λ e. same_none line
+    ] refl
+
+one_word_form : (line word a : List ℕ) → fields line ≡ word ∷ a ∷ [] → Same line (option_map task (one_found word a))
+unfolding one_found
+one_word_form line word a form =
+    tests line word (codes "deliver") _ _ (λ w. parted line deliver (number_of a) (λ n value. (a, form ∙ ap (λ x. x ∷ a ∷ []) w, value)))
+    (tests line word (codes "reopen") _ _ (λ w. same_some line (task (reopen a)) (form ∙ ap (λ x. x ∷ a ∷ []) w))
+    (tests line word (codes "pump") _ _ (λ w. few_rounds line a (number_of a) refl (form ∙ ap (λ x. x ∷ a ∷ []) w))
+    (tests line word (codes "quarantine") _ _ (λ w. parted line (λ r. quarantine r.0 r.1) (recall_of a) (λ r value. (a, form ∙ ap (λ x. x ∷ a ∷ []) w, value)))
+    (same_none line))))
+
+two_form : (line word a b : List ℕ) → fields line ≡ word ∷ a ∷ b ∷ [] → Same line (option_map task (two_found word a b))
+unfolding two_found
+two_form line word a b form =
+    tests line word (codes "reach") _ _ (λ w. same_some line (task (reach a b)) (form ∙ ap (λ x. x ∷ a ∷ b ∷ []) w))
+    (tests line word (codes "recall") _ _ (λ w. same_some line (task (recall a b)) (form ∙ ap (λ x. x ∷ a ∷ b ∷ []) w))
+    (tests line word (codes "send") _ _ (λ w. parted line (send a) (number_of b) (λ n value. (b, form ∙ ap (λ x. x ∷ a ∷ b ∷ []) w, value)))
+    (tests line word (codes "stop") _ _ (λ w. parted line (stop a) (keep_found b) (λ keep value. form ∙ ap (λ x. x ∷ a ∷ b ∷ []) w ∙ ap (λ x. codes "stop" ∷ a ∷ x ∷ []) (keep_said b keep value)))
+    (same_none line))))
+
+three_form : (line word a b c : List ℕ) → fields line ≡ word ∷ a ∷ b ∷ c ∷ [] → Same line (option_map task (three_found word a b c))
+unfolding three_found
+three_form line word a b c form =
+    tests line word (codes "signal") _ _ (λ w. parted line (signal a b) (number_of c) (λ n value. (c, form ∙ ap (λ x. x ∷ a ∷ b ∷ c ∷ []) w, value)))
+    (same_none line)
+
+task_form : (line word : List ℕ) (rest : List (List ℕ)) → fields line ≡ word ∷ rest → Same line (option_map task (task_found word rest))
+task_form line word [] form = same_none line
+task_form line word (a ∷ []) form = one_word_form line word a form
+task_form line word (a ∷ b ∷ []) form = two_form line word a b form
+task_form line word (a ∷ b ∷ c ∷ []) form = three_form line word a b c form
+task_form line word (a ∷ b ∷ c ∷ d ∷ more) form = same_none line
 
 pub found_form : (line : List ℕ) → Same line (reading_of line)
 unfolding found
 found_form line =
     let word = first_field line in
     let rest = after_field line in
-    let captures = capture_found (first_field rest) (past_spaces (after_field rest)) in
-    let sites = site_found (first_field rest) (after_field rest) in
-    let reaches = reach_found (first_field rest) (first_field (after_field rest)) (past_spaces (after_field (after_field rest))) in
     elim (step line) as (λ s. Same line (found word rest)) [
       | inl b ↦ subst (Same line) (sym (ap (λ w. found w rest) b.first)) (same_some line silent b.none)
       | inr b ↦
-          let third : Same line (cond (bytes_eq word (codes "reach")) reaches None) =
-          elim (bytes_eq word (codes "reach")) as (λ v. bytes_eq word (codes "reach") ≡ v → Same line (cond v reaches None)) [
-            | true ↦ λ e. reach_form line b (decided word (codes "reach") e)
-            | false ↦ λ e. same_none line
-          ] refl in
-          let second : Same line (cond (bytes_eq word (codes "site")) sites (cond (bytes_eq word (codes "reach")) reaches None)) =
-          elim (bytes_eq word (codes "site")) as (λ v. bytes_eq word (codes "site") ≡ v → Same line (cond v sites (cond (bytes_eq word (codes "reach")) reaches None))) [
-            | true ↦ λ e. site_form line b (decided word (codes "site") e)
-            | false ↦ λ e. third
-          ] refl in
-          let first : Same line (cond (bytes_eq word (codes "capture")) captures (cond (bytes_eq word (codes "site")) sites (cond (bytes_eq word (codes "reach")) reaches None))) =
-          elim (bytes_eq word (codes "capture")) as (λ v. bytes_eq word (codes "capture") ≡ v → Same line (cond v captures (cond (bytes_eq word (codes "site")) sites (cond (bytes_eq word (codes "reach")) reaches None)))) [
-            | true ↦ λ e. capture_form line b (decided word (codes "capture") e)
-            | false ↦ λ e. second
-          ] refl in
-          subst (λ v. Same line (cond v (Some silent) (cond (bytes_eq word (codes "capture")) captures (cond (bytes_eq word (codes "site")) sites (cond (bytes_eq word (codes "reach")) reaches None))))) (sym (some_is word b.is_field)) first
+          let captures = capture_found (first_field rest) (past_spaces (after_field rest)) in
+          let sites = site_found (first_field rest) (after_field rest) in
+          let others = option_map task (task_found word (fields rest)) in
+          subst (λ v. Same line (cond v (Some silent) (cond (bytes_eq word (codes "capture")) captures (cond (bytes_eq word (codes "site")) sites others)))) (sym (some_is word b.is_field))
+          (tested line word (codes "capture") captures (cond (bytes_eq word (codes "site")) sites others) (λ w. capture_form line b w)
+          (tested line word (codes "site") sites others (λ w. site_form line b w) (task_form line word (fields rest) b.all)))
     ]
 
 -- ---- the one thing that a line asks for
@@ -265,3 +314,15 @@ asks_some line = by (is_comment line) (is_utf8 line) where
   by true text = (Some silent, refl)
   by false false = (None, refl)
   by false true = (reading_of line, of_form line (reading_of line) refl)
+
+-- the fields that were counted are those of the text
+pub worded_is : (word : List ℕ) (all : List (List ℕ)) (ws : Words) → AreFields all ws → worded word ws ≡ task_found word all
+worded_is word all words.None is = sym (ap (task_found word) is)
+worded_is word all (words.One a) is = sym (ap (task_found word) is)
+worded_is word all (words.Two a b) is = sym (ap (task_found word) is)
+worded_is word all (words.Three a b c) is = sym (ap (task_found word) is)
+worded_is word [] words.More is = absurd (omega arith)
+worded_is word (a ∷ []) words.More is = absurd (omega arith)
+worded_is word (a ∷ b ∷ []) words.More is = absurd (omega arith)
+worded_is word (a ∷ b ∷ c ∷ []) words.More is = absurd (omega arith)
+worded_is word (a ∷ b ∷ c ∷ d ∷ more) words.More is = refl

@@ -1,15 +1,10 @@
 -- What became of a call that reads or adds: memory ran out here exactly where it did there.
-use Rattle.std.specs.Prelude.{ℕ, Option, Some, None, Result, Ok, Err, alloc_error}
+use Rattle.std.specs.Prelude.{Option, Some, None, Result, Ok, Err, alloc_error}
 use Rattle.std.specs.declared.alloc.AllocError.{AllocError}
 use Rattle.epc_core.specs.declared.items.EpcFault.{EpcFault}
 use Rattle.epc_core.specs.declared.items.EpcFault.TheVariants as epcs
-use Rattle.event_json.specs.declared.doc_faults.DocFault.{DocFault}
-use Rattle.event_json.specs.declared.doc_faults.ReadFault.{ReadFault}
-use Rattle.event_json.specs.declared.doc_faults.ReadFault.TheVariants as reads
 use Rattle.event_json.specs.declared.site_lists.SitesFault.{SitesFault}
 use Rattle.event_json.specs.declared.site_lists.SitesFault.TheVariants as sites
-use Rattle.trace_core.specs.declared.adding.AddFault.{AddFault}
-use Rattle.trace_core.specs.declared.adding.AddFault.TheVariants as adds
 
 -- a fault, or want of memory where there is none
 abbrev pub told : {X F : Type 0} → Option F → Result (Result X F) AllocError
@@ -27,10 +22,6 @@ epc_fault epcs.Empty = Some epcs.Empty
 epc_fault epcs.TooLong = Some epcs.TooLong
 epc_fault (epcs.BadByte place) = Some (epcs.BadByte place)
 
-abbrev pub doc_fault : ReadFault → Option DocFault
-doc_fault reads.NoMemory = None
-doc_fault (reads.Doc fault) = Some fault
-
 abbrev pub site_fault : SitesFault → Option SitesFault
 site_fault sites.NoMemory = None
 site_fault sites.BadName = Some sites.BadName
@@ -38,7 +29,3 @@ site_fault sites.NameTaken = Some sites.NameTaken
 site_fault sites.TooMany = Some sites.TooMany
 site_fault sites.BadAddress = Some sites.BadAddress
 site_fault sites.AddressTaken = Some sites.AddressTaken
-
-abbrev pub taken_place : AddFault → Option ℕ
-taken_place adds.NoMemory = None
-taken_place (adds.IdTaken event) = Some event

@@ -1,11 +1,17 @@
-use Rattle.std.specs.Prelude.{◌≡◌, ◌+◌, ℕ, nat_le, if◌then◌else◌, List, [], ◌∷◌, length, Some, slice_get}
+use Rattle.std.specs.Prelude.{ℕ, nat_le, if◌then◌else◌, List, [], length, map, replicate, Option, Some, None, option_and_then, slice_get}
+use Rattle.std.specs.List.{range_with_len}
 use Rattle.event_json.specs.Sites.{Site}
-use Rattle.trace_core.specs.Sites.{SiteEvents}
+use Rattle.keeper_core.specs.declared.faults.Keep.{Keep}
+use Rattle.site_core.specs.Records.{Record, fresh}
+use Rattle.world_core.specs.Worlds.{Standing, Up, Down, WorldState}
 
--- the sites, and what each of them has captured, both in the order of the sites' numbers
 pub record World : Type 0 where
+  -- in the order of their numbers
   pub sites : List Site
-  pub captured : List SiteEvents
+  -- how each site stands, and the frames that were sent
+  pub world : WorldState
+  -- of each site, the stop that is armed for its next step
+  pub armed : List (Option Keep)
 
 -- what the lines of a script so far left: the sites, while they are gathered, and then the world
 pub data State : Type 0 where
@@ -16,20 +22,30 @@ pub data State : Type 0 where
 abbrev pub empty : State
 empty = gathering []
 
--- the sites from this number on, none of which has captured an event
-abbrev pub nothing_captured_from : ℕ → List Site → List SiteEvents
-nothing_captured_from n [] = []
-nothing_captured_from n (site ∷ sites) = record { me = n; events = [] } ∷ nothing_captured_from (n + 1) sites
+-- each of the sites is up, and nothing happened at it yet
+abbrev pub fresh_sites : List Site → List Standing
+fresh_sites sites = map (λ n. Up (fresh sites n)) (range_with_len 0 (length sites))
 
 -- the world as it begins
 abbrev pub begun_world : List Site → World
-begun_world sites = record { sites = sites; captured = nothing_captured_from 0 sites }
+begun_world sites = record { sites = sites; world = record { sites = fresh_sites sites; sent = [] }; armed = replicate (length sites) None }
 
 -- once two sites stand, the world may begin
 unfoldable pub begun : State → State
 begun (gathering sites) = if nat_le 2 (length sites) then running (begun_world sites) else gathering sites
 begun (running world) = running world
 
--- the events at each place are those of the site of that number
-abbrev pub AreInOrder : List SiteEvents → Type 0
-AreInOrder captured = (n : ℕ) (s : SiteEvents) → slice_get captured n ≡ Some s → s.me ≡ n
+-- the record of a site while it is up
+abbrev pub shown_by : Standing → Option Record
+shown_by (Up r) = Some r
+shown_by (Down r) = None
+
+abbrev pub up_in : List Standing → ℕ → Option Record
+up_in sites n = option_and_then shown_by (slice_get sites n)
+
+abbrev pub up_at : World → ℕ → Option Record
+up_at w n = up_in w.world.sites n
+
+-- the stop that is armed for the next step of a site
+abbrev pub armed_at : World → ℕ → Option Keep
+armed_at w n = option_and_then (λ keep. keep) (slice_get w.armed n)

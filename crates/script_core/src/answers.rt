@@ -1,13 +1,17 @@
 //! Answers and their texts.
 
 ghost use Rattle.std.specs.Prelude.{◌≡◌, ◌++◌, ◌∷◌, codes, IfOk, OnOk, string_bytes};
-ghost use Rattle.std.specs.Fmt.{decimal};
 ghost use Rattle.event_json.specs.Names.{sites_fault_name};
-ghost use Rattle.script_core.specs.Words.{doc_fault_text, captured_text, pairs_text, pair_text, count_text};
+ghost use Rattle.script_core.specs.Requests.{keep_word};
+ghost use Rattle.script_core.specs.Tasks.{outcome_said};
+ghost use Rattle.script_core.specs.Words.{name_at, pairs_text, quarantine_text, count_text, quarantined_text, frame_text, armed_text, open_text, pumped_text};
 
-use event_json::{DocFault, Sites, SitesFault};
+use crate::texts::{effects_text, name_of, pair_lines, quarantined_text, refusal_text, stopped_text};
+use crate::worlds::Outcome;
+use event_json::{SiteNo, Sites, SitesFault};
+use keeper_core::Keep;
 use std::alloc::{AllocError, Global};
-use trace_core::{Added, Pair};
+use trace_core::Pair;
 
 /// The answer to a line.
 #[derive(Debug, Drop)]
@@ -77,6 +81,20 @@ impl Answer {
         Answer::Fixed("refused BadEpc\n")
     }
 
+    /// The refusal of a row, a signal or a frame that isn't there.
+    pub(crate) fn no_frame() -> Answer
+        ensures { answer_of result ≡ refused (codes "NoFrame") }
+    {
+        Answer::Fixed("refused NoFrame\n")
+    }
+
+    /// The refusal of a recall that its site didn't begin.
+    pub(crate) fn no_recall() -> Answer
+        ensures { answer_of result ≡ refused (codes "NoRecall") }
+    {
+        Answer::Fixed("refused NoRecall\n")
+    }
+
     /// A refusal with details.
     fn refusal(alloc: Global, what: &str) -> Result<Answer, AllocError>
         ensures { IfOk result (λ a. answer_of a ≡ refused what.now) }
@@ -92,6 +110,23 @@ impl Answer {
         Answer::refusal(alloc, what.as_str())
     }
 
+    /// The refusal of a line at a site that is down.
+    pub(crate) fn closed(alloc: Global, sites: &Sites, site: SiteNo) -> Result<Answer, AllocError>
+        ensures { IfOk result (λ a. answer_of a ≡ refused (codes "Closed " ++ name_at sites.now site)) }
+    {
+        let name = name_of(sites, site);
+        let what = format!(in alloc; "Closed {name}")?;
+        Answer::refusal(alloc, what.as_str())
+    }
+
+    /// The refusal to open a site that is up.
+    pub(crate) fn not_closed(alloc: Global, name: &str) -> Result<Answer, AllocError>
+        ensures { IfOk result (λ a. answer_of a ≡ refused (codes "NotClosed " ++ name.now)) }
+    {
+        let what = format!(in alloc; "NotClosed {name}")?;
+        Answer::refusal(alloc, what.as_str())
+    }
+
     /// The refusal of a `site` line for its name or addresses.
     pub(crate) fn bad_site(alloc: Global, fault: &SitesFault) -> Result<Answer, AllocError>
         ensures { IfOk result (λ a. answer_of a ≡ refused (codes "BadSite " ++ sites_fault_name fault.now)) }
@@ -101,67 +136,96 @@ impl Answer {
         Answer::refusal(alloc, what.as_str())
     }
 
-    /// The refusal of a document.
-    pub(crate) fn bad_document(alloc: Global, fault: DocFault) -> Result<Answer, AllocError>
-        ensures { IfOk result (λ a. answer_of a ≡ refused (doc_fault_text fault)) }
+    /// What came of an input that a site was handed. `about` is the message that it brings or signals.
+    pub(crate) fn of_outcome(
+        alloc: Global,
+        sites: &Sites,
+        site: SiteNo,
+        about: &str,
+        outcome: &Outcome,
+    ) -> Result<Answer, AllocError>
+        ensures { IfOk result (λ a. answer_of a ≡ outcome_said sites.now site about.now outcome.now) }
     {
-        let what = fault_text(alloc, fault.kind.name(), fault.event, fault.field.name())?;
-        Answer::refusal(alloc, what.as_str())
+        match outcome {
+            Outcome::Did(effects) => Ok(Answer::Done(effects_text(alloc, sites, about, effects)?)),
+            Outcome::Refused(why) => {
+                let what = refusal_text(alloc, sites, why)?;
+                Answer::refusal(alloc, what.as_str())
+            }
+            Outcome::Stopped => Ok(Answer::Done(stopped_text(alloc, sites, site)?)),
+        }
     }
 
-    /// The refusal of a document with an eventID that another event has.
-    pub(crate) fn id_taken(alloc: Global, event: u64) -> Result<Answer, AllocError>
-        ensures { IfOk result (λ a. answer_of a ≡ refused (codes "IdTaken event " ++ decimal event)) }
+    /// A frame was sent at this place.
+    pub(crate) fn frame(alloc: Global, place: u64) -> Result<Answer, AllocError>
+        ensures { IfOk result (λ a. answer_of a ≡ done (frame_text place)) }
     {
-        let what = format!(in alloc; "IdTaken event {event}")?;
-        Answer::refusal(alloc, what.as_str())
+        Ok(Answer::Done(format!(in alloc; "frame {place}\n")?))
     }
 
-    /// What became of a document's events.
-    pub(crate) fn captured(alloc: Global, added: Added, skipped: u64) -> Result<Answer, AllocError>
-        ensures { IfOk result (λ a. answer_of a ≡ done (captured_text added.fresh added.known skipped)) }
+    /// The next step of a site is a stop.
+    pub(crate) fn armed(alloc: Global, name: &str, keep: Keep) -> Result<Answer, AllocError>
+        ensures { IfOk result (λ a. answer_of a ≡ done (armed_text name.now keep)) }
     {
-        let Added { fresh, known } = added;
-        Ok(Answer::Done(format!(in alloc; "captured {fresh} known {known} skipped {skipped}\n")?))
+        let word = keep_word(keep);
+        Ok(Answer::Done(format!(in alloc; "armed {name} {word}\n")?))
+    }
+
+    /// A site is open again.
+    pub(crate) fn open(alloc: Global, name: &str) -> Result<Answer, AllocError>
+        ensures { IfOk result (λ a. answer_of a ≡ done (open_text name.now)) }
+    {
+        Ok(Answer::Done(format!(in alloc; "open {name}\n")?))
+    }
+
+    /// What was told in so many rounds, and how many frames were sent in them.
+    pub(crate) fn pumped(
+        alloc: Global,
+        text: String,
+        rounds: u64,
+        frames: u64,
+    ) -> Result<Answer, AllocError>
+        ensures { IfOk result (λ a. answer_of a ≡ done (string_bytes text ++ pumped_text rounds frames)) }
+    {
+        let mut text = text;
+        let line = format!(in alloc; "pumped {rounds} frames {frames}\n")?;
+        text.push_str(line.as_str())?;
+        Ok(Answer::Done(text))
     }
 
     /// Each pair, and how many they are.
     pub(crate) fn pairs(alloc: Global, sites: &Sites, pairs: &[Pair]) -> Result<Answer, AllocError>
         ensures { IfOk result (λ a. answer_of a ≡ done (pairs_text sites.now pairs.now)) }
     {
-        let mut text = String::new(alloc);
-        for pair in pairs {
-            push_pair(alloc, &mut text, sites, pair)?;
-        }
-        push_count(alloc, &mut text, pairs.len())?;
+        let mut text = pair_lines(alloc, sites, pairs)?;
+        let count = pairs.len();
+        let line = format!(in alloc; "pairs {count}\n")?;
+        text.push_str(line.as_str())?;
+        Ok(Answer::Done(text))
+    }
+
+    /// Each pair that is quarantined under a recall, how many they are, and whether the recall has ended.
+    pub(crate) fn quarantined(
+        alloc: Global,
+        sites: &Sites,
+        pairs: &[Pair],
+        ended: bool,
+    ) -> Result<Answer, AllocError>
+        ensures { IfOk result (λ a. answer_of a ≡ done (quarantine_text sites.now pairs.now ended)) }
+    {
+        let mut text = pair_lines(alloc, sites, pairs)?;
+        let line = quarantined_text(alloc, pairs.len(), ended)?;
+        text.push_str(line.as_str())?;
         Ok(Answer::Done(text))
     }
 }
 
-/// What is wrong with a document.
-fn fault_text(alloc: Global, kind: &str, event: u64, field: &str) -> Result<String, AllocError>
-    ensures { IfOk result (λ t. string_bytes t ≡ codes "Doc " ++ kind.now ++ codes " event " ++ decimal event ++ codes " field " ++ field.now) }
+/// The word for the record that a stop keeps.
+fn keep_word(keep: Keep) -> &'static str
+    ensures { result.now ≡ keep_word keep }
 {
-    let mut text = format!(in alloc; "Doc {kind} event {event}")?;
-    text.push_str(" field ")?;
-    text.push_str(field)?;
-    Ok(text)
-}
-
-/// Adds the line that counts the pairs to a text.
-fn push_count(alloc: Global, text: &mut String, count: usize) -> Result<(), AllocError>
-    ensures { OnOk result (string_bytes text.new ≡ string_bytes text.old ++ count_text count) }
-{
-    let line = format!(in alloc; "pairs {count}\n")?;
-    text.push_str(line.as_str())
-}
-
-/// Adds the line of a pair to a text.
-fn push_pair(alloc: Global, text: &mut String, sites: &Sites, pair: &Pair) -> Result<(), AllocError>
-    ensures { OnOk result (string_bytes text.new ≡ string_bytes text.old ++ pair_text sites.now pair.now) }
-{
-    let name = sites.name(pair.site).unwrap_or("");
-    let key = pair.item.key(alloc)?;
-    let line = format!(in alloc; "pair {name} {key}\n")?;
-    text.push_str(line.as_str())
+    match keep {
+        Keep::Old => "old",
+        Keep::New => "new",
+    }
 }

@@ -1,8 +1,19 @@
 ghost use Rattle.std.specs.Prelude.{◌≡◌, IfOk, map};
 ghost use Rattle.script_core.specs.Fields.{fields};
-ghost use Rattle.script_core.specs.Steps.{past_spaces, first_field, after_field};
+ghost use Rattle.script_core.specs.Steps.{past_spaces, first_field, after_field, AreFields};
 
 use std::alloc::{AllocError, Global};
+
+/// The fields of a text where there are at most three.
+#[derive(Clone, Copy, Debug)]
+pub(crate) enum Words<'a> {
+    None,
+    One(&'a str),
+    Two(&'a str, &'a str),
+    Three(&'a str, &'a str, &'a str),
+    /// More than three.
+    More,
+}
 
 /// What follows the spaces at the front.
 pub(crate) fn past_spaces(text: &str) -> &str
@@ -24,6 +35,29 @@ pub(crate) fn split_field(text: &str) -> (&str, &str)
     match text.split_once(' ') {
         Some((field, rest)) => (field, rest),
         None => (text, ""),
+    }
+}
+
+/// The fields of a text, counted. It takes no memory.
+pub(crate) fn words_of(text: &str) -> Words<'_>
+    ensures { AreFields (fields text.now) result }
+{
+    let (one, rest) = split_field(text);
+    if one.is_empty() {
+        return Words::None;
+    }
+    let (two, rest) = split_field(rest);
+    if two.is_empty() {
+        return Words::One(one);
+    }
+    let (three, rest) = split_field(rest);
+    if three.is_empty() {
+        return Words::Two(one, two);
+    }
+    if past_spaces(rest).is_empty() {
+        Words::Three(one, two, three)
+    } else {
+        Words::More
     }
 }
 

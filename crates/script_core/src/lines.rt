@@ -6,16 +6,8 @@ ghost use Rattle.script_core.specs.Comments.{is_comment};
 ghost use Rattle.script_core.specs.Fields.{fields};
 ghost use Rattle.script_core.specs.Steps.{past_spaces, first_field, after_field};
 
-use crate::fields::{past_spaces, split_field};
-
-/// What a line asks of the world.
-#[derive(Clone, Copy, Debug)]
-pub(crate) enum Task<'a> {
-    /// A document is captured at a site.
-    Capture { name: &'a str, document: &'a str },
-    /// The pairs that an item at a site reaches.
-    Reach { name: &'a str, item: &'a str },
-}
+use crate::fields::{past_spaces, split_field, words_of};
+use crate::tasks::Task;
 
 /// What a line asks for.
 #[derive(Clone, Copy, Debug)]
@@ -31,9 +23,9 @@ pub(crate) enum Line<'a> {
 }
 
 impl<'a> Line<'a> {
-    ghost use Rattle.std.specs.Prelude.{◌≡◌};
-    ghost use Rattle.script_core.specs.Requests.{Asks};
-    ghost use Rattle.script_core.specs.Steps.{past_spaces, first_field, after_field, found, capture_found, site_found, reach_found, request};
+    ghost use Rattle.std.specs.Prelude.{◌≡◌, option_map};
+    ghost use Rattle.script_core.specs.Requests.{task, Asks};
+    ghost use Rattle.script_core.specs.Steps.{past_spaces, first_field, after_field, found, capture_found, site_found, task_found, request};
 
     /// Reads a line, without its line ending.
     pub(crate) fn read(line: &'a [u8]) -> Line<'a>
@@ -59,10 +51,8 @@ impl<'a> Line<'a> {
             Line::of_capture(rest)
         } else if word == "site" {
             Line::of_site(rest)
-        } else if word == "reach" {
-            Line::of_reach(rest)
         } else {
-            Line::Unreadable
+            Line::of_task(word, rest)
         }
     }
 
@@ -87,15 +77,13 @@ impl<'a> Line<'a> {
         Line::Site { name, addresses }
     }
 
-    fn of_reach(rest: &'a str) -> Line<'a>
-        ensures { request result ≡ reach_found (first_field rest.now) (first_field (after_field rest.now)) (past_spaces (after_field (after_field rest.now))) }
+    fn of_task(word: &str, rest: &'a str) -> Line<'a>
+        ensures { request result ≡ option_map task (task_found word.now (fields rest.now)) }
     {
-        let (name, rest) = split_field(rest);
-        let (item, rest) = split_field(rest);
-        if item.is_empty() || !past_spaces(rest).is_empty() {
-            return Line::Unreadable;
+        match Task::of_words(word, words_of(rest)) {
+            Some(task) => Line::Task(task),
+            None => Line::Unreadable,
         }
-        Line::Task(Task::Reach { name, item })
     }
 }
 

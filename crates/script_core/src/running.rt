@@ -1,163 +1,199 @@
-//! What a line does to the world of a script.
+//! The world of a script, and what its lines do to it.
 
-ghost use Rattle.std.specs.Prelude.{◌≡◌, ◌<◌, IfOk, IfErr, MatchOption, length, map};
-ghost use Rattle.epc_core.specs.Reading.{reading};
-ghost use Rattle.event_json.specs.Documents.{text_document};
-ghost use Rattle.event_json.specs.Faults.{Gives};
-ghost use Rattle.trace_core.specs.Adding.{adding};
+ghost use Rattle.std.specs.Prelude.{◌≡◌, ◌+◌, ◌<◌, ◌≤◌, IfSome, is_some, option_map, option_and_then, Some, None, IfOk, IfErr, OnOk, length, slice_get, slice_set};
+ghost use Rattle.frame_core.specs.declared.frames.Frame.{Frame};
+ghost use Rattle.frame_core.specs.Rows.{frame_of};
+ghost use Rattle.world_core.specs.Recalls.{ended_in, quarantined};
+ghost use Rattle.site_core.specs.Emitting.{frame_at as emitted_at};
+ghost use Rattle.site_core.specs.Records.{Record};
+ghost use Rattle.site_core.specs.declared.inputs.SiteInput.{SiteInput};
+ghost use Rattle.world_core.specs.Turns.{frame_at, input_at};
+ghost use Rattle.world_core.specs.Worlds.{Standing, Up, Down, records};
 ghost use Rattle.script_core.specs.Answer.{answer_of};
-ghost use Rattle.script_core.specs.State.{AreInOrder};
-ghost use Rattle.script_core.specs.Script.{added_at, events_at, IsReachText};
+ghost use Rattle.script_core.specs.Happening.{Happens, with_standing, with_frame, with_site};
+ghost use Rattle.script_core.specs.State.{up_at, armed_at};
 
 use crate::answers::Answer;
-use crate::items::item_of;
-use crate::lines::Task;
-use crate::outcomes::{added_or_taken, doc_or_fault};
-use event_json::{Doc, Event, ReadFault, Sequence, SiteNo, Sites, read_document};
+use crate::tasks::Task;
+use crate::worlds::{MemoryWorld, Outcome};
+use event_json::{SiteNo, Sites};
+use frame_core::{FrameView, RecallId};
+use keeper_core::Keep;
+use site_core::SiteState;
 use std::alloc::{AllocError, Global};
 use std::marker::Model;
-use trace_core::{Captured, Pair, reach};
+use trace_core::Pair;
+use world_core::WorldInput;
 
-/// The sites of a script with their captured events.
-#[derive(Debug, Drop)]
+/// The sites of a script, how they stand, the frames sent, and the stop that is armed for each site's
+/// next step.
+#[derive(Drop)]
 pub(crate) struct Running {
-    sites: Sites,
-    captured: Vec<Captured>,
+    pub(crate) sites: Sites,
+    pub(crate) world: MemoryWorld,
+    pub(crate) armed: Vec<Option<Keep>>,
 }
 
 impl Model for Running {
     ghost use Rattle.std.specs.Prelude.{◌≡◌, length};
-    ghost use Rattle.script_core.specs.State.{World, AreInOrder};
+    ghost use Rattle.std.specs.Coded.{codes};
+    ghost use Rattle.site_core.specs.Codes.{coded_record};
+    ghost use Rattle.script_core.specs.State.{World};
 
     ghost Value = { World };
 
-    ghost view = { λ r. record { sites = r.sites; captured = r.captured.items } };
+    ghost coded = { Prim.hlevel (codes, coded_record) };
 
-    ghost invariant = { λ r. AreInOrder r.captured.items × (length r.captured.items ≡ length r.sites) };
+    ghost view = { λ r. record { sites = r.sites; world = r.world; armed = r.armed.items } };
+
+    ghost invariant = { λ r. (length r.world.sites ≡ length r.sites) × (length r.armed.items ≡ length r.sites) };
 }
 
 impl Running {
-    ghost use Rattle.epc_core.specs.Spellings.{IsPlain};
-    ghost use Rattle.event_json.specs.Sites.{named};
-    ghost use Rattle.script_core.specs.State.{begun_world, nothing_captured_from};
+    ghost use Rattle.event_json.specs.Sites.{Site, named};
+    ghost use Rattle.keeper_core.specs.declared.faults.Keep.{Keep as KeepWord};
     ghost use Rattle.script_core.specs.Steps.{task_of};
-    ghost use Rattle.script_core.specs.Script.{Does, capture_at, capture_read, ReachAt, ReachRead};
-    ghost use Rattle.script_core.specs.Memory.{DoingTakesMemory, ReachTakesMemory};
+    ghost use Rattle.script_core.specs.Tasks.{DoesTask};
+    ghost use Rattle.script_core.specs.Memory.{DoingTakesMemory};
 
-    /// The world as it begins.
-    pub(crate) fn new(sites: Sites, captured: Vec<Captured>) -> Running
-        requires { captured.items ≡ nothing_captured_from 0 sites }
-        ensures { result ≡ begun_world sites }
+    /// The world of these sites.
+    pub(crate) fn new(sites: Sites, world: MemoryWorld, armed: Vec<Option<Keep>>) -> Running
+        requires all_stand { length world.sites ≡ length sites }
+        requires one_each { length armed.items ≡ length sites }
+        ensures { result ≡ record { sites = sites; world = world; armed = armed.items } }
     {
-        Running { sites, captured }
+        Running {
+            sites,
+            world,
+            armed,
+        }
     }
 
     /// Does what a line asks. After an `Err` nothing is said of the world.
     pub(crate) fn answer(&mut self, alloc: Global, task: Task<'_>) -> Result<Answer, AllocError>
-        ensures ok { IfOk result (λ a. Does self.old (task_of task.entry) (answer_of a) self.new) }
+        ensures ok { IfOk result (λ a. DoesTask self.old (task_of task.entry) (answer_of a) self.new) }
         ensures err { IfErr result (λ _. DoingTakesMemory self.old (task_of task.entry)) }
     {
         match task {
             Task::Capture { name, document } => self.capture(alloc, name, document),
             Task::Reach { name, item } => self.reach(alloc, name, item),
+            Task::Recall { name, item } => self.recall(alloc, name, item),
+            Task::Send { name, number } => self.send(alloc, name, number),
+            Task::Signal {
+                name,
+                sender,
+                number,
+            } => self.signal(alloc, name, sender, number),
+            Task::Deliver { place } => self.deliver(alloc, place),
+            Task::Stop { name, keep } => self.stop(alloc, name, keep),
+            Task::Reopen { name } => self.reopen(alloc, name),
+            Task::Pump { rounds } => self.pump(alloc, rounds),
+            Task::Quarantine { name, number } => self.quarantine(alloc, name, number),
         }
     }
 
-    /// Captures a document at a site.
-    fn capture(&mut self, alloc: Global, name: &str, document: &str) -> Result<Answer, AllocError>
-        ensures { IfOk result (λ a. (answer_of a, self.new) ≡ capture_at self.old name.now document.now (named self.old.sites name.now)) }
+    /// The site of a name.
+    pub(crate) fn find(&self, name: &str) -> Option<SiteNo>
+        ensures found { result ≡ named self.now.sites name.now }
+        ensures stands { IfSome result (λ site. site < length self.now.world.sites) }
     {
-        match self.sites.find(name) {
-            None => Answer::no_site(alloc, name),
-            Some(site) => self.capture_at(alloc, site, document),
-        }
+        self.sites.find(name)
     }
 
-    fn capture_at(
-        &mut self,
-        alloc: Global,
-        site: SiteNo,
-        document: &str,
-    ) -> Result<Answer, AllocError>
-        requires { site < length self.old.sites }
-        ensures { IfOk result (λ a. (answer_of a, self.new) ≡ capture_read self.old site (text_document self.old.sites document.now)) }
+    /// The sites.
+    pub(crate) fn names(&self) -> &Sites
+        ensures { result.now ≡ self.now.sites }
     {
-        match doc_or_fault(read_text(alloc, document, &self.sites))? {
-            Ok(Doc { events, skipped }) => {
-                add_at(alloc, self.captured.as_mut_slice(), site, events, skipped)
-            }
-            Err(fault) => Answer::bad_document(alloc, fault),
-        }
+        &self.sites
     }
 
-    /// The pairs that an item at a site reaches.
-    fn reach(&self, alloc: Global, name: &str, item: &str) -> Result<Answer, AllocError>
-        ensures ok { IfOk result (λ a. ReachAt self.now name.now item.now (named self.now.sites name.now) (answer_of a)) }
-        ensures err { IfErr result (λ _. ReachTakesMemory item.now (named self.now.sites name.now)) }
+    /// How many sites there are, 2 to 16.
+    pub(crate) fn count(&self) -> u64
+        ensures sites { result ≡ length self.now.sites }
+        ensures standing { result ≡ length self.now.world.sites }
+        ensures few { result ≤ 16 }
     {
-        match self.sites.find(name) {
-            None => Answer::no_site(alloc, name),
-            Some(site) => self.reach_at(alloc, site, item),
-        }
+        self.sites.len()
     }
 
-    fn reach_at(&self, alloc: Global, site: SiteNo, item: &str) -> Result<Answer, AllocError>
-        ensures ok { IfOk result (λ a. ReachRead self.now site (reading item.now) (answer_of a)) }
-        ensures err { IfErr result (λ _. IsPlain item.now) }
+    /// The record of a site, `None` while it is down and where there is no such site.
+    pub(crate) fn state(&self, site: SiteNo) -> Option<&SiteState>
+        ensures { option_map (λ s. s.now) result ≡ up_at self.now site }
     {
-        match item_of(alloc, item)? {
-            Some(item) => {
-                let root = Pair { site, item };
-                tell_reach(alloc, &self.sites, self.captured.as_slice(), &root)
-            }
-            None => Ok(Answer::bad_epc()),
-        }
+        self.world.view(site)
     }
-}
 
-/// The answer that lists all that a pair reaches.
-fn tell_reach(
-    alloc: Global,
-    sites: &Sites,
-    captured: &[Captured],
-    root: &Pair,
-) -> Result<Answer, AllocError>
-    ensures { IfOk result (λ a. IsReachText sites.now captured.now root.now (answer_of a)) }
-{
-    let each = borrowed(alloc, captured)?;
-    let pairs = reach(alloc, each.as_slice(), root)?;
-    Answer::pairs(alloc, sites, pairs.as_slice())
-}
+    /// Whether a site is up.
+    pub(crate) fn is_up(&self, site: SiteNo) -> bool
+        ensures { result ≡ is_some (up_at self.now site) }
+    {
+        self.world.is_up(site)
+    }
 
-/// The captured events of each site, in order.
-fn borrowed(alloc: Global, captured: &[Captured]) -> Result<Vec<&Captured>, AllocError>
-    ensures { IfOk result (λ v. map (λ c. c.now) v.items ≡ captured.now) }
-{
-    captured.iter().collect(alloc)
-}
+    /// The frame that was sent at a place, from 1.
+    pub(crate) fn frame(&self, place: u64) -> Option<FrameView<'_>>
+        ensures { option_map frame_of result ≡ frame_at self.now.world.sent place }
+    {
+        self.world.frame(place)
+    }
 
-/// The events of a document that came as a text, or its first fault.
-fn read_text(alloc: Global, document: &str, sites: &Sites) -> Result<Doc, ReadFault>
-    ensures { Gives result (text_document sites.now document.now) }
-{
-    read_document(alloc, document.as_bytes(), sites)
-}
+    /// How many frames were sent.
+    pub(crate) fn sent(&self) -> u64
+        ensures { result ≡ length self.now.world.sent }
+    {
+        self.world.sent()
+    }
 
-/// Adds events to those of a site, whole or not at all.
-fn add_at(
-    alloc: Global,
-    captured: &mut [Captured],
-    site: SiteNo,
-    events: Sequence<Event>,
-    skipped: u64,
-) -> Result<Answer, AllocError>
-    requires within { site < length captured.old }
-    requires in_order { AreInOrder captured.old }
-    ensures added { IfOk result (λ a. (answer_of a, captured.new) ≡ added_at captured.old site skipped (adding (events_at captured.old site) events)) }
-    ensures in_order { AreInOrder captured.new }
-{
-    match added_or_taken(captured[site.number() as usize].add(events))? {
-        Ok(added) => Answer::captured(alloc, added, skipped),
-        Err(event) => Answer::id_taken(alloc, event),
+    /// What all sites hold under a recall, where all are up.
+    pub(crate) fn quarantined(&self, recall: RecallId) -> Result<Vec<Pair>, AllocError>
+        ensures { IfOk result (λ pairs. pairs.items ≡ quarantined recall (records self.now.world)) }
+    {
+        self.world.quarantined(recall)
+    }
+
+    /// Whether a recall has ended, `None` where its initiator is down or has no such recall.
+    pub(crate) fn ended(&self, recall: RecallId) -> Option<bool>
+        ensures { result ≡ option_and_then (ended_in recall) (up_at self.now recall.site) }
+    {
+        self.world.ended(recall)
+    }
+
+    /// Hands an input to a site that is up: it is a step, or the stop that is armed for it.
+    pub(crate) fn hand(&mut self, site: SiteNo, input: WorldInput) -> Result<Outcome, AllocError>
+        ensures { (old : Record) (given : SiteInput) → up_at self.old site ≡ Some old → input_at self.old.world.sent site input ≡ Some given
+            → IfOk result (λ outcome. (standing : Standing) × Happens old (armed_at self.old site) given outcome standing × (self.new ≡ with_standing self.old site standing)) }
+    {
+        let armed = self.disarm(site);
+        self.world.happen(site, armed, input)
+    }
+
+    /// Sends the frame that the record of a site that is up makes emittable at a place, from 1, and answers its
+    /// place among those sent.
+    pub(crate) fn emit(&mut self, site: SiteNo, place: u64) -> Result<u64, AllocError>
+        ensures { (old : Record) (frame : Frame) → up_at self.old site ≡ Some old → emitted_at old.engagement place ≡ Some frame
+            → IfOk result (λ at. (at ≡ length self.old.world.sent + 1) × (self.new ≡ with_frame self.old frame)) }
+    {
+        self.world.send(site, place)
+    }
+
+    /// Opens a site that is down.
+    pub(crate) fn open(&mut self, site: SiteNo) -> Result<(), AllocError>
+        ensures { (r : Record) → slice_get self.old.world.sites site ≡ Some (Down r) → OnOk result (self.new ≡ record self.old { world = with_site self.old.world site (Up r) }) }
+    {
+        self.world.reopen(site)
+    }
+
+    /// The stop that was armed for a site's next step; it isn't any more.
+    fn disarm(&mut self, site: SiteNo) -> Option<Keep>
+        ensures was { result ≡ armed_at self.old site }
+        ensures now { self.new ≡ record self.old { armed = slice_set self.old.armed site None } }
+    {
+        let place = site.number() as usize;
+        if place >= self.armed.len() {
+            return None;
+        }
+        let armed = self.armed[place];
+        self.armed[place] = None;
+        armed
     }
 }

@@ -1,20 +1,23 @@
 //! A script's state, and the gate that its lines pass.
 
-ghost use Rattle.std.specs.Prelude.{◌≡◌, IfOk, IfErr};
+ghost use Rattle.std.specs.Prelude.{◌≡◌, IfOk, IfErr, OnOk, OnErr};
 ghost use Rattle.script_core.specs.Answer.{answer_of};
 
 use crate::answers::Answer;
-use crate::gathering::Gathering;
-use crate::lines::{Line, Task};
+use crate::beginning::begin_world;
+use crate::gathering::add_site;
+use crate::lines::Line;
 use crate::running::Running;
+use crate::tasks::Task;
+use event_json::Sites;
 use std::alloc::{AllocError, Global};
 use std::mem;
 
 /// What the lines of a script so far left.
-#[derive(Debug, Drop)]
+#[derive(Drop)]
 pub(crate) enum Script {
     /// The sites, while they are gathered.
-    Gathering(Gathering),
+    Gathering(Sites),
     /// The world, from the first line on that asks something of it.
     Running(Running),
 }
@@ -24,14 +27,14 @@ impl Script {
     ghost use Rattle.script_core.specs.State.{empty, begun};
     ghost use Rattle.script_core.specs.Steps.{task_of};
     ghost use Rattle.script_core.specs.Script.{Takes, Passes, site_outcome};
-    ghost use Rattle.script_core.specs.Memory.{TakesMemory, TaskTakesMemory, SiteTakesMemory};
+    ghost use Rattle.script_core.specs.Memory.{TakesMemory, TaskTakesMemory, SiteTakesMemory, BeginningTakesMemory};
     ghost use Rattle.script_core.specs.Kept.{state_of};
 
     /// A script of which no line was taken.
     pub(crate) fn new(alloc: Global) -> Script
         ensures { state_of result ≡ empty }
     {
-        Script::Gathering(Gathering::new(alloc))
+        Script::Gathering(Sites::new(alloc))
     }
 
     /// Takes a line, without its line ending. Only a line that takes memory can end in `Err`; nothing
@@ -54,7 +57,7 @@ impl Script {
         ensures err { IfErr result (λ _. SiteTakesMemory (state_of self.old)) }
     {
         match self {
-            Script::Gathering(sites) => sites.add(alloc, name, addresses),
+            Script::Gathering(sites) => add_site(alloc, sites, name, addresses),
             Script::Running(_) => Ok(Answer::late()),
         }
     }
@@ -62,29 +65,31 @@ impl Script {
     /// The gate of all lines that ask something of the world.
     fn pass(&mut self, alloc: Global, task: Task<'_>) -> Result<Answer, AllocError>
         ensures ok { IfOk result (λ a. Passes (begun (state_of self.old)) (task_of task.entry) (answer_of a) (state_of self.new)) }
-        ensures err { IfErr result (λ _. TaskTakesMemory (begun (state_of self.old)) (task_of task.entry)) }
+        ensures err { IfErr result (λ _. TaskTakesMemory (state_of self.old) (task_of task.entry)) }
     {
-        self.begin(alloc);
+        self.begin(alloc)?;
         match self {
             Script::Gathering(_) => Ok(Answer::no_world()),
             Script::Running(world) => world.answer(alloc, task),
         }
     }
 
-    /// Begins the world, once two sites stand.
+    /// Begins the world, once two sites stand. Only that takes memory.
     #[tactic(auto, unfolding(crate::specs::State::begun))]
-    fn begin(&mut self, alloc: Global)
-        ensures { state_of self.new ≡ begun (state_of self.old) }
+    fn begin(&mut self, alloc: Global) -> Result<(), AllocError>
+        ensures ok { OnOk result (state_of self.new ≡ begun (state_of self.old)) }
+        ensures err { OnErr result (BeginningTakesMemory (state_of self.old)) }
     {
         match mem::replace(self, Script::new(alloc)) {
             Script::Gathering(sites) => {
-                *self = if sites.is_ready() {
-                    Script::Running(sites.into_world())
+                *self = if sites.ready() {
+                    Script::Running(begin_world(alloc, sites)?)
                 } else {
                     Script::Gathering(sites)
                 };
             }
             Script::Running(world) => *self = Script::Running(world),
         }
+        Ok(())
     }
 }

@@ -11,7 +11,7 @@ use std::alloc::{AllocError, Global};
 use std::io::Write;
 
 /// A script that is being read: what its lines so far left, and the beginning of the next line.
-#[derive(Debug, Drop)]
+#[derive(Drop)]
 pub(crate) struct Session {
     pub(crate) script: Script,
     pub(crate) lines: u64,

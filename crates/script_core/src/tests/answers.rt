@@ -4,7 +4,7 @@ use crate::run_script;
 use std::test::Fail;
 
 /// Whether a script has these answers, and so many of them are refusals.
-fn answers(script: &str, expected: &str, refused: u64, rt: &HostRuntime) -> Result<bool, Fail> {
+pub(crate) fn answers(script: &str, expected: &str, refused: u64, rt: &HostRuntime) -> Result<bool, Fail> {
     let alloc = rt.alloc();
     let mut written = Vec::new(alloc);
     let mut reader = script.as_bytes();
@@ -75,7 +75,7 @@ fn every_refusal_of_a_line(rt: HostRuntime) -> Result<(), Fail> {
     let script =
         "reach A x\nsite A a\nreach A x\nsite bad! b\nsite A b\nsite B a\nsite B \u{7f}\nsite B b\nreach C x\ncapture C {}\nreach A \u{1}\nsite C c\nrecall A x\nreach A\nreach A x y\ncapture A\ncapture A  \nsite\n";
     let expected =
-        "refused NoWorld\nrefused NoWorld\nrefused BadSite BadName\nrefused BadSite NameTaken\nrefused BadSite AddressTaken\nrefused BadSite BadAddress\nrefused NoSite C\nrefused NoSite C\nrefused BadEpc\nrefused Late\nrefused BadLine\nrefused BadLine\nrefused BadLine\nrefused BadLine\nrefused BadLine\nrefused BadLine\n";
+        "refused NoWorld\nrefused NoWorld\nrefused BadSite BadName\nrefused BadSite NameTaken\nrefused BadSite AddressTaken\nrefused BadSite BadAddress\nrefused NoSite C\nrefused NoSite C\nrefused BadEpc\nrefused Late\nrefused UnknownItem\nrefused BadLine\nrefused BadLine\nrefused BadLine\nrefused BadLine\nrefused BadLine\n";
     assert!(rt; answers(script, expected, 16, &rt)?);
     Ok(())
 }

@@ -1,13 +1,16 @@
-use Rattle.std.proofs.Common.{◌<◌, List, [], length, sym, ap, subst}
-use Rattle.std.specs.Str.{bytes_eq}
-use Rattle.std.proofs.lemmas.List.Quantifiers.{position-Some}
-use Rattle.event_json.specs.Sites.{Site, named}
-use Rattle.script_core.specs.State.{World}
+use Rattle.std.proofs.Common.{◌≡◌, ℕ, List, [], Some, ap, sym, ◌∙◌, rules}
+use Rattle.std.proofs.lemmas.Result.{IfOk-weaker}
+use Rattle.site_core.specs.declared.inputs.SiteInput.TheVariants.{Capture}
+use Rattle.script_core.specs.Answer.{answer_of}
+use Rattle.script_core.specs.Tasks.{Hands}
+use Rattle.script_core.proofs.TaskLemmas.{at_site}
 use Rattle.script_core.proofs.running.Running.capture.Goals as goal
 
--- a site that was found is one of the list
-pub capture_at-requires : goal.capture_at-requires
-unfolding named
-capture_at-requires c =
-    let within = (position-Some (λ s. bytes_eq s.name c.args.name.now) c.self.inside.sites c.in-Some.site (record { name = []; addresses = [] }) (sym c.in-Some.ensures)).0 in
-    subst (λ (sites : List Site). c.in-Some.site < length sites) (ap (λ (w : World). w.sites) c.self.view_is) within
+pub returns : goal.returns
+returns c =
+    let w = c.args.self.now in
+    let document = c.args.document.now in
+    let bytes : c.from_vec.result ≡ document = search rules in
+    IfOk-weaker c.hand_over.result _ _
+    (λ a hands. at_site w c.args.name.now c.in-Some.site (λ n. Hands w n (Capture document) [] (answer_of a) c.hand_over.new.self) (answer_of a) c.hand_over.new.self (sym c.in-Some.ensures.found) hands)
+    (c.hand_over.ensures (Capture document) (ap (λ (b : List ℕ). Some (Capture b)) bytes))
