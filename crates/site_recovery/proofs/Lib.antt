@@ -25,3 +25,5 @@ pub mod Exact
 pub mod EmptySites
 pub mod Worlds
 pub mod Joined
+pub mod HeldPairs
+pub mod Holding

@@ -13,6 +13,7 @@ mod numbers;
 mod pairs;
 mod places;
 mod reaching;
+mod recalls;
 mod telling;
 #[cfg(test)]
 mod tests;
@@ -20,3 +21,4 @@ mod waiting;
 
 pub use checking::{CheckFault, check_world};
 pub use places::are_all_sites;
+pub use recalls::{captured, own_recall, quarantined};
