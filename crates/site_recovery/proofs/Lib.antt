@@ -29,3 +29,5 @@ pub mod Gathering
 pub mod ToldItems
 pub mod ReachedItems
 pub mod Justified
+pub mod HeldPairs
+pub mod Holding

@@ -4,3 +4,4 @@ pub mod FittingAt
 pub mod Laws
 pub mod Looks
 pub mod Misfits
+pub mod Recalls

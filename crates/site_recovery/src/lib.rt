@@ -14,6 +14,7 @@ mod pairs;
 mod places;
 mod reached_items;
 mod reaching;
+mod recalls;
 mod telling;
 #[cfg(test)]
 mod tests;
@@ -22,3 +23,4 @@ mod waiting;
 
 pub use checking::{CheckFault, Misfit, check_world};
 pub use places::are_all_sites;
+pub use recalls::{captured, own_recall, quarantined};

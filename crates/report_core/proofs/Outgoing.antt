@@ -1,0 +1,96 @@
+-- What all sites' events ship out of the quarantine.
+use Rattle.std.proofs.Common.{arith, ◌≡◌, ◌↔◌, inl, inr, Some, None, ℕ, ◌<◌, ◌≤◌, List, [], length, get_or, map, refl, sym, ap, ◌∙◌, subst, Bor, Contains}
+use mathlib.Core.Bool.{false≢true}
+use Rattle.std.specs.FinMap.{get-empty}
+use Rattle.std.specs.FinMap as finite
+use Rattle.std.specs.List.Sorted.{IsStrictlySortedBy}
+use Rattle.std.specs.Prelude.{IsTrue}
+use Rattle.std.proofs.lemmas.List.{get_or_past, get_or_default}
+use Rattle.std.proofs.lemmas.Map.Views.{btree_set_contains_iff}
+use Rattle.event_json.specs.declared.bodies.Body.{Body}
+use Rattle.event_json.specs.declared.bodies.Body.TheVariants.{Note, Ship, Make}
+use Rattle.frame_core.specs.Identifiers.{recall_cmp}
+use Rattle.frame_core.specs.Numbers.{Recall}
+use Rattle.site_core.specs.ItemSets.{Items}
+use Rattle.site_core.specs.ItemSets as set
+use Rattle.site_core.specs.Quarantines.{Quarantine, held, items_under, or_none}
+use Rattle.site_core.specs.Records.{Record, fresh}
+use Rattle.site_core.proofs.Held.{none_held}
+use Rattle.site_recovery.specs.Checking.{records_at}
+use Rattle.site_recovery.specs.Laws.{AreInPlace}
+use Rattle.site_recovery.specs.Looks.{world_of}
+use Rattle.site_recovery.proofs.Exact.{within_or_past}
+use Rattle.trace_core.proofs.Members.{contains-map, contains_none}
+use Rattle.trace_core.proofs.SetMembers.{contains-from_map}
+use Rattle.report_core.specs.Destinations.{outside_cmp}
+use Rattle.report_core.specs.Gathering.{Found, IsIn, OneTells, Goes, ItemGoes, BodyTells, RecordTells}
+use Rattle.report_core.specs.Outside.{ShipsOut, IsOutside, AreOutside}
+use Rattle.report_core.specs.declared.outside.OutsideShipment.{OutsideShipment}
+use Rattle.report_core.proofs.Adding.{outside_total, outside_exact}
+
+-- what an event tells, part by part
+pub body_told : (site : ℕ) (items : Items) (body : Body) (x : OutsideShipment) → BodyTells site items body x ↔ ((x.site ≡ site) × IsTrue (set.contains items x.item) × ShipsOut x.item x.destination body)
+body_told site items (Note xs) x = (λ h. absurd h, λ h. absurd h.2)
+body_told site items (Make id ins outs) x = (λ h. absurd h, λ h. absurd h.2)
+body_told site items (Ship xs sites outside) x = (
+  λ (item, among, (has, (d, there, goes))).
+      let same : item ≡ x.item = ap (λ y. y.item) goes in
+      (ap (λ y. y.site) (sym goes), subst (λ i. IsTrue (set.contains items i)) same has, (subst (Contains xs) same among, subst (Contains outside) (ap (λ y. y.destination) goes) there)),
+  λ (at, has, (among, there)). (x.item, among, (has, (x.destination, there, (λ i. record { site = sym at i; item = x.item; destination = x.destination })))),
+)
+
+module _ (recall : Recall) (records : List Record) (places : AreInPlace records) where
+  pub told_outside : (x : OutsideShipment) → OneTells records (RecordTells recall) x ↔ IsOutside (world_of records) recall x
+  told_outside x = (
+    λ (r, (k, below, at), (e, among, tells)).
+        let here = (body_told r.engagement.me (items_under r.quarantine recall) e.body x).0 tells in
+        let is : world_of records k ≡ r = get_or_default records k (fresh [] k) r below ∙ at in
+        let number : k ≡ x.site = sym (places k below).engagement ∙ ap (λ z. z.engagement.me) is ∙ sym here.0 in
+        let found : r ≡ world_of records x.site = sym is ∙ ap (world_of records) number in
+        subst (λ (z : Record). IsTrue (held z.quarantine recall x.item) × ((f : _) × Contains z.captured.events f × ShipsOut x.item x.destination f.body)) found (here.1, (e, among, here.2)),
+    λ (has, (e, among, ships)). elim (within_or_past x.site (length records)) [
+      | inl below ↦ (
+        world_of records x.site,
+        (x.site, below, get_or_default records x.site (world_of records x.site) (fresh [] x.site) below),
+        (e, among, (body_told (world_of records x.site).engagement.me (items_under (world_of records x.site).quarantine recall) e.body x).1 (sym (places x.site below).engagement, has, ships)),
+      )
+      | inr past ↦
+          let nothing : world_of records x.site ≡ fresh [] x.site = get_or_past records x.site (fresh [] x.site) past in
+          let none = none_held (fresh [] x.site).quarantine recall x.item (get-empty recall_cmp recall) in
+          absurd (false≢true (sym none ∙ subst (λ (z : Record). IsTrue (held z.quarantine recall x.item)) nothing has))
+    ],
+  )
+
+  pub all_outside : (found : Found) (out : List OutsideShipment) → out ≡ found.keys → IsStrictlySortedBy outside_cmp out → ((x : OutsideShipment) → IsIn found x ↔ OneTells records (RecordTells recall) x) → AreOutside (world_of records) recall out
+  all_outside found out keys up told = record {
+    ascending = up;
+    exact = λ x.
+        let kept = btree_set_contains_iff outside_total outside_exact found x in (
+          λ at. (told_outside x).0 ((told x).0 (kept.1 (subst (λ ks. Contains ks x) keys at))),
+          λ is. subst (λ ks. Contains ks x) (sym keys) (kept.0 ((told x).1 ((told_outside x).1 is))),
+        );
+  }
+
+-- the records that references point to
+pub told_of_records : (recall : Recall) (refs : List (Bor Record)) (x : OutsideShipment) → OneTells refs (λ (s : Bor Record). RecordTells recall s.now) x ↔ OneTells (records_at refs) (RecordTells recall) x
+told_of_records recall refs x = (
+  λ (s, among, tells). (s.now, contains-map (λ (s : Bor Record). s.now) refs s among, tells),
+  λ (r, among, tells).
+      let (s, there, same) = contains-from_map (λ (s : Bor Record). s.now) refs r among in
+      (s, there, subst (λ z. RecordTells recall z x) (sym same) tells),
+)
+
+-- no event tells anything where nothing is held under the recall
+pub none_told : (recall : Recall) (r : Record) (q : Quarantine) → q ≡ r.quarantine → None ≡ finite.get q recall → (x : OutsideShipment) → RecordTells recall r x → ⊥
+none_told recall r q same none x (e, among, tells) =
+    let has = ((body_told r.engagement.me (items_under r.quarantine recall) e.body x).0 tells).1 in
+    let nothing = none_held r.quarantine recall x.item (ap (λ z. finite.get z recall) (sym same) ∙ sym none) in
+    false≢true (sym nothing ∙ has)
+
+-- the set that is held under the recall
+pub held_set : (recall : Recall) (r : Record) (q : Quarantine) (items : Items) → q ≡ r.quarantine → Some items ≡ finite.get q recall → items ≡ items_under r.quarantine recall
+held_set recall r q items same some = ap or_none (some ∙ ap (λ z. finite.get z recall) same)
+
+-- a set without members finds nothing
+pub none_in : (found : Found) → found.keys ≡ [] → (x : OutsideShipment) → IsIn found x → ⊥
+none_in found none x at = contains_none x (subst (λ ks. Contains ks x) none ((btree_set_contains_iff outside_total outside_exact found x).0 at))

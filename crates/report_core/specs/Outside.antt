@@ -1,0 +1,31 @@
+-- What of a recall was shipped to places outside the traced sites (GS1 EPCIS 2.0, section 7.4: an ObjectEvent with
+-- destinations ships its items to each).
+use Rattle.std.specs.Prelude.{◌↔◌, ℕ, List, Contains}
+use Rattle.std.specs.List.Sorted.{IsStrictlySortedBy}
+use Rattle.event_json.specs.Events.{Content}
+use Rattle.event_json.specs.declared.bodies.Body.{Body}
+use Rattle.event_json.specs.declared.bodies.Body.TheVariants.{Note, Ship, Make}
+use Rattle.frame_core.specs.Numbers.{Recall}
+use Rattle.site_core.specs.Records.{Record}
+use Rattle.site_recovery.specs.Looks.{World, world_of, Held}
+use Rattle.report_core.specs.Destinations.{outside_cmp}
+use Rattle.report_core.specs.declared.outside.OutsideShipment.{OutsideShipment}
+
+-- a shipment of the item to the destination, which isn't among the traced sites
+abbrev pub ShipsOut : List ℕ → List ℕ → Body → Type 0
+ShipsOut item destination (Note items) = ⊥
+ShipsOut item destination (Ship items sites outside) = Contains items item × Contains outside destination
+ShipsOut item destination (Make id ins outs) = ⊥
+
+-- one of the events that the site captured ships the item to the destination
+abbrev pub WentOut : World → ℕ → List ℕ → List ℕ → Type 0
+WentOut W s item destination = (e : Content) × Contains (W s).captured.events e × ShipsOut item destination e.body
+
+-- the item is quarantined at the site under the recall, and was shipped from there to the destination
+abbrev pub IsOutside : World → Recall → OutsideShipment → Type 0
+IsOutside W recall x = Held W x.site recall x.item × WentOut W x.site x.item x.destination
+
+-- all of these, by site, item and destination, and each once
+pub record AreOutside (W : World) (recall : Recall) (out : List OutsideShipment) : Type 0 where
+  pub ascending : IsStrictlySortedBy outside_cmp out
+  pub exact : (x : OutsideShipment) → Contains out x ↔ IsOutside W recall x

@@ -1,0 +1,81 @@
+ghost use Rattle.std.specs.Prelude.{◌≡◌, IfOk, IfErr, Some};
+ghost use Rattle.site_recovery.specs.Checking.{records_at, world_at};
+ghost use Rattle.site_recovery.specs.FittingAt.{AreAllSites};
+ghost use Rattle.site_recovery.specs.Looks.{own};
+ghost use Rattle.report_core.specs.Reports.{IsReport, TellsFault};
+
+use crate::faults::ReportFault;
+use crate::outside::{OutsideShipment, shipped_out};
+use crate::roots::root_of;
+use crate::trails::trails;
+use event_json::Sequence;
+use frame_core::RecallId;
+use scholten_core::Own;
+use site_core::SiteState;
+use site_recovery::{captured, own_recall, quarantined};
+use std::alloc::{AllocError, Global};
+use trace_core::Pair;
+
+/// What the records of all sites say of a recall.
+#[derive(Debug, Drop)]
+pub struct RecallReport {
+    /// The recalled item, at the site that began the recall.
+    pub root: Pair,
+    /// Whether that site has recorded the end.
+    pub ended: bool,
+    /// What is quarantined under the recall at all sites, by site, then by item, and each once.
+    pub pairs: Sequence<Pair>,
+    /// For each of these pairs, in their order, a chain of related pairs from the root to it, without repeats and
+    /// with as few pairs as any; None where no chain leads there.
+    pub trails: Sequence<Option<Sequence<Pair>>>,
+    /// What of it was shipped to places outside the traced sites, by site, item and destination, and each once.
+    pub outside: Sequence<OutsideShipment>,
+}
+
+/// Reports a recall from the records of all sites, in the order of their numbers.
+///
+/// # Errors
+/// `UnknownRecall` where no site's record has the recall as one that the site began, and `NoMemory`, which comes
+/// for no such recall.
+pub fn report(
+    alloc: Global,
+    sites: &[&SiteState],
+    recall: RecallId,
+) -> Result<RecallReport, ReportFault>
+    requires all { AreAllSites (records_at sites.now) }
+    ensures ok { IfOk result (IsReport (records_at sites.now) recall) }
+    ensures fault { IfErr result (TellsFault (world_at sites.now) recall) }
+{
+    match own_recall(sites, recall) {
+        Some(entry) => match told(alloc, sites, recall, entry) {
+            Ok(report) => Ok(report),
+            Err(_) => Err(ReportFault::NoMemory),
+        },
+        None => Err(ReportFault::UnknownRecall),
+    }
+}
+
+/// The report of a recall that a site began.
+fn told(
+    alloc: Global,
+    sites: &[&SiteState],
+    recall: RecallId,
+    entry: &Own,
+) -> Result<RecallReport, AllocError>
+    requires all { AreAllSites (records_at sites.now) }
+    requires begun { own (world_at sites.now) recall.site recall.number ≡ Some entry.now }
+    ensures { IfOk result (IsReport (records_at sites.now) recall) }
+{
+    let root = root_of(alloc, recall, entry)?;
+    let pairs = quarantined(alloc, sites, recall)?;
+    let captured = captured(alloc, sites)?;
+    let trails = trails(alloc, captured.as_slice(), &root, pairs.as_slice())?;
+    let outside = shipped_out(alloc, sites, recall)?;
+    Ok(RecallReport {
+        root,
+        ended: entry.ended,
+        pairs: Sequence::from_vec(pairs),
+        trails: Sequence::from_vec(trails),
+        outside: Sequence::from_vec(outside),
+    })
+}
