@@ -1,5 +1,6 @@
 pub mod Answers
 pub mod Changes
+pub mod Codes
 pub mod Fitting
 pub mod Frames
 pub mod Laws

@@ -1,26 +1,49 @@
--- What clauses say of a wire and its seats.
-use Rattle.std.specs.Prelude.{◌≡◌, ℕ, ◌<◌, List, map, length, Contains}
+-- What contracts see of a wire and of its seats, and what they say of them.
+use Rattle.std.specs.Prelude.{◌≡◌, ℕ, ◌+◌, ◌*◌, ◌<◌, ◌≤◌, List, [], map, All, Contains, refl}
+use Rattle.std.specs.Coded.{Coded, code_by, coded×, coded_ℕ, coded_list}
 use Rattle.std.specs.List.{range_with_len}
+use Rattle.atomic_table.specs.Seated.{TableId, table_id_coded}
 use Rattle.frame_core.specs.declared.frames.Frame.{Frame}
 use Rattle.world_core.specs.Turns.{addressee}
 use Rattle.wire_core.specs.declared.views.Log.{Log}
-use Rattle.wire_core.specs.declared.wires.Wire.{Wire}
-use Rattle.wire_core.specs.declared.wires.Seat.{Seat}
 use Rattle.wire_core.specs.Answers.{Holds}
+use Rattle.wire_core.specs.Changes.{AtRest, Hands}
+use Rattle.wire_core.specs.Codes.{coded_log}
 use Rattle.wire_core.specs.Fitting.{SitesFit}
 use Rattle.wire_core.specs.Rule.{Stands, records, frames}
 
+-- a wire: which one it is, and how many sites it joins
+pub record Line : Type 0 where
+  pub table : TableId
+  pub sites : ℕ
+
+-- a seat: the wire that it is of, and what is known of the sites that it holds
+pub record Held : Type 0 where
+  pub table : TableId
+  pub logs : List Log
+
+abbrev pub coded_line : Coded Line
+coded_line = code_by (TableId × ℕ) (coded× table_id_coded coded_ℕ) (λ w. (w.table, w.sites)) (λ p. record { table = p.0; sites = p.1 }) (λ _. refl)
+
+abbrev pub coded_held : Coded Held
+coded_held = code_by (TableId × List Log) (coded× table_id_coded (coded_list coded_log)) (λ s. (s.table, s.logs)) (λ p. record { table = p.0; logs = p.1 }) (λ _. refl)
+
+-- there is a word and a slot for each mailbox, of 2 to 16 sites
+pub record IsLaidOut (table : TableId) (sites : ℕ) : Type 0 where
+  pub words : table.words ≡ 16 + 16 * sites
+  pub slots : table.slots ≡ 16 * sites
+  pub least : 2 ≤ sites
+  pub most : sites ≤ 16
+
+-- between two calls no site is at work on a mailbox, no slot is out, and each site has its row of mailboxes
+pub record IsIdle (table : TableId) (me : Hands) : Type 0 where
+  pub rests : AtRest me.0.sites
+  pub hands : me.1 ≡ []
+  pub placed : All (λ e. 16 * e.site + 16 ≤ table.slots) me.0.sites
+
 -- the seat was made with the wire, or comes from one that was
-abbrev pub IsSeatOf : Wire → Seat → Type 0
-IsSeatOf w s = s.token.table_id ≡ w.table.shared.table_id
-
--- how many sites the wire joins
-abbrev pub sites : Wire → ℕ
-sites w = length w.table.shared.key.items
-
--- what the seat knows of the sites that it holds
-abbrev pub logs : Seat → List Log
-logs s = s.token.me.0.sites
+abbrev pub IsSeatOf : Line → Held → Type 0
+IsSeatOf w s = s.table ≡ w.table
 
 -- all of so many sites are among these
 abbrev pub HoldsAll : ℕ → List Log → Type 0

@@ -10,7 +10,7 @@ ghost use Rattle.wire_core.specs.Changes.{on, posts, notes, marks, below, from, 
 ghost use Rattle.wire_core.specs.Fitting.{SitesFit};
 ghost use Rattle.wire_core.specs.Frames.{sender};
 ghost use Rattle.wire_core.specs.Rule.{logs_from};
-ghost use Rattle.wire_core.specs.Seats.{IsSeatOf, sites, logs, HoldsAll, AreAllOf, Gathered};
+ghost use Rattle.wire_core.specs.Seats.{IsSeatOf, HoldsAll, AreAllOf, Gathered};
 
 use crate::calls::{Post, mark_on, post_on, split_on, take_on};
 use crate::rules::Opening;
@@ -33,7 +33,7 @@ impl Wire {
     pub fn new(alloc: Global, records: &[&SiteState]) -> Result<(Wire, Seat), AllocError>
         requires fit { SitesFit (records_at records.now) [] }
         requires count { (2 ≤ length records.now) × (length records.now ≤ 16) }
-        ensures { IfOk result (λ r. IsSeatOf r.0 r.1 × (sites r.0 ≡ length records.now) × (logs r.1 ≡ logs_from 0 (records_at records.now))) }
+        ensures { IfOk result (λ r. IsSeatOf r.0 r.1 × (r.0.sites ≡ length records.now) × (r.1.logs ≡ logs_from 0 (records_at records.now))) }
     {
         let opening = snapshots(alloc, records)?;
         let slots = MOST_SITES * records.len();
@@ -46,11 +46,11 @@ impl Wire {
     /// frame, where the last one sent that way still lies in the mailbox or is just being taken: then nothing changed.
     pub fn post(&self, seat: &mut Seat, frame: Frame) -> Post
         requires seat { IsSeatOf self.now seat.old }
-        requires may { MayPost (sites self.now) frame (logs seat.old) }
+        requires may { MayPost self.now.sites frame seat.old.logs }
         ensures seat { IsSeatOf self.now seat.new }
         ensures answer { MatchPost result
-            ((logs seat.new ≡ on (sender frame) (posts frame) (logs seat.old)) × Level (sender frame) (addressee frame) (logs seat.old))
-            (λ f. (f ≡ frame) × (logs seat.new ≡ logs seat.old) × Sent (sender frame) (addressee frame) (logs seat.old) × OneMore (sender frame) (addressee frame) (logs seat.old)) }
+            ((seat.new.logs ≡ on (sender frame) (posts frame) seat.old.logs) × Level (sender frame) (addressee frame) seat.old.logs)
+            (λ f. (f ≡ frame) × (seat.new.logs ≡ seat.old.logs) × Sent (sender frame) (addressee frame) seat.old.logs × OneMore (sender frame) (addressee frame) seat.old.logs) }
     {
         post_on(&self.table.shared, &mut seat.token, frame)
     }
@@ -59,11 +59,11 @@ impl Wire {
     /// changed.
     pub fn take(&self, seat: &mut Seat, me: SiteNo, other: SiteNo) -> Option<Frame>
         requires seat { IsSeatOf self.now seat.old }
-        requires may { MayTake (sites self.now) me other (logs seat.old) }
+        requires may { MayTake self.now.sites me other seat.old.logs }
         ensures seat { IsSeatOf self.now seat.new }
         ensures answer { MatchOption result
-            ((logs seat.new ≡ logs seat.old) × Level other me (logs seat.old))
-            (λ f. (logs seat.new ≡ on me (notes f) (logs seat.old)) × (sender f ≡ other) × (addressee f ≡ me) × AllBut other me f (logs seat.old)) }
+            ((seat.new.logs ≡ seat.old.logs) × Level other me seat.old.logs)
+            (λ f. (seat.new.logs ≡ on me (notes f) seat.old.logs) × (sender f ≡ other) × (addressee f ≡ me) × AllBut other me f seat.old.logs) }
     {
         take_on(&self.table.shared, &mut seat.token, me, other)
     }
@@ -72,9 +72,9 @@ impl Wire {
     /// times.
     pub fn mark(&self, seat: &mut Seat, input: &SiteInput, new: &SiteState)
         requires seat { IsSeatOf self.now seat.old }
-        requires may { MayMark input.now new.now (logs seat.old) }
+        requires may { MayMark input.now new.now seat.old.logs }
         ensures seat { IsSeatOf self.now seat.new }
-        ensures marked { logs seat.new ≡ on new.now.engagement.me (marks input.now new.now) (logs seat.old) }
+        ensures marked { seat.new.logs ≡ on new.now.engagement.me (marks input.now new.now) seat.old.logs }
     {
         mark_on(&self.table.shared, &mut seat.token, input, new);
     }
@@ -83,7 +83,7 @@ impl Wire {
     pub fn split(&self, seat: Seat, at: SiteNo) -> (Seat, Seat)
         requires { IsSeatOf self.now seat }
         ensures seats { IsSeatOf self.now result.0 × IsSeatOf self.now result.1 }
-        ensures parts { (logs result.0 ≡ below at (logs seat)) × (logs result.1 ≡ from at (logs seat)) }
+        ensures parts { (result.0.logs ≡ below at seat.logs) × (result.1.logs ≡ from at seat.logs) }
     {
         let Seat { mut token } = seat;
         let other = split_on(&self.table.shared, &mut token, at);
@@ -94,7 +94,7 @@ impl Wire {
     pub fn join(&self, seat: Seat, other: Seat) -> Seat
         requires { IsSeatOf self.now seat × IsSeatOf self.now other }
         ensures seat { IsSeatOf self.now result }
-        ensures sites { logs result ≡ logs seat ++ logs other }
+        ensures sites { result.logs ≡ seat.logs ++ other.logs }
     {
         let Seat { mut token } = seat;
         let Seat { token: other } = other;
@@ -104,8 +104,8 @@ impl Wire {
 
     /// Ends the wire, by a seat that holds all sites. What still lies in a mailbox is lost.
     pub fn close(self, seat: Seat)
-        requires { IsSeatOf self seat × HoldsAll (sites self) (logs seat) }
-        ensures { (all : List Log) × AreAllOf (sites self) (logs seat) all × Gathered all }
+        requires { IsSeatOf self seat × HoldsAll self.sites seat.logs }
+        ensures { (all : List Log) × AreAllOf self.sites seat.logs all × Gathered all }
     {
         let Wire { table } = self;
         let Seat { token } = seat;

@@ -1,12 +1,13 @@
-ghost use Rattle.std.specs.Prelude.{◌≡◌, ◌+◌, ◌*◌, ◌≤◌, [], length, All};
-ghost use Rattle.wire_core.specs.Changes.{AtRest};
+//! The wire between sites, and the seats that use it.
 
 use crate::rules::{Joined, Opening, Token};
 use crate::views::View;
 use atomic_table::Table;
 use frame_core::Frame;
 use std::alloc::Global;
+use std::marker::Model;
 
+/// The words and slots of all mailboxes.
 pub type Mailboxes = Table<Option<Frame>, View, Opening, Joined, Global>;
 
 /// A mailbox of one frame for each ordered pair of sites, and a count of marked steps for each site.
@@ -16,15 +17,35 @@ pub type Mailboxes = Table<Option<Frame>, View, Opening, Joined, Global>;
 #[derive(Drop)]
 pub struct Wire {
     pub(crate) table: Mailboxes,
-    ghost layout: { (table.shared.table_id.words ≡ 16 + 16 * length table.shared.key.items) × (table.shared.table_id.slots ≡ 16 * length table.shared.key.items) },
-    ghost few: { (2 ≤ length table.shared.key.items) × (length table.shared.key.items ≤ 16) },
+}
+
+impl Model for Wire {
+    ghost use Rattle.std.specs.Prelude.{length};
+    ghost use Rattle.wire_core.specs.Seats.{Line, IsLaidOut, coded_line};
+
+    ghost Value = { Line };
+
+    ghost coded = { coded_line };
+
+    ghost view = { λ w. record { table = w.table.shared.table_id; sites = length w.table.shared.key.items } };
+
+    ghost invariant = { λ w. IsLaidOut w.table.shared.table_id (length w.table.shared.key.items) };
 }
 
 /// What a thread holds of a wire: some of its sites. Each site stands in one seat.
 #[derive(Drop)]
 pub struct Seat {
     pub(crate) token: Token,
-    ghost rests: { AtRest token.me.0.sites },
-    ghost hands: { token.me.1 ≡ [] },
-    ghost placed: { All (λ e. 16 * e.site + 16 ≤ token.table_id.slots) token.me.0.sites },
+}
+
+impl Model for Seat {
+    ghost use Rattle.wire_core.specs.Seats.{Held, IsIdle, coded_held};
+
+    ghost Value = { Held };
+
+    ghost coded = { coded_held };
+
+    ghost view = { λ s. record { table = s.token.table_id; logs = s.token.me.0.sites } };
+
+    ghost invariant = { λ s. IsIdle s.token.table_id s.token.me };
 }
