@@ -30,7 +30,7 @@ length_range a zero = refl
 length_range a (suc n) = ap suc (length_range (a + 1) n)
 
 -- a list whose places have the numbers from a on
-numbered : (a n : ℕ) (l : List Log) → length l ≡ n → ((k : ℕ) (e : Log) → get_elem? l k ≡ some e → e.site ≡ a + k) → map (λ (e : Log). e.site) l ≡ range_with_len a n
+pub numbered : (a n : ℕ) (l : List Log) → length l ≡ n → ((k : ℕ) (e : Log) → get_elem? l k ≡ some e → e.site ≡ a + k) → map (λ (e : Log). e.site) l ≡ range_with_len a n
 numbered a n l len own =
     same_all (map (λ (e : Log). e.site) l) (range_with_len a n) (length-map l (λ (e : Log). e.site) ∙ len ∙ sym (length_range a n)) at
   where

@@ -9,4 +9,4 @@ pub mod Begins
 pub mod AtSeat
 pub mod Changes
 pub mod Closing
-pub mod Counts
+pub mod Between

@@ -1,6 +1,6 @@
 //! Laws that the rule rests on. Each is a function with an empty body whose contract is the law.
 
-ghost use Rattle.wire_core.specs.Laws.{MarksKeepTheFit, PostsKeepTheFit, FewerFramesFit};
+ghost use Rattle.wire_core.specs.Laws.{MarksKeepTheFit, PostsKeepTheFit, FewerFramesFit, RuleHoldsBetween};
 
 /// A step of one site, by whatever input, leaves all fitting together, where a frame that it delivers was sent.
 pub fn a_mark_keeps_the_fit()
@@ -11,4 +11,11 @@ pub fn a_mark_keeps_the_fit()
 pub fn a_post_keeps_the_fit()
     ensures posted { PostsKeepTheFit }
     ensures fewer { FewerFramesFit }
+{}
+
+/// Between any two steps of any seats: each site stands in one seat; a mailbox is full just where one frame more was sent
+/// that way than noted, and the frame in it is the last one sent; each noted frame was sent to that site; and the seats
+/// together show a world in which the records last marked fit together with all frames sent.
+pub fn the_rule_holds_between_steps()
+    ensures { RuleHoldsBetween }
 {}
