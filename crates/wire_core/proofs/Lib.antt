@@ -10,3 +10,4 @@ pub mod AtSeat
 pub mod Changes
 pub mod Closing
 pub mod Between
+pub mod Standing

@@ -8,3 +8,4 @@ pub mod Laws
 pub mod Mailboxes
 pub mod Rule
 pub mod Seats
+pub mod Standing

@@ -1,5 +1,6 @@
 //! Laws that the rule rests on. Each is a function with an empty body whose contract is the law.
 
+ghost use Rattle.wire_core.specs.Standing.{SentFramesMarkNothing, NotedFramesMarkNothing, MarksPutTheRecord, MarksLeaveOtherSites};
 ghost use Rattle.wire_core.specs.Laws.{MarksKeepTheFit, PostsKeepTheFit, FewerFramesFit, RuleHoldsBetween};
 
 /// A step of one site, by whatever input, leaves all fitting together, where a frame that it delivers was sent.
@@ -18,4 +19,12 @@ pub fn a_post_keeps_the_fit()
 /// together show a world in which the records last marked fit together with all frames sent.
 pub fn the_rule_holds_between_steps()
     ensures { RuleHoldsBetween }
+{}
+
+/// A record stands until its site is marked, whatever is sent and noted, and whichever other site is marked.
+pub fn a_record_stands_until_its_site_is_marked()
+    ensures sent { SentFramesMarkNothing }
+    ensures noted { NotedFramesMarkNothing }
+    ensures put { MarksPutTheRecord }
+    ensures left { MarksLeaveOtherSites }
 {}
