@@ -11,3 +11,4 @@ pub mod Changes
 pub mod Closing
 pub mod Between
 pub mod Standing
+pub mod Playing

@@ -7,6 +7,8 @@ pub mod laws;
 mod mailing;
 mod rules;
 mod steps;
+#[cfg(test)]
+mod tests;
 mod views;
 mod ways;
 mod wires;
