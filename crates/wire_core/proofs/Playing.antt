@@ -1,7 +1,7 @@
 -- What the tests rest on, of a site at a wire of two sites.
 use Rattle.std.proofs.Common.{◌≡◌, ◌≢◌, ℕ, zero, suc, ◌+◌, ◌<◌, ◌^◌, List, [], ◌∷◌, ◌++◌, map, length, get_or, Contains, MatchOption, Option, Some, None, sym, refl, ap, ◌∙◌, subst, arith}
 use Rattle.std.proofs.lemmas.List.Elements.{Contains-push}
-use Rattle.std.proofs.lemmas.List.{length-map}
+use Rattle.std.proofs.lemmas.List.{length-map, map-append}
 use Rattle.atomic_table.proofs.Lists.{at_map}
 use Rattle.std.proofs.lemmas.Option.{slice_get_within, get_or_from_slice_get}
 use Rattle.std.specs.Prelude.{slice_get}
@@ -15,7 +15,7 @@ use Rattle.keeper_core.specs.Keeping.{IsAfter}
 use Rattle.world_core.specs.Turns.{addressee}
 use Rattle.wire_core.specs.declared.views.Log.{Log}
 use Rattle.wire_core.specs.Answers.{MayPost, MayTake, MayMark}
-use Rattle.wire_core.specs.Changes.{on, posts, notes, marks}
+use Rattle.wire_core.specs.Changes.{on, posts, notes, marks, below, from}
 use Rattle.wire_core.specs.Frames.{sender, DeliversOneOf}
 use Rattle.wire_core.specs.Playing.{MayPlay, PlaysAt, SameSites, MayBePosted, MayGoOn, IsNext, GoesOn, Leaves}
 use Rattle.wire_core.specs.Answers.{Holds}
@@ -123,6 +123,27 @@ first_plays w s a b seat two is me = record { seat = seat; two = two; stands = s
 
 pub second_plays : (w : Line) (s : Held) (a b : Record) → IsSeatOf w s → w.sites ≡ 2 → s.logs ≡ logs_from 0 (a ∷ b ∷ []) → b.engagement.me ≡ 1 → PlaysAt 0 w s b
 second_plays w s a b seat two is me = record { seat = seat; two = two; stands = subst (λ l. StandsAs l b 0) (sym is) record { log = _; held = (1, omega arith, refl); site = sym me; last = refl; marked = omega arith } }
+
+-- once the seat is split between them
+pub first_alone : (w : Line) (t : Held) (a b : Record) (l : List Log) (cut : ℕ) → IsSeatOf w t → w.sites ≡ 2 → l ≡ logs_from 0 (a ∷ b ∷ []) → cut ≡ 1 → t.logs ≡ below cut l → a.engagement.me ≡ 0 → PlaysAt 0 w t a
+first_alone w t a b l cut seat two all one is me = record {
+  seat = seat;
+  two = two;
+  stands = subst (λ x. StandsAs x a 0) (sym (is ∙ (λ k. below (one k) (all k)))) record { log = _; held = (0, omega arith, refl); site = sym me; last = refl; marked = omega arith };
+}
+
+pub second_alone : (w : Line) (t : Held) (a b : Record) (l : List Log) (cut : ℕ) → IsSeatOf w t → w.sites ≡ 2 → l ≡ logs_from 0 (a ∷ b ∷ []) → cut ≡ 1 → t.logs ≡ from cut l → b.engagement.me ≡ 1 → PlaysAt 0 w t b
+second_alone w t a b l cut seat two all one is me = record {
+  seat = seat;
+  two = two;
+  stands = subst (λ x. StandsAs x b 0) (sym (is ∙ (λ k. from (one k) (all k)))) record { log = _; held = (0, omega arith, refl); site = sym me; last = refl; marked = omega arith };
+}
+
+-- and joined again
+pub both_again : (a b : Record) (l mine theirs mine' theirs' all : List Log) (cut : ℕ) → l ≡ logs_from 0 (a ∷ b ∷ []) → cut ≡ 1 → mine ≡ below cut l → theirs ≡ from cut l → SameSites mine mine' → SameSites theirs theirs' → all ≡ mine' ++ theirs' → map (λ (e : Log). e.site) all ≡ 0 ∷ 1 ∷ []
+both_again a b l mine theirs mine' theirs' all cut start one is_mine is_theirs same_mine same_theirs joined =
+    ap (map (λ (e : Log). e.site)) joined ∙ map-append (λ (e : Log). e.site) mine' theirs'
+    ∙ (λ k. (same_mine ∙ ap (map (λ (e : Log). e.site)) (is_mine ∙ (λ j. below (one j) (start j)))) k ++ (same_theirs ∙ ap (map (λ (e : Log). e.site)) (is_theirs ∙ (λ j. from (one j) (start j)))) k)
 
 pub differ : (a b : Record) → a.engagement.me ≡ 0 → b.engagement.me ≡ 1 → a.engagement.me ≢ b.engagement.me
 differ a b one two same = omega arith

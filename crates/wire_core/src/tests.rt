@@ -1,6 +1,7 @@
 //! The worked recall of two sites over a wire, with one seat, and with a seat in each of two threads.
 mod fixtures;
 mod playing;
+mod threads;
 
 ghost use Rattle.std.specs.Prelude.{◌≡◌};
 
@@ -11,9 +12,6 @@ use frame_core::RecallId;
 use site_core::{Effects, SiteState};
 use std::alloc::Global;
 use std::test::Fail;
-
-/// How often a thread asks for a mailbox before it gives up.
-const ASKED: u32 = 10_000_000;
 
 /// What the second site does with the message.
 const TAKEN: Effects = Effects::Received {
