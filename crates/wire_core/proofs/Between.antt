@@ -1,10 +1,8 @@
 -- What the rule comes to.
-use Rattle.std.proofs.Common.{◌≡◌, ◌≢◌, ◌↔◌, ℕ, ◌+◌, ◌<◌, ◌≤◌, List, [], ◌∷◌, ◌++◌, map, length, Contains, Some, Option as Maybe, sym, refl, ap, ◌∙◌, subst, arith}
+use Rattle.std.proofs.Common.{◌≡◌, ◌≢◌, ◌↔◌, ℕ, ◌+◌, ◌<◌, List, [], ◌∷◌, ◌++◌, map, length, Contains, Some, Option as Maybe, sym, refl, ap, ◌∙◌, subst, arith}
 use Rattle.std.proofs.lemmas.List.{length_push}
 use mathlib.Core.Option.{Option, some, some-injective}
-use mathlib.Core.Logic.{dite}
 use lib.ListN.{get_elem?}
-use Rattle.atomic_table.specs.Table.{State}
 use Rattle.frame_core.specs.declared.frames.Frame.{Frame}
 use Rattle.site_core.specs.Records.{Record}
 use Rattle.site_recovery.specs.Fit.{Fits}
@@ -13,12 +11,10 @@ use Rattle.site_recovery.specs.Looks.{world_of}
 use Rattle.world_core.specs.Turns.{addressee}
 use Rattle.world_core.specs.Worlds.{WorldFits, Up, record_of}
 use Rattle.wire_core.specs.declared.views.Log.{Log}
-use Rattle.wire_core.specs.declared.views.View.{View}
 use Rattle.wire_core.specs.Between.{IsKnown, StandsInOneSeat, ShowsTheWay, WasSentBy, HoldsBetween, world_shown}
 use Rattle.wire_core.specs.Fitting.{SitesFit}
-use Rattle.wire_core.specs.Frames.{way}
 use Rattle.wire_core.specs.Laws.{RuleHoldsBetween}
-use Rattle.wire_core.specs.Mailboxes.{Phase, empty, writing, full, reading, number, home, Between, Box, word_of, slot_of}
+use Rattle.wire_core.specs.Mailboxes.{Phase, empty, writing, full, reading, number, home, Between}
 use Rattle.wire_core.specs.Rule.{Ruled, records, frames}
 use Rattle.wire_core.proofs.Boxes.{Table}
 use Rattle.wire_core.proofs.Closing.{numbered}

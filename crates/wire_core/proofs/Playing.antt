@@ -1,24 +1,20 @@
 -- What the tests rest on, of a site at a wire of two sites.
-use Rattle.std.proofs.Common.{◌≡◌, ◌≢◌, ℕ, zero, suc, ◌+◌, ◌<◌, ◌^◌, List, [], ◌∷◌, ◌++◌, map, length, get_or, Contains, MatchOption, Option, Some, None, sym, refl, ap, ◌∙◌, subst, arith}
+use Rattle.std.proofs.Common.{◌≡◌, ◌≢◌, ℕ, zero, suc, ◌+◌, ◌<◌, ◌^◌, List, [], ◌∷◌, ◌++◌, map, length, get_or, Contains, Some, None, sym, refl, ap, ◌∙◌, subst, arith}
 use Rattle.std.proofs.lemmas.List.Elements.{Contains-push}
 use Rattle.std.proofs.lemmas.List.{length-map, map-append}
 use Rattle.atomic_table.proofs.Lists.{at_map}
 use Rattle.std.proofs.lemmas.Option.{slice_get_within, get_or_from_slice_get}
-use Rattle.std.specs.Prelude.{slice_get}
 use Rattle.frame_core.specs.declared.frames.Frame.{Frame}
 use Rattle.site_core.specs.Emitting.{emittable, frame_at}
 use Rattle.site_core.specs.Records.{Record}
 use Rattle.site_core.specs.declared.inputs.SiteInput.{SiteInput}
 use Rattle.site_core.specs.declared.inputs.SiteInput.TheVariants.{Deliver}
-use Rattle.site_core.specs.declared.outcomes.Effects.{Effects}
 use Rattle.keeper_core.specs.Keeping.{IsAfter}
 use Rattle.world_core.specs.Turns.{addressee}
 use Rattle.wire_core.specs.declared.views.Log.{Log}
 use Rattle.wire_core.specs.Answers.{MayPost, MayTake, MayMark}
 use Rattle.wire_core.specs.Changes.{on, posts, notes, marks, below, from}
-use Rattle.wire_core.specs.Frames.{sender, DeliversOneOf}
 use Rattle.wire_core.specs.Playing.{MayPlay, PlaysAt, SameSites, MayBePosted, MayGoOn, IsNext, GoesOn, Leaves}
-use Rattle.wire_core.specs.Answers.{Holds}
 use Rattle.wire_core.specs.Rule.{logs_from}
 use Rattle.wire_core.specs.Seats.{Line, Held, IsSeatOf, HoldsAll}
 use Rattle.wire_core.specs.Standing.{StandsAs}

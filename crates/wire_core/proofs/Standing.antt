@@ -1,22 +1,56 @@
 -- What the calls leave of the records last marked.
-use Rattle.std.proofs.Common.{◌≡◌, ◌≢◌, ℕ, zero, suc, ◌+◌, ◌<◌, ◌≤◌, Bool, true, false, cond, nat_eq, List, [], ◌∷◌, ◌++◌, map, length, get_or, slice_get, Contains, MatchOption, Option as Maybe, Some, None, sym, refl, ap, ◌∙◌, subst, arith}
+use Rattle.std.proofs.Common.{◌≡◌, ℕ, zero, suc, ◌+◌, ◌<◌, ◌≤◌, Bool, true, false, cond, nat_eq, nat_lt, not, List, [], ◌∷◌, length, slice_get, Contains, Some, None, sym, refl, ap, ◌∙◌, subst, arith}
 use Rattle.std.proofs.lemmas.List.{length_push}
-use Rattle.std.proofs.lemmas.Option.{slice_get_within, get_or_from_slice_get}
-use Rattle.frame_core.specs.declared.frames.Frame.{Frame}
-use Rattle.site_core.specs.Emitting.{emittable, frame_at}
+use Rattle.std.proofs.lemmas.List.Elements.{Contains-append_left, Contains-append_right}
+use Rattle.std.proofs.lemmas.Option.{same_Some}
 use Rattle.site_core.specs.Records.{Record}
-use Rattle.site_core.specs.declared.inputs.SiteInput.{SiteInput}
-use Rattle.world_core.specs.Turns.{addressee}
-use Rattle.wire_core.specs.declared.calls.Post.{Post}
-use Rattle.wire_core.specs.declared.calls.Post.TheVariants.{Posted, Full}
 use Rattle.wire_core.specs.declared.views.Log.{Log}
-use Rattle.wire_core.specs.Answers.{MatchPost}
-use Rattle.wire_core.specs.Changes.{pick, on, posts, notes, marks, Level, AllBut, OneMore, Sent}
-use Rattle.wire_core.specs.Frames.{sender}
-use Rattle.wire_core.specs.Standing.{StandsAs, SentFramesMarkNothing, NotedFramesMarkNothing, MarksPutTheRecord, MarksLeaveOtherSites}
+use Rattle.wire_core.specs.Changes.{pick, on, posts, notes, marks}
+use Rattle.wire_core.specs.Rule.{opening_log, logs_from}
+use Rattle.wire_core.specs.Standing.{StandsAs, OpeningRecordsStand, SplitsMarkNothing, JoinsMarkNothing, SentFramesMarkNothing, NotedFramesMarkNothing, MarksPutTheRecord, MarksLeaveOtherSites}
 use Rattle.wire_core.proofs.Changes.{changed_there}
 use Rattle.wire_core.proofs.Lists.{Contains_map}
+use Rattle.wire_core.proofs.Parts.{kept}
 use Rattle.wire_core.proofs.Seating.{pick_else}
+
+opened : (rs : List Record) (site i : ℕ) (r : Record) → slice_get rs i ≡ Some r → Contains (logs_from site rs) (opening_log (site + i) r)
+opened [] site i r e = let n : None ≡ Some r = e in cc
+opened (x ∷ xs) site zero r e =
+    let one : Contains (logs_from site (x ∷ xs)) (opening_log site x) = (0, omega arith, refl) in
+    let here : site ≡ site + 0 = omega arith in
+    subst (λ (t : ℕ × Record). Contains (logs_from site (x ∷ xs)) (opening_log t.0 t.1)) (λ k. (here k, same_Some x r e k)) one
+opened (x ∷ xs) site (suc i) r e =
+    let c = opened xs (site + 1) i r e in
+    let more : Contains (logs_from site (x ∷ xs)) (opening_log (site + 1 + i) r) = (suc c.0, omega (arith, c.1), c.2) in
+    let there : site + 1 + i ≡ site + suc i = omega arith in
+    subst (λ k. Contains (logs_from site (x ∷ xs)) (opening_log k r)) there more
+
+pub opening_records_stand : OpeningRecordsStand
+opening_records_stand records site r at me = record {
+  log = opening_log (0 + site) r;
+  held = opened records 0 site r at;
+  site = (let z : 0 + site ≡ site = omega arith in z) ∙ sym me;
+  last = refl;
+  marked = omega arith;
+}
+
+low : (a b : ℕ) → a < b → nat_lt a b ≡ true
+low a b h = grind arith
+
+high : (a b : ℕ) → b ≤ a → not (nat_lt a b) ≡ true
+high a b h = grind arith
+
+pub splits_mark_nothing : SplitsMarkNothing
+splits_mark_nothing logs at r count s = (
+  (λ small. record { log = s.log; held = kept (λ (x : Log). nat_lt x.site at) logs s.log s.held (low s.log.site at (subst (λ k. k < at) (sym s.site) small)); site = s.site; last = s.last; marked = s.marked }),
+  (λ large. record { log = s.log; held = kept (λ (x : Log). not (nat_lt x.site at)) logs s.log s.held (high s.log.site at (subst (λ k. at ≤ k) (sym s.site) large)); site = s.site; last = s.last; marked = s.marked }),
+)
+
+pub joins_mark_nothing : JoinsMarkNothing
+joins_mark_nothing one other r count = (
+  (λ s. record { log = s.log; held = Contains-append_left one other s.log s.held; site = s.site; last = s.last; marked = s.marked }),
+  (λ s. record { log = s.log; held = Contains-append_right one other s.log s.held; site = s.site; last = s.last; marked = s.marked }),
+)
 
 -- a change that keeps a site, its record and its inputs
 stands_on : (i : ℕ) (g : Log → Log) → ((e : Log) → (g e).site ≡ e.site) → ((e : Log) → (g e).last ≡ e.last) → ((e : Log) → (g e).inputs ≡ e.inputs) → (logs : List Log) (r : Record) (count : ℕ) → StandsAs logs r count → StandsAs (on i g logs) r count

@@ -6,14 +6,13 @@ use mathlib.Core.Option.{Option, some}
 use lib.ListN.{get_elem?}
 use Rattle.atomic_table.specs.Table.{State}
 use Rattle.frame_core.specs.declared.frames.Frame.{Frame}
-use Rattle.site_core.specs.Records.{Record}
 use Rattle.world_core.specs.Turns.{addressee}
 use Rattle.world_core.specs.Worlds.{WorldState, WorldFits, Up}
 use Rattle.wire_core.specs.declared.views.Log.{Log}
 use Rattle.wire_core.specs.declared.views.View.{View}
 use Rattle.wire_core.specs.Frames.{way}
 use Rattle.wire_core.specs.Mailboxes.{word_of, slot_of}
-use Rattle.wire_core.specs.Rule.{Stands, records, frames}
+use Rattle.wire_core.specs.Rule.{Stands, frames}
 
 -- some seat knows this of a site
 abbrev pub IsKnown : List View → Log → Type 0

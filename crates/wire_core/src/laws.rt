@@ -1,6 +1,6 @@
 //! Laws that the rule rests on. Each is a function with an empty body whose contract is the law.
 
-ghost use Rattle.wire_core.specs.Standing.{SentFramesMarkNothing, NotedFramesMarkNothing, MarksPutTheRecord, MarksLeaveOtherSites};
+ghost use Rattle.wire_core.specs.Standing.{OpeningRecordsStand, SplitsMarkNothing, JoinsMarkNothing, SentFramesMarkNothing, NotedFramesMarkNothing, MarksPutTheRecord, MarksLeaveOtherSites};
 ghost use Rattle.wire_core.specs.Laws.{MarksKeepTheFit, PostsKeepTheFit, FewerFramesFit, RuleHoldsBetween};
 
 /// A step of one site, by whatever input, leaves all fitting together, where a frame that it delivers was sent.
@@ -21,8 +21,12 @@ pub fn the_rule_holds_between_steps()
     ensures { RuleHoldsBetween }
 {}
 
-/// A record stands until its site is marked, whatever is sent and noted, and whichever other site is marked.
+/// A record stands from the start until its site is marked, whatever is sent and noted, however seats are split and
+/// joined, and whichever other site is marked.
 pub fn a_record_stands_until_its_site_is_marked()
+    ensures opening { OpeningRecordsStand }
+    ensures split { SplitsMarkNothing }
+    ensures join { JoinsMarkNothing }
     ensures sent { SentFramesMarkNothing }
     ensures noted { NotedFramesMarkNothing }
     ensures put { MarksPutTheRecord }
