@@ -1,0 +1,14 @@
+pub mod Lists
+pub mod Fitting
+pub mod Seating
+pub mod Shown
+pub mod Boxes
+pub mod Marking
+pub mod Parts
+pub mod Begins
+pub mod AtSeat
+pub mod Changes
+pub mod Closing
+pub mod Between
+pub mod Standing
+pub mod Playing

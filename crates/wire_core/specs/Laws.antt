@@ -1,0 +1,36 @@
+-- The laws that the rule rests on, one for each kind of step that changes what fits together; and what the rule comes to.
+use Rattle.std.specs.Prelude.{◌<◌, ℕ, List, [], ◌∷◌, ◌++◌, length, set, Contains, Option as Maybe}
+use Rattle.atomic_table.specs.Table.{State}
+use Rattle.frame_core.specs.declared.frames.Frame.{Frame}
+use Rattle.site_core.specs.Emitting.{emittable}
+use Rattle.site_core.specs.Records.{Record}
+use Rattle.site_core.specs.declared.inputs.SiteInput.{SiteInput}
+use Rattle.site_recovery.specs.Looks.{world_of}
+use Rattle.keeper_core.specs.Keeping.{IsAfter}
+use Rattle.wire_core.specs.declared.views.View.{View}
+use Rattle.wire_core.specs.Between.{HoldsBetween}
+use Rattle.wire_core.specs.Fitting.{SitesFit}
+use Rattle.wire_core.specs.Frames.{DeliversOneOf}
+use Rattle.wire_core.specs.Rule.{Ruled}
+
+-- A mark: one step of one site, by an input that may deliver a frame that was sent.
+abbrev pub MarksKeepTheFit : Type 0
+MarksKeepTheFit =
+    (records : List Record) (sent : List Frame) (s : ℕ) (input : SiteInput) (next : Record)
+    → SitesFit records sent → s < length records → DeliversOneOf sent input → IsAfter (world_of records s) input next → SitesFit (set records s next) sent
+
+-- A post: a frame that a site's record makes emittable is sent.
+abbrev pub PostsKeepTheFit : Type 0
+PostsKeepTheFit =
+    (records : List Record) (sent : List Frame) (s : ℕ) (f : Frame)
+    → SitesFit records sent → s < length records → Contains (emittable (world_of records s).engagement) f → SitesFit records (sent ++ f ∷ [])
+
+-- Frames count as a set: in which order and how often they were sent is not said, and fewer fit too.
+abbrev pub FewerFramesFit : Type 0
+FewerFramesFit =
+    (records : List Record) (sent fewer : List Frame)
+    → SitesFit records sent → ((f : Frame) → Contains fewer f → Contains sent f) → SitesFit records fewer
+
+-- Between any two steps.
+abbrev pub RuleHoldsBetween : Type 0
+RuleHoldsBetween = (sites : ℕ) (s : State (Maybe Frame) View) → Ruled sites s → HoldsBetween sites s

@@ -1,0 +1,12 @@
+pub mod Answers
+pub mod Between
+pub mod Changes
+pub mod Codes
+pub mod Fitting
+pub mod Frames
+pub mod Laws
+pub mod Mailboxes
+pub mod Playing
+pub mod Rule
+pub mod Seats
+pub mod Standing

@@ -1,0 +1,34 @@
+//! Laws that the rule rests on. Each is a function with an empty body whose contract is the law.
+
+ghost use Rattle.wire_core.specs.Standing.{OpeningRecordsStand, SplitsMarkNothing, JoinsMarkNothing, SentFramesMarkNothing, NotedFramesMarkNothing, MarksPutTheRecord, MarksLeaveOtherSites};
+ghost use Rattle.wire_core.specs.Laws.{MarksKeepTheFit, PostsKeepTheFit, FewerFramesFit, RuleHoldsBetween};
+
+/// A step of one site, by whatever input, leaves all fitting together, where a frame that it delivers was sent.
+pub fn a_mark_keeps_the_fit()
+    ensures { MarksKeepTheFit }
+{}
+
+/// So does a frame that its sender's record makes emittable. What was sent may be lost, repeated or late.
+pub fn a_post_keeps_the_fit()
+    ensures posted { PostsKeepTheFit }
+    ensures fewer { FewerFramesFit }
+{}
+
+/// Between any two steps of any seats: each site stands in one seat; a mailbox is full just where one frame more was sent
+/// that way than noted, and the frame in it is the last one sent; each noted frame was sent to that site; and the seats
+/// together show a world in which the records last marked fit together with all frames sent.
+pub fn the_rule_holds_between_steps()
+    ensures { RuleHoldsBetween }
+{}
+
+/// A record stands from the start until its site is marked, whatever is sent and noted, however seats are split and
+/// joined, and whichever other site is marked.
+pub fn a_record_stands_until_its_site_is_marked()
+    ensures opening { OpeningRecordsStand }
+    ensures split { SplitsMarkNothing }
+    ensures join { JoinsMarkNothing }
+    ensures sent { SentFramesMarkNothing }
+    ensures noted { NotedFramesMarkNothing }
+    ensures put { MarksPutTheRecord }
+    ensures left { MarksLeaveOtherSites }
+{}

@@ -1,0 +1,51 @@
+//! The wire between sites, and the seats that use it.
+
+use crate::rules::{Joined, Opening, Token};
+use crate::views::View;
+use atomic_table::Table;
+use frame_core::Frame;
+use std::alloc::Global;
+use std::marker::Model;
+
+/// The words and slots of all mailboxes.
+pub type Mailboxes = Table<Option<Frame>, View, Opening, Joined, Global>;
+
+/// A mailbox of one frame for each ordered pair of sites, and a count of marked steps for each site.
+///
+/// Threads share it, and none waits for another. Between any two of their steps the records last marked, with all
+/// frames sent, fit together.
+#[derive(Drop)]
+pub struct Wire {
+    pub(crate) table: Mailboxes,
+}
+
+impl Model for Wire {
+    ghost use Rattle.std.specs.Prelude.{length};
+    ghost use Rattle.wire_core.specs.Seats.{Line, IsLaidOut, coded_line};
+
+    ghost Value = { Line };
+
+    ghost coded = { coded_line };
+
+    ghost view = { λ w. record { table = w.table.shared.table_id; sites = length w.table.shared.key.items } };
+
+    ghost invariant = { λ w. IsLaidOut w.table.shared.table_id (length w.table.shared.key.items) };
+}
+
+/// What a thread holds of a wire: some of its sites. Each site stands in one seat.
+#[derive(Drop)]
+pub struct Seat {
+    pub(crate) token: Token,
+}
+
+impl Model for Seat {
+    ghost use Rattle.wire_core.specs.Seats.{Held, IsIdle, coded_held};
+
+    ghost Value = { Held };
+
+    ghost coded = { coded_held };
+
+    ghost view = { λ s. record { table = s.token.table_id; logs = s.token.me.0.sites } };
+
+    ghost invariant = { λ s. IsIdle s.token.table_id s.token.me };
+}
