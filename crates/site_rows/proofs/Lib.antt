@@ -1,0 +1,2 @@
+pub mod AddressesOfSites
+pub mod InTurn
