@@ -3,6 +3,7 @@
 
 mod address_rows;
 mod event_rows;
+pub mod laws;
 mod numbers;
 mod recall_rows;
 mod rows;
