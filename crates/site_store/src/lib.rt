@@ -8,6 +8,8 @@ mod in_turn;
 mod inserts;
 mod replacing;
 mod step;
+mod trying;
 
 pub use changes::{Numbers, RecallKey, RowChanges};
 pub use step::{create_site, store_changes};
+pub use trying::{Left, try_changes};
