@@ -1,0 +1,9 @@
+pub mod AddressesOfSites
+pub mod Entries
+pub mod InTurn
+pub mod SameEvents
+pub mod SameLists
+pub mod SameQuarantines
+pub mod SameRecalls
+pub mod SameRecords
+pub mod SameSites

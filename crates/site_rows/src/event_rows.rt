@@ -1,0 +1,203 @@
+//! The rows of the captured events and of their lists.
+ghost use Rattle.std.specs.Prelude.{◌≡◌, ◌≤◌, ◌++◌, ◌∷◌, [], flat_map, map, length, option_map, pos, IfOk, OnOk};
+ghost use Rattle.std.specs.List.{enumerate_from};
+ghost use Rattle.event_json.specs.Contents.{kind_of, id_of};
+ghost use Rattle.site_rows.specs.RecordRows.{event_row, part_row, part_rows, body_rows, parts_of, name_of};
+
+use crate::numbers::stored;
+use crate::rows::{EventRow, PartRow};
+use crate::texts::Text;
+use epc_core::Epc;
+use event_json::{Body, Event, PlainText, Sequence, SiteNo, Sites};
+use std::alloc::{AllocError, Global};
+use trace_core::Captured;
+
+/// A second has as many nanoseconds.
+const SECOND: i128 = 1_000_000_000;
+
+/// The roles of the members of an event's lists.
+const ITEM: u64 = 0;
+
+const SITE: u64 = 1;
+
+const OUTSIDE: u64 = 2;
+
+const INPUT: u64 = 3;
+
+const OUTPUT: u64 = 4;
+
+/// The kind of an event by its number: 0 a Note, 1 a Ship, 2 a Make.
+fn kind_of(body: &Body) -> i64
+    ensures { result ≡ pos (kind_of body.now) }
+{
+    match body {
+        Body::Note { .. } => 0,
+        Body::Ship { .. } => 1,
+        Body::Make { .. } => 2,
+    }
+}
+
+/// A copy of a text, where there is one.
+fn text_of(alloc: Global, text: Option<&PlainText>) -> Result<Option<Text>, AllocError>
+    ensures { IfOk result (λ copy. copy ≡ option_map (λ t. t.now) text.entry) }
+{
+    match text {
+        Some(text) => Ok(Some(Text::of(alloc, text.as_str())?)),
+        None => Ok(None),
+    }
+}
+
+/// The transformationID of an event that makes items, where it has one.
+fn make_id_of(alloc: Global, body: &Body) -> Result<Option<Text>, AllocError>
+    ensures { IfOk result (λ copy. copy ≡ id_of body.now) }
+{
+    match body {
+        Body::Make { id, .. } => text_of(alloc, id.as_ref()),
+        Body::Note { .. } | Body::Ship { .. } => Ok(None),
+    }
+}
+
+/// The row of an event of this number.
+fn event_row(alloc: Global, number: u64, event: &Event) -> Result<EventRow, AllocError>
+    ensures { IfOk result (λ row. row ≡ event_row (number, event.now)) }
+{
+    let instant = event.instant();
+    Ok(EventRow {
+        no: stored(number)?,
+        id: text_of(alloc, event.id())?,
+        seconds: instant.div_euclid(SECOND) as i64,
+        nanos: instant.rem_euclid(SECOND) as i64,
+        kind: kind_of(event.body()),
+        make_id: make_id_of(alloc, event.body())?,
+    })
+}
+
+/// The rows of the captured events, by number.
+pub fn event_rows(alloc: Global, captured: &Captured) -> Result<Sequence<EventRow>, AllocError>
+    ensures { IfOk result (λ rows. rows ≡ map event_row (enumerate_from 1 captured.now.events)) }
+{
+    let mut rows = Vec::new(alloc);
+    for place in 0..captured.len() {
+        if let Some(event) = captured.event(place) {
+            rows.push(event_row(alloc, place as u64 + 1, event)?)?;
+        }
+    }
+    Ok(Sequence::from_vec(rows))
+}
+
+/// The row of a member of a list.
+fn part_row(event: u64, role: u64, place: u64, text: Text) -> Result<PartRow, AllocError>
+    ensures { IfOk result (λ row. row ≡ part_row event role (place, text)) }
+{
+    Ok(PartRow {
+        event: stored(event)?,
+        role: stored(role)?,
+        place: stored(place)?,
+        text,
+    })
+}
+
+/// Adds a list of items.
+fn push_items(
+    alloc: Global,
+    rows: &mut Vec<PartRow>,
+    event: u64,
+    role: u64,
+    items: &[Epc],
+) -> Result<(), AllocError>
+    ensures { OnOk result (rows.new.items ≡ rows.old.items ++ part_rows event role items.now) }
+{
+    for (place, item) in items.iter().enumerate() {
+        let key = Text::from_string(item.key(alloc)?);
+        rows.push(part_row(event, role, place as u64, key)?)?;
+    }
+    Ok(())
+}
+
+/// The name of a site.
+fn name_of(alloc: Global, sites: &Sites, site: SiteNo) -> Result<Text, AllocError>
+    ensures { IfOk result (λ name. name ≡ name_of sites.now site) }
+{
+    match sites.name(site) {
+        Some(name) => Text::of(alloc, name),
+        None => Text::of(alloc, ""),
+    }
+}
+
+/// Adds a list of sites, by their names.
+fn push_sites(
+    alloc: Global,
+    rows: &mut Vec<PartRow>,
+    event: u64,
+    sites: &Sites,
+    to: &[SiteNo],
+) -> Result<(), AllocError>
+    ensures { OnOk result (rows.new.items ≡ rows.old.items ++ part_rows event 1 (map (name_of sites.now) to.now)) }
+{
+    for (place, site) in to.iter().enumerate() {
+        let name = name_of(alloc, sites, *site)?;
+        rows.push(part_row(event, SITE, place as u64, name)?)?;
+    }
+    Ok(())
+}
+
+/// Adds a list of destinations outside.
+fn push_outside(
+    alloc: Global,
+    rows: &mut Vec<PartRow>,
+    event: u64,
+    outside: &[PlainText],
+) -> Result<(), AllocError>
+    ensures { OnOk result (rows.new.items ≡ rows.old.items ++ part_rows event 2 outside.now) }
+{
+    for (place, text) in outside.iter().enumerate() {
+        let text = Text::of(alloc, text.as_str())?;
+        rows.push(part_row(event, OUTSIDE, place as u64, text)?)?;
+    }
+    Ok(())
+}
+
+/// Adds the lists of an event of this number.
+fn push_body(
+    alloc: Global,
+    rows: &mut Vec<PartRow>,
+    event: u64,
+    sites: &Sites,
+    body: &Body,
+) -> Result<(), AllocError>
+    ensures { OnOk result (rows.new.items ≡ rows.old.items ++ body_rows sites.now event body.now) }
+{
+    match body {
+        Body::Note { items } => push_items(alloc, rows, event, ITEM, items.as_slice()),
+        Body::Ship {
+            items,
+            sites: to,
+            outside,
+        } => {
+            push_items(alloc, rows, event, ITEM, items.as_slice())?;
+            push_sites(alloc, rows, event, sites, to.as_slice())?;
+            push_outside(alloc, rows, event, outside.as_slice())
+        }
+        Body::Make { ins, outs, .. } => {
+            push_items(alloc, rows, event, INPUT, ins.as_slice())?;
+            push_items(alloc, rows, event, OUTPUT, outs.as_slice())
+        }
+    }
+}
+
+/// The rows of the lists of the captured events, by event, role and place.
+pub fn part_rows(
+    alloc: Global,
+    sites: &Sites,
+    captured: &Captured,
+) -> Result<Sequence<PartRow>, AllocError>
+    ensures { IfOk result (λ rows. rows ≡ flat_map (parts_of sites.now) (enumerate_from 1 captured.now.events)) }
+{
+    let mut rows = Vec::new(alloc);
+    for place in 0..captured.len() {
+        if let Some(event) = captured.event(place) {
+            push_body(alloc, &mut rows, place as u64 + 1, sites, event.body())?;
+        }
+    }
+    Ok(Sequence::from_vec(rows))
+}

@@ -1,0 +1,18 @@
+//! The rows of what a site keeps: what each table of its file holds.
+#![tactic(auto)]
+
+mod address_rows;
+mod event_rows;
+pub mod laws;
+mod numbers;
+mod recall_rows;
+mod rows;
+mod texts;
+mod writing;
+
+pub use rows::{
+    AddressRow, EventRow, OutboxRow, ParentRow, PartRow, QuarantineRow, RecallRow, Rows, SeenRow,
+    SiteRow, StoreRow,
+};
+pub use texts::Text;
+pub use writing::rows_of;

@@ -1,0 +1,5 @@
+//! A site's tables over a database in memory, with what its steps change.
+#![tactic(auto)]
+
+#[cfg(test)]
+mod tests;
