@@ -12,7 +12,7 @@ use Rattle.frame_core.specs.declared.rows.Row.{Row}
 use Rattle.site_core.specs.Emitting.{frame_at, is_parent, message_frame, message_frames, signal_frame, signal_frames}
 use Rattle.site_core.specs.Records.{Record}
 use Rattle.site_core.proofs.Places.{member_there, stands_next}
-use Rattle.site_recovery.proofs.Entries.{entry_found, entry_there}
+use Rattle.site_core.proofs.Entries.{entry_found, entry_there}
 use Rattle.trace_core.proofs.Members.{contains_here, contains_cases, contains_none}
 use mathlib.Core.Logic.{inl, inr}
 use Rattle.script_core.specs.Sending.{row_frame, owed_signal, FindsPlace}
