@@ -124,19 +124,21 @@ pub all_turned : (keepers after : List InMemory) (sent now : List Frame) (event 
     → AreUnarmed keepers → AllTurned keepers sent event answer after now → Turns (seen_as keepers sent) event answer (seen_as after now) × AreUnarmed after
 all_turned keepers after sent now event answer all h =
     by (slice_get keepers (site_of event)) refl h where
-  by : (o : Option InMemory) → slice_get keepers (site_of event) ≡ o
-      → KeepersTurnFrom shown_in (λ k. AppliesIn k.is_open k.armed k) (λ k. StopsWhereOpen k.is_open k) ReopensIn o (record { keepers = keepers; sent = sent }) event answer (record { keepers = after; sent = now })
-      → Turns (seen_as keepers sent) event answer (seen_as after now) × AreUnarmed after
-  by None at (told, same) =
-      let there : slice_get (map standing_of keepers) (site_of event) ≡ None = slice_get-map standing_of keepers (site_of event) ∙ ap (option_map standing_of) at in
-      (subst (λ s. TurnsFrom s (seen_as keepers sent) event answer (seen_as after now)) (sym there) (told, ap (λ (s : Sites InMemory). seen_as s.keepers s.sent) same),
-      subst AreUnarmed (sym (ap (λ (s : Sites InMemory). s.keepers) same)) all)
-  by (Some k) at (changed, turns, set) =
-      let there : slice_get (map standing_of keepers) (site_of event) ≡ Some (standing_of k) = slice_get-map standing_of keepers (site_of event) ∙ ap (option_map standing_of) at in
-      let (does, unarmed) = turned_one k sent now event answer changed (unarmed_at keepers (site_of event) k all at) turns in
-      (subst (λ s. TurnsFrom s (seen_as keepers sent) event answer (seen_as after now)) (sym there)
-          (standing_of changed, does, ap (map standing_of) set ∙ map-set standing_of keepers (site_of event) changed),
-      subst AreUnarmed (sym set) (All-set (λ k. k.armed ≡ None) keepers (site_of event) changed unarmed all))
+      by : (o : Option InMemory) → slice_get keepers (site_of event) ≡ o
+          → KeepersTurnFrom shown_in (λ k. AppliesIn k.is_open k.armed k) (λ k. StopsWhereOpen k.is_open k) ReopensIn o (record { keepers = keepers; sent = sent }) event answer (record { keepers = after; sent = now })
+          → Turns (seen_as keepers sent) event answer (seen_as after now) × AreUnarmed after
+      by None at (told, same) =
+          let there : slice_get (map standing_of keepers) (site_of event) ≡ None = slice_get-map standing_of keepers (site_of event) ∙ ap (option_map standing_of) at in (
+            subst (λ s. TurnsFrom s (seen_as keepers sent) event answer (seen_as after now)) (sym there) (told, ap (λ (s : Sites InMemory). seen_as s.keepers s.sent) same),
+            subst AreUnarmed (sym (ap (λ (s : Sites InMemory). s.keepers) same)) all,
+          )
+      by (Some k) at (changed, turns, set) =
+          let there : slice_get (map standing_of keepers) (site_of event) ≡ Some (standing_of k) = slice_get-map standing_of keepers (site_of event) ∙ ap (option_map standing_of) at in
+          let (does, unarmed) = turned_one k sent now event answer changed (unarmed_at keepers (site_of event) k all at) turns in (
+            subst (λ s. TurnsFrom s (seen_as keepers sent) event answer (seen_as after now)) (sym there)
+                (standing_of changed, does, ap (map standing_of) set ∙ map-set standing_of keepers (site_of event) changed),
+            subst AreUnarmed (sym set) (All-set (λ k. k.armed ≡ None) keepers (site_of event) changed unarmed all),
+          )
 
 -- ---- the frames sent
 
@@ -223,9 +225,9 @@ shown_records [] [] all = refl
 shown_records (k ∷ ks) (r ∷ rs) all =
     let one : record_of (standing_of k) ≡ r = by k.is_open all.0 in
     ap (λ x. x ∷ map record_of (map standing_of ks)) one ∙ ap (λ xs. r ∷ xs) (shown_records ks rs all.1) where
-  by : (o : Bool) → shown_in (record k { is_open = o }) ≡ Some r → record_of (standing_by o k.state) ≡ r
-  by true e = cc
-  by false e = cc
+      by : (o : Bool) → shown_in (record k { is_open = o }) ≡ Some r → record_of (standing_by o k.state) ≡ r
+      by true e = cc
+      by false e = cc
 shown_records [] (r ∷ rs) all = absurd all
 shown_records (k ∷ ks) [] all = absurd all
 

@@ -3,7 +3,6 @@ pub mod BeginningLemmas
 pub mod EventLemmas
 pub mod FieldLemmas
 pub mod FormLemmas
-pub mod FrameLemmas
 pub mod KeeperLemmas
 pub mod MemoryLemmas
 pub mod NumberLemmas

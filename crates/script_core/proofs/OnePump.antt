@@ -51,7 +51,7 @@ one_exchange : (site number : ℕ) (w : World) → One (Exchanges site number w)
 one_exchange site number w a b t u p q =
     let (front, mid) = one_carriage (message_from w site number) w p.front q.front p.mid q.mid p.goes q.goes in
     let (back, end) = one_carriage (answer_to p.mid (message_from w site number)) p.mid p.back q.back t u p.comes
-        (subst (λ m. Carries (answer_to m (message_from w site number)) m q.back u) (sym mid) q.comes) in
+    (subst (λ m. Carries (answer_to m (message_from w site number)) m q.back u) (sym mid) q.comes) in
     (p.told ∙ ap (λ x. x ++ p.back) front ∙ ap (λ x. q.front ++ x) back ∙ sym q.told, end)
 
 some_exchange : (site number : ℕ) (w : World) → Some_of (Exchanges site number w)
@@ -89,9 +89,11 @@ some_round round w = some_each TakesPart some_part (range_with_len 0 (length w.s
 
 pub one_pump : (rounds : ℕ) (w : World) → One (Pumps rounds w)
 one_pump rounds w a b t u p q =
-    let (text, end) = one_each (λ round. TakesRound) one_round (range_with_len 0 rounds) w p.text q.text t u p.run q.run in
-    (p.told ∙ ap (λ x. done (x ++ pumped_text rounds (length t.world.sent - length w.world.sent))) text
-    ∙ ap (λ (x : World). done (q.text ++ pumped_text rounds (length x.world.sent - length w.world.sent))) end ∙ sym q.told, end)
+    let (text, end) = one_each (λ round. TakesRound) one_round (range_with_len 0 rounds) w p.text q.text t u p.run q.run in (
+      p.told ∙ ap (λ x. done (x ++ pumped_text rounds (length t.world.sent - length w.world.sent))) text
+          ∙ ap (λ (x : World). done (q.text ++ pumped_text rounds (length x.world.sent - length w.world.sent))) end ∙ sym q.told,
+      end,
+    )
 
 pub some_pump : (rounds : ℕ) (w : World) → Some_of (Pumps rounds w)
 some_pump rounds w =

@@ -29,6 +29,7 @@ opened_next sites n next within is = let one : next ≡ suc n = omega (arith, is
   put : (x : Standing) (xs : List Standing) (n : ℕ) (o : Option Standing) → opened_at (x ∷ xs) (suc n) o ≡ x ∷ opened_at xs n o
   put x xs n None = refl
   put x xs n (Some s) = refl
+
   by : (sites : List Standing) (n : ℕ) → n < length sites → opened_at (opened_to sites n) n (slice_get (opened_to sites n) n) ≡ opened_to sites (suc n)
   by [] n within = absurd (omega (arith, within))
   by (x ∷ xs) zero within = refl

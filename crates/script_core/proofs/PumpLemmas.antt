@@ -38,10 +38,11 @@ carried w mid after n frame q outcome standing sites before text sent to up happ
 
 -- a frame was sent, and its site is down
 pub lost : (w mid : World) (n : ℕ) (frame : Frame) (before : List ℕ) → mid ≡ with_frame w frame → addressee frame ≡ n → up_at mid n ≡ None → AddsText (Carries (Some frame)) w mid before before
-lost w mid n frame before sent to down =
-    ([],
-    subst (λ k. Comes frame (up_at w k) (with_frame w frame) [] mid) (sym to) (subst (λ o. Comes frame o (with_frame w frame) [] mid) (sym (sym (ap (λ x. up_at x n) sent) ∙ down)) (refl, sent)),
-    sym (append-nil before))
+lost w mid n frame before sent to down = (
+  [],
+  subst (λ k. Comes frame (up_at w k) (with_frame w frame) [] mid) (sym to) (subst (λ o. Comes frame o (with_frame w frame) [] mid) (sym (sym (ap (λ x. up_at x n) sent) ∙ down)) (refl, sent)),
+  sym (append-nil before),
+)
 
 -- one more of a list
 pub each_more : (Do : ℕ → World → List ℕ → World → Type 0) (xs : List ℕ) (x : ℕ) (w mid after : World) (front back : List ℕ)

@@ -36,7 +36,12 @@ impl Running {
             return Answer::no_site(alloc, name);
         };
         let bytes = document.as_bytes().to_vec(alloc)?;
-        self.hand_over(alloc, site, WorldInput::Capture(Sequence::from_vec(bytes)), "")
+        self.hand_over(
+            alloc,
+            site,
+            WorldInput::Capture(Sequence::from_vec(bytes)),
+            "",
+        )
     }
 
     /// Starts a recall of an item at a site.

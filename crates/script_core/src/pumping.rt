@@ -3,7 +3,7 @@
 ghost use Rattle.std.specs.Prelude.{◌≡◌, ◌<◌, map, length, Some, IfOk, OnOk, option_and_then, string_bytes};
 ghost use Rattle.std.specs.FinMap.{entries};
 ghost use Rattle.frame_core.specs.declared.frames.Frame.{Frame};
-ghost use Rattle.site_core.specs.Emitting.{frame_at as emitted_at};
+ghost use Rattle.site_core.specs.Naming.{frame_named};
 ghost use Rattle.site_core.specs.Records.{Record};
 ghost use Rattle.world_core.specs.Turns.{addressee};
 ghost use Rattle.script_core.specs.Answer.{answer_of};
@@ -16,11 +16,11 @@ ghost use Rattle.script_core.specs.Tasks.{DoesTask};
 use crate::answers::Answer;
 use crate::numbers::site_at;
 use crate::running::Running;
-use crate::sending::{message_place, signal_place};
+use crate::sending::may_send;
 use crate::texts::push_outcome;
 use event_json::SiteNo;
 use frame_core::MsgId;
-use site_core::SiteState;
+use site_core::{FrameName, SiteState};
 use std::alloc::{AllocError, Global};
 use world_core::WorldInput;
 
@@ -117,10 +117,7 @@ impl Running {
             site: state.me(),
             number,
         };
-        let Some(place) = message_place(state, number)? else {
-            return Ok(());
-        };
-        self.carry(alloc, site, place, dest, text)?;
+        self.carry(alloc, site, FrameName::Message(number), dest, text)?;
         self.answer_back(alloc, dest, message, text)
     }
 
@@ -137,10 +134,10 @@ impl Running {
         let Some(state) = self.state(site) else {
             return Ok(());
         };
-        match signal_place(state, message)? {
-            None => Ok(()),
-            Some(place) => self.carry(alloc, site, place, message.site, text),
+        if !may_send(state, FrameName::Signal(message)) {
+            return Ok(());
         }
+        self.carry(alloc, site, FrameName::Signal(message), message.site, text)
     }
 
     /// A frame that a site may send is sent, and comes to the site that it is for, where that is up.
@@ -148,14 +145,14 @@ impl Running {
         &mut self,
         alloc: Global,
         site: SiteNo,
-        place: u64,
+        name: FrameName,
         to: SiteNo,
         text: &mut String,
     ) -> Result<(), AllocError>
-        ensures { (old : Record) (frame : Frame) → up_at self.old site ≡ Some old → emitted_at old.engagement place ≡ Some frame → addressee frame ≡ to
+        ensures { (old : Record) (frame : Frame) → up_at self.old site ≡ Some old → frame_named old.engagement name ≡ Some frame → addressee frame ≡ to
             → OnOk result (AddsText (Carries (Some frame)) self.old self.new (string_bytes text.old) (string_bytes text.new)) }
     {
-        let at = self.emit(site, place)?;
+        let at = self.emit(site, name)?;
         if !self.is_up(to) {
             return Ok(());
         }

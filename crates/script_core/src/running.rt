@@ -4,7 +4,7 @@ ghost use Rattle.std.specs.Prelude.{◌≡◌, ◌+◌, ◌<◌, ◌≤◌, IfSo
 ghost use Rattle.frame_core.specs.declared.frames.Frame.{Frame};
 ghost use Rattle.frame_core.specs.Rows.{frame_of};
 ghost use Rattle.world_core.specs.Recalls.{ended_in, quarantined};
-ghost use Rattle.site_core.specs.Emitting.{frame_at as emitted_at};
+ghost use Rattle.site_core.specs.Naming.{frame_named};
 ghost use Rattle.site_core.specs.Records.{Record};
 ghost use Rattle.site_core.specs.declared.inputs.SiteInput.{SiteInput};
 ghost use Rattle.world_core.specs.Turns.{frame_at, input_at};
@@ -19,7 +19,7 @@ use crate::worlds::{MemoryWorld, Outcome};
 use event_json::{SiteNo, Sites};
 use frame_core::{FrameView, RecallId};
 use keeper_core::Keep;
-use site_core::SiteState;
+use site_core::{FrameName, SiteState};
 use std::alloc::{AllocError, Global};
 use std::marker::Model;
 use trace_core::Pair;
@@ -167,13 +167,13 @@ impl Running {
         self.world.happen(site, armed, input)
     }
 
-    /// Sends the frame that the record of a site that is up makes emittable at a place, from 1, and answers its
-    /// place among those sent.
-    pub(crate) fn emit(&mut self, site: SiteNo, place: u64) -> Result<u64, AllocError>
-        ensures { (old : Record) (frame : Frame) → up_at self.old site ≡ Some old → emitted_at old.engagement place ≡ Some frame
+    /// Sends the frame of a name that the record of a site that is up makes emittable, and answers its place among
+    /// those sent.
+    pub(crate) fn emit(&mut self, site: SiteNo, name: FrameName) -> Result<u64, AllocError>
+        ensures { (old : Record) (frame : Frame) → up_at self.old site ≡ Some old → frame_named old.engagement name ≡ Some frame
             → IfOk result (λ at. (at ≡ length self.old.world.sent + 1) × (self.new ≡ with_frame self.old frame)) }
     {
-        self.world.send(site, place)
+        self.world.send(site, name)
     }
 
     /// Opens a site that is down.

@@ -14,7 +14,12 @@ use std::alloc::{AllocError, Global};
 
 impl Running {
     /// Arms a stop for the next step of a site.
-    pub(crate) fn stop(&mut self, alloc: Global, name: &str, keep: Keep) -> Result<Answer, AllocError>
+    pub(crate) fn stop(
+        &mut self,
+        alloc: Global,
+        name: &str,
+        keep: Keep,
+    ) -> Result<Answer, AllocError>
         ensures { IfOk result (λ a. DoesTask self.old (stop name.now keep) (answer_of a) self.new) }
     {
         let Some(site) = self.find(name) else {

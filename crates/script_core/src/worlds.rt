@@ -1,9 +1,10 @@
 //! A world whose sites are kept in memory: each event has one outcome there.
 
-ghost use Rattle.std.specs.Prelude.{◌≡◌, ◌+◌, Some, is_some,  IfOk, OnOk, IfErr, length, map, option_and_then, option_map, slice_get, slice_set};
+ghost use Rattle.std.specs.Prelude.{◌≡◌, ◌+◌, ℕ, Some, is_some, IfOk, OnOk, IfErr, length, map, option_and_then, option_map, slice_get, slice_set};
 ghost use Rattle.frame_core.specs.Rows.{frame_of};
 ghost use Rattle.keeper_core.specs.Memory.{Leaves};
-ghost use Rattle.site_core.specs.Emitting.{frame_at as emitted_at};
+ghost use Rattle.site_core.specs.Naming.{frame_named};
+ghost use Rattle.world_core.specs.Posting.{IsPlaceOf};
 ghost use Rattle.site_core.specs.Records.{Record};
 ghost use Rattle.site_core.specs.declared.inputs.SiteInput.{SiteInput};
 ghost use Rattle.frame_core.specs.declared.frames.Frame.{Frame};
@@ -17,7 +18,7 @@ ghost use Rattle.script_core.specs.State.{up_in};
 use event_json::SiteNo;
 use frame_core::{FrameView, RecallId};
 use keeper_core::{Keep, KeepFault, MemoryKeeper};
-use site_core::{Effects, Refusal, SiteState};
+use site_core::{Effects, FrameName, Refusal, SiteState};
 use std::alloc::AllocError;
 use std::marker::Model;
 use trace_core::Pair;
@@ -155,16 +156,28 @@ impl MemoryWorld {
 
     /// Sends the frame that the record of a site that is up makes emittable at a place, from 1, and answers its
     /// place among those sent.
-    pub(crate) fn send(&mut self, site: SiteNo, place: u64) -> Result<u64, AllocError>
-        ensures does { (old : Record) (frame : Frame) → up_in self.old.sites site ≡ Some old → emitted_at old.engagement place ≡ Some frame
+    pub(crate) fn send(&mut self, site: SiteNo, name: FrameName) -> Result<u64, AllocError>
+        ensures does { (old : Record) (frame : Frame) → up_in self.old.sites site ≡ Some old → frame_named old.engagement name ≡ Some frame
             → IfOk result (λ at. (at ≡ length self.old.sent + 1) × (self.new ≡ with_sent self.old frame)) }
         ensures count { length self.new.sites ≡ length self.old.sites }
     {
-        match self.turn(WorldEvent::Send { site, place }) {
+        match self.post(site, name) {
             Answer::Sent(at) => Ok(at),
             // Only want of memory is left.
             _ => Err(AllocError),
         }
+    }
+
+    /// The frame of a name is sent, and what that is answered.
+    fn post(&mut self, site: SiteNo, name: FrameName) -> Answer
+        ensures { (place : ℕ) × IsPlaceOf (up_in self.old.sites site) name place × Turns self.old (WorldEvent.Send site place) result self.new
+            × (length self.new.sites ≡ length self.old.sites) }
+    {
+        let answer = self.world.post(site, name);
+        if let Answer::Sent(place) = &answer {
+            self.sent = *place;
+        }
+        answer
     }
 
     /// Opens a site where it is down.

@@ -6,7 +6,7 @@ use Rattle.frame_core.specs.Rows.{row_of}
 use Rattle.frame_core.specs.declared.frames.Frame.{Frame}
 use Rattle.site_core.specs.Emitting.{message_frame}
 use Rattle.script_core.specs.Pumping.{AddsText, Carries, answer_to, message_from}
-use Rattle.script_core.specs.Sending.{FindsPlace, owed_signal, row_frame}
+use Rattle.script_core.specs.Sending.{owed_signal, row_frame}
 use Rattle.script_core.specs.State.{up_at}
 use Rattle.script_core.proofs.PumpLemmas.{carries_none, exchanged}
 use Rattle.script_core.proofs.running.Running.exchange.Goals as goal
@@ -42,10 +42,9 @@ returns c =
     let frame = message_frame old.engagement.me (number, row) in
     let is : row_frame number old ≡ Some frame = ap (option_map (λ x. message_frame old.engagement.me (number, x))) (sym c.in-Some-row.ensures) in
     let from : message_from w site number ≡ Some frame = ap (option_and_then (row_frame number)) up ∙ is in
-    let emits = subst (λ o. FindsPlace old o (Some c.in-Some-2.place)) is (subst (FindsPlace old (row_frame number old)) c.in-Some-2.is c.in_ok-place.ensures) in
     let mid = c.carry.new.self in
     let after = c.answer_back.new.self in
-    let goes = subst (λ (o : Option Frame). AddsText (Carries o) w mid (string_bytes c.args.text.now) (string_bytes c.carry.new.text)) (sym from) (c.in_ok-carry.ensures old frame up emits refl) in
+    let goes = subst (λ (o : Option Frame). AddsText (Carries o) w mid (string_bytes c.args.text.now) (string_bytes c.carry.new.text)) (sym from) (c.in_ok-carry.ensures old frame up is refl) in
     let answers : answer_to mid (message_from w site number) ≡ option_and_then (owed_signal (record { site = c.me.result; number = number })) (up_at mid row.dest) =
     ap (answer_to mid) from ∙ ap (λ (k : ℕ). let m : Message = record { site = k; number = number } in option_and_then (owed_signal m) (up_at mid row.dest)) (sym c.me.ensures.me) in
     on_ok_weaker c.answer_back.result

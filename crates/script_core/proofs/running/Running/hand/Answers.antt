@@ -20,6 +20,6 @@ returns c =
       h.0,
       subst (λ (a : Option Keep). Happens old a given outcome h.0) c.disarm-armed.ensures.was h.1,
       ap (λ (x : WorldState). let v : World = record { sites = inside.sites; world = x; armed = inside.armed.items } in v) (h.2 ∙ ap (λ (x : WorldState). with_site x c.args.site h.0) same_world)
-      ∙ ap (λ (x : World). let v : World = record { sites = x.sites; world = with_site w.world c.args.site h.0; armed = x.armed } in v) now,
+          ∙ ap (λ (x : World). let v : World = record { sites = x.sites; world = with_site w.world c.args.site h.0; armed = x.armed } in v) now,
     ))
     happens

@@ -1,24 +1,24 @@
-use Rattle.std.proofs.Common.{◌≡◌, Some, sym, subst}
+use Rattle.std.proofs.Common.{◌≡◌, ◌∙◌, Some, sym, subst}
 use Rattle.std.proofs.lemmas.Result.{IfOk-weaker}
 use Rattle.event_json.specs.Sites.{named}
 use Rattle.script_core.specs.Answer.{answer_of}
-use Rattle.script_core.specs.Sending.{FindsPlace, owed_signal}
+use Rattle.script_core.specs.Sending.{owed_signal}
 use Rattle.script_core.specs.State.{up_at}
 use Rattle.script_core.specs.Tasks.{AtSite, Sends, WhereUp}
-use Rattle.script_core.proofs.TaskLemmas.{at_site, found_frame, where_up}
+use Rattle.script_core.proofs.TaskLemmas.{at_site, some_is, where_up}
 use Rattle.script_core.proofs.running.Running.signal.Goals as goal
 
-pub returns-in-Some-2 : goal.returns-in-Some-2
-returns-in-Some-2 c =
+pub returns : goal.returns
+returns c =
     let w = c.args.self.now in
     let site = c.in-Some.site in
     let of = c.in-Some-find.of in
     let old = c.in-Some-state.state.now in
     let after = c.post.new.self in
     let up : up_at w site ≡ Some old = sym c.in-Some-state.ensures in
-    let (f, is, emits) = found_frame old (owed_signal (record { site = c.in-Some-find.of; number = c.args.number }) old) c.in-Some-2.place (subst (FindsPlace old (owed_signal (record { site = c.in-Some-find.of; number = c.args.number }) old)) c.in-Some-2.is c.in_ok-signal_place.ensures) in
+    let (f, is) = some_is (owed_signal (record { site = c.in-Some-find.of; number = c.args.number }) old) (sym c.may_send.ensures ∙ c.if-not-may_send.false) in
     IfOk-weaker c.post.result _ _
     (λ a h. at_site w c.args.name.now site (λ n. AtSite w c.args.sender.now (named w.sites c.args.sender.now) (λ s. WhereUp w n (up_at w n) (λ r. Sends w (owed_signal (record { site = s; number = c.args.number }) r) (answer_of a) after) (answer_of a) after) (answer_of a) after) (answer_of a) after (sym c.in-Some.ensures.found)
     (at_site w c.args.sender.now of (λ s. WhereUp w site (up_at w site) (λ r. Sends w (owed_signal (record { site = s; number = c.args.number }) r) (answer_of a) after) (answer_of a) after) (answer_of a) after (sym c.in-Some-find.ensures.found)
     (where_up w site old (λ r. Sends w (owed_signal (record { site = of; number = c.args.number }) r) (answer_of a) after) (answer_of a) after up (subst (λ o. Sends w o (answer_of a) after) (sym is) h))))
-    (c.post.ensures old f up emits)
+    (c.post.ensures old f up is)
