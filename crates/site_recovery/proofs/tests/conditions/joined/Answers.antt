@@ -1,12 +1,9 @@
-use Rattle.std.proofs.Common.{◌≡◌, ◌<◌, ap, length, None, Some, sym, subst, ◌∙◌, arith}
-use Rattle.std.specs.FinMap.{empty, get, get-empty}
+use Rattle.std.proofs.Common.{◌≡◌, length, sym, subst, ◌∙◌}
+use Rattle.std.specs.FinMap.{empty}
 use Rattle.std.specs.Ordering.{nat_cmp}
 use Rattle.std.specs.List.{All}
-use Rattle.event_json.specs.Sites.{ShipsAmong, Site}
+use Rattle.event_json.specs.Sites.{ShipsAmong}
 use Rattle.frame_core.specs.Identifiers.{message_cmp, recall_cmp}
-use Rattle.frame_core.specs.Numbers.{Message, Recall}
-use Rattle.frame_core.specs.declared.rows.Row.{Row}
-use Rattle.scholten_core.specs.declared.own_recalls.Own.{Own}
 use Rattle.frame_core.proofs.Maps.{no_entries}
 use Rattle.scholten_core.specs.Engagement.{Engagement}
 use Rattle.site_core.specs.Records.{IsSound, Record}
