@@ -1,5 +1,5 @@
 -- What is gathered from each element of a list, one after another, beside what was there.
-use Rattle.std.proofs.Common.{◌≡◌, ◌⊎◌, ◌↔◌, inl, inr, ℕ, suc, ◌+◌, ◌<◌, ◌≤◌, List, [], ◌∷◌, length, get_or, drop, sym, ap, ◌∙◌, subst, arith}
+use Rattle.std.proofs.Common.{◌≡◌, ◌⊎◌, ◌↔◌, inl, inr, List, [], ◌∷◌, sym, subst}
 use Rattle.std.specs.List.{Contains}
 use Rattle.trace_core.proofs.Members.{contains_cases, contains_here, contains_none, contains_there}
 

@@ -5,7 +5,7 @@ use Rattle.frame_core.specs.Numbers.{Recall, Message}
 use Rattle.frame_core.specs.declared.rows.Row.{Row}
 use Rattle.scholten_core.specs.declared.own_recalls.Own.{Own}
 use Rattle.site_recovery.specs.FittingAt.{Condition, Closed, Told, Justified, Waiting, ParentsStand, ParentsLeadHome, EndsAreQuiet, NumbersAreBelow, number_of, FitAt}
-use Rattle.site_recovery.specs.Fit.{Tells, IsInReach}
+use Rattle.site_recovery.specs.Fit.{Tells}
 use Rattle.site_recovery.specs.Looks.{World, Held, Ships, row, seen, own, next_message, next_recall}
 use Rattle.site_recovery.specs.Misfits.{TellsMisfit, TellsUnmet}
 use Rattle.site_recovery.specs.declared.checking.CheckFault.{CheckFault}

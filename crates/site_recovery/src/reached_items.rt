@@ -44,11 +44,7 @@ fn nothing_held(alloc: Global, count: usize) -> Result<Vec<Quarantine>, AllocErr
 }
 
 /// Adds a pair under a recall, where its site is one of these.
-fn hold_pair(
-    reached: &mut Vec<Quarantine>,
-    recall: RecallId,
-    pair: Pair,
-) -> Result<(), AllocError>
+fn hold_pair(reached: &mut Vec<Quarantine>, recall: RecallId, pair: Pair) -> Result<(), AllocError>
     ensures { OnOk result (Adds (λ r p. (r ≡ recall) × (p ≡ pair)) reached.old.items reached.new.items) }
 {
     let place = pair.site.number() as usize;
@@ -122,7 +118,13 @@ pub(crate) fn all_reached(
     let captured = all_captured(alloc, &*sites)?;
     let mut reached = nothing_held(alloc, sites.len())?;
     for state in sites {
-        hold_own(alloc, captured.as_slice(), &mut reached, state.me(), state.own_recalls())?;
+        hold_own(
+            alloc,
+            captured.as_slice(),
+            &mut reached,
+            state.me(),
+            state.own_recalls(),
+        )?;
     }
     Ok(reached)
 }

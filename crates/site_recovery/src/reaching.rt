@@ -56,11 +56,7 @@ impl EntryTest<RecallId, ItemSet> for HeldSet<'_> {
 }
 
 /// What is held at the site, `none` where it is past the end.
-fn held_at<'a>(
-    reached: &'a [Quarantine],
-    none: &'a Quarantine,
-    site: SiteNo,
-) -> &'a Quarantine
+fn held_at<'a>(reached: &'a [Quarantine], none: &'a Quarantine, site: SiteNo) -> &'a Quarantine
     requires { none.now ≡ empty }
     ensures { result.now ≡ get_or reached.now site empty }
 {

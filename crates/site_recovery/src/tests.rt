@@ -94,38 +94,48 @@ fn site(alloc: Global, me: u64, given: &[Given]) -> Result<SiteState, Fail> {
     Ok(state)
 }
 
-/// What the check says of three sites, None where they fit together.
-fn says(alloc: Global, a: &SiteState, b: &SiteState, c: &SiteState) -> Result<Option<Misfit>, Fail> {
-    let sites = [a, b, c];
-    if !are_all_sites(&sites) {
+/// What the check says of these sites, None where they fit together.
+fn says(alloc: Global, sites: &[SiteState]) -> Result<Option<Misfit>, Fail> {
+    let mut states = Vec::new(alloc);
+    for site in sites {
+        states.push(site)?;
+    }
+    if !are_all_sites(&states) {
         return Err(Fail::new("these aren't all sites"));
     }
-    match check_world(alloc, &sites) {
+    match check_world(alloc, &states) {
         Ok(()) => Ok(None),
         Err(CheckFault::Misfit(misfit)) => Ok(Some(misfit)),
         Err(CheckFault::NoMemory) => Err(Fail::new("memory ran out")),
     }
 }
 
-/// Whether the check of sites A, B and C, which were given this, names just this condition and site; 0 where they fit
-/// together.
-fn is_charged(
-    alloc: Global,
-    given: [&[Given]; 3],
-    condition: u64,
-    site_number: u64,
-) -> Result<bool, Fail> {
+/// Whether the check of these sites names just this condition and site; 0 where they fit together.
+fn names(alloc: Global, sites: &[SiteState], condition: u64, at: u64) -> Result<bool, Fail> {
     let wanted = match condition {
         0 => None,
         condition => Some(Misfit {
             condition,
-            site: number(site_number)?,
+            site: number(at)?,
         }),
     };
-    let a = site(alloc, 0, given[0])?;
-    let b = site(alloc, 1, given[1])?;
-    let c = site(alloc, 2, given[2])?;
-    Ok(says(alloc, &a, &b, &c)? == wanted)
+    Ok(says(alloc, sites)? == wanted)
+}
+
+/// Sites A, B and C, each of which was given this.
+fn three(alloc: Global, given: [&[Given]; 3]) -> Result<Vec<SiteState>, Fail> {
+    let mut sites = Vec::new(alloc);
+    for me in 0..3usize {
+        sites.push(site(alloc, me as u64, given[me])?)?;
+    }
+    Ok(sites)
+}
+
+/// Whether the check of sites A, B and C, which were given this, names just this condition and site; 0 where they fit
+/// together.
+fn is_charged(alloc: Global, given: [&[Given]; 3], condition: u64, at: u64) -> Result<bool, Fail> {
+    let sites = three(alloc, given)?;
+    names(alloc, &sites, condition, at)
 }
 
 /// A made y of x and shipped it to B.
@@ -135,7 +145,12 @@ const FIRST_RUN: [Given; 2] = [Made("x", "y"), Shipped("y", "b")];
 const BEGUN: [Given; 3] = [Made("x", "y"), Shipped("y", "b"), Recalled("x")];
 
 /// Then B's signal came, and the recall ended.
-const ENDED: [Given; 4] = [Made("x", "y"), Shipped("y", "b"), Recalled("x"), Signalled(1)];
+const ENDED: [Given; 4] = [
+    Made("x", "y"),
+    Shipped("y", "b"),
+    Recalled("x"),
+    Signalled(1),
+];
 
 #[test]
 fn sites_fit_before_and_after_a_recall(rt: HostRuntime) -> Result<(), Fail> {
@@ -158,10 +173,12 @@ fn states_of_different_days_do_not_fit(rt: HostRuntime) -> Result<(), Fail> {
 
 /// Whether the sites are seen to be out of order, and two of three to be too few.
 fn sees_places(alloc: Global) -> Result<bool, Fail> {
-    let a = empty(alloc, 0)?;
-    let b = empty(alloc, 1)?;
-    let c = empty(alloc, 2)?;
-    Ok(!are_all_sites(&[&b, &a, &c]) && !are_all_sites(&[&a, &b]))
+    let sites = three(alloc, [&[], &[], &[]])?;
+    if sites.len() != 3 {
+        return Ok(false);
+    }
+    let (a, b, c) = (&sites[0], &sites[1], &sites[2]);
+    Ok(!are_all_sites(&[b, a, c]) && !are_all_sites(&[a, b]))
 }
 
 #[test]

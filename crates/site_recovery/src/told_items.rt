@@ -10,12 +10,7 @@ use site_core::{Quarantine, SiteState};
 use std::alloc::{AllocError, Global};
 
 /// Adds the item of a row that goes to the site.
-fn hold_row(
-    alloc: Global,
-    told: &mut Quarantine,
-    row: &Row,
-    dest: SiteNo,
-) -> Result<(), AllocError>
+fn hold_row(alloc: Global, told: &mut Quarantine, row: &Row, dest: SiteNo) -> Result<(), AllocError>
     ensures { OnOk result ((r : Recall) (i : List ℕ) → IsTrue (held told.new r i) ↔ ((row.now ≡ record { dest = dest; recall = r; item = i }) ⊎ IsTrue (held told.old r i))) }
 {
     if row.dest == dest {

@@ -1,57 +1,72 @@
 //! For each condition three sites that break it alone, at another site than A. The ninth is broken only where the
 //! fourth or the sixth is, so the check never names it; 7 and 8 are of frames.
+ghost use Rattle.std.specs.Prelude.{◌≡◌, length};
+
 use super::Given::{Made, Recalled, Shipped, Signalled, Told};
-use super::{BEGUN, ENDED, Given, is_charged, number, says, site};
-use crate::Misfit;
+use super::{BEGUN, ENDED, Given, empty, is_charged, names, site};
 use frame_core::tables;
 use scholten_core::Diffusion;
 use site_core::SiteState;
-use std::alloc::Global;
+use std::alloc::{AllocError, Global};
 use std::collections::BTreeMap;
 use std::test::Fail;
 
 /// A site that captured what the one did, and quarantined and sent what the other did. It has seen no message, and has
 /// no parents and no recalls of its own: no steps lead there.
-fn joined(alloc: Global, one: &SiteState, other: &SiteState) -> Result<SiteState, Fail> {
+fn joined(alloc: Global, one: &SiteState, other: &SiteState) -> Result<SiteState, AllocError>
+    requires me { one.now.engagement.me ≡ other.now.engagement.me }
+    requires sites { length one.now.sites ≡ length other.now.sites }
+{
     let me = other.me();
-    if one.me() != me || one.sites().len() != other.sites().len() {
-        return Err(Fail::new("two sites"));
-    }
+    // The own number tells the proof that the record is sound.
+    let _me = one.me();
     let rows = tables::copy(alloc, other.outbox())?;
     let seen = BTreeMap::new(alloc);
     let parents = BTreeMap::new(alloc);
     let own = BTreeMap::new(alloc);
-    let diffusion = Diffusion::restore(alloc, me, rows, seen, parents, own, other.next_message(), 1)?;
+    let next = other.next_message();
+    let diffusion = Diffusion::restore(alloc, me, rows, seen, parents, own, next, 1)?;
     let quarantine = other.quarantine().copy(alloc)?;
     let captured = one.captured().copy(alloc)?;
     let sites = other.sites().copy(alloc)?;
     Ok(SiteState::restore(alloc, sites, captured, quarantine, diffusion))
 }
 
-/// Whether just this condition is charged to B, which captured this, and quarantined and sent what it would after these
-/// steps.
-fn charges_joined(
-    alloc: Global,
-    a: &[Given],
-    captured: &[Given],
-    steps: &[Given],
-    condition: u64,
-) -> Result<bool, Fail> {
-    let wanted = Misfit {
-        condition,
-        site: number(1)?,
-    };
-    let a = site(alloc, 0, a)?;
+/// Site B, where it captured what the one did, and quarantined and sent what the other did.
+fn b_of(alloc: Global, one: &SiteState, other: &SiteState) -> Result<SiteState, Fail> {
+    if one.me() == other.me() {
+        if one.sites().len() == other.sites().len() {
+            return Ok(joined(alloc, one, other)?);
+        }
+    }
+    Err(Fail::new("two sites"))
+}
+
+/// Site B, which captured this, and quarantined and sent what it would after these steps.
+fn b_after(alloc: Global, captured: &[Given], steps: &[Given]) -> Result<SiteState, Fail> {
     let one = site(alloc, 1, captured)?;
     let other = site(alloc, 1, steps)?;
-    let b = joined(alloc, &one, &other)?;
-    let c = site(alloc, 2, &[])?;
-    Ok(says(alloc, &a, &b, &c)? == Some(wanted))
+    b_of(alloc, &one, &other)
+}
+
+/// A, which was given this, such a site B, and an empty C.
+fn with_joined(alloc: Global, given: [&[Given]; 3]) -> Result<Vec<SiteState>, Fail> {
+    let mut sites = Vec::new(alloc);
+    sites.push(site(alloc, 0, given[0])?)?;
+    sites.push(b_after(alloc, given[1], given[2])?)?;
+    sites.push(empty(alloc, 2)?)?;
+    Ok(sites)
+}
+
+/// Whether just this condition is charged to such a site B, beside A, which was given this, and an empty C.
+fn charges_joined(alloc: Global, given: [&[Given]; 3], condition: u64) -> Result<bool, Fail> {
+    let sites = with_joined(alloc, given)?;
+    names(alloc, &sites, condition, 1)
 }
 
 #[test]
 fn what_is_made_of_a_quarantined_item_is_missed(rt: HostRuntime) -> Result<(), Fail> {
-    assert!(rt; charges_joined(rt.alloc(), &ENDED, &[Made("y", "z")], &[Told(0, "y")], 1)?);
+    assert!(rt; charges_joined(rt.alloc(), [&ENDED, &[Made("y", "z")], &[Told(0, "y")]], 1)?);
     Ok(())
 }
 
@@ -59,7 +74,7 @@ fn what_is_made_of_a_quarantined_item_is_missed(rt: HostRuntime) -> Result<(), F
 fn a_message_that_waits_at_a_neutral_site_is_seen(rt: HostRuntime) -> Result<(), Fail> {
     let shipped = [Shipped("y", "a")];
     let steps = [Shipped("y", "a"), Told(0, "y")];
-    assert!(rt; charges_joined(rt.alloc(), &BEGUN, &shipped, &steps, 4)?);
+    assert!(rt; charges_joined(rt.alloc(), [&BEGUN, &shipped, &steps], 4)?);
     Ok(())
 }
 
@@ -72,13 +87,25 @@ fn each_condition_is_charged_alone(rt: HostRuntime) -> Result<(), Fail> {
     let root = [Shipped("w", "c"), Recalled("w"), Signalled(2)];
     assert!(rt; is_charged(alloc, [&root, &[Told(0, "y")], &[Told(0, "w")]], 3, 1)?);
     // A's message to B is gone, though it is B's parent.
-    assert!(rt; is_charged(alloc, [&ENDED, &[Shipped("y", "a"), Told(0, "y")], &[]], 5, 1)?);
+    assert!(rt;
+        is_charged(
+            alloc,
+            [&ENDED, &[Shipped("y", "a"), Told(0, "y")], &[]],
+            5,
+            1
+        )?
+    );
     // B and C are each other's parents.
     let b = [Shipped("y", "c"), Told(2, "y")];
     let c = [Shipped("y", "b"), Told(1, "y")];
     assert!(rt; is_charged(alloc, [&BEGUN, &b, &c], 6, 1)?);
     // A has seen a message that B hasn't numbered.
-    let a = [Made("x", "y"), Shipped("y", "b"), Recalled("x"), Told(1, "y")];
+    let a = [
+        Made("x", "y"),
+        Shipped("y", "b"),
+        Recalled("x"),
+        Told(1, "y"),
+    ];
     assert!(rt; is_charged(alloc, [&a, &[Shipped("y", "a")], &[]], 10, 1)?);
     Ok(())
 }

@@ -1,4 +1,4 @@
-use Rattle.std.proofs.Common.{◌↔◌, ◌<◌, ℕ, length, subst, sym}
+use Rattle.std.proofs.Common.{◌↔◌, ◌<◌, length, subst, sym}
 use Rattle.std.proofs.lemmas.Result.{on_ok_weaker}
 use Rattle.site_recovery.specs.Checking.{HeldIn, IsReachedBy, records_at, world_at}
 use Rattle.site_recovery.specs.FittingAt.{IsJustifiedAt}

@@ -1,5 +1,4 @@
 use Rattle.std.proofs.Common.{◌+◌, drop, subst}
-use Rattle.std.specs.FinMap.{entries}
 use Rattle.trace_core.specs.Chains.{sites_at}
 use Rattle.site_recovery.specs.Checking.{Adds}
 use Rattle.site_recovery.proofs.ReachedItems.{OwnReaches, SiteReaches, all_come, all_recalls, none_from, one_further, sites_from}

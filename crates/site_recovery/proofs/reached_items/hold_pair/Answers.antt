@@ -1,4 +1,4 @@
-use Rattle.std.proofs.Common.{subst, arith}
+use Rattle.std.proofs.Common.{arith}
 use Rattle.site_recovery.proofs.ReachedItems.{pair_held}
 use Rattle.site_recovery.proofs.reached_items.hold_pair.Goals as goal
 

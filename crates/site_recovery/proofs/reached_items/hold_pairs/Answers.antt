@@ -2,7 +2,6 @@ use Rattle.std.proofs.Common.{◌≡◌, sym, subst, arith}
 use Rattle.std.specs.List.{Contains}
 use Rattle.std.specs.Vec.Iter.{into_iter_items}
 use Rattle.std.proofs.lemmas.List.{nil_from_length}
-use Rattle.frame_core.specs.Numbers.{Recall}
 use Rattle.trace_core.specs.declared.pairs.Pair.{Pair}
 use Rattle.site_recovery.proofs.ReachedItems.{adds_alike, all_come, none_yet, one_further}
 use Rattle.site_recovery.proofs.reached_items.hold_pairs.Goals as goal

@@ -1,5 +1,5 @@
-use Rattle.std.proofs.Common.{◌≡◌, ◌↔◌, ◌∙◌, ℕ, List, ap, get_or, subst}
-use Rattle.std.specs.FinMap.{empty, entries}
+use Rattle.std.proofs.Common.{◌↔◌, ◌∙◌, ℕ, List, ap, subst}
+use Rattle.std.specs.FinMap.{entries}
 use Rattle.std.specs.Prelude.{IsTrue}
 use Rattle.std.proofs.lemmas.Result.{IfOk-weaker}
 use Rattle.frame_core.specs.Numbers.{Recall}
