@@ -1,5 +1,5 @@
 -- What the answer to an event says of the site.
-use Rattle.std.proofs.Common.{◌≡◌, ℕ, ◌+◌, ◌++◌, List, [], ◌∷◌, length, get_or, Option, Some, None, refl, sym, ap, ◌∙◌, subst, inl, inr, arith, length-append}
+use Rattle.std.proofs.Common.{◌≡◌, ℕ, ◌+◌, List, [], ◌∷◌, length, Option, Some, None, refl, sym, ap, ◌∙◌, subst, inl, inr, length-append}
 use Rattle.std.specs.Prelude.{slice_get, slice_set, option_and_then}
 use Rattle.std.proofs.lemmas.List.{set-get_or}
 use Rattle.std.proofs.lemmas.Option.{get_or_from_slice_get}
@@ -10,11 +10,10 @@ use Rattle.site_core.specs.Records.{Record}
 use Rattle.site_core.specs.declared.inputs.SiteInput.{SiteInput}
 use Rattle.world_core.specs.Turns.{Sends, input_at}
 use Rattle.world_core.specs.Worlds.{Standing, Up, Down, WorldState}
-use Rattle.world_core.specs.declared.events.Answer.{Answer}
 use Rattle.world_core.specs.declared.events.Answer.TheVariants.{NoMemory, Sent, Reopened}
 use Rattle.world_core.specs.declared.events.WorldEvent.TheVariants.{Step, Send, Stop, Reopen}
 use Rattle.world_core.specs.declared.events.WorldInput.{WorldInput}
-use Rattle.script_core.specs.Events.{answer_for, IsAnswered, IsHanded, TurnsFrom, Turns}
+use Rattle.script_core.specs.Events.{answer_for, IsHanded, TurnsFrom, Turns}
 use Rattle.script_core.specs.Happening.{Happens, with_site, with_sent}
 use Rattle.script_core.specs.State.{shown_by, up_in}
 use Rattle.script_core.specs.declared.worlds.Outcome.{Outcome}
@@ -54,9 +53,11 @@ module _ (w after : WorldState) (site : ℕ) (old : Record) where
     by : (s : Option Standing) → option_and_then shown_by s ≡ Some old → TurnsFrom s w (Step site input) (answer_for o) after → Came w site old None given o after
     by None e turns = cc
     by (Some (Down r)) e turns = cc
-    by (Some (Up r)) e (changed, (hands, same), set) =
-        (changed, handed old None given o changed (subst (λ i. IsHanded old None i (answer_for o) changed) there (subst (λ q. IsHanded q None (input_at w.sent site input) (answer_for o) changed) (same_up r e) hands)),
-        ap (λ (sites : List Standing). let x : WorldState = record { sites = sites; sent = after.sent } in x) set ∙ ap (λ (sent : List Frame). let x : WorldState = record { sites = slice_set w.sites site changed; sent = sent } in x) same)
+    by (Some (Up r)) e (changed, (hands, same), set) = (
+      changed,
+      handed old None given o changed (subst (λ i. IsHanded old None i (answer_for o) changed) there (subst (λ q. IsHanded q None (input_at w.sent site input) (answer_for o) changed) (same_up r e) hands)),
+      ap (λ (sites : List Standing). let x : WorldState = record { sites = sites; sent = after.sent } in x) set ∙ ap (λ (sent : List Frame). let x : WorldState = record { sites = slice_set w.sites site changed; sent = sent } in x) same,
+    )
 
   pub was_stopped : (input : WorldInput) (keep : Keep) (given : SiteInput) (o : Outcome) → up_in w.sites site ≡ Some old → input_at w.sent site input ≡ Some given
       → Turns w (Stop site input keep) (answer_for o) after → Came w site old (Some keep) given o after
@@ -64,9 +65,11 @@ module _ (w after : WorldState) (site : ℕ) (old : Record) where
     by : (s : Option Standing) → option_and_then shown_by s ≡ Some old → TurnsFrom s w (Stop site input keep) (answer_for o) after → Came w site old (Some keep) given o after
     by None e turns = cc
     by (Some (Down r)) e turns = cc
-    by (Some (Up r)) e (changed, (hands, same), set) =
-        (changed, handed old (Some keep) given o changed (subst (λ i. IsHanded old (Some keep) i (answer_for o) changed) there (subst (λ q. IsHanded q (Some keep) (input_at w.sent site input) (answer_for o) changed) (same_up r e) hands)),
-        ap (λ (sites : List Standing). let x : WorldState = record { sites = sites; sent = after.sent } in x) set ∙ ap (λ (sent : List Frame). let x : WorldState = record { sites = slice_set w.sites site changed; sent = sent } in x) same)
+    by (Some (Up r)) e (changed, (hands, same), set) = (
+      changed,
+      handed old (Some keep) given o changed (subst (λ i. IsHanded old (Some keep) i (answer_for o) changed) there (subst (λ q. IsHanded q (Some keep) (input_at w.sent site input) (answer_for o) changed) (same_up r e) hands)),
+      ap (λ (sites : List Standing). let x : WorldState = record { sites = sites; sent = after.sent } in x) set ∙ ap (λ (sent : List Frame). let x : WorldState = record { sites = slice_set w.sites site changed; sent = sent } in x) same,
+    )
 
   same_sites : (r : Record) → slice_get w.sites site ≡ Some (Up r) → slice_set w.sites site (Up r) ≡ w.sites
   same_sites r at = ap (λ s. slice_set w.sites site s) (sym (get_or_from_slice_get w.sites site (Up r) (Up r) at)) ∙ set-get_or w.sites site (Up r)
@@ -79,9 +82,10 @@ module _ (w after : WorldState) (site : ℕ) (old : Record) where
     by (Some (Down r)) is e turns = cc
     by (Some (Up r)) is e (changed, (sends, same), set) =
         let (sent, told) = subst (λ f. Sends f w.sent (Sent at) after.sent) emits (subst (λ (q : Record). Sends (frame_at q.engagement place) w.sent (Sent at) after.sent) (same_up r e) sends) in
-        let sites : after.sites ≡ w.sites = set ∙ ap (λ s. slice_set w.sites site s) same ∙ same_sites r is in
-        (told ∙ ap length sent ∙ length-append w.sent (frame ∷ []),
-        ap (λ (x : List Standing). let v : WorldState = record { sites = x; sent = after.sent } in v) sites ∙ ap (λ (x : List Frame). let v : WorldState = record { sites = w.sites; sent = x } in v) sent)
+        let sites : after.sites ≡ w.sites = set ∙ ap (λ s. slice_set w.sites site s) same ∙ same_sites r is in (
+          told ∙ ap length sent ∙ length-append w.sent (frame ∷ []),
+          ap (λ (x : List Standing). let v : WorldState = record { sites = x; sent = after.sent } in v) sites ∙ ap (λ (x : List Frame). let v : WorldState = record { sites = w.sites; sent = x } in v) sent,
+        )
 
   pub was_opened : slice_get w.sites site ≡ Some (Down old) → Turns w (Reopen site) Reopened after → after ≡ with_site w site (Up old)
   was_opened there h = by (subst (λ s. TurnsFrom s w (Reopen site) Reopened after) there h) where

@@ -234,9 +234,9 @@ pub past_fields : (text : List ℕ) → length (past_spaces text) ≡ 0 → fiel
 past_fields text none =
     let b = behind text in
     ap fields b.is ∙ fields_more b.gap (past_spaces text) b.spaces ∙ ap fields (empty (past_spaces text) none) where
-  empty : (xs : List ℕ) → length xs ≡ 0 → xs ≡ []
-  empty [] e = refl
-  empty (x ∷ xs) e = absurd (omega (arith, e))
+      empty : (xs : List ℕ) → length xs ≡ 0 → xs ≡ []
+      empty [] e = refl
+      empty (x ∷ xs) e = absurd (omega (arith, e))
 
 pub some_fields : (text : List ℕ) → 0 < length (past_spaces text) → 0 < length (fields text)
 some_fields text some = elim (step text) as (λ s. 0 < length (fields text)) [

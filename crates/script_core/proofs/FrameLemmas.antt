@@ -1,5 +1,5 @@
 -- Places among the frames that a record makes emittable.
-use Rattle.std.proofs.Common.{◌≡◌, ℕ, zero, suc, ◌+◌, ◌<◌, Bool, true, false, not, ◌&&◌, cond, List, [], ◌∷◌, ◌++◌, length, drop, map, Option, Some, None, refl, sym, ap, ◌∙◌, subst, arith}
+use Rattle.std.proofs.Common.{◌≡◌, ℕ, zero, suc, ◌+◌, Bool, true, false, not, ◌&&◌, cond, List, [], ◌∷◌, ◌++◌, length, drop, Option, Some, None, refl, sym, ap, ◌∙◌, subst, arith}
 use Rattle.std.specs.Prelude.{filter, is_some, option_map, slice_get, Contains}
 use Rattle.std.specs.Cmp.{nat_cmp_total}
 use Rattle.std.specs.FinMap.{entries, get, nat_cmp-IsAntisymmetric}
@@ -7,13 +7,12 @@ use Rattle.std.proofs.lemmas.List.{length-map}
 use Rattle.std.proofs.lemmas.Option.{slice_get-map}
 use Rattle.frame_core.specs.Numbers.{Recall, Message}
 use Rattle.frame_core.specs.Orders.{message_total, message_exact}
-use Rattle.frame_core.specs.declared.frames.Frame.{Frame}
 use Rattle.frame_core.specs.declared.rows.Row.{Row}
 use Rattle.site_core.specs.Emitting.{frame_at, is_parent, message_frame, message_frames, signal_frame, signal_frames}
 use Rattle.site_core.specs.Records.{Record}
 use Rattle.site_core.proofs.Places.{member_there, stands_next}
 use Rattle.site_recovery.proofs.Entries.{entry_found, entry_there}
-use Rattle.trace_core.proofs.Members.{contains_here, contains_cases, contains_none}
+use Rattle.trace_core.proofs.Members.{contains_cases, contains_none}
 use mathlib.Core.Logic.{inl, inr}
 use Rattle.script_core.specs.Sending.{row_frame, owed_signal, FindsPlace}
 

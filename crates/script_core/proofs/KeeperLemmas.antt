@@ -1,7 +1,6 @@
 -- What an event does to keepers in memory at which no stop is armed.
-use Rattle.std.proofs.Common.{◌≡◌, ◌<◌, ℕ, ◌++◌, Bool, true, false, List, [], ◌∷◌, length, get_or, All, Option, Some, None, Result, Ok, Err, refl, sym, ap, ◌∙◌, subst, inl, inr, map}
-use mathlib.Core.Logic.{◌⊎◌}
-use Rattle.std.specs.Prelude.{option_map, option_and_then, slice_get, slice_set}
+use Rattle.std.proofs.Common.{◌≡◌, ℕ, Bool, true, false, List, [], ◌∷◌, length, All, Option, Some, None, Result, Ok, Err, refl, sym, ap, ◌∙◌, subst, inl, inr, map}
+use Rattle.std.specs.Prelude.{option_map, option_and_then, slice_get}
 use Rattle.std.proofs.lemmas.List.{map-set, length-set}
 use Rattle.std.proofs.lemmas.List.Elements.{All-set, All-get_or}
 use Rattle.std.proofs.lemmas.Option.{slice_get-map, slice_get_within, get_or_from_slice_get}
@@ -11,7 +10,6 @@ use Rattle.keeper_core.specs.declared.faults.Keep.{Keep}
 use Rattle.keeper_core.specs.declared.faults.Keep.TheVariants.{Old, New}
 use Rattle.keeper_core.specs.declared.faults.KeepFault.{KeepFault}
 use Rattle.keeper_core.specs.declared.faults.KeepFault.TheVariants as faults
-use Rattle.keeper_core.specs.declared.faults.Unopened.{Unopened}
 use Rattle.site_core.specs.Records.{Record}
 use Rattle.site_core.specs.declared.inputs.SiteInput.{SiteInput}
 use Rattle.site_core.specs.declared.outcomes.Effects.{Effects}
@@ -24,7 +22,7 @@ use Rattle.world_core.specs.declared.events.Answer.{Answer}
 use Rattle.world_core.specs.declared.events.Answer.TheVariants.{Done, Fault, Sent, NoFrame, NoSite, Stopped, Reopened, NotReopened, NotClosed, NoMemory}
 use Rattle.world_core.specs.declared.events.WorldEvent.{WorldEvent}
 use Rattle.world_core.specs.declared.events.WorldEvent.TheVariants.{Step, Send, Stop, Reopen}
-use Rattle.script_core.specs.Events.{answer_for, IsAnswered, IsHanded, TurnsAt, TurnsFrom, Turns}
+use Rattle.script_core.specs.Events.{answer_for, IsHanded, TurnsAt, TurnsFrom, Turns}
 use Rattle.script_core.specs.Keepers.{standing_by, standing_of}
 use Rattle.script_core.specs.State.{shown_by, up_in}
 use Rattle.script_core.specs.declared.worlds.Outcome.{Outcome}
@@ -124,19 +122,21 @@ pub all_turned : (keepers after : List InMemory) (sent now : List Frame) (event 
     → AreUnarmed keepers → AllTurned keepers sent event answer after now → Turns (seen_as keepers sent) event answer (seen_as after now) × AreUnarmed after
 all_turned keepers after sent now event answer all h =
     by (slice_get keepers (site_of event)) refl h where
-  by : (o : Option InMemory) → slice_get keepers (site_of event) ≡ o
-      → KeepersTurnFrom shown_in (λ k. AppliesIn k.is_open k.armed k) (λ k. StopsWhereOpen k.is_open k) ReopensIn o (record { keepers = keepers; sent = sent }) event answer (record { keepers = after; sent = now })
-      → Turns (seen_as keepers sent) event answer (seen_as after now) × AreUnarmed after
-  by None at (told, same) =
-      let there : slice_get (map standing_of keepers) (site_of event) ≡ None = slice_get-map standing_of keepers (site_of event) ∙ ap (option_map standing_of) at in
-      (subst (λ s. TurnsFrom s (seen_as keepers sent) event answer (seen_as after now)) (sym there) (told, ap (λ (s : Sites InMemory). seen_as s.keepers s.sent) same),
-      subst AreUnarmed (sym (ap (λ (s : Sites InMemory). s.keepers) same)) all)
-  by (Some k) at (changed, turns, set) =
-      let there : slice_get (map standing_of keepers) (site_of event) ≡ Some (standing_of k) = slice_get-map standing_of keepers (site_of event) ∙ ap (option_map standing_of) at in
-      let (does, unarmed) = turned_one k sent now event answer changed (unarmed_at keepers (site_of event) k all at) turns in
-      (subst (λ s. TurnsFrom s (seen_as keepers sent) event answer (seen_as after now)) (sym there)
-          (standing_of changed, does, ap (map standing_of) set ∙ map-set standing_of keepers (site_of event) changed),
-      subst AreUnarmed (sym set) (All-set (λ k. k.armed ≡ None) keepers (site_of event) changed unarmed all))
+      by : (o : Option InMemory) → slice_get keepers (site_of event) ≡ o
+          → KeepersTurnFrom shown_in (λ k. AppliesIn k.is_open k.armed k) (λ k. StopsWhereOpen k.is_open k) ReopensIn o (record { keepers = keepers; sent = sent }) event answer (record { keepers = after; sent = now })
+          → Turns (seen_as keepers sent) event answer (seen_as after now) × AreUnarmed after
+      by None at (told, same) =
+          let there : slice_get (map standing_of keepers) (site_of event) ≡ None = slice_get-map standing_of keepers (site_of event) ∙ ap (option_map standing_of) at in (
+            subst (λ s. TurnsFrom s (seen_as keepers sent) event answer (seen_as after now)) (sym there) (told, ap (λ (s : Sites InMemory). seen_as s.keepers s.sent) same),
+            subst AreUnarmed (sym (ap (λ (s : Sites InMemory). s.keepers) same)) all,
+          )
+      by (Some k) at (changed, turns, set) =
+          let there : slice_get (map standing_of keepers) (site_of event) ≡ Some (standing_of k) = slice_get-map standing_of keepers (site_of event) ∙ ap (option_map standing_of) at in
+          let (does, unarmed) = turned_one k sent now event answer changed (unarmed_at keepers (site_of event) k all at) turns in (
+            subst (λ s. TurnsFrom s (seen_as keepers sent) event answer (seen_as after now)) (sym there)
+                (standing_of changed, does, ap (map standing_of) set ∙ map-set standing_of keepers (site_of event) changed),
+            subst AreUnarmed (sym set) (All-set (λ k. k.armed ≡ None) keepers (site_of event) changed unarmed all),
+          )
 
 -- ---- the frames sent
 
@@ -223,9 +223,9 @@ shown_records [] [] all = refl
 shown_records (k ∷ ks) (r ∷ rs) all =
     let one : record_of (standing_of k) ≡ r = by k.is_open all.0 in
     ap (λ x. x ∷ map record_of (map standing_of ks)) one ∙ ap (λ xs. r ∷ xs) (shown_records ks rs all.1) where
-  by : (o : Bool) → shown_in (record k { is_open = o }) ≡ Some r → record_of (standing_by o k.state) ≡ r
-  by true e = cc
-  by false e = cc
+      by : (o : Bool) → shown_in (record k { is_open = o }) ≡ Some r → record_of (standing_by o k.state) ≡ r
+      by true e = cc
+      by false e = cc
 shown_records [] (r ∷ rs) all = absurd all
 shown_records (k ∷ ks) [] all = absurd all
 

@@ -62,7 +62,7 @@ module _ (w : World) where
   some_all_up None P some = some
   some_all_up (Some n) P some = (_, w, (refl, refl))
 
--- ---- each kind of task
+  -- ---- each kind of task
 
   one_told : (n : ℕ) (input : SiteInput) (about : List ℕ) (old : Record) → One (Tells w n input about old)
   one_told n input about old a b t u p q =

@@ -6,7 +6,7 @@ use Rattle.frame_core.specs.declared.frames.Frame.{Frame}
 use Rattle.site_core.specs.Records.{Record}
 use Rattle.site_core.specs.declared.inputs.SiteInput.TheVariants.{Deliver}
 use Rattle.world_core.specs.Turns.{addressee}
-use Rattle.script_core.specs.Answer.{Said, done}
+use Rattle.script_core.specs.Answer.{done}
 use Rattle.script_core.specs.Happening.{with_standing, with_frame}
 use Rattle.script_core.specs.Pumping.{Arrives, Comes, Carries, Exchanges, Each, TakesPart, TakesRound, Pumps, all_opened, answer_to, message_from, numbers_at, pump_text}
 use Rattle.script_core.specs.State.{World, up_at, armed_at}
@@ -51,7 +51,7 @@ one_exchange : (site number : ℕ) (w : World) → One (Exchanges site number w)
 one_exchange site number w a b t u p q =
     let (front, mid) = one_carriage (message_from w site number) w p.front q.front p.mid q.mid p.goes q.goes in
     let (back, end) = one_carriage (answer_to p.mid (message_from w site number)) p.mid p.back q.back t u p.comes
-        (subst (λ m. Carries (answer_to m (message_from w site number)) m q.back u) (sym mid) q.comes) in
+    (subst (λ m. Carries (answer_to m (message_from w site number)) m q.back u) (sym mid) q.comes) in
     (p.told ∙ ap (λ x. x ++ p.back) front ∙ ap (λ x. q.front ++ x) back ∙ sym q.told, end)
 
 some_exchange : (site number : ℕ) (w : World) → Some_of (Exchanges site number w)
@@ -89,9 +89,11 @@ some_round round w = some_each TakesPart some_part (range_with_len 0 (length w.s
 
 pub one_pump : (rounds : ℕ) (w : World) → One (Pumps rounds w)
 one_pump rounds w a b t u p q =
-    let (text, end) = one_each (λ round. TakesRound) one_round (range_with_len 0 rounds) w p.text q.text t u p.run q.run in
-    (p.told ∙ ap (λ x. done (x ++ pumped_text rounds (length t.world.sent - length w.world.sent))) text
-    ∙ ap (λ (x : World). done (q.text ++ pumped_text rounds (length x.world.sent - length w.world.sent))) end ∙ sym q.told, end)
+    let (text, end) = one_each (λ round. TakesRound) one_round (range_with_len 0 rounds) w p.text q.text t u p.run q.run in (
+      p.told ∙ ap (λ x. done (x ++ pumped_text rounds (length t.world.sent - length w.world.sent))) text
+          ∙ ap (λ (x : World). done (q.text ++ pumped_text rounds (length x.world.sent - length w.world.sent))) end ∙ sym q.told,
+      end,
+    )
 
 pub some_pump : (rounds : ℕ) (w : World) → Some_of (Pumps rounds w)
 some_pump rounds w =

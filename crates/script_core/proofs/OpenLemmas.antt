@@ -1,11 +1,11 @@
 -- Opening sites, one after another.
-use Rattle.std.proofs.Common.{◌≡◌, ℕ, zero, suc, ◌+◌, ◌<◌, ◌≤◌, ◌++◌, List, [], ◌∷◌, length, map, take, drop, Option, Some, None, refl, sym, ap, ◌∙◌, subst, append-nil, arith, slice_get, slice_set}
+use Rattle.std.proofs.Common.{◌≡◌, ℕ, zero, suc, ◌+◌, ◌<◌, ◌≤◌, ◌++◌, List, [], ◌∷◌, length, map, take, drop, Option, Some, None, refl, sym, ap, ◌∙◌, arith, slice_get, slice_set}
 use Rattle.std.proofs.lemmas.List.{set-get_or}
 use Rattle.std.proofs.lemmas.Option.{get_or_from_slice_get}
 use Rattle.site_core.specs.Records.{Record}
 use Rattle.world_core.specs.Worlds.{Standing, Up, Down}
 use Rattle.script_core.specs.Happening.{opened, with_site}
-use Rattle.script_core.specs.Pumping.{opened_at, with_opened, all_opened}
+use Rattle.script_core.specs.Pumping.{opened_at, with_opened}
 use Rattle.script_core.specs.State.{World}
 
 abbrev pub with_standings : World → List Standing → World
@@ -29,6 +29,7 @@ opened_next sites n next within is = let one : next ≡ suc n = omega (arith, is
   put : (x : Standing) (xs : List Standing) (n : ℕ) (o : Option Standing) → opened_at (x ∷ xs) (suc n) o ≡ x ∷ opened_at xs n o
   put x xs n None = refl
   put x xs n (Some s) = refl
+
   by : (sites : List Standing) (n : ℕ) → n < length sites → opened_at (opened_to sites n) n (slice_get (opened_to sites n) n) ≡ opened_to sites (suc n)
   by [] n within = absurd (omega (arith, within))
   by (x ∷ xs) zero within = refl

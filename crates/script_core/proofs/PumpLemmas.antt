@@ -1,6 +1,5 @@
 -- What rounds do, step by step.
-use Rattle.std.proofs.Common.{◌≡◌, ℕ, zero, suc, ◌+◌, ◌<◌, List, [], ◌∷◌, ◌++◌, length, take, Option, Some, None, refl, sym, ap, ◌∙◌, subst, append_assoc, append-nil, arith}
-use Rattle.std.specs.Prelude.{option_and_then}
+use Rattle.std.proofs.Common.{◌≡◌, ℕ, zero, suc, ◌+◌, List, [], ◌∷◌, ◌++◌, Option, Some, None, refl, sym, ap, ◌∙◌, subst, append_assoc, append-nil, arith}
 use Rattle.std.specs.List.{range_with_len}
 use Rattle.event_json.specs.Sites.{Site}
 use Rattle.frame_core.specs.declared.frames.Frame.{Frame}
@@ -9,7 +8,7 @@ use Rattle.site_core.specs.declared.inputs.SiteInput.TheVariants.{Deliver}
 use Rattle.world_core.specs.Turns.{addressee}
 use Rattle.world_core.specs.Worlds.{Standing}
 use Rattle.script_core.specs.Happening.{Happens, with_standing, with_frame}
-use Rattle.script_core.specs.Pumping.{AddsText, Arrives, Carries, Comes, Each, Exchanges, Nothing, answer_to, message_from, pump_text}
+use Rattle.script_core.specs.Pumping.{AddsText, Carries, Comes, Each, Exchanges, answer_to, message_from, pump_text}
 use Rattle.script_core.specs.State.{World, up_at, armed_at}
 use Rattle.script_core.specs.declared.worlds.Outcome.{Outcome}
 
@@ -38,10 +37,11 @@ carried w mid after n frame q outcome standing sites before text sent to up happ
 
 -- a frame was sent, and its site is down
 pub lost : (w mid : World) (n : ℕ) (frame : Frame) (before : List ℕ) → mid ≡ with_frame w frame → addressee frame ≡ n → up_at mid n ≡ None → AddsText (Carries (Some frame)) w mid before before
-lost w mid n frame before sent to down =
-    ([],
-    subst (λ k. Comes frame (up_at w k) (with_frame w frame) [] mid) (sym to) (subst (λ o. Comes frame o (with_frame w frame) [] mid) (sym (sym (ap (λ x. up_at x n) sent) ∙ down)) (refl, sent)),
-    sym (append-nil before))
+lost w mid n frame before sent to down = (
+  [],
+  subst (λ k. Comes frame (up_at w k) (with_frame w frame) [] mid) (sym to) (subst (λ o. Comes frame o (with_frame w frame) [] mid) (sym (sym (ap (λ x. up_at x n) sent) ∙ down)) (refl, sent)),
+  sym (append-nil before),
+)
 
 -- one more of a list
 pub each_more : (Do : ℕ → World → List ℕ → World → Type 0) (xs : List ℕ) (x : ℕ) (w mid after : World) (front back : List ℕ)

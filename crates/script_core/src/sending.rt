@@ -20,7 +20,12 @@ use std::alloc::{AllocError, Global};
 
 impl Running {
     /// Sends the message that a site gave a number.
-    pub(crate) fn send(&mut self, alloc: Global, name: &str, number: u64) -> Result<Answer, AllocError>
+    pub(crate) fn send(
+        &mut self,
+        alloc: Global,
+        name: &str,
+        number: u64,
+    ) -> Result<Answer, AllocError>
         ensures { IfOk result (λ a. DoesTask self.old (send name.now number) (answer_of a) self.new) }
     {
         let Some(site) = self.find(name) else {

@@ -1,6 +1,6 @@
 //! Lines that stop a site and open it again: `stop`, `reopen`.
 
-ghost use Rattle.std.specs.Prelude.{◌≡◌, IfOk, slice_set, Some};
+ghost use Rattle.std.specs.Prelude.{◌≡◌, IfOk, Some};
 ghost use Rattle.script_core.specs.Answer.{answer_of};
 ghost use Rattle.script_core.specs.Happening.{with_armed};
 ghost use Rattle.script_core.specs.Requests.{stop, reopen};
@@ -14,7 +14,12 @@ use std::alloc::{AllocError, Global};
 
 impl Running {
     /// Arms a stop for the next step of a site.
-    pub(crate) fn stop(&mut self, alloc: Global, name: &str, keep: Keep) -> Result<Answer, AllocError>
+    pub(crate) fn stop(
+        &mut self,
+        alloc: Global,
+        name: &str,
+        keep: Keep,
+    ) -> Result<Answer, AllocError>
         ensures { IfOk result (λ a. DoesTask self.old (stop name.now keep) (answer_of a) self.new) }
     {
         let Some(site) = self.find(name) else {

@@ -1,7 +1,6 @@
 //! What a line asks of the world, by its fields.
 
 ghost use Rattle.std.specs.Prelude.{◌≡◌, option_map};
-ghost use Rattle.script_core.specs.Requests as requests;
 ghost use Rattle.script_core.specs.Steps.{keep_found, one_found, rounds_found, task_of, three_found, two_found, worded};
 
 use crate::fields::Words;
@@ -15,13 +14,25 @@ const MOST_ROUNDS: u64 = 1_000;
 #[derive(Clone, Copy, Debug)]
 pub(crate) enum Task<'a> {
     /// A document is captured at a site.
-    Capture { name: &'a str, document: &'a str },
+    Capture {
+        name: &'a str,
+        document: &'a str,
+    },
     /// The pairs that an item at a site reaches.
-    Reach { name: &'a str, item: &'a str },
+    Reach {
+        name: &'a str,
+        item: &'a str,
+    },
     /// A recall of an item is started at a site.
-    Recall { name: &'a str, item: &'a str },
+    Recall {
+        name: &'a str,
+        item: &'a str,
+    },
     /// A site sends the message of this number.
-    Send { name: &'a str, number: u64 },
+    Send {
+        name: &'a str,
+        number: u64,
+    },
     /// A site signals the message that the sender gave this number.
     Signal {
         name: &'a str,
@@ -29,15 +40,27 @@ pub(crate) enum Task<'a> {
         number: u64,
     },
     /// The frame that was sent at this place, from 1, comes to its site.
-    Deliver { place: u64 },
+    Deliver {
+        place: u64,
+    },
     /// The next step of a site is a stop.
-    Stop { name: &'a str, keep: Keep },
+    Stop {
+        name: &'a str,
+        keep: Keep,
+    },
     /// A closed site is opened.
-    Reopen { name: &'a str },
+    Reopen {
+        name: &'a str,
+    },
     /// So many rounds in which all that stands is sent and answered.
-    Pump { rounds: u64 },
+    Pump {
+        rounds: u64,
+    },
     /// What is quarantined under the recall that a site gave this number.
-    Quarantine { name: &'a str, number: u64 },
+    Quarantine {
+        name: &'a str,
+        number: u64,
+    },
 }
 
 impl<'a> Task<'a> {

@@ -1,6 +1,6 @@
 //! Texts of recalls, messages, effects and refusals.
 
-ghost use Rattle.std.specs.Prelude.{◌≡◌, ◌++◌, ◌∷◌, [], codes, IfOk, OnOk, string_bytes, unwrap_or, option_map, slice_get};
+ghost use Rattle.std.specs.Prelude.{◌≡◌, ◌++◌, ◌∷◌, [], codes, IfOk, OnOk, string_bytes, unwrap_or};
 ghost use Rattle.std.specs.Fmt.{decimal};
 ghost use Rattle.script_core.specs.Pumping.{pump_text};
 ghost use Rattle.script_core.specs.Words.{name_at, recall_text, message_text, ended_word, owed_word, captured_text, started_text, received_text, signalled_text, effects_text, doc_fault_text, blocked_text, refusal_text, stopped_text, ended_text, pair_text, each_pair, quarantined_text};
@@ -94,12 +94,7 @@ pub(crate) fn effects_text(
     }
 }
 
-fn captured_text(
-    alloc: Global,
-    fresh: u64,
-    known: u64,
-    skipped: u64,
-) -> Result<String, AllocError>
+fn captured_text(alloc: Global, fresh: u64, known: u64, skipped: u64) -> Result<String, AllocError>
     ensures { IfOk result (λ t. string_bytes t ≡ captured_text fresh known skipped) }
 {
     let mut text = format!(in alloc; "captured {fresh} known {known}")?;
@@ -158,12 +153,7 @@ fn signalled_text(alloc: Global, about: &str, what: &str) -> Result<String, Allo
     format!(in alloc; "signalled {about} {what}\n")
 }
 
-fn due_text(
-    alloc: Global,
-    sites: &Sites,
-    about: &str,
-    parent: MsgId,
-) -> Result<String, AllocError>
+fn due_text(alloc: Global, sites: &Sites, about: &str, parent: MsgId) -> Result<String, AllocError>
     ensures { IfOk result (λ t. string_bytes t ≡ signalled_text about.now (codes "due " ++ message_text sites.now parent)) }
 {
     let parent = message_text(alloc, sites, parent)?;
@@ -245,11 +235,7 @@ fn fault_text(alloc: Global, kind: &str, event: u64, field: &str) -> Result<Stri
 }
 
 /// That a site stopped within its step.
-pub(crate) fn stopped_text(
-    alloc: Global,
-    sites: &Sites,
-    site: SiteNo,
-) -> Result<String, AllocError>
+pub(crate) fn stopped_text(alloc: Global, sites: &Sites, site: SiteNo) -> Result<String, AllocError>
     ensures { IfOk result (λ t. string_bytes t ≡ stopped_text sites.now site) }
 {
     let name = name_of(sites, site);
@@ -304,11 +290,7 @@ pub(crate) fn quarantined_text(
 }
 
 /// Each pair, a line for each.
-pub(crate) fn pair_lines(
-    alloc: Global,
-    sites: &Sites,
-    pairs: &[Pair],
-) -> Result<String, AllocError>
+pub(crate) fn pair_lines(alloc: Global, sites: &Sites, pairs: &[Pair]) -> Result<String, AllocError>
     ensures { IfOk result (λ t. string_bytes t ≡ each_pair sites.now pairs.now) }
 {
     let mut text = String::new(alloc);

@@ -4,7 +4,12 @@ use crate::run_script;
 use std::test::Fail;
 
 /// Whether a script has these answers, and so many of them are refusals.
-pub(crate) fn answers(script: &str, expected: &str, refused: u64, rt: &HostRuntime) -> Result<bool, Fail> {
+pub(crate) fn answers(
+    script: &str,
+    expected: &str,
+    refused: u64,
+    rt: &HostRuntime,
+) -> Result<bool, Fail> {
     let alloc = rt.alloc();
     let mut written = Vec::new(alloc);
     let mut reader = script.as_bytes();

@@ -17,8 +17,7 @@ fn an_unknown_item_isnt_recalled(rt: HostRuntime) -> Result<(), Fail> {
 fn a_recall_that_tells_nobody_ends_at_once(rt: HostRuntime) -> Result<(), Fail> {
     let script =
         "site A a\nsite B b\ncapture A {\"type\":\"ObjectEvent\",\"eventTime\":\"2024-05-01T08:00:00Z\",\"eventTimeZoneOffset\":\"+00:00\",\"action\":\"OBSERVE\",\"epcList\":[\"z\"]}\nrecall A z\n";
-    let expected =
-        "captured 1 known 0 skipped 0\nrecall A#1 new 1 messages 0 ended\n";
+    let expected = "captured 1 known 0 skipped 0\nrecall A#1 new 1 messages 0 ended\n";
     assert!(rt; answers(script, expected, 0, &rt)?);
     Ok(())
 }

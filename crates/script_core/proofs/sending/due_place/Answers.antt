@@ -1,4 +1,4 @@
-use Rattle.std.proofs.Common.{◌≡◌, ℕ, ◌+◌, List, ◌∷◌, length, Some, true, false, sym, ◌∙◌, ap, rules, arith}
+use Rattle.std.proofs.Common.{◌≡◌, List, ◌∷◌, length, false, sym, ◌∙◌, rules, arith}
 use Rattle.std.specs.FinMap.{entries, get}
 use Rattle.frame_core.specs.Numbers.{Message, Recall}
 use Rattle.site_core.specs.Emitting.{is_parent}

@@ -1,10 +1,10 @@
-use Rattle.std.proofs.Common.{◌≡◌, ℕ, List, None, Option, ap, sym, ◌∙◌, subst, slice_set}
+use Rattle.std.proofs.Common.{◌≡◌, None, Option, ap, ◌∙◌, subst, slice_set}
 use Rattle.std.proofs.lemmas.Result.{IfOk-weaker}
 use Rattle.keeper_core.specs.declared.faults.Keep.{Keep}
-use Rattle.world_core.specs.Worlds.{Standing, WorldState}
+use Rattle.world_core.specs.Worlds.{WorldState}
 use Rattle.world_core.specs.Turns.{input_at}
-use Rattle.script_core.specs.Happening.{Happens, with_standing, with_site}
-use Rattle.script_core.specs.State.{World, armed_at, up_in}
+use Rattle.script_core.specs.Happening.{Happens, with_site}
+use Rattle.script_core.specs.State.{World, up_in}
 use Rattle.script_core.proofs.running.Running.hand.Goals as goal
 
 pub returns : goal.returns
@@ -20,6 +20,6 @@ returns c =
       h.0,
       subst (λ (a : Option Keep). Happens old a given outcome h.0) c.disarm-armed.ensures.was h.1,
       ap (λ (x : WorldState). let v : World = record { sites = inside.sites; world = x; armed = inside.armed.items } in v) (h.2 ∙ ap (λ (x : WorldState). with_site x c.args.site h.0) same_world)
-      ∙ ap (λ (x : World). let v : World = record { sites = x.sites; world = with_site w.world c.args.site h.0; armed = x.armed } in v) now,
+          ∙ ap (λ (x : World). let v : World = record { sites = x.sites; world = with_site w.world c.args.site h.0; armed = x.armed } in v) now,
     ))
     happens

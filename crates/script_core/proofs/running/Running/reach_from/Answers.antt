@@ -16,11 +16,13 @@ returns c =
     let pairs = c.in_ok-pairs.pairs.items in
     let none : first_down w ≡ None = sym c.first_down.ensures ∙ c.in_default.is in
     IfOk-weaker c.pairs.result _ _
-    (λ a e. subst (λ o. WhereAllUp w o (IsReachText w.sites (captured_of (records w.world)) c.args.root (answer_of a) × (w ≡ w)) (answer_of a) w) (sym none)
-    (record {
-      pairs = pairs;
-      ascending = c.in_ok-pairs.ensures.ascending;
-      reached = subst (λ captured. (p : Pair) → Contains pairs p ↔ Reaches (Related captured) c.args.root p) (ap sites_at c.as_slice.ensures.value ∙ c.in_ok-captured.ensures none) c.in_ok-pairs.ensures.reached;
-      text = e ∙ ap (λ ps. done (pairs_text c.names-2.result.now ps)) c.as_slice-2.ensures.value ∙ ap (λ sites. done (pairs_text sites pairs)) c.names-2.ensures;
-    }, refl))
+    (λ a e. subst (λ o. WhereAllUp w o (IsReachText w.sites (captured_of (records w.world)) c.args.root (answer_of a) × (w ≡ w)) (answer_of a) w) (sym none) (
+      record {
+        pairs = pairs;
+        ascending = c.in_ok-pairs.ensures.ascending;
+        reached = subst (λ captured. (p : Pair) → Contains pairs p ↔ Reaches (Related captured) c.args.root p) (ap sites_at c.as_slice.ensures.value ∙ c.in_ok-captured.ensures none) c.in_ok-pairs.ensures.reached;
+        text = e ∙ ap (λ ps. done (pairs_text c.names-2.result.now ps)) c.as_slice-2.ensures.value ∙ ap (λ sites. done (pairs_text sites pairs)) c.names-2.ensures;
+      },
+      refl,
+    ))
     c.pairs.ensures
