@@ -1,15 +1,13 @@
 -- strictly ascending lists of pairs
 use Rattle.std.proofs.Common.{◌≡◌, List, [], ◌∷◌, refl, sym, ap, ◌∙◌, subst, All, inl, inr}
-use Rattle.std.specs.Prelude.{Contains, ◌↔◌}
-use Rattle.std.specs.BTreeSet.{BTreeSet, insert_key}
+use Rattle.std.specs.Prelude.{Contains}
+use Rattle.std.specs.BTreeSet.{insert_key}
 use Rattle.std.specs.List.Sorted.{IsStrictlySortedBy}
 use Rattle.std.specs.Ordering.{ordering_reverse, match_ordering}
 use Rattle.std.specs.declared.cmp.Ordering.{Ordering}
 use Rattle.std.specs.declared.cmp.Ordering.TheVariants.{Less, Equal, Greater}
-use Rattle.std.proofs.lemmas.Bool.Decides.{same_from_decides}
 use Rattle.std.proofs.lemmas.List.Elements.{All-cons, All-weaker, All-from_recursion, recursion_from_All}
-use Rattle.std.proofs.lemmas.Map.Lookups.{btree_set_from_contains}
-use Rattle.std.proofs.lemmas.Map.Views.{btree_set_contains_iff, All-insert_key}
+use Rattle.std.proofs.lemmas.Map.Views.{All-insert_key}
 use Rattle.trace_core.proofs.Members.{contains_here, contains_there, contains_cases, contains_none}
 use Rattle.trace_core.proofs.PairOrder.{pairs_exact, pairs_total}
 use Rattle.trace_core.specs.Pairs.{pair_cmp, IsStrictlyAscending}

@@ -1,9 +1,9 @@
 -- The world as it begins.
-use Rattle.std.proofs.Common.{◌≡◌, ℕ, List, [], ◌∷◌, map, All, None, refl, ap}
+use Rattle.std.proofs.Common.{◌≡◌, ℕ, List, [], ◌∷◌, map, None, refl, ap}
 use Rattle.std.proofs.lemmas.List.Elements.{All-nil, All-cons}
 use Rattle.event_json.specs.Sites.{Site}
 use Rattle.site_core.specs.Records.{fresh}
-use Rattle.world_core.specs.Worlds.{Standing, Up}
+use Rattle.world_core.specs.Worlds.{Up}
 use Rattle.script_core.specs.Beginning.{fresh_keeper}
 use Rattle.script_core.specs.Keepers.{standing_of}
 use Rattle.script_core.proofs.KeeperLemmas.{AreUnarmed}

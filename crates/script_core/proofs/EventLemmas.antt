@@ -1,5 +1,5 @@
 -- What the answer to an event says of the site.
-use Rattle.std.proofs.Common.{◌≡◌, ℕ, ◌+◌, ◌++◌, List, [], ◌∷◌, length, get_or, Option, Some, None, refl, sym, ap, ◌∙◌, subst, inl, inr, arith, length-append}
+use Rattle.std.proofs.Common.{◌≡◌, ℕ, ◌+◌, List, [], ◌∷◌, length, Option, Some, None, refl, sym, ap, ◌∙◌, subst, inl, inr, length-append}
 use Rattle.std.specs.Prelude.{slice_get, slice_set, option_and_then}
 use Rattle.std.proofs.lemmas.List.{set-get_or}
 use Rattle.std.proofs.lemmas.Option.{get_or_from_slice_get}
@@ -10,11 +10,10 @@ use Rattle.site_core.specs.Records.{Record}
 use Rattle.site_core.specs.declared.inputs.SiteInput.{SiteInput}
 use Rattle.world_core.specs.Turns.{Sends, input_at}
 use Rattle.world_core.specs.Worlds.{Standing, Up, Down, WorldState}
-use Rattle.world_core.specs.declared.events.Answer.{Answer}
 use Rattle.world_core.specs.declared.events.Answer.TheVariants.{NoMemory, Sent, Reopened}
 use Rattle.world_core.specs.declared.events.WorldEvent.TheVariants.{Step, Send, Stop, Reopen}
 use Rattle.world_core.specs.declared.events.WorldInput.{WorldInput}
-use Rattle.script_core.specs.Events.{answer_for, IsAnswered, IsHanded, TurnsFrom, Turns}
+use Rattle.script_core.specs.Events.{answer_for, IsHanded, TurnsFrom, Turns}
 use Rattle.script_core.specs.Happening.{Happens, with_site, with_sent}
 use Rattle.script_core.specs.State.{shown_by, up_in}
 use Rattle.script_core.specs.declared.worlds.Outcome.{Outcome}

@@ -1,6 +1,6 @@
 -- what is read field by field is what the line's form says
-use Rattle.std.proofs.Common.{◌≡◌, ◌≤◌, ◌<◌, ℕ, Bool, true, false, not, ◌||◌, cond, List, [], ◌∷◌, ◌++◌, codes, refl, sym, ap, ◌∙◌, subst, arith, inl, inr, Option, Some, None}
-use Rattle.std.specs.Prelude.{bytes_eq, length, nat_le, option_map, option_and_then}
+use Rattle.std.proofs.Common.{◌≡◌, ◌≤◌, ℕ, Bool, true, false, ◌||◌, cond, List, [], ◌∷◌, ◌++◌, codes, refl, sym, ap, ◌∙◌, subst, arith, inl, inr, Option, Some, None}
+use Rattle.std.specs.Prelude.{bytes_eq, nat_le, option_map, option_and_then}
 use Rattle.std.proofs.lemmas.Bool.{le-leb, leb-true}
 use Rattle.std.proofs.lemmas.Slice.Eq.{bytes_eq-Decides}
 use Rattle.std.specs.Str.{is_utf8}
@@ -14,7 +14,7 @@ use Rattle.script_core.specs.Steps.{past_spaces, first_field, after_field, is_em
 use Rattle.script_core.specs.Requests.{Task, capture, reach, recall, send, signal, deliver, stop, reopen, pump, quarantine, Request, silent, site, task, keep_word, most_rounds, AreWords, IsCapture, HasForm, IsOfForm, AsksAs, Asks}
 use Rattle.script_core.specs.declared.fields.Words.{Words}
 use Rattle.script_core.specs.declared.fields.Words.TheVariants as words
-use Rattle.script_core.proofs.FieldLemmas.{step, Begins, behind, fields_more, nonzero, some_of, first_at, after_at, past_more, past_here}
+use Rattle.script_core.proofs.FieldLemmas.{step, Begins, behind, nonzero, some_of, first_at, after_at, past_more, past_here}
 
 -- the request that reading finds
 abbrev pub reading_of : List ℕ → Option Request

@@ -1,7 +1,6 @@
 -- What an event does to keepers in memory at which no stop is armed.
-use Rattle.std.proofs.Common.{◌≡◌, ◌<◌, ℕ, ◌++◌, Bool, true, false, List, [], ◌∷◌, length, get_or, All, Option, Some, None, Result, Ok, Err, refl, sym, ap, ◌∙◌, subst, inl, inr, map}
-use mathlib.Core.Logic.{◌⊎◌}
-use Rattle.std.specs.Prelude.{option_map, option_and_then, slice_get, slice_set}
+use Rattle.std.proofs.Common.{◌≡◌, ℕ, Bool, true, false, List, [], ◌∷◌, length, All, Option, Some, None, Result, Ok, Err, refl, sym, ap, ◌∙◌, subst, inl, inr, map}
+use Rattle.std.specs.Prelude.{option_map, option_and_then, slice_get}
 use Rattle.std.proofs.lemmas.List.{map-set, length-set}
 use Rattle.std.proofs.lemmas.List.Elements.{All-set, All-get_or}
 use Rattle.std.proofs.lemmas.Option.{slice_get-map, slice_get_within, get_or_from_slice_get}
@@ -11,7 +10,6 @@ use Rattle.keeper_core.specs.declared.faults.Keep.{Keep}
 use Rattle.keeper_core.specs.declared.faults.Keep.TheVariants.{Old, New}
 use Rattle.keeper_core.specs.declared.faults.KeepFault.{KeepFault}
 use Rattle.keeper_core.specs.declared.faults.KeepFault.TheVariants as faults
-use Rattle.keeper_core.specs.declared.faults.Unopened.{Unopened}
 use Rattle.site_core.specs.Records.{Record}
 use Rattle.site_core.specs.declared.inputs.SiteInput.{SiteInput}
 use Rattle.site_core.specs.declared.outcomes.Effects.{Effects}
@@ -24,7 +22,7 @@ use Rattle.world_core.specs.declared.events.Answer.{Answer}
 use Rattle.world_core.specs.declared.events.Answer.TheVariants.{Done, Fault, Sent, NoFrame, NoSite, Stopped, Reopened, NotReopened, NotClosed, NoMemory}
 use Rattle.world_core.specs.declared.events.WorldEvent.{WorldEvent}
 use Rattle.world_core.specs.declared.events.WorldEvent.TheVariants.{Step, Send, Stop, Reopen}
-use Rattle.script_core.specs.Events.{answer_for, IsAnswered, IsHanded, TurnsAt, TurnsFrom, Turns}
+use Rattle.script_core.specs.Events.{answer_for, IsHanded, TurnsAt, TurnsFrom, Turns}
 use Rattle.script_core.specs.Keepers.{standing_by, standing_of}
 use Rattle.script_core.specs.State.{shown_by, up_in}
 use Rattle.script_core.specs.declared.worlds.Outcome.{Outcome}

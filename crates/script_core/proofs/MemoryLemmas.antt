@@ -1,5 +1,5 @@
 -- Which lines take memory.
-use Rattle.std.proofs.Common.{◌≡◌, ◌≤◌, true, false, cond, length, sym, ap, subst, refl}
+use Rattle.std.proofs.Common.{◌≡◌, ◌≤◌, true, false, cond, length, subst, refl}
 use Rattle.std.specs.Prelude.{nat_le}
 use Rattle.std.proofs.lemmas.Bool.{leb-true}
 use Rattle.script_core.specs.Memory.{DoingTakesMemory, TaskTakesMemory}

@@ -6,7 +6,7 @@ use Rattle.frame_core.specs.declared.frames.Frame.{Frame}
 use Rattle.site_core.specs.Records.{Record}
 use Rattle.site_core.specs.declared.inputs.SiteInput.TheVariants.{Deliver}
 use Rattle.world_core.specs.Turns.{addressee}
-use Rattle.script_core.specs.Answer.{Said, done}
+use Rattle.script_core.specs.Answer.{done}
 use Rattle.script_core.specs.Happening.{with_standing, with_frame}
 use Rattle.script_core.specs.Pumping.{Arrives, Comes, Carries, Exchanges, Each, TakesPart, TakesRound, Pumps, all_opened, answer_to, message_from, numbers_at, pump_text}
 use Rattle.script_core.specs.State.{World, up_at, armed_at}

@@ -1,11 +1,11 @@
 -- Opening sites, one after another.
-use Rattle.std.proofs.Common.{◌≡◌, ℕ, zero, suc, ◌+◌, ◌<◌, ◌≤◌, ◌++◌, List, [], ◌∷◌, length, map, take, drop, Option, Some, None, refl, sym, ap, ◌∙◌, subst, append-nil, arith, slice_get, slice_set}
+use Rattle.std.proofs.Common.{◌≡◌, ℕ, zero, suc, ◌+◌, ◌<◌, ◌≤◌, ◌++◌, List, [], ◌∷◌, length, map, take, drop, Option, Some, None, refl, sym, ap, ◌∙◌, arith, slice_get, slice_set}
 use Rattle.std.proofs.lemmas.List.{set-get_or}
 use Rattle.std.proofs.lemmas.Option.{get_or_from_slice_get}
 use Rattle.site_core.specs.Records.{Record}
 use Rattle.world_core.specs.Worlds.{Standing, Up, Down}
 use Rattle.script_core.specs.Happening.{opened, with_site}
-use Rattle.script_core.specs.Pumping.{opened_at, with_opened, all_opened}
+use Rattle.script_core.specs.Pumping.{opened_at, with_opened}
 use Rattle.script_core.specs.State.{World}
 
 abbrev pub with_standings : World → List Standing → World

@@ -1,5 +1,5 @@
 -- what the outcome of a call says of its result
-use Rattle.std.proofs.Common.{◌≡◌, ℕ, Option, Some, None, Result, Ok, Err, OnOk, OnErr, refl, ap, ◌∙◌, subst}
+use Rattle.std.proofs.Common.{◌≡◌, Option, Some, None, Result, Ok, Err, OnOk, OnErr, refl, ap, subst}
 use Rattle.script_core.specs.Outcomes.{told, unless_memory}
 
 pub was_ok : {X E F : Type 0} (f : E → Option F) (r : Result X E) (x : X) → unless_memory f r ≡ Ok (Ok x) → r ≡ Ok x

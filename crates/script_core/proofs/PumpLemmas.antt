@@ -1,6 +1,5 @@
 -- What rounds do, step by step.
-use Rattle.std.proofs.Common.{◌≡◌, ℕ, zero, suc, ◌+◌, ◌<◌, List, [], ◌∷◌, ◌++◌, length, take, Option, Some, None, refl, sym, ap, ◌∙◌, subst, append_assoc, append-nil, arith}
-use Rattle.std.specs.Prelude.{option_and_then}
+use Rattle.std.proofs.Common.{◌≡◌, ℕ, zero, suc, ◌+◌, List, [], ◌∷◌, ◌++◌, Option, Some, None, refl, sym, ap, ◌∙◌, subst, append_assoc, append-nil, arith}
 use Rattle.std.specs.List.{range_with_len}
 use Rattle.event_json.specs.Sites.{Site}
 use Rattle.frame_core.specs.declared.frames.Frame.{Frame}
@@ -9,7 +8,7 @@ use Rattle.site_core.specs.declared.inputs.SiteInput.TheVariants.{Deliver}
 use Rattle.world_core.specs.Turns.{addressee}
 use Rattle.world_core.specs.Worlds.{Standing}
 use Rattle.script_core.specs.Happening.{Happens, with_standing, with_frame}
-use Rattle.script_core.specs.Pumping.{AddsText, Arrives, Carries, Comes, Each, Exchanges, Nothing, answer_to, message_from, pump_text}
+use Rattle.script_core.specs.Pumping.{AddsText, Carries, Comes, Each, Exchanges, answer_to, message_from, pump_text}
 use Rattle.script_core.specs.State.{World, up_at, armed_at}
 use Rattle.script_core.specs.declared.worlds.Outcome.{Outcome}
 

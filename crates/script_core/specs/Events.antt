@@ -1,5 +1,5 @@
 -- What each event does to a world whose sites are kept in memory, and what it is answered. Memory may always run out.
-use Rattle.std.specs.Prelude.{◌≡◌, ◌⊎◌, ℕ, List, Option, Some, None, slice_get, slice_set}
+use Rattle.std.specs.Prelude.{◌≡◌, ◌⊎◌, List, Option, Some, None, slice_get, slice_set}
 use Rattle.frame_core.specs.declared.frames.Frame.{Frame}
 use Rattle.keeper_core.specs.declared.faults.Keep.{Keep}
 use Rattle.keeper_core.specs.declared.faults.KeepFault.TheVariants.{Closed}

@@ -1,5 +1,5 @@
 -- What an input makes of a site that is up: a step, or a stop where one is armed.
-use Rattle.std.specs.Prelude.{◌≡◌, ℕ, ◌++◌, List, [], ◌∷◌, Option, Some, None, slice_set}
+use Rattle.std.specs.Prelude.{◌≡◌, ℕ, ◌++◌, [], ◌∷◌, Option, Some, None, slice_set}
 use Rattle.frame_core.specs.declared.frames.Frame.{Frame}
 use Rattle.keeper_core.specs.Keeping.{IsRefusedFor}
 use Rattle.keeper_core.specs.Memory.{Leaves}

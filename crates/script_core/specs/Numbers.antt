@@ -1,6 +1,6 @@
 -- Numbers and recalls as a line writes them.
 use Rattle.std.specs.Prelude.{ℕ, Bool, ◌&&◌, ◌==◌, nat_le, if◌then◌else◌, List, length, Option, Some, None, option_map}
-use Rattle.std.specs.List.{list_all, prefix_len, before_first, after_first}
+use Rattle.std.specs.List.{list_all, before_first, after_first}
 use Rattle.std.specs.Str.Parse.{digits_value}
 
 abbrev pub is_digit : ℕ → Bool

@@ -1,5 +1,5 @@
 -- What the rounds of `pump` do.
-use Rattle.std.specs.Prelude.{◌≡◌, ℕ, zero, suc, ◌-◌, List, [], ◌∷◌, ◌++◌, length, map, Option, Some, None, option_map, option_and_then, unwrap_or, slice_get, slice_set}
+use Rattle.std.specs.Prelude.{◌≡◌, ℕ, ◌-◌, List, [], ◌∷◌, ◌++◌, length, map, Option, Some, None, option_map, option_and_then, unwrap_or, slice_get, slice_set}
 use Rattle.std.specs.FinMap.{entries}
 use Rattle.std.specs.List.{range_with_len}
 use Rattle.event_json.specs.Sites.{Site}
@@ -16,7 +16,7 @@ use Rattle.script_core.specs.Sending.{row_frame, owed_signal}
 use Rattle.script_core.specs.State.{World, up_at, armed_at}
 use Rattle.script_core.specs.Words.{ended_text, stopped_text, pumped_text}
 use Rattle.script_core.specs.declared.worlds.Outcome.{Outcome}
-use Rattle.script_core.specs.declared.worlds.Outcome.TheVariants.{Did, Refused, Stopped}
+use Rattle.script_core.specs.declared.worlds.Outcome.TheVariants.{Did, Stopped}
 
 -- what is told of an input while it runs: that a recall has ended, and that a site stopped
 abbrev pub pump_text : List Site → ℕ → Outcome → List ℕ

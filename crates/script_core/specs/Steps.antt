@@ -1,5 +1,5 @@
 -- How a line is read, field by field. Requests.antt says what is read so.
-use Rattle.std.specs.Prelude.{ℕ, ◌≡◌, ◌<◌, Bool, not, ◌||◌, ◌==◌, nat_le, if◌then◌else◌, List, [], ◌∷◌, codes, length, bytes_eq, drop, Option, Some, None, option_map, option_and_then}
+use Rattle.std.specs.Prelude.{ℕ, ◌≡◌, ◌<◌, Bool, ◌||◌, ◌==◌, nat_le, if◌then◌else◌, List, [], ◌∷◌, codes, length, bytes_eq, drop, Option, Some, None, option_map, option_and_then}
 use Rattle.std.specs.List.{prefix_len, before_first, after_first}
 use Rattle.keeper_core.specs.declared.faults.Keep.{Keep}
 use Rattle.keeper_core.specs.declared.faults.Keep.TheVariants.{Old, New}

@@ -1,6 +1,5 @@
 -- What each task does to a world, and its answer.
-use Rattle.std.specs.Prelude.{◌≡◌, ◌↔◌, ℕ, ◌+◌, Bool, true, false, not, ◌&&◌, List, [], ◌∷◌, ◌++◌, codes, length, Option, Some, None, is_some, option_map, option_and_then, slice_get, Result, Ok, Err, Contains}
-use Rattle.std.specs.FinMap.{get}
+use Rattle.std.specs.Prelude.{◌≡◌, ◌↔◌, ℕ, ◌+◌, Bool, true, false, List, [], ◌++◌, codes, length, Option, Some, None, option_and_then, slice_get, Result, Ok, Err, Contains}
 use Rattle.std.specs.List.{position_from}
 use Rattle.epc_core.specs.declared.items.EpcFault.{EpcFault}
 use Rattle.epc_core.specs.Reading.{reading}
@@ -9,7 +8,6 @@ use Rattle.frame_core.specs.Numbers.{Recall, Message}
 use Rattle.frame_core.specs.declared.frames.Frame.{Frame}
 use Rattle.frame_core.specs.declared.frames.Frame.TheVariants as frames
 use Rattle.keeper_core.specs.declared.faults.Keep.{Keep}
-use Rattle.site_core.specs.Emitting.{message_frame, signal_frame, is_parent}
 use Rattle.site_core.specs.Records.{Record}
 use Rattle.site_core.specs.declared.inputs.SiteInput.{SiteInput}
 use Rattle.site_core.specs.declared.inputs.SiteInput.TheVariants.{Capture, Start, Deliver}
@@ -23,7 +21,7 @@ use Rattle.world_core.specs.Recalls.{ended_in, quarantined}
 use Rattle.world_core.specs.Turns.{addressee, frame_at}
 use Rattle.world_core.specs.Worlds.{Standing, Up, Down, records}
 use Rattle.script_core.specs.Answer.{Said, refused, done}
-use Rattle.script_core.specs.Happening.{Happens, with_standing, with_frame, with_armed, with_site, opened}
+use Rattle.script_core.specs.Happening.{Happens, with_standing, with_frame, with_armed, with_site}
 use Rattle.script_core.specs.Pumping.{Pumps}
 use Rattle.script_core.specs.Requests.{Task, capture, reach, recall, send, signal, deliver, stop, reopen, pump, quarantine}
 use Rattle.script_core.specs.Sending.{row_frame, owed_signal}

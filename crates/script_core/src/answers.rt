@@ -1,10 +1,10 @@
 //! Answers and their texts.
 
-ghost use Rattle.std.specs.Prelude.{◌≡◌, ◌++◌, ◌∷◌, codes, IfOk, OnOk, string_bytes};
+ghost use Rattle.std.specs.Prelude.{◌≡◌, ◌++◌, codes, IfOk, string_bytes};
 ghost use Rattle.event_json.specs.Names.{sites_fault_name};
 ghost use Rattle.script_core.specs.Requests.{keep_word};
 ghost use Rattle.script_core.specs.Tasks.{outcome_said};
-ghost use Rattle.script_core.specs.Words.{name_at, pairs_text, quarantine_text, count_text, quarantined_text, frame_text, armed_text, open_text, pumped_text};
+ghost use Rattle.script_core.specs.Words.{name_at, pairs_text, quarantine_text, quarantined_text, frame_text, armed_text, open_text, pumped_text};
 
 use crate::texts::{
     effects_text, name_of, pair_lines, quarantined_text, refusal_text, stopped_text,

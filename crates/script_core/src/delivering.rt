@@ -1,13 +1,12 @@
 //! Lines that hand a site an input: `capture`, `recall`, `deliver`.
 
-ghost use Rattle.std.specs.Prelude.{◌≡◌, Some, [], IfOk, IfErr};
+ghost use Rattle.std.specs.Prelude.{◌≡◌, Some, IfOk, IfErr};
 ghost use Rattle.epc_core.specs.Reading.{reading};
 ghost use Rattle.epc_core.specs.Spellings.{IsPlain};
 ghost use Rattle.event_json.specs.Sites.{named};
 ghost use Rattle.frame_core.specs.Rows.{frame_of};
 ghost use Rattle.site_core.specs.declared.inputs.SiteInput.{SiteInput};
-ghost use Rattle.site_core.specs.declared.inputs.SiteInput.TheVariants as inputs;
-ghost use Rattle.world_core.specs.Turns.{addressee, frame_at, input_at};
+ghost use Rattle.world_core.specs.Turns.{addressee, input_at};
 ghost use Rattle.script_core.specs.Answer.{answer_of};
 ghost use Rattle.script_core.specs.Memory.{ItemTakesMemory};
 ghost use Rattle.script_core.specs.Requests.{capture, recall, deliver};

@@ -50,8 +50,7 @@ impl Model for Running {
 }
 
 impl Running {
-    ghost use Rattle.event_json.specs.Sites.{Site, named};
-    ghost use Rattle.keeper_core.specs.declared.faults.Keep.{Keep as KeepWord};
+    ghost use Rattle.event_json.specs.Sites.{named};
     ghost use Rattle.script_core.specs.Steps.{task_of};
     ghost use Rattle.script_core.specs.Tasks.{DoesTask};
     ghost use Rattle.script_core.specs.Memory.{DoingTakesMemory};

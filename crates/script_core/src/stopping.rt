@@ -1,6 +1,6 @@
 //! Lines that stop a site and open it again: `stop`, `reopen`.
 
-ghost use Rattle.std.specs.Prelude.{◌≡◌, IfOk, slice_set, Some};
+ghost use Rattle.std.specs.Prelude.{◌≡◌, IfOk, Some};
 ghost use Rattle.script_core.specs.Answer.{answer_of};
 ghost use Rattle.script_core.specs.Happening.{with_armed};
 ghost use Rattle.script_core.specs.Requests.{stop, reopen};

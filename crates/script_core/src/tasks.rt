@@ -1,7 +1,6 @@
 //! What a line asks of the world, by its fields.
 
 ghost use Rattle.std.specs.Prelude.{◌≡◌, option_map};
-ghost use Rattle.script_core.specs.Requests as requests;
 ghost use Rattle.script_core.specs.Steps.{keep_found, one_found, rounds_found, task_of, three_found, two_found, worded};
 
 use crate::fields::Words;

@@ -1,6 +1,6 @@
 //! Texts of recalls, messages, effects and refusals.
 
-ghost use Rattle.std.specs.Prelude.{◌≡◌, ◌++◌, ◌∷◌, [], codes, IfOk, OnOk, string_bytes, unwrap_or, option_map, slice_get};
+ghost use Rattle.std.specs.Prelude.{◌≡◌, ◌++◌, ◌∷◌, [], codes, IfOk, OnOk, string_bytes, unwrap_or};
 ghost use Rattle.std.specs.Fmt.{decimal};
 ghost use Rattle.script_core.specs.Pumping.{pump_text};
 ghost use Rattle.script_core.specs.Words.{name_at, recall_text, message_text, ended_word, owed_word, captured_text, started_text, received_text, signalled_text, effects_text, doc_fault_text, blocked_text, refusal_text, stopped_text, ended_text, pair_text, each_pair, quarantined_text};

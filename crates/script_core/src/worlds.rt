@@ -1,8 +1,7 @@
 //! A world whose sites are kept in memory: each event has one outcome there.
 
-ghost use Rattle.std.specs.Prelude.{◌≡◌, ◌+◌, ℕ, Some, is_some, IfOk, OnOk, IfErr, length, map, option_and_then, option_map, slice_get, slice_set};
+ghost use Rattle.std.specs.Prelude.{◌≡◌, ◌+◌, ℕ, Some, is_some, IfOk, OnOk, length, map, option_and_then, option_map, slice_get};
 ghost use Rattle.frame_core.specs.Rows.{frame_of};
-ghost use Rattle.keeper_core.specs.Memory.{Leaves};
 ghost use Rattle.site_core.specs.Naming.{frame_named};
 ghost use Rattle.world_core.specs.Posting.{IsPlaceOf};
 ghost use Rattle.site_core.specs.Records.{Record};

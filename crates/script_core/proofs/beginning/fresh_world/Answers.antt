@@ -1,4 +1,4 @@
-use Rattle.std.proofs.Common.{◌≡◌, List, [], map, ap, sym, ◌∙◌, subst, length}
+use Rattle.std.proofs.Common.{List, [], map, ap, sym, ◌∙◌, subst, length}
 use Rattle.std.specs.List.{range_with_len}
 use Rattle.keeper_core.specs.Memory.{InMemory}
 use Rattle.world_core.specs.Keepers.{Sites}

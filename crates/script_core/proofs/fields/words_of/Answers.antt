@@ -1,5 +1,4 @@
-use Rattle.std.proofs.Common.{◌≡◌, ℕ, ◌<◌, List, [], ◌∷◌, length, ap, sym, ◌∙◌, arith, rules}
-use Rattle.script_core.specs.Fields.{fields}
+use Rattle.std.proofs.Common.{◌≡◌, ◌<◌, ◌∷◌, length, ap, sym, ◌∙◌, arith, rules}
 use Rattle.script_core.specs.Steps.{past_spaces}
 use Rattle.script_core.proofs.FieldLemmas.{none_of, one_of, past_fields, some_fields}
 use Rattle.script_core.proofs.fields.words_of.Goals as goal

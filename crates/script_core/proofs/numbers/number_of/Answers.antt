@@ -1,4 +1,4 @@
-use Rattle.std.proofs.Common.{◌≡◌, true, false, sym, ◌∙◌, arith, lit<, refl}
+use Rattle.std.proofs.Common.{◌≡◌, true, false, sym, ◌∙◌, arith, lit<}
 use Rattle.std.proofs.lemmas.Str.Pattern.{starts_char}
 use Rattle.script_core.proofs.NumberLemmas.{too_long, begins_with_plus, parsed}
 use Rattle.script_core.proofs.numbers.number_of.Goals as goal

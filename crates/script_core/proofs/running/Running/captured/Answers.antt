@@ -1,4 +1,4 @@
-use Rattle.std.proofs.Common.{◌≡◌, ℕ, ◌+◌, ◌<◌, ◌++◌, List, [], ◌∷◌, map, length, Some, None, ap, sym, ◌∙◌, arith, rules}
+use Rattle.std.proofs.Common.{◌≡◌, ◌++◌, List, [], ◌∷◌, map, Some, None, ap, sym, ◌∙◌, arith}
 use Rattle.std.proofs.lemmas.List.{map_push, take_all}
 use Rattle.site_recovery.specs.Laws.{captured_of}
 use Rattle.trace_core.specs.Sites.{SiteEvents}

@@ -1,10 +1,8 @@
-use Rattle.std.proofs.Common.{◌≡◌, ℕ, ◌++◌, List, Option, Some, true, ap, sym, ◌∙◌, subst, rules}
+use Rattle.std.proofs.Common.{◌≡◌, Some, true, ap, sym, ◌∙◌, rules}
 use Rattle.std.specs.Prelude.{is_some}
 use Rattle.std.proofs.lemmas.Result.{on_ok_weaker}
-use Rattle.frame_core.specs.declared.frames.Frame.{Frame}
 use Rattle.site_core.specs.declared.inputs.SiteInput.TheVariants as inputs
-use Rattle.world_core.specs.Turns.{addressee, frame_at, input_at}
-use Rattle.world_core.specs.declared.events.WorldInput.TheVariants.{Deliver}
+use Rattle.world_core.specs.Turns.{frame_at}
 use Rattle.script_core.specs.State.{World, up_at}
 use Rattle.script_core.proofs.PumpLemmas.{carried}
 use Rattle.script_core.proofs.TaskLemmas.{delivered, last_sent, some_is}

@@ -1,9 +1,7 @@
-use Rattle.std.proofs.Common.{◌≡◌, ℕ, List, Some, ap, sym, ◌∙◌, subst, rules}
-use Rattle.std.specs.Prelude.{string_bytes}
+use Rattle.std.proofs.Common.{◌≡◌, ℕ, List, sym, subst, rules}
 use Rattle.std.proofs.lemmas.Result.{IfOk-weaker}
 use Rattle.frame_core.specs.Rows.{frame_of}
 use Rattle.site_core.specs.declared.inputs.SiteInput.TheVariants.{Deliver}
-use Rattle.world_core.specs.Turns.{addressee}
 use Rattle.script_core.specs.Answer.{answer_of}
 use Rattle.script_core.specs.Tasks.{Delivers, Hands, message_of}
 use Rattle.script_core.specs.Words.{message_text}

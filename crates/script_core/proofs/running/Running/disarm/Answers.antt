@@ -1,4 +1,4 @@
-use Rattle.std.proofs.Common.{◌≡◌, ℕ, List, None, Some, Option, ap, sym, ◌∙◌, arith, rules, slice_set, length, refl}
+use Rattle.std.proofs.Common.{◌≡◌, ℕ, None, Some, Option, ap, sym, ◌∙◌, rules, slice_set, length, refl}
 use Rattle.std.specs.Prelude.{option_and_then, slice_get}
 use Rattle.std.proofs.lemmas.Option.{slice_get_read}
 use Rattle.keeper_core.specs.declared.faults.Keep.{Keep}

@@ -3,7 +3,6 @@ use Rattle.std.specs.Prelude.{IfSome}
 use Rattle.std.specs.Str.{bytes_eq}
 use Rattle.std.proofs.lemmas.List.Quantifiers.{position-Some}
 use Rattle.event_json.specs.Sites.{Site, named}
-use Rattle.script_core.specs.State.{World}
 use Rattle.script_core.proofs.running.Running.find.Goals as goal
 
 -- a site that was found is one of the list

@@ -1,4 +1,4 @@
-use Rattle.std.proofs.Common.{◌≡◌, ℕ, ◌<◌, true, false, Some, ap, sym, ◌∙◌, arith, rules, below_more}
+use Rattle.std.proofs.Common.{◌≡◌, true, false, Some, ap, sym, ◌∙◌, arith, rules, below_more}
 use Rattle.std.specs.Prelude.{is_some}
 use Rattle.script_core.specs.State.{up_at, up_in}
 use Rattle.script_core.proofs.UpLemmas.{first_is, none_is}

@@ -1,10 +1,10 @@
-use Rattle.std.proofs.Common.{◌≡◌, ℕ, List, None, Option, ap, sym, ◌∙◌, subst, slice_set}
+use Rattle.std.proofs.Common.{◌≡◌, None, Option, ap, ◌∙◌, subst, slice_set}
 use Rattle.std.proofs.lemmas.Result.{IfOk-weaker}
 use Rattle.keeper_core.specs.declared.faults.Keep.{Keep}
-use Rattle.world_core.specs.Worlds.{Standing, WorldState}
+use Rattle.world_core.specs.Worlds.{WorldState}
 use Rattle.world_core.specs.Turns.{input_at}
-use Rattle.script_core.specs.Happening.{Happens, with_standing, with_site}
-use Rattle.script_core.specs.State.{World, armed_at, up_in}
+use Rattle.script_core.specs.Happening.{Happens, with_site}
+use Rattle.script_core.specs.State.{World, up_in}
 use Rattle.script_core.proofs.running.Running.hand.Goals as goal
 
 pub returns : goal.returns

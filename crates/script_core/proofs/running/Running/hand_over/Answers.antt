@@ -1,8 +1,6 @@
-use Rattle.std.proofs.Common.{◌≡◌, true, ap, sym, ◌∙◌, rules}
+use Rattle.std.proofs.Common.{◌≡◌, true, ap, ◌∙◌, rules}
 use Rattle.std.specs.Prelude.{is_some}
 use Rattle.std.proofs.lemmas.Result.{IfOk-weaker}
-use Rattle.event_json.specs.Sites.{Site}
-use Rattle.site_core.specs.Records.{Record}
 use Rattle.script_core.specs.Answer.{answer_of}
 use Rattle.script_core.specs.State.{World, up_at}
 use Rattle.script_core.specs.Tasks.{Tells, outcome_said}

@@ -1,7 +1,7 @@
-use Rattle.std.proofs.Common.{◌≡◌, ◌<◌, ℕ, ◌+◌, length, refl, ap, sym, ◌∙◌, arith}
+use Rattle.std.proofs.Common.{◌<◌, ℕ, ◌+◌, length, refl, ap, ◌∙◌, arith}
 use Rattle.script_core.specs.Pumping.{with_opened}
 use Rattle.script_core.specs.State.{World}
-use Rattle.script_core.proofs.OpenLemmas.{opened_all, opened_count, opened_next, opened_to, with_standings}
+use Rattle.script_core.proofs.OpenLemmas.{opened_all, opened_count, opened_next, with_standings}
 use Rattle.script_core.proofs.running.Running.open_all.Goals as goal
 
 pub loop-number-init : goal.loop-number-init

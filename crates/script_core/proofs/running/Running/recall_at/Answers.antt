@@ -1,7 +1,6 @@
-use Rattle.std.proofs.Common.{◌≡◌, [], Ok, sym, subst, refl}
+use Rattle.std.proofs.Common.{sym, subst, refl}
 use Rattle.std.proofs.lemmas.Option.{MatchOption-at_some}
 use Rattle.std.proofs.lemmas.Result.{IfOk-weaker}
-use Rattle.epc_core.specs.Reading.{reading}
 use Rattle.site_core.specs.declared.inputs.SiteInput.TheVariants.{Start}
 use Rattle.script_core.specs.Answer.{answer_of}
 use Rattle.script_core.specs.Tasks.{RecallRead}

@@ -1,10 +1,9 @@
 use Rattle.std.proofs.Common.{◌≡◌, ◌∙◌, Some, sym, subst}
 use Rattle.std.proofs.lemmas.Result.{IfOk-weaker}
-use Rattle.event_json.specs.Sites.{named}
 use Rattle.script_core.specs.Answer.{answer_of}
 use Rattle.script_core.specs.Sending.{row_frame}
 use Rattle.script_core.specs.State.{up_at}
-use Rattle.script_core.specs.Tasks.{AtSite, Sends, WhereUp}
+use Rattle.script_core.specs.Tasks.{Sends, WhereUp}
 use Rattle.script_core.proofs.TaskLemmas.{at_site, some_is, where_up}
 use Rattle.script_core.proofs.running.Running.send.Goals as goal
 

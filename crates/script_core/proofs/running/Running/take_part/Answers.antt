@@ -1,4 +1,4 @@
-use Rattle.std.proofs.Common.{◌≡◌, ℕ, List, get_or, take, string_bytes, sym, ◌∙◌, subst, arith}
+use Rattle.std.proofs.Common.{ℕ, List, get_or, take, string_bytes, sym, ◌∙◌, subst, arith}
 use Rattle.std.proofs.lemmas.List.{take_all, take_more}
 use Rattle.script_core.specs.Pumping.{AddsText, Each, Exchanges}
 use Rattle.script_core.proofs.PumpLemmas.{adds_more, adds_none}

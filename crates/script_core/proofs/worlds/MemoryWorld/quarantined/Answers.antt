@@ -1,4 +1,4 @@
-use Rattle.std.proofs.Common.{ap, sym, ◌∙◌, subst}
+use Rattle.std.proofs.Common.{ap, sym, ◌∙◌}
 use Rattle.world_core.specs.Recalls.{quarantined}
 use Rattle.world_core.specs.Worlds.{WorldState, records}
 use Rattle.script_core.proofs.KeeperLemmas.{shown_records}

@@ -1,4 +1,4 @@
-use Rattle.std.proofs.Common.{◌≡◌, ap, sym, ◌∙◌, subst, length}
+use Rattle.std.proofs.Common.{ap, sym, ◌∙◌, subst, length}
 use Rattle.world_core.specs.Worlds.{WorldState}
 use Rattle.script_core.specs.Events.{Turns}
 use Rattle.script_core.proofs.KeeperLemmas.{kept, seen_as}
