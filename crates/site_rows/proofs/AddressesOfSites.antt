@@ -1,8 +1,7 @@
 -- How many addresses a site has, and what is left of them at a place.
-use Rattle.std.proofs.Common.{◌≡◌, ℕ, ◌+◌, ◌≤◌, ◌<◌, Bool, true, false, zero, suc, Some, None, List, [], ◌∷◌, length, map, fold, drop, refl, sym, ap, subst, ◌∙◌, arith}
-use Rattle.std.specs.Prelude.{slice_get, Option, IsTrue, ◌&&◌}
+use Rattle.std.proofs.Common.{◌≡◌, ℕ, ◌≤◌, Bool, true, false, zero, suc, Some, None, List, [], ◌∷◌, length, map, fold, drop, refl, ap, subst, arith}
+use Rattle.std.specs.Prelude.{slice_get, ◌&&◌}
 use Rattle.std.specs.List.{enumerate_from, list_all}
-use Rattle.std.specs.Option.{option_and_then}
 use Rattle.std.proofs.lemmas.Bool.{leb-true}
 use Rattle.event_json.specs.Sites.{Site, is_site, AreSites}
 use Rattle.site_rows.specs.RecordRows.{Addresses, address_at, with_address}

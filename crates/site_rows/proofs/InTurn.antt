@@ -1,5 +1,5 @@
 -- Rows that are made in turn: what is there with what is left is all.
-use Rattle.std.proofs.Common.{◌≡◌, ℕ, ◌+◌, ◌≤◌, suc, zero, Some, None, List, [], ◌∷◌, ◌++◌, length, map, flat_map, fold, drop, refl, sym, ap, subst, ◌∙◌, append_assoc, arith}
+use Rattle.std.proofs.Common.{◌≡◌, ℕ, ◌+◌, ◌≤◌, suc, zero, Some, None, List, [], ◌∷◌, ◌++◌, length, map, flat_map, fold, drop, refl, sym, ap, ◌∙◌, append_assoc, arith}
 use Rattle.std.specs.Prelude.{slice_get, Option, option_map}
 use Rattle.std.specs.List.{enumerate_from}
 use Rattle.std.proofs.Math.ListN.{drop_of_length-le}

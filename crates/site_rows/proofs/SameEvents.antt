@@ -1,5 +1,5 @@
 -- The rows of events and of their lists tell the events.
-use Rattle.std.proofs.Common.{◌≡◌, ◌≢◌, ◌⊎◌, inl, inr, ℕ, ◌+◌, ◌*◌, ◌/◌, ◌%◌, ◌-◌, ◌<◌, ◌≤◌, ℤ, pos, suc, zero, Bool, true, false, All, Option, Some, None, List, [], ◌∷◌, ◌++◌, length, map, refl, sym, ap, subst, ◌∙◌, arith}
+use Rattle.std.proofs.Common.{◌≡◌, inl, inr, ℕ, ◌+◌, ◌*◌, ◌/◌, ◌%◌, ◌-◌, ◌<◌, ℤ, pos, suc, Bool, true, false, All, List, [], ◌∷◌, ◌++◌, length, map, refl, sym, ap, ◌∙◌, arith}
 use lib.IntN.{negsuc}
 use Rattle.std.specs.Prelude.{nat_lt, ◌==◌}
 use Rattle.std.specs.Int.{int_div_euclid, int_rem_euclid}
@@ -17,7 +17,7 @@ use Rattle.event_json.specs.declared.bodies.Body.TheVariants.{Note, Ship, Make}
 use Rattle.site_rows.specs.declared.rows.EventRow.{EventRow}
 use Rattle.site_rows.specs.declared.rows.PartRow.{PartRow}
 use Rattle.site_rows.specs.RecordRows.{SECOND, event_row, part_row, part_rows, name_of, body_rows, parts_of}
-use Rattle.site_rows.proofs.SameLists.{same_mapped, same_numbered, AllAnswer, all_answer, same_parts}
+use Rattle.site_rows.proofs.SameLists.{same_numbered, AllAnswer, all_answer, same_parts}
 use Rattle.site_rows.proofs.SameRecalls.{same_number}
 
 -- whether the row is of the event, and whether it has a lower role

@@ -1,5 +1,5 @@
 -- When two lists are one: what is made of them is the same, or they are the first parts of one list.
-use Rattle.std.proofs.Common.{◌≡◌, ℕ, ◌+◌, suc, zero, Bool, true, false, Some, None, List, [], ◌∷◌, ◌++◌, map, refl, sym, ap, subst, ◌∙◌}
+use Rattle.std.proofs.Common.{◌≡◌, ℕ, ◌+◌, suc, Bool, true, false, List, [], ◌∷◌, ◌++◌, map, refl, sym, ap, ◌∙◌}
 use Rattle.std.specs.List.{enumerate_from, slice_get}
 
 pub same_mapped : {X R : Type 0} (f : X → R) (same : (x y : X) → f x ≡ f y → x ≡ y) (xs ys : List X) → map f xs ≡ map f ys → xs ≡ ys

@@ -1,19 +1,15 @@
 -- Two records with the same rows are one.
-use Rattle.std.proofs.Common.{◌≡◌, ℕ, ◌<◌, All, length, List, [], ◌∷◌, map, sym, ap, subst, ◌∙◌}
-use Rattle.std.specs.FinMap.{entries}
+use Rattle.std.proofs.Common.{◌≡◌, ℕ, All, length, List, [], ◌∷◌, sym, ap, subst, ◌∙◌}
 use Rattle.std.specs.List.{enumerate_from, flat_map}
 use Rattle.event_json.specs.Events.{Content}
 use Rattle.event_json.specs.Sites.{Site, ShipsAmong}
-use Rattle.frame_core.specs.Numbers.{Recall, Message}
-use Rattle.scholten_core.specs.Engagement.{Engagement}
 use Rattle.site_core.specs.Records.{Record}
-use Rattle.trace_core.specs.Sites.{SiteEvents}
 use Rattle.site_rows.specs.declared.address_rows.Address.{Address}
 use Rattle.site_rows.specs.declared.rows.AddressRow.{AddressRow}
 use Rattle.site_rows.specs.declared.rows.StoreRow.{StoreRow}
 use Rattle.site_rows.specs.declared.rows.Rows.{Rows}
 use Rattle.site_rows.specs.Laws.{IsKept}
-use Rattle.site_rows.specs.RecordRows.{Addresses, address_row, outbox_row, seen_row, parent_row, recall_row, store_row, rows_of, parts_of, addresses_of}
+use Rattle.site_rows.specs.RecordRows.{address_row, outbox_row, seen_row, parent_row, recall_row, store_row, rows_of, parts_of, addresses_of}
 use Rattle.site_rows.proofs.SameEvents.{same_events}
 use Rattle.site_rows.proofs.SameQuarantines.{same_quarantine}
 use Rattle.site_rows.proofs.SameRecalls.{same_map_rows, same_number, outbox_row_same, seen_row_same, parent_row_same, recall_row_same}

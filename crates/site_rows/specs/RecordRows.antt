@@ -1,6 +1,6 @@
 -- The rows of a record: what each table of a site's file holds of what the site keeps. Items stand as their keys, sites
 -- as their numbers, and each table's rows ascend by its key.
-use Rattle.std.specs.Prelude.{ℕ, ◌+◌, ℤ, pos, ◌++◌, Bool, true, false, cond, List, [], ◌∷◌, map, flat_map, fold, option_map, Option, Some, None, slice_get}
+use Rattle.std.specs.Prelude.{ℕ, ℤ, pos, ◌++◌, cond, List, [], ◌∷◌, map, flat_map, fold, Option, Some, None, slice_get}
 use Rattle.std.specs.Int.{int_div_euclid, int_rem_euclid}
 use Rattle.std.specs.List.{enumerate_from}
 use Rattle.std.specs.FinMap as finite

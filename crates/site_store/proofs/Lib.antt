@@ -4,7 +4,6 @@ pub mod Committed
 pub mod Created
 pub mod Folded
 pub mod Inserted
-pub mod Listed
 pub mod MadeTables
 pub mod Meanings
 pub mod Order

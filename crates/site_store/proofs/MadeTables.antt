@@ -1,6 +1,5 @@
 -- Tables that are made one after another.
-use Rattle.std.proofs.Common.{◌≡◌, List, [], ◌∷◌, ◌++◌, Ok, Err, Result, OnOk, refl, sym, ap, subst, ◌∙◌, arith}
-use Rattle.std.specs.List.{AllByRecursion}
+use Rattle.std.proofs.Common.{◌≡◌, List, [], ◌∷◌, ◌++◌, Ok, Err, Result, refl, ◌∙◌, arith}
 use Rattle.std.proofs.lemmas.List.Sorted.{IsPermutation-refl}
 use Rattle.sqlite.specs.Table.{Table}
 use Rattle.sqlite.specs.Tree.{Trees}
@@ -9,10 +8,10 @@ use Rattle.sqlite.specs.State.{State, HasCleanDisk}
 use Rattle.sqlite.specs.declared.error.Error.{Error}
 use Rattle.sqlite.proofs.StateLemmas.{survives_then}
 use Rattle.sqlite_catalog.specs.Change.{created, next_tree, KeepsRows}
-use Rattle.site_store.specs.Made.{with_recall, AreEmpty, DoesMake, MakesTables}
+use Rattle.site_store.specs.Made.{with_recall, AreEmpty, MakesTables}
 use Rattle.sqlite.specs.Order.{Row}
 use Rattle.site_store.specs.Stored.{Holds, no_rows}
-use Rattle.site_store.specs.TableRows.{HasRows, Makes, Creates}
+use Rattle.site_store.specs.TableRows.{HasRows, Creates}
 use Rattle.site_store.specs.Tables.{store, site, address, event, part, quarantine, outbox, seen, parent, recall}
 use Rattle.site_store.proofs.Steps.{goes_then, keeps_then, on_ok, on_err}
 

@@ -8,7 +8,7 @@ use Rattle.site_rows.specs.declared.rows.Rows.{Rows}
 use Rattle.site_rows.specs.declared.rows.StoreRow.{StoreRow}
 use Rattle.site_rows.specs.declared.rows.SiteRow.{SiteRow}
 use Rattle.site_rows.specs.declared.rows.AddressRow.{AddressRow}
-use Rattle.site_store.specs.Tables.{store, site, address, event, part, quarantine, outbox, seen, parent, recall, no_schema, site_schema}
+use Rattle.site_store.specs.Tables.{store, site, address, event, part, quarantine, outbox, seen, parent, recall, site_schema}
 use Rattle.site_store.specs.TableRows.{HasRows, GoesOn}
 use Rattle.site_store.specs.Values.{store_values, site_values, address_values, event_values, part_values, quarantine_values, outbox_values, seen_values, parent_values, recall_values}
 

@@ -1,19 +1,14 @@
 -- What a database holds, as rows without hidden rowids.
-use Rattle.std.specs.Prelude.{◌≡◌, ◌≢◌, ◌∷◌, ℕ, Bool, true, false, ◌==◌, List, [], ◌++◌, map, length, IsPermutation, Option, unwrap_or, zero, suc, IsSorted, Result, OnOk, OnErr, Ok, Err, IsTrue, not, ◌&&◌, ◌+◌, filter, fold}
+use Rattle.std.specs.Prelude.{◌≡◌, ◌∷◌, ℕ, Bool, true, false, ◌==◌, List, [], ◌++◌, map, length, IsPermutation, Option, unwrap_or, zero, suc, Result, OnOk, OnErr, Ok, Err, IsTrue, not, ◌&&◌, ◌+◌, filter, fold}
 use Rattle.std.specs.List.{range_with_len, list_any}
-use Rattle.std.specs.Ordering.{on}
-use Rattle.std.specs.declared.cmp.Ordering.{Ordering}
-use Rattle.std.specs.declared.cmp.Ordering.TheVariants.{Less}
 use Rattle.sqlite.specs.Collation.TheVariants.{Binary}
-use Rattle.sqlite_value.specs.Keys.{ascending}
-use Rattle.sqlite_trees.specs.Tree.{IsAscending, IsTable}
-use Rattle.sqlite_sql.specs.Query.{key_cmp}
+use Rattle.sqlite_trees.specs.Tree.{IsTable}
 use Rattle.sqlite.specs.Order.{Row}
 use Rattle.sqlite.specs.Table.{Table}
 use Rattle.sqlite.specs.Schema.{Schema}
 use Rattle.sqlite.specs.Tree.{Trees}
 use Rattle.sqlite.specs.Effect.{Database}
-use Rattle.sqlite.specs.State.{State, HasCleanDisk, KeepsCommit, Survives, Begins, IsUnchanged, FailsToQuery, ExecutesInside}
+use Rattle.sqlite.specs.State.{State, HasCleanDisk, KeepsCommit, Survives, ExecutesInside}
 use Rattle.sqlite_trees.specs.declared.store.Store.{Ghosts}
 use Rattle.sqlite.specs.Held.{Held, state}
 use Rattle.sqlite.specs.declared.error.Error.{Error}
@@ -53,14 +48,6 @@ adds more rows = rows ++ more
 abbrev pub clears : List Row → List Row
 clears rows = []
 
--- the query shows a row that the code has no value for, and nothing is changed
-abbrev pub HasBadRow : {X : Type 0} → List ℕ → (X → Row) → State → State → Type 0
-HasBadRow {X} sql row_of old new = IsUnchanged old new × (given : List Row) × (row : Row) × Begins sql [] new (given ++ row ∷ []) × ((x : X) → row ≢ row_of x)
-
--- the query fails at its start or at a later row
-abbrev pub FailsAtRow : {S : Type 0} → Ghosts S → List ℕ → Held S → Held S → Error → Type 0
-FailsAtRow {S} g sql old new e = (mid : Held S) × IsUnchanged (state g old) (state g mid) × FailsToQuery sql [] (state g mid) (state g new) e
-
 -- the transaction goes on, or was not begun
 pub record GoesOn (old new : State) : Type 0 where
   pub is_open : new.is_open ≡ old.is_open
@@ -95,13 +82,6 @@ column_at key (suc place) = place
 abbrev pub key_of : Table → Row → Row
 key_of table row = map (λ place. column row (column_at table.key place)) table.primary
 
-abbrev pub key_order : Table → Row → Row → Ordering
-key_order table = on (key_of table) (key_cmp 0 (map (λ _. ascending Binary) table.primary))
-
--- the keys rise, so no two rows have one key
-abbrev pub IsStrict : Table → List Row → Type 0
-IsStrict table = IsAscending (λ a b. key_order table a b ≡ Less)
-
 -- the row has these values in its primary key, as SQL compares values
 abbrev pub agrees_from : ℕ → Option ℕ → List ℕ → Row → Row → Bool
 agrees_from at key [] given row = true
@@ -112,11 +92,6 @@ has_key table = agrees_from 0 table.key table.primary
 
 abbrev pub without_key : Table → Row → List Row → List Row
 without_key table given rows = filter (λ row. not (has_key table given row)) rows
-
--- the rows of a tree as a query shows them, by their keys
-pub record IsListed (table : Table) (tree rows : List Row) : Type 0 where
-  pub same : IsPermutation (map (visible table) tree) rows
-  pub sorted : IsSorted (key_order table) rows
 
 -- a statement adds a table with no row to the schema, and leaves the others
 pub record Makes (table : Table) (schema : Schema) (old new : State) : Type 0 where

@@ -1,5 +1,5 @@
 -- The rows of the code as rows of the database.
-use Rattle.std.specs.Prelude.{[], ◌∷◌, ℤ, pos}
+use Rattle.std.specs.Prelude.{[], ◌∷◌, pos}
 use Rattle.sqlite.specs.Values.{or_null}
 use Rattle.sqlite.specs.declared.types.Value.TheVariants.{Int, Text}
 use Rattle.sqlite.specs.Order.{Row}

@@ -12,4 +12,4 @@ mod trying;
 
 pub use changes::{Numbers, RecallKey, RowChanges};
 pub use step::{create_site, store_changes};
-pub use trying::{Left, try_changes};
+pub use trying::{Left, settled, try_changes};

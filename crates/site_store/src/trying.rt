@@ -29,7 +29,7 @@ fn is_still_open<S: Alter>(conn: &mut Connection<S>) -> bool
 
 /// While the connection is open, a crash leaves its last commit and nothing else. It does nothing: its clause is a
 /// law of the store.
-fn settled<S: Alter>(conn: &Connection<S>)
+pub fn settled<S: Alter>(conn: &Connection<S>)
     ensures { (db : Trees) → IsTrue (state S.Store conn.now).is_open → (state S.Store conn.now).may_leave db → db ≡ (state S.Store conn.now).committed.trees }
 {}
 

@@ -1,4 +1,4 @@
-use Rattle.std.proofs.Common.{◌≡◌, ◌∙◌, ap, sym, map}
+use Rattle.std.proofs.Common.{◌∙◌, ap, map}
 use Rattle.std.specs.FinMap.{entries}
 use Rattle.frame_core.proofs.Maps.{map_entries}
 use Rattle.site_rows.specs.RecordRows.{address_row, Addresses}

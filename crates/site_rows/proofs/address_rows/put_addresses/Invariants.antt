@@ -1,6 +1,5 @@
-use Rattle.std.proofs.Common.{◌≡◌, map, fold, drop, Some}
+use Rattle.std.proofs.Common.{◌≡◌, fold, drop, Some}
 use Rattle.std.specs.Prelude.{slice_get}
-use Rattle.std.specs.List.{enumerate_from}
 use Rattle.frame_core.specs.Tables.{as_map}
 use Rattle.event_json.specs.Sites.{Site}
 use Rattle.site_rows.specs.RecordRows.{with_address, addresses_at, addresses_from}

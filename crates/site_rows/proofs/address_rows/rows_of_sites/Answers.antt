@@ -1,4 +1,4 @@
-use Rattle.std.proofs.Common.{◌≡◌, ◌+◌, ◌<◌, ◌++◌, ◌∷◌, [], None, sym, ap, ◌∙◌, subst, map, drop}
+use Rattle.std.proofs.Common.{◌<◌, sym, subst, map}
 use Rattle.std.specs.List.{enumerate_from, slice_get}
 use Rattle.event_json.specs.Sites.{Site}
 use Rattle.site_core.proofs.Places.{nothing_there}

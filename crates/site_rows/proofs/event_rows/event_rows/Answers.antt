@@ -1,5 +1,5 @@
-use Rattle.std.proofs.Common.{◌≡◌, ◌+◌, ◌<◌, ◌++◌, ◌∷◌, [], None, sym, ap, ◌∙◌, subst, map, drop}
-use Rattle.std.specs.List.{enumerate_from, slice_get}
+use Rattle.std.proofs.Common.{◌+◌, ◌<◌, sym, subst, map}
+use Rattle.std.specs.List.{enumerate_from}
 use Rattle.site_core.proofs.Places.{nothing_there}
 use Rattle.site_rows.specs.RecordRows.{event_row}
 use Rattle.site_rows.proofs.InTurn.{row_there}

@@ -1,5 +1,5 @@
-use Rattle.std.proofs.Common.{◌≡◌, ◌+◌, ◌<◌, ◌++◌, ◌∷◌, [], None, sym, ap, ◌∙◌, subst, map, drop}
-use Rattle.std.specs.List.{enumerate_from, slice_get, flat_map}
+use Rattle.std.proofs.Common.{◌+◌, ◌<◌, sym, subst}
+use Rattle.std.specs.List.{enumerate_from, flat_map}
 use Rattle.site_core.proofs.Places.{nothing_there}
 use Rattle.site_rows.specs.RecordRows.{parts_of}
 use Rattle.site_rows.proofs.InTurn.{rows_there}

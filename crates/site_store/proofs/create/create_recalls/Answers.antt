@@ -1,4 +1,3 @@
-use Rattle.std.proofs.Common.{refl}
 use Rattle.sqlite.specs.Held.{state}
 use Rattle.site_store.proofs.MadeTables.{made_then}
 use Rattle.site_store.proofs.create.create_recalls.Goals as goal

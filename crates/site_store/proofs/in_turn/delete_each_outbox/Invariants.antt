@@ -1,4 +1,4 @@
-use Rattle.std.proofs.Common.{◌≡◌, ◌+◌, min, map, take}
+use Rattle.std.proofs.Common.{◌≡◌, ◌+◌, min, take}
 use Rattle.sqlite.specs.Held.{state}
 use Rattle.site_store.specs.Changed.{drops_outbox}
 use Rattle.site_store.specs.Tables.{outbox}

@@ -4,7 +4,6 @@ use Rattle.sqlite.specs.Held.{state}
 use Rattle.sqlite.specs.declared.types.Value.TheVariants.{Int}
 use Rattle.site_store.specs.Tables.{outbox}
 use Rattle.site_store.specs.Texts.{delete_outbox}
-use Rattle.site_store.specs.Values.{recall_key}
 use Rattle.site_store.proofs.Meanings.{delete_outbox_is}
 use Rattle.site_store.proofs.Tables.{outbox_simple}
 use Rattle.site_store.proofs.Steps.{ran, deletes_of_key, fails_inside}

@@ -1,7 +1,6 @@
-use Rattle.std.proofs.Common.{[], ◌∷◌, refl}
+use Rattle.std.proofs.Common.{refl}
 use Rattle.sqlite.specs.State.{HasCleanDisk}
 use Rattle.sqlite.specs.Held.{state}
-use Rattle.sqlite.specs.declared.types.Value.TheVariants.{Int}
 use Rattle.site_store.specs.Tables.{parent}
 use Rattle.site_store.specs.Texts.{delete_parent}
 use Rattle.site_store.specs.Values.{recall_key}

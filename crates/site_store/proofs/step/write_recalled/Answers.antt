@@ -1,9 +1,9 @@
 use Rattle.std.proofs.Common.{map}
 use Rattle.sqlite.specs.Held.{state}
-use Rattle.site_store.specs.Changed.{puts_outbox, puts_recall, drops_outbox, drops_parent}
+use Rattle.site_store.specs.Changed.{puts_outbox}
 use Rattle.site_store.specs.TableRows.{adds}
-use Rattle.site_store.specs.Values.{event_values, part_values, quarantine_values, seen_values, parent_values}
-use Rattle.site_store.proofs.Whole.{event_in_all, part_in_all, quarantine_in_all, outbox_in_all, seen_in_all, parent_in_all, recall_in_all, all_then}
+use Rattle.site_store.specs.Values.{quarantine_values, seen_values, parent_values}
+use Rattle.site_store.proofs.Whole.{quarantine_in_all, outbox_in_all, seen_in_all, parent_in_all, all_then}
 use Rattle.site_store.proofs.step.write_recalled.Goals as goal
 
 pub returns-clause-wrote : goal.returns-clause-wrote
