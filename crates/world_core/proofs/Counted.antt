@@ -1,12 +1,7 @@
 -- Over every run from sites at which nothing happened yet a log tells all that was ever told; so messages are counted.
-use Rattle.std.proofs.Common.{◌≡◌, ◌⊎◌, inl, inr, ℕ, zero, suc, ◌+◌, ◌<◌, List, [], ◌∷◌, length, map, Some, None, refl, sym, ap, ◌∙◌, subst, Contains, slice_get, slice_set, arith}
-use Rattle.std.specs.FinMap.{get, get-empty}
-use Rattle.std.specs.FinMap as finite
-use Rattle.std.specs.Ordering.{nat_cmp}
+use Rattle.std.proofs.Common.{◌≡◌, ◌⊎◌, inl, inr, ℕ, zero, suc, ◌<◌, List, length, Some, None, refl, sym, ap, ◌∙◌, subst, Contains, arith}
+use Rattle.std.specs.FinMap.{get}
 use Rattle.std.specs.Prelude.{set}
-use Rattle.std.proofs.lemmas.List.{get_or_past, map-set, set-get_or}
-use mathlib.Core.Bool.{false≢true}
-use Rattle.frame_core.specs.Identifiers.{recall_cmp, message_cmp}
 use Rattle.frame_core.specs.Numbers.{Recall, Message}
 use Rattle.frame_core.specs.declared.frames.Frame.{Frame}
 use Rattle.frame_core.specs.declared.frames.Frame.TheVariants as frames
@@ -14,7 +9,6 @@ use Rattle.frame_core.specs.declared.rows.Row.{Row}
 use Rattle.scholten_core.specs.Effects.{AddsRows}
 use Rattle.scholten_core.specs.declared.outcomes.Signalled.{Signalled}
 use Rattle.scholten_core.specs.declared.outcomes.Signalled.TheVariants as signals
-use Rattle.trace_core.proofs.Members.{contains_none}
 use Rattle.site_core.specs.Quarantines.{held}
 use Rattle.site_core.specs.Records.{Record, fresh}
 use Rattle.site_core.specs.StepLaws.{ClearsFor}
@@ -30,7 +24,7 @@ use Rattle.site_core.proofs.Openings.{starts_open}
 use Rattle.site_core.proofs.Takings.{messages_are_taken}
 use Rattle.site_recovery.specs.Fit.{Fit, Fits, IsAnswered}
 use Rattle.site_recovery.specs.Laws.{WasSent}
-use Rattle.site_recovery.specs.Looks.{World, world_of, Held, Ships, row, seen, next_recall}
+use Rattle.site_recovery.specs.Looks.{World, world_of, Held, row, seen, next_recall}
 use Rattle.site_recovery.proofs.Changes.{Clears, Grows}
 use Rattle.site_recovery.proofs.Lifting.{clears_everywhere, grows_everywhere, opens_everywhere, takes_everywhere}
 use Rattle.site_recovery.proofs.OneSite.{SameElsewhere, set_elsewhere, set_here}

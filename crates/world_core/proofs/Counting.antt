@@ -1,5 +1,5 @@
 -- After every run from sites at which nothing happened yet messages are as many as the shipments that they tell of.
-use Rattle.std.proofs.Common.{◌≡◌, ◌⊎◌, inl, inr, ℕ, ◌<◌, Bool, true, false, Option, Some, None, List, [], ◌∷◌, ◌++◌, length, map, refl, sym, ap, ◌∙◌, subst, Contains, slice_get, slice_set, cond}
+use Rattle.std.proofs.Common.{◌≡◌, inl, inr, ℕ, ◌<◌, true, false, Option, Some, None, List, [], ◌∷◌, length, map, refl, sym, ap, ◌∙◌, subst, Contains, slice_get, slice_set, cond}
 use Rattle.std.proofs.lemmas.List.{map-set, set-get_or}
 use Rattle.trace_core.proofs.Members.{contains_cases, contains_here, contains_none, contains_there}
 use Rattle.frame_core.specs.Identifiers.{same_recall}
@@ -16,7 +16,7 @@ use Rattle.world_core.specs.declared.events.Answer.{Answer}
 use Rattle.world_core.specs.declared.events.WorldEvent.{WorldEvent}
 use Rattle.world_core.specs.Counting.{AreAsMany, IsMessageOf, LeavesQuarantine, MessagesAreCounted, Shipment}
 use Rattle.world_core.specs.Faults.{AreFresh, AreOneWorld}
-use Rattle.world_core.specs.Turns.{Runs, Turns, TurnsFrom, site_of}
+use Rattle.world_core.specs.Turns.{Runs, TurnsFrom, site_of}
 use Rattle.world_core.specs.Worlds.{Standing, WorldFits, WorldState, record_of, records}
 use Rattle.world_core.proofs.Counted.{HasLog, step_keeps_a_log}
 use Rattle.world_core.proofs.Fitting.{Way, goes_on, record_at, stays, tells, turn_way, turns_keep_the_fit}
