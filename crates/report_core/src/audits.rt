@@ -1,4 +1,4 @@
-ghost use Rattle.std.specs.Prelude.{◌≡◌, IfOk, IfErr, IsSome, Some};
+ghost use Rattle.std.specs.Prelude.{◌≡◌, IfOk, IfErr, IsSome};
 ghost use Rattle.site_recovery.specs.Checking.{records_at, world_at};
 ghost use Rattle.site_recovery.specs.FittingAt.{AreAllSites};
 ghost use Rattle.site_recovery.specs.Looks.{own};
@@ -9,10 +9,9 @@ use crate::differences::first_difference;
 use crate::faults::ReportFault;
 use crate::roots::reached;
 use frame_core::RecallId;
-use scholten_core::Own;
 use site_core::SiteState;
 use site_recovery::{own_recall, quarantined};
-use std::alloc::{AllocError, Global};
+use std::alloc::Global;
 use trace_core::Pair;
 
 /// How what is quarantined under a recall compares with what its root reaches.
@@ -41,28 +40,11 @@ pub fn audit(alloc: Global, sites: &[&SiteState], recall: RecallId) -> Result<Ve
     ensures known { IfOk result (λ _. IsSome (own (world_at sites.now) recall.site recall.number)) }
     ensures fault { IfErr result (TellsFault (world_at sites.now) recall) }
 {
-    match own_recall(sites, recall) {
-        Some(entry) => match compared(alloc, sites, recall, entry) {
-            Ok(verdict) => Ok(verdict),
-            Err(_) => Err(ReportFault::NoMemory),
-        },
-        None => Err(ReportFault::UnknownRecall),
-    }
-}
-
-/// The verdict on a recall that a site began.
-fn compared(
-    alloc: Global,
-    sites: &[&SiteState],
-    recall: RecallId,
-    entry: &Own,
-) -> Result<Verdict, AllocError>
-    requires all { AreAllSites (records_at sites.now) }
-    requires begun { own (world_at sites.now) recall.site recall.number ≡ Some entry.now }
-    ensures { IfOk result (IsVerdict (records_at sites.now) recall) }
-{
+    let Some(own) = own_recall(sites, recall) else {
+        return Err(ReportFault::UnknownRecall);
+    };
     let held = quarantined(alloc, sites, recall)?;
-    let reached = reached(alloc, sites, recall, entry)?;
+    let reached = reached(alloc, sites, recall, own)?;
     match first_difference(held.as_slice(), reached.as_slice()) {
         Some((pair, missing)) => Ok(Verdict::Differs {
             pair: pair.copy(alloc)?,

@@ -1,7 +1,6 @@
-ghost use Rattle.std.specs.Prelude.{◌≡◌, IfOk, IfErr, Some};
+ghost use Rattle.std.specs.Prelude.{◌≡◌, IfOk, IfErr};
 ghost use Rattle.site_recovery.specs.Checking.{records_at, world_at};
 ghost use Rattle.site_recovery.specs.FittingAt.{AreAllSites};
-ghost use Rattle.site_recovery.specs.Looks.{own};
 ghost use Rattle.report_core.specs.Reports.{IsReport, TellsFault};
 
 use crate::faults::ReportFault;
@@ -10,10 +9,9 @@ use crate::roots::root_of;
 use crate::trails::trails;
 use event_json::Sequence;
 use frame_core::RecallId;
-use scholten_core::Own;
 use site_core::SiteState;
 use site_recovery::{captured, own_recall, quarantined};
-use std::alloc::{AllocError, Global};
+use std::alloc::Global;
 use trace_core::Pair;
 
 /// What the records of all sites say of a recall.
@@ -46,34 +44,17 @@ pub fn report(
     ensures ok { IfOk result (IsReport (records_at sites.now) recall) }
     ensures fault { IfErr result (TellsFault (world_at sites.now) recall) }
 {
-    match own_recall(sites, recall) {
-        Some(entry) => match told(alloc, sites, recall, entry) {
-            Ok(report) => Ok(report),
-            Err(_) => Err(ReportFault::NoMemory),
-        },
-        None => Err(ReportFault::UnknownRecall),
-    }
-}
-
-/// The report of a recall that a site began.
-fn told(
-    alloc: Global,
-    sites: &[&SiteState],
-    recall: RecallId,
-    entry: &Own,
-) -> Result<RecallReport, AllocError>
-    requires all { AreAllSites (records_at sites.now) }
-    requires begun { own (world_at sites.now) recall.site recall.number ≡ Some entry.now }
-    ensures { IfOk result (IsReport (records_at sites.now) recall) }
-{
-    let root = root_of(alloc, recall, entry)?;
+    let Some(own) = own_recall(sites, recall) else {
+        return Err(ReportFault::UnknownRecall);
+    };
+    let root = root_of(alloc, recall, own)?;
     let pairs = quarantined(alloc, sites, recall)?;
     let captured = captured(alloc, sites)?;
     let trails = trails(alloc, captured.as_slice(), &root, pairs.as_slice())?;
     let outside = shipped_out(alloc, sites, recall)?;
     Ok(RecallReport {
         root,
-        ended: entry.ended,
+        ended: own.ended,
         pairs: Sequence::from_vec(pairs),
         trails: Sequence::from_vec(trails),
         outside: Sequence::from_vec(outside),

@@ -6,19 +6,19 @@ use Rattle.report_core.specs.Differences.{difference}
 use Rattle.report_core.specs.Verdicts.{IsVerdict}
 use Rattle.report_core.specs.declared.audits.Verdict.TheVariants.{Differs}
 use Rattle.report_core.proofs.Comparing.{parted_verdict, equal_verdict}
-use Rattle.report_core.proofs.audits.compared.Goals as goal
+use Rattle.report_core.proofs.audits.audit.Goals as goal
 
-pub returns-in-Some : goal.returns-in-Some
-returns-in-Some c =
+pub returns-in-Some-first_difference-clause-ok : goal.returns-in-Some-first_difference-clause-ok
+returns-in-Some-first_difference-clause-ok c =
     let records = records_at c.args.sites.now in
     let places = λ (s : ℕ) (below : s < length records). (c.requires.all s below).place in
     let whole = ap (λ l. difference l c.as_slice-2.result.now) c.as_slice.ensures.value ∙ ap (difference c.in_ok-held.held.items) c.as_slice-2.ensures.value in
     let verdict = parted_verdict records c.args.recall c.in_ok-held.held.items c.in_ok-reached.reached.items (c.in_ok-held.ensures.ascending places) c.in_ok-reached.ensures.ascending (c.in_ok-held.ensures.held places) c.in_ok-reached.ensures.reached
-    c.in-Some.pair.now c.in-Some.missing (c.in-Some.ensures ∙ whole) in
-    subst (λ (p : Pair). IsVerdict records c.args.recall (Differs p c.in-Some.missing)) (sym c.in_ok-copy-in-Some.ensures) verdict
+    c.in-Some-first_difference.pair.now c.in-Some-first_difference.missing (c.in-Some-first_difference.ensures ∙ whole) in
+    subst (λ (p : Pair). IsVerdict records c.args.recall (Differs p c.in-Some-first_difference.missing)) (sym c.in_ok-copy-in-Some-first_difference.ensures) verdict
 
-pub returns : goal.returns
-returns c =
+pub returns-clause-ok : goal.returns-clause-ok
+returns-clause-ok c =
     let records = records_at c.args.sites.now in
     let places = λ (s : ℕ) (below : s < length records). (c.requires.all s below).place in
     let whole = ap (λ l. difference l c.as_slice-2.result.now) c.as_slice.ensures.value ∙ ap (difference c.in_ok-held.held.items) c.as_slice-2.ensures.value in
