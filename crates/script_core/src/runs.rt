@@ -29,8 +29,8 @@ const PIECE: usize = 8_192;
 /// - [`ScriptFault::LineTooLong`] leaves those to all lines before the first that is too long.
 /// - [`ScriptFault::NoMemory`] comes before anything is read, or at a line that has more than 8,192
 ///   bytes or takes memory, and leaves the answers to all lines before it. No memory is taken by a
-///   line without an answer but `site`, and by one that is refused with BadLine, Late, NoWorld or
-///   BadEpc.
+///   line without an answer but `site`, and by one that is refused with BadLine, Late or NoWorld,
+///   or, once the world has begun, with BadEpc.
 /// - [`ScriptFault::Write`] leaves a beginning of the answers' text.
 pub fn run_script<R: Read, W: Write>(
     alloc: Global,
