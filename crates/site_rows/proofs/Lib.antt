@@ -1,5 +1,4 @@
 pub mod AddressesOfSites
-pub mod Entries
 pub mod InTurn
 pub mod SameEvents
 pub mod SameLists

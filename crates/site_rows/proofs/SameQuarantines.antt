@@ -17,7 +17,7 @@ use Rattle.site_core.proofs.HeldLaws.{held_is_all}
 use Rattle.site_core.proofs.ItemOrder.{item_total, item_exact}
 use Rattle.site_rows.specs.declared.rows.QuarantineRow.{QuarantineRow}
 use Rattle.site_rows.specs.RecordRows.{quarantine_row, quarantine_rows}
-use Rattle.site_rows.proofs.Entries.{entry_found, entry_there}
+use Rattle.site_core.proofs.Entries.{entry_found, entry_there}
 use Rattle.site_rows.proofs.SameRecalls.{same_recall_of}
 
 listed : (items : Items) (i : List ℕ) → IsTrue (set.contains items i) → Contains (set.items items) i
