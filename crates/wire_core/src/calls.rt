@@ -24,6 +24,7 @@ pub enum Post {
     Full(Frame),
 }
 
+/// Claims the mailbox to the frame's addressee, fills it and publishes it.
 pub fn post_on(hub: &Hub, token: &mut Token, frame: Frame) -> Post
     requires seat { (token.old.table_id ≡ hub.now.table_id) × (token.old.me.1 ≡ []) × AtRest token.old.me.0.sites }
     requires layout { (hub.now.table_id.words ≡ 16 + 16 * length hub.now.key.items) × (length hub.now.key.items ≤ 16) }
@@ -44,6 +45,7 @@ pub fn post_on(hub: &Hub, token: &mut Token, frame: Frame) -> Post
     Post::Posted
 }
 
+/// Claims the mailbox from the other site and notes the frame in it, empties it and releases it.
 pub fn take_on(hub: &Hub, token: &mut Token, to: SiteNo, from: SiteNo) -> Option<Frame>
     requires seat { (token.old.table_id ≡ hub.now.table_id) × (token.old.me.1 ≡ []) × AtRest token.old.me.0.sites }
     requires layout { (hub.now.table_id.words ≡ 16 + 16 * length hub.now.key.items) × (length hub.now.key.items ≤ 16) }
@@ -62,6 +64,7 @@ pub fn take_on(hub: &Hub, token: &mut Token, to: SiteNo, from: SiteNo) -> Option
     frame
 }
 
+/// One mark.
 pub fn mark_on(hub: &Hub, token: &mut Token, input: &SiteInput, new: &SiteState)
     requires seat { (token.old.table_id ≡ hub.now.table_id) × (token.old.me.1 ≡ []) × (new.now.engagement.me < hub.now.table_id.words) }
     requires step { MayMark input.now new.now token.old.me.0.sites }
@@ -71,6 +74,7 @@ pub fn mark_on(hub: &Hub, token: &mut Token, input: &SiteInput, new: &SiteState)
     mark::<Brand>(hub, token, input, new);
 }
 
+/// A cut, and the split there: the sites from `at` on go to the seat that is answered.
 pub fn split_on(hub: &Hub, token: &mut Token, at: SiteNo) -> Token
     requires { (token.old.table_id ≡ hub.now.table_id) × (token.old.me.1 ≡ []) × (0 < hub.now.table_id.words) }
     ensures seats { (token.new.table_id ≡ token.old.table_id) × (token.new.me.1 ≡ []) × (result.table_id ≡ token.old.table_id) × (result.me.1 ≡ []) }
