@@ -1,17 +1,15 @@
 -- Shipments that are added to a set, one after another.
-use Rattle.std.proofs.Common.{arith, ◌≡◌, ◌↔◌, inl, inr, ℕ, ◌+◌, ◌<◌, ◌≤◌, true, List, [], length, take, get_or, refl, sym, ap, subst, ⊎_elim, Contains}
-use mathlib.Core.Bool.{false≢true}
+use Rattle.std.proofs.Common.{arith, ◌≡◌, ◌↔◌, inl, inr, ℕ, ◌+◌, ◌<◌, ◌≤◌, true, List, length, take, get_or, refl, sym, ap, subst, ⊎_elim}
 use Rattle.std.specs.BTreeSet.{Updates}
 use Rattle.std.specs.Cmp.{IsTotalOrder}
 use Rattle.std.specs.Cmp.Lexicographic.{slice_cmp}
 use Rattle.std.specs.Ordering.{nat_cmp, ordering_then}
-use Rattle.std.specs.Prelude.{IsTrue}
 use Rattle.std.proofs.lemmas.Cmp.{then_total, on_total, nat_cmp_total, nat_list_cmp_total}
 use Rattle.std.proofs.lemmas.List.{take_all}
 use Rattle.std.proofs.lemmas.Map.Lookups.{CmpEqualImpliesEq, exact_pairs, exact_unsigned, exact_bytes}
 use Rattle.trace_core.proofs.SetMembers.{found-insert, contains_more}
 use Rattle.report_core.specs.Destinations.{outside_cmp}
-use Rattle.report_core.specs.Gathering.{Found, IsIn, Adds, OneTells}
+use Rattle.report_core.specs.Gathering.{Found, Adds, OneTells}
 use Rattle.report_core.specs.declared.outside.OutsideShipment.{OutsideShipment}
 
 -- The order of shipments is total, and tells all of them apart.

@@ -1,5 +1,5 @@
 -- What is held and what is reached, as two ascending lists that part somewhere or nowhere.
-use Rattle.std.proofs.Common.{◌≡◌, ◌↔◌, Bool, true, false, List, Option, Some, None, sym, subst, Contains}
+use Rattle.std.proofs.Common.{◌≡◌, ◌↔◌, Bool, true, false, List, Some, None, sym, subst, Contains}
 use Rattle.std.specs.declared.cmp.Ordering.TheVariants.{Less}
 use Rattle.frame_core.specs.Numbers.{Recall}
 use Rattle.trace_core.specs.Pairs.{pair_cmp, IsStrictlyAscending}

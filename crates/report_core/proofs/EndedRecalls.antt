@@ -1,6 +1,5 @@
 -- What a report and an audit tell once a recall has ended, and that there is one verdict.
-use Rattle.std.proofs.Common.{◌≡◌, ◌↔◌, inl, inr, Bool, true, false, List, [], ◌∷◌, Option, Some, None, refl, sym, ap, ◌∙◌, subst, Contains}
-use Rattle.std.specs.Option.{IsSome}
+use Rattle.std.proofs.Common.{◌≡◌, ◌↔◌, Bool, true, false, List, Some, None, refl, sym, ap, ◌∙◌, subst}
 use Rattle.std.specs.Ordering.{ordering_reverse}
 use Rattle.std.specs.declared.cmp.Ordering.TheVariants.{Less, Equal, Greater}
 use Rattle.frame_core.specs.Numbers.{Recall}
@@ -17,9 +16,8 @@ use Rattle.site_recovery.specs.Laws.{AreInPlace, captured_of}
 use Rattle.site_recovery.specs.Looks.{world_of, own}
 use Rattle.site_recovery.proofs.Worlds.{ends_are_exact}
 use Rattle.report_core.specs.Laws.{EndsAreEqual, EndsHaveTrails, OneVerdict}
-use Rattle.report_core.specs.Reports.{IsReport, TellsTrail}
-use Rattle.report_core.specs.Verdicts.{IsHeld, DiffersAt, IsVerdict}
-use Rattle.report_core.specs.declared.audits.Verdict.{Verdict}
+use Rattle.report_core.specs.Reports.{TellsTrail}
+use Rattle.report_core.specs.Verdicts.{IsHeld, DiffersAt}
 use Rattle.report_core.specs.declared.audits.Verdict.TheVariants as verdicts
 use Rattle.report_core.proofs.Zips.{zip_member}
 

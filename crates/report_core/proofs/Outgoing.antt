@@ -1,5 +1,5 @@
 -- What all sites' events ship out of the quarantine.
-use Rattle.std.proofs.Common.{arith, ◌≡◌, ◌↔◌, inl, inr, Some, None, ℕ, ◌<◌, ◌≤◌, List, [], length, get_or, map, refl, sym, ap, ◌∙◌, subst, Bor, Contains}
+use Rattle.std.proofs.Common.{◌≡◌, ◌↔◌, inl, inr, Some, None, ℕ, List, [], length, sym, ap, ◌∙◌, subst, Bor, Contains}
 use mathlib.Core.Bool.{false≢true}
 use Rattle.std.specs.FinMap.{get-empty}
 use Rattle.std.specs.FinMap as finite
@@ -23,7 +23,7 @@ use Rattle.site_recovery.proofs.Exact.{within_or_past}
 use Rattle.trace_core.proofs.Members.{contains-map, contains_none}
 use Rattle.trace_core.proofs.SetMembers.{contains-from_map}
 use Rattle.report_core.specs.Destinations.{outside_cmp}
-use Rattle.report_core.specs.Gathering.{Found, IsIn, OneTells, Goes, ItemGoes, BodyTells, RecordTells}
+use Rattle.report_core.specs.Gathering.{Found, IsIn, OneTells, BodyTells, RecordTells}
 use Rattle.report_core.specs.Outside.{ShipsOut, IsOutside, AreOutside}
 use Rattle.report_core.specs.declared.outside.OutsideShipment.{OutsideShipment}
 use Rattle.report_core.proofs.Adding.{outside_total, outside_exact}

@@ -1,5 +1,5 @@
 -- What a report and an audit tell once a recall has ended, and that records have one verdict.
-use Rattle.std.specs.Prelude.{◌≡◌, Option, Some, IsSome, List, length, Contains}
+use Rattle.std.specs.Prelude.{◌≡◌, Option, IsSome, List, length, Contains}
 use Rattle.frame_core.specs.Numbers.{Recall}
 use Rattle.trace_core.specs.declared.pairs.Pair.{Pair}
 use Rattle.site_core.specs.Records.{Record}

@@ -6,8 +6,7 @@ use Rattle.event_json.specs.Events.{Content}
 use Rattle.event_json.specs.declared.bodies.Body.{Body}
 use Rattle.event_json.specs.declared.bodies.Body.TheVariants.{Note, Ship, Make}
 use Rattle.frame_core.specs.Numbers.{Recall}
-use Rattle.site_core.specs.Records.{Record}
-use Rattle.site_recovery.specs.Looks.{World, world_of, Held}
+use Rattle.site_recovery.specs.Looks.{World, Held}
 use Rattle.report_core.specs.Destinations.{outside_cmp}
 use Rattle.report_core.specs.declared.outside.OutsideShipment.{OutsideShipment}
 

@@ -8,7 +8,6 @@ use Rattle.frame_core.specs.declared.frames.Frame.{Frame}
 use Rattle.site_core.specs.declared.inputs.SiteInput.TheVariants as inputs
 use Rattle.world_core.specs.Turns.{addressee, frame_at as sent_at, input_at}
 use Rattle.world_core.specs.declared.events.WorldInput.TheVariants.{Deliver}
-use Rattle.site_core.specs.Emitting.{frame_at}
 use Rattle.site_core.specs.Records.{Record}
 use Rattle.script_core.specs.Answer.{Said}
 use Rattle.script_core.specs.State.{World, up_at}

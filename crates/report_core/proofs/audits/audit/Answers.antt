@@ -1,4 +1,4 @@
-use Rattle.std.proofs.Common.{◌≡◌, ◌∙◌, ℕ, ◌<◌, length, sym, ap, subst}
+use Rattle.std.proofs.Common.{◌∙◌, ℕ, ◌<◌, length, sym, ap, subst}
 use Rattle.std.specs.Option.{option_map}
 use Rattle.trace_core.specs.declared.pairs.Pair.{Pair}
 use Rattle.site_recovery.specs.Checking.{records_at}

@@ -1,4 +1,4 @@
-use Rattle.std.proofs.Common.{◌≡◌, ◌∙◌, sym, subst}
+use Rattle.std.proofs.Common.{◌∙◌, sym, subst}
 use mathlib.Core.Bool.{false≢true}
 use Rattle.report_core.specs.Gathering.{Adds, Goes, ItemGoes, OneTells}
 use Rattle.report_core.proofs.Adding.{added_alike, none_added, one_more}

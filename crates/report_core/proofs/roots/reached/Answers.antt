@@ -1,4 +1,4 @@
-use Rattle.std.proofs.Common.{◌≡◌, ◌↔◌, ◌∙◌, ap, sym, Contains}
+use Rattle.std.proofs.Common.{◌↔◌, ◌∙◌, ap, sym, Contains}
 use Rattle.std.proofs.lemmas.Result.{IfOk-weaker}
 use Rattle.trace_core.specs.Chains.{Related, sites_at}
 use Rattle.trace_core.specs.Relations.{Reaches}

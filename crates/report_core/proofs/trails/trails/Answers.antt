@@ -1,4 +1,4 @@
-use Rattle.std.proofs.Common.{◌≡◌, ◌+◌, take, sym, subst}
+use Rattle.std.proofs.Common.{◌+◌, take, sym, subst}
 use Rattle.std.specs.List.{AllZip}
 use Rattle.trace_core.specs.Chains.{sites_at}
 use Rattle.report_core.specs.Reports.{TellsTrail}

@@ -1,4 +1,4 @@
-use Rattle.std.proofs.Common.{◌≡◌, ap, sym, ◌∙◌, subst, length, slice_get}
+use Rattle.std.proofs.Common.{ap, sym, ◌∙◌, subst, length}
 use Rattle.world_core.specs.Posting.{IsPlaceOf}
 use Rattle.world_core.specs.Worlds.{WorldState}
 use Rattle.world_core.specs.declared.events.WorldEvent.TheVariants.{Send}
