@@ -1,5 +1,5 @@
 -- What the records of all sites say of a recall.
-use Rattle.std.specs.Prelude.{ℕ, List, map, flat_map}
+use Rattle.std.specs.Prelude.{List, map, flat_map}
 use Rattle.frame_core.specs.Numbers.{Recall}
 use Rattle.site_core.specs.ItemSets as set
 use Rattle.site_core.specs.Quarantines.{items_under}

@@ -1,8 +1,7 @@
 -- Each frame that has a name has a place.
-use Rattle.std.proofs.Common.{◌≡◌, ℕ, suc, Option, Some, None, length, refl, sym, ◌∙◌}
+use Rattle.std.proofs.Common.{◌≡◌, ℕ, suc, Some, None, length, refl, sym}
 use Rattle.std.specs.List.{Contains}
 use Rattle.std.proofs.lemmas.Option.{slice_get_read}
-use Rattle.frame_core.specs.declared.frames.Frame.{Frame}
 use Rattle.scholten_core.specs.Engagement.{Engagement}
 use Rattle.site_core.specs.declared.naming.FrameName.{FrameName}
 use Rattle.site_core.specs.Emitting.{emittable, frame_at}

@@ -1,7 +1,6 @@
-use Rattle.std.proofs.Common.{◌≡◌, ◌↔◌, map, take, ap, sym, ◌∙◌, subst, Contains}
+use Rattle.std.proofs.Common.{◌↔◌, ap, sym, ◌∙◌, subst, Contains}
 use Rattle.std.proofs.lemmas.List.{take_all}
 use Rattle.trace_core.specs.Pairs.{IsStrictlyAscending}
-use Rattle.trace_core.specs.declared.pairs.Pair.{Pair}
 use Rattle.site_recovery.specs.Checking.{records_at, world_at}
 use Rattle.site_recovery.specs.Looks.{Held}
 use Rattle.site_recovery.specs.Recalls.{quarantined}
