@@ -198,6 +198,11 @@ fn ends_apart(alloc: Global, a: &SiteState, last: &SiteInput) -> Result<bool, Fa
     }
 }
 
+/// A signal for a message that was never sent is stale, for which no record is made.
+fn is_stale(alloc: Global, a: &SiteState, unsent: &SiteInput) -> Result<bool, Fail> {
+    Ok(matches!(step(alloc, a, unsent)?, Stepped::Same(Effects::Stale)))
+}
+
 /// A copy is held apart.
 fn is_copied(alloc: Global, a: &SiteState, last: &SiteInput) -> Result<bool, Fail> {
     let mut copy = a.copy(alloc)?;
@@ -207,9 +212,11 @@ fn is_copied(alloc: Global, a: &SiteState, last: &SiteInput) -> Result<bool, Fai
 #[test]
 fn the_last_signal_ends_the_recall(rt: HostRuntime) -> Result<(), Fail> {
     let last = input(rt.alloc(), Short::Signal(message(1), site(1)))?;
+    let unsent = input(rt.alloc(), Short::Signal(message(2), site(1)))?;
     let mut a = fresh(rt.alloc(), site(0))?;
     assert!(rt; recalls(rt.alloc(), &mut a)?);
     assert!(rt; ends_apart(rt.alloc(), &a, &last)?);
+    assert!(rt; is_stale(rt.alloc(), &a, &unsent)?);
     assert!(rt; is_copied(rt.alloc(), &a, &last)?);
     Ok(())
 }
