@@ -2,6 +2,7 @@
 #![tactic(auto)]
 
 mod address_rows;
+mod changes;
 mod event_rows;
 pub mod laws;
 mod numbers;
@@ -10,6 +11,7 @@ mod rows;
 mod texts;
 mod writing;
 
+pub use changes::{Numbers, RecallKey, RowChanges};
 pub use rows::{
     AddressRow, EventRow, OutboxRow, ParentRow, PartRow, QuarantineRow, RecallRow, Rows, SeenRow,
     SiteRow, StoreRow,

@@ -1,0 +1,36 @@
+-- A loop that changes a table for each element.
+use Rattle.std.proofs.Common.{◌≡◌, ℕ, ◌+◌, ◌<◌, List, [], length, take, get_or, Ok, Result, refl, sym, ap, ◌∙◌}
+use Rattle.std.specs.Result.{IsErr}
+use Rattle.std.specs.Prelude.{fold}
+use Rattle.std.proofs.lemmas.List.{take_more}
+use Rattle.std.proofs.lemmas.List.Sums.{fold_push}
+use Rattle.sqlite.specs.Order.{Row}
+use Rattle.sqlite.specs.Table.{Table}
+use Rattle.sqlite.specs.declared.error.Error.{Error}
+use Rattle.sqlite.specs.State.{State, Survives}
+use Rattle.site_tables.specs.TableRows.{Writes, HasWritten, changes_each}
+use Rattle.site_tables.proofs.Steps.{writes_then, fails, succeeds}
+
+-- nothing was changed yet
+pub none_yet : (table : Table) {X : Type 0} (change : X → List Row → List Row) (s : State) → Survives s s (λ _. ⊥) → HasWritten table (changes_each change []) s s
+none_yet table change s quiet = record {
+  done = λ _. record { goes_on = record { is_open = refl; committed = refl; mode = refl }; changes = λ _. record { schema = refl; rows = λ rows has. has; others = λ _ _ _. refl } };
+  undone = λ _. tt {0};
+  crash = quiet;
+}
+
+module _ (table : Table) {X : Type 0} (change : X → List Row → List Row) (xs : List X) (i : ℕ) (x : X) (a b c : State) (r : Result ℕ Error) where
+  one_more : (before : List Row) → i < length xs → x ≡ get_or xs i x → change x (changes_each change (take i xs) before) ≡ changes_each change (take (i + 1) xs) before
+  one_more before low at =
+      sym (ap (fold (λ held y. change y held) before) (take_more xs i x low) ∙ fold_push (λ held y. change y held) before (take i xs) (get_or xs i x) ∙ ap (λ y. change y (changes_each change (take i xs) before)) (sym at))
+
+  pub each_changed : i < length xs → x ≡ get_or xs i x → (n : ℕ) → r ≡ Ok n → HasWritten table (changes_each change (take i xs)) a b → Writes table (change x) b c r
+      → HasWritten table (changes_each change (take (i + 1) xs)) a c
+  each_changed low at n ok p q =
+      let all = changes_each change (take (i + 1) xs) in
+      succeeds table all a c r n (tt {0}) ok (writes_then table (changes_each change (take i xs)) (change x) all (λ before. one_more before low at) a b c (tt {0}) r p q)
+
+  pub each_failed : {Y : Type 0} (out : Result Y Error) (other : List Row → List Row) → IsErr r → IsErr out → HasWritten table (changes_each change (take i xs)) a b → Writes table (change x) b c r → Writes table other a c out
+  each_failed out other bad end p q =
+      let both = λ (before : List Row). change x (changes_each change (take i xs) before) in
+      fails table both other a c r out bad end (writes_then table (changes_each change (take i xs)) (change x) both (λ _. refl) a b c (tt {0}) r p q)

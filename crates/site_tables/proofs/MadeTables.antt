@@ -1,0 +1,64 @@
+-- Tables that are made one after another.
+use Rattle.std.proofs.Common.{◌≡◌, List, [], ◌∷◌, ◌++◌, Ok, Err, Result, refl, ◌∙◌, arith}
+use Rattle.std.proofs.lemmas.List.Sorted.{IsPermutation-refl}
+use Rattle.sqlite.specs.Table.{Table}
+use Rattle.sqlite.specs.Tree.{Trees}
+use Rattle.sqlite.specs.Schema.{Schema}
+use Rattle.sqlite.specs.State.{State, HasCleanDisk}
+use Rattle.sqlite.specs.declared.error.Error.{Error}
+use Rattle.sqlite.proofs.StateLemmas.{survives_then}
+use Rattle.sqlite_catalog.specs.Change.{created, next_tree, KeepsRows}
+use Rattle.site_tables.specs.Made.{with_recall, AreEmpty, MakesTables}
+use Rattle.sqlite.specs.Order.{Row}
+use Rattle.site_tables.specs.Stored.{Holds, no_rows}
+use Rattle.site_tables.specs.TableRows.{HasRows, Creates}
+use Rattle.site_tables.specs.Tables.{store, site, address, event, part, quarantine, outbox, seen, parent, recall}
+use Rattle.site_tables.proofs.Steps.{goes_then, keeps_then, on_ok, on_err}
+
+-- tables that stay are as empty as before, and a new one has no row
+still_empty : (tables : List Table) (last : Table) (old new : Trees) → AreEmpty tables old → KeepsRows tables old new → new last.tree ≡ [] → AreEmpty (tables ++ last ∷ []) new
+still_empty [] last old new none keeps new_one = (new_one, tt)
+still_empty (t ∷ tables) last old new none keeps new_one = (keeps.0 ∙ none.0, still_empty tables last old new none.1 keeps.1 new_one)
+
+pub made_one : {X : Type 0} (table : Table) (schema : Schema) (old new : State) (r : Result X Error) → Creates table schema old new r → MakesTables schema (created schema table) old new r
+made_one table schema old new r it = record {
+  done = λ clean. on_ok r (λ made. record {
+    goes_on = made.goes_on;
+    schema = made.schema_is;
+    empty = λ has none. still_empty schema.tables (record table { tree = next_tree schema }) old.now.trees new.now.trees none (made.others has) (made.empty has);
+  }) (it.done clean);
+  undone = it.undone;
+  crash = it.crash;
+}
+
+pub made_then : {X Y : Type 0} (from mid to : Schema) (a b c : State) (q : Result X Error) (x : X) (r : Result Y Error) → q ≡ Ok x → MakesTables from mid a b q → MakesTables mid to b c r → MakesTables from to a c r
+made_then from mid to a b c (Err e) x r ok p q = absurd cc
+made_then from mid to a b c (Ok y) x r ok p q =
+    let early = λ (clean : HasCleanDisk c). p.done (omega (arith, q.crash.clean)) in
+    record {
+      done = λ clean. on_ok r (λ d. record {
+        goes_on = goes_then a b c (early clean).goes_on d.goes_on;
+        schema = λ has. d.schema ((early clean).schema has);
+        empty = λ has none. d.empty ((early clean).schema has) ((early clean).empty has none);
+      }) (q.done clean);
+      undone = λ clean. on_err r (λ kept. keeps_then a b c (early clean).goes_on kept) (q.undone clean);
+      crash = survives_then a b c _ _ (λ _. ⊥) (λ _ db none. none) (λ _ db none. none) p.crash q.crash;
+    }
+
+-- where no table has a row, the tables hold none
+no_rows_in : (table : Table) (tree : List Row) → tree ≡ [] → HasRows table [] tree
+no_rows_in table tree none = rw none (record { keyed = refl; rising = tt; same = IsPermutation-refl [] })
+
+pub none_held : (trees : Trees) → AreEmpty with_recall.tables trees → Holds no_rows trees
+none_held trees none = record {
+  store = no_rows_in store (trees 0) none.0;
+  site = no_rows_in site (trees 1) none.1.0;
+  address = no_rows_in address (trees 3) none.1.1.0;
+  event = no_rows_in event (trees 5) none.1.1.1.0;
+  part = no_rows_in part (trees 7) none.1.1.1.1.0;
+  quarantine = no_rows_in quarantine (trees 9) none.1.1.1.1.1.0;
+  outbox = no_rows_in outbox (trees 11) none.1.1.1.1.1.1.0;
+  seen = no_rows_in seen (trees 12) none.1.1.1.1.1.1.1.0;
+  parent = no_rows_in parent (trees 14) none.1.1.1.1.1.1.1.1.0;
+  recall = no_rows_in recall (trees 16) none.1.1.1.1.1.1.1.1.1.0;
+}

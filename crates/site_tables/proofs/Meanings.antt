@@ -1,0 +1,106 @@
+-- What the texts mean, as the resolver reads them.
+use Rattle.std.proofs.Common.{◌≡◌, [], ◌∷◌, refl}
+use Rattle.sqlite.specs.Term.{col}
+use Rattle.sqlite_tied.specs.Compute.{everything}
+use Rattle.sqlite.specs.Listing.{understood}
+use Rattle.sqlite.proofs.Callers.{IsPlain, command_of}
+use Rattle.site_tables.specs.Made.{with_store, with_site, with_address, with_event, with_part, with_quarantine, with_outbox, with_seen, with_parent, with_recall}
+use Rattle.site_tables.specs.Tables.{store, site, address, event, part, quarantine, outbox, seen, parent, recall, no_schema, site_schema}
+use Rattle.site_tables.specs.Texts as text
+use Rattle.site_tables.specs.Commands.{inserts_row, deletes_key, upserts_row, updates_each}
+use Rattle.site_tables.proofs.Created.{IsMade}
+
+pub create_store_is : IsMade text.create_store no_schema (record store { tree = 0 })
+unfolding understood everything
+create_store_is = record { command = refl; plain = (refl, refl); whole = refl; defined = refl; counts = refl }
+
+pub create_site_is : IsMade text.create_site with_store (record site { tree = 0 })
+unfolding understood everything
+create_site_is = record { command = refl; plain = (refl, refl); whole = refl; defined = refl; counts = refl }
+
+pub create_address_is : IsMade text.create_address with_site (record address { tree = 0 })
+unfolding understood everything
+create_address_is = record { command = refl; plain = (refl, refl); whole = refl; defined = refl; counts = refl }
+
+pub create_event_is : IsMade text.create_event with_address (record event { tree = 0 })
+unfolding understood everything
+create_event_is = record { command = refl; plain = (refl, refl); whole = refl; defined = refl; counts = refl }
+
+pub create_part_is : IsMade text.create_part with_event (record part { tree = 0 })
+unfolding understood everything
+create_part_is = record { command = refl; plain = (refl, refl); whole = refl; defined = refl; counts = refl }
+
+pub create_quarantine_is : IsMade text.create_quarantine with_part (record quarantine { tree = 0 })
+unfolding understood everything
+create_quarantine_is = record { command = refl; plain = (refl, refl); whole = refl; defined = refl; counts = refl }
+
+pub create_outbox_is : IsMade text.create_outbox with_quarantine (record outbox { tree = 0 })
+unfolding understood everything
+create_outbox_is = record { command = refl; plain = (refl, refl); whole = refl; defined = refl; counts = refl }
+
+pub create_seen_is : IsMade text.create_seen with_outbox (record seen { tree = 0 })
+unfolding understood everything
+create_seen_is = record { command = refl; plain = (refl, refl); whole = refl; defined = refl; counts = refl }
+
+pub create_parent_is : IsMade text.create_parent with_seen (record parent { tree = 0 })
+unfolding understood everything
+create_parent_is = record { command = refl; plain = (refl, refl); whole = refl; defined = refl; counts = refl }
+
+pub create_recall_is : IsMade text.create_recall with_parent (record recall { tree = 0 })
+unfolding understood everything
+create_recall_is = record { command = refl; plain = (refl, refl); whole = refl; defined = refl; counts = refl }
+
+pub all_created : with_recall ≡ site_schema
+all_created = refl
+
+pub insert_store_is : (command_of (understood site_schema text.insert_store) ≡ inserts_row 0 store) × IsPlain (understood site_schema text.insert_store)
+unfolding understood everything
+insert_store_is = (refl, (refl, refl))
+
+pub insert_site_is : (command_of (understood site_schema text.insert_site) ≡ inserts_row 1 site) × IsPlain (understood site_schema text.insert_site)
+unfolding understood everything
+insert_site_is = (refl, (refl, refl))
+
+pub insert_address_is : (command_of (understood site_schema text.insert_address) ≡ inserts_row 2 address) × IsPlain (understood site_schema text.insert_address)
+unfolding understood everything
+insert_address_is = (refl, (refl, refl))
+
+pub insert_event_is : (command_of (understood site_schema text.insert_event) ≡ inserts_row 3 event) × IsPlain (understood site_schema text.insert_event)
+unfolding understood everything
+insert_event_is = (refl, (refl, refl))
+
+pub insert_part_is : (command_of (understood site_schema text.insert_part) ≡ inserts_row 4 part) × IsPlain (understood site_schema text.insert_part)
+unfolding understood everything
+insert_part_is = (refl, (refl, refl))
+
+pub insert_quarantine_is : (command_of (understood site_schema text.insert_quarantine) ≡ inserts_row 5 quarantine) × IsPlain (understood site_schema text.insert_quarantine)
+unfolding understood everything
+insert_quarantine_is = (refl, (refl, refl))
+
+pub insert_seen_is : (command_of (understood site_schema text.insert_seen) ≡ inserts_row 7 seen) × IsPlain (understood site_schema text.insert_seen)
+unfolding understood everything
+insert_seen_is = (refl, (refl, refl))
+
+pub insert_parent_is : (command_of (understood site_schema text.insert_parent) ≡ inserts_row 8 parent) × IsPlain (understood site_schema text.insert_parent)
+unfolding understood everything
+insert_parent_is = (refl, (refl, refl))
+
+pub upsert_outbox_is : (command_of (understood site_schema text.upsert_outbox) ≡ upserts_row 6 outbox) × IsPlain (understood site_schema text.upsert_outbox)
+unfolding understood everything
+upsert_outbox_is = (refl, (refl, refl))
+
+pub upsert_recall_is : (command_of (understood site_schema text.upsert_recall) ≡ upserts_row 9 recall) × IsPlain (understood site_schema text.upsert_recall)
+unfolding understood everything
+upsert_recall_is = (refl, (refl, refl))
+
+pub delete_outbox_is : (command_of (understood site_schema text.delete_outbox) ≡ deletes_key 6 outbox) × IsPlain (understood site_schema text.delete_outbox)
+unfolding understood everything
+delete_outbox_is = (refl, (refl, refl))
+
+pub delete_parent_is : (command_of (understood site_schema text.delete_parent) ≡ deletes_key 8 parent) × IsPlain (understood site_schema text.delete_parent)
+unfolding understood everything
+delete_parent_is = (refl, (refl, refl))
+
+pub update_store_is : (command_of (understood site_schema text.update_store) ≡ updates_each 0 store (col 1 2 ∷ col 1 3 ∷ col 0 0 ∷ col 0 1 ∷ [])) × IsPlain (understood site_schema text.update_store)
+unfolding understood everything
+update_store_is = (refl, (refl, refl))

@@ -1,0 +1,159 @@
+-- What the writes of one table are for all tables.
+use Rattle.std.proofs.Common.{◌≡◌, List, [], ◌∷◌, ◌++◌, Ok, Err, Result, refl, sym, ◌∙◌, arith, map, subst}
+use Rattle.std.proofs.lemmas.List.{map-append}
+use Rattle.sqlite.specs.Order.{Row}
+use Rattle.sqlite.specs.declared.error.Error.{Error}
+use Rattle.sqlite.specs.State.{State, HasCleanDisk, Survives}
+use Rattle.sqlite.proofs.StateLemmas.{survives_then}
+use Rattle.site_rows.specs.declared.rows.StoreRow.{StoreRow}
+use Rattle.site_tables.specs.Stored.{Contents, WritesAll}
+use Rattle.site_tables.specs.Tables.{store, site, address, event, part, quarantine, outbox, seen, parent, recall}
+use Rattle.site_tables.specs.TableRows.{HasRows, Writes}
+use Rattle.site_tables.specs.Values.{store_values}
+use Rattle.site_tables.proofs.Steps.{goes_then, keeps_then, on_ok, on_err}
+
+-- one table, with the others as before
+pub site_in_all : {X : Type 0} (f : List Row → List Row) (a b : State) (r : Result X Error) → Writes site f a b r → WritesAll (λ c. record c { site = f c.site }) a b r
+site_in_all f a b r p = record {
+  done = λ clean. on_ok r (λ d. record {
+    goes_on = d.goes_on;
+    holds = λ has rows h. let it = d.changes has in let same = λ (t : _) (other : _) (plain : _). it.others t other (rw has plain) in
+        (it.schema ∙ has, record { store = rw (same 0 refl refl) h.store; site = it.rows rows.site h.site; address = rw (same 3 refl refl) h.address; event = rw (same 5 refl refl) h.event; part = rw (same 7 refl refl) h.part; quarantine = rw (same 9 refl refl) h.quarantine; outbox = rw (same 11 refl refl) h.outbox; seen = rw (same 12 refl refl) h.seen; parent = rw (same 14 refl refl) h.parent; recall = rw (same 16 refl refl) h.recall });
+  }) (p.done clean);
+  undone = p.undone;
+  crash = p.crash;
+}
+
+pub address_in_all : {X : Type 0} (f : List Row → List Row) (a b : State) (r : Result X Error) → Writes address f a b r → WritesAll (λ c. record c { address = f c.address }) a b r
+address_in_all f a b r p = record {
+  done = λ clean. on_ok r (λ d. record {
+    goes_on = d.goes_on;
+    holds = λ has rows h. let it = d.changes has in let same = λ (t : _) (other : _) (plain : _). it.others t other (rw has plain) in
+        (it.schema ∙ has, record { store = rw (same 0 refl refl) h.store; site = rw (same 1 refl refl) h.site; address = it.rows rows.address h.address; event = rw (same 5 refl refl) h.event; part = rw (same 7 refl refl) h.part; quarantine = rw (same 9 refl refl) h.quarantine; outbox = rw (same 11 refl refl) h.outbox; seen = rw (same 12 refl refl) h.seen; parent = rw (same 14 refl refl) h.parent; recall = rw (same 16 refl refl) h.recall });
+  }) (p.done clean);
+  undone = p.undone;
+  crash = p.crash;
+}
+
+pub event_in_all : {X : Type 0} (f : List Row → List Row) (a b : State) (r : Result X Error) → Writes event f a b r → WritesAll (λ c. record c { event = f c.event }) a b r
+event_in_all f a b r p = record {
+  done = λ clean. on_ok r (λ d. record {
+    goes_on = d.goes_on;
+    holds = λ has rows h. let it = d.changes has in let same = λ (t : _) (other : _) (plain : _). it.others t other (rw has plain) in
+        (it.schema ∙ has, record { store = rw (same 0 refl refl) h.store; site = rw (same 1 refl refl) h.site; address = rw (same 3 refl refl) h.address; event = it.rows rows.event h.event; part = rw (same 7 refl refl) h.part; quarantine = rw (same 9 refl refl) h.quarantine; outbox = rw (same 11 refl refl) h.outbox; seen = rw (same 12 refl refl) h.seen; parent = rw (same 14 refl refl) h.parent; recall = rw (same 16 refl refl) h.recall });
+  }) (p.done clean);
+  undone = p.undone;
+  crash = p.crash;
+}
+
+pub part_in_all : {X : Type 0} (f : List Row → List Row) (a b : State) (r : Result X Error) → Writes part f a b r → WritesAll (λ c. record c { part = f c.part }) a b r
+part_in_all f a b r p = record {
+  done = λ clean. on_ok r (λ d. record {
+    goes_on = d.goes_on;
+    holds = λ has rows h. let it = d.changes has in let same = λ (t : _) (other : _) (plain : _). it.others t other (rw has plain) in
+        (it.schema ∙ has, record { store = rw (same 0 refl refl) h.store; site = rw (same 1 refl refl) h.site; address = rw (same 3 refl refl) h.address; event = rw (same 5 refl refl) h.event; part = it.rows rows.part h.part; quarantine = rw (same 9 refl refl) h.quarantine; outbox = rw (same 11 refl refl) h.outbox; seen = rw (same 12 refl refl) h.seen; parent = rw (same 14 refl refl) h.parent; recall = rw (same 16 refl refl) h.recall });
+  }) (p.done clean);
+  undone = p.undone;
+  crash = p.crash;
+}
+
+pub quarantine_in_all : {X : Type 0} (f : List Row → List Row) (a b : State) (r : Result X Error) → Writes quarantine f a b r → WritesAll (λ c. record c { quarantine = f c.quarantine }) a b r
+quarantine_in_all f a b r p = record {
+  done = λ clean. on_ok r (λ d. record {
+    goes_on = d.goes_on;
+    holds = λ has rows h. let it = d.changes has in let same = λ (t : _) (other : _) (plain : _). it.others t other (rw has plain) in
+        (it.schema ∙ has, record { store = rw (same 0 refl refl) h.store; site = rw (same 1 refl refl) h.site; address = rw (same 3 refl refl) h.address; event = rw (same 5 refl refl) h.event; part = rw (same 7 refl refl) h.part; quarantine = it.rows rows.quarantine h.quarantine; outbox = rw (same 11 refl refl) h.outbox; seen = rw (same 12 refl refl) h.seen; parent = rw (same 14 refl refl) h.parent; recall = rw (same 16 refl refl) h.recall });
+  }) (p.done clean);
+  undone = p.undone;
+  crash = p.crash;
+}
+
+pub outbox_in_all : {X : Type 0} (f : List Row → List Row) (a b : State) (r : Result X Error) → Writes outbox f a b r → WritesAll (λ c. record c { outbox = f c.outbox }) a b r
+outbox_in_all f a b r p = record {
+  done = λ clean. on_ok r (λ d. record {
+    goes_on = d.goes_on;
+    holds = λ has rows h. let it = d.changes has in let same = λ (t : _) (other : _) (plain : _). it.others t other (rw has plain) in
+        (it.schema ∙ has, record { store = rw (same 0 refl refl) h.store; site = rw (same 1 refl refl) h.site; address = rw (same 3 refl refl) h.address; event = rw (same 5 refl refl) h.event; part = rw (same 7 refl refl) h.part; quarantine = rw (same 9 refl refl) h.quarantine; outbox = it.rows rows.outbox h.outbox; seen = rw (same 12 refl refl) h.seen; parent = rw (same 14 refl refl) h.parent; recall = rw (same 16 refl refl) h.recall });
+  }) (p.done clean);
+  undone = p.undone;
+  crash = p.crash;
+}
+
+pub seen_in_all : {X : Type 0} (f : List Row → List Row) (a b : State) (r : Result X Error) → Writes seen f a b r → WritesAll (λ c. record c { seen = f c.seen }) a b r
+seen_in_all f a b r p = record {
+  done = λ clean. on_ok r (λ d. record {
+    goes_on = d.goes_on;
+    holds = λ has rows h. let it = d.changes has in let same = λ (t : _) (other : _) (plain : _). it.others t other (rw has plain) in
+        (it.schema ∙ has, record { store = rw (same 0 refl refl) h.store; site = rw (same 1 refl refl) h.site; address = rw (same 3 refl refl) h.address; event = rw (same 5 refl refl) h.event; part = rw (same 7 refl refl) h.part; quarantine = rw (same 9 refl refl) h.quarantine; outbox = rw (same 11 refl refl) h.outbox; seen = it.rows rows.seen h.seen; parent = rw (same 14 refl refl) h.parent; recall = rw (same 16 refl refl) h.recall });
+  }) (p.done clean);
+  undone = p.undone;
+  crash = p.crash;
+}
+
+pub parent_in_all : {X : Type 0} (f : List Row → List Row) (a b : State) (r : Result X Error) → Writes parent f a b r → WritesAll (λ c. record c { parent = f c.parent }) a b r
+parent_in_all f a b r p = record {
+  done = λ clean. on_ok r (λ d. record {
+    goes_on = d.goes_on;
+    holds = λ has rows h. let it = d.changes has in let same = λ (t : _) (other : _) (plain : _). it.others t other (rw has plain) in
+        (it.schema ∙ has, record { store = rw (same 0 refl refl) h.store; site = rw (same 1 refl refl) h.site; address = rw (same 3 refl refl) h.address; event = rw (same 5 refl refl) h.event; part = rw (same 7 refl refl) h.part; quarantine = rw (same 9 refl refl) h.quarantine; outbox = rw (same 11 refl refl) h.outbox; seen = rw (same 12 refl refl) h.seen; parent = it.rows rows.parent h.parent; recall = rw (same 16 refl refl) h.recall });
+  }) (p.done clean);
+  undone = p.undone;
+  crash = p.crash;
+}
+
+pub recall_in_all : {X : Type 0} (f : List Row → List Row) (a b : State) (r : Result X Error) → Writes recall f a b r → WritesAll (λ c. record c { recall = f c.recall }) a b r
+recall_in_all f a b r p = record {
+  done = λ clean. on_ok r (λ d. record {
+    goes_on = d.goes_on;
+    holds = λ has rows h. let it = d.changes has in let same = λ (t : _) (other : _) (plain : _). it.others t other (rw has plain) in
+        (it.schema ∙ has, record { store = rw (same 0 refl refl) h.store; site = rw (same 1 refl refl) h.site; address = rw (same 3 refl refl) h.address; event = rw (same 5 refl refl) h.event; part = rw (same 7 refl refl) h.part; quarantine = rw (same 9 refl refl) h.quarantine; outbox = rw (same 11 refl refl) h.outbox; seen = rw (same 12 refl refl) h.seen; parent = rw (same 14 refl refl) h.parent; recall = it.rows rows.recall h.recall });
+  }) (p.done clean);
+  undone = p.undone;
+  crash = p.crash;
+}
+
+-- the rows of the store stand for values, which the change is said of
+pub store_in_all : {X : Type 0} (f : List Row → List Row) (of : List StoreRow → List StoreRow) → ((rows : List StoreRow) → f (map store_values rows) ≡ map store_values (of rows)) → (a b : State) (r : Result X Error)
+    → Writes store f a b r → WritesAll (λ c. record c { store = of c.store }) a b r
+store_in_all f of is a b r p = record {
+  done = λ clean. on_ok r (λ d. record {
+    goes_on = d.goes_on;
+    holds = λ has rows h. let it = d.changes has in let same = λ (t : _) (other : _) (plain : _). it.others t other (rw has plain) in
+        (it.schema ∙ has, record { store = subst (λ x. HasRows store x (b.now.trees 0)) (is rows.store) (it.rows (map store_values rows.store) h.store); site = rw (same 1 refl refl) h.site; address = rw (same 3 refl refl) h.address; event = rw (same 5 refl refl) h.event; part = rw (same 7 refl refl) h.part; quarantine = rw (same 9 refl refl) h.quarantine; outbox = rw (same 11 refl refl) h.outbox; seen = rw (same 12 refl refl) h.seen; parent = rw (same 14 refl refl) h.parent; recall = rw (same 16 refl refl) h.recall });
+  }) (p.done clean);
+  undone = p.undone;
+  crash = p.crash;
+}
+
+pub row_added : (row : StoreRow) (rows : List StoreRow) → map store_values rows ++ store_values row ∷ [] ≡ map store_values (rows ++ row ∷ [])
+row_added row rows = sym (map-append store_values rows (row ∷ []))
+
+pub all_then : {X Y : Type 0} (f h : Contents → Contents) (a b c : State) (q : Result X Error) (x : X) (r : Result Y Error) → q ≡ Ok x → WritesAll f a b q → WritesAll h b c r → WritesAll (λ rows. h (f rows)) a c r
+all_then f h a b c (Err e) x r ok p q = absurd cc
+all_then f h a b c (Ok y) x r ok p q =
+    let early = λ (clean : HasCleanDisk c). p.done (omega (arith, q.crash.clean)) in
+    record {
+      done = λ clean. on_ok r (λ d. record {
+        goes_on = goes_then a b c (early clean).goes_on d.goes_on;
+        holds = λ has rows held. let one = (early clean).holds has rows held in d.holds one.0 (f rows) one.1;
+      }) (q.done clean);
+      undone = λ clean. on_err r (λ kept. keeps_then a b c (early clean).goes_on kept) (q.undone clean);
+      crash = survives_then a b c _ _ (λ _. ⊥) (λ _ db none. none) (λ _ db none. none) p.crash q.crash;
+    }
+
+-- a call that failed, whatever it would have changed, and one that had nothing to change
+pub all_fail : {X Y : Type 0} (f h : Contents → Contents) (a b : State) (q : Result X Error) (e : Error) (r : Result Y Error) → q ≡ Err e → r ≡ Err e → WritesAll f a b q → WritesAll h a b r
+all_fail f h a b (Ok x) e r bad end p = absurd cc
+all_fail f h a b (Err d) e (Ok y) bad end p = absurd cc
+all_fail f h a b (Err d) e (Err c) bad end p = record { done = λ _. tt {0}; undone = p.undone; crash = p.crash }
+
+pub all_succeed : {X Y : Type 0} (f : Contents → Contents) (a b : State) (q : Result X Error) (x : X) (y : Y) → q ≡ Ok x → WritesAll f a b q → WritesAll f a b (Ok y)
+all_succeed f a b (Ok z) x y ok p = record { done = p.done; undone = λ _. tt {0}; crash = p.crash }
+all_succeed f a b (Err e) x y ok p = absurd cc
+
+pub nothing_in_all : (s : State) → Survives s s (λ _. ⊥) → WritesAll (λ c. c) s s (Ok (tt {0}))
+nothing_in_all s quiet = record {
+  done = λ _. record { goes_on = record { is_open = refl; committed = refl; mode = refl }; holds = λ has rows h. (has, h) };
+  undone = λ _. tt {0};
+  crash = quiet;
+}

@@ -1,0 +1,27 @@
+use Rattle.std.proofs.Common.{rules, arith, refl, pos, get_or}
+use Rattle.std.proofs.lemmas.List.{get_or_default}
+use Rattle.sqlite.specs.Held.{state}
+use Rattle.site_rows.specs.declared.rows.SeenRow.{SeenRow}
+use Rattle.site_tables.specs.Values.{seen_values}
+use Rattle.site_tables.specs.Tables.{seen}
+use Rattle.site_tables.proofs.Steps.{row_added, row_failed}
+use Rattle.site_tables.proofs.in_turn.insert_each_seen.Goals as goal
+
+abbrev no_row : SeenRow
+no_row = record { sender = pos 0; number = pos 0; recall_site = pos 0; recall_no = pos 0 }
+
+pub loop-row-preserved : goal.loop-row-preserved
+loop-row-preserved g c =
+    let inv = c.loop-row.invariant in
+    let item = get_or c.args.rows.now c.loop-row.row-index no_row in
+    let it = c.insert_seen.ensures in (
+      search rules,
+      row_added seen seen_values c.args.rows.now c.loop-row.row-index item (state g.S.Store c.args.tx.now.conn.now) (state g.S.Store c.loop-row.tx.conn.now) (state g.S.Store c.insert_seen.new.tx.conn.now) c.insert_seen.result
+          c.loop-row-test.true (get_or_default c.args.rows.now c.loop-row.row-index no_row item c.loop-row-test.true) c.in_ok-insert_seen.field-0 c.in_ok-insert_seen.was inv.1 it.wrote,
+      omega (arith, it.counted, inv.2),
+    )
+
+pub returns-in_err-insert_seen-clause-wrote : goal.returns-in_err-insert_seen-clause-wrote
+returns-in_err-insert_seen-clause-wrote g c =
+    row_failed seen seen_values c.args.rows.now c.loop-row.row-index (get_or c.args.rows.now c.loop-row.row-index no_row) (state g.S.Store c.args.tx.now.conn.now) (state g.S.Store c.loop-row.tx.conn.now) (state g.S.Store c.insert_seen.new.tx.conn.now) c.insert_seen.result
+    c.from_residual.result _ (rw c.in_err-insert_seen.was refl) c.from_residual.ensures.0 c.loop-row.invariant.1 c.insert_seen.ensures.wrote

@@ -1,0 +1,163 @@
+//! A site's tables made with the rows of the site, and the rows that a step changes, each in one transaction.
+ghost use Rattle.std.specs.Prelude.{◌≡◌, ◌+◌, false, length, min, IsTrue, IfErr, OnOk, OnErr};
+ghost use Rattle.sqlite.specs.Tree.{Trees};
+ghost use Rattle.sqlite.specs.State.{HasCleanDisk, IsUnchanged, Survives};
+ghost use Rattle.sqlite.specs.Held.{state};
+ghost use Rattle.site_tables.specs.Changed.{captured, recalled, signalled, renumbered, changed, rows_written, numbers_written};
+ghost use Rattle.site_tables.specs.Stored.{Contents, Holds, IsStored, IsStopped, WritesAll, begun, no_rows};
+ghost use Rattle.site_tables.specs.Tables.{no_schema};
+
+use crate::create::create_tables;
+use crate::in_turn::{
+    delete_each_outbox, delete_each_parent, insert_each_address, insert_each_event,
+    insert_each_parent, insert_each_part, insert_each_quarantine, insert_each_seen,
+    insert_each_site, upsert_each_outbox, upsert_each_recall,
+};
+use crate::inserts::insert_store;
+use crate::replacing::update_store;
+use site_rows::{AddressRow, RowChanges, SiteRow, StoreRow};
+use sqlite::{Alter, Connection, Error, Transaction};
+
+/// Writes the events and the members of their lists.
+fn write_captured<S: Alter>(
+    tx: &mut Transaction<'_, S>,
+    changes: &RowChanges,
+    written: &mut u64,
+) -> Result<(), Error>
+    ensures same_reference { tx.new.conn.ghost_name ≡ tx.old.conn.ghost_name }
+    ensures wrote { WritesAll (captured changes.now) (state S.Store tx.old.conn.now) (state S.Store tx.new.conn.now) result }
+    ensures counted { OnOk result (written.new ≡ min 18_446_744_073_709_551_615 (written.old + (length changes.now.event + length changes.now.part))) }
+{
+    insert_each_event(tx, changes.event.as_slice(), written)?;
+    insert_each_part(tx, changes.part.as_slice(), written)
+}
+
+/// Writes what came under recalls, and the messages and parents that came with it.
+fn write_recalled<S: Alter>(
+    tx: &mut Transaction<'_, S>,
+    changes: &RowChanges,
+    written: &mut u64,
+) -> Result<(), Error>
+    ensures same_reference { tx.new.conn.ghost_name ≡ tx.old.conn.ghost_name }
+    ensures wrote { WritesAll (recalled changes.now) (state S.Store tx.old.conn.now) (state S.Store tx.new.conn.now) result }
+    ensures counted { OnOk result (written.new ≡ min 18_446_744_073_709_551_615 (written.old + (length changes.now.quarantine + length changes.now.outbox + length changes.now.seen + length changes.now.parent))) }
+{
+    insert_each_quarantine(tx, changes.quarantine.as_slice(), written)?;
+    upsert_each_outbox(tx, changes.outbox.as_slice(), written)?;
+    insert_each_seen(tx, changes.seen.as_slice(), written)?;
+    insert_each_parent(tx, changes.parent.as_slice(), written)
+}
+
+/// Takes out what was signalled, and writes the own recalls.
+fn write_signalled<S: Alter>(
+    tx: &mut Transaction<'_, S>,
+    changes: &RowChanges,
+    written: &mut u64,
+) -> Result<(), Error>
+    ensures same_reference { tx.new.conn.ghost_name ≡ tx.old.conn.ghost_name }
+    ensures wrote { WritesAll (signalled changes.now) (state S.Store tx.old.conn.now) (state S.Store tx.new.conn.now) result }
+    ensures counted { OnOk result (written.new ≡ min 18_446_744_073_709_551_615 (written.old + (length changes.now.signalled + length changes.now.left + length changes.now.recall))) }
+{
+    delete_each_outbox(tx, changes.signalled.as_slice(), written)?;
+    delete_each_parent(tx, changes.left.as_slice(), written)?;
+    upsert_each_recall(tx, changes.recall.as_slice(), written)
+}
+
+/// Writes the next numbers, where they changed.
+fn write_numbers<S: Alter>(
+    tx: &mut Transaction<'_, S>,
+    changes: &RowChanges,
+    written: &mut u64,
+) -> Result<(), Error>
+    ensures same_reference { tx.new.conn.ghost_name ≡ tx.old.conn.ghost_name }
+    ensures wrote { WritesAll (renumbered changes.now) (state S.Store tx.old.conn.now) (state S.Store tx.new.conn.now) result }
+    ensures counted { OnOk result (written.new ≡ min 18_446_744_073_709_551_615 (written.old + numbers_written changes.now.numbers)) }
+{
+    // The count fits its type.
+    let _written = *written;
+    let Some(numbers) = &changes.numbers else {
+        return Ok(());
+    };
+    update_store(tx, numbers, written)?;
+    Ok(())
+}
+
+/// Writes the changed rows, and no others.
+fn write_changes<S: Alter>(
+    tx: &mut Transaction<'_, S>,
+    changes: &RowChanges,
+    written: &mut u64,
+) -> Result<(), Error>
+    ensures same_reference { tx.new.conn.ghost_name ≡ tx.old.conn.ghost_name }
+    ensures wrote { WritesAll (changed changes.now) (state S.Store tx.old.conn.now) (state S.Store tx.new.conn.now) result }
+    ensures counted { OnOk result (written.new ≡ min 18_446_744_073_709_551_615 (written.old + rows_written changes.now)) }
+{
+    write_captured(tx, changes, written)?;
+    write_recalled(tx, changes, written)?;
+    write_signalled(tx, changes, written)?;
+    write_numbers(tx, changes, written)
+}
+
+/// Makes these changes, in one transaction, and counts the rows that it writes. The commit is the last call of the
+/// database.
+///
+/// # Errors
+/// The database's. While the connection is open a crash then leaves the rows of before; once it is shut, those or
+/// the changed ones, and no others.
+pub fn store_changes<S: Alter>(
+    conn: &mut Connection<S>,
+    changes: &RowChanges,
+    written: &mut u64,
+) -> Result<(), Error>
+    requires outside { conn.old.in_transaction ≡ false }
+    ensures mode { conn.new.in_transaction ≡ false }
+    ensures done { HasCleanDisk (state S.Store conn.new) → (before : Contents) → IsStored before (state S.Store conn.old)
+        → OnOk result (IsStored (changed changes.now before) (state S.Store conn.new)) }
+    ensures stopped { HasCleanDisk (state S.Store conn.new) → (before : Contents) → IsStored before (state S.Store conn.old)
+        → OnErr result (IsStopped before (changed changes.now before) (state S.Store conn.new)) }
+    ensures crash { Survives (state S.Store conn.old) (state S.Store conn.new) (λ db. (before : Contents) → IsStored before (state S.Store conn.old) → Holds (changed changes.now before) db) }
+    ensures counted { OnOk result (written.new ≡ min 18_446_744_073_709_551_615 (written.old + rows_written changes.now)) }
+{
+    let mut tx = conn.transaction();
+    write_changes(&mut tx, changes, written)?;
+    tx.commit()
+}
+
+/// Writes the rows of a site that was made just now.
+fn write_begun<S: Alter>(
+    tx: &mut Transaction<'_, S>,
+    row: &StoreRow,
+    sites: &[SiteRow],
+    addresses: &[AddressRow],
+    written: &mut u64,
+) -> Result<(), Error>
+    ensures same_reference { tx.new.conn.ghost_name ≡ tx.old.conn.ghost_name }
+    ensures wrote { WritesAll (begun row.now sites.now addresses.now) (state S.Store tx.old.conn.now) (state S.Store tx.new.conn.now) result }
+{
+    insert_store(tx, row, written)?;
+    insert_each_site(tx, sites, written)?;
+    insert_each_address(tx, addresses, written)
+}
+
+/// Makes the tables with the rows of a site that has captured nothing yet, in one transaction, in an empty
+/// database.
+///
+/// # Errors
+/// The database's.
+pub fn create_site<S: Alter>(
+    conn: &mut Connection<S>,
+    row: &StoreRow,
+    sites: &[SiteRow],
+    addresses: &[AddressRow],
+) -> Result<(), Error>
+    requires outside { conn.old.in_transaction ≡ false }
+    ensures mode { conn.new.in_transaction ≡ false }
+    ensures stored { HasCleanDisk (state S.Store conn.new) → (state S.Store conn.old).now.schema ≡ no_schema
+        → OnOk result (IsStored (begun row.now sites.now addresses.now no_rows) (state S.Store conn.new)) }
+{
+    let mut written: u64 = 0;
+    let mut tx = conn.transaction();
+    create_tables(&mut tx)?;
+    write_begun(&mut tx, row, sites, addresses, &mut written)?;
+    tx.commit()
+}
