@@ -18,17 +18,7 @@ use Rattle.site_core.specs.Emitting.{emittable, message_frame, message_frames, s
 use Rattle.site_recovery.specs.Fit.{FrameFits}
 use Rattle.site_recovery.specs.Looks.{World, parent}
 use Rattle.site_core.proofs.Entries.{entry_found}
-
--- what a filter leaves passes
-passing : {X : Type 0} (p : X → Bool) (xs : List X) (y : X) → Contains (filter p xs) y → Contains xs y × (p y ≡ true)
-passing p [] y at = absurd (contains_none y at)
-passing p (x ∷ xs) y at = elim (p x) as (λ b. p x ≡ b → Contains (cond b (x ∷ filter p xs) (filter p xs)) y → Contains (x ∷ xs) y × (p y ≡ true)) [
-  | true ↦ λ is c. elim (contains_cases x y (filter p xs) c) as (λ _. Contains (x ∷ xs) y × (p y ≡ true)) [
-    | inl same ↦ (subst (Contains (x ∷ xs)) same (contains_here x xs), subst (λ z. p z ≡ true) same is)
-    | inr later ↦ let rest = passing p xs y later in (contains_there x y xs rest.0, rest.1)
-  ]
-  | false ↦ λ is c. let rest = passing p xs y c in (contains_there x y xs rest.0, rest.1)
-] refl at
+use Rattle.site_core.proofs.NamedFrames.{passing}
 
 module _ (W : World) (s : ℕ) (me : (W s).engagement.me ≡ s) where
   -- a message whose row stands

@@ -9,6 +9,7 @@ ghost use Rattle.site_recovery.specs.Checking.{records_at, Adds, HeldIn, IsReach
 ghost use Rattle.site_recovery.specs.FittingAt.{AreAllSites};
 ghost use Rattle.site_recovery.specs.Laws.{captured_of};
 
+use crate::recalls::captured;
 use epc_core::Epc;
 use event_json::SiteNo;
 use frame_core::RecallId;
@@ -17,20 +18,6 @@ use site_core::{Quarantine, SiteState};
 use std::alloc::{AllocError, Global};
 use std::collections::BTreeMap;
 use trace_core::{Captured, Pair, reach};
-
-/// What each site captured.
-fn all_captured<'a>(
-    alloc: Global,
-    sites: &'a [&'a SiteState],
-) -> Result<Vec<&'a Captured>, AllocError>
-    ensures { IfOk result (λ captured. sites_at captured.items ≡ captured_of (records_at sites.now)) }
-{
-    let mut captured = Vec::new(alloc);
-    for state in sites {
-        captured.push(state.captured())?;
-    }
-    Ok(captured)
-}
 
 /// No items at any of so many sites.
 fn nothing_held(alloc: Global, count: usize) -> Result<Vec<Quarantine>, AllocError>
@@ -115,7 +102,7 @@ pub(crate) fn all_reached(
     requires all { AreAllSites (records_at sites.now) }
     ensures { IfOk result (λ reached. (r : Recall) (p : Pair) → HeldIn reached.items r p ↔ (IsReachedBy (records_at sites.now) r p × (p.site < length sites.now))) }
 {
-    let captured = all_captured(alloc, &*sites)?;
+    let captured = captured(alloc, &*sites)?;
     let mut reached = nothing_held(alloc, sites.len())?;
     for state in sites {
         hold_own(

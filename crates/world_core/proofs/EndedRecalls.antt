@@ -20,7 +20,7 @@ use Rattle.world_core.specs.declared.events.WorldEvent.{WorldEvent}
 use Rattle.world_core.specs.Worlds.{WorldFits, WorldState, record_of, records}
 use Rattle.world_core.proofs.Fitting.{run_keeps, runs_keep_the_fit}
 use Rattle.world_core.proofs.FreshSites.{fresh_sites_fit}
-use Rattle.world_core.proofs.HeldPairs.{pairs_ascend, pairs_held}
+use Rattle.site_recovery.proofs.HeldPairs.{pairs_ascend, pairs_held}
 use Rattle.world_core.proofs.KeptSteps.{sites_stand}
 
 begun_at : (recall : Recall) (root : List ℕ) (rs : List Record) (h : HasEnded recall root rs) → own (world_of rs) recall.site recall.number ≡ Some h.own

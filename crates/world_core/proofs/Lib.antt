@@ -2,8 +2,6 @@ pub mod Emitted
 pub mod EndedRecalls
 pub mod Fitting
 pub mod FreshSites
-pub mod HeldPairs
-pub mod Holding
 pub mod InPlace
 pub mod KeeperKinds
 pub mod KeptSteps

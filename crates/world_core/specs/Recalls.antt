@@ -1,23 +1,14 @@
 -- What the records of all sites say of a recall.
-use Rattle.std.specs.Prelude.{◌≡◌, ◌↔◌, ℕ, Bool, IsTrue, List, map, flat_map, Contains, Option, Some, option_map, slice_get}
+pub use Rattle.site_recovery.specs.Recalls.{quarantined}
+use Rattle.std.specs.Prelude.{◌≡◌, ◌↔◌, ℕ, Bool, IsTrue, List, Contains, Option, Some, option_map, slice_get}
 use Rattle.std.specs.FinMap.{get}
 use Rattle.frame_core.specs.Numbers.{Recall}
-use Rattle.site_core.specs.ItemSets as set
-use Rattle.site_core.specs.Quarantines.{items_under}
 use Rattle.site_core.specs.Records.{Record}
 use Rattle.site_recovery.specs.Laws.{captured_of}
 use Rattle.scholten_core.specs.declared.own_recalls.Own.{Own}
 use Rattle.trace_core.specs.Chains.{Related}
 use Rattle.trace_core.specs.Relations.{Reaches}
 use Rattle.trace_core.specs.declared.pairs.Pair.{Pair}
-
--- what a site holds under the recall, by item
-abbrev pub held_at : Recall → Record → List Pair
-held_at recall r = map (λ i. record { site = r.engagement.me; item = i }) (set.items (items_under r.quarantine recall))
-
--- all that is quarantined under the recall, by site and item
-abbrev pub quarantined : Recall → List Record → List Pair
-quarantined recall records = flat_map (held_at recall) records
 
 -- whether the recall has ended, as the record of the site that began it tells; None where it tells of no such recall
 abbrev pub ended_in : Recall → Record → Option Bool

@@ -14,13 +14,14 @@ ghost use Rattle.world_core.specs.Worlds.{WorldState};
 use crate::events::{Answer, WorldEvent};
 use crate::faults::{NotAWorld, ViewFault};
 use crate::forming::together;
-use crate::recalls::{ended_at, pairs_of};
+use crate::recalls::ended_at;
 use crate::turns::{post, sent_at, take_turn};
 use crate::views::{each_stands, views};
 use event_json::SiteNo;
 use frame_core::{Frame, FrameView, RecallId};
 use keeper_core::SiteKeeper;
 use site_core::{FrameName, SiteState};
+use site_recovery::quarantined;
 use std::alloc::{AllocError, Global};
 use std::marker::Model;
 use trace_core::Pair;
@@ -133,7 +134,7 @@ impl<K: SiteKeeper> World<K> {
         ensures closed { IfErr result (λ fault. IfClosed fault (IsFirstClosed K.shown self.now.keepers)) }
     {
         let states = views(self.alloc, &self.keepers)?;
-        Ok(pairs_of(self.alloc, &states, recall)?)
+        Ok(quarantined(self.alloc, &states, recall)?)
     }
 
     /// Whether a recall has ended. None where the site that began it is closed, and where it has no such recall.
