@@ -1,5 +1,5 @@
 -- A frame that a site may send fits.
-use Rattle.std.proofs.Common.{◌≡◌, ◌≢◌, inl, inr, ℕ, Bool, true, false, not, cond, List, [], ◌∷◌, Some, filter, refl, sym, ap, ◌∙◌, subst, true≢false}
+use Rattle.std.proofs.Common.{◌≡◌, ◌≢◌, inl, inr, ℕ, true, not, Some, filter, refl, sym, ap, ◌∙◌, subst, true≢false}
 use Rattle.std.specs.Cmp.{nat_cmp_total}
 use Rattle.std.specs.List.{Contains}
 use Rattle.std.specs.FinMap.{get, entries}
@@ -12,7 +12,6 @@ use Rattle.frame_core.specs.declared.frames.Frame.TheVariants as frames
 use Rattle.frame_core.proofs.Found.{found_in}
 use Rattle.frame_core.proofs.Sameness.{equal_messages}
 use Rattle.frame_core.proofs.Sums.{list_any-map}
-use Rattle.trace_core.proofs.Members.{contains_here, contains_there, contains_cases, contains_none}
 use Rattle.trace_core.proofs.SetMembers.{contains-from_map}
 use Rattle.site_core.specs.Emitting.{emittable, message_frame, message_frames, signal_frame, signal_frames, is_parent}
 use Rattle.site_recovery.specs.Fit.{FrameFits}
