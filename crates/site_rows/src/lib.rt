@@ -10,6 +10,8 @@ mod numbers;
 mod recall_rows;
 mod rows;
 mod step_changes;
+#[cfg(test)]
+mod tests;
 mod texts;
 mod writing;
 
