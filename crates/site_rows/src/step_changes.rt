@@ -78,9 +78,11 @@ fn captured_changes(
     ensures { (bytes : List ℕ) (told : Effects) → Does old.now (SiteInput.Capture bytes) told new.now → IfOk result (λ changes. AreChangesOf changes told old.now new.now) }
 {
     let from = old.captured().len();
+    let event = event_rows(alloc, new.captured(), from)?;
+    let part = part_rows(alloc, old.sites(), new.captured(), from)?;
     Ok(RowChanges {
-        event: event_rows(alloc, new.captured(), from)?,
-        part: part_rows(alloc, old.sites(), new.captured(), from)?,
+        event,
+        part,
         quarantine: Sequence::new(alloc),
         outbox: Sequence::new(alloc),
         seen: Sequence::new(alloc),
@@ -106,17 +108,21 @@ fn started_changes(
         site: old.me(),
         number,
     };
+    let numbers = numbers_of(new)?;
+    let quarantine = newly_held_rows(alloc, old, recall, root)?;
+    let outbox = numbered_rows(alloc, new, old.next_message())?;
+    let own = own_rows_at(alloc, new, number)?;
     Ok(RowChanges {
         event: Sequence::new(alloc),
         part: Sequence::new(alloc),
-        quarantine: newly_held_rows(alloc, old, recall, root)?,
-        outbox: numbered_rows(alloc, new, old.next_message())?,
+        quarantine,
+        outbox,
         seen: Sequence::new(alloc),
         parent: Sequence::new(alloc),
         signalled: Sequence::new(alloc),
         left: Sequence::new(alloc),
-        recall: own_rows_at(alloc, new, number)?,
-        numbers: Some(numbers_of(new)?),
+        recall: own,
+        numbers: Some(numbers),
     })
 }
 
@@ -152,17 +158,22 @@ fn received_changes(
 ) -> Result<RowChanges, AllocError>
     ensures { (dest quarantined numbered : ℕ) → Takes old.now message dest recall item.now quarantined numbered owed new.now → IfOk result (λ changes. AreChangesOf changes (effects.Received quarantined numbered owed) old.now new.now) }
 {
+    let numbers = numbers_changed(old, new)?;
+    let quarantine = newly_held_rows(alloc, old, recall, item)?;
+    let outbox = numbered_rows(alloc, new, old.next_message())?;
+    let seen = seen_rows_of(alloc, message, recall)?;
+    let parent = parent_rows_of(alloc, message, recall, owed)?;
     Ok(RowChanges {
         event: Sequence::new(alloc),
         part: Sequence::new(alloc),
-        quarantine: newly_held_rows(alloc, old, recall, item)?,
-        outbox: numbered_rows(alloc, new, old.next_message())?,
-        seen: seen_rows_of(alloc, message, recall)?,
-        parent: parent_rows_of(alloc, message, recall, owed)?,
+        quarantine,
+        outbox,
+        seen,
+        parent,
         signalled: Sequence::new(alloc),
         left: Sequence::new(alloc),
         recall: Sequence::new(alloc),
-        numbers: numbers_changed(old, new)?,
+        numbers,
     })
 }
 
@@ -201,6 +212,7 @@ fn cleared_changes(
 ) -> Result<RowChanges, AllocError>
     ensures { IfOk result (λ changes. changes ≡ record no_changes { signalled = pos number ∷ []; left = left; recall = recall }) }
 {
+    let signalled = message_keys(alloc, number)?;
     Ok(RowChanges {
         event: Sequence::new(alloc),
         part: Sequence::new(alloc),
@@ -208,7 +220,7 @@ fn cleared_changes(
         outbox: Sequence::new(alloc),
         seen: Sequence::new(alloc),
         parent: Sequence::new(alloc),
-        signalled: message_keys(alloc, number)?,
+        signalled,
         left,
         recall,
         numbers: None,

@@ -11,10 +11,10 @@ returns c = λ bytes told does.
     let t = c.args.new.now in
     let old = length s.captured.events in
     let from : c.len-from.result ≡ old = c.len-from.ensures ∙ ap (λ (x : SiteEvents). length x.events) c.captured.ensures in
-    let events : c.in_ok-event_rows.field-0 ≡ map event_row (enumerate_from (old + 1) (drop old t.captured.events)) =
-    c.in_ok-event_rows.ensures ∙ (λ i. map event_row (enumerate_from (from i + 1) (drop (from i) (c.captured-2.ensures i).events))) in
-    let parts : c.in_ok-part_rows.field-0 ≡ flat_map (parts_of s.sites) (enumerate_from (old + 1) (drop old t.captured.events)) =
-    c.in_ok-part_rows.ensures ∙ (λ i. flat_map (parts_of (c.sites.ensures i)) (enumerate_from (from i + 1) (drop (from i) (c.captured-3.ensures i).events))) in
+    let events : c.in_ok-event.event ≡ map event_row (enumerate_from (old + 1) (drop old t.captured.events)) =
+    c.in_ok-event.ensures ∙ (λ i. map event_row (enumerate_from (from i + 1) (drop (from i) (c.captured-2.ensures i).events))) in
+    let parts : c.in_ok-part.part ≡ flat_map (parts_of s.sites) (enumerate_from (old + 1) (drop old t.captured.events)) =
+    c.in_ok-part.ensures ∙ (λ i. flat_map (parts_of (c.sites.ensures i)) (enumerate_from (from i + 1) (drop (from i) (c.captured-3.ensures i).events))) in
     capture_leads s t bytes told does _ (λ i. record {
       event = events i;
       part = parts i;
