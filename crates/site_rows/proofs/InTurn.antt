@@ -19,7 +19,7 @@ module _ {X R : Type 0} (f : X → List R) where
   pub all_at_end : (xs : List X) (out total : List R) → xs ≡ [] → out ++ flat_map f xs ≡ total → out ≡ total
   all_at_end xs out total none so_far = sym (append-nil out) ∙ ap (λ es. out ++ flat_map f es) (sym none) ∙ so_far
 
-rest_there : {X : Type 0} (xs : List X) (n : ℕ) (x : X) → slice_get xs n ≡ Some x → drop n xs ≡ x ∷ drop (suc n) xs
+pub rest_there : {X : Type 0} (xs : List X) (n : ℕ) (x : X) → slice_get xs n ≡ Some x → drop n xs ≡ x ∷ drop (suc n) xs
 rest_there [] n x is = cc
 rest_there (y ∷ ys) zero x is = let same : y ≡ x = cc in ap (λ z. z ∷ ys) same
 rest_there (y ∷ ys) (suc n) x is = rest_there ys n x is

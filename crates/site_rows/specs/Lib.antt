@@ -1,3 +1,4 @@
 pub mod Laws
 pub mod RecordRows
+pub mod StepRows
 pub mod Texts

@@ -1,5 +1,5 @@
 //! The rows of the captured events and of their lists.
-ghost use Rattle.std.specs.Prelude.{◌≡◌, ◌≤◌, ◌++◌, ◌∷◌, [], flat_map, map, length, option_map, pos, IfOk, OnOk};
+ghost use Rattle.std.specs.Prelude.{◌≡◌, ◌≤◌, ◌++◌, ◌∷◌, ◌+◌, [], drop, flat_map, map, length, option_map, pos, IfOk, OnOk};
 ghost use Rattle.std.specs.List.{enumerate_from};
 ghost use Rattle.event_json.specs.Contents.{kind_of, id_of};
 ghost use Rattle.site_rows.specs.RecordRows.{event_row, part_row, part_rows, body_rows, parts_of, name_of};
@@ -72,12 +72,16 @@ fn event_row(alloc: Global, number: u64, event: &Event) -> Result<EventRow, Allo
     })
 }
 
-/// The rows of the captured events, by number.
-pub fn event_rows(alloc: Global, captured: &Captured) -> Result<Sequence<EventRow>, AllocError>
-    ensures { IfOk result (λ rows. rows ≡ map event_row (enumerate_from 1 captured.now.events)) }
+/// The rows of the captured events from this place on, which counts from 0, by number.
+pub fn event_rows(
+    alloc: Global,
+    captured: &Captured,
+    from: usize,
+) -> Result<Sequence<EventRow>, AllocError>
+    ensures { IfOk result (λ rows. rows ≡ map event_row (enumerate_from (from + 1) (drop from captured.now.events))) }
 {
     let mut rows = Vec::new(alloc);
-    for place in 0..captured.len() {
+    for place in from..captured.len() {
         if let Some(event) = captured.event(place) {
             rows.push(event_row(alloc, place as u64 + 1, event)?)?;
         }
@@ -185,16 +189,17 @@ fn push_body(
     }
 }
 
-/// The rows of the lists of the captured events, by event, role and place.
+/// The rows of the lists of the captured events from this place on, which counts from 0, by event, role and place.
 pub fn part_rows(
     alloc: Global,
     sites: &Sites,
     captured: &Captured,
+    from: usize,
 ) -> Result<Sequence<PartRow>, AllocError>
-    ensures { IfOk result (λ rows. rows ≡ flat_map (parts_of sites.now) (enumerate_from 1 captured.now.events)) }
+    ensures { IfOk result (λ rows. rows ≡ flat_map (parts_of sites.now) (enumerate_from (from + 1) (drop from captured.now.events))) }
 {
     let mut rows = Vec::new(alloc);
-    for place in 0..captured.len() {
+    for place in from..captured.len() {
         if let Some(event) = captured.event(place) {
             push_body(alloc, &mut rows, place as u64 + 1, sites, event.body())?;
         }

@@ -2,12 +2,16 @@
 #![tactic(auto)]
 
 mod address_rows;
+mod changed_rows;
 mod changes;
 mod event_rows;
 pub mod laws;
 mod numbers;
 mod recall_rows;
 mod rows;
+mod step_changes;
+#[cfg(test)]
+mod tests;
 mod texts;
 mod writing;
 
@@ -16,5 +20,6 @@ pub use rows::{
     AddressRow, EventRow, OutboxRow, ParentRow, PartRow, QuarantineRow, RecallRow, Rows, SeenRow,
     SiteRow, StoreRow,
 };
+pub use step_changes::changes_of;
 pub use texts::Text;
 pub use writing::rows_of;

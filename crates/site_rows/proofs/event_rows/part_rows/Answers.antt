@@ -1,4 +1,4 @@
-use Rattle.std.proofs.Common.{◌+◌, ◌<◌, sym, subst}
+use Rattle.std.proofs.Common.{◌+◌, ◌<◌, sym, subst, drop}
 use Rattle.std.specs.List.{enumerate_from, flat_map}
 use Rattle.site_core.proofs.Places.{nothing_there}
 use Rattle.site_rows.specs.RecordRows.{parts_of}
@@ -13,7 +13,7 @@ loop-place-preserved c =
     let sites = c.args.sites.now in
     elim c.match-event.branch [
       | in-Some+in_ok-push_body w ↦
-          let made = rows_there (parts_of sites) (place + 1) events place w.in-Some.event.now c.loop-place.rows.items (flat_map (parts_of sites) (enumerate_from 1 events)) (sym w.in-Some.ensures) c.loop-place.invariant in
+          let made = rows_there (parts_of sites) (place + 1) events place w.in-Some.event.now c.loop-place.rows.items (flat_map (parts_of sites) (enumerate_from (c.args.from + 1) (drop c.args.from events))) (sym w.in-Some.ensures) c.loop-place.invariant in
           rw w.rows-is (rw w.in_ok-push_body.ensures (rw w.body.ensures.value made))
       | in_default w ↦ absurd (nothing_there events place (sym w.in_default.ensures) (subst (λ n. place < n) c.len-place-end.ensures c.loop-place-test.true))
     ]

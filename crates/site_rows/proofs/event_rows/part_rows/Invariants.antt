@@ -5,4 +5,4 @@ use Rattle.site_rows.proofs.event_rows.part_rows.Given as goal
 
 -- the rows so far and those of the rest are all of them
 abbrev pub invariant-loop-place : goal.invariant-loop-place
-invariant-loop-place l = l.rows.items ++ flat_map (parts_of l.sites) (enumerate_from (l.place + 1) (drop l.place l.captured.events)) ≡ flat_map (parts_of l.sites) (enumerate_from 1 l.captured.events)
+invariant-loop-place l = l.rows.items ++ flat_map (parts_of l.sites) (enumerate_from (l.place + 1) (drop l.place l.captured.events)) ≡ flat_map (parts_of l.sites) (enumerate_from (l.from + 1) (drop l.from l.captured.events))

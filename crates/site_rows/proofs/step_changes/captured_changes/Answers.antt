@@ -1,0 +1,29 @@
+use Rattle.std.proofs.Common.{◌≡◌, ◌+◌, None, length, drop, map, flat_map, ap, ◌∙◌}
+use Rattle.std.specs.List.{enumerate_from}
+use Rattle.trace_core.specs.Sites.{SiteEvents}
+use Rattle.site_rows.specs.RecordRows.{event_row, parts_of}
+use Rattle.site_rows.proofs.StepsLead.{capture_leads}
+use Rattle.site_rows.proofs.step_changes.captured_changes.Goals as goal
+
+pub returns : goal.returns
+returns c = λ bytes told does.
+    let s = c.args.old.now in
+    let t = c.args.new.now in
+    let old = length s.captured.events in
+    let from : c.len-from.result ≡ old = c.len-from.ensures ∙ ap (λ (x : SiteEvents). length x.events) c.captured.ensures in
+    let events : c.in_ok-event.event ≡ map event_row (enumerate_from (old + 1) (drop old t.captured.events)) =
+    c.in_ok-event.ensures ∙ (λ i. map event_row (enumerate_from (from i + 1) (drop (from i) (c.captured-2.ensures i).events))) in
+    let parts : c.in_ok-part.part ≡ flat_map (parts_of s.sites) (enumerate_from (old + 1) (drop old t.captured.events)) =
+    c.in_ok-part.ensures ∙ (λ i. flat_map (parts_of (c.sites.ensures i)) (enumerate_from (from i + 1) (drop (from i) (c.captured-3.ensures i).events))) in
+    capture_leads s t bytes told does _ (λ i. record {
+      event = events i;
+      part = parts i;
+      quarantine = c.new.ensures i;
+      outbox = c.new-2.ensures i;
+      seen = c.new-3.ensures i;
+      parent = c.new-4.ensures i;
+      signalled = c.new-5.ensures i;
+      left = c.new-6.ensures i;
+      recall = c.new-7.ensures i;
+      numbers = None;
+    })
