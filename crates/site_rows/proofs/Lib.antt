@@ -1,5 +1,11 @@
+pub mod AddressRowsInTurn
 pub mod AddressesOfSites
+pub mod AtTheEnd
+pub mod HeldInTurn
 pub mod InTurn
+pub mod NamesInTurn
+pub mod OneEntry
+pub mod RowsOfMaps
 pub mod SameEvents
 pub mod SameLists
 pub mod SameQuarantines
