@@ -1,5 +1,6 @@
 pub mod Appending
 pub mod BadAddresses
+pub mod BadEvents
 pub mod BadRows
 pub mod HeldItems
 pub mod Laws

@@ -8,6 +8,7 @@ pub mod laws;
 mod numbers;
 mod reading_addresses;
 mod reading_entries;
+mod reading_events;
 mod reading_held;
 mod reading_numbers;
 mod reading_recalls;
