@@ -13,6 +13,8 @@ mod reading_held;
 mod reading_numbers;
 mod reading_recalls;
 mod reading_sites;
+#[cfg(test)]
+mod reading_tests;
 mod recall_rows;
 mod rows;
 mod texts;
