@@ -1,10 +1,15 @@
 -- Rows that match the entries of a map, read in turn.
-use Rattle.std.proofs.Common.{◌≡◌, ℕ, ◌+◌, ◌<◌, Bool, true, false, List, [], ◌∷◌, ◌++◌, length, take, Some, refl, sym, ap, subst, append_assoc, arith}
+use Rattle.std.proofs.Common.{◌≡◌, ℕ, ◌+◌, ◌<◌, Bool, true, false, List, [], ◌∷◌, ◌++◌, length, take, Some, refl, sym, ap, subst, append_assoc, arith, inl, inr, map, Result, Ok, Err, IfOk, ◌∙◌}
 use Rattle.std.specs.Prelude.{T}
+use Rattle.std.specs.BTreeMap.{BTreeMap}
+use Rattle.std.specs.Cmp.{IsTotalOrder}
 use Rattle.std.specs.declared.cmp.Ordering.{Ordering}
-use Rattle.std.specs.FinMap.{entries, entries_sorted, from_sorted, entries-from_sorted, is_sorted}
-use Rattle.std.specs.List.{slice_get}
+use Rattle.std.specs.FinMap.{FinMap, IsAntisymmetric, entries, entries_sorted, from_sorted, entries-from_sorted, get, is_sorted}
+use Rattle.std.specs.List.{Contains, slice_get}
 use Rattle.std.proofs.lemmas.List.{append-nil}
+use Rattle.frame_core.specs.Tables.{as_map}
+use Rattle.trace_core.proofs.Members.{contains_cases, contains_none}
+use Rattle.site_core.proofs.Entries.{entry_there}
 use Rattle.site_core.proofs.Places.{taken_more}
 use Rattle.site_rows.specs.Appending.{IsAppended, IsAdded}
 use Rattle.site_rows.specs.BadRows.{Begins, IsFirstBad, Match, AreOfMap, StandForOne}
@@ -81,3 +86,37 @@ pub is_added : {K V : Type 0} (cmp : K → K → Ordering) (Is : K → V → Typ
     → (before after : List (K × V)) (k : K) (v : V) → Is k v → (b : Bool) → IsAppended cmp before (k, v) after b → IsAdded cmp Is before after b
 is_added cmp Is one before after k v is true h = record { key = k; value = v; is = is; last = h.0; ascending = h.1 }
 is_added cmp Is one before after k v is false h = λ l w other up. h (subst (λ e. T (is_sorted cmp (before ++ e ∷ []))) (one l k w v other is) up)
+
+-- ---- what a table's map tells
+module _ {R K V : Type 0} (Is : R → K → V → Type 0) where
+  rows_matched : (row : K × V → R) → ((r : R) (k : K) (v : V) → Is r k v → r ≡ row (k, v)) → (rs : List R) (es : List (K × V)) → Match Is rs es → rs ≡ map row es
+  rows_matched row same [] [] m = refl
+  rows_matched row same [] (e ∷ es) m = absurd m
+  rows_matched row same (r ∷ rs) [] m = absurd m
+  rows_matched row same (r ∷ rs) (e ∷ es) m =
+      let head : r ≡ row e = same r e.0 e.1 m.0 in
+      let tail = rows_matched row same rs es m.1 in
+      λ i. head i ∷ tail i
+
+  matched_each : (P : K → V → Type 0) → ((r : R) (k : K) (v : V) → Is r k v → P k v) → (rs : List R) (es : List (K × V)) → Match Is rs es → (e : K × V) → Contains es e → P e.0 e.1
+  matched_each P sound [] [] m e there = absurd (contains_none e there)
+  matched_each P sound [] (d ∷ es) m e there = absurd m
+  matched_each P sound (r ∷ rs) [] m e there = absurd m
+  matched_each P sound (r ∷ rs) (d ∷ es) m e there = elim (contains_cases d e es there) [
+    | inl same ↦ subst (λ (z : K × V). P z.0 z.1) same (sound r d.0 d.1 m.0)
+    | inr later ↦ matched_each P sound rs es m.1 e later
+  ]
+
+  module _ {E : Type 0} (cmp : K → K → Ordering) (rs : List R) where
+    -- the rows are those of its entries
+    pub rows_told : (row : K × V → R) → ((r : R) (k : K) (v : V) → Is r k v → r ≡ row (k, v)) → (result : Result (BTreeMap K V) E)
+        → IfOk result (λ m. Match Is rs m.entries) → IfOk result (λ m. T (is_sorted cmp m.entries)) → IfOk result (λ m. rs ≡ map row (entries (as_map cmp m)))
+    rows_told row same (Ok m) match up = rows_matched row same rs m.entries match ∙ ap (map row) (sym (entries-from_sorted cmp m.entries up))
+    rows_told row same (Err e) match up = tt
+
+    -- and each entry is as its row says
+    pub each_told : IsTotalOrder cmp → IsAntisymmetric cmp → (P : K → V → Type 0) → ((r : R) (k : K) (v : V) → Is r k v → P k v) → (result : Result (BTreeMap K V) E)
+        → IfOk result (λ m. Match Is rs m.entries) → IfOk result (λ m. T (is_sorted cmp m.entries)) → IfOk result (λ m. (k : K) (v : V) → get (as_map cmp m) k ≡ Some v → P k v)
+    each_told o exact P sound (Ok m) match up = λ k v is.
+        matched_each P sound rs m.entries match (k, v) (subst (λ es. Contains es (k, v)) (entries-from_sorted cmp m.entries up) (entry_there o exact (as_map cmp m) k v is))
+    each_told o exact P sound (Err e) match up = tt

@@ -1,9 +1,15 @@
 //! The rows of a site's part in recalls, read back.
-ghost use Rattle.std.specs.Prelude.{◌≡◌, ◌≤◌, T, IfOk, IfErr};
+ghost use Rattle.std.specs.Prelude.{◌≡◌, ◌≤◌, ℕ, Some, map, IfOk, IfErr};
+ghost use Rattle.std.specs.FinMap.{entries, get};
 ghost use Rattle.std.specs.Ordering.{nat_cmp};
-ghost use Rattle.std.specs.FinMap.{is_sorted};
 ghost use Rattle.frame_core.specs.Identifiers.{recall_cmp, message_cmp};
-ghost use Rattle.site_rows.specs.BadRows.{Tells, IsFaultOf, Match, IsOutboxTable, IsSeenTable, IsParentTable, IsRecallTable, IsOutboxEntry, IsSeenEntry, IsParentEntry, IsOwnEntry};
+ghost use Rattle.frame_core.specs.Numbers.{Recall, Message};
+ghost use Rattle.frame_core.specs.Tables.{as_map};
+ghost use Rattle.frame_core.specs.declared.rows.Row.{Row};
+ghost use Rattle.scholten_core.specs.declared.own_recalls.Own.{Own};
+ghost use Rattle.site_core.specs.Records.{IsNumber, IsRecallAmong, IsMessageAmong, IsRowAmong};
+ghost use Rattle.site_rows.specs.BadRows.{Tells, IsFaultOf, IsOutboxTable, IsSeenTable, IsParentTable, IsRecallTable, IsOutboxEntry, IsSeenEntry, IsParentEntry, IsOwnEntry};
+ghost use Rattle.site_rows.specs.RecordRows.{outbox_row, seen_row, parent_row, recall_row};
 
 use crate::reading_entries::{EntryRow, TableFault, append, entries_of};
 use crate::reading_numbers::{item_of, message_of, number_of, recall_of, site_of};
@@ -166,8 +172,8 @@ pub(crate) fn outbox_of(
     rows: &[OutboxRow],
 ) -> Result<BTreeMap<u64, Row>, TableFault>
     requires few { sites ≤ 16 }
-    ensures read { IfOk result (λ map. Match (IsOutboxEntry sites) rows.now map.entries) }
-    ensures ascending { IfOk result (λ map. T (is_sorted nat_cmp map.entries)) }
+    ensures rows { IfOk result (λ m. rows.now ≡ map outbox_row (entries (as_map nat_cmp m))) }
+    ensures among { IfOk result (λ m. (n : ℕ) (row : Row) → get (as_map nat_cmp m) n ≡ Some row → IsRowAmong sites n row) }
     ensures bad { IfErr result (λ fault. IsFaultOf (IsOutboxTable sites) rows.now fault) }
 {
     entries_of(alloc, sites, rows)
@@ -183,8 +189,8 @@ pub(crate) fn seen_of(
     rows: &[SeenRow],
 ) -> Result<BTreeMap<MsgId, RecallId>, TableFault>
     requires few { sites ≤ 16 }
-    ensures read { IfOk result (λ map. Match (IsSeenEntry sites) rows.now map.entries) }
-    ensures ascending { IfOk result (λ map. T (is_sorted message_cmp map.entries)) }
+    ensures rows { IfOk result (λ m. rows.now ≡ map seen_row (entries (as_map message_cmp m))) }
+    ensures among { IfOk result (λ t. (m : Message) (r : Recall) → get (as_map message_cmp t) m ≡ Some r → IsMessageAmong sites m × IsRecallAmong sites r) }
     ensures bad { IfErr result (λ fault. IsFaultOf (IsSeenTable sites) rows.now fault) }
 {
     entries_of(alloc, sites, rows)
@@ -200,8 +206,8 @@ pub(crate) fn parents_of(
     rows: &[ParentRow],
 ) -> Result<BTreeMap<RecallId, MsgId>, TableFault>
     requires few { sites ≤ 16 }
-    ensures read { IfOk result (λ map. Match (IsParentEntry sites) rows.now map.entries) }
-    ensures ascending { IfOk result (λ map. T (is_sorted recall_cmp map.entries)) }
+    ensures rows { IfOk result (λ m. rows.now ≡ map parent_row (entries (as_map recall_cmp m))) }
+    ensures among { IfOk result (λ t. (r : Recall) (m : Message) → get (as_map recall_cmp t) r ≡ Some m → IsRecallAmong sites r × IsMessageAmong sites m) }
     ensures bad { IfErr result (λ fault. IsFaultOf (IsParentTable sites) rows.now fault) }
 {
     entries_of(alloc, sites, rows)
@@ -212,8 +218,8 @@ pub(crate) fn parents_of(
 /// # Errors
 /// The first row that is no such entry's, or whose key doesn't come after the key before it; and want of memory.
 pub(crate) fn own_of(alloc: Global, rows: &[RecallRow]) -> Result<BTreeMap<u64, Own>, TableFault>
-    ensures read { IfOk result (λ map. Match IsOwnEntry rows.now map.entries) }
-    ensures ascending { IfOk result (λ map. T (is_sorted nat_cmp map.entries)) }
+    ensures rows { IfOk result (λ m. rows.now ≡ map recall_row (entries (as_map nat_cmp m))) }
+    ensures among { IfOk result (λ m. (n : ℕ) (own : Own) → get (as_map nat_cmp m) n ≡ Some own → IsNumber n) }
     ensures bad { IfErr result (λ fault. IsFaultOf IsRecallTable rows.now fault) }
 {
     entries_of(alloc, 0, rows)
