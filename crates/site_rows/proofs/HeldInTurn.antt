@@ -1,11 +1,11 @@
 -- The items of a quarantine in order, and one more behind them.
-use Rattle.std.proofs.Common.{◌≡◌, ◌≢◌, inl, inr, ℕ, suc, zero, ◌-◌, ◌<◌, Bool, true, false, cond, List, [], ◌∷◌, ◌++◌, map, length, Some, refl, sym, ap, subst, ◌∙◌, append_assoc, arith}
-use Rattle.std.specs.Prelude.{T, IsTrue, ◌↔◌, ◌&&◌, ◌==◌}
+use Rattle.std.proofs.Common.{◌≡◌, ◌≢◌, inl, inr, ℕ, suc, zero, ◌-◌, ◌<◌, Bool, true, false, cond, List, [], ◌∷◌, ◌++◌, map, length, Some, refl, sym, ap, subst, ◌∙◌, append_assoc, arith, None}
+use Rattle.std.specs.Prelude.{T, IsTrue, ◌↔◌, ◌&&◌, ◌==◌, IsSome}
 use Rattle.std.specs.Cmp.{IsTotalOrder}
 use Rattle.std.specs.Ordering.{is_lt, is_eq, ordering_reverse, ordering_index, ordering_then}
 use Rattle.std.specs.declared.cmp.Ordering.{Ordering}
 use Rattle.std.specs.declared.cmp.Ordering.TheVariants.{Less, Equal, Greater}
-use Rattle.std.specs.FinMap.{is_sorted, put, find, get-entries, entries, entries_sorted, entries-insert, empty, empty_of_len, len-entries, len-empty}
+use Rattle.std.specs.FinMap.{is_sorted, put, find, get-entries, entries, entries_sorted, entries-insert, empty, empty_of_len, len-entries, len-empty, get}
 use Rattle.std.specs.FinMap.Entries.{below_all}
 use Rattle.std.specs.List.{Contains, slice_get, flat_map}
 use Rattle.std.proofs.lemmas.Cmp.{on_total, then_total, tied_itself}
@@ -14,14 +14,20 @@ use Rattle.frame_core.proofs.Ascending.{first, second}
 use Rattle.frame_core.specs.Identifiers.{recall_cmp}
 use Rattle.frame_core.specs.Numbers.{Recall}
 use Rattle.frame_core.specs.Orders.{recall_total, recall_exact}
-use Rattle.trace_core.proofs.Members.{contains_here, contains_there, contains_cases, contains_none, contains-map}
+use Rattle.trace_core.proofs.Members.{contains_here, contains_there, contains_cases, contains_none, contains-map, contains-flat_map}
 use Rattle.std.proofs.lemmas.List.Elements.{Contains-append_cases, Contains-append_left, Contains-append_right}
 use Rattle.site_core.specs.ItemSets as set
 use Rattle.site_core.specs.ItemSets.{Items, item_cmp}
 use Rattle.site_core.specs.Quarantines.{Quarantine, items_under, or_none, with_item, HasNoEmptySet}
-use Rattle.site_core.proofs.Entries.{entry_found}
+use Rattle.site_core.proofs.Entries.{entry_found, entry_there}
+use Rattle.site_core.specs.Records.{IsRecallAmong}
+use mathlib.Core.Bool.{false≢true}
 use Rattle.site_core.proofs.Places.{member_there}
 use Rattle.site_core.proofs.ItemOrder.{item_total}
+use Rattle.site_rows.specs.BadRows.{Match, IsHeldEntry}
+use Rattle.site_rows.specs.RecordRows.{quarantine_row, quarantine_rows}
+use Rattle.site_rows.specs.declared.rows.QuarantineRow.{QuarantineRow}
+use Rattle.site_rows.proofs.RowsOfMaps.{rows_matched, matched_each}
 use Rattle.site_rows.specs.HeldItems.{Held, held_cmp, held_of, held_under, all_held, IsLast}
 use Rattle.site_rows.proofs.AtTheEnd.{first_tells, first_told, may_come, each_below, put_last}
 
@@ -235,3 +241,28 @@ no_item_last q n r items full at none =
 pub none_positive : (n : ℕ) → (0 < n → false ≡ true) → n ≡ 0
 none_positive zero past = refl
 none_positive (suc n) past = let wrong : false ≡ true = past (omega arith) in cc
+
+-- ---- what the rows tell
+abbrev row_of_held : Held → QuarantineRow
+row_of_held h = quarantine_row h.0.0 h.0.1
+
+rows_under : (r : Recall) (is : List (List ℕ)) → map row_of_held (map (held_of r) is) ≡ map (quarantine_row r) is
+rows_under r [] = refl
+rows_under r (i ∷ is) = ap (λ rows. quarantine_row r i ∷ rows) (rows_under r is)
+
+rows_listed : (es : List (Recall × Items)) → map row_of_held (flat_map held_under es) ≡ flat_map quarantine_rows es
+rows_listed [] = refl
+rows_listed (e ∷ es) = map-append row_of_held (held_under e) (flat_map held_under es) ∙ (λ i. rows_under e.0 (set.items e.1) i ++ rows_listed es i)
+
+pub rows_held : (sites : ℕ) (rows : List QuarantineRow) (q : Quarantine) → Match (IsHeldEntry sites) rows (all_held q) → rows ≡ flat_map quarantine_rows (entries q)
+rows_held sites rows q m = rows_matched (IsHeldEntry sites) row_of_held (λ _ _ _ is. is.same) rows (all_held q) m ∙ rows_listed (entries q)
+
+pub recalls_among : (sites : ℕ) (rows : List QuarantineRow) (q : Quarantine) → HasNoEmptySet q → Match (IsHeldEntry sites) rows (all_held q) → (r : Recall) → IsSome (get q r) → IsRecallAmong sites r
+recalls_among sites rows q full m r kept = elim (get q r) as (λ o. get q r ≡ o → IsSome o → IsRecallAmong sites r) [
+  | None ↦ λ _ some. absurd (false≢true some)
+  | Some items ↦ λ is _.
+      let at = entry_there recall_total recall_exact q r items is in
+      let item = all_full q full (r, items) at in
+      let there = contains-flat_map held_under (entries q) (r, items) (held_of r item.0) at (contains-map (held_of r) (set.items items) item.0 item.1) in
+      matched_each (IsHeldEntry sites) (λ k _. IsRecallAmong sites k.0) (λ _ _ _ held. held.among) rows (all_held q) m (held_of r item.0) there
+] refl kept

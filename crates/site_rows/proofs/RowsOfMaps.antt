@@ -4,7 +4,7 @@ use Rattle.std.specs.Prelude.{T}
 use Rattle.std.specs.BTreeMap.{BTreeMap}
 use Rattle.std.specs.Cmp.{IsTotalOrder}
 use Rattle.std.specs.declared.cmp.Ordering.{Ordering}
-use Rattle.std.specs.FinMap.{FinMap, IsAntisymmetric, entries, entries_sorted, from_sorted, entries-from_sorted, get, is_sorted}
+use Rattle.std.specs.FinMap.{IsAntisymmetric, entries, entries_sorted, from_sorted, entries-from_sorted, get, is_sorted}
 use Rattle.std.specs.List.{Contains, slice_get}
 use Rattle.std.proofs.lemmas.List.{append-nil}
 use Rattle.frame_core.specs.Tables.{as_map}
@@ -89,7 +89,7 @@ is_added cmp Is one before after k v is false h = λ l w other up. h (subst (λ 
 
 -- ---- what a table's map tells
 module _ {R K V : Type 0} (Is : R → K → V → Type 0) where
-  rows_matched : (row : K × V → R) → ((r : R) (k : K) (v : V) → Is r k v → r ≡ row (k, v)) → (rs : List R) (es : List (K × V)) → Match Is rs es → rs ≡ map row es
+  pub rows_matched : (row : K × V → R) → ((r : R) (k : K) (v : V) → Is r k v → r ≡ row (k, v)) → (rs : List R) (es : List (K × V)) → Match Is rs es → rs ≡ map row es
   rows_matched row same [] [] m = refl
   rows_matched row same [] (e ∷ es) m = absurd m
   rows_matched row same (r ∷ rs) [] m = absurd m
@@ -98,7 +98,7 @@ module _ {R K V : Type 0} (Is : R → K → V → Type 0) where
       let tail = rows_matched row same rs es m.1 in
       λ i. head i ∷ tail i
 
-  matched_each : (P : K → V → Type 0) → ((r : R) (k : K) (v : V) → Is r k v → P k v) → (rs : List R) (es : List (K × V)) → Match Is rs es → (e : K × V) → Contains es e → P e.0 e.1
+  pub matched_each : (P : K → V → Type 0) → ((r : R) (k : K) (v : V) → Is r k v → P k v) → (rs : List R) (es : List (K × V)) → Match Is rs es → (e : K × V) → Contains es e → P e.0 e.1
   matched_each P sound [] [] m e there = absurd (contains_none e there)
   matched_each P sound [] (d ∷ es) m e there = absurd m
   matched_each P sound (r ∷ rs) [] m e there = absurd m

@@ -1,8 +1,11 @@
 //! The rows of what is quarantined, read back.
-ghost use Rattle.std.specs.Prelude.{◌≡◌, ◌≤◌, ◌↔◌, ◌++◌, ◌∷◌, [], T, IfOk, IfErr, IfSome, IsNone, IsTrue};
-ghost use Rattle.std.specs.FinMap.{is_sorted};
+ghost use Rattle.std.specs.Prelude.{◌≡◌, ◌≤◌, ◌↔◌, ◌++◌, ◌∷◌, [], T, IfOk, IfErr, IfSome, IsNone, IsSome, IsTrue, flat_map};
+ghost use Rattle.std.specs.FinMap.{entries, get, is_sorted};
+ghost use Rattle.frame_core.specs.Numbers.{Recall};
+ghost use Rattle.site_core.specs.Records.{IsRecallAmong};
 ghost use Rattle.site_rows.specs.Appending.{IsAppended, IsAdded};
-ghost use Rattle.site_rows.specs.BadRows.{Tells, IsFaultOf, Match, IsHeldRow, IsHeldEntry, IsQuarantineTable};
+ghost use Rattle.site_rows.specs.BadRows.{Tells, IsFaultOf, IsHeldRow, IsHeldEntry, IsQuarantineTable};
+ghost use Rattle.site_rows.specs.RecordRows.{quarantine_rows};
 ghost use Rattle.site_rows.specs.HeldItems.{held_cmp, held_of, all_held, IsLast};
 
 use crate::reading_entries::TableFault;
@@ -24,7 +27,8 @@ pub(crate) fn quarantine_of(
     rows: &[QuarantineRow],
 ) -> Result<Quarantine, TableFault>
     requires few { sites ≤ 16 }
-    ensures read { IfOk result (λ q. Match (IsHeldEntry sites) rows.now (all_held q)) }
+    ensures rows { IfOk result (λ q. rows.now ≡ flat_map quarantine_rows (entries q)) }
+    ensures among { IfOk result (λ q. (r : Recall) → IsSome (get q r) → IsRecallAmong sites r) }
     ensures bad { IfErr result (λ fault. IsFaultOf (IsQuarantineTable sites) rows.now fault) }
 {
     let mut quarantine = Quarantine::new(alloc);
@@ -33,6 +37,8 @@ pub(crate) fn quarantine_of(
             return Err(TableFault::BadRow(place as u64 + 1));
         }
     }
+    // The recalls tell the proof that none of them is without items.
+    let _recalls = quarantine.by_recall().len();
     Ok(quarantine)
 }
 
