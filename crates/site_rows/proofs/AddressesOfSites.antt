@@ -7,11 +7,11 @@ use Rattle.event_json.specs.Sites.{Site, is_site, AreSites}
 use Rattle.site_rows.specs.RecordRows.{Addresses, address_at, with_address}
 use Rattle.site_rows.proofs.InTurn.{none_numbered}
 
-left : (a b : Bool) → (a && b) ≡ true → a ≡ true
+pub left : (a b : Bool) → (a && b) ≡ true → a ≡ true
 left true b e = refl
 left false b e = cc
 
-right : (a b : Bool) → (a && b) ≡ true → b ≡ true
+pub right : (a b : Bool) → (a && b) ≡ true → b ≡ true
 right true b e = e
 right false b e = cc
 

@@ -7,6 +7,15 @@ mod changes;
 mod event_rows;
 pub mod laws;
 mod numbers;
+mod reading_addresses;
+mod reading_entries;
+mod reading_events;
+mod reading_held;
+mod reading_numbers;
+mod reading_recalls;
+mod reading_sites;
+#[cfg(test)]
+mod reading_tests;
 mod recall_rows;
 mod rows;
 mod step_changes;

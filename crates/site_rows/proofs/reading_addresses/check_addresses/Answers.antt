@@ -1,0 +1,12 @@
+use Rattle.site_rows.specs.BadAddresses.{IsAddress}
+use Rattle.site_rows.proofs.AddressRowsInTurn.{each_up_to, each_of_all}
+use Rattle.site_rows.proofs.AtTheEnd.{stands_at}
+use Rattle.site_rows.proofs.reading_addresses.check_addresses.Goals as goal
+
+pub loop-place-preserved : goal.loop-place-preserved
+loop-place-preserved c =
+    let at = stands_at c.args.rows.now c.loop-place.place c.index-rows-place.result c.loop-place-test.true c.index-rows-place.is in
+    each_up_to (IsAddress c.args.sites c.args.rows.now) c.args.rows.now c.loop-place.place c.index-rows-place.result at (c.is_address.ensures.0 c.if-not-is_address.false) c.loop-place.invariant
+
+pub returns-clause-good : goal.returns-clause-good
+returns-clause-good c = each_of_all (IsAddress c.args.sites c.args.rows.now) c.args.rows.now c.loop-place.place c.loop-place-test.false c.loop-place.invariant
