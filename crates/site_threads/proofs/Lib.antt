@@ -1,0 +1,8 @@
+mod Beginning
+mod Numbers
+mod Offering
+mod OneLog
+pub mod Passed
+mod Stamping
+mod Steps
+mod Taking

@@ -1,0 +1,9 @@
+pub mod Jobs
+pub mod Keepers
+pub mod Offers
+pub mod Passing
+pub mod Running
+pub mod Sites
+pub mod Stamps
+pub mod Starting
+pub mod Turns
