@@ -1,4 +1,5 @@
 mod Beginning
+mod Handing
 mod Numbers
 mod Offering
 mod OneLog

@@ -1,3 +1,5 @@
+pub mod Desks
+pub mod Ends
 pub mod Jobs
 pub mod Keepers
 pub mod Offers

@@ -4,6 +4,7 @@
 //! the wire only once its keeper answered it, so a frame that is posted rests on a record that is kept.
 #![tactic(auto)]
 
+mod desks;
 mod following;
 mod gates;
 mod jobs;
@@ -13,6 +14,7 @@ mod sites;
 mod stamps;
 mod turns;
 
+pub use desks::{Desk, DeskFault, DeskOut};
 pub use gates::{FreeGate, Gate, Pass};
 pub use jobs::{Entry, Job, Receipt, Reply};
 pub use sites::Site;
