@@ -42,6 +42,14 @@ impl Wire {
         Ok((Wire { table }, Seat { token }))
     }
 
+    /// How many sites it joins, 2 to 16.
+    pub fn sites(&self) -> usize
+        ensures count { result ≡ self.now.sites }
+        ensures few { (2 ≤ result) × (result ≤ 16) }
+    {
+        self.table.slot_count() / MOST_SITES
+    }
+
     /// Sends a frame that the record last marked of its sender makes emittable, to another site. `Full`, with the
     /// frame, where the last one sent that way still lies in the mailbox or is just being taken: then nothing changed.
     pub fn post(&self, seat: &mut Seat, frame: Frame) -> Post

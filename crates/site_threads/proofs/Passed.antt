@@ -1,0 +1,176 @@
+-- Frames that a site takes and posts, from its log to its list of steps.
+use Rattle.std.proofs.Common.{◌≡◌, ◌≢◌, ℕ, ◌+◌, ◌<◌, true, true≢false, cond, map, Option, Some, None, Result, Ok, Err, List, [], ◌∷◌, ◌++◌, All, Contains, refl, sym, ap, ap₂, ◌∙◌, subst, arith, append_assoc, append-nil}
+use Rattle.std.specs.Prelude.{IfOk, IfErr, IsTrue, is_ok, option_map}
+use Rattle.std.proofs.lemmas.List.{length-append}
+use Rattle.std.proofs.lemmas.List.Elements.{All-nil, All-cons, All-head, All-tail, All-append, Contains-append_left, Contains-append_right}
+use Rattle.frame_core.specs.declared.frames.Frame.{Frame}
+use Rattle.site_core.specs.Emitting.{emittable}
+use Rattle.site_core.specs.Records.{Record}
+use Rattle.site_core.specs.declared.inputs.SiteInput.{SiteInput}
+use Rattle.site_core.specs.declared.inputs.SiteInput.TheVariants.{Capture, Start, Deliver}
+use Rattle.wire_core.specs.Answers.{MatchPost, MayPost, MayTake}
+use Rattle.wire_core.specs.declared.calls.Post.{Post}
+use Rattle.wire_core.specs.declared.calls.Post.TheVariants.{Posted, Full}
+use Rattle.wire_core.specs.Changes.{on, posts, notes}
+use Rattle.wire_core.specs.Frames.{sender}
+use Rattle.wire_core.specs.declared.views.Log.{Log}
+use Rattle.site_threads.specs.Jobs.{entry_of, input_of, is_delivery, job_of, jobs_in, option_items}
+use Rattle.site_threads.specs.Offers.{IsFor}
+use Rattle.site_threads.specs.Passing.{TakesFrames}
+use Rattle.site_threads.specs.Running.{Holding, StandsOpen, Runs, MayDeliver}
+use Rattle.site_threads.specs.declared.jobs.Entry.{Entry}
+use Rattle.site_threads.specs.declared.jobs.Job.{Job}
+use Rattle.site_threads.specs.declared.jobs.Job.TheVariants as jobs
+use Rattle.site_threads.specs.declared.jobs.Receipt.{Receipt}
+use Rattle.site_threads.specs.declared.jobs.Reply.{Reply}
+use Rattle.site_threads.specs.declared.stamps.Stamp.{Stamp}
+use Rattle.site_threads.specs.declared.turns.TurnReport.{TurnReport}
+use Rattle.site_threads.proofs.OneLog.{only, on_one}
+
+alone_has : (e : Log) → Contains (e ∷ []) e
+alone_has e = (0, omega arith, refl)
+
+last_has : {A : Type 0} (xs : List A) (x : A) → Contains (xs ++ x ∷ []) x
+last_has xs x = Contains-append_right xs (x ∷ []) x (0, omega arith, refl)
+
+-- what is held stays with a frame that was noted, and with one that was sent
+held_noted : (shown : Option Record) (may : Record → Type 0) (start : Record) (entries : List Entry) (log : Log) (f : Frame) → Holding shown may start entries log → Holding shown may start entries (notes f log)
+held_noted (Some r) may start entries log f h = record { marked = h.marked; steps = h.steps }
+held_noted None may start entries log f h = record {
+  earlier = h.earlier;
+  last = h.last;
+  all = h.all;
+  reply = h.reply;
+  steps = h.steps;
+  old_or_new = h.old_or_new;
+  noted = λ g is. Contains-append_left log.noted (f ∷ []) g (h.noted g is);
+}
+
+held_sent : (shown : Option Record) (may : Record → Type 0) (start : Record) (entries : List Entry) (log : Log) (f : Frame) → Holding shown may start entries log → Holding shown may start entries (posts f log)
+held_sent (Some r) may start entries log f h = record { marked = h.marked; steps = h.steps }
+held_sent None may start entries log f h = record { earlier = h.earlier; last = h.last; all = h.all; reply = h.reply; steps = h.steps; old_or_new = h.old_or_new; noted = h.noted }
+
+delivered : SiteInput → Frame → Frame
+delivered (Deliver f) g = f
+delivered (Capture bytes) g = g
+delivered (Start item) g = g
+
+module _ (shown : Option Record) (may : Record → Type 0) (logs : List Log) (me : ℕ) (kept : Stamp) (entries : List Entry) (start : Record) (h : Runs shown may logs me kept entries start) where
+  pub may_take : (count other : ℕ) → other ≢ me → other < count → MayTake count me other logs
+  may_take count other apart there = record { held = (h.log, subst (λ l. Contains l h.log) (sym h.alone) (alone_has h.log), h.own.site); apart = apart; there = there }
+
+  pub other_entries : (more : List Entry) → more ≡ entries → Runs shown may logs me kept more start
+  other_entries more is = subst (λ l. Runs shown may logs me kept l start) (sym is) h
+
+  pub same_runs : (new : List Log) → new ≡ logs → Runs shown may new me kept entries start
+  same_runs new is = subst (λ l. Runs shown may l me kept entries start) (sym is) h
+
+  noted_log : (f : Frame) (new : List Log) → new ≡ on me (notes f) logs → new ≡ notes f h.log ∷ []
+  noted_log f new is = is ∙ ap (on me (notes f)) h.alone ∙ on_one h.log (notes f) me h.own.site
+
+  pub noted_runs : (f : Frame) (new : List Log) → new ≡ on me (notes f) logs → Runs shown may new me kept entries start
+  noted_runs f new is = record {
+    log = notes f h.log;
+    alone = noted_log f new is;
+    own = record { site = h.own.site; last = h.own.last };
+    stamped = h.stamped;
+    numbered = h.numbered;
+    holding = held_noted shown may start entries h.log f h.holding;
+  }
+
+  -- a frame that was taken may be delivered
+  pub taken_delivers : (f : Frame) (new : List Log) → new ≡ on me (notes f) logs → MayDeliver (Deliver f) new
+  unfolding delivered
+  taken_delivers f new is e alone g same =
+      subst (λ (x : Log). Contains x.noted g) (only (notes f h.log) e (sym (noted_log f new is) ∙ alone))
+      (subst (Contains (h.log.noted ++ f ∷ [])) (ap (λ i. delivered i f) same) (last_has h.log.noted f))
+
+  pub sent_runs : (f : Frame) (site : ℕ) (new : List Log) → site ≡ me → new ≡ on site (posts f) logs → Runs shown may new me kept entries start
+  sent_runs f site new mine is = record {
+    log = posts f h.log;
+    alone = is ∙ ap (on site (posts f)) h.alone ∙ on_one h.log (posts f) site (h.own.site ∙ sym mine);
+    own = record { site = h.own.site; last = h.own.last };
+    stamped = h.stamped;
+    numbered = h.numbered;
+    holding = held_sent shown may start entries h.log f h.holding;
+  }
+
+  -- whether it was posted or not
+  pub posted_runs : (f : Frame) (site : ℕ) (new : List Log) → site ≡ me → (A B C : Type 0) (p : Post) → MatchPost p ((new ≡ on site (posts f) logs) × A) (λ g. (g ≡ f) × (new ≡ logs) × B × C) → Runs shown may new me kept entries start
+  posted_runs f site new mine A B C Posted answer = sent_runs f site new mine answer.0
+  posted_runs f site new mine A B C (Full g) answer = same_runs new answer.1
+
+  module _ (r : Record) (is : shown ≡ Some r) (to : ℕ) (f : Frame) (fits : IsFor r.engagement to f) where
+    open_in : StandsOpen r start entries h.log
+    open_in = subst (λ (s : Option Record). Holding s may start entries h.log) is h.holding
+
+    pub mine : sender f ≡ me
+    mine = fits.from ∙ ap (λ z. z.engagement.me) open_in.marked ∙ h.own.last
+
+    pub may_post : (count : ℕ) → to ≢ me → to < count → MayPost count f logs
+    may_post count apart there = record {
+      log = h.log;
+      held = subst (λ l. Contains l h.log) (sym h.alone) (alone_has h.log);
+      site = h.own.site ∙ sym mine;
+      emitted = subst (λ (z : Record). Contains (emittable z.engagement) f) open_in.marked fits.emitted;
+      other = λ same. apart (sym fits.there ∙ sym same ∙ mine);
+      there = subst (λ k. k < count) (sym fits.there) there;
+    }
+
+-- What the frames add to the list.
+
+pub frames_none : (xs : List Entry) → TakesFrames xs xs 0
+frames_none xs = record { frames = []; all = sym (append-nil xs); each = All-nil (λ x. IsTrue (is_delivery x.input)); many = refl }
+
+pub frames_more : (xs ys zs : List Entry) (n m : ℕ) → TakesFrames xs ys n → TakesFrames ys zs m → TakesFrames xs zs (n + m)
+frames_more xs ys zs n m s t = record {
+  frames = s.frames ++ t.frames;
+  all = t.all ∙ ap (λ l. l ++ t.frames) s.all ∙ append_assoc xs s.frames t.frames;
+  each = All-append (λ x. IsTrue (is_delivery x.input)) s.frames t.frames s.each t.each;
+  many = length-append s.frames t.frames ∙ (λ i. s.many i + t.many i);
+}
+
+one_frame : (xs : List Entry) (x : Entry) → is_delivery x.input ≡ true → TakesFrames xs (xs ++ x ∷ []) 1
+one_frame xs x is = record { frames = x ∷ []; all = refl; each = All-cons (λ y. IsTrue (is_delivery y.input)) x [] is (All-nil (λ y. IsTrue (is_delivery y.input))); many = refl }
+
+module _ {E L : Type 0} (items : L → List Entry) (old new : L) (n : ℕ) (copy : SiteInput) where
+  pub took : (r : Result Reply E) → IfOk r (λ p. items new ≡ items old ++ (record { number = n; input = copy; reply = p }) ∷ []) → IfErr r (λ e. new ≡ old) → is_delivery copy ≡ true → TakesFrames (items old) (items new) (cond (is_ok r) 1 0)
+  took (Ok p) h back is = subst (λ l. TakesFrames (items old) l 1) (sym h) (one_frame (items old) (record { number = n; input = copy; reply = p }) is)
+  took (Err e) h back is = subst (λ l. TakesFrames (items old) (items l) 0) (sym back) (frames_none (items old))
+
+pub second : {A E : Type 0} (B : E → Type 0) (Q : Type 0) (R : E → Type 0) (r : Result A E) → IfErr r (λ e. B e × Q × R e) → IfErr r (λ e. Q)
+second B Q R (Ok a) h = tt
+second B Q R (Err e) h = h.1
+
+-- The jobs of a turn.
+
+frames_have_no_jobs : (xs : List Entry) → All (λ x. IsTrue (is_delivery x.input)) xs → jobs_in xs ≡ []
+frames_have_no_jobs [] all = refl
+frames_have_no_jobs (x ∷ xs) all = ap₂ (λ a b. a ++ b) (none x.input (All-head (λ (y : Entry). IsTrue (is_delivery y.input)) x xs all)) (frames_have_no_jobs xs (All-tail (λ (y : Entry). IsTrue (is_delivery y.input)) x xs all))
+  where
+    none : (input : SiteInput) → is_delivery input ≡ true → job_of input ≡ []
+    none (Deliver f) is = refl
+    none (Capture bytes) is = absurd (true≢false (sym is))
+    none (Start item) is = absurd (true≢false (sym is))
+
+job_back : (j : Job) → job_of (input_of j) ++ [] ≡ j ∷ []
+job_back (jobs.Capture bytes) = refl
+job_back (jobs.Start item) = refl
+
+receipt_jobs : (receipt : Option Receipt) → jobs_in (map entry_of (option_items receipt)) ≡ option_items (option_map (λ x. x.job) receipt)
+receipt_jobs None = refl
+receipt_jobs (Some x) = job_back x.job
+
+jobs_append : (xs ys : List Entry) → jobs_in (xs ++ ys) ≡ jobs_in xs ++ jobs_in ys
+jobs_append [] ys = refl
+jobs_append (x ∷ xs) ys = ap (λ l. job_of x.input ++ l) (jobs_append xs ys) ∙ sym (append_assoc (job_of x.input) (jobs_in xs) (jobs_in ys))
+
+jobs_added : (old new : List Entry) (receipt : Option Receipt) (n : ℕ) → TakesFrames (old ++ map entry_of (option_items receipt)) new n → jobs_in new ≡ jobs_in old ++ option_items (option_map (λ x. x.job) receipt)
+jobs_added old new receipt n t =
+    ap jobs_in t.all ∙ jobs_append (old ++ map entry_of (option_items receipt)) t.frames ∙ ap (λ l. jobs_in (old ++ map entry_of (option_items receipt)) ++ l) (frames_have_no_jobs t.frames t.each) ∙ append-nil _
+    ∙ jobs_append old (map entry_of (option_items receipt)) ∙ ap (λ l. jobs_in old ++ l) (receipt_jobs receipt)
+
+pub jobs_done : {E : Type 0} (S : TurnReport → Type 0) (r : Result TurnReport E) (old begun new : List Entry) (ready job : Option Job) → begun ≡ old → ready ≡ job → IfOk r (λ report. (option_map (λ x. x.job) report.receipt ≡ ready) × S report)
+    → IfOk r (λ report. TakesFrames (begun ++ map entry_of (option_items report.receipt)) new report.applied) → IfOk r (λ report. jobs_in new ≡ jobs_in old ++ option_items job)
+jobs_done S (Ok report) old begun new ready job same is done entered = jobs_added begun new report.receipt report.applied entered ∙ (λ i. jobs_in (same i) ++ option_items ((done.0 ∙ is) i))
+jobs_done S (Err e) old begun new ready job same is done entered = tt

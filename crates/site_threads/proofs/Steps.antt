@@ -1,0 +1,85 @@
+-- What opening a closed keeper again leaves known of a running site.
+use Rattle.std.proofs.Common.{◌≡◌, ℕ, ◌-◌, ◌^◌, ◌<◌, ◌⊎◌, ⊎_elim, Option, Some, None, List, [], ◌∷◌, ◌++◌, length, slice_get, refl, sym, ap, ◌∙◌, subst, arith}
+use Rattle.std.proofs.lemmas.Option.{get_or_from_slice_get}
+use Rattle.std.proofs.lemmas.List.{get_or_push, length-append}
+use Rattle.std.specs.Prelude.{get_or}
+use Rattle.keeper_core.specs.Keeping.{IsAfter, StaysClosed}
+use Rattle.site_core.specs.Records.{Record}
+use Rattle.site_core.specs.declared.inputs.SiteInput.{SiteInput}
+use Rattle.wire_core.specs.declared.views.Log.{Log}
+use Rattle.wire_core.specs.Frames.{DeliversOneOf}
+use Rattle.site_threads.specs.declared.jobs.Entry.{Entry}
+use Rattle.site_threads.specs.declared.jobs.Reply.{Reply}
+use Rattle.site_threads.specs.declared.stamps.Stamp.{Stamp}
+use Rattle.site_threads.specs.Jobs.{Keeps, Kept}
+use Rattle.site_threads.specs.Running.{Holding, StandsClosed, Runs, MayFollow, Follows, marks_in}
+use Rattle.site_threads.specs.Stamps.{stamp}
+use Rattle.site_threads.proofs.Stamping.{same_me}
+
+pub Kept_push : (old : Record) (xs : List Entry) (x : Entry) (r new : Record) → Kept old xs r → Keeps x.reply r x.input new → Kept old (xs ++ x ∷ []) new
+Kept_push old [] x r new k s = (new, subst (λ o. Keeps x.reply o x.input new) k s, refl)
+Kept_push old (y ∷ ys) x r new k s = (k.0, k.1, Kept_push k.0 ys x r new k.2 s)
+
+last_is : (xs : List Entry) (x y : Entry) (all : List Entry) → all ≡ xs ++ x ∷ [] → Some y ≡ slice_get all (length all - 1) → y ≡ x
+last_is xs x y all is at =
+    let long = ap length is ∙ length-append xs (x ∷ []) in
+    sym (get_or_from_slice_get all (length all - 1) y y (sym at)) ∙ ap (λ (l : List Entry). get_or l (length all - 1) y) is ∙ get_or_push xs x y (length all - 1) (omega arith)
+
+-- the record last marked, or the one after the input, is of the same site
+pub next_me : (old new : Record) (input : SiteInput) → (new ≡ old) ⊎ IsAfter old input new → new.engagement.me ≡ old.engagement.me
+next_me old new input next = ⊎_elim (λ (k : new ≡ old). ap (λ z. z.engagement.me) k) (λ (a : IsAfter old input new). same_me old new input a) next
+
+module _ (shown : Option Record) (may : Record → Type 0) (logs : List Log) (me : ℕ) (kept : Stamp) (entries : List Entry) (start : Record) (h : Runs shown may logs me kept entries start) where
+  pub few_in : marks_in logs < 2 ^ 62 → length h.log.inputs < 2 ^ 62
+  few_in few = let e = ap marks_in h.alone in omega arith
+
+  pub log_own : h.log.site ≡ h.log.last.engagement.me
+  log_own = h.own.site ∙ sym h.own.last
+
+  -- what is held where the keeper is closed
+  closed : shown ≡ None → StandsClosed may start entries h.log
+  closed is = subst (λ (s : Option Record). Holding s may start entries h.log) is h.holding
+
+  -- a closed keeper is opened in a record that may be marked with the last step of the list
+  pub opened_follows : (y : Entry) (r : Record) → shown ≡ None → marks_in logs < 2 ^ 62 → Some y ≡ slice_get entries (length entries - 1) → may r → MayFollow logs kept y.input r
+  opened_follows y r is few at m =
+      let c = closed is in
+      let same = last_is c.earlier c.last y entries c.all at in
+      record {
+        log = h.log;
+        alone = h.alone;
+        own = log_own;
+        stamped = h.stamped;
+        room = few_in few;
+        next = subst (λ (z : Entry). (r ≡ h.log.last) ⊎ IsAfter h.log.last z.input r) (sym same) (c.old_or_new r m);
+        noted = subst (λ (z : Entry). DeliversOneOf h.log.noted z.input) (sym same) c.noted;
+      }
+
+  -- and then it stands as the steps of the list
+  pub opened_runs : (now : Option Record) (may' : Record → Type 0) (r : Record) (new : List Log) (kept' : Stamp) → shown ≡ None → now ≡ Some r → may r → Follows logs r new → kept' ≡ stamp r → Runs now may' new me kept' entries start
+  opened_runs now may' r new kept' is shows m follows stamped =
+      let c = closed is in
+      let f = follows h.log h.alone in
+      let steps : Kept start entries r = subst (λ l. Kept start l r) (sym c.all) (Kept_push start c.earlier c.last h.log.last r c.steps (subst (λ (p : Reply). Keeps p h.log.last c.last.input r) (sym c.reply) (c.old_or_new r m))) in
+      record {
+        log = f.0;
+        alone = f.1;
+        own = record { site = f.2.site ∙ h.own.site; last = ap (λ z. z.engagement.me) f.2.last ∙ next_me h.log.last r c.last.input (c.old_or_new r m) ∙ h.own.last };
+        stamped = stamped ∙ ap stamp (sym f.2.last);
+        numbered = h.numbered;
+        holding = subst (λ (s : Option Record). Holding s may' start entries f.0) (sym shows) (record { marked = sym f.2.last; steps = steps });
+      }
+
+  -- one that stays closed
+  pub unopened_runs : (now : Option Record) (may' : Record → Type 0) → shown ≡ None → StaysClosed may now may' → Runs now may' logs me kept entries start
+  unopened_runs now may' is stays =
+      let c = closed is in
+      record {
+        log = h.log;
+        alone = h.alone;
+        own = h.own;
+        stamped = h.stamped;
+        numbered = h.numbered;
+        holding = subst (λ (s : Option Record). Holding s may' start entries h.log) (sym stays.0)
+            (record { earlier = c.earlier; last = c.last; all = c.all; reply = c.reply; steps = c.steps; old_or_new = λ r m. c.old_or_new r (stays.1 r m); noted = c.noted });
+      }

@@ -1,0 +1,43 @@
+use Rattle.std.proofs.Common.{◌≡◌, ◌-◌, length, Some, None, refl, sym, ap, ◌∙◌, subst, rules}
+use Rattle.std.specs.Prelude.{slice_get}
+use Rattle.keeper_core.specs.Keeping.{StaysClosed}
+use Rattle.site_threads.specs.Keepers.{shown_in, may_in}
+use Rattle.site_threads.specs.Running.{Follows}
+use Rattle.site_threads.specs.Stamps.{stamp}
+use Rattle.site_threads.proofs.Steps.{opened_follows, opened_runs, unopened_runs}
+use Rattle.site_threads.proofs.sites.Site.open_again.Goals as goal
+
+pub follow-self-requires-clause-may : goal.follow-self-requires-clause-may
+follow-self-requires-clause-may g c =
+    let s = c.args.self.now in
+    let closed : shown_in g.K.SiteKeeper.shown s.keeper ≡ None = search rules in
+    let here : g.K.SiteKeeper.shown c.in-Some.keeper ≡ None = ap (shown_in g.K.SiteKeeper.shown) c.in-Some.ensures.value ∙ closed in
+    let m = c.in-Ok.ensures.opened here in
+    let same : c.in-Some-view.record.now ≡ m.0 = search rules in
+    let kept = subst (λ k. may_in g.K.SiteKeeper.may k c.in-Some-view.record.now) c.in-Some.ensures.value (subst (g.K.SiteKeeper.may c.in-Some.keeper) (sym same) m.1) in
+    let at : Some c.in-Some-last.entry.now ≡ slice_get s.entries.items (length s.entries.items - 1) = search rules in
+    opened_follows _ _ _ _ _ _ _ c.requires.site.runs c.in-Some-last.entry.now c.in-Some-view.record.now closed c.requires.few at kept
+
+pub returns-in-Err-clause-site : goal.returns-in-Err-clause-site
+returns-in-Err-clause-site g c =
+    let s = c.args.self.now in
+    let closed : shown_in g.K.SiteKeeper.shown s.keeper ≡ None = search rules in
+    let keeper = c.in-Err.unopened.keeper in
+    record {
+      there = refl;
+      runs = unopened_runs _ _ _ _ _ _ _ c.requires.site.runs _ _ closed (subst (λ k. StaysClosed (may_in g.K.SiteKeeper.may k) (g.K.SiteKeeper.shown keeper) (g.K.SiteKeeper.may keeper)) c.in-Some.ensures.value c.in-Err.ensures.unopened.1);
+    }
+
+pub returns-in-Some-last-clause-site : goal.returns-in-Some-last-clause-site
+returns-in-Some-last-clause-site g c =
+    let s = c.args.self.now in
+    let closed : shown_in g.K.SiteKeeper.shown s.keeper ≡ None = search rules in
+    let here : g.K.SiteKeeper.shown c.in-Some.keeper ≡ None = ap (shown_in g.K.SiteKeeper.shown) c.in-Some.ensures.value ∙ closed in
+    let m = c.in-Ok.ensures.opened here in
+    let same : c.in-Some-view.record.now ≡ m.0 = search rules in
+    let kept = subst (λ k. may_in g.K.SiteKeeper.may k m.0) c.in-Some.ensures.value m.1 in
+    let f = c.follow-self.ensures in
+    record {
+      there = refl;
+      runs = opened_runs _ _ _ _ _ _ _ c.requires.site.runs _ _ m.0 _ _ closed m.2 kept (subst (λ r. Follows s.seat.logs r c.follow-self.new.seat.logs) same f.follows) (f.stamped ∙ ap stamp same);
+    }

@@ -1,0 +1,11 @@
+use Rattle.std.proofs.Common.{◌≡◌, ◌≤◌}
+use Rattle.site_threads.specs.Sites.{IsSite, Continues}
+use Rattle.site_threads.proofs.sites.Site.send_all.Given as goal
+
+abbrev pub invariant-loop-number : goal.invariant-loop-number
+invariant-loop-number g l = record {
+  site : IsSite g.K.SiteKeeper.shown g.K.SiteKeeper.may l.self;
+  same : Continues 0 l.wire l.fn.self l.self;
+  entries : l.self.entries ≡ l.fn.self.entries;
+  count : l.posted ≤ l.number;
+}

@@ -1,0 +1,38 @@
+use Rattle.std.proofs.Common.{◌≡◌, ◌+◌, ◌∷◌, ◌++◌, [], Some, refl, sym, ◌∙◌, subst, arith, rules}
+use Rattle.std.specs.Prelude.{vec_len}
+use Rattle.keeper_core.specs.Keeping.{Applies}
+use Rattle.site_threads.specs.Jobs.{reply_to}
+use Rattle.site_threads.specs.Keepers.{shown_in, may_in}
+use Rattle.site_threads.specs.Running.{MayDeliver}
+use Rattle.site_threads.proofs.Taking.{no_memory, may_follow, took_in}
+use Rattle.site_threads.proofs.sites.Site.take_in.Goals as goal
+
+pub returns-in_default-clause-site : goal.returns-in_default-clause-site
+returns-in_default-clause-site g c = record {
+  there = c.apply_to.ensures.there;
+  runs = (no_memory _ _ _ _ _ _ _ c.requires.site.runs c.requires.open c.args.input c.apply_to.result c.is_delivery-frame.result _ _ c.apply_to.ensures.step (sym c.in_default.is ∙ c.answered.ensures)).0;
+}
+
+pub returns-in_default-clause-back : goal.returns-in_default-clause-back
+returns-in_default-clause-back g c =
+    (refl, refl, (no_memory _ _ _ _ _ _ _ c.requires.site.runs c.requires.open c.args.input c.apply_to.result c.is_delivery-frame.result _ (may_in g.K.SiteKeeper.may c.apply_to.new.keeper) c.apply_to.ensures.step (sym c.in_default.is ∙ c.answered.ensures)).1)
+
+pub follow_shown-self-requires-clause-may : goal.follow_shown-self-requires-clause-may
+follow_shown-self-requires-clause-may g c =
+    let same = sym c.requires.copy in
+    may_follow _ _ _ _ _ _ _ c.requires.site.runs c.requires.open c.args.copy c.apply_to.result c.is_delivery-frame.result _ (may_in g.K.SiteKeeper.may c.apply_to.new.keeper)
+    (λ old is. subst (λ i. Applies old i c.apply_to.result (shown_in g.K.SiteKeeper.shown c.apply_to.new.keeper) (may_in g.K.SiteKeeper.may c.apply_to.new.keeper)) same (c.apply_to.ensures.step old is)) c.requires.few
+    (subst (λ i. MayDeliver i c.args.self.now.seat.logs) same c.requires.noted)
+
+pub returns-clause-site : goal.returns-clause-site
+returns-clause-site g c =
+    let same = sym c.requires.copy in
+    let p = c.in-Some.reply in
+    let e : Some p ≡ reply_to c.is_delivery-frame.result c.apply_to.result = sym c.in-Some.is ∙ c.answered.ensures in
+    let items : c.push.new.self.items ≡ c.args.self.now.entries.items ++ (record { number = vec_len c.args.self.now.entries + 1; input = c.args.copy; reply = p }) ∷ [] = search rules in
+    record {
+      there = c.apply_to.ensures.there;
+      runs = took_in _ _ _ _ _ _ _ c.requires.site.runs c.requires.open c.args.copy c.apply_to.result c.is_delivery-frame.result _ (may_in g.K.SiteKeeper.may c.apply_to.new.keeper)
+          (λ old is. subst (λ i. Applies old i c.apply_to.result (shown_in g.K.SiteKeeper.shown c.apply_to.new.keeper) (may_in g.K.SiteKeeper.may c.apply_to.new.keeper)) same (c.apply_to.ensures.step old is))
+          p _ _ _ _ c.is_delivery-frame.ensures e (subst (λ i. MayDeliver i c.args.self.now.seat.logs) same c.requires.noted) c.follow_shown-self.ensures.follows (let l = c.args.self.now.entries.ok.0 in omega arith) items;
+    }

@@ -1,0 +1,11 @@
+pub mod Desks
+pub mod Ends
+pub mod Jobs
+pub mod Keepers
+pub mod Offers
+pub mod Passing
+pub mod Running
+pub mod Sites
+pub mod Stamps
+pub mod Starting
+pub mod Turns

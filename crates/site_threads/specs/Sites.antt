@@ -1,0 +1,20 @@
+-- What clauses say of a running site.
+use Rattle.std.specs.Prelude.{◌≡◌, ℕ, ◌+◌, ◌≤◌, Option, IsSome}
+use Rattle.site_core.specs.Records.{Record}
+use Rattle.wire_core.specs.Seats.{Line, IsSeatOf}
+use Rattle.site_threads.specs.declared.sites.Site.{Site}
+use Rattle.site_threads.specs.Keepers.{shown_in, may_in}
+use Rattle.site_threads.specs.Running.{Runs, marks_in}
+
+module _ {K : Type 0} (shown : K → Option Record) (may : K → Record → Type 0) where
+  -- the site has its keeper, and stands as its steps
+  pub record IsSite (s : Site K) : Type 0 where
+    pub there : IsSome s.keeper
+    pub runs : Runs (shown_in shown s.keeper) (may_in may s.keeper) s.seat.logs s.me s.stamp s.entries.items s.start.value
+
+-- the same site of the same run, marked at most n times since
+pub record Continues {K : Type 0} (n : ℕ) (wire : Line) (old new : Site K) : Type 0 where
+  pub seat : IsSeatOf wire new.seat
+  pub me : new.me ≡ old.me
+  pub start : new.start.value ≡ old.start.value
+  pub marks : marks_in new.seat.logs ≤ marks_in old.seat.logs + n

@@ -1,0 +1,254 @@
+//! Jobs for a site from another thread, and their receipts back.
+ghost use Rattle.std.specs.Prelude.{◌≡◌, ◌<◌, ◌≤◌, true, [], ◌∷◌, ◌++◌, length, take, IfOk, IsTrue, ◌↔◌, MatchResult};
+ghost use Rattle.crossbeam_channel.specs.Claims.{view, IsSeatAt};
+ghost use Rattle.crossbeam_channel.specs.Ends.{sends_on, receives_on};
+ghost use Rattle.site_threads.specs.Desks.{is_spent, fault_job};
+ghost use Rattle.site_threads.specs.Jobs.{option_items};
+ghost use Rattle.site_threads.specs.Ends.{puts, takes, IsDesk, IsOut, AreEnds};
+
+use crate::jobs::{Job, Receipt};
+use crossbeam_channel::protocol::{Free, Join, Lesson, Outcome, Protocol, Split};
+use crossbeam_channel::{Pass, RuledReceiver, RuledSender, bounded_with};
+use std::alloc::{AllocError, Global};
+use std::collections::LinkedList;
+use std::sync::Wait;
+use thiserror::Error;
+
+/// What a pass may do, put and take, and what it has put and taken. No value of it is made.
+pub struct Hand {
+    pub puts: bool,
+    pub takes: bool,
+    pub put: LinkedList<Job>,
+    pub taken: LinkedList<Job>,
+}
+
+/// What was put is what was taken, and then what is still to be taken.
+pub struct InOrder;
+
+impl Protocol<Job, Hand> for InOrder {
+    ghost use Rattle.std.specs.Prelude.{true, []};
+    ghost use Rattle.site_threads.specs.Desks.{hand, Handed};
+
+    ghost holds = { Handed };
+
+    ghost first = { hand true true [] [] };
+}
+
+/// Parts a pass into one that may put and one that may take, and joins them.
+pub struct Roles;
+
+impl Split<Hand> for Roles {
+    ghost use Rattle.std.specs.Prelude.{true, false, []};
+    ghost use Rattle.site_threads.specs.Desks.{hand};
+
+    ghost left = { λ v. hand true false v.put [] };
+
+    ghost right = { λ v. hand false true [] v.taken };
+}
+
+impl Join<Hand> for Roles {
+    ghost use Rattle.std.specs.Prelude.{true, false, []};
+    ghost use Rattle.site_threads.specs.Desks.{hand};
+
+    ghost both = { λ v w. hand true true v.put w.taken };
+
+    ghost spent = { hand false false [] [] };
+}
+
+/// One job more was put.
+pub struct Puts;
+
+impl Outcome<Job, Hand> for Puts {
+    ghost use Rattle.site_threads.specs.Desks.{hand};
+
+    ghost then = { λ v x w. w ≡ hand v.puts v.takes (v.put ++ x ∷ []) v.taken };
+}
+
+impl Lesson<Job, Hand> for Puts {
+    ghost use Rattle.std.specs.Prelude.{⊤};
+
+    ghost fact = { λ v items. ⊤ };
+}
+
+/// One job more was taken.
+pub struct Takes;
+
+impl Outcome<Job, Hand> for Takes {
+    ghost use Rattle.site_threads.specs.Desks.{hand};
+
+    ghost then = { λ v x w. w ≡ hand v.puts v.takes v.put (v.taken ++ x ∷ []) };
+}
+
+impl Lesson<Job, Hand> for Takes {
+    ghost use Rattle.std.specs.Prelude.{⊤};
+
+    ghost fact = { λ v items. ⊤ };
+}
+
+/// A pass that may do both knows what is still to be taken.
+pub struct Total;
+
+impl Lesson<Job, Hand> for Total {
+    ghost fact = { λ v items. v.put ≡ v.taken ++ items };
+}
+
+/// A pass of which nothing is said.
+pub struct Nothing;
+
+impl Split<()> for Nothing {
+    ghost left = { λ v. v };
+
+    ghost right = { λ v. v };
+}
+
+/// Why a job wasn't put. It comes back.
+#[derive(Debug, Drop, Error)]
+pub enum DeskFault {
+    /// As many jobs were put as the desk takes in its life.
+    #[error("the desk takes no more jobs")]
+    Spent(Job),
+    /// The channel told that the other end was dropped.
+    #[error("the site's end of the desk is gone")]
+    Gone(Job),
+}
+
+/// The end of a desk that puts jobs for a site, and gets their receipts.
+#[derive(Drop)]
+pub struct Desk {
+    pub to: RuledSender<Job, Hand, InOrder>,
+    pub pass: Pass<Job, Hand>,
+    pub receipts: RuledReceiver<Receipt, (), Free>,
+    pub listener: Pass<Receipt, ()>,
+    /// How many jobs were put.
+    pub count: u64,
+    /// How many it takes in its life.
+    pub limit: u64,
+}
+
+/// The site's end of a desk.
+#[derive(Drop)]
+pub struct DeskOut {
+    pub from: RuledReceiver<Job, Hand, InOrder>,
+    pub pass: Pass<Job, Hand>,
+    pub receipts: RuledSender<Receipt, (), Free>,
+    pub teller: Pass<Receipt, ()>,
+    /// How many jobs were taken.
+    pub count: u64,
+    /// How many there can be.
+    pub limit: u64,
+}
+
+impl Desk {
+    /// A desk that takes so many jobs in its life, 1 to 1,000, and its other end.
+    ///
+    /// # Errors
+    /// Where there is no memory for it. No other call on a desk takes any.
+    pub fn new(alloc: Global, limit: u64) -> Result<(Desk, DeskOut), AllocError>
+        requires { (1 ≤ limit) × (limit ≤ 1000) }
+        ensures ends { IfOk result (λ r. IsDesk r.0 × IsOut r.1 × AreEnds r.0 r.1) }
+        ensures start { IfOk result (λ r. (puts r.0 ≡ []) × (takes r.1 ≡ []) × (r.0.limit ≡ limit)) }
+    {
+        let room = limit as usize;
+        let (to, from, mut pass) = bounded_with::<Job, Hand, InOrder, Global>(alloc, room)?;
+        let taker = to.another::<Roles>(&mut pass);
+        let (tells, receipts, mut teller) = bounded_with::<Receipt, (), Free, Global>(alloc, room)?;
+        let listener = tells.another::<Nothing>(&mut teller);
+        Ok((
+            Desk {
+                to,
+                pass,
+                receipts,
+                listener,
+                count: 0,
+                limit,
+            },
+            DeskOut {
+                from,
+                pass: taker,
+                receipts: tells,
+                teller,
+                count: 0,
+                limit,
+            },
+        ))
+    }
+
+    /// Puts a job. Its place at this desk, from 1.
+    ///
+    /// # Errors
+    /// `Spent` exactly after as many jobs as the desk takes, and `Gone`; both with the job, and nothing changed.
+    pub fn put<R: Wait>(&mut self, rt: &R, job: Job) -> Result<u64, DeskFault>
+        requires { IsDesk self.old }
+        ensures desk { IsDesk self.new × (self.new.limit ≡ self.old.limit) × (sends_on self.new.to ≡ sends_on self.old.to) }
+        ensures put { MatchResult result
+            (λ place. (puts self.new ≡ puts self.old ++ job ∷ []) × (place ≡ length (puts self.new)) × (length (puts self.old) < self.old.limit))
+            (λ fault. (fault_job fault ≡ job) × (puts self.new ≡ puts self.old) × (IsTrue (is_spent fault) ↔ (length (puts self.old) ≡ self.old.limit))) }
+    {
+        if self.count == self.limit {
+            return Err(DeskFault::Spent(job));
+        }
+        match self.to.send_as::<Puts, R>(rt, &mut self.pass, job) {
+            Ok(()) => {
+                self.count += 1;
+                Ok(self.count)
+            }
+            Err(fault) => Err(DeskFault::Gone(fault.into_inner())),
+        }
+    }
+
+    /// The next receipt, waited for. `None` where the channel told that the other end was dropped.
+    pub fn receipt<R: Wait>(&mut self, rt: &R) -> Option<Receipt>
+        requires { IsDesk self.old }
+        ensures desk { IsDesk self.new × (self.new.limit ≡ self.old.limit) × (sends_on self.new.to ≡ sends_on self.old.to) × (puts self.new ≡ puts self.old) }
+    {
+        self.receipts
+            .recv_as::<Free, R>(rt, &mut self.listener)
+            .ok()
+    }
+}
+
+impl DeskOut {
+    /// The next job, if one is there.
+    pub fn next<R: Wait>(&mut self, rt: &R) -> Option<Job>
+        requires { IsOut self.old }
+        ensures out { IsOut self.new × (receives_on self.new.from ≡ receives_on self.old.from) }
+        ensures taken { takes self.new ≡ takes self.old ++ option_items result }
+    {
+        if self.count == self.limit {
+            return None;
+        }
+        match self.from.try_recv_as::<Takes, R>(rt, &mut self.pass) {
+            Ok(job) => {
+                self.count += 1;
+                Some(job)
+            }
+            Err(_) => None,
+        }
+    }
+
+    /// Sends a receipt back.
+    pub fn tell<R: Wait>(&mut self, rt: &R, receipt: Receipt)
+        requires { IsOut self.old }
+        ensures { IsOut self.new × (receives_on self.new.from ≡ receives_on self.old.from) × (takes self.new ≡ takes self.old) }
+    {
+        let _ = self
+            .receipts
+            .try_send_as::<Free, R>(rt, &mut self.teller, receipt);
+    }
+}
+
+/// How many jobs were taken from a desk: the first ones that were put.
+pub fn taken_of(desk: Desk, out: DeskOut) -> u64
+    requires { IsDesk desk × IsOut out × AreEnds desk out }
+    ensures { (result ≡ length (takes out)) × (takes out ≡ take result (puts desk)) }
+{
+    let Desk { to, mut pass, .. } = desk;
+    let DeskOut {
+        pass: other,
+        count,
+        ..
+    } = out;
+    to.absorb::<Roles>(&mut pass, other);
+    to.learn_as::<Total>(&mut pass);
+    count
+}

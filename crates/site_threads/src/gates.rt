@@ -1,0 +1,29 @@
+//! What lets a site into its next turn.
+
+use event_json::SiteNo;
+
+/// What a gate answers.
+#[derive(Clone, Copy)]
+pub enum Pass {
+    /// The turn may begin.
+    Go,
+    /// The site ends its run.
+    GiveUp,
+}
+
+/// Lets a site into its turns, one after another.
+pub trait Gate: Drop {
+    /// Asked before each turn, which is counted from 1. It may look at what other sites do, and so keep them in step,
+    /// but it waits for nobody.
+    fn enter(&mut self, site: SiteNo, turn: u64) -> Pass;
+}
+
+/// Lets every turn begin.
+#[derive(Drop)]
+pub struct FreeGate;
+
+impl Gate for FreeGate {
+    fn enter(&mut self, _site: SiteNo, _turn: u64) -> Pass {
+        Pass::Go
+    }
+}

@@ -1,0 +1,21 @@
+//! Sites that run in threads of their own, and pass their frames over a wire.
+//!
+//! In a turn a site does a job, takes the frames that came for it, and posts what it has to tell. A step is marked on
+//! the wire only once its keeper answered it, so a frame that is posted rests on a record that is kept.
+#![tactic(auto)]
+
+mod desks;
+mod following;
+mod gates;
+mod jobs;
+mod offers;
+mod passing;
+mod sites;
+mod stamps;
+mod turns;
+
+pub use desks::{Desk, DeskFault, DeskOut};
+pub use gates::{FreeGate, Gate, Pass};
+pub use jobs::{Entry, Job, Receipt, Reply};
+pub use sites::Site;
+pub use turns::{SiteTurn, TurnCause, TurnFault, TurnReport};

@@ -1,0 +1,75 @@
+//! Which frame a site has for another.
+ghost use Rattle.std.specs.Prelude.{IfSome};
+ghost use Rattle.frame_core.specs.Rows.{frame_of};
+ghost use Rattle.site_threads.specs.Offers.{IsFor};
+
+use event_json::SiteNo;
+use frame_core::{FrameView, MsgId};
+use site_core::{FrameName, SiteState, frame_named};
+
+/// The signal of the message that was taken from the site in this turn, where the record makes it emittable; else the
+/// next message for the site, by number after the one posted last, round to the least. `None` where there is neither.
+pub fn offer(
+    state: &SiteState,
+    owed: Option<MsgId>,
+    to: SiteNo,
+    after: u64,
+) -> Option<FrameView<'_>>
+    ensures { IfSome result (λ f. IsFor state.now.engagement to (frame_of f)) }
+{
+    match owed_signal(state, owed, to) {
+        Some(signal) => Some(signal),
+        None => match next_message(state, to, after) {
+            None => None,
+            Some(number) => message_to(state, number, to),
+        },
+    }
+}
+
+/// The message of this number, where it waits for a signal of the site.
+fn message_to(state: &SiteState, number: u64, to: SiteNo) -> Option<FrameView<'_>>
+    ensures { IfSome result (λ f. IsFor state.now.engagement to (frame_of f)) }
+{
+    match state.row(number) {
+        None => None,
+        Some(row) => {
+            if row.dest == to {
+                frame_named(state, FrameName::Message(number))
+            } else {
+                None
+            }
+        }
+    }
+}
+
+/// The signal of the message, where it is one of the site's and the record makes the signal emittable.
+fn owed_signal(state: &SiteState, owed: Option<MsgId>, to: SiteNo) -> Option<FrameView<'_>>
+    ensures { IfSome result (λ f. IsFor state.now.engagement to (frame_of f)) }
+{
+    match owed {
+        None => None,
+        Some(message) => {
+            if message.site == to {
+                frame_named(state, FrameName::Signal(message))
+            } else {
+                None
+            }
+        }
+    }
+}
+
+/// The number of the next message for the site, after this number, or the least where none is after it.
+fn next_message(state: &SiteState, to: SiteNo, after: u64) -> Option<u64> {
+    let mut least = None;
+    for (number, row) in state.outbox() {
+        if row.dest == to {
+            if *number > after {
+                return Some(*number);
+            }
+            if least.is_none() {
+                least = Some(*number);
+            }
+        }
+    }
+    least
+}

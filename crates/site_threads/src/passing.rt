@@ -1,0 +1,241 @@
+//! The frames that a site takes and posts in a turn.
+ghost use Rattle.std.specs.Prelude.{◌≡◌, ◌≢◌, ◌+◌, ◌^◌, ◌<◌, ◌≤◌, IfSome, IsSome, IsTrue, cond, is_ok, vec_len, vec_capacity};
+ghost use Rattle.wire_core.specs.Seats.{IsSeatOf};
+ghost use Rattle.site_threads.specs.Jobs.{is_delivery};
+ghost use Rattle.site_threads.specs.Keepers.{shown_in};
+ghost use Rattle.site_threads.specs.Offers.{IsFor};
+ghost use Rattle.site_threads.specs.Passing.{TakesFrames};
+ghost use Rattle.site_threads.specs.Running.{marks_in, MayDeliver};
+ghost use Rattle.site_threads.specs.Sites.{IsSite, Continues};
+
+use crate::following::view_of;
+use crate::jobs::Reply;
+use crate::offers::offer;
+use crate::sites::Site;
+use event_json::SiteNo;
+use frame_core::{Frame, MsgId};
+use keeper_core::SiteKeeper;
+use site_core::{SiteInput, SiteState};
+use std::alloc::Global;
+use wire_core::{Post, Wire};
+
+impl<K: SiteKeeper> Site<K> {
+    /// Takes at most one frame from another site, applies it and enters it. How many were entered. Nothing is taken
+    /// while the keeper is closed; a frame whose copy or step finds no memory is lost.
+    pub fn receive(&mut self, wire: &Wire, alloc: Global, other: SiteNo) -> u64
+        requires seat { IsSeatOf wire.now self.old.seat }
+        requires site { IsSite K.shown K.may self.old }
+        requires few { marks_in self.old.seat.logs < 2 ^ 62 }
+        requires other { (other ≢ self.old.me) × (other < wire.now.sites) }
+        requires room { vec_len self.old.entries < vec_capacity self.old.entries }
+        ensures site { IsSite K.shown K.may self.new }
+        ensures same { Continues 1 wire.now self.old self.new }
+        ensures frames { TakesFrames self.old.entries.items self.new.entries.items result }
+        ensures room { (vec_capacity self.old.entries ≤ vec_capacity self.new.entries) × (vec_len self.new.entries ≤ vec_len self.old.entries + 1) }
+        ensures count { result ≤ 1 }
+    {
+        if view_of(&self.keeper).is_none() {
+            return 0;
+        }
+        let Some(frame) = wire.take(&mut self.seat, self.me, other) else {
+            return 0;
+        };
+        self.owed[other.number() as usize] = message_of(&frame);
+        let Ok(copy) = frame.copy(alloc) else {
+            return 0;
+        };
+        self.enter(wire, SiteInput::Deliver(frame), SiteInput::Deliver(copy))
+    }
+
+    /// Applies the input that delivers a frame, and enters it. How many steps were entered.
+    fn enter(&mut self, wire: &Wire, input: SiteInput, copy: SiteInput) -> u64
+        requires seat { IsSeatOf wire.now self.old.seat }
+        requires site { IsSite K.shown K.may self.old }
+        requires few { marks_in self.old.seat.logs < 2 ^ 62 }
+        requires open { IsSome (shown_in K.shown self.old.keeper) }
+        requires copy { copy ≡ input }
+        requires frame { IsTrue (is_delivery copy) }
+        requires noted { MayDeliver input self.old.seat.logs }
+        requires room { vec_len self.old.entries < vec_capacity self.old.entries }
+        ensures site { IsSite K.shown K.may self.new }
+        ensures same { Continues 1 wire.now self.old self.new }
+        ensures frames { TakesFrames self.old.entries.items self.new.entries.items result }
+        ensures room { (vec_capacity self.old.entries ≤ vec_capacity self.new.entries) × (vec_len self.new.entries ≤ vec_len self.old.entries + 1) }
+        ensures count { result ≤ 1 }
+    {
+        let taken = self.take_in(wire, input, copy);
+        count_entered(taken)
+    }
+
+    /// Posts at most one frame to another site. How many were posted. Nothing is posted while the keeper is closed.
+    pub fn send(&mut self, wire: &Wire, alloc: Global, to: SiteNo) -> u64
+        requires seat { IsSeatOf wire.now self.old.seat }
+        requires site { IsSite K.shown K.may self.old }
+        requires other { (to ≢ self.old.me) × (to < wire.now.sites) }
+        ensures site { IsSite K.shown K.may self.new }
+        ensures same { Continues 0 wire.now self.old self.new }
+        ensures entries { self.new.entries ≡ self.old.entries }
+        ensures count { result ≤ 1 }
+    {
+        let place = to.number() as usize;
+        let owed = self.owed[place];
+        let after = self.posted[place];
+        let Some(state) = view_of(&self.keeper) else {
+            return 0;
+        };
+        let Some(frame) = offered(alloc, state, owed, to, after) else {
+            return 0;
+        };
+        let posted = number_of(&frame, after);
+        let answer = wire.post(&mut self.seat, frame);
+        let count = count_posted(answer);
+        self.posted[place] = if count == 1 { posted } else { after };
+        count
+    }
+
+    /// The same for the site of this number, if it is another.
+    #[tactic(auto, using(crate::proofs::Passed::frames_none))]
+    fn receive_from(&mut self, wire: &Wire, alloc: Global, number: u64) -> u64
+        requires seat { IsSeatOf wire.now self.old.seat }
+        requires site { IsSite K.shown K.may self.old }
+        requires few { marks_in self.old.seat.logs < 2 ^ 62 }
+        requires there { number < wire.now.sites }
+        requires room { vec_len self.old.entries < vec_capacity self.old.entries }
+        ensures site { IsSite K.shown K.may self.new }
+        ensures same { Continues 1 wire.now self.old self.new }
+        ensures frames { TakesFrames self.old.entries.items self.new.entries.items result }
+        ensures room { (vec_capacity self.old.entries ≤ vec_capacity self.new.entries) × (vec_len self.new.entries ≤ vec_len self.old.entries + 1) }
+        ensures count { result ≤ 1 }
+    {
+        match SiteNo::of(number) {
+            None => 0,
+            Some(other) => {
+                if other == self.me {
+                    0
+                } else {
+                    self.receive(wire, alloc, other)
+                }
+            }
+        }
+    }
+
+    /// The same for the site of this number, if it is another.
+    fn send_to(&mut self, wire: &Wire, alloc: Global, number: u64) -> u64
+        requires seat { IsSeatOf wire.now self.old.seat }
+        requires site { IsSite K.shown K.may self.old }
+        requires there { number < wire.now.sites }
+        ensures site { IsSite K.shown K.may self.new }
+        ensures same { Continues 0 wire.now self.old self.new }
+        ensures entries { self.new.entries ≡ self.old.entries }
+        ensures count { result ≤ 1 }
+    {
+        match SiteNo::of(number) {
+            None => 0,
+            Some(to) => {
+                if to == self.me {
+                    0
+                } else {
+                    self.send(wire, alloc, to)
+                }
+            }
+        }
+    }
+
+    /// Takes and applies at most one frame from each other site. How many were entered.
+    #[tactic(auto, using(crate::proofs::Passed::frames_none, crate::proofs::Passed::frames_more))]
+    pub fn receive_all(&mut self, wire: &Wire, alloc: Global) -> u64
+        requires seat { IsSeatOf wire.now self.old.seat }
+        requires site { IsSite K.shown K.may self.old }
+        requires few { marks_in self.old.seat.logs < 2 ^ 61 + 18 }
+        requires room { vec_len self.old.entries + wire.now.sites ≤ vec_capacity self.old.entries }
+        ensures site { IsSite K.shown K.may self.new }
+        ensures same { Continues 16 wire.now self.old self.new }
+        ensures frames { TakesFrames self.old.entries.items self.new.entries.items result }
+    {
+        self.owed = nothing_owed();
+        let mut entered = 0;
+        for number in 0..wire.sites() {
+            entered += self.receive_from(wire, alloc, number as u64);
+        }
+        entered
+    }
+
+    /// Posts at most one frame to each other site. How many were posted.
+    pub fn send_all(&mut self, wire: &Wire, alloc: Global) -> u64
+        requires seat { IsSeatOf wire.now self.old.seat }
+        requires site { IsSite K.shown K.may self.old }
+        ensures site { IsSite K.shown K.may self.new }
+        ensures same { Continues 0 wire.now self.old self.new }
+        ensures entries { self.new.entries ≡ self.old.entries }
+        ensures count { result ≤ wire.now.sites }
+    {
+        let mut posted = 0;
+        for number in 0..wire.sites() {
+            posted += self.send_to(wire, alloc, number as u64);
+        }
+        posted
+    }
+}
+
+/// A copy of what the record has for the other site. `None` where there is nothing, or no memory.
+fn offered(
+    alloc: Global,
+    state: &SiteState,
+    owed: Option<MsgId>,
+    to: SiteNo,
+    after: u64,
+) -> Option<Frame>
+    ensures { IfSome result (IsFor state.now.engagement to) }
+{
+    match offer(state, owed, to, after) {
+        None => None,
+        Some(frame) => frame.to_frame(alloc).ok(),
+    }
+}
+
+/// How many steps were entered.
+fn count_entered(taken: Result<Reply, SiteInput>) -> u64
+    ensures { result ≡ cond (is_ok taken) 1 0 }
+{
+    match taken {
+        Ok(_) => 1,
+        Err(input) => {
+            drop(input);
+            0
+        }
+    }
+}
+
+/// How many frames were posted.
+fn count_posted(answer: Post) -> u64
+    ensures { result ≤ 1 }
+{
+    match answer {
+        Post::Posted => 1,
+        Post::Full(frame) => {
+            drop(frame);
+            0
+        }
+    }
+}
+
+/// No message was taken yet.
+fn nothing_owed() -> [Option<MsgId>; 16] {
+    [None; 16]
+}
+
+/// The message that a frame is. `None` of a signal.
+fn message_of(frame: &Frame) -> Option<MsgId> {
+    match frame {
+        Frame::Recall { id, .. } => Some(*id),
+        Frame::Signal { .. } => None,
+    }
+}
+
+/// The number of the message that a frame is, or this one of a signal.
+fn number_of(frame: &Frame, otherwise: u64) -> u64 {
+    match frame {
+        Frame::Recall { id, .. } => id.number,
+        Frame::Signal { .. } => otherwise,
+    }
+}

@@ -1,0 +1,194 @@
+//! One running site: opening it again, and a step of it.
+ghost use Rattle.std.specs.Prelude.{◌≡◌, ◌≢◌, ◌+◌, ◌^◌, ◌<◌, ◌≤◌, [], ◌∷◌, ◌++◌, Some, None, IfOk, IfErr, IfSome, IsSome, map, option_map, vec_len, vec_capacity};
+ghost use Rattle.keeper_core.specs.Keeping.{Applies, HindersOpening};
+ghost use Rattle.site_core.specs.Records.{Record};
+ghost use Rattle.wire_core.specs.Seats.{IsSeatOf};
+ghost use Rattle.site_threads.specs.Jobs.{entry_of, option_items};
+ghost use Rattle.site_threads.specs.Keepers.{shown_in, may_in};
+ghost use Rattle.site_threads.specs.Running.{MayDeliver, marks_in};
+ghost use Rattle.site_threads.specs.Sites.{IsSite, Continues};
+
+use crate::following::{follow, follow_shown, view_of};
+use crate::jobs::{Entry, Job, Ready, Receipt, Reply, answered, is_delivery};
+use crate::stamps::Stamp;
+use event_json::SiteNo;
+use frame_core::MsgId;
+use keeper_core::{KeepFault, SiteKeeper};
+use site_core::{Effects, SiteInput, SiteState};
+use std::snapshot::Snapshot;
+use wire_core::{Seat, Wire};
+
+/// A site, the seat that holds it alone, and the list of its steps.
+#[derive(Drop)]
+pub struct Site<K: SiteKeeper> {
+    /// Its keeper. None only within a call that opens it again.
+    pub keeper: Option<K>,
+    /// Its seat at the wire.
+    pub seat: Seat,
+    /// Its number.
+    pub me: SiteNo,
+    /// The stamp of the record last marked.
+    pub stamp: Stamp,
+    /// The steps of this run, in order.
+    pub entries: Vec<Entry>,
+    /// The record that it began with, for proofs alone.
+    pub start: Snapshot<SiteState>,
+    /// By site, the message that was taken from it in this turn.
+    pub owed: [Option<MsgId>; 16],
+    /// By site, the number of the message that was posted to it last.
+    pub posted: [u64; 16],
+}
+
+impl<K: SiteKeeper> Site<K> {
+    /// Opens the keeper again, where it is closed, and marks the step in which it stopped, where that was kept.
+    ///
+    /// # Errors
+    /// What keeps it from being opened; it is closed then as before.
+    pub fn open_again(&mut self, wire: &Wire) -> Result<(), KeepFault>
+        requires seat { IsSeatOf wire.now self.old.seat }
+        requires site { IsSite K.shown K.may self.old }
+        requires few { marks_in self.old.seat.logs < 2 ^ 62 }
+        ensures site { IsSite K.shown K.may self.new }
+        ensures same { Continues 1 wire.now self.old self.new }
+        ensures entries { self.new.entries ≡ self.old.entries }
+        ensures open { IfOk result (λ _. IsSome (shown_in K.shown self.new.keeper)) }
+        ensures stays { (r : Record) → shown_in K.shown self.old.keeper ≡ Some r → shown_in K.shown self.new.keeper ≡ Some r }
+        ensures closed { IfErr result (λ fault. HindersOpening fault × (shown_in K.shown self.new.keeper ≡ None)) }
+    {
+        if view_of(&self.keeper).is_some() {
+            return Ok(());
+        }
+        let Some(keeper) = self.keeper.take() else {
+            unreachable!()
+        };
+        match keeper.reopen() {
+            Err(unopened) => {
+                self.keeper = Some(unopened.keeper);
+                Err(unopened.fault)
+            }
+            Ok(keeper) => {
+                let Some(record) = keeper.view() else {
+                    unreachable!()
+                };
+                let Some(entry) = self.entries.last() else {
+                    unreachable!()
+                };
+                self.stamp = follow(wire, &mut self.seat, self.stamp, &entry.input, record);
+                self.keeper = Some(keeper);
+                Ok(())
+            }
+        }
+    }
+
+    /// Applies an input, marks the step and enters it.
+    ///
+    /// # Errors
+    /// The copy, where there is no memory: nothing was done.
+    pub fn take_in(
+        &mut self,
+        wire: &Wire,
+        input: SiteInput,
+        copy: SiteInput,
+    ) -> Result<Reply, SiteInput>
+        requires seat { IsSeatOf wire.now self.old.seat }
+        requires site { IsSite K.shown K.may self.old }
+        requires few { marks_in self.old.seat.logs < 2 ^ 62 }
+        requires open { IsSome (shown_in K.shown self.old.keeper) }
+        requires copy { copy ≡ input }
+        requires noted { MayDeliver input self.old.seat.logs }
+        requires room { vec_len self.old.entries < vec_capacity self.old.entries }
+        ensures site { IsSite K.shown K.may self.new }
+        ensures same { Continues 1 wire.now self.old self.new }
+        ensures entered { IfOk result (λ reply. self.new.entries.items ≡ self.old.entries.items ++ (record { number = vec_len self.old.entries + 1; input = copy; reply = reply }) ∷ []) }
+        ensures room { (vec_capacity self.old.entries ≤ vec_capacity self.new.entries) × (vec_len self.new.entries ≤ vec_len self.old.entries + 1) }
+        ensures back { IfErr result (λ back. (back ≡ copy) × (self.new.entries ≡ self.old.entries) × (shown_in K.shown self.new.keeper ≡ shown_in K.shown self.old.keeper)) }
+    {
+        let frame = is_delivery(&copy);
+        let Some(reply) = answered(apply_to(&mut self.keeper, input), frame) else {
+            return Err(copy);
+        };
+        self.stamp = follow_shown(&self.keeper, wire, &mut self.seat, self.stamp, &copy);
+        let number = self.entries.len() as u64 + 1;
+        let entered = reply.same();
+        // There is room for it.
+        let _ = self.entries.push(Entry {
+            number,
+            input: copy,
+            reply: entered,
+        });
+        Ok(reply)
+    }
+
+    /// Does a job, and gives its receipt.
+    ///
+    /// # Errors
+    /// The job, where there is no memory: nothing was done.
+    pub fn do_job(&mut self, wire: &Wire, ready: Option<Ready>) -> Result<Option<Receipt>, Job>
+        requires seat { IsSeatOf wire.now self.old.seat }
+        requires site { IsSite K.shown K.may self.old }
+        requires few { marks_in self.old.seat.logs < 2 ^ 62 }
+        requires open { IsSome (shown_in K.shown self.old.keeper) }
+        requires room { vec_len self.old.entries < vec_capacity self.old.entries }
+        ensures site { IsSite K.shown K.may self.new }
+        ensures same { Continues 1 wire.now self.old self.new }
+        ensures job { IfOk result (λ receipt. (option_map (λ x. x.job) receipt ≡ option_map (λ x. x.job) ready) × IfSome receipt (λ x. x.site ≡ self.old.me)) }
+        ensures entered { IfOk result (λ receipt. self.new.entries.items ≡ self.old.entries.items ++ map entry_of (option_items receipt)) }
+        ensures room { (vec_capacity self.old.entries ≤ vec_capacity self.new.entries) × (vec_len self.new.entries ≤ vec_len self.old.entries + 1) }
+        ensures back { IfErr result (λ job. (Some job ≡ option_map (λ x. x.job) ready) × (self.new.entries ≡ self.old.entries) × (shown_in K.shown self.new.keeper ≡ shown_in K.shown self.old.keeper)) }
+    {
+        match ready {
+            None => Ok(None),
+            Some(ready) => match self.do_ready(wire, ready) {
+                Ok(receipt) => Ok(Some(receipt)),
+                Err(job) => Err(job),
+            },
+        }
+    }
+
+    /// The same for a job that is there.
+    fn do_ready(&mut self, wire: &Wire, ready: Ready) -> Result<Receipt, Job>
+        requires seat { IsSeatOf wire.now self.old.seat }
+        requires site { IsSite K.shown K.may self.old }
+        requires few { marks_in self.old.seat.logs < 2 ^ 62 }
+        requires open { IsSome (shown_in K.shown self.old.keeper) }
+        requires room { vec_len self.old.entries < vec_capacity self.old.entries }
+        ensures site { IsSite K.shown K.may self.new }
+        ensures same { Continues 1 wire.now self.old self.new }
+        ensures job { IfOk result (λ receipt. (receipt.job ≡ ready.job) × (receipt.site ≡ self.old.me)) }
+        ensures entered { IfOk result (λ receipt. self.new.entries.items ≡ self.old.entries.items ++ entry_of receipt ∷ []) }
+        ensures room { (vec_capacity self.old.entries ≤ vec_capacity self.new.entries) × (vec_len self.new.entries ≤ vec_len self.old.entries + 1) }
+        ensures back { IfErr result (λ job. (job ≡ ready.job) × (self.new.entries ≡ self.old.entries) × (shown_in K.shown self.new.keeper ≡ shown_in K.shown self.old.keeper)) }
+    {
+        let Ready {
+            job,
+            entry,
+            receipt,
+        } = ready;
+        let site = self.me;
+        let number = self.entries.len() as u64 + 1;
+        match self.take_in(wire, job.into_input(), entry.into_input()) {
+            Err(copy) => {
+                drop(copy);
+                Err(receipt)
+            }
+            Ok(reply) => Ok(Receipt {
+                site,
+                number,
+                job: receipt,
+                reply,
+            }),
+        }
+    }
+}
+
+/// A step of an open keeper.
+fn apply_to<K: SiteKeeper>(keeper: &mut Option<K>, input: SiteInput) -> Result<Effects, KeepFault>
+    requires { IsSome (shown_in K.shown keeper.old) }
+    ensures step { (old : Record) → shown_in K.shown keeper.old ≡ Some old → Applies old input result (shown_in K.shown keeper.new) (may_in K.may keeper.new) }
+    ensures there { IsSome keeper.new }
+{
+    match keeper {
+        None => Err(KeepFault::Closed),
+        Some(keeper) => keeper.apply(input),
+    }
+}

@@ -1,0 +1,222 @@
+//! One turn of a site.
+ghost use Rattle.std.specs.Prelude.{◌≡◌, ◌≢◌, ◌+◌, ◌++◌, ◌^◌, ◌<◌, ◌≤◌, [], Some, None, IfOk, IfErr, IfSome, IsSome, map, option_map, vec_len, vec_capacity};
+ghost use Rattle.site_core.specs.Records.{Record};
+ghost use Rattle.wire_core.specs.Seats.{IsSeatOf};
+ghost use Rattle.site_threads.specs.Jobs.{jobs_in, entry_of, option_items};
+ghost use Rattle.site_threads.specs.Keepers.{shown_in};
+ghost use Rattle.site_threads.specs.Passing.{TakesFrames};
+ghost use Rattle.site_threads.specs.Running.{marks_in};
+ghost use Rattle.site_threads.specs.Sites.{IsSite, Continues};
+ghost use Rattle.site_threads.specs.Starting.{IsLastMarked};
+ghost use Rattle.site_threads.specs.Turns.{IfLost, lost};
+
+use crate::gates::{Gate, Pass};
+use crate::jobs::{Entry, Job, Ready, Receipt};
+use crate::sites::Site;
+use crate::stamps::stamp_of;
+use event_json::SiteNo;
+use keeper_core::{KeepFault, SiteKeeper};
+use std::alloc::Global;
+use std::snapshot::Snapshot;
+use thiserror::Error;
+use wire_core::{Seat, Wire};
+
+/// Why a turn was not made.
+#[derive(Debug, Drop, Error)]
+pub enum TurnCause {
+    /// Memory ran out.
+    #[error("memory ran out")]
+    NoMemory,
+    /// The gate gave up.
+    #[error("the gate gave up")]
+    GaveUp,
+    /// The keeper was closed, and couldn't be opened again.
+    #[error("the site is lost: {0}")]
+    Lost(KeepFault),
+}
+
+/// A turn that was not made, and its job.
+#[derive(Debug, Drop, Error)]
+#[error("{cause}")]
+pub struct TurnFault {
+    pub cause: TurnCause,
+    /// The job that was given.
+    pub job: Option<Job>,
+}
+
+/// What was done in a turn.
+#[derive(Drop)]
+pub struct TurnReport {
+    /// The receipt of the job that was given.
+    pub receipt: Option<Receipt>,
+    /// How many frames were entered.
+    pub applied: u64,
+    /// How many frames were posted.
+    pub posted: u64,
+}
+
+/// A running site, and the gate to its turns.
+#[derive(Drop)]
+pub struct SiteTurn<K: SiteKeeper, G: Gate> {
+    pub site: Site<K>,
+    pub gate: G,
+    /// How many turns the gate was asked for. At 2^64 - 1 the count stays.
+    pub turns: u64,
+    pub alloc: Global,
+}
+
+impl<K: SiteKeeper, G: Gate> SiteTurn<K, G> {
+    /// The site `me`, which the seat holds alone, with its keeper, open in the record last marked. Its list of steps is
+    /// empty. Takes no memory.
+    pub fn new(alloc: Global, keeper: K, gate: G, seat: Seat, me: SiteNo) -> SiteTurn<K, G>
+        requires start { (r : Record) × (K.shown keeper ≡ Some r) × IsLastMarked seat.logs me r }
+        ensures site { IsSite K.shown K.may result.site }
+        ensures first { (result.site.me ≡ me) × (result.site.seat ≡ seat) × (result.site.entries.items ≡ []) × (Some result.site.start.value ≡ K.shown keeper) × (result.site.keeper ≡ Some keeper) }
+    {
+        let Some(state) = keeper.view() else {
+            unreachable!()
+        };
+        let first = stamp_of(state);
+        let start = Snapshot::of(state);
+        SiteTurn {
+            site: Site {
+                keeper: Some(keeper),
+                seat,
+                me,
+                stamp: first,
+                entries: Vec::new(alloc),
+                start,
+                owed: [None; 16],
+                posted: [0; 16],
+            },
+            gate,
+            turns: 0,
+            alloc,
+        }
+    }
+
+    /// One turn: the site does the job, takes at most one frame from each other site, and posts at most one to each. It
+    /// waits for nobody.
+    ///
+    /// First the gate is asked, and a closed keeper is opened again. Each step is marked on the wire after its keeper
+    /// answered it and before a frame is posted; as the turn returns, the record last marked is the one that the keeper
+    /// shows, or, while it is closed, the one before the step in which it stopped. The site is marked at most 18 times.
+    ///
+    /// # Errors
+    /// `NoMemory`, `GaveUp`, or `Lost` where the keeper stays closed; each hands the job back, and nothing was done but
+    /// the opening, and the mark that belongs to it.
+    pub fn turn(&mut self, wire: &Wire, job: Option<Job>) -> Result<TurnReport, TurnFault>
+        requires seat { IsSeatOf wire.now self.old.site.seat }
+        requires site { IsSite K.shown K.may self.old.site }
+        requires few { marks_in self.old.site.seat.logs < 2 ^ 61 }
+        ensures site { IsSite K.shown K.may self.new.site }
+        ensures same { Continues 18 wire.now self.old.site self.new.site }
+        ensures job { IfOk result (λ report. (option_map (λ x. x.job) report.receipt ≡ job) × IfSome report.receipt (λ x. x.site ≡ self.old.site.me)) }
+        ensures entered { IfOk result (λ report. TakesFrames (self.old.site.entries.items ++ map entry_of (option_items report.receipt)) self.new.site.entries.items report.applied) }
+        ensures jobs { IfOk result (λ report. jobs_in self.new.site.entries.items ≡ jobs_in self.old.site.entries.items ++ option_items job) }
+        ensures posted { IfOk result (λ report. report.posted ≤ wire.now.sites) }
+        ensures back { IfErr result (λ fault. (fault.job ≡ job) × (self.new.site.entries.items ≡ self.old.site.entries.items)) }
+        ensures unchanged { IfErr result (λ fault. (r : Record) → shown_in K.shown self.old.site.keeper ≡ Some r → shown_in K.shown self.new.site.keeper ≡ Some r) }
+        ensures lost { IfErr result (λ fault. IfLost fault.cause (shown_in K.shown self.new.site.keeper)) }
+    {
+        let room = wire.sites() + 1;
+        if self.site.entries.reserve(room).is_err() {
+            return Err(TurnFault {
+                cause: TurnCause::NoMemory,
+                job,
+            });
+        }
+        match Ready::of(self.alloc, job) {
+            Err(job) => Err(TurnFault {
+                cause: TurnCause::NoMemory,
+                job,
+            }),
+            Ok(ready) => {
+                if let Err(cause) = self.begin(wire) {
+                    return Err(TurnFault {
+                        cause,
+                        job: Ready::back(ready),
+                    });
+                }
+                self.go_on(wire, ready)
+            }
+        }
+    }
+
+    /// What a turn begins with: the gate, and the opening of a closed keeper.
+    fn begin(&mut self, wire: &Wire) -> Result<(), TurnCause>
+        requires seat { IsSeatOf wire.now self.old.site.seat }
+        requires site { IsSite K.shown K.may self.old.site }
+        requires few { marks_in self.old.site.seat.logs < 2 ^ 62 }
+        ensures site { IsSite K.shown K.may self.new.site }
+        ensures same { Continues 1 wire.now self.old.site self.new.site }
+        ensures entries { self.new.site.entries ≡ self.old.site.entries }
+        ensures open { IfOk result (λ _. IsSome (shown_in K.shown self.new.site.keeper)) }
+        ensures stays { (r : Record) → shown_in K.shown self.old.site.keeper ≡ Some r → shown_in K.shown self.new.site.keeper ≡ Some r }
+        ensures lost { IfErr result (λ cause. IfLost cause (shown_in K.shown self.new.site.keeper)) }
+    {
+        self.turns = self.turns.saturating_add(1);
+        match self.gate.enter(self.site.me, self.turns) {
+            Pass::GiveUp => Err(TurnCause::GaveUp),
+            Pass::Go => match self.site.open_again(wire) {
+                Ok(()) => Ok(()),
+                Err(fault) => Err(lost(fault)),
+            },
+        }
+    }
+
+    /// What a turn goes on with: the job, and the frames.
+    fn go_on(&mut self, wire: &Wire, ready: Option<Ready>) -> Result<TurnReport, TurnFault>
+        requires seat { IsSeatOf wire.now self.old.site.seat }
+        requires site { IsSite K.shown K.may self.old.site }
+        requires few { marks_in self.old.site.seat.logs < 2 ^ 61 + 1 }
+        requires open { IsSome (shown_in K.shown self.old.site.keeper) }
+        requires room { vec_len self.old.site.entries + (wire.now.sites + 1) ≤ vec_capacity self.old.site.entries }
+        ensures site { IsSite K.shown K.may self.new.site }
+        ensures same { Continues 17 wire.now self.old.site self.new.site }
+        ensures job { IfOk result (λ report. (option_map (λ x. x.job) report.receipt ≡ option_map (λ x. x.job) ready) × IfSome report.receipt (λ x. x.site ≡ self.old.site.me)) }
+        ensures entered { IfOk result (λ report. TakesFrames (self.old.site.entries.items ++ map entry_of (option_items report.receipt)) self.new.site.entries.items report.applied) }
+        ensures posted { IfOk result (λ report. report.posted ≤ wire.now.sites) }
+        ensures back { IfErr result (λ fault. (fault.job ≡ option_map (λ x. x.job) ready) × (self.new.site.entries ≡ self.old.site.entries) × (fault.cause ≡ TurnCause.NoMemory) × (shown_in K.shown self.new.site.keeper ≡ shown_in K.shown self.old.site.keeper)) }
+    {
+        match self.site.do_job(wire, ready) {
+            Err(job) => Err(TurnFault {
+                cause: TurnCause::NoMemory,
+                job: Some(job),
+            }),
+            Ok(receipt) => {
+                let applied = self.site.receive_all(wire, self.alloc);
+                let posted = self.site.send_all(wire, self.alloc);
+                Ok(TurnReport {
+                    receipt,
+                    applied,
+                    posted,
+                })
+            }
+        }
+    }
+
+    /// The keeper, the seat and the list of steps.
+    pub fn finish(self) -> (Option<K>, Seat, Vec<Entry>)
+        ensures { (result.0 ≡ self.site.keeper) × (result.1 ≡ self.site.seat) × (result.2 ≡ self.site.entries) }
+    {
+        let SiteTurn { site, .. } = self;
+        let Site {
+            keeper,
+            seat,
+            entries,
+            ..
+        } = site;
+        (keeper, seat, entries)
+    }
+}
+
+/// Why a site that couldn't be opened makes no turn.
+pub(crate) fn lost(fault: KeepFault) -> TurnCause
+    ensures { result ≡ lost fault }
+{
+    match fault {
+        KeepFault::NoMemory => TurnCause::NoMemory,
+        fault => TurnCause::Lost(fault),
+    }
+}
