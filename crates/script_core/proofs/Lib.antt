@@ -15,6 +15,7 @@ pub mod PumpLemmas
 pub mod ReachLists
 pub mod ReaderLemmas
 pub mod SessionLemmas
+pub mod SiteListLemmas
 pub mod TaskLemmas
 pub mod UpLemmas
 pub mod WholeLines

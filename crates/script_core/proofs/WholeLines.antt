@@ -14,7 +14,7 @@ parts_more p [] some = absurd (omega arith)
 parts_more p (q ∷ qs) some = refl
 
 -- the first line of a text ends at its first LF
-lines_at : (p rest : List ℕ) → IsWithinLine p → lines (p ++ 10 ∷ rest) ≡ strip_carriage_return p ∷ lines rest
+pub lines_at : (p rest : List ℕ) → IsWithinLine p → lines (p ++ 10 ∷ rest) ≡ strip_carriage_return p ∷ lines rest
 lines_at p rest within =
     ap lines_of_parts (slice_split_at is_newline p 10 rest within refl)
     ∙ parts_more p (slice_split is_newline rest) (omega (arith, length-slice_split is_newline rest))

@@ -18,6 +18,7 @@ pub mod Runs
 pub mod Script
 pub mod Sending
 pub mod Session
+pub mod SiteLists
 pub mod State
 pub mod Steps
 pub mod Streams

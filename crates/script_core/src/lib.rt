@@ -22,10 +22,12 @@ mod runs;
 mod scripts;
 mod sending;
 mod sessions;
+mod site_lists;
 mod stopping;
 mod streams;
 mod tallies;
 mod tasks;
+pub mod telling;
 #[cfg(test)]
 mod tests;
 mod texts;
@@ -34,5 +36,6 @@ mod writing;
 
 pub use faults::ScriptFault;
 pub use runs::run_script;
+pub use site_lists::{SiteList, read_sites};
 pub use tallies::Tally;
 pub use writing::write_text;

@@ -10,7 +10,7 @@ use event_json::SiteNo;
 const MOST_DIGITS: usize = 18;
 
 /// The number that 1 to 18 decimal digits write; zeros may lead.
-pub(crate) fn number_of(text: &str) -> Option<u64>
+pub fn number_of(text: &str) -> Option<u64>
     ensures { result ≡ number_of text.now }
 {
     if text.len() > MOST_DIGITS {
@@ -25,7 +25,7 @@ pub(crate) fn number_of(text: &str) -> Option<u64>
 
 /// The name of the site and the number that a recall is written with, as `A#1`.
 #[tactic(auto, unfolding(crate::specs::Numbers::recall_of))]
-pub(crate) fn recall_of(text: &str) -> Option<(&str, u64)>
+pub fn recall_of(text: &str) -> Option<(&str, u64)>
     ensures { option_map (λ r. (r.0.now, r.1)) result ≡ recall_of text.now }
 {
     let (name, number) = split_hash(text);

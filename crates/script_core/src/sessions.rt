@@ -174,7 +174,7 @@ impl Session {
 }
 
 /// The place of the first LF.
-fn line_end(bytes: &[u8]) -> Option<usize>
+pub(crate) fn line_end(bytes: &[u8]) -> Option<usize>
     ensures none { IfNone result (IsWithinLine bytes.now) }
     ensures some { IfSome result (λ end. EndsAt bytes.now end) }
 {
@@ -182,7 +182,7 @@ fn line_end(bytes: &[u8]) -> Option<usize>
 }
 
 /// How many bytes of a line that was ended by LF are its content: one CR at its end goes.
-fn content_len(line: &[u8]) -> usize
+pub(crate) fn content_len(line: &[u8]) -> usize
     ensures within { result ≤ length line.now }
     ensures content { take result line.now ≡ strip_carriage_return line.now }
 {

@@ -13,19 +13,15 @@ use site_core::{Effects, Refusal};
 use std::alloc::{AllocError, Global};
 use trace_core::Pair;
 
-/// The name of a site.
-pub(crate) fn name_of(sites: &Sites, site: SiteNo) -> &str
+/// The name of a site, empty where there is none of this number.
+pub fn name_of(sites: &Sites, site: SiteNo) -> &str
     ensures { result.now ≡ name_at sites.now site }
 {
     sites.name(site).unwrap_or("")
 }
 
 /// A recall, as `A#1`.
-pub(crate) fn recall_text(
-    alloc: Global,
-    sites: &Sites,
-    recall: RecallId,
-) -> Result<String, AllocError>
+pub fn recall_text(alloc: Global, sites: &Sites, recall: RecallId) -> Result<String, AllocError>
     ensures { IfOk result (λ t. string_bytes t ≡ recall_text sites.now recall) }
 {
     let name = name_of(sites, recall.site);
@@ -46,8 +42,8 @@ pub(crate) fn message_text(
     format!(in alloc; "{name}.{number}")
 }
 
-/// Whether a recall has ended.
-fn ended_word(ended: bool) -> &'static str
+/// Whether a recall has ended, as `ended` or `open`.
+pub fn ended_word(ended: bool) -> &'static str
     ensures { result.now ≡ ended_word ended }
 {
     if ended { "ended" } else { "open" }
@@ -61,7 +57,7 @@ fn owed_word(owed: bool) -> &'static str
 }
 
 /// What a step did; of a frame the message that it is about is told.
-pub(crate) fn effects_text(
+pub fn effects_text(
     alloc: Global,
     sites: &Sites,
     about: &str,
@@ -177,11 +173,7 @@ fn end_text(
 }
 
 /// Why a step was refused.
-pub(crate) fn refusal_text(
-    alloc: Global,
-    sites: &Sites,
-    why: &Refusal,
-) -> Result<String, AllocError>
+pub fn refusal_text(alloc: Global, sites: &Sites, why: &Refusal) -> Result<String, AllocError>
     ensures { IfOk result (λ t. string_bytes t ≡ refusal_text sites.now why.now) }
 {
     match why {
@@ -300,8 +292,13 @@ pub(crate) fn pair_lines(alloc: Global, sites: &Sites, pairs: &[Pair]) -> Result
     Ok(text)
 }
 
-/// Adds the line of a pair to a text.
-fn push_pair(alloc: Global, text: &mut String, sites: &Sites, pair: &Pair) -> Result<(), AllocError>
+/// Adds the line of a pair to a text. Where memory runs out, nothing is said of the text.
+pub fn push_pair(
+    alloc: Global,
+    text: &mut String,
+    sites: &Sites,
+    pair: &Pair,
+) -> Result<(), AllocError>
     ensures { OnOk result (string_bytes text.new ≡ string_bytes text.old ++ pair_text sites.now pair.now) }
 {
     let name = name_of(sites, pair.site);

@@ -1,0 +1,6 @@
+pub mod Answers
+pub mod Audits
+pub mod Faults
+pub mod Folders
+pub mod Reports
+pub mod Steps

@@ -1,0 +1,59 @@
+//! What a command on the sites' files answers.
+
+ghost use Rattle.std.specs.Prelude.{◌≡◌, IfOk, string_bytes};
+ghost use Rattle.site_commands.specs.Answers.{IsAnswer, answer_status, answer_text, refusal_line};
+
+use std::alloc::{AllocError, Global};
+
+/// What a command on the sites' files answers: a text for the standard output.
+#[derive(Debug, Drop)]
+pub enum Answer {
+    /// All was done.
+    Done(String),
+    /// It was refused; the text has a line for each refusal.
+    Refused(String),
+    /// It was done, and showed that the records of the sites don't fit together, or that what is quarantined
+    /// differs from what is to be.
+    Amiss(String),
+}
+
+impl Answer {
+    /// A refusal.
+    pub(crate) fn refusal(alloc: Global, what: &str) -> Result<Answer, AllocError>
+        ensures is { IfOk result (λ a. answer_text a ≡ refusal_line what.now) }
+        ensures status { IfOk result (λ a. answer_status a ≡ 1) }
+        ensures sound { IfOk result IsAnswer }
+    {
+        Ok(Answer::Refused(format!(in alloc; "refused {what}\n")?))
+    }
+
+    /// The refusal of a site that isn't listed.
+    pub(crate) fn no_site(alloc: Global, name: &str) -> Result<Answer, AllocError>
+        ensures sound { IfOk result IsAnswer }
+    {
+        let what = format!(in alloc; "NoSite {name}")?;
+        Answer::refusal(alloc, what.as_str())
+    }
+
+    /// The text, of whole lines.
+    pub fn text(&self) -> &str
+        ensures { result.now ≡ answer_text self.now }
+    {
+        match self {
+            Answer::Done(text) => text.as_str(),
+            Answer::Refused(text) => text.as_str(),
+            Answer::Amiss(text) => text.as_str(),
+        }
+    }
+
+    /// The status of a program that ends with it: 0 done, 1 refused, 4 amiss.
+    pub fn status(&self) -> u8
+        ensures { result ≡ answer_status self.now }
+    {
+        match self {
+            Answer::Done(_) => 0,
+            Answer::Refused(_) => 1,
+            Answer::Amiss(_) => 4,
+        }
+    }
+}

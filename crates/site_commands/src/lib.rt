@@ -1,0 +1,22 @@
+//! Commands on the files of the sites in a folder: making them, capturing, starting a recall, reports and audits.
+//!
+//! The files themselves stand behind the trait [`Files`].
+#![tactic(auto)]
+
+mod answers;
+mod audits;
+mod faults;
+mod folders;
+mod making;
+mod reports;
+mod steps;
+#[cfg(test)]
+mod tests;
+
+pub use answers::Answer;
+pub use audits::{audit_of, audit_sites};
+pub use faults::Fault;
+pub use folders::Files;
+pub use making::init;
+pub use reports::{report_of, report_recall};
+pub use steps::{capture, start, step};
