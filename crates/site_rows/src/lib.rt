@@ -10,6 +10,7 @@ mod numbers;
 mod recall_rows;
 mod rows;
 mod step_changes;
+mod tables;
 mod texts;
 mod writing;
 
@@ -19,5 +20,6 @@ pub use rows::{
     SiteRow, StoreRow,
 };
 pub use step_changes::changes_of;
+pub use tables::Table;
 pub use texts::Text;
 pub use writing::rows_of;
