@@ -19,6 +19,7 @@ mod reading_tests;
 mod recall_rows;
 mod rows;
 mod step_changes;
+mod tables;
 #[cfg(test)]
 mod tests;
 mod texts;
@@ -30,5 +31,6 @@ pub use rows::{
     SiteRow, StoreRow,
 };
 pub use step_changes::changes_of;
+pub use tables::Table;
 pub use texts::Text;
 pub use writing::rows_of;
