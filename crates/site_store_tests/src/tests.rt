@@ -85,13 +85,10 @@ fn number<S: Alter>(conn: &mut Connection<S>, text: &str) -> Result<i64, Error> 
 /// Makes the tables of a site that has captured nothing.
 fn create<S: Alter>(alloc: Global, conn: &mut Connection<S>) -> Result<bool, Fail> {
     let rows = rows_of(alloc, &fresh(alloc)?)?;
-    let Some(row) = rows.store.as_slice().first() else {
-        return Ok(false);
-    };
     if !conn.is_autocommit() {
         return Ok(false);
     }
-    create_site(conn, row, rows.site.as_slice(), rows.address.as_slice())?;
+    create_site(conn, &rows)?;
     Ok(true)
 }
 

@@ -1,19 +1,37 @@
 -- What a query over a whole table answers.
-use Rattle.std.proofs.Common.{◌++◌, Bool, ◌≡◌, ℕ, ◌^◌, ◌-◌, List, [], ◌∷◌, map, true, false, None, slice_get, unwrap_or, nat_le, if◌then◌else◌, refl, ap, subst, ◌∙◌}
+use Rattle.std.proofs.Common.{◌++◌, Bool, ◌≡◌, ℕ, ◌+◌, ◌<◌, length, get_or, arith, ◌^◌, ◌-◌, List, [], ◌∷◌, map, true, false, None, slice_get, unwrap_or, nat_le, if◌then◌else◌, refl, sym, ap, ap₂, subst, subst₂, suc, ◌∙◌}
 use Rattle.std.specs.List.{flat_map, filter, list_all}
 use Rattle.sqlite_sql.specs.Term.{holds}
 use Rattle.std.specs.List.Sorted.{IsPermutation, IsSorted}
-use Rattle.std.proofs.lemmas.List.Sorted.{IsPermutation-map}
+use Rattle.std.proofs.lemmas.List.Sorted.{IsPermutation-map, All-permutation}
+use Rattle.std.proofs.lemmas.List.{get_or-map}
+use Rattle.std.proofs.lemmas.List.Elements.{All-from_recursion}
+use Rattle.std.specs.List.{AllByRecursion}
+use Rattle.sqlite_value.specs.Keys.{ascending}
+use Rattle.sqlite.specs.Collation.TheVariants.{Binary}
 use Rattle.std.proofs.lemmas.List.Concat.{flat_map_single}
 use Rattle.sqlite_trees.proofs.ListLemmas.{map-map}
+use Rattle.sqlite.specs.declared.types.Value.TheVariants.{Null}
 use Rattle.sqlite.specs.Order.{Row}
-use Rattle.sqlite.specs.Term.{Term, eval_all}
+use Rattle.sqlite.specs.Term.{Term, col, eval_all}
+use Rattle.sqlite_sql.specs.Term.{eval}
 use Rattle.sqlite.specs.Query.{Query, IsAnswer, output, Output}
-use Rattle.sqlite_sql.specs.Query.{output_cmp}
+use Rattle.sqlite_sql.specs.Query.{output_cmp, key_cmp}
+use Rattle.std.specs.Ordering.{is_lt}
 use Rattle.sqlite_sql.specs.Program.{overlay}
 use Rattle.sqlite_value.specs.declared.keys.Key.{Key}
+use Rattle.sqlite.specs.Table.{Table}
 use Rattle.sqlite.specs.Tree.{Trees}
-use Rattle.site_tables.specs.Commands.{over_all}
+use Rattle.sqlite.specs.State.{State, Shown, IsUnchanged, Survives, CommitsShowing}
+use Rattle.sqlite.specs.Effect.{Database}
+use Rattle.sqlite.proofs.StateLemmas.{survives_weaker}
+use Rattle.sqlite.specs.Listing.{understood, reads_listing}
+use Rattle.sqlite.proofs.Callers.{IsPlain, command_of, reads_as, never_commits}
+use Rattle.sqlite_schema.specs.Names.{place_of}
+use Rattle.site_tables.specs.Tables.{site_schema}
+use Rattle.site_tables.specs.TableRows.{visible, key_of}
+use Rattle.site_tables.specs.Reads.{key_order, IsListed, Selects}
+use Rattle.site_tables.specs.Commands.{over_all, places, by_key, selects_all}
 
 -- the answer's rows are those of the tree in the query's order, each as the query shows it
 pub record IsWhole (q : Query) (tree : List Row) (params : Row) (rows : List Row) : Type 0 where
@@ -38,6 +56,73 @@ pub shows_all : (q : Query) (tree : List Row) (params : Row) (rows : List Row) �
 shows_all q tree params rows a =
     rw a.shown (subst (λ shown. IsPermutation shown (map (λ o. o.1) a.ordered)) (map-map (λ (o : Output). o.1) (λ r. output q (params ∷ r ∷ [])) tree)
     (IsPermutation-map (λ (o : Output). o.1) (map (λ r. output q (params ∷ r ∷ [])) tree) a.ordered a.same))
+
+map_alike : {A B : Type 0} (f h : A → B) (xs : List A) → ((x : A) → f x ≡ h x) → map f xs ≡ map h xs
+map_alike f h [] same = refl
+map_alike f h (x ∷ xs) same = ap₂ ◌∷◌ (same x) (map_alike f h xs same)
+
+as_visible : (table : Table) (params row : Row) → eval_all (by_key table).project (params ∷ row ∷ []) ≡ visible table row
+as_visible table params row = map-map (λ t. eval t (params ∷ row ∷ [])) (λ at. col 1 (place_of table at)) (places table)
+
+pub reads_whole : (table : Table) (sql : List ℕ) → Selects table sql
+    → (old new : State) (rows : List Row) → old.now.schema ≡ site_schema → Shown sql [] old new rows → IsWhole (by_key table) (old.now.trees table.tree) [] rows
+reads_whole table sql is old new rows has h =
+    let read = reads_as sql [] old new site_schema has (selects_all table) is.command is.plain is.listing rows h in
+    whole_answer table.tree _ _ old.now.trees [] rows (read.answer Null)
+
+abbrev IsKeyed : Table → Type 0
+IsKeyed table = (row : Row) → (output (by_key table) ([] ∷ row ∷ [])).0 ≡ key_of table (visible table row)
+
+abbrev IsPaired : Table → Output → Type 0
+IsPaired table o = o.0 ≡ key_of table o.1
+
+paired : (table : Table) → IsKeyed table → (tree : List Row) → AllByRecursion (IsPaired table) (map (λ r. output (by_key table) ([] ∷ r ∷ [])) tree)
+paired table keyed [] = tt
+paired table keyed (r ∷ tree) = (keyed r ∙ ap (key_of table) (sym (as_visible table [] r)), paired table keyed tree)
+
+as_many : (ordered : List Output) → length (map (λ (o : Output). o.1) ordered) ≡ length ordered
+as_many [] = refl
+as_many (o ∷ ordered) = ap suc (as_many ordered)
+
+shown_at : (ordered : List Output) (k : ℕ) (d : Row) → k < length ordered → get_or (map (λ (o : Output). o.1) ordered) k d ≡ (get_or ordered k ([], d)).1
+shown_at ordered k d low = get_or-map (λ (o : Output). o.1) ordered k ([], d) d low
+
+rows_sorted : (table : Table) → IsKeyed table → (tree rows : List Row) → IsWhole (by_key table) tree [] rows → IsSorted (key_order table) rows
+rows_sorted table keyed tree rows a =
+    let f = λ (r : Row). output (by_key table) ([] ∷ r ∷ []) in
+    let all = All-permutation (IsPaired table) (map f tree) a.ordered a.same (All-from_recursion (IsPaired table) (map f tree) (paired table keyed tree)) in
+    let ks = map (λ (_ : ℕ). ascending Binary) table.primary in
+    let keys = map-map (λ (x : Term × Key). x.1) (λ p. (col 1 p, ascending Binary)) table.primary in
+    subst (IsSorted (key_order table)) (sym a.shown) (λ k d low high.
+    let here : k + 1 < length a.ordered = subst (λ (n : ℕ). k + 1 < n) (as_many a.ordered) high in
+    let near : k < length a.ordered = omega (arith, here) in
+    let e : Output = ([], d) in
+    subst₂ (λ u v. is_lt (key_cmp 0 ks u v) ≡ false) (all (k + 1) e here ∙ ap (key_of table) (sym (shown_at a.ordered (k + 1) d here))) (all k e near ∙ ap (key_of table) (sym (shown_at a.ordered k d near)))
+    (subst (λ by. is_lt (key_cmp 0 by (get_or a.ordered (k + 1) e).0 (get_or a.ordered k e).0) ≡ false) keys (a.sorted k e low here)))
+
+pub reads_table : (table : Table) → (sql : List ℕ) → Selects table sql
+    → (old new : State) (rows : List Row) → old.now.schema ≡ site_schema → Shown sql [] old new rows → IsListed table (old.now.trees table.tree) rows
+reads_table table sql is old new rows has h =
+    let tree = old.now.trees table.tree in
+    let whole = reads_whole table sql is old new rows has h in
+    record {
+      same = subst (λ shown. IsPermutation shown rows) (map_alike (λ r. eval_all (by_key table).project ([] ∷ r ∷ [])) (visible table) tree (λ r. as_visible table [] r)) (shows_all (by_key table) tree [] rows whole);
+      sorted = rows_sorted table is.keyed tree rows whole;
+    }
+
+-- ---- a query that is read one row at a time
+
+pub plain_at : (sql : List ℕ) → IsPlain (understood site_schema sql) → (s : State) → s.now.schema ≡ site_schema → IsPlain (understood s.now.schema sql)
+plain_at sql plain s has = rw has plain
+
+pub commits_nothing : (sql : List ℕ) (params : Row) (old new : State) → IsPlain (understood old.now.schema sql) → Survives old new (CommitsShowing sql params old) → Survives old new (λ _. ⊥)
+commits_nothing sql params old new plain = survives_weaker old new _ _ (λ _ db. never_commits sql params old db plain)
+
+-- the query answered over a state that is the first one still
+pub reads_still : (table : Table) → (sql : List ℕ) → Selects table sql
+    → (first old new : State) (rows : List Row) → first.now.schema ≡ site_schema → IsUnchanged first old → Shown sql [] old new rows → IsListed table (first.now.trees table.tree) rows
+reads_still table sql is first old new rows has same h =
+    subst (λ (d : Database). IsListed table (d.trees table.tree) rows) same.0.now_is (reads_table table sql is old new rows (ap (λ (d : Database). d.schema) same.0.now_is ∙ has) h)
 
 -- ---- a query with conditions
 

@@ -1,9 +1,13 @@
 pub mod Answered
 pub mod Applied
+pub mod Columns
 pub mod Committed
 pub mod Created
+pub mod Declared
 pub mod Folded
 pub mod Inserted
+pub mod Leading
+pub mod Listed
 pub mod MadeTables
 pub mod Meanings
 pub mod Order
@@ -13,6 +17,7 @@ pub mod Renewed
 pub mod RowLemmas
 pub mod Steps
 pub mod Tables
+pub mod Terms
 pub mod Updated
 pub mod Upserted
 pub mod Whole

@@ -8,6 +8,7 @@ use Rattle.site_tables.specs.Made.{with_store, with_site, with_address, with_eve
 use Rattle.site_tables.specs.Tables.{store, site, address, event, part, quarantine, outbox, seen, parent, recall, no_schema, site_schema}
 use Rattle.site_tables.specs.Texts as text
 use Rattle.site_tables.specs.Commands.{inserts_row, deletes_key, upserts_row, updates_each}
+use Rattle.site_tables.specs.Reads.{Selects}
 use Rattle.site_tables.proofs.Created.{IsMade}
 
 pub create_store_is : IsMade text.create_store no_schema (record store { tree = 0 })
@@ -104,3 +105,51 @@ delete_parent_is = (refl, (refl, refl))
 pub update_store_is : (command_of (understood site_schema text.update_store) ≡ updates_each 0 store (col 1 2 ∷ col 1 3 ∷ col 0 0 ∷ col 0 1 ∷ [])) × IsPlain (understood site_schema text.update_store)
 unfolding understood everything
 update_store_is = (refl, (refl, refl))
+
+pub select_store_is : Selects store text.select_store
+unfolding understood everything
+select_store_is = record { command = refl; plain = (refl, refl); listing = refl; keyed = λ _. refl }
+
+pub select_site_is : Selects site text.select_site
+unfolding understood everything
+select_site_is = record { command = refl; plain = (refl, refl); listing = refl; keyed = λ _. refl }
+
+pub select_address_is : Selects address text.select_address
+unfolding understood everything
+select_address_is = record { command = refl; plain = (refl, refl); listing = refl; keyed = λ _. refl }
+
+pub select_event_is : Selects event text.select_event
+unfolding understood everything
+select_event_is = record { command = refl; plain = (refl, refl); listing = refl; keyed = λ _. refl }
+
+pub select_part_is : Selects part text.select_part
+unfolding understood everything
+select_part_is = record { command = refl; plain = (refl, refl); listing = refl; keyed = λ _. refl }
+
+pub select_quarantine_is : Selects quarantine text.select_quarantine
+unfolding understood everything
+select_quarantine_is = record { command = refl; plain = (refl, refl); listing = refl; keyed = λ _. refl }
+
+pub select_outbox_is : Selects outbox text.select_outbox
+unfolding understood everything
+select_outbox_is = record { command = refl; plain = (refl, refl); listing = refl; keyed = λ _. refl }
+
+pub select_seen_is : Selects seen text.select_seen
+unfolding understood everything
+select_seen_is = record { command = refl; plain = (refl, refl); listing = refl; keyed = λ _. refl }
+
+pub select_parent_is : Selects parent text.select_parent
+unfolding understood everything
+select_parent_is = record { command = refl; plain = (refl, refl); listing = refl; keyed = λ _. refl }
+
+pub select_recall_is : Selects recall text.select_recall
+unfolding understood everything
+select_recall_is = record { command = refl; plain = (refl, refl); listing = refl; keyed = λ _. refl }
+
+pub insert_outbox_is : (command_of (understood site_schema text.insert_outbox) ≡ inserts_row 6 outbox) × IsPlain (understood site_schema text.insert_outbox)
+unfolding understood everything
+insert_outbox_is = (refl, (refl, refl))
+
+pub insert_recall_is : (command_of (understood site_schema text.insert_recall) ≡ inserts_row 9 recall) × IsPlain (understood site_schema text.insert_recall)
+unfolding understood everything
+insert_recall_is = (refl, (refl, refl))

@@ -103,6 +103,12 @@ seen_shows a b c d tree = rw (cast_int a, cast_int b, cast_int c, cast_int d, ca
 pub parent_shows : (a : ℤ) (b : ℤ) (c : ℤ) (d : ℤ) (tree : List Row) → let row = Int a ∷ Int b ∷ Int c ∷ Int d ∷ [] in visible parent (with_rowid Chosen tree (cast_row parent (source_of parent row))) ≡ row
 parent_shows a b c d tree = rw (cast_int a, cast_int b, cast_int c, cast_int d, cast_null) refl
 
+pub outbox_shows : (a : ℤ) (b : ℤ) (c : ℤ) (d : ℤ) (e : List ℕ) (tree : List Row) → let row = Int a ∷ Int b ∷ Int c ∷ Int d ∷ Text e ∷ [] in visible outbox (with_rowid Chosen tree (cast_row outbox (source_of outbox row))) ≡ row
+outbox_shows a b c d e tree = rw (cast_int a, cast_int b, cast_int c, cast_int d) refl
+
+pub recall_shows : (a : ℤ) (b : List ℕ) (c : ℤ) (tree : List Row) → let row = Int a ∷ Text b ∷ Int c ∷ [] in visible recall (with_rowid Chosen tree (cast_row recall (source_of recall row))) ≡ row
+recall_shows a b c tree = rw (cast_int a, cast_int c) refl
+
 -- the test of a key is SQL's = of the rowid and the number
 alone : (b : Bool) → ((b && true) || false) ≡ b
 alone true = refl

@@ -125,8 +125,8 @@ store_in_all f of is a b r p = record {
   crash = p.crash;
 }
 
-pub row_added : (row : StoreRow) (rows : List StoreRow) → map store_values rows ++ store_values row ∷ [] ≡ map store_values (rows ++ row ∷ [])
-row_added row rows = sym (map-append store_values rows (row ∷ []))
+pub rows_added : (more rows : List StoreRow) → map store_values rows ++ map store_values more ≡ map store_values (rows ++ more)
+rows_added more rows = sym (map-append store_values rows more)
 
 pub all_then : {X Y : Type 0} (f h : Contents → Contents) (a b c : State) (q : Result X Error) (x : X) (r : Result Y Error) → q ≡ Ok x → WritesAll f a b q → WritesAll h b c r → WritesAll (λ rows. h (f rows)) a c r
 all_then f h a b c (Err e) x r ok p q = absurd cc

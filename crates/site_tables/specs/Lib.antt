@@ -1,6 +1,10 @@
+pub mod AllReads
 pub mod Changed
 pub mod Commands
+pub mod Filled
+pub mod Known
 pub mod Made
+pub mod Reads
 pub mod Stored
 pub mod TableRows
 pub mod Tables

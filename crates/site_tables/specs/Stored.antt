@@ -6,8 +6,6 @@ use Rattle.sqlite.specs.State.{State, HasCleanDisk, KeepsCommit, Survives}
 use Rattle.sqlite.specs.declared.error.Error.{Error}
 use Rattle.site_rows.specs.declared.rows.Rows.{Rows}
 use Rattle.site_rows.specs.declared.rows.StoreRow.{StoreRow}
-use Rattle.site_rows.specs.declared.rows.SiteRow.{SiteRow}
-use Rattle.site_rows.specs.declared.rows.AddressRow.{AddressRow}
 use Rattle.site_tables.specs.Tables.{store, site, address, event, part, quarantine, outbox, seen, parent, recall, site_schema}
 use Rattle.site_tables.specs.TableRows.{HasRows, GoesOn}
 use Rattle.site_tables.specs.Values.{store_values, site_values, address_values, event_values, part_values, quarantine_values, outbox_values, seen_values, parent_values, recall_values}
@@ -80,7 +78,3 @@ pub record WritesAll {X : Type 0} (change : Contents → Contents) (old new : St
 
 abbrev pub no_rows : Contents
 no_rows = record { store = []; site = []; address = []; event = []; part = []; quarantine = []; outbox = []; seen = []; parent = []; recall = [] }
-
--- with the rows of a site that was made just now
-abbrev pub begun : StoreRow → List SiteRow → List AddressRow → Contents → Contents
-begun row sites addresses rows = record rows { store = rows.store ++ row ∷ []; site = rows.site ++ map site_values sites; address = rows.address ++ map address_values addresses }

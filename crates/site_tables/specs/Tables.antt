@@ -14,7 +14,7 @@ use Rattle.sqlite_schema.specs.declared.schema.Reference.{Reference}
 use Rattle.sqlite_schema.specs.declared.schema.Action.TheVariants.{NoAction}
 use Rattle.sqlite_catalog.specs.Listing.{automatic}
 
-abbrev column_of : List ℕ → Kind → Bool → Column
+abbrev pub column_of : List ℕ → Kind → Bool → Column
 column_of name kind required = record { name = name; kind = kind; is_strict = true; not_null = required; default = Null; collation = Binary }
 
 abbrev pub number : List ℕ → Column

@@ -69,3 +69,39 @@ delete_parent = codes "DELETE FROM parent WHERE recall_site = ?1 AND recall_no =
 
 abbrev pub update_store : List ℕ
 update_store = codes "UPDATE store SET next_message = ?1, next_recall = ?2"
+
+abbrev pub select_store : List ℕ
+select_store = codes "SELECT one, version, me, next_message, next_recall FROM store ORDER BY one"
+
+abbrev pub select_site : List ℕ
+select_site = codes "SELECT no, name FROM site ORDER BY no"
+
+abbrev pub select_address : List ℕ
+select_address = codes "SELECT text, site, place FROM address ORDER BY text"
+
+abbrev pub select_event : List ℕ
+select_event = codes "SELECT no, id, seconds, nanos, kind, make_id FROM event ORDER BY no"
+
+abbrev pub select_part : List ℕ
+select_part = codes "SELECT event, role, place, text FROM part ORDER BY event, role, place"
+
+abbrev pub select_quarantine : List ℕ
+select_quarantine = codes "SELECT recall_site, recall_no, item FROM quarantine ORDER BY recall_site, recall_no, item"
+
+abbrev pub select_outbox : List ℕ
+select_outbox = codes "SELECT number, dest, recall_site, recall_no, item FROM outbox ORDER BY number"
+
+abbrev pub select_seen : List ℕ
+select_seen = codes "SELECT sender, number, recall_site, recall_no FROM seen ORDER BY sender, number"
+
+abbrev pub select_parent : List ℕ
+select_parent = codes "SELECT recall_site, recall_no, sender, number FROM parent ORDER BY recall_site, recall_no"
+
+abbrev pub select_recall : List ℕ
+select_recall = codes "SELECT number, root, ended FROM recall ORDER BY number"
+
+abbrev pub insert_outbox : List ℕ
+insert_outbox = codes "INSERT INTO outbox (number, dest, recall_site, recall_no, item) VALUES (?1, ?2, ?3, ?4, ?5)"
+
+abbrev pub insert_recall : List ℕ
+insert_recall = codes "INSERT INTO recall (number, root, ended) VALUES (?1, ?2, ?3)"

@@ -2,14 +2,15 @@
 ghost use Rattle.std.specs.Prelude.{◌≡◌, ◌+◌, [], ◌∷◌, min, IfErr};
 ghost use Rattle.sqlite.specs.State.{HasCleanDisk};
 ghost use Rattle.sqlite.specs.Held.{state};
-ghost use Rattle.site_tables.specs.Tables.{store, site, address, event, part, quarantine, seen, parent};
+ghost use Rattle.site_tables.specs.Tables.{store, site, address, event, part, quarantine, outbox, seen, parent, recall};
 ghost use Rattle.site_tables.specs.TableRows.{Writes, adds, FailsInside};
 ghost use Rattle.site_tables.specs.Texts as text;
-ghost use Rattle.site_tables.specs.Values.{store_values, site_values, address_values, event_values, part_values, quarantine_values, seen_values, parent_values};
+ghost use Rattle.site_tables.specs.Values.{store_values, site_values, address_values, event_values, part_values, quarantine_values, outbox_values, seen_values, parent_values, recall_values};
 
 use crate::counting::count_one;
 use site_rows::{
-    AddressRow, EventRow, ParentRow, PartRow, QuarantineRow, SeenRow, SiteRow, StoreRow, Text,
+    AddressRow, EventRow, OutboxRow, ParentRow, PartRow, QuarantineRow, RecallRow, SeenRow,
+    SiteRow, StoreRow, Text,
 };
 use sqlite::types::{ToSql, ValueRef};
 use sqlite::{Alter, Error, Transaction, params};
@@ -191,5 +192,49 @@ pub fn insert_parent<S: Alter>(
     tx.execute(
         "INSERT INTO parent (recall_site, recall_no, sender, number) VALUES (?1, ?2, ?3, ?4)",
         params![&row.recall_site, &row.recall_no, &row.sender, &row.number],
+    )
+}
+
+/// Inserts the row into `outbox`.
+pub fn insert_outbox<S: Alter>(
+    tx: &mut Transaction<'_, S>,
+    row: &OutboxRow,
+    written: &mut u64,
+) -> Result<usize, Error>
+    ensures same_reference { tx.new.conn.ghost_name ≡ tx.old.conn.ghost_name }
+    ensures wrote { Writes outbox (adds (outbox_values row.now ∷ [])) (state S.Store tx.old.conn.now) (state S.Store tx.new.conn.now) result }
+    ensures cause { HasCleanDisk (state S.Store tx.new.conn.now) → IfErr result (FailsInside S.Store text.insert_outbox tx.old.conn.now tx.new.conn.now) }
+    ensures counted { written.new ≡ min 18_446_744_073_709_551_615 (written.old + 1) }
+{
+    count_one(written);
+    let item = row.item.as_str();
+    tx.execute(
+        "INSERT INTO outbox (number, dest, recall_site, recall_no, item) VALUES (?1, ?2, ?3, ?4, ?5)",
+        params![
+            &row.number,
+            &row.dest,
+            &row.recall_site,
+            &row.recall_no,
+            item
+        ],
+    )
+}
+
+/// Inserts the row into `recall`.
+pub fn insert_recall<S: Alter>(
+    tx: &mut Transaction<'_, S>,
+    row: &RecallRow,
+    written: &mut u64,
+) -> Result<usize, Error>
+    ensures same_reference { tx.new.conn.ghost_name ≡ tx.old.conn.ghost_name }
+    ensures wrote { Writes recall (adds (recall_values row.now ∷ [])) (state S.Store tx.old.conn.now) (state S.Store tx.new.conn.now) result }
+    ensures cause { HasCleanDisk (state S.Store tx.new.conn.now) → IfErr result (FailsInside S.Store text.insert_recall tx.old.conn.now tx.new.conn.now) }
+    ensures counted { written.new ≡ min 18_446_744_073_709_551_615 (written.old + 1) }
+{
+    count_one(written);
+    let root = row.root.as_str();
+    tx.execute(
+        "INSERT INTO recall (number, root, ended) VALUES (?1, ?2, ?3)",
+        params![&row.number, root, &row.ended],
     )
 }

@@ -1,13 +1,34 @@
 //! The tables of a site in a database: made, read, and what a step changes written in one transaction.
 #![tactic(auto)]
 
+mod all_rows;
+mod beginning;
 mod counting;
 mod create;
+mod faults;
 mod in_turn;
+mod in_turn_all;
 mod inserts;
+mod keeping;
+mod known_checks;
+mod known_columns;
+mod known_parts;
+mod known_tables;
+mod reads;
 mod replacing;
 mod step;
+mod stored;
+mod stored_events;
+mod stored_messages;
+mod stored_recalls;
+mod stored_sites;
 mod trying;
 
-pub use step::{create_site, store_changes};
+pub use all_rows::read_rows;
+pub use beginning::create_site;
+pub use faults::ReadFault;
+pub use keeping::keep_changes;
+pub use known_tables::is_site_schema;
+pub use reads::read_table;
+pub use step::store_changes;
 pub use trying::{Left, settled, try_changes};

@@ -1,21 +1,18 @@
-//! A site's tables made with the rows of the site, and the rows that a step changes, each in one transaction.
+//! The rows that a step changes, written in one transaction.
 ghost use Rattle.std.specs.Prelude.{◌≡◌, ◌+◌, false, length, min, IsTrue, IfErr, OnOk, OnErr};
 ghost use Rattle.sqlite.specs.Tree.{Trees};
 ghost use Rattle.sqlite.specs.State.{HasCleanDisk, IsUnchanged, Survives};
 ghost use Rattle.sqlite.specs.Held.{state};
 ghost use Rattle.site_tables.specs.Changed.{captured, recalled, signalled, renumbered, changed, rows_written, numbers_written};
-ghost use Rattle.site_tables.specs.Stored.{Contents, Holds, IsStored, IsStopped, WritesAll, begun, no_rows};
-ghost use Rattle.site_tables.specs.Tables.{no_schema};
+ghost use Rattle.site_tables.specs.Stored.{Contents, Holds, IsStored, IsStopped, WritesAll};
 
-use crate::create::create_tables;
 use crate::in_turn::{
-    delete_each_outbox, delete_each_parent, insert_each_address, insert_each_event,
-    insert_each_parent, insert_each_part, insert_each_quarantine, insert_each_seen,
-    insert_each_site, upsert_each_outbox, upsert_each_recall,
+    delete_each_outbox, delete_each_parent, insert_each_event, insert_each_parent,
+    insert_each_part, insert_each_quarantine, insert_each_seen, upsert_each_outbox,
+    upsert_each_recall,
 };
-use crate::inserts::insert_store;
 use crate::replacing::update_store;
-use site_rows::{AddressRow, RowChanges, SiteRow, StoreRow};
+use site_rows::RowChanges;
 use sqlite::{Alter, Connection, Error, Transaction};
 
 /// Writes the events and the members of their lists.
@@ -120,44 +117,5 @@ pub fn store_changes<S: Alter>(
 {
     let mut tx = conn.transaction();
     write_changes(&mut tx, changes, written)?;
-    tx.commit()
-}
-
-/// Writes the rows of a site that was made just now.
-fn write_begun<S: Alter>(
-    tx: &mut Transaction<'_, S>,
-    row: &StoreRow,
-    sites: &[SiteRow],
-    addresses: &[AddressRow],
-    written: &mut u64,
-) -> Result<(), Error>
-    ensures same_reference { tx.new.conn.ghost_name ≡ tx.old.conn.ghost_name }
-    ensures wrote { WritesAll (begun row.now sites.now addresses.now) (state S.Store tx.old.conn.now) (state S.Store tx.new.conn.now) result }
-{
-    insert_store(tx, row, written)?;
-    insert_each_site(tx, sites, written)?;
-    insert_each_address(tx, addresses, written)
-}
-
-/// Makes the tables with the rows of a site that has captured nothing yet, in one transaction, in an empty
-/// database.
-///
-/// # Errors
-/// The database's.
-pub fn create_site<S: Alter>(
-    conn: &mut Connection<S>,
-    row: &StoreRow,
-    sites: &[SiteRow],
-    addresses: &[AddressRow],
-) -> Result<(), Error>
-    requires outside { conn.old.in_transaction ≡ false }
-    ensures mode { conn.new.in_transaction ≡ false }
-    ensures stored { HasCleanDisk (state S.Store conn.new) → (state S.Store conn.old).now.schema ≡ no_schema
-        → OnOk result (IsStored (begun row.now sites.now addresses.now no_rows) (state S.Store conn.new)) }
-{
-    let mut written: u64 = 0;
-    let mut tx = conn.transaction();
-    create_tables(&mut tx)?;
-    write_begun(&mut tx, row, sites, addresses, &mut written)?;
     tx.commit()
 }

@@ -1,0 +1,20 @@
+use Rattle.std.proofs.Common.{List, ◌++◌, map}
+use Rattle.sqlite.specs.Held.{state}
+use Rattle.site_rows.specs.declared.rows.StoreRow.{StoreRow}
+use Rattle.site_tables.specs.TableRows.{adds}
+use Rattle.site_tables.specs.Values.{store_values, site_values, address_values}
+use Rattle.site_tables.proofs.Whole.{store_in_all, site_in_all, address_in_all, rows_added, all_then}
+use Rattle.site_tables.proofs.beginning.fill_sites.Goals as goal
+
+pub returns-clause-wrote : goal.returns-clause-wrote
+returns-clause-wrote g c =
+    let it = c.args.rows.now in
+    let s0 = state g.S.Store c.args.tx.now.conn.now in
+    let s1 = state g.S.Store c.insert_each_store.new.tx.conn.now in
+    let s2 = state g.S.Store c.insert_each_site.new.tx.conn.now in
+    let s3 = state g.S.Store c.insert_each_address.new.tx.conn.now in
+    let p1 = store_in_all (adds (map store_values it.store)) (λ (rows : List StoreRow). rows ++ it.store) (rows_added it.store) s0 s1 c.insert_each_store.result (rw c.as_slice.ensures at c.insert_each_store.ensures.wrote) in
+    let p2 = site_in_all (adds (map site_values it.site)) s1 s2 c.insert_each_site.result (rw c.as_slice-2.ensures at c.insert_each_site.ensures.wrote) in
+    let p3 = address_in_all (adds (map address_values it.address)) s2 s3 c.insert_each_address.result (rw c.as_slice-3.ensures at c.insert_each_address.ensures.wrote) in
+    let q2 = all_then _ _ s0 s1 s2 c.insert_each_store.result c.in_ok-insert_each_store.field-0 c.insert_each_site.result c.in_ok-insert_each_store.was p1 p2 in
+    all_then _ _ s0 s2 s3 c.insert_each_site.result c.in_ok-insert_each_site.field-0 c.insert_each_address.result c.in_ok-insert_each_site.was q2 p3

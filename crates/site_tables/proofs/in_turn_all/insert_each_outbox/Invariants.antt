@@ -1,0 +1,13 @@
+use Rattle.std.proofs.Common.{◌≡◌, ◌+◌, min, map, take}
+use Rattle.sqlite.specs.Held.{state}
+use Rattle.site_tables.specs.Values.{outbox_values}
+use Rattle.site_tables.specs.Tables.{outbox}
+use Rattle.site_tables.specs.TableRows.{HasWritten, adds}
+use Rattle.site_tables.proofs.in_turn_all.insert_each_outbox.Given as goal
+
+-- the reference stays, the elements so far are written, and each was counted
+abbrev pub invariant-loop-row : goal.invariant-loop-row
+invariant-loop-row g l =
+    (l.tx.conn.ghost_name ≡ l.fn.tx.conn.ghost_name)
+    × HasWritten outbox (adds (map outbox_values (take l.row-index l.rows))) (state g.S.Store l.fn.tx.conn.now) (state g.S.Store l.tx.conn.now)
+    × (l.written ≡ min 18_446_744_073_709_551_615 (l.fn.written + l.row-index))

@@ -1,0 +1,25 @@
+use Rattle.std.proofs.Common.{refl}
+use Rattle.sqlite.specs.State.{HasCleanDisk}
+use Rattle.sqlite.specs.Held.{state}
+use Rattle.site_tables.specs.Texts.{insert_outbox}
+use Rattle.site_tables.specs.Values.{outbox_values}
+use Rattle.site_tables.specs.Tables.{outbox}
+use Rattle.site_tables.proofs.Meanings.{insert_outbox_is}
+use Rattle.site_tables.proofs.Tables.{outbox_simple, outbox_shows}
+use Rattle.site_tables.proofs.Steps.{ran, inserts, fails_inside}
+use Rattle.site_tables.proofs.inserts.insert_outbox.Goals as goal
+
+pub returns-clause-wrote : goal.returns-clause-wrote
+returns-clause-wrote g c =
+    let it = c.execute.ensures in
+    let old = c.args.tx.now.conn.now in
+    let new = c.execute.new.self.conn.now in
+    let params = outbox_values c.args.row.now in
+    let runs = λ (clean : HasCleanDisk (state g.S.Store new)). rw (c.params-to_sql.ensures, c.params-to_sql-2.ensures, c.params-to_sql-3.ensures, c.params-to_sql-4.ensures, c.params-to_sql-5.ensures, c.as_str-item.ensures) at (it.runs clean) in
+    inserts 6 outbox outbox_simple insert_outbox insert_outbox_is params refl (outbox_shows _ _ _ _ _) (state g.S.Store old) (state g.S.Store new) c.execute.result
+    (ran g.S.Store insert_outbox params old new c.execute.result _ it.ended runs it.survives)
+
+pub returns-clause-cause : goal.returns-clause-cause
+returns-clause-cause g c clean =
+    let old = c.args.tx.now.conn.now in
+    fails_inside g.S.Store insert_outbox _ old old c.execute.new.self.conn.now (record { is_open = refl; committed = refl; mode = refl }) c.execute.result (c.execute.ensures.runs clean)

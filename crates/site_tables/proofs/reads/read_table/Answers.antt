@@ -1,0 +1,17 @@
+use Rattle.std.proofs.Common.{◌≡◌, List, map, IfOk, sym, ap, subst, ◌∙◌, rules}
+use Rattle.sqlite.specs.Held.{state}
+use Rattle.sqlite.specs.Order.{Row}
+use Rattle.site_tables.specs.Reads.{Selects, IsListed}
+use Rattle.site_tables.specs.Tables.{site_schema}
+use Rattle.site_tables.proofs.Listed.{read_listed, listed_is}
+use Rattle.site_tables.proofs.reads.read_table.Goals as goal
+
+pub returns-clause-rows : goal.returns-clause-rows
+returns-clause-rows g c clean =
+    let known : c.args.conn.now.schema ≡ site_schema = search rules in
+    let selects : Selects g.T.Stored.listed c.text.result.now = rw c.text.ensures.is c.text.ensures.selects in
+    let listed = read_listed g.S.Store g.T.Stored.listed g.T.Stored.shown c.text.result.now selects c.args.conn.now c.read_each.new.conn known c.read_each.result (c.read_each.ensures.rows clean) in
+    rw c.from_vec.ensures (rw c.in_ok-read_each.was at listed)
+
+pub returns-clause-exact : goal.returns-clause-exact
+returns-clause-exact g c clean held has strict = listed_is g.T.Stored.listed held _ _ has strict (returns-clause-rows g c clean)

@@ -1,0 +1,10 @@
+use Rattle.std.proofs.Common.{◌≡◌, length, Err, ap, rules, arith}
+use Rattle.sqlite_value.specs.Order.{column}
+use Rattle.site_tables.proofs.stored_recalls.recall_row_of.Goals as goal
+
+pub returns-in_err-root-clause-err : goal.returns-in_err-root-clause-err
+returns-in_err-root-clause-err c =
+    let same : c.from_residual-in_err-root.result ≡ Err c.in_err-root.field-0.0 = search rules in
+    let many : length c.args.row.now ≡ 3 = search rules in
+    rw same (λ other texts it is.
+    let shown = ap (λ r. column r 1) is in c.in_err-root.ensures.err (omega (arith, many)) other it.root shown (texts 1 it.root shown))

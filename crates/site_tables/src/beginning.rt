@@ -1,0 +1,98 @@
+//! A site's tables made, with the rows of the site, in one transaction.
+ghost use Rattle.std.specs.Prelude.{◌≡◌, false, OnOk};
+ghost use Rattle.sqlite.specs.State.{HasCleanDisk};
+ghost use Rattle.sqlite.specs.Held.{state};
+ghost use Rattle.site_tables.specs.Filled.{with_sites, with_events, with_messages, with_recalls, with_rows};
+ghost use Rattle.site_tables.specs.Stored.{IsStored, WritesAll, contents_of};
+ghost use Rattle.site_tables.specs.Tables.{no_schema};
+
+use crate::create::create_tables;
+use crate::in_turn::{
+    insert_each_address, insert_each_event, insert_each_parent, insert_each_part,
+    insert_each_quarantine, insert_each_seen, insert_each_site,
+};
+use crate::in_turn_all::{insert_each_outbox, insert_each_recall, insert_each_store};
+use site_rows::Rows;
+use sqlite::{Alter, Connection, Error, Transaction};
+
+/// Inserts the rows of the site itself, of all sites and of their addresses.
+fn fill_sites<S: Alter>(
+    tx: &mut Transaction<'_, S>,
+    rows: &Rows,
+    written: &mut u64,
+) -> Result<(), Error>
+    ensures same_reference { tx.new.conn.ghost_name ≡ tx.old.conn.ghost_name }
+    ensures wrote { WritesAll (with_sites rows.now) (state S.Store tx.old.conn.now) (state S.Store tx.new.conn.now) result }
+{
+    insert_each_store(tx, rows.store.as_slice(), written)?;
+    insert_each_site(tx, rows.site.as_slice(), written)?;
+    insert_each_address(tx, rows.address.as_slice(), written)
+}
+
+/// Inserts the rows of the captured events and of their lists.
+fn fill_events<S: Alter>(
+    tx: &mut Transaction<'_, S>,
+    rows: &Rows,
+    written: &mut u64,
+) -> Result<(), Error>
+    ensures same_reference { tx.new.conn.ghost_name ≡ tx.old.conn.ghost_name }
+    ensures wrote { WritesAll (with_events rows.now) (state S.Store tx.old.conn.now) (state S.Store tx.new.conn.now) result }
+{
+    insert_each_event(tx, rows.event.as_slice(), written)?;
+    insert_each_part(tx, rows.part.as_slice(), written)
+}
+
+/// Inserts the rows of what is quarantined and of messages.
+fn fill_messages<S: Alter>(
+    tx: &mut Transaction<'_, S>,
+    rows: &Rows,
+    written: &mut u64,
+) -> Result<(), Error>
+    ensures same_reference { tx.new.conn.ghost_name ≡ tx.old.conn.ghost_name }
+    ensures wrote { WritesAll (with_messages rows.now) (state S.Store tx.old.conn.now) (state S.Store tx.new.conn.now) result }
+{
+    insert_each_quarantine(tx, rows.quarantine.as_slice(), written)?;
+    insert_each_outbox(tx, rows.outbox.as_slice(), written)?;
+    insert_each_seen(tx, rows.seen.as_slice(), written)
+}
+
+/// Inserts the rows of parents and of own recalls.
+fn fill_recalls<S: Alter>(
+    tx: &mut Transaction<'_, S>,
+    rows: &Rows,
+    written: &mut u64,
+) -> Result<(), Error>
+    ensures same_reference { tx.new.conn.ghost_name ≡ tx.old.conn.ghost_name }
+    ensures wrote { WritesAll (with_recalls rows.now) (state S.Store tx.old.conn.now) (state S.Store tx.new.conn.now) result }
+{
+    insert_each_parent(tx, rows.parent.as_slice(), written)?;
+    insert_each_recall(tx, rows.recall.as_slice(), written)
+}
+
+/// Inserts the rows of all tables.
+fn fill<S: Alter>(tx: &mut Transaction<'_, S>, rows: &Rows, written: &mut u64) -> Result<(), Error>
+    ensures same_reference { tx.new.conn.ghost_name ≡ tx.old.conn.ghost_name }
+    ensures wrote { WritesAll (with_rows rows.now) (state S.Store tx.old.conn.now) (state S.Store tx.new.conn.now) result }
+{
+    fill_sites(tx, rows, written)?;
+    fill_events(tx, rows, written)?;
+    fill_messages(tx, rows, written)?;
+    fill_recalls(tx, rows, written)
+}
+
+/// Makes the tables with these rows, in one transaction, in an empty database.
+///
+/// # Errors
+/// The database's.
+pub fn create_site<S: Alter>(conn: &mut Connection<S>, rows: &Rows) -> Result<(), Error>
+    requires outside { conn.old.in_transaction ≡ false }
+    ensures mode { conn.new.in_transaction ≡ false }
+    ensures stored { HasCleanDisk (state S.Store conn.new) → (state S.Store conn.old).now.schema ≡ no_schema
+        → OnOk result (IsStored (contents_of rows.now) (state S.Store conn.new)) }
+{
+    let mut written: u64 = 0;
+    let mut tx = conn.transaction();
+    create_tables(&mut tx)?;
+    fill(&mut tx, rows, &mut written)?;
+    tx.commit()
+}
