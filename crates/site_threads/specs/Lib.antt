@@ -4,6 +4,7 @@ pub mod Jobs
 pub mod Keepers
 pub mod Offers
 pub mod Passing
+pub mod Playing
 pub mod Running
 pub mod Sites
 pub mod Stamps

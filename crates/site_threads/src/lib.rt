@@ -12,6 +12,8 @@ mod offers;
 mod passing;
 mod sites;
 mod stamps;
+#[cfg(test)]
+mod tests;
 mod turns;
 
 pub use desks::{Desk, DeskFault, DeskOut};

@@ -1,0 +1,138 @@
+//! A recall of two sites, by turns of each with its own seat; and a desk.
+mod fixtures;
+
+ghost use Rattle.std.specs.Prelude.{◌≡◌, ◌≤◌, ◌+◌, [], ◌∷◌, IfOk, OnOk};
+ghost use Rattle.wire_core.specs.Rule.{logs_from};
+ghost use Rattle.wire_core.specs.Seats.{IsSeatOf};
+ghost use Rattle.site_threads.specs.Running.{marks_in};
+ghost use Rattle.site_threads.specs.Starting.{IsLastMarked};
+ghost use Rattle.site_threads.specs.Ends.{IsDesk};
+ghost use Rattle.site_threads.specs.Playing.{MayTurn};
+
+use crate::tests::fixtures::{capture, fresh, start};
+use crate::{Desk, DeskFault, FreeGate, Gate, Job, Reply, SiteTurn, TurnReport};
+use keeper_core::{MemoryKeeper, SiteKeeper};
+use site_core::SiteState;
+use site_recovery::{are_all_sites, check_world};
+use std::alloc::Global;
+use std::sync::Wait;
+use std::test::Fail;
+use wire_core::{Seat, Wire};
+
+/// The wire between two sites whose records fit together, and a seat that holds both.
+fn between(alloc: Global, first: &SiteState, second: &SiteState) -> Result<(Wire, Seat), Fail>
+    ensures wire { IfOk result (λ r. IsSeatOf r.0 r.1 × (r.0.sites ≡ 2) × (r.1.logs ≡ logs_from 0 (first.now ∷ second.now ∷ []))) }
+    ensures numbers { OnOk result ((first.now.engagement.me ≡ 0) × (second.now.engagement.me ≡ 1)) }
+{
+    let states = [first, second];
+    if !are_all_sites(&states) {
+        return Err("these aren't all sites".into());
+    }
+    check_world(alloc, &states)?;
+    Ok(Wire::new(alloc, &states)?)
+}
+
+/// A turn: what was answered to its job, and how many frames came and went.
+fn turn_once<K: SiteKeeper, G: Gate>(
+    wire: &Wire,
+    site: &mut SiteTurn<K, G>,
+    job: Option<Job>,
+) -> (Option<Reply>, u64, u64)
+    requires ready { MayTurn K.shown K.may wire.now site.old }
+    requires few { marks_in site.old.site.seat.logs ≤ 100 }
+    ensures ready { MayTurn K.shown K.may wire.now site.new }
+    ensures few { marks_in site.new.site.seat.logs ≤ marks_in site.old.site.seat.logs + 18 }
+{
+    match site.turn(wire, job) {
+        Err(_) => (None, 0, 0),
+        Ok(report) => {
+            let TurnReport {
+                receipt,
+                applied,
+                posted,
+            } = report;
+            match receipt {
+                None => (None, applied, posted),
+                Some(receipt) => (Some(receipt.reply.same()), applied, posted),
+            }
+        }
+    }
+}
+
+/// Whether the site's first recall has ended.
+fn has_ended(keeper: &Option<MemoryKeeper>) -> bool {
+    let Some(keeper) = keeper else {
+        return false;
+    };
+    let Some(state) = keeper.view() else {
+        return false;
+    };
+    for (_, own) in state.own_recalls() {
+        if own.ended {
+            return true;
+        }
+    }
+    false
+}
+
+/// The first site captures, starts a recall and tells of it; the second takes the message, and signals it; the signal
+/// ends the recall.
+fn exchange(
+    alloc: Global,
+    wire: &Wire,
+    mine: Seat,
+    theirs: Seat,
+    first: SiteState,
+    second: SiteState,
+) -> bool
+    requires seats { IsSeatOf wire.now mine × IsSeatOf wire.now theirs }
+    requires first { IsLastMarked mine.logs first.engagement.me first × (marks_in mine.logs ≡ 0) }
+    requires second { IsLastMarked theirs.logs second.engagement.me second × (marks_in theirs.logs ≡ 0) }
+{
+    let (a, b) = (first.me(), second.me());
+    let mut one = SiteTurn::new(alloc, MemoryKeeper::new(first), FreeGate, mine, a);
+    let mut two = SiteTurn::new(alloc, MemoryKeeper::new(second), FreeGate, theirs, b);
+    let captured = turn_once(wire, &mut one, capture(alloc));
+    let started = turn_once(wire, &mut one, start(alloc));
+    let taken = turn_once(wire, &mut two, None);
+    let signalled = turn_once(wire, &mut one, None);
+    let (keeper, _, entries) = one.finish();
+    let counts = captured.2 == 0 && started.2 == 1 && taken.1 == 1 && taken.2 == 1;
+    counts && signalled.1 == 1 && entries.len() == 3 && has_ended(&keeper)
+}
+
+/// The same over a wire of their own.
+fn by_turns(alloc: Global, first: SiteState, second: SiteState) -> Result<bool, Fail> {
+    let b = second.me();
+    let (wire, seat) = between(alloc, &first, &second)?;
+    let (mine, theirs) = wire.split(seat, b);
+    Ok(exchange(alloc, &wire, mine, theirs, first, second))
+}
+
+#[test]
+fn a_recall_ends_by_turns(rt: HostRuntime) -> Result<(), Fail> {
+    let first = fresh(rt.alloc(), false)?;
+    let second = fresh(rt.alloc(), true)?;
+    assert!(rt; by_turns(rt.alloc(), first, second)?);
+    Ok(())
+}
+
+/// Whether a desk of one job takes one, and hands the second back.
+fn takes_one(rt: &impl Wait, desk: &mut Desk, one: Option<Job>, two: Option<Job>) -> bool
+    requires { IsDesk desk.old }
+{
+    let (Some(one), Some(two)) = (one, two) else {
+        return false;
+    };
+    let first = matches!(desk.put(rt, one), Ok(1));
+    let second = matches!(desk.put(rt, two), Err(DeskFault::Spent(_)));
+    first && second
+}
+
+#[test]
+fn a_desk_of_one_job_is_spent(rt: HostRuntime) -> Result<(), Fail> {
+    let (mut desk, _out) = Desk::new(rt.alloc(), 1)?;
+    let (one, two) = (start(rt.alloc()), start(rt.alloc()));
+    assert!(rt; takes_one(&rt, &mut desk, one, two));
+    Ok(())
+}
