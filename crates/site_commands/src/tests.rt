@@ -63,9 +63,12 @@ impl Files<MemoryKeeper> for MemoryFiles {
     }
 
     fn open_site(&mut self, _: Global, path: &str, _: &str) -> Result<MemoryKeeper, Fault> {
-        match self.site_at(path) {
-            Some(place) => self.sites[place].keeper.take().ok_or(Fault::Store),
-            None => Err(Fault::NotAStore),
+        let Some(place) = self.site_at(path) else {
+            return Err(Fault::NotAStore);
+        };
+        match self.sites.get_mut(place) {
+            Some(kept) => kept.keeper.take().ok_or(Fault::Store),
+            None => Err(Fault::Store),
         }
     }
 
@@ -197,7 +200,8 @@ fn commands_are_answered(rt: HostRuntime) -> Result<(), Fail> {
 
 /// The signal that B has quarantined y comes to A.
 fn signal(files: &mut MemoryFiles) -> Result<(), Fail> {
-    let keeper = files.sites[0].keeper.as_mut().ok_or("a keeper")?;
+    let kept = files.sites.get_mut(0).ok_or("a site")?;
+    let keeper = kept.keeper.as_mut().ok_or("a keeper")?;
     let a = SiteNo::of(0).ok_or("a site")?;
     let b = SiteNo::of(1).ok_or("a site")?;
     let id = MsgId { site: a, number: 1 };
