@@ -5,11 +5,6 @@ use Rattle.recall_cli.specs.CommandLines.{texts_of}
 use Rattle.recall_cli.proofs.Words.{recall_is_told, asks_told}
 use Rattle.recall_cli.proofs.command_lines.read.Goals as goal
 
-pub returns-in-Ok : goal.returns-in-Ok
-returns-in-Ok c =
-    let is = c.in_ok-command.ensures in
-    subst (λ app. fault_of app (texts_of c.args.words.now) ≡ []) is (c.in-Ok.ensures.kinds (ap is_simple_and_free is ∙ recall_is_told))
-
 pub returns : goal.returns
 returns c =
     let is = c.in_ok-command.ensures in
