@@ -1,10 +1,12 @@
 pub mod Desks
 pub mod Ends
+pub mod Gathering
 pub mod Jobs
 pub mod Keepers
 pub mod Offers
 pub mod Passing
 pub mod Running
+pub mod Runs
 pub mod Sites
 pub mod Stamps
 pub mod Starting

@@ -7,15 +7,19 @@
 mod desks;
 mod following;
 mod gates;
+mod gather;
 mod jobs;
 mod offers;
 mod passing;
+mod runs;
 mod sites;
 mod stamps;
 mod turns;
 
 pub use desks::{Desk, DeskFault, DeskOut};
 pub use gates::{FreeGate, Gate, Pass};
+pub use gather::{SiteEnd, close_all};
 pub use jobs::{Entry, Job, Receipt, Reply};
+pub use runs::{SiteRun, run_all};
 pub use sites::Site;
 pub use turns::{SiteTurn, TurnCause, TurnFault, TurnReport};
