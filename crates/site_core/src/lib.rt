@@ -29,6 +29,7 @@ pub use capturing::{CaptureFault, capture_all, first_block};
 pub use emitting::emittable;
 pub use inputs::SiteInput;
 pub use item_sets::ItemSet;
+pub use looks::look;
 pub use naming::{FrameName, frame_named};
 pub use outcomes::{Effects, Refusal};
 pub use quarantines::Quarantine;

@@ -14,7 +14,8 @@ use epc_core::Epc;
 use event_json::SiteNo;
 use frame_core::{Frame, MsgId, RecallId};
 
-/// What is answered without memory and without a change, if anything is.
+/// What a step answers without memory and without a change, if it answers so. A keeper asks this first: what is answered
+/// here is neither tried on a copy nor written down. None says that the step takes memory or changes the site.
 pub fn look(state: &SiteState, input: &SiteInput) -> Option<Result<Effects, Refusal>>
     ensures { IsAnsweredBy state.now input.now result }
 {
