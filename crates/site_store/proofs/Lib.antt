@@ -1,2 +1,4 @@
+pub mod KeptFailures
+pub mod KeptStops
 pub mod Leading
 pub mod StepWrites

@@ -2,6 +2,8 @@
 #![tactic(auto)]
 
 mod faults;
+mod kept;
+mod pairs;
 mod reopening;
 mod writing;
 

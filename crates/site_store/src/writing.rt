@@ -54,7 +54,7 @@ pub fn write_step<S: Alter>(
 }
 
 /// What an error is after which the connection is open, with the rows of before.
-pub fn cause_of(error: Error) -> Unwritten
+fn cause_of(error: Error) -> Unwritten
     ensures { result ≡ cause_of error }
 {
     if is_of_memory(&error) {
