@@ -1,5 +1,5 @@
 -- What a step leaves that was refused, or whose rows weren't written.
-use Rattle.std.proofs.Common.{◌≡◌, ◌≢◌, ◌⊎◌, Some, Err, inl, inr, refl, sym, ◌∙◌, ap, subst, ⊎_elim}
+use Rattle.std.proofs.Common.{◌≡◌, ◌≢◌, ◌⊎◌, Err, inl, inr, refl, sym, ◌∙◌, ap, subst, ⊎_elim}
 use Rattle.sqlite.specs.State.{State}
 use Rattle.site_core.specs.Records.{Record}
 use Rattle.site_core.specs.Steps.{Does, Refuses, CopiesRecord}

@@ -1,5 +1,5 @@
 -- What a stop leaves, by the step in which it comes.
-use Rattle.std.proofs.Common.{◌≡◌, true, false, None, Result, Ok, Err, inl, refl, sym, ◌∙◌, ap}
+use Rattle.std.proofs.Common.{◌≡◌, true, false, Result, Ok, Err, inl, refl, sym, ◌∙◌, ap}
 use Rattle.sqlite.specs.State.{State}
 use Rattle.site_core.specs.declared.inputs.SiteInput.{SiteInput}
 use Rattle.site_core.specs.declared.outcomes.Effects.{Effects}

@@ -1,5 +1,5 @@
 -- What the tables hold once the rows of a step were tried.
-use Rattle.std.proofs.Common.{◌≡◌, ℕ, ◌+◌, inl, inr, Bool, true, false, if◌then◌else◌, Option, None, Some, refl, sym, ap, subst, ◌∙◌, arith, length, ⊎_elim}
+use Rattle.std.proofs.Common.{◌≡◌, ℕ, ◌+◌, inl, inr, Bool, true, false, if◌then◌else◌, Option, None, Some, refl, ap, ◌∙◌, arith, length, ⊎_elim}
 use Rattle.std.specs.Prelude.{cond, is_some, min}
 use Rattle.std.proofs.Math.Nat.{zero-add}
 use Rattle.std.proofs.lemmas.List.{length-append}

@@ -1,4 +1,4 @@
-use Rattle.std.proofs.Common.{sym, subst, ap, ◌∙◌}
+use Rattle.std.proofs.Common.{sym, subst}
 use Rattle.sqlite.specs.Held.{state}
 use Rattle.site_rows.specs.RecordRows.{rows_of}
 use Rattle.site_tables.specs.Stored.{contents_of}
