@@ -1,7 +1,7 @@
 use Rattle.sqlite.specs.Files.{file_state}
 use Rattle.sqlite.proofs.Callers.{finds_again}
 use Rattle.site_tables.proofs.Committed.{reopened}
-use Rattle.site_store.proofs.reopen.Goals as goal
+use Rattle.site_store.proofs.reopening.reopen.Goals as goal
 
 pub returns-in-Ok-open_files : goal.returns-in-Ok-open_files
 returns-in-Ok-open_files g c clean rows it =

@@ -1,0 +1,3 @@
+pub mod KeptFailures
+pub mod KeptStops
+pub mod StepWrites

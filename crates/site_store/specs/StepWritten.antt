@@ -1,0 +1,49 @@
+-- What the tables hold once a step was written, or wasn't, and how many rows that took.
+use Rattle.std.specs.Prelude.{◌≡◌, ◌⊎◌, ◌+◌, ℕ, length, min, if◌then◌else◌}
+use Rattle.sqlite.specs.Tree.{Trees}
+use Rattle.sqlite.specs.State.{State}
+use Rattle.sqlite.specs.declared.error.Error.{Error}
+use Rattle.site_core.specs.Records.{Record}
+use Rattle.site_core.specs.declared.outcomes.Effects.{Effects}
+use Rattle.site_rows.specs.RecordRows.{rows_of}
+use Rattle.site_rows.specs.StepRows.{Counts, counts_told}
+use Rattle.site_tables.specs.Stored.{Holds, IsStored, contents_of}
+use Rattle.site_store.specs.Faults.{is_of_memory}
+use Rattle.site_store.specs.declared.writing.Unwritten.{Unwritten}
+use Rattle.site_store.specs.declared.writing.Unwritten.TheVariants.{NoMemory, Failed}
+
+-- the tables hold the rows of the record
+abbrev pub HoldsRecord : Record → Trees → Type 0
+HoldsRecord r db = Holds (contents_of (rows_of r)) db
+
+-- so they do between two steps, and after a crash
+abbrev pub Keeps : Record → State → Type 0
+Keeps r s = IsStored (contents_of (rows_of r)) s
+
+-- a crash leaves the rows of the one record or of the other, and no third
+abbrev pub LeavesOneOf : Record → Record → State → Type 0
+LeavesOneOf old new s = (db : Trees) → s.may_leave db → HoldsRecord old db ⊎ HoldsRecord new db
+
+-- what the database keeps of a step that failed: without memory the old rows, and after a failure of its own the old
+-- rows or the new
+abbrev pub KeepsWhereFailed : Record → Record → State → Unwritten → Type 0
+KeepsWhereFailed old new s NoMemory = Keeps old s
+KeepsWhereFailed old new s (Failed error) = LeavesOneOf old new s
+
+-- what an error is after which the old rows stand
+abbrev pub cause_of : Error → Unwritten
+cause_of error = if is_of_memory error then NoMemory else Failed error
+
+-- all rows that a step tells of
+abbrev pub total : Counts → ℕ
+total c = c.event + (c.quarantine + c.outbox + c.seen + c.parent) + (c.signalled + c.left + c.recall) + c.numbers
+
+-- a step with these effects writes so many rows: those that it tells of, and the members of the lists of events
+pub record ChangesRows (old : Record) (told : Effects) (new : Record) (rows : ℕ) : Type 0 where
+  pub parts : ℕ
+  pub more : length (rows_of new).part ≡ length (rows_of old).part + parts
+  pub all : rows ≡ total (counts_told told) + parts
+
+-- a count of them, which stays at 2^64 - 1
+abbrev pub IsCounted : Record → Effects → Record → ℕ → Type 0
+IsCounted old told new written = (rows : ℕ) × ChangesRows old told new rows × (written ≡ min 18_446_744_073_709_551_615 rows)
