@@ -4,7 +4,7 @@ use event_json::{Sequence, SiteNo, Sites};
 use frame_core::{Frame, MsgId};
 use site_core::{Effects, SiteInput, SiteState};
 use site_rows::{Numbers, RowChanges, Rows, rows_of};
-use site_tables::{create_site, try_changes};
+use site_tables::{ReadFault, create_site, read_rows, try_changes};
 use sqlite::{Alter, Connection, Error};
 use std::alloc::Global;
 use std::test::Fail;
@@ -21,7 +21,7 @@ fn fresh(alloc: Global) -> Result<SiteState, Fail> {
 }
 
 /// A document of a transformation of x into y, and of a shipment of y to site B.
-fn document(alloc: Global) -> Result<SiteInput, Fail> {
+pub fn document(alloc: Global) -> Result<SiteInput, Fail> {
     let text = format!(in alloc;
         "{{\"type\":\"EPCISDocument\",\"epcisBody\":{{\"eventList\":[{{\"type\":\"TransformationEvent\",{TIMES},\"inputEPCList\":[\"x\"],\"outputEPCList\":[\"y\"]}},{{\"type\":\"ObjectEvent\",{TIMES},\"eventID\":\"e\",\"action\":\"OBSERVE\",\"epcList\":[\"y\"],\"destinationList\":[{{\"destination\":\"b\"}}]}}]}}}}"
     )?;
@@ -92,6 +92,25 @@ fn create<S: Alter>(alloc: Global, conn: &mut Connection<S>) -> Result<bool, Fai
     Ok(true)
 }
 
+/// Whether the readers find these rows.
+fn reads<S: Alter>(alloc: Global, conn: &mut Connection<S>, rows: &Rows) -> Result<bool, Fail> {
+    match read_rows(alloc, conn) {
+        Ok(found) => Ok(found == *rows),
+        Err(fault) => Err(fault.into()),
+    }
+}
+
+/// Whether what was made and written is read.
+fn reads_all<S: Alter>(alloc: Global, conn: &mut Connection<S>) -> Result<bool, Fail> {
+    let rows = rows_of(alloc, &recalling(alloc)?)?;
+    reads(alloc, conn, &rows)
+}
+
+/// Whether a database without tables is told apart.
+fn is_told_apart<S: Alter>(alloc: Global, conn: &mut Connection<S>) -> bool {
+    matches!(read_rows(alloc, conn), Err(ReadFault::OtherTables))
+}
+
 /// How many rows are written.
 fn write<S: Alter>(conn: &mut Connection<S>, changes: &RowChanges) -> Result<u64, Fail> {
     let mut written = 0;
@@ -129,10 +148,18 @@ fn finds_all<S: Alter>(conn: &mut Connection<S>) -> Result<bool, Fail> {
 }
 
 #[test]
+fn other_tables_are_told_apart(rt: HostRuntime) -> Result<(), Fail> {
+    let mut conn = Connection::open_in_memory(rt.alloc())?;
+    assert!(rt; is_told_apart(rt.alloc(), &mut conn));
+    Ok(())
+}
+
+#[test]
 fn rows_are_found(rt: HostRuntime) -> Result<(), Fail> {
     let mut conn = Connection::open_in_memory(rt.alloc())?;
     assert!(rt; writes_all(rt.alloc(), &mut conn)?);
     assert!(rt; finds_all(&mut conn)?);
+    assert!(rt; reads_all(rt.alloc(), &mut conn)?);
     Ok(())
 }
 

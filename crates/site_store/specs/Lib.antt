@@ -1,0 +1,4 @@
+pub mod Faults
+pub mod Kept
+pub mod Pairs
+pub mod Sites
