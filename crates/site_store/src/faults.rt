@@ -33,7 +33,7 @@ pub fn is_of_memory(error: &Error) -> bool
 
 /// One failure more. At 2^64 - 1 the count stays.
 pub fn one_more(failures: u64) -> u64
-    ensures { Rises failures result }
+    ensures rises { Rises failures result }
     ensures at_least { failures ≤ result }
 {
     if failures == u64::MAX {
