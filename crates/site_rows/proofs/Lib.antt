@@ -3,9 +3,13 @@ pub mod AddressesOfSites
 pub mod AtTheEnd
 pub mod HeldInTurn
 pub mod InTurn
+pub mod ListsInTurn
 pub mod NamesInTurn
+pub mod NamesOfSites
 pub mod OneEntry
+pub mod ReadFaults
 pub mod RowsOfMaps
+pub mod SameAddressRows
 pub mod SameEvents
 pub mod SameLists
 pub mod SameQuarantines

@@ -4,5 +4,6 @@ pub mod BadEvents
 pub mod BadRows
 pub mod HeldItems
 pub mod Laws
+pub mod ReadRows
 pub mod RecordRows
 pub mod Texts
