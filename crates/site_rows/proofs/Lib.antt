@@ -7,12 +7,16 @@ pub mod ClearsLead
 pub mod HeldInTurn
 pub mod InTurn
 pub mod KeyTests
+pub mod ListsInTurn
 pub mod MessageRows
 pub mod NamesInTurn
+pub mod NamesOfSites
 pub mod OneEntry
 pub mod Permuted
 pub mod QuarantineChanges
+pub mod ReadFaults
 pub mod RowsOfMaps
+pub mod SameAddressRows
 pub mod SameEvents
 pub mod SameLists
 pub mod SameQuarantines

@@ -4,6 +4,7 @@ pub mod BadEvents
 pub mod BadRows
 pub mod HeldItems
 pub mod Laws
+pub mod ReadRows
 pub mod RecordRows
 pub mod StepRows
 pub mod Texts

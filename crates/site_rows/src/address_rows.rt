@@ -27,7 +27,7 @@ pub struct Address {
 const ADDRESSES: u64 = 16;
 
 /// The name of the site of a number.
-fn name_at(sites: &Sites, number: u64) -> Option<&str>
+pub(crate) fn name_at(sites: &Sites, number: u64) -> Option<&str>
     ensures { option_map (λ t. t.now) result ≡ option_map (λ s. s.name) (slice_get sites.now number) }
 {
     // There are at most 16 sites.

@@ -16,15 +16,15 @@ use trace_core::Captured;
 const SECOND: i128 = 1_000_000_000;
 
 /// The roles of the members of an event's lists.
-const ITEM: u64 = 0;
+pub(crate) const ITEM: u64 = 0;
 
-const SITE: u64 = 1;
+pub(crate) const SITE: u64 = 1;
 
-const OUTSIDE: u64 = 2;
+pub(crate) const OUTSIDE: u64 = 2;
 
-const INPUT: u64 = 3;
+pub(crate) const INPUT: u64 = 3;
 
-const OUTPUT: u64 = 4;
+pub(crate) const OUTPUT: u64 = 4;
 
 /// The kind of an event by its number: 0 a Note, 1 a Ship, 2 a Make.
 fn kind_of(body: &Body) -> i64

@@ -7,10 +7,15 @@ mod changes;
 mod event_rows;
 pub mod laws;
 mod numbers;
+mod reading;
+mod reading_addressed;
 mod reading_addresses;
+mod reading_bodies;
+mod reading_captured;
 mod reading_entries;
 mod reading_events;
 mod reading_held;
+mod reading_lists;
 mod reading_numbers;
 mod reading_recalls;
 mod reading_sites;
@@ -26,6 +31,7 @@ mod texts;
 mod writing;
 
 pub use changes::{Numbers, RecallKey, RowChanges};
+pub use reading::{BadRow, StateFault, Table, state_of};
 pub use rows::{
     AddressRow, EventRow, OutboxRow, ParentRow, PartRow, QuarantineRow, RecallRow, Rows, SeenRow,
     SiteRow, StoreRow,

@@ -1,4 +1,4 @@
-ghost use Rattle.std.specs.Prelude.{◌≡◌, ◌↔◌, ◌<◌, ℕ, [], Ok, IfOk, IfErr, OnErr, IsTrue, Any, AllPairs, Contains, length, take, slice_get, option_map};
+ghost use Rattle.std.specs.Prelude.{◌≡◌, ◌↔◌, ◌<◌, ◌++◌, ◌∷◌, ℕ, [], Ok, IfOk, IfErr, OnOk, OnErr, IsTrue, Any, AllPairs, Contains, length, take, slice_get, option_map};
 ghost use Rattle.trace_core.specs.declared.pairs.Pair.{Pair};
 ghost use Rattle.trace_core.specs.Adding.{standing_among, with_fresh, adding, FaultOf};
 ghost use Rattle.trace_core.specs.Pairs.{IsRelated, IsStrictlyAscending};
@@ -85,6 +85,18 @@ impl Captured {
         ensures unchanged { OnErr result (self.new ≡ self.old) }
     {
         add_if_fresh(&mut self.book, event)
+    }
+
+    /// Adds an event at the end, whatever its eventID: for events that were captured before, and are
+    /// read back from elsewhere.
+    ///
+    /// # Errors
+    /// Want of memory. Nothing is changed then.
+    pub fn restore_event(&mut self, event: Event) -> Result<(), AllocError>
+        ensures ok { OnOk result (self.new ≡ record self.old { events = self.old.events ++ event ∷ [] }) }
+        ensures unchanged { OnErr result (self.new ≡ self.old) }
+    {
+        self.book.push(event)
     }
 
     /// Takes back the last events, all but the first `kept`. Takes no memory.

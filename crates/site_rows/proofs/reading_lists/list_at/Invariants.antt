@@ -1,0 +1,11 @@
+use Rattle.std.proofs.Common.{◌≡◌, ◌≤◌, ◌++◌, length, map, take}
+use Rattle.site_rows.specs.RecordRows.{part_rows}
+use Rattle.site_rows.proofs.reading_lists.list_at.Given as goal
+
+-- the rows so far are those before and those of the members so far
+abbrev pub invariant-loop-place : goal.invariant-loop-place
+invariant-loop-place g l = record {
+  within : l.at ≤ length l.rows;
+  counted : length l.members.items ≡ l.place;
+  rows : take l.at l.rows ≡ take l.fn.at l.rows ++ part_rows l.list.event l.list.role (map (g.M.Member.written l.sites) l.members.items);
+}

@@ -1,0 +1,200 @@
+//! The record of a site, read back from the rows of its tables.
+ghost use Rattle.std.specs.Prelude.{◌≡◌, ◌≤◌, flat_map, length, map, IfOk, IfErr};
+ghost use Rattle.std.specs.FinMap.{entries};
+ghost use Rattle.std.specs.List.{enumerate_from};
+ghost use Rattle.frame_core.specs.Unsignalled.{IsNextNumber};
+ghost use Rattle.site_rows.specs.RecordRows.{rows_of, addresses_of, parts_of, address_row, event_row, outbox_row, parent_row, recall_row, seen_row, site_row};
+ghost use Rattle.site_rows.specs.ReadRows.{IsStateFault, IsFaultIn};
+
+use crate::reading_addressed::addressed;
+use crate::reading_captured::captured_of;
+use crate::reading_entries::TableFault;
+use crate::reading_events::check_events;
+use crate::reading_held::quarantine_of;
+use crate::reading_recalls::{outbox_of, own_of, parents_of, seen_of};
+use crate::reading_sites::{StoreNumbers, names_of, store_of};
+use crate::rows::Rows;
+use event_json::{SiteNo, Sites};
+use scholten_core::Diffusion;
+use site_core::SiteState;
+use std::alloc::{AllocError, Global};
+use trace_core::Captured;
+
+/// The tables of a site's file.
+#[derive(Clone, Copy, Debug, PartialEq, Eq)]
+pub enum Table {
+    /// The site itself.
+    Store,
+    /// The names of all sites.
+    Site,
+    /// Their addresses.
+    Address,
+    /// The captured events.
+    Event,
+    /// The members of their lists.
+    Part,
+    /// The quarantined items.
+    Quarantine,
+    /// The messages that aren't signalled.
+    Outbox,
+    /// The messages that were handled.
+    Seen,
+    /// The parents, by recall.
+    Parent,
+    /// The site's own recalls.
+    Recall,
+}
+
+/// A row that stands in no record's rows.
+#[derive(Clone, Copy, Debug, PartialEq, Eq)]
+pub struct BadRow {
+    /// Its table.
+    pub table: Table,
+    /// Its place among the table's rows by key, from 1.
+    pub row: u64,
+}
+
+/// Why no record is read.
+#[derive(Clone, Copy, Debug, PartialEq, Eq)]
+pub enum StateFault {
+    /// Memory ran out.
+    NoMemory,
+    /// A row stands in no record's rows.
+    BadRow(BadRow),
+}
+
+impl From<AllocError> for StateFault {
+    ghost use Rattle.site_rows.specs.declared.reading.StateFault.TheVariants.{NoMemory};
+
+    ghost from_gives = { λ _ e. e ≡ NoMemory };
+
+    fn from(_error: AllocError) -> StateFault {
+        StateFault::NoMemory
+    }
+}
+
+/// The record whose rows these are.
+///
+/// # Errors
+/// A bad row of the first table that has one: of `part` a row where the lists of the events can't go on, of each other
+/// table its first bad row. A row that is wanting is named by the place where it would stand. And want of memory.
+pub fn state_of(alloc: Global, rows: &Rows) -> Result<SiteState, StateFault>
+    ensures read { IfOk result (λ state. rows_of state ≡ rows.now) }
+    ensures bad { IfErr result (λ fault. IsStateFault rows.now fault) }
+{
+    let numbers = match store_of(rows.site.as_slice(), rows.store.as_slice()) {
+        Ok(numbers) => numbers,
+        Err(fault) => return Err(in_table(Table::Store, fault)),
+    };
+    let sites = sites_of(alloc, rows)?;
+    let captured = events_of(alloc, numbers.me, &sites, rows)?;
+    let quarantine = match quarantine_of(alloc, sites.len(), rows.quarantine.as_slice()) {
+        Ok(quarantine) => quarantine,
+        Err(fault) => return Err(in_table(Table::Quarantine, fault)),
+    };
+    let diffusion = diffusion_of(alloc, numbers, sites.len(), rows)?;
+    match SiteState::restore_if_sound(alloc, sites, captured, quarantine, diffusion) {
+        Some(state) => Ok(state),
+        None => Err(StateFault::NoMemory),
+    }
+}
+
+/// The fault of a table among those of all tables.
+fn in_table(table: Table, fault: TableFault) -> StateFault
+    ensures { IsFaultIn table fault result }
+{
+    match fault {
+        TableFault::NoMemory => StateFault::NoMemory,
+        TableFault::BadRow(row) => StateFault::BadRow(BadRow { table, row }),
+    }
+}
+
+/// The sites, with their addresses.
+fn sites_of(alloc: Global, rows: &Rows) -> Result<Sites, StateFault>
+    ensures site { IfOk result (λ sites. rows.now.site ≡ map site_row (enumerate_from 0 sites)) }
+    ensures address { IfOk result (λ sites. rows.now.address ≡ map address_row (entries (addresses_of sites))) }
+    ensures bad { IfErr result (λ fault. IsStateFault rows.now fault) }
+{
+    let names = match names_of(alloc, rows.site.as_slice()) {
+        Ok(names) => names,
+        Err(fault) => return Err(in_table(Table::Site, fault)),
+    };
+    match addressed(alloc, &names, rows.address.as_slice()) {
+        Ok(sites) => Ok(sites),
+        Err(fault) => Err(in_table(Table::Address, fault)),
+    }
+}
+
+/// The captured events.
+fn events_of(alloc: Global, me: SiteNo, sites: &Sites, rows: &Rows) -> Result<Captured, StateFault>
+    ensures me { IfOk result (λ c. c.me ≡ me) }
+    ensures event { IfOk result (λ c. rows.now.event ≡ map event_row (enumerate_from 1 c.events)) }
+    ensures part { IfOk result (λ c. rows.now.part ≡ flat_map (parts_of sites.now) (enumerate_from 1 c.events)) }
+    ensures bad { IfErr result (λ fault. IsStateFault rows.now fault) }
+{
+    if let Err(fault) = check_events(rows.event.as_slice()) {
+        return Err(in_table(Table::Event, fault));
+    }
+    match captured_of(
+        alloc,
+        me,
+        sites,
+        rows.event.as_slice(),
+        rows.part.as_slice(),
+    ) {
+        Ok(captured) => Ok(captured),
+        Err(fault) => Err(in_table(Table::Part, fault)),
+    }
+}
+
+/// The site's part in recalls, what is quarantined aside.
+fn diffusion_of(
+    alloc: Global,
+    numbers: StoreNumbers,
+    sites: u64,
+    rows: &Rows,
+) -> Result<Diffusion, StateFault>
+    requires few { sites ≤ 16 }
+    requires count { sites ≡ length rows.now.site }
+    requires next_message { IsNextNumber numbers.next_message }
+    requires next_recall { IsNextNumber numbers.next_recall }
+    ensures numbers { IfOk result (λ d. (d.me ≡ numbers.me) × (d.next_message ≡ numbers.next_message) × (d.next_recall ≡ numbers.next_recall)) }
+    ensures outbox { IfOk result (λ d. rows.now.outbox ≡ map outbox_row (entries d.outbox)) }
+    ensures seen { IfOk result (λ d. rows.now.seen ≡ map seen_row (entries d.seen)) }
+    ensures parent { IfOk result (λ d. rows.now.parent ≡ map parent_row (entries d.parents)) }
+    ensures recall { IfOk result (λ d. rows.now.recall ≡ map recall_row (entries d.own)) }
+    ensures bad { IfErr result (λ fault. IsStateFault rows.now fault) }
+{
+    let outbox = match outbox_of(alloc, sites, rows.outbox.as_slice()) {
+        Ok(outbox) => outbox,
+        Err(fault) => return Err(in_table(Table::Outbox, fault)),
+    };
+    let seen = match seen_of(alloc, sites, rows.seen.as_slice()) {
+        Ok(seen) => seen,
+        Err(fault) => return Err(in_table(Table::Seen, fault)),
+    };
+    let parents = match parents_of(alloc, sites, rows.parent.as_slice()) {
+        Ok(parents) => parents,
+        Err(fault) => return Err(in_table(Table::Parent, fault)),
+    };
+    let own = match own_of(alloc, rows.recall.as_slice()) {
+        Ok(own) => own,
+        Err(fault) => return Err(in_table(Table::Recall, fault)),
+    };
+    let StoreNumbers {
+        me,
+        next_message,
+        next_recall,
+    } = numbers;
+    let restored = Diffusion::restore(
+        alloc,
+        me,
+        outbox,
+        seen,
+        parents,
+        own,
+        next_message,
+        next_recall,
+    )?;
+    Ok(restored)
+}

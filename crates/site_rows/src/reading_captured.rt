@@ -1,0 +1,129 @@
+//! The captured events, read back from their rows and the rows of their lists.
+ghost use Rattle.std.specs.Prelude.{◌≡◌, ◌≤◌, ◌<◌, ◌⊎◌, ◌++◌, ◌+◌, ◌^◌, ℕ, None, flat_map, length, map, pos, take, IfOk, IfSome, OnOk};
+ghost use Rattle.std.specs.Int.{int_div_euclid, int_rem_euclid};
+ghost use Rattle.std.specs.List.{enumerate_from};
+ghost use Rattle.event_json.specs.Contents.{kind_of, id_of};
+ghost use Rattle.event_json.specs.Events.{IsBody, IsIdentifier, IsInstant};
+ghost use Rattle.site_rows.specs.BadEvents.{IsBelow, IsEvent, IsEventTable};
+ghost use Rattle.site_rows.specs.RecordRows.{SECOND, body_rows, event_row, parts_of};
+
+use crate::reading_bodies::{make_at, note_at, ship_at};
+use crate::reading_entries::TableFault;
+use crate::rows::{EventRow, PartRow};
+use crate::texts::Text;
+use event_json::{Body, Event, PlainText, SiteNo, Sites};
+use std::alloc::{AllocError, Global};
+use trace_core::Captured;
+
+/// A second has as many nanoseconds.
+const NANOS: i128 = 1_000_000_000;
+
+/// The events of the rows, whose lists are these rows, at a site.
+///
+/// # Errors
+/// The first row of a list that isn't the next one of its event, or the place where one is wanting; and want of memory.
+pub(crate) fn captured_of(
+    alloc: Global,
+    me: SiteNo,
+    sites: &Sites,
+    events: &[EventRow],
+    parts: &[PartRow],
+) -> Result<Captured, TableFault>
+    requires table { IsEventTable events.now }
+    ensures me { IfOk result (λ c. c.me ≡ me) }
+    ensures events { IfOk result (λ c. events.now ≡ map event_row (enumerate_from 1 c.events)) }
+    ensures parts { IfOk result (λ c. parts.now ≡ flat_map (parts_of sites.now) (enumerate_from 1 c.events)) }
+{
+    let mut captured = Captured::new(alloc, me);
+    let mut at = 0;
+    for (place, row) in events.iter().enumerate() {
+        match event_at(alloc, sites, parts, &mut at, place, row)? {
+            Some(event) => captured.restore_event(event)?,
+            None => return Err(TableFault::BadRow(at as u64 + 1)),
+        }
+    }
+    if at < parts.len() {
+        return Err(TableFault::BadRow(at as u64 + 1));
+    }
+    Ok(captured)
+}
+
+/// The event of a row at a place, with the lists whose rows stand next; `None` where a member is wanting.
+fn event_at(
+    alloc: Global,
+    sites: &Sites,
+    parts: &[PartRow],
+    at: &mut usize,
+    place: usize,
+    row: &EventRow,
+) -> Result<Option<Event>, AllocError>
+    requires within { at.old ≤ length parts.now }
+    requires room { place + 1 < 2 ^ 64 }
+    requires event { IsEvent place row.now }
+    ensures within { OnOk result (at.new ≤ length parts.now) }
+    ensures row { IfOk result (λ event. IfSome event (λ e. row.now ≡ event_row (place + 1, e))) }
+    ensures parts { IfOk result (λ event. IfSome event (λ e. take at.new parts.now ≡ take at.old parts.now ++ parts_of sites.now (place + 1, e))) }
+{
+    let id = identifier(alloc, &row.id)?;
+    let instant = instant_of(row.seconds, row.nanos)?;
+    match body_at(alloc, sites, parts, at, place as u64 + 1, row)? {
+        Some(body) => Ok(Some(Event::new(id, instant, body))),
+        None => Ok(None),
+    }
+}
+
+/// What the event of a row says of its items, from the rows that stand next; `None` where a member is wanting.
+fn body_at(
+    alloc: Global,
+    sites: &Sites,
+    parts: &[PartRow],
+    at: &mut usize,
+    event: u64,
+    row: &EventRow,
+) -> Result<Option<Body>, AllocError>
+    requires within { at.old ≤ length parts.now }
+    requires kind { (n : ℕ) × IsBelow 3 row.now.kind n }
+    requires make_id { IsIdentifier row.now.make_id }
+    requires of_make { (row.now.kind ≡ pos 2) ⊎ (row.now.make_id ≡ None) }
+    ensures within { OnOk result (at.new ≤ length parts.now) }
+    ensures rows { IfOk result (λ body. IfSome body (λ b. take at.new parts.now ≡ take at.old parts.now ++ body_rows sites.now event b)) }
+    ensures limits { IfOk result (λ body. IfSome body IsBody) }
+    ensures kind { IfOk result (λ body. IfSome body (λ b. (row.now.kind ≡ pos (kind_of b)) × (row.now.make_id ≡ id_of b))) }
+{
+    match row.kind {
+        0 => Ok(Some(note_at(alloc, sites, parts, at, event)?)),
+        1 => ship_at(alloc, sites, parts, at, event),
+        _ => {
+            let id = identifier(alloc, &row.make_id)?;
+            make_at(alloc, sites, parts, at, event, id)
+        }
+    }
+}
+
+/// A plain text, where there is one.
+fn identifier(alloc: Global, text: &Option<Text>) -> Result<Option<PlainText>, AllocError>
+    requires plain { IsIdentifier text.now }
+    ensures { IfOk result (λ id. id ≡ text.now) }
+{
+    match text {
+        Some(text) => match PlainText::read(alloc, text.as_str())? {
+            Some(id) => Ok(Some(id)),
+            None => Ok(None),
+        },
+        None => Ok(None),
+    }
+}
+
+/// The instant of so many seconds and nanoseconds, in nanoseconds.
+fn instant_of(seconds: i64, nanos: i64) -> Result<i128, AllocError>
+    requires nanos { (n : ℕ) × IsBelow 1_000_000_000 nanos n }
+    ensures seconds { IfOk result (λ t. int_div_euclid t SECOND ≡ seconds) }
+    ensures nanos { IfOk result (λ t. int_rem_euclid t SECOND ≡ nanos) }
+    ensures fits { IfOk result IsInstant }
+{
+    let instant = seconds as i128 * NANOS + nanos as i128;
+    if instant.div_euclid(NANOS) != seconds as i128 || instant.rem_euclid(NANOS) != nanos as i128 {
+        return Err(AllocError);
+    }
+    Ok(instant)
+}

@@ -1,0 +1,115 @@
+//! The lists of events, read back from their rows in turn.
+ghost use Rattle.std.specs.Prelude.{◌≡◌, ◌≤◌, ◌<◌, ◌++◌, Some, length, map, slice_get, take, IfOk, IfSome, IsTrue, OnOk};
+ghost use Rattle.site_rows.specs.RecordRows.{part_row, part_rows};
+
+use crate::reading_numbers::natural;
+use crate::rows::PartRow;
+use crate::texts::Text;
+use epc_core::Epc;
+use event_json::{PlainText, Sequence, SiteNo, Sites};
+use std::alloc::{AllocError, Global};
+
+/// A member of a list of an event.
+pub(crate) trait Member: Drop + Sized {
+    ghost use Rattle.std.specs.Prelude.{◌≡◌, List, ℕ, IfOk, IfSome};
+    ghost use Rattle.event_json.specs.Sites.{Site};
+
+    /// The text that stands for it.
+    ghost written: { List Site → Self → List ℕ };
+
+    /// The member that a text stands for.
+    fn read(alloc: Global, sites: &Sites, text: &Text) -> Result<Option<Self>, AllocError>
+        ensures { IfOk result (λ member. IfSome member (λ m. written sites.now m ≡ text.now)) };
+}
+
+impl Member for Epc {
+    ghost written = { λ _ item. item };
+
+    fn read(alloc: Global, _sites: &Sites, text: &Text) -> Result<Option<Epc>, AllocError> {
+        Epc::from_key(alloc, text.as_str())
+    }
+}
+
+impl Member for PlainText {
+    ghost written = { λ _ text. text };
+
+    fn read(alloc: Global, _sites: &Sites, text: &Text) -> Result<Option<PlainText>, AllocError> {
+        PlainText::read(alloc, text.as_str())
+    }
+}
+
+impl Member for SiteNo {
+    ghost use Rattle.site_rows.specs.RecordRows.{name_of};
+
+    ghost written = { name_of };
+
+    fn read(_alloc: Global, sites: &Sites, text: &Text) -> Result<Option<SiteNo>, AllocError> {
+        Ok(sites.find(text.as_str()))
+    }
+}
+
+/// A list of an event: which event's and which one, and how many members it may have.
+#[derive(Clone, Copy, Debug)]
+pub(crate) struct ListKey {
+    /// The number of the event.
+    pub(crate) event: u64,
+    /// The role of the members.
+    pub(crate) role: u64,
+    /// The most members.
+    pub(crate) most: u64,
+}
+
+/// The members of a list from the row at a place on, as many as there are; the place is left behind them.
+pub(crate) fn list_at<M: Member>(
+    alloc: Global,
+    sites: &Sites,
+    rows: &[PartRow],
+    at: &mut usize,
+    list: ListKey,
+) -> Result<Sequence<M>, AllocError>
+    requires within { at.old ≤ length rows.now }
+    ensures within { OnOk result (at.new ≤ length rows.now) }
+    ensures rows { IfOk result (λ members. take at.new rows.now ≡ take at.old rows.now ++ part_rows list.event list.role (map (M.written sites.now) members)) }
+    ensures few { IfOk result (λ members. length members ≤ list.most) }
+{
+    let mut members = Vec::new(alloc);
+    for place in 0..list.most {
+        match member_at(alloc, sites, rows, *at, list, place)? {
+            Some(member) => {
+                members.push(member)?;
+                *at += 1;
+            }
+            None => return Ok(Sequence::from_vec(members)),
+        }
+    }
+    Ok(Sequence::from_vec(members))
+}
+
+/// The member whose row stands at a place, where it is that of this place of the list.
+fn member_at<M: Member>(
+    alloc: Global,
+    sites: &Sites,
+    rows: &[PartRow],
+    at: usize,
+    list: ListKey,
+    place: u64,
+) -> Result<Option<M>, AllocError>
+    ensures { IfOk result (λ member. IfSome member (λ m. slice_get rows.now at ≡ Some (part_row list.event list.role (place, M.written sites.now m)))) }
+{
+    let Some(row) = rows.get(at) else {
+        return Ok(None);
+    };
+    if !is_at(row, list, place) {
+        return Ok(None);
+    }
+    M::read(alloc, sites, &row.text)
+}
+
+/// Whether a row is that of a place of a list.
+fn is_at(row: &PartRow, list: ListKey, place: u64) -> bool
+    ensures { IsTrue result → row.now ≡ part_row list.event list.role (place, row.now.text) }
+{
+    natural(row.event) == Some(list.event)
+        && natural(row.role) == Some(list.role)
+        && natural(row.place) == Some(place)
+}
