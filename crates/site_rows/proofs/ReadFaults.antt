@@ -7,7 +7,7 @@ use Rattle.site_rows.specs.BadRows.{IsFaultOf, IsFirstBad, IsQuarantineTable}
 use Rattle.site_rows.specs.ReadRows.{IsStateFault, IsFaultIn}
 use Rattle.site_rows.specs.RecordRows.{site_row}
 use Rattle.site_rows.specs.declared.reading.StateFault.{StateFault}
-use Rattle.site_rows.specs.declared.reading.Table.TheVariants.{Address, Quarantine}
+use Rattle.site_rows.specs.declared.tables.Table.TheVariants.{Address, Quarantine}
 use Rattle.site_rows.specs.declared.reading_entries.TableFault.{TableFault}
 use Rattle.site_rows.specs.declared.reading_entries.TableFault.TheVariants.{NoMemory, BadRow}
 use Rattle.site_rows.specs.declared.rows.AddressRow.{AddressRow}

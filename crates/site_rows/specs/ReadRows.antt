@@ -5,8 +5,8 @@ use Rattle.site_rows.specs.BadEvents.{IsFirstBadEvent}
 use Rattle.site_rows.specs.BadRows.{IsFirstBad, IsStoreTable, IsSiteTable, IsQuarantineTable, IsOutboxTable, IsSeenTable, IsParentTable, IsRecallTable}
 use Rattle.site_rows.specs.declared.reading.StateFault.{StateFault}
 use Rattle.site_rows.specs.declared.reading.StateFault.TheVariants as fault
-use Rattle.site_rows.specs.declared.reading.Table.{Table}
-use Rattle.site_rows.specs.declared.reading.Table.TheVariants.{Store, Site, Address, Event, Part, Quarantine, Outbox, Seen, Parent, Recall}
+use Rattle.site_rows.specs.declared.tables.Table.{Table}
+use Rattle.site_rows.specs.declared.tables.Table.TheVariants.{Store, Site, Address, Event, Part, Quarantine, Outbox, Seen, Parent, Recall}
 use Rattle.site_rows.specs.declared.reading_entries.TableFault.{TableFault}
 use Rattle.site_rows.specs.declared.reading_entries.TableFault.TheVariants.{NoMemory, BadRow}
 use Rattle.site_rows.specs.declared.rows.Rows.{Rows}

@@ -31,7 +31,7 @@ mod texts;
 mod writing;
 
 pub use changes::{Numbers, RecallKey, RowChanges};
-pub use reading::{BadRow, StateFault, Table, state_of};
+pub use reading::{BadRow, StateFault, state_of};
 pub use rows::{
     AddressRow, EventRow, OutboxRow, ParentRow, PartRow, QuarantineRow, RecallRow, Rows, SeenRow,
     SiteRow, StoreRow,

@@ -14,36 +14,12 @@ use crate::reading_held::quarantine_of;
 use crate::reading_recalls::{outbox_of, own_of, parents_of, seen_of};
 use crate::reading_sites::{StoreNumbers, names_of, store_of};
 use crate::rows::Rows;
+use crate::tables::Table;
 use event_json::{SiteNo, Sites};
 use scholten_core::Diffusion;
 use site_core::SiteState;
 use std::alloc::{AllocError, Global};
 use trace_core::Captured;
-
-/// The tables of a site's file.
-#[derive(Clone, Copy, Debug, PartialEq, Eq)]
-pub enum Table {
-    /// The site itself.
-    Store,
-    /// The names of all sites.
-    Site,
-    /// Their addresses.
-    Address,
-    /// The captured events.
-    Event,
-    /// The members of their lists.
-    Part,
-    /// The quarantined items.
-    Quarantine,
-    /// The messages that aren't signalled.
-    Outbox,
-    /// The messages that were handled.
-    Seen,
-    /// The parents, by recall.
-    Parent,
-    /// The site's own recalls.
-    Recall,
-}
 
 /// A row that stands in no record's rows.
 #[derive(Clone, Copy, Debug, PartialEq, Eq)]
