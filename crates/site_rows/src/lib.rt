@@ -20,6 +20,8 @@ mod reading_numbers;
 mod reading_recalls;
 mod reading_sites;
 #[cfg(test)]
+mod reading_state_tests;
+#[cfg(test)]
 mod reading_tests;
 mod recall_rows;
 mod rows;
