@@ -1,6 +1,7 @@
 //! The record of rows: it is read from good ones, and a bad row is named.
-use crate::reading::{StateFault, Table, state_of};
+use crate::reading::{StateFault, state_of};
 use crate::rows::{AddressRow, EventRow, PartRow, Rows, SiteRow, StoreRow};
+use crate::tables::Table;
 use crate::texts::Text;
 use event_json::Sequence;
 use std::alloc::Global;
