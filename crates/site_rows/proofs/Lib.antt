@@ -12,6 +12,8 @@ pub mod MessageRows
 pub mod NamesInTurn
 pub mod NamesOfSites
 pub mod OneEntry
+pub mod PartTables
+pub mod PartsInTurn
 pub mod Permuted
 pub mod QuarantineChanges
 pub mod ReadFaults
