@@ -105,7 +105,7 @@ texts_listed : (Is : List ℕ → Type 0) (event role most : ℕ) (rows : List P
     → take to rows ≡ take from rows ++ part_rows event role ms
 texts_listed Is event role most rows from to ms read = read.listed ∙ ap (λ ts. take from rows ++ part_rows event role ts) (map-id ms)
 
-unlike : (a b : ℕ) → (a ≡ b → ⊥) → pos a ≡ pos b → ⊥
+pub unlike : (a b : ℕ) → (a ≡ b → ⊥) → pos a ≡ pos b → ⊥
 unlike a b other same = other (same_number a b same)
 
 -- whether a list is empty, and whether there is an identifier
@@ -216,10 +216,10 @@ ship_read sites event rows from second third end items sent outside read some = 
 }
 
 -- a plain text
-abbrev some_text : List ℕ
+abbrev pub some_text : List ℕ
 some_text = 120 ∷ []
 
-some_plain : IsPlain some_text
+pub some_plain : IsPlain some_text
 some_plain = record { some = omega arith; few = omega arith; allowed = refl }
 
 ship_wanting : (sites : List Site) (event : ℕ) (rows : List PartRow) (from second third end : ℕ) (items : List (List ℕ)) (sent : List ℕ) (outside : List (List ℕ))
@@ -324,7 +324,7 @@ some_key =
     ] in
     (some_text, record { plain = some_plain; item = inr (record { other = other; names = refl }) })
 
-some_keys : All IsKey (uri_key some_text ∷ [])
+pub some_keys : All IsKey (uri_key some_text ∷ [])
 some_keys = All-cons IsKey (uri_key some_text) [] some_key (All-nil IsKey)
 
 -- an input is wanting
