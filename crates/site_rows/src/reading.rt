@@ -52,8 +52,8 @@ impl From<AllocError> for StateFault {
 /// The record whose rows these are.
 ///
 /// # Errors
-/// A bad row of the first table that has one: of `part` a row where the lists of the events can't go on, of each other
-/// table its first bad row. A row that is wanting is named by the place where it would stand. And want of memory.
+/// A bad row of the first table that has one: the first bad one of that table. A row that is wanting is named by the
+/// place where it would stand. And want of memory.
 pub fn state_of(alloc: Global, rows: &Rows) -> Result<SiteState, StateFault>
     ensures read { IfOk result (λ state. rows_of state ≡ rows.now) }
     ensures bad { IfErr result (λ fault. IsStateFault rows.now fault) }
@@ -103,6 +103,7 @@ fn sites_of(alloc: Global, rows: &Rows) -> Result<Sites, StateFault>
 
 /// The captured events.
 fn events_of(alloc: Global, me: SiteNo, sites: &Sites, rows: &Rows) -> Result<Captured, StateFault>
+    requires { rows.now.site ≡ map site_row (enumerate_from 0 sites.now) }
     ensures me { IfOk result (λ c. c.me ≡ me) }
     ensures event { IfOk result (λ c. rows.now.event ≡ map event_row (enumerate_from 1 c.events)) }
     ensures part { IfOk result (λ c. rows.now.part ≡ flat_map (parts_of sites.now) (enumerate_from 1 c.events)) }
