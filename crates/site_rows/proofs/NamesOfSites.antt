@@ -49,11 +49,11 @@ pub name_found : (sites : List Site) (text : List ℕ) (o : Option ℕ) → o �
 unfolding named
 name_found sites text None is =
     λ t w.
-        let test = λ (s : Site). bytes_eq s.name text in
-        let site = some_stands sites t w.is in
-        let name : site.0.name ≡ text = ap or_no_name (sym site.1) ∙ w.same in
-        let none : list_any test sites ≡ false = sym (is_some-position test sites) ∙ ap is_some (sym is) in
-        none_answers test sites t site.0 none site.1 ((bytes_eq-Decides site.0.name text).1 name)
+    let test = λ (s : Site). bytes_eq s.name text in
+    let site = some_stands sites t w.is in
+    let name : site.0.name ≡ text = ap or_no_name (sym site.1) ∙ w.same in
+    let none : list_any test sites ≡ false = sym (is_some-position test sites) ∙ ap is_some (sym is) in
+    none_answers test sites t site.0 none site.1 ((bytes_eq-Decides site.0.name text).1 name)
 name_found sites text (Some n) is =
     let none : Site = record { name = []; addresses = [] } in
     let at = position-Some (λ (s : Site). bytes_eq s.name text) sites n none (sym is) in

@@ -43,13 +43,15 @@ least_of sites zero kind id is low plain make =
     let none : id ≡ None = elim make [ inl two ↦ absurd (unlike 0 2 (λ same. omega arith) (sym is ∙ two)) | inr none ↦ none ] in
     (Note [], record { of_kind = is; of_id = none; limits = omega arith; members = All-nil IsKey })
 least_of sites (suc zero) kind id is low plain make =
-    let none : id ≡ None = elim make [ inl two ↦ absurd (unlike 1 2 (λ same. omega arith) (sym is ∙ two)) | inr none ↦ none ] in
-    (Ship [] [] (some_text ∷ []), record {
-      of_kind = is;
-      of_id = none;
-      limits = (omega arith, omega arith, omega arith);
-      members = (All-nil IsKey, All-nil (λ (t : ℕ). t < sites), All-cons IsPlain some_text [] some_plain (All-nil IsPlain));
-    })
+    let none : id ≡ None = elim make [ inl two ↦ absurd (unlike 1 2 (λ same. omega arith) (sym is ∙ two)) | inr none ↦ none ] in (
+      Ship [] [] (some_text ∷ []),
+      record {
+        of_kind = is;
+        of_id = none;
+        limits = (omega arith, omega arith, omega arith);
+        members = (All-nil IsKey, All-nil (λ (t : ℕ). t < sites), All-cons IsPlain some_text [] some_plain (All-nil IsPlain));
+      },
+    )
 least_of sites (suc (suc zero)) kind None is low plain make =
     let keys = uri_key some_text ∷ [] in
     (Make None keys keys, record { of_kind = is; of_id = refl; limits = (plain, omega arith, omega arith, λ _. (omega arith, omega arith)); members = (some_keys, some_keys) })
@@ -176,9 +178,9 @@ left_over sites events rows place at bodies past low each listed goes_on =
     let all = subst (λ xs. AreBodies (length sites) xs bodies) (take_all place events past) each in
     let stand : IsPartTable sites events (take at rows ++ []) = record { bodies = bodies; each = all; listed = append-nil (take at rows) ∙ listed } in
     first_bad sites events rows at (omega (arith, low)) (record { more = []; stand = stand }) (λ others on good first e.
-        let rest = goes_on others on good first e in
-        let none = subst (λ xs. AreBodies (length sites) xs rest.bodies) (drop_of_length-le events past) rest.each in
-        nothing_left rest.bodies on none first rest.listed)
+    let rest = goes_on others on good first e in
+    let none = subst (λ xs. AreBodies (length sites) xs rest.bodies) (drop_of_length-le events past) rest.each in
+    nothing_left rest.bodies on none first rest.listed)
   where
     nothing_left : (others : List Body) (on : List PartRow) → AreBodies (length sites) [] others → slice_get on 0 ≡ slice_get rows at → on ≡ all_body_rows sites (place + 1) others → ⊥
     nothing_left [] on none first e =
@@ -209,10 +211,10 @@ stuck_there sites events rows place from at row bodies table there low each coun
       listed = rows_made;
     } in
     first_bad sites events rows at stuck.within (record { more = more; stand = stand }) (λ others on good first e.
-        let split : take from rows ++ (stuck.read ++ on) ≡ all_body_rows sites 1 others = sym (append_assoc (take from rows) stuck.read on) ∙ ap (λ xs. xs ++ on) (sym stuck.listed) ∙ e in
-        let rest = goes_on others (stuck.read ++ on) good (next_there rows from at stuck.read on low stuck.within stuck.listed first) split in
-        let here = subst (λ xs. AreBodies (length sites) xs rest.bodies) (left_there events place row there) rest.each in
-        no_body rest.bodies on here first rest.listed)
+    let split : take from rows ++ (stuck.read ++ on) ≡ all_body_rows sites 1 others = sym (append_assoc (take from rows) stuck.read on) ∙ ap (λ xs. xs ++ on) (sym stuck.listed) ∙ e in
+    let rest = goes_on others (stuck.read ++ on) good (next_there rows from at stuck.read on low stuck.within stuck.listed first) split in
+    let here = subst (λ xs. AreBodies (length sites) xs rest.bodies) (left_there events place row there) rest.each in
+    no_body rest.bodies on here first rest.listed)
   where
     no_body : (others : List Body) (on : List PartRow) → AreBodies (length sites) (row ∷ drop (place + 1) events) others → slice_get on 0 ≡ slice_get rows at
         → stuck.read ++ on ≡ all_body_rows sites (place + 1) others → ⊥
