@@ -4,6 +4,8 @@ pub mod AtTheEnd
 pub mod CapturesLead
 pub mod ChangedEntries
 pub mod ClearsLead
+pub mod GoodAddresses
+pub mod GoodRows
 pub mod HeldInTurn
 pub mod InTurn
 pub mod KeyTests

@@ -20,7 +20,7 @@ use Rattle.site_rows.specs.declared.rows.QuarantineRow.{QuarantineRow}
 use Rattle.site_rows.specs.declared.rows.Rows.{Rows}
 use Rattle.site_rows.specs.declared.rows.SiteRow.{SiteRow}
 
-sizes : (n : ℕ) (sites : List Site) → length (map site_row (enumerate_from n sites)) ≡ length sites
+pub sizes : (n : ℕ) (sites : List Site) → length (map site_row (enumerate_from n sites)) ≡ length sites
 sizes n [] = refl
 sizes n (s ∷ sites) = ap suc (sizes (n + 1) sites)
 
@@ -43,12 +43,12 @@ quarantine_fault rows n table (BadRow place) r size same bad is =
     subst (IsStateFault rows) (sym is) (subst (λ t. IsFirstBad (IsQuarantineTable (length rows.site)) t place) same here)
 
 -- the rows of sites have their names
-names_of_rows : (n : ℕ) (sites : List Site) (t : ℕ) → name_of (map site_of_row (map site_row (enumerate_from n sites))) t ≡ name_of sites t
+pub names_of_rows : (n : ℕ) (sites : List Site) (t : ℕ) → name_of (map site_of_row (map site_row (enumerate_from n sites))) t ≡ name_of sites t
 names_of_rows n [] t = refl
 names_of_rows n (s ∷ sites) zero = refl
 names_of_rows n (s ∷ sites) (suc t) = names_of_rows (n + 1) sites t
 
-sites_of_rows : (n : ℕ) (sites : List Site) → length (map site_of_row (map site_row (enumerate_from n sites))) ≡ length sites
+pub sites_of_rows : (n : ℕ) (sites : List Site) → length (map site_of_row (map site_row (enumerate_from n sites))) ≡ length sites
 sites_of_rows n [] = refl
 sites_of_rows n (s ∷ sites) = ap suc (sites_of_rows (n + 1) sites)
 
@@ -67,7 +67,7 @@ module _ (sites others : List Site) (alike : (t : ℕ) → name_of sites t ≡ n
   all_rows_alike n [] = refl
   all_rows_alike n (b ∷ bodies) = let one = rows_alike n b in let rest = all_rows_alike (n + 1) bodies in λ i. one i ++ rest i
 
-  table_alike : (events : List EventRow) (rows : List PartRow) → IsPartTable sites events rows → IsPartTable others events rows
+  pub table_alike : (events : List EventRow) (rows : List PartRow) → IsPartTable sites events rows → IsPartTable others events rows
   table_alike events rows table = record {
     bodies = table.bodies;
     each = subst (λ n. AreBodies n events table.bodies) size table.each;
