@@ -1,6 +1,6 @@
 -- The rows of the addresses of sites stand in a table that has no bad row.
 use Rattle.std.proofs.Common.{◌≡◌, ◌⊎◌, inl, inr, ℕ, zero, suc, ◌+◌, ◌<◌, ◌≤◌, ℤ, pos, Bool, true, false, Option, Some, None, List, [], ◌∷◌, length, map, take, refl, sym, ap, subst, ◌∙◌, arith}
-use Rattle.std.specs.Prelude.{Any, T, option_map, ◌&&◌, ◌-ℤ◌, get_or}
+use Rattle.std.specs.Prelude.{Any, T, option_map, ◌&&◌, ◌-ℤ◌, get_or, nat_le}
 use Rattle.std.specs.Cmp.{IsTotalOrder}
 use Rattle.std.specs.FinMap as finite
 use Rattle.std.specs.FinMap.{entries, entries_sorted, get, get-empty, is_sorted}
@@ -15,7 +15,7 @@ use Rattle.std.proofs.lemmas.Option.{get_or_from_slice_get, slice_get-get_or, sl
 use Rattle.epc_core.specs.Items.{is_plain}
 use Rattle.epc_core.specs.Spellings.{IsPlain}
 use Rattle.event_json.proofs.Plain.{plain_decides}
-use Rattle.event_json.specs.Sites.{Site, AreSites, is_site, repeats}
+use Rattle.event_json.specs.Sites.{Site, AreSites, is_site, is_site_name, repeats}
 use Rattle.frame_core.proofs.Ascending.{first, second}
 use Rattle.site_core.proofs.Entries.{entry_found, entry_there}
 use Rattle.site_core.proofs.ItemOrder.{item_total, item_exact}
@@ -135,7 +135,7 @@ module _ (sites : List Site) (are : AreSites sites) where
       let low = stands_within is.site.addresses is.place e.0 is.there in
       let number : e.1.site ≡ is.number = ap (λ (a : Address). a.site) is.at ∙ omega arith in
       let place : e.1.place ≡ is.place = ap (λ (a : Address). a.place) is.at in
-      let plain : is_plain e.0 ≡ true = all_pass_there is_plain is.site.addresses is.place e.0 (right _ _ (stands_good is_site sites is.number is.site are.good is.of_list)) is.there in
+      let plain : is_plain e.0 ≡ true = all_pass_there is_plain is.site.addresses is.place e.0 (right (is_site_name is.site.name && nat_le (length is.site.addresses) 16) (list_all is_plain is.site.addresses) (stands_good is_site sites is.number is.site are.good is.of_list)) is.there in
       record {
         plain = (plain_decides e.0).0 plain;
         site = (is.number, record { number = ap pos number; among = stands_within sites is.number is.site is.of_list });

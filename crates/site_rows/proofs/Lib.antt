@@ -19,6 +19,7 @@ pub mod PartsInTurn
 pub mod Permuted
 pub mod QuarantineChanges
 pub mod ReadFaults
+pub mod ReadBack
 pub mod RowsOfMaps
 pub mod SameAddressRows
 pub mod SameEvents

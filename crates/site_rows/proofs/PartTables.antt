@@ -8,12 +8,12 @@ use Rattle.std.proofs.lemmas.Option.{slice_get_past}
 use Rattle.epc_core.specs.Items.{uri_key}
 use Rattle.epc_core.specs.Spellings.{IsKey, IsPlain}
 use Rattle.event_json.specs.Events.{Content, IsIdentifier}
-use Rattle.event_json.specs.Sites.{Site}
+use Rattle.event_json.specs.Sites.{Site, ShipsAmong}
 use Rattle.event_json.specs.declared.bodies.Body.{Body}
 use Rattle.event_json.specs.declared.bodies.Body.TheVariants.{Note, Ship, Make}
 use Rattle.site_core.proofs.Places.{some_stands, taken_more}
 use Rattle.site_rows.specs.BadEvents.{IsEvent, IsEventTable}
-use Rattle.site_rows.specs.BadParts.{AreBodies, IsBodyOf, IsPartTable, all_body_rows}
+use Rattle.site_rows.specs.BadParts.{AreBodies, AreMembers, IsBodyOf, IsPartTable, all_body_rows}
 use Rattle.site_rows.specs.BadRows.{Begins, IsFirstBad}
 use Rattle.site_rows.specs.PartsInTurn.{AreAllRead, IsBodyRead, IsPast, IsStuck}
 use Rattle.site_rows.specs.RecordRows.{body_rows, name_of, part_row, part_rows, parts_of}
@@ -36,6 +36,17 @@ bodies_left sites (suc n) [] [] h = tt
 bodies_left sites (suc n) [] (b ∷ bodies) h = absurd h
 bodies_left sites (suc n) (r ∷ rows) [] h = absurd h
 bodies_left sites (suc n) (r ∷ rows) (b ∷ bodies) h = bodies_left sites n rows bodies h.1
+
+-- they ship to sites of the list
+ships_among : (sites : ℕ) (body : Body) → AreMembers sites body → ShipsAmong sites body
+ships_among sites (Note items) members = tt
+ships_among sites (Ship items to outside) members = members.1
+ships_among sites (Make id ins outs) members = tt
+
+pub all_ship_among : (sites : ℕ) (rows : List EventRow) (es : List Content) → AreBodies sites rows (map (λ (e : Content). e.body) es) → All (λ (e : Content). ShipsAmong sites e.body) es
+all_ship_among sites rows [] h = All-nil (λ (e : Content). ShipsAmong sites e.body)
+all_ship_among sites [] (e ∷ es) h = absurd h
+all_ship_among sites (r ∷ rows) (e ∷ es) h = All-cons (λ (x : Content). ShipsAmong sites x.body) e es (ships_among sites e.body h.0.members) (all_ship_among sites rows es h.1)
 
 -- an event of each kind, with few items
 least_of : (sites m : ℕ) (kind : ℤ) (id : Option (List ℕ)) → kind ≡ pos m → m < 3 → IsIdentifier id → (kind ≡ pos 2) ⊎ (id ≡ None) → (body : Body) × IsBodyOf sites kind id body

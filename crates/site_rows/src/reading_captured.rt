@@ -1,8 +1,9 @@
 //! The captured events, read back from their rows and the rows of their lists.
-ghost use Rattle.std.specs.Prelude.{◌≡◌, ◌≤◌, ◌<◌, ◌⊎◌, ◌+◌, ◌^◌, ℕ, None, flat_map, length, map, option_map, pos, IfOk, IfErr, IfSome};
+ghost use Rattle.std.specs.Prelude.{◌≡◌, ◌≤◌, ◌<◌, ◌⊎◌, ◌+◌, ◌^◌, ℕ, None, flat_map, length, map, option_map, pos, All, IfOk, IfErr, IfSome};
 ghost use Rattle.std.specs.Int.{int_div_euclid, int_rem_euclid};
 ghost use Rattle.std.specs.List.{enumerate_from};
 ghost use Rattle.event_json.specs.Events.{IsIdentifier, IsInstant};
+ghost use Rattle.event_json.specs.Sites.{ShipsAmong};
 ghost use Rattle.site_rows.specs.BadEvents.{IsBelow, IsEvent, IsEventTable};
 ghost use Rattle.site_rows.specs.BadParts.{IsPartTable};
 ghost use Rattle.site_rows.specs.BadRows.{IsFaultOf};
@@ -36,6 +37,7 @@ pub(crate) fn captured_of(
     ensures me { IfOk result (λ c. c.me ≡ me) }
     ensures events { IfOk result (λ c. events.now ≡ map event_row (enumerate_from 1 c.events)) }
     ensures parts { IfOk result (λ c. parts.now ≡ flat_map (parts_of sites.now) (enumerate_from 1 c.events)) }
+    ensures among { IfOk result (λ c. All (λ e. ShipsAmong (length sites.now) e.body) c.events) }
     ensures bad { IfErr result (λ fault. IsFaultOf (IsPartTable sites.now events.now) parts.now fault) }
 {
     let mut captured = Captured::new(alloc, me);

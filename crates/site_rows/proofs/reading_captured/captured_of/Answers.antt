@@ -1,10 +1,10 @@
-use Rattle.std.proofs.Common.{◌≡◌, ◌+◌, [], ◌∷◌, ◌++◌, length, map, ap, ◌∙◌}
+use Rattle.std.proofs.Common.{◌≡◌, ◌+◌, [], ◌∷◌, ◌++◌, length, map, take, ap, ◌∙◌}
 use Rattle.std.proofs.lemmas.List.{length-append, length-map}
 use Rattle.event_json.specs.Events.{Content}
 use Rattle.trace_core.specs.Sites.{SiteEvents}
 use Rattle.site_rows.proofs.AtTheEnd.{stands_at}
 use Rattle.site_rows.proofs.ListsInTurn.{event_more, parts_more}
-use Rattle.site_rows.proofs.PartTables.{each_more, left_over, one_more_read, rows_of_events, stuck_there}
+use Rattle.site_rows.proofs.PartTables.{all_ship_among, each_more, left_over, one_more_read, rows_of_events, stuck_there}
 use Rattle.site_rows.proofs.reading_captured.captured_of.Goals as goal
 
 pub event_at-requires-clause-event : goal.event_at-requires-clause-event
@@ -50,3 +50,6 @@ returns-then-at-parts-clause-bad c =
     let so_far = c.loop-place.invariant in
     left_over c.args.sites.now c.args.events.now c.args.parts.now c.loop-place.place c.loop-place.at (map (λ (e : Content). e.body) es) c.loop-place-test.false c.if-at-parts.true so_far.each
     (so_far.parts ∙ rows_of_events c.args.sites.now 1 es) so_far.goes_on
+
+pub returns-clause-among : goal.returns-clause-among
+returns-clause-among c = all_ship_among (length c.args.sites.now) (take c.loop-place.place c.args.events.now) c.loop-place.captured.events c.loop-place.invariant.each
