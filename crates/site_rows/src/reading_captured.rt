@@ -70,7 +70,7 @@ fn event_at(
     ensures body { IfOk result (λ event. IsBodyAnswer sites.now (place + 1) row.now.kind row.now.make_id parts.now at.old at.new (option_map (λ e. e.body) event)) }
 {
     let id = identifier(alloc, &row.id)?;
-    let instant = instant_of(row.seconds, row.nanos)?;
+    let instant = instant_of(row.seconds, row.nanos);
     match body_at(alloc, sites, parts, at, place as u64 + 1, row)? {
         Some(body) => Ok(Some(Event::new(id, instant, body))),
         None => Ok(None),
@@ -117,15 +117,11 @@ fn identifier(alloc: Global, text: &Option<Text>) -> Result<Option<PlainText>, A
 }
 
 /// The instant of so many seconds and nanoseconds, in nanoseconds.
-fn instant_of(seconds: i64, nanos: i64) -> Result<i128, AllocError>
+fn instant_of(seconds: i64, nanos: i64) -> i128
     requires nanos { (n : ℕ) × IsBelow 1_000_000_000 nanos n }
-    ensures seconds { IfOk result (λ t. int_div_euclid t SECOND ≡ seconds) }
-    ensures nanos { IfOk result (λ t. int_rem_euclid t SECOND ≡ nanos) }
-    ensures fits { IfOk result IsInstant }
+    ensures seconds { int_div_euclid result SECOND ≡ seconds }
+    ensures nanos { int_rem_euclid result SECOND ≡ nanos }
+    ensures fits { IsInstant result }
 {
-    let instant = seconds as i128 * NANOS + nanos as i128;
-    if instant.div_euclid(NANOS) != seconds as i128 || instant.rem_euclid(NANOS) != nanos as i128 {
-        return Err(AllocError);
-    }
-    Ok(instant)
+    seconds as i128 * NANOS + nanos as i128
 }
