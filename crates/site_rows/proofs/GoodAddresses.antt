@@ -1,7 +1,6 @@
 -- The rows of the addresses of sites stand in a table that has no bad row.
-use Rattle.std.proofs.Common.{◌≡◌, ◌⊎◌, inl, inr, ℕ, zero, suc, ◌+◌, ◌<◌, ◌≤◌, ℤ, pos, Bool, true, false, Option, Some, None, List, [], ◌∷◌, length, map, take, refl, sym, ap, subst, ◌∙◌, arith}
-use Rattle.std.specs.Prelude.{Any, T, option_map, ◌&&◌, ◌-ℤ◌, get_or, nat_le}
-use Rattle.std.specs.Cmp.{IsTotalOrder}
+use Rattle.std.proofs.Common.{◌≡◌, ◌⊎◌, inl, inr, ℕ, zero, suc, ◌+◌, ◌<◌, pos, Bool, true, false, Option, Some, None, List, [], ◌∷◌, length, map, take, refl, sym, ap, subst, ◌∙◌, arith}
+use Rattle.std.specs.Prelude.{T, option_map, ◌&&◌, ◌-ℤ◌, nat_le}
 use Rattle.std.specs.FinMap as finite
 use Rattle.std.specs.FinMap.{entries, entries_sorted, get, get-empty, is_sorted}
 use Rattle.std.specs.FinMap.Entries.{below_all}
@@ -13,7 +12,6 @@ use Rattle.std.proofs.lemmas.Cmp.{tied_itself}
 use Rattle.std.proofs.lemmas.Int.{ints}
 use Rattle.std.proofs.lemmas.Option.{get_or_from_slice_get, slice_get-get_or, slice_get-map}
 use Rattle.epc_core.specs.Items.{is_plain}
-use Rattle.epc_core.specs.Spellings.{IsPlain}
 use Rattle.event_json.proofs.Plain.{plain_decides}
 use Rattle.event_json.specs.Sites.{Site, AreSites, is_site, is_site_name, repeats}
 use Rattle.frame_core.proofs.Ascending.{first, second}
@@ -21,9 +19,7 @@ use Rattle.site_core.proofs.Entries.{entry_found, entry_there}
 use Rattle.site_core.proofs.ItemOrder.{item_total, item_exact}
 use Rattle.site_core.proofs.Places.{member_there, some_stands, stands_within}
 use Rattle.site_core.proofs.Quarantining.{place_of}
-use Rattle.site_core.specs.ItemSets.{item_cmp}
-use Rattle.site_rows.specs.BadAddresses.{IsAddress, IsAddressTable, IsPlace, Stands}
-use Rattle.site_rows.specs.BadRows.{IsSiteNumber}
+use Rattle.site_rows.specs.BadAddresses.{IsAddress, IsAddressTable, Stands}
 use Rattle.site_rows.specs.RecordRows.{address_row, addresses_at, addresses_of}
 use Rattle.site_rows.specs.Texts.{text_cmp}
 use Rattle.site_rows.specs.declared.address_rows.Address.{Address}
@@ -142,7 +138,7 @@ module _ (sites : List Site) (are : AreSites sites) where
         place = (is.place, record { place_of = ap pos place; small = omega (arith, few, low) });
         once = λ earlier. twice earlier there;
         no_gap = subst (λ n. (pos n ≡ pos 0) ⊎ Stands rows (pos e.1.site) (pos n -ℤ pos 1)) (sym place)
-        (subst (λ n. (pos is.place ≡ pos 0) ⊎ Stands rows (pos n) (pos is.place -ℤ pos 1)) (sym number) (no_gap is.number is.place is.site e.0 is.of_list is.there));
+            (subst (λ n. (pos is.place ≡ pos 0) ⊎ Stands rows (pos n) (pos is.place -ℤ pos 1)) (sym number) (no_gap is.number is.place is.site e.0 is.of_list is.there));
         by_text = λ j before next is_before.
             let d = mapped_at address_row listed j before is_before in
             let order = in_order text_cmp listed j k d.0 e up (omega (arith, next)) d.1 at in

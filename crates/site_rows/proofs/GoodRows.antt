@@ -1,7 +1,7 @@
 -- The rows of a record stand in tables that have no bad row.
-use Rattle.std.proofs.Common.{◌≡◌, ◌⊎◌, inl, inr, ℕ, zero, suc, ◌+◌, ◌-◌, ◌%◌, ◌<◌, ◌≤◌, ℤ, pos, Option, Some, None, List, [], ◌∷◌, ◌++◌, length, map, take, drop, refl, sym, ap, subst, ◌∙◌, arith}
+use Rattle.std.proofs.Common.{◌≡◌, ◌⊎◌, inl, inr, ℕ, zero, suc, ◌+◌, ◌-◌, ◌%◌, ◌<◌, ℤ, pos, Option, Some, None, List, [], ◌∷◌, ◌++◌, length, map, drop, refl, sym, ap, subst, ◌∙◌, arith}
 use lib.IntN.{negsuc}
-use Rattle.std.specs.Prelude.{Any, IsSome, T, is_some}
+use Rattle.std.specs.Prelude.{Any, IsSome, is_some}
 use Rattle.std.specs.Cmp.{IsTotalOrder}
 use Rattle.std.specs.Cmp as Cmp
 use Rattle.std.specs.FinMap.{FinMap, entries, entries-from_sorted, from_sorted, get}
@@ -13,11 +13,11 @@ use Rattle.std.proofs.Math.Nat.{mod-lt}
 use Rattle.std.proofs.lemmas.Bool.{cases_lt}
 use Rattle.std.proofs.lemmas.List.{take-append-drop}
 use Rattle.std.proofs.lemmas.List.Elements.{All-head, All-tail}
-use Rattle.std.proofs.lemmas.Option.{get_or_from_slice_get, slice_get-map}
+use Rattle.std.proofs.lemmas.Option.{get_or_from_slice_get}
 use Rattle.epc_core.specs.Spellings.{IsKey}
 use Rattle.event_json.specs.Contents.{id_of, kind_of}
 use Rattle.event_json.specs.Events.{Content, IsBody, IsIdentifier}
-use Rattle.event_json.specs.Sites.{Site, AreSites}
+use Rattle.event_json.specs.Sites.{Site}
 use Rattle.event_json.specs.declared.bodies.Body.{Body}
 use Rattle.event_json.specs.declared.bodies.Body.TheVariants.{Note, Ship, Make}
 use Rattle.frame_core.specs.Identifiers.{message_cmp, recall_cmp}
@@ -27,19 +27,16 @@ use Rattle.trace_core.proofs.Members.{contains_here, contains_there}
 use Rattle.site_core.proofs.Entries.{entry_found}
 use Rattle.site_core.proofs.Places.{some_stands, stands_within}
 use Rattle.site_core.specs.ItemSets as set
-use Rattle.site_core.specs.Quarantines.{Items, Quarantine}
+use Rattle.site_core.specs.Quarantines.{Items}
 use Rattle.site_core.specs.Records.{IsRecallAmong, Record}
-use Rattle.site_rows.specs.BadAddresses.{IsAddressTable, IsFirstBadAddress}
-use Rattle.site_rows.specs.BadEvents.{IsBelow, IsEvent, IsEventTable, IsFirstBadEvent}
+use Rattle.site_rows.specs.BadAddresses.{IsAddressTable}
+use Rattle.site_rows.specs.BadEvents.{IsBelow, IsEvent, IsEventTable}
 use Rattle.site_rows.specs.BadParts.{AreBodies, IsPartTable, site_of_row}
-use Rattle.site_rows.specs.BadRows.{AreOfMap, Begins, IsFirstBad, IsHeldEntry, IsOutboxEntry, IsOwnEntry, IsParentEntry, IsQuarantineTable, IsSeenEntry, IsSiteTable, IsStoreTable, Match}
-use Rattle.site_rows.specs.HeldItems.{Held, all_held, held_cmp, held_of, held_under}
+use Rattle.site_rows.specs.BadRows.{AreOfMap, IsFirstBad, IsHeldEntry, IsOutboxEntry, IsOwnEntry, IsParentEntry, IsQuarantineTable, IsSeenEntry, IsSiteTable, IsStoreTable, Match}
+use Rattle.site_rows.specs.HeldItems.{all_held, held_cmp, held_of, held_under}
 use Rattle.site_rows.specs.Laws.{HoldsItems, IsEventAmong, IsKept, RowsOfRecordsAreGood}
 use Rattle.site_rows.specs.ReadRows.{IsBadRow}
 use Rattle.site_rows.specs.RecordRows.{SECOND, event_row, outbox_row, parent_row, parts_of, quarantine_row, quarantine_rows, recall_row, rows_of, seen_row, site_row, store_row}
-use Rattle.site_rows.specs.declared.rows.AddressRow.{AddressRow}
-use Rattle.site_rows.specs.declared.rows.EventRow.{EventRow}
-use Rattle.site_rows.specs.declared.rows.QuarantineRow.{QuarantineRow}
 use Rattle.site_rows.specs.declared.rows.SiteRow.{SiteRow}
 use Rattle.site_rows.specs.declared.tables.Table.{Table}
 use Rattle.site_rows.specs.declared.tables.Table.TheVariants.{Store, Site as SiteTable, Address, Event, Part, Quarantine as QuarantineTable, Outbox, Seen, Parent, Recall as RecallTable}
@@ -71,14 +68,16 @@ store_stands : (s : Record) → IsKept s → IsStoreTable (map site_row (enumera
 store_stands s kept =
     let me = s.engagement.me in
     let site = some_stands s.sites me kept.sound.me in
-    let rows = map site_row (enumerate_from 0 s.sites) in
-    (record { me = me; next_message = s.engagement.next_message; next_recall = s.engagement.next_recall }, record {
-      same = refl;
-      small = omega (arith, kept.sound.me, kept.sites.few);
-      listed = any_there (λ (r : SiteRow). r.no ≡ pos me) rows me (site_row (0 + me, site.0)) (site_there 0 s.sites me site.0 site.1) (ap pos (omega arith));
-      next_message = kept.sound.next_message;
-      next_recall = kept.sound.next_recall;
-    })
+    let rows = map site_row (enumerate_from 0 s.sites) in (
+      record { me = me; next_message = s.engagement.next_message; next_recall = s.engagement.next_recall },
+      record {
+        same = refl;
+        small = omega (arith, kept.sound.me, kept.sites.few);
+        listed = any_there (λ (r : SiteRow). r.no ≡ pos me) rows me (site_row (0 + me, site.0)) (site_there 0 s.sites me site.0 site.1) (ap pos (omega arith));
+        next_message = kept.sound.next_message;
+        next_recall = kept.sound.next_recall;
+      },
+    )
 
 -- ---- events
 rest_below : (t : ℤ) → (n : ℕ) × IsBelow 1_000_000_000 (int_rem_euclid t SECOND) n
@@ -171,8 +170,8 @@ quarantine_stands s kept holds =
     let q = s.quarantine in
     let sites = length s.sites in
     let match = held_matched sites (entries q) (λ e there.
-        let is = entry_found recall_total q e.0 e.1 there in
-        (kept.sound.quarantine e.0 (found (get q e.0) e.1 is), holds.quarantine e.0 e.1 is)) in
+    let is = entry_found recall_total q e.0 e.1 there in
+    (kept.sound.quarantine e.0 (found (get q e.0) e.1 is), holds.quarantine e.0 e.1 is)) in
     record {
       kept = from_sorted (all_held q);
       match = subst (Match (IsHeldEntry sites) (flat_map quarantine_rows (entries q))) (sym (entries-from_sorted held_cmp (all_held q) (all_ascend q))) match;

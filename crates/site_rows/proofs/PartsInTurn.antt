@@ -1,5 +1,5 @@
 -- The rows of an event's lists, read in turn: they are the only ones that begin so.
-use Rattle.std.proofs.Common.{◌≡◌, ◌⊎◌, inl, inr, ℕ, zero, suc, ◌+◌, ◌-◌, ◌<◌, ◌≤◌, ℤ, pos, Bool, true, false, Option, Some, None, List, [], ◌∷◌, ◌++◌, length, map, take, refl, sym, ap, subst, ◌∙◌, append_assoc, arith}
+use Rattle.std.proofs.Common.{◌≡◌, ◌⊎◌, inl, inr, ℕ, zero, suc, ◌+◌, ◌-◌, ◌<◌, ◌≤◌, pos, Bool, true, false, Option, Some, None, List, [], ◌∷◌, ◌++◌, length, map, take, refl, sym, ap, subst, ◌∙◌, append_assoc, arith}
 use Rattle.std.specs.Prelude.{⊤, ◌==◌, is_some, not}
 use Rattle.std.specs.List.{All, enumerate_from, slice_get}
 use Rattle.std.proofs.lemmas.Bool.Decides.{eqb_tells}
@@ -7,12 +7,10 @@ use Rattle.std.proofs.lemmas.List.{append-nil, length-map, map-id, length-take-l
 use Rattle.std.proofs.lemmas.List.Elements.{All-head, All-tail, All-nil, All-cons}
 use Rattle.epc_core.specs.Items.{uri_key}
 use Rattle.epc_core.specs.Spellings.{IsKey, IsPlain, SpellsNumber}
-use Rattle.event_json.specs.Contents.{kind_of, id_of}
 use Rattle.event_json.specs.Events.{IsIdentifier}
 use Rattle.event_json.specs.Sites.{Site}
-use Rattle.event_json.specs.declared.bodies.Body.{Body}
 use Rattle.event_json.specs.declared.bodies.Body.TheVariants.{Note, Ship, Make}
-use Rattle.site_rows.specs.BadParts.{AreMembers, IsBodyOf}
+use Rattle.site_rows.specs.BadParts.{IsBodyOf}
 use Rattle.site_rows.specs.PartsInTurn.{IsMemberAt, IsListRead, IsPast, AreAllRead, IsWanting, IsBodyRead, IsStuck}
 use Rattle.site_rows.specs.RecordRows.{body_rows, name_of, part_row, part_rows}
 use Rattle.site_rows.specs.declared.rows.PartRow.{PartRow}

@@ -1,9 +1,9 @@
 -- What is read from the rows of all tables is a record that a site may keep, and from those of a record that record.
-use Rattle.std.proofs.Common.{◌≡◌, ℕ, ◌+◌, ◌<◌, ℤ, pos, List, length, map, Option, Some, None, Result, Ok, Err, IfOk, refl, sym, ap, subst, ◌∙◌, arith}
+use Rattle.std.proofs.Common.{◌≡◌, ℕ, ◌<◌, pos, List, length, map, Option, Some, None, Result, Ok, Err, IfOk, refl, sym, ap, subst, ◌∙◌, arith}
 use mathlib.Core.Bool.{false≢true}
 use Rattle.std.specs.Prelude.{Any, IfErr, IsSome, MatchResult}
 use Rattle.std.specs.FinMap.{get}
-use Rattle.std.specs.List.{All, enumerate_from, slice_get}
+use Rattle.std.specs.List.{All, enumerate_from}
 use Rattle.std.proofs.lemmas.Option.{slice_get-get_or}
 use Rattle.event_json.specs.Events.{Content}
 use Rattle.event_json.specs.Sites.{Site, ShipsAmong}

@@ -6,7 +6,7 @@ use Rattle.event_json.specs.declared.bodies.Body.{Body}
 use Rattle.event_json.specs.declared.bodies.Body.TheVariants.{Note, Ship, Make}
 use Rattle.site_rows.specs.BadAddresses.{IsAddressFault, IsFirstBadAddress}
 use Rattle.site_rows.specs.BadParts.{AreBodies, IsPartTable, all_body_rows, site_of_row}
-use Rattle.site_rows.specs.BadRows.{Begins, IsFaultOf, IsFirstBad, IsQuarantineTable}
+use Rattle.site_rows.specs.BadRows.{IsFaultOf, IsFirstBad, IsQuarantineTable}
 use Rattle.site_rows.specs.ReadRows.{IsStateFault, IsFaultIn}
 use Rattle.site_rows.specs.RecordRows.{body_rows, name_of, part_rows, site_row}
 use Rattle.site_rows.specs.declared.reading.StateFault.{StateFault}

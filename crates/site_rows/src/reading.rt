@@ -83,9 +83,7 @@ fn read_state(alloc: Global, rows: &Rows) -> Result<SiteState, StateFault>
         Err(fault) => return Err(in_table(Table::Quarantine, fault)),
     };
     let diffusion = diffusion_of(alloc, numbers, sites.len(), rows)?;
-    Ok(SiteState::restore(
-        alloc, sites, captured, quarantine, diffusion,
-    ))
+    Ok(SiteState::restore(alloc, sites, captured, quarantine, diffusion))
 }
 
 /// The fault of a table among those of all tables.
