@@ -4,6 +4,8 @@ pub mod AtTheEnd
 pub mod CapturesLead
 pub mod ChangedEntries
 pub mod ClearsLead
+pub mod GoodAddresses
+pub mod GoodRows
 pub mod HeldInTurn
 pub mod InTurn
 pub mod KeyTests
@@ -12,9 +14,12 @@ pub mod MessageRows
 pub mod NamesInTurn
 pub mod NamesOfSites
 pub mod OneEntry
+pub mod PartTables
+pub mod PartsInTurn
 pub mod Permuted
 pub mod QuarantineChanges
 pub mod ReadFaults
+pub mod ReadBack
 pub mod RowsOfMaps
 pub mod SameAddressRows
 pub mod SameEvents

@@ -35,5 +35,6 @@ returns c =
     record {
       rows = rows_held c.args.sites c.args.rows.now c.loop-place.quarantine all;
       among = recalls_among c.args.sites c.args.rows.now c.loop-place.quarantine c.by_recall.ensures.no_empty all;
+      no_empty_set = c.by_recall.ensures.no_empty;
       bad = tt;
     }
