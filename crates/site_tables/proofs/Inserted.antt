@@ -27,10 +27,10 @@ use Rattle.sqlite.specs.declared.run.Mode.{Mode}
 use Rattle.sqlite.specs.Command.{Command}
 use Rattle.sqlite.specs.Listing.{understood}
 use Rattle.sqlite.proofs.Callers.{IsPlain, command_of, runs_as, one_step}
-use Rattle.site_tables.specs.TableRows.{visible, Changes, adds, clears}
-use Rattle.site_tables.specs.Commands.{row_terms, rowids, inserts_row, deletes_all}
+use Rattle.site_tables.specs.TableRows.{visible, Changes, adds}
+use Rattle.site_tables.specs.Commands.{row_terms, rowids, inserts_row}
 use Rattle.site_tables.proofs.Answered.{whole_answer, shows_all}
-use Rattle.site_tables.proofs.Applied.{has_inserted, has_none, keeps_others}
+use Rattle.site_tables.proofs.Applied.{has_inserted, keeps_others}
 
 -- nothing is computed as a row is inserted
 pub record IsSimple (schema : Schema) (at : ℕ) (table : Table) : Type 0 where
