@@ -1,3 +1,7 @@
+pub mod Found
+pub mod InOrder
 pub mod KeptFailures
+pub mod KeptSteps
 pub mod KeptStops
+pub mod SiteSteps
 pub mod StepWrites
