@@ -23,7 +23,7 @@ shown_open k r shown = at k.is_open shown
     at true e = (refl, same_Some k.pair r e)
     at false e = absurd (let f : None ≡ Some r = e in cc)
 
-opened : (k : Kept) → k.is_open ≡ true → shown_in k ≡ Some k.pair
+pub opened : (k : Kept) → k.is_open ≡ true → shown_in k ≡ Some k.pair
 opened k is = ap (λ b. if b then Some k.pair else None) is
 
 pub closed_shows : (k : Kept) → k.is_open ≡ false → shown_in k ≡ None

@@ -1,4 +1,5 @@
 -- The steps and stops of a site that files keep are those of a keeper.
+use Rattle.std.specs.Prelude.{is_some, option_map, IfOk, IfErr, MatchResult}
 use Rattle.std.proofs.Common.{◌≡◌, ◌⊎◌, ◌<◌, ◌≤◌, ◌+◌, ◌^◌, ℕ, Bool, true, false, Option, Some, None, Result, Ok, Err, IsTrue, inl, inr, refl, sym, ◌∙◌, ap, subst, arith, ⊎_elim}
 use Rattle.sqlite_disk.specs.declared.Disk as disk
 use Rattle.sqlite_store.specs.declared.store.FileStore.{FileStore}
@@ -20,7 +21,7 @@ use Rattle.site_store.specs.declared.sites.Link.TheVariants.{Connected, Unconnec
 use Rattle.site_store.specs.declared.sites.StoredSite.{StoredSite}
 use Rattle.site_store.specs.Kept.{shown_in, MayIn, AppliesKept, StopsKept, KeepsAfter, KeepsStopped, is_idle}
 use Rattle.site_store.specs.StepWritten.{Keeps}
-use Rattle.site_store.specs.Sites.{shown_at, shown_by, MayBy, AppliesAt, AppliesBy, StopsAt, StopsBy, StaysShut}
+use Rattle.site_store.specs.Sites.{shown_at, shown_by, MayBy, AppliesAt, AppliesBy, StopsAt, StopsBy, OpensIn, StaysShut}
 use Rattle.site_store.proofs.KeptSteps.{applies_open, applies_memory, applies_closed, applies_count, applies_cause, stops_open, stops_closed, stops_count, closed_shows, shown_closed, fault_rises, fault_counts}
 
 module _ {D : Type 0} {g : disk.Ghosts D} where
@@ -46,13 +47,16 @@ module _ {D : Type 0} {g : disk.Ghosts D} where
       → (answer ≡ Err Closed) × (new ≡ old) × (after ≡ before)
   closed_at input answer (Connected before) (Connected after) old new shown h =
       let it = applies_closed input answer old new shown h.0 in
-      (it.0, it.1, ap (λ c. Connected c) (h.1 (rw it.0 tt)))
+      (it.0, it.1, ap (λ c. Connected c) (h.1 (rw it.0 refl)))
   closed_at input answer (Connected before) (Unconnected after) old new shown h = absurd h
   closed_at input answer (Unconnected before) (Connected after) old new shown h = absurd h
   closed_at input answer (Unconnected before) (Unconnected after) old new shown h = (h.0, h.1, ap (λ f. Unconnected f) h.2)
 
   same_site : (old new : StoredSite D g) → new.kept ≡ old.kept → new.link ≡ old.link → new.options ≡ old.options → new ≡ old
-  same_site old new a b c = cc
+  same_site old new a b c =
+      ap (λ (k : Kept). record new { kept = k }) a
+      ∙ ap (λ (l : Link D g). record new { kept = old.kept; link = l }) b
+      ∙ ap (λ o. record new { kept = old.kept; link = old.link; options = o }) c
 
   -- and where none is
   pub closed_by : (input : SiteInput) (answer : Result Effects KeepFault) (old new : StoredSite D g) → shown_by old ≡ None → AppliesBy old input answer new → (answer ≡ Err Closed) × (new ≡ old)
@@ -136,3 +140,22 @@ module _ {D : Type 0} {g : disk.Ghosts D} where
   pub stopped_in : (link : Link D g) (before after : Held (FileStore D g)) (input : SiteInput) (keep : Keep) (done : Bool) (old new : Kept) → link ≡ Connected before → StopsKept old.is_open old input keep done new → (old.is_open ≡ false → after ≡ before)
       → (HasCleanDisk (file_state after) → IsTrue old.is_open → Keeps old.pair (file_state before) → KeepsStopped new done (file_state after)) → StopsAt link old input keep done (Connected after) new
   stopped_in link before after input keep done old new is steps calls disk = rw is (steps, calls, disk)
+
+  -- ---- what an opening answers
+
+  pub shows_none : {A : Type 0} (f : A → Record) (seen : Option A) (r : Record) → is_some seen ≡ false → option_map f seen ≡ Some r → ⊥
+  shows_none f None r is e = let x : None ≡ Some r = e in absurd cc
+  shows_none f (Some a) r is e = let x : true ≡ false = is in absurd cc
+
+  pub opened_of : (old : StoredSite D g) (result : Result (StoredSite D g) (Unopened (StoredSite D g))) → IfOk result (OpensIn old.kept) → IfOk result (λ site. (r : Record) × MayBy old r × (shown_by site ≡ Some r))
+  opened_of old (Ok site) h = (h.1, h.2, h.3)
+  opened_of old (Err left) h = tt
+
+  pub cause_of : (old : StoredSite D g) (result : Result (StoredSite D g) (Unopened (StoredSite D g))) → IfErr result (StaysShut old.kept) → IfErr result (λ left. left.fault ≡ Device → Rises old.kept.failures left.keeper.kept.failures)
+  cause_of old (Ok site) h = tt
+  cause_of old (Err left) h = left_cause old left h
+
+  pub count_of : (old : StoredSite D g) (result : Result (StoredSite D g) (Unopened (StoredSite D g))) → IfOk result (OpensIn old.kept) → IfErr result (StaysShut old.kept)
+      → MatchResult result (λ site. old.kept.failures ≤ site.kept.failures) (λ left. old.kept.failures ≤ left.keeper.kept.failures)
+  count_of old (Ok site) h k = rw h.0 (omega arith)
+  count_of old (Err left) h k = left_count old left k
