@@ -24,6 +24,11 @@ use Rattle.site_store.specs.StepWritten.{Keeps}
 use Rattle.site_store.specs.Sites.{shown_at, shown_by, MayBy, AppliesAt, AppliesBy, StopsAt, StopsBy, OpensIn, StaysShut}
 use Rattle.site_store.proofs.KeptSteps.{applies_open, applies_memory, applies_closed, applies_count, applies_cause, stops_open, stops_closed, stops_count, closed_shows, shown_closed, fault_rises, fault_counts}
 
+-- who shows a record is seen to
+pub shows_none : {A : Type 0} (f : A → Record) (seen : Option A) (r : Record) → is_some seen ≡ false → option_map f seen ≡ Some r → ⊥
+shows_none f None r is e = let x : None ≡ Some r = e in absurd cc
+shows_none f (Some a) r is e = let x : true ≡ false = is in absurd cc
+
 module _ {D : Type 0} {g : disk.Ghosts D} where
   open_at : (r : Record) (input : SiteInput) (answer : Result Effects KeepFault) (before after : Link D g) (old new : Kept) → shown_at before old ≡ Some r → AppliesAt before old input answer after new
       → Applies r input answer (shown_at after new) (MayIn new)
@@ -142,10 +147,6 @@ module _ {D : Type 0} {g : disk.Ghosts D} where
   stopped_in link before after input keep done old new is steps calls disk = rw is (steps, calls, disk)
 
   -- ---- what an opening answers
-
-  pub shows_none : {A : Type 0} (f : A → Record) (seen : Option A) (r : Record) → is_some seen ≡ false → option_map f seen ≡ Some r → ⊥
-  shows_none f None r is e = let x : None ≡ Some r = e in absurd cc
-  shows_none f (Some a) r is e = let x : true ≡ false = is in absurd cc
 
   pub opened_of : (old : StoredSite D g) (result : Result (StoredSite D g) (Unopened (StoredSite D g))) → IfOk result (OpensIn old.kept) → IfOk result (λ site. (r : Record) × MayBy old r × (shown_by site ≡ Some r))
   opened_of old (Ok site) h = (h.1, h.2, h.3)
