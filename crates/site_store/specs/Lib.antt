@@ -1,4 +1,6 @@
 pub mod Faults
 pub mod Kept
+pub mod Openings
 pub mod Pairs
+pub mod Sites
 pub mod StepWritten

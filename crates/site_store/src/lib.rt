@@ -1,11 +1,14 @@
 //! A site kept in the tables of a file: a step stands once its rows are written, and what a stop left is opened again.
 #![tactic(auto)]
 
+mod beginning;
 mod faults;
+mod finding;
 mod kept;
+mod linking;
 mod pairs;
-mod reopening;
+mod sites;
 mod writing;
 
-pub use reopening::reopen;
+pub use sites::{Link, StoredSite};
 pub use writing::{Unwritten, write_step};
