@@ -139,12 +139,12 @@ module _ {D : Type 0} {g : disk.Ghosts D} where
   -- ---- what a call over the connection does
 
   pub took_at : (link : Link D g) (before after : Held (FileStore D g)) (input : SiteInput) (answer : Result Effects KeepFault) (old new : Kept) → link ≡ Connected before → AppliesKept old.is_open old input answer new → (IsTrue (is_idle answer) → after ≡ before)
-      → (HasCleanDisk (file_state after) → Keeps old.pair (file_state before) → KeepsAfter new answer (file_state after)) → AppliesAt link old input answer (Connected after) new
-  took_at link before after input answer old new is steps calls disk = rw is (steps, calls, disk)
+      → (HasCleanDisk (file_state after) → Keeps old.pair (file_state before) → KeepsAfter new answer (file_state after)) → (HasCleanDisk (file_state after) → HasCleanDisk (file_state before)) → AppliesAt link old input answer (Connected after) new
+  took_at link before after input answer old new is steps calls disk clean = rw is (steps, calls, λ kept now. disk now (kept (clean now)))
 
   pub stopped_in : (link : Link D g) (before after : Held (FileStore D g)) (input : SiteInput) (keep : Keep) (done : Bool) (old new : Kept) → link ≡ Connected before → StopsKept old.is_open old input keep done new → (old.is_open ≡ false → after ≡ before)
-      → (HasCleanDisk (file_state after) → IsTrue old.is_open → Keeps old.pair (file_state before) → KeepsStopped new done (file_state after)) → StopsAt link old input keep done (Connected after) new
-  stopped_in link before after input keep done old new is steps calls disk = rw is (steps, calls, disk)
+      → (HasCleanDisk (file_state after) → IsTrue old.is_open → Keeps old.pair (file_state before) → KeepsStopped new done (file_state after)) → (HasCleanDisk (file_state after) → HasCleanDisk (file_state before)) → StopsAt link old input keep done (Connected after) new
+  stopped_in link before after input keep done old new is steps calls disk clean = rw is (steps, calls, λ was kept now. disk now was (kept (clean now)))
 
   -- ---- what an opening answers
 
