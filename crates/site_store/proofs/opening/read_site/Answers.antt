@@ -1,4 +1,4 @@
-use Rattle.std.proofs.Common.{Err, sym, subst}
+use Rattle.std.proofs.Common.{sym, subst}
 use Rattle.sqlite.specs.Held.{state}
 use Rattle.site_store.specs.Opened.{IsOpenFault}
 use Rattle.site_store.proofs.OpeningReads.{unread_told}
