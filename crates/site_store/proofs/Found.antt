@@ -1,17 +1,16 @@
 -- What an opening finds is stored.
-use Rattle.std.proofs.Common.{◌≡◌, ℕ, ◌≤◌, arith}
+use Rattle.std.proofs.Common.{arith}
 use Rattle.sqlite_disk.specs.declared.Disk as disk
 use Rattle.sqlite_store.specs.declared.store.FileStore.{FileStore}
 use Rattle.sqlite.specs.Held.{Held}
 use Rattle.sqlite.specs.Files.{file_state}
-use Rattle.sqlite.specs.State.{State, HasCleanDisk, Survives}
+use Rattle.sqlite.specs.State.{HasCleanDisk, Survives}
 use Rattle.site_core.specs.Records.{Record}
 use Rattle.site_rows.specs.RecordRows.{rows_of}
 use Rattle.site_tables.specs.Stored.{contents_of}
 use Rattle.site_tables.proofs.Committed.{Settles}
 use Rattle.site_store.specs.Openings.{ListsRecord}
 use Rattle.site_store.specs.Sites.{IsKeptOver, StoresListed}
-use Rattle.site_store.specs.StepWritten.{Keeps}
 use Rattle.site_store.proofs.InOrder.{stored_still}
 
 module _ {D : Type 0} {g : disk.Ghosts D} where

@@ -1,5 +1,5 @@
 -- A step and a stop of a record that a database keeps are those of a keeper.
-use Rattle.std.proofs.Common.{◌≡◌, ◌⊎◌, ℕ, ◌+◌, ◌^◌, ◌≤◌, ◌==◌, arith, Bool, true, false, Option, Some, None, Result, Ok, Err, inl, inr, refl, sym, ◌∙◌, ap, subst, ⊎_elim, if◌then◌else◌}
+use Rattle.std.proofs.Common.{◌≡◌, ℕ, ◌+◌, ◌^◌, ◌≤◌, ◌==◌, arith, Bool, true, false, Some, None, Result, Ok, Err, inl, inr, refl, sym, ◌∙◌, ap, subst, ⊎_elim, if◌then◌else◌}
 use Rattle.std.proofs.lemmas.Bool.{eqb-true}
 use Rattle.std.proofs.lemmas.Option.{same_Some}
 use Rattle.site_core.specs.Records.{Record}
@@ -13,7 +13,7 @@ use Rattle.keeper_core.specs.declared.faults.KeepFault.TheVariants.{NoMemory, Re
 use Rattle.keeper_core.specs.Keeping.{Applies, Stops, IsAfter, MayBeOldOrNew, Rises}
 use Rattle.keeper_core.specs.Memory.{one_more}
 use Rattle.site_store.specs.declared.kept.Kept.{Kept}
-use Rattle.site_store.specs.Kept.{shown_in, MayIn, failures_after, ClosesAt, StepsKept, AppliesKept, StopsAfter, StopsInStep, StopsKept, stopped_at}
+use Rattle.site_store.specs.Kept.{shown_in, MayIn, failures_after, ClosesAt, StepsKept, AppliesKept, StopsAfter, StopsKept, stopped_at}
 
 -- where a record is shown, it is open in that
 pub shown_open : (k : Kept) (r : Record) → shown_in k ≡ Some r → (k.is_open ≡ true) × (k.pair ≡ r)

@@ -3,6 +3,8 @@ pub mod InOrder
 pub mod KeptFailures
 pub mod KeptSteps
 pub mod KeptStops
+pub mod Named
+pub mod OpeningReads
 pub mod SameRows
 pub mod SiteSteps
 pub mod StepWrites

@@ -22,7 +22,7 @@ use Rattle.site_rows.specs.declared.rows.Rows.{Rows}
 abbrev pub same_text : List ℕ → List ℕ → Bool
 same_text = pointwise nat_eq
 
-text_decides : (a b : List ℕ) → Decides (same_text a b) (a ≡ b)
+pub text_decides : (a b : List ℕ) → Decides (same_text a b) (a ≡ b)
 text_decides a b = slice_eq-Decides Decides-eqb a b _ refl
 
 option_decides : (a b : Option (List ℕ)) → Decides (option_eq same_text a b) (a ≡ b)

@@ -1,6 +1,6 @@
 -- The steps and stops of a site that files keep are those of a keeper.
 use Rattle.std.specs.Prelude.{is_some, option_map, IfOk, IfErr, MatchResult}
-use Rattle.std.proofs.Common.{◌≡◌, ◌⊎◌, ◌<◌, ◌≤◌, ◌+◌, ◌^◌, ℕ, Bool, true, false, Option, Some, None, Result, Ok, Err, IsTrue, inl, inr, refl, sym, ◌∙◌, ap, subst, arith, ⊎_elim}
+use Rattle.std.proofs.Common.{◌≡◌, ◌≤◌, Bool, true, false, Option, Some, None, Result, Ok, Err, IsTrue, inl, inr, refl, sym, ◌∙◌, ap, subst, arith, ⊎_elim}
 use Rattle.sqlite_disk.specs.declared.Disk as disk
 use Rattle.sqlite_store.specs.declared.store.FileStore.{FileStore}
 use Rattle.sqlite.specs.Held.{Held}
@@ -12,14 +12,14 @@ use Rattle.site_core.specs.declared.inputs.SiteInput.{SiteInput}
 use Rattle.site_core.specs.declared.outcomes.Effects.{Effects}
 use Rattle.keeper_core.specs.declared.faults.Keep.{Keep}
 use Rattle.keeper_core.specs.declared.faults.KeepFault.{KeepFault}
-use Rattle.keeper_core.specs.declared.faults.KeepFault.TheVariants.{NoMemory, Refused, Device, Store, Closed}
+use Rattle.keeper_core.specs.declared.faults.KeepFault.TheVariants.{NoMemory, Device, Closed}
 use Rattle.keeper_core.specs.declared.faults.Unopened.{Unopened}
 use Rattle.keeper_core.specs.Keeping.{Applies, Stops, Rises, StaysClosed}
 use Rattle.site_store.specs.declared.kept.Kept.{Kept}
 use Rattle.site_store.specs.declared.sites.Link.{Link}
 use Rattle.site_store.specs.declared.sites.Link.TheVariants.{Connected, Unconnected}
 use Rattle.site_store.specs.declared.sites.StoredSite.{StoredSite}
-use Rattle.site_store.specs.Kept.{shown_in, MayIn, AppliesKept, StopsKept, KeepsAfter, KeepsStopped, is_idle}
+use Rattle.site_store.specs.Kept.{MayIn, AppliesKept, StopsKept, KeepsAfter, KeepsStopped, is_idle}
 use Rattle.site_store.specs.StepWritten.{Keeps}
 use Rattle.site_store.specs.Sites.{shown_at, shown_by, MayBy, AppliesAt, AppliesBy, StopsAt, StopsBy, OpensIn, StaysShut}
 use Rattle.site_store.proofs.KeptSteps.{applies_open, applies_memory, applies_closed, applies_count, applies_cause, stops_open, stops_closed, stops_count, closed_shows, shown_closed, fault_rises, fault_counts}
@@ -139,12 +139,12 @@ module _ {D : Type 0} {g : disk.Ghosts D} where
   -- ---- what a call over the connection does
 
   pub took_at : (link : Link D g) (before after : Held (FileStore D g)) (input : SiteInput) (answer : Result Effects KeepFault) (old new : Kept) → link ≡ Connected before → AppliesKept old.is_open old input answer new → (IsTrue (is_idle answer) → after ≡ before)
-      → (HasCleanDisk (file_state after) → Keeps old.pair (file_state before) → KeepsAfter new answer (file_state after)) → AppliesAt link old input answer (Connected after) new
-  took_at link before after input answer old new is steps calls disk = rw is (steps, calls, disk)
+      → (HasCleanDisk (file_state after) → Keeps old.pair (file_state before) → KeepsAfter new answer (file_state after)) → (HasCleanDisk (file_state after) → HasCleanDisk (file_state before)) → AppliesAt link old input answer (Connected after) new
+  took_at link before after input answer old new is steps calls disk clean = rw is (steps, calls, λ kept now. disk now (kept (clean now)))
 
   pub stopped_in : (link : Link D g) (before after : Held (FileStore D g)) (input : SiteInput) (keep : Keep) (done : Bool) (old new : Kept) → link ≡ Connected before → StopsKept old.is_open old input keep done new → (old.is_open ≡ false → after ≡ before)
-      → (HasCleanDisk (file_state after) → IsTrue old.is_open → Keeps old.pair (file_state before) → KeepsStopped new done (file_state after)) → StopsAt link old input keep done (Connected after) new
-  stopped_in link before after input keep done old new is steps calls disk = rw is (steps, calls, disk)
+      → (HasCleanDisk (file_state after) → IsTrue old.is_open → Keeps old.pair (file_state before) → KeepsStopped new done (file_state after)) → (HasCleanDisk (file_state after) → HasCleanDisk (file_state before)) → StopsAt link old input keep done (Connected after) new
+  stopped_in link before after input keep done old new is steps calls disk clean = rw is (steps, calls, λ was kept now. disk now was (kept (clean now)))
 
   -- ---- what an opening answers
 

@@ -70,12 +70,12 @@ module _ {D : Type 0} {g : disk.Ghosts D} where
 
   -- ---- steps
 
-  -- a step; and what the disk holds after it, where it is honest and held the rows of the record before
+  -- a step; and where the tables held the rows of the record, what they hold after it on an honest disk
   abbrev pub AppliesAt : Link D g → Kept → SiteInput → Result Effects KeepFault → Link D g → Kept → Type 0
   AppliesAt (Connected before) old input answer (Connected after) new =
       AppliesKept old.is_open old input answer new
       × (IsTrue (is_idle answer) → after ≡ before)
-      × (HasCleanDisk (file_state after) → Keeps old.pair (file_state before) → KeepsAfter new answer (file_state after))
+      × (IsKeptOver before old.pair → HasCleanDisk (file_state after) → KeepsAfter new answer (file_state after))
   AppliesAt (Unconnected before) old input answer (Unconnected after) new = (answer ≡ Err Closed) × (new ≡ old) × (after ≡ before)
   AppliesAt before old input answer after new = ⊥
 
@@ -87,7 +87,7 @@ module _ {D : Type 0} {g : disk.Ghosts D} where
   StopsAt (Connected before) old input keep done (Connected after) new =
       StopsKept old.is_open old input keep done new
       × (old.is_open ≡ false → after ≡ before)
-      × (HasCleanDisk (file_state after) → IsTrue old.is_open → Keeps old.pair (file_state before) → KeepsStopped new done (file_state after))
+      × (IsTrue old.is_open → IsKeptOver before old.pair → HasCleanDisk (file_state after) → KeepsStopped new done (file_state after))
   StopsAt (Unconnected before) old input keep done (Unconnected after) new = (IsTrue done) × (new ≡ old) × (after ≡ before)
   StopsAt before old input keep done after new = ⊥
 

@@ -6,9 +6,11 @@ mod faults;
 mod finding;
 mod kept;
 mod linking;
+mod opening;
 mod pairs;
 mod sites;
 mod writing;
 
+pub use opening::{OpenFault, open_site};
 pub use sites::{Link, StoredSite};
 pub use writing::{Unwritten, write_step};

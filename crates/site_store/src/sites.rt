@@ -42,6 +42,7 @@ impl<D: Disk + Drop> StoredSite<D> {
     ) -> StoredSite<D>
         ensures shown { shown_by result ≡ Some state }
         ensures fresh { (failed_by result ≡ 0) × (statements_by result ≡ 0) }
+        ensures over { link_of result ≡ Link.Connected conn }
         ensures stored { IsKeptOver conn state → IsKeptBy result state }
     {
         StoredSite {

@@ -6,8 +6,8 @@ use frame_core::{Frame, MsgId, RecallId};
 use keeper_core::{Keep, MemoryKeeper, SiteKeeper};
 use site_core::{SiteInput, SiteState};
 use site_rows::rows_of;
-use site_store::StoredSite;
-use sqlite::{Connection, Files, Options};
+use site_store::{Link, OpenFault, StoredSite, open_site};
+use sqlite::{Connection, FileStore, Files, Options};
 use sqlite_disk::Memory;
 use std::alloc::Global;
 use std::test::Fail;
@@ -20,20 +20,25 @@ fn fresh(alloc: Global, number: u64) -> Result<SiteState, Fail> {
     Ok(SiteState::new(alloc, sites, if number == 0 { a } else { b }))
 }
 
-/// A site kept in files in memory.
-fn stored(alloc: Global, number: u64) -> Result<StoredSite<Memory>, Fail> {
+/// A connection to an empty database in memory.
+fn connected(alloc: Global) -> Result<Connection<FileStore<Memory>>, Fail> {
     let files = Files {
         log: Memory::new(alloc),
         db: Memory::new(alloc),
     };
-    let conn = match Connection::open_files(alloc, files, Options::new(1)) {
-        Ok(conn) => conn,
+    match Connection::open_files(alloc, files, Options::new(1)) {
+        Ok(conn) => Ok(conn),
         Err((error, left)) => {
             drop(left.into_files());
-            return Err(error.into());
+            Err(error.into())
         }
-    };
-    match StoredSite::create(alloc, conn, Options::new(1), fresh(alloc, number)?) {
+    }
+}
+
+/// A site kept in files in memory.
+fn stored(alloc: Global, number: u64) -> Result<StoredSite<Memory>, Fail> {
+    let state = fresh(alloc, number)?;
+    match StoredSite::create(alloc, connected(alloc)?, Options::new(1), state) {
         Ok(site) => Ok(site),
         Err(fault) => Err(fault.into()),
     }
@@ -169,5 +174,53 @@ fn a_stopped_site_is_opened(rt: HostRuntime) -> Result<(), Fail> {
     assert!(rt; stops_and_opens(rt.alloc(), site, Keep::Old)? == Some(0));
     let site = stored(rt.alloc(), 0)?;
     assert!(rt; stops_and_opens(rt.alloc(), site, Keep::New)? == Some(2));
+    Ok(())
+}
+
+/// The connection that a site gives up.
+fn given_up(site: StoredSite<Memory>) -> Result<Connection<FileStore<Memory>>, Fail> {
+    match site.release() {
+        Link::Connected(conn) => Ok(conn),
+        Link::Unconnected(_) => Err("the site has no connection".into()),
+    }
+}
+
+/// How many events a site shows that is opened by its name. None where another name opens it.
+fn opens_by_name(alloc: Global, site: StoredSite<Memory>) -> Result<Option<usize>, Fail> {
+    let Ok(site) = open_site(alloc, given_up(site)?, Options::new(1), "A") else {
+        return Err("the site is not opened".into());
+    };
+    let shown = site.view().map(|state| state.captured().len());
+    match open_site(alloc, given_up(site)?, Options::new(1), "B") {
+        Err(OpenFault::OtherSite(found)) if found.as_str() == "A" => Ok(shown),
+        _ => Ok(None),
+    }
+}
+
+/// A site that captured the document.
+fn captured(alloc: Global) -> Result<StoredSite<Memory>, Fail> {
+    let mut site = stored(alloc, 0)?;
+    match site.apply(input_of(alloc, Event::Captures)?) {
+        Ok(_) => Ok(site),
+        Err(fault) => Err(fault.into()),
+    }
+}
+
+#[test]
+fn a_site_is_opened_by_its_name(rt: HostRuntime) -> Result<(), Fail> {
+    let site = captured(rt.alloc())?;
+    assert!(rt; opens_by_name(rt.alloc(), site)? == Some(2));
+    Ok(())
+}
+
+/// Whether an empty database is told from a site.
+fn is_no_store(alloc: Global) -> Result<bool, Fail> {
+    let opened = open_site(alloc, connected(alloc)?, Options::new(1), "A");
+    Ok(matches!(opened, Err(OpenFault::NotAStore)))
+}
+
+#[test]
+fn an_empty_database_is_no_site(rt: HostRuntime) -> Result<(), Fail> {
+    assert!(rt; is_no_store(rt.alloc())?);
     Ok(())
 }
