@@ -1,10 +1,16 @@
 mod Beginning
+mod Ending
+mod Gathering
 mod Handing
+mod Looping
 mod Numbers
 mod Offering
 mod OneLog
 pub mod Passed
 mod Playing
+mod Settling
 mod Stamping
+mod Starting
 mod Steps
 mod Taking
+mod Zips
