@@ -6,16 +6,19 @@ use Rattle.site_core.specs.Records.{Record}
 use Rattle.world_core.specs.Keepers.{IsFirstClosed}
 use Rattle.wire_core.specs.Fitting.{SitesFit}
 use Rattle.wire_core.specs.Seats.{Line}
+use Rattle.crossbeam_channel.specs.Ends.{receives_on}
+use Rattle.site_threads.specs.declared.desks.DeskOut.{DeskOut}
 use Rattle.site_threads.specs.declared.gather.GatherCause.{GatherCause}
-use Rattle.site_threads.specs.declared.gather.GatherCause.TheVariants.{NoMemory, SiteLost, GaveUp}
+use Rattle.site_threads.specs.declared.gather.GatherCause.TheVariants.{NotAWorld, NoMemory, SiteLost, GaveUp}
 use Rattle.site_threads.specs.declared.gather.SiteList.{SiteList}
 use Rattle.site_threads.specs.declared.jobs.Entry.{Entry}
 use Rattle.site_threads.specs.declared.jobs.Job.{Job}
 use Rattle.site_threads.specs.declared.runs.SiteRun.{SiteRun}
 use Rattle.site_threads.specs.declared.turns.TurnCause.{TurnCause}
 use Rattle.site_threads.specs.declared.turns.TurnCause.TheVariants as turns
+use Rattle.site_threads.specs.Beginning.{BeganIn, TookEnd}
 use Rattle.site_threads.specs.Ends.{takes, IsOut}
-use Rattle.site_threads.specs.Gathering.{Opens, KeepersFit, IsKept, HasJobsOfEnd, AreOpenBefore, Hinders}
+use Rattle.site_threads.specs.Gathering.{Opens, KeepersFit, Began, HasEnd, IsKept, HasJobsOfEnd, AreOpenBefore, FitAfter, Hinders}
 use Rattle.site_threads.specs.Jobs.{Kept, jobs_in, option_items}
 use Rattle.site_threads.specs.Keepers.{shown_in, may_in}
 use Rattle.site_threads.specs.Parting.{HasKeeper, LeavesList, cause_of, first_cause}
@@ -23,6 +26,7 @@ use Rattle.site_threads.specs.Running.{Holding}
 use Rattle.site_threads.specs.Runs.{Ran}
 use Rattle.site_threads.specs.Turns.{IfLost}
 use Rattle.site_threads.proofs.Gathering.{exact_when_fit}
+use Rattle.site_threads.proofs.Zips.{zip_through}
 
 shown_record : (o : Option Record) → IsSome o → (r : Record) × (o ≡ Some r)
 shown_record (Some r) h = (r, refl)
@@ -73,6 +77,7 @@ module _ {K G : Type 0} (shown : K → Option Record) (may : K → Record → Ty
   -- Where one did: the least is at the place p, from the site a on.
 
   Names : List K → ℕ → ℕ → GatherCause → Type 0
+  Names ks a p (NotAWorld fault) = ⊥
   Names ks a p NoMemory = Unit {0}
   Names ks a p (SiteLost site) = (site ≡ a + p) × IsFirstClosed shown ks p
   Names ks a p (GaveUp site) = (site ≡ a + p) × AreOpenBefore shown ks p
@@ -83,6 +88,7 @@ module _ {K G : Type 0} (shown : K → Option Record) (may : K → Record → Ty
 
   named_more : (k : K) (ks : List K) (a p : ℕ) (cause : GatherCause) → ((r : Record) × (shown k ≡ Some r)) → Names ks (a + 1) p cause → Names (k ∷ ks) a (suc p) cause
   unfolding Names
+  named_more k ks a p (NotAWorld fault) here n = absurd n
   named_more k ks a p NoMemory here n = tt
   named_more k ks a p (SiteLost site) here n = (n.0 ∙ (let z : a + 1 + p ≡ a + suc p = omega arith in z), (n.1.0, open_more k ks p here n.1.1))
   named_more k ks a p (GaveUp site) here n = (n.0 ∙ (let z : a + 1 + p ≡ a + suc p = omega arith in z), open_more k ks p here n.1)
@@ -96,14 +102,17 @@ module _ {K G : Type 0} (shown : K → Option Record) (may : K → Record → Ty
   first_hinders a [] [] [] cause x y order is = let n : None ≡ Some cause = is in cc
   first_hinders a (o ∷ os) (r ∷ rs) (k ∷ ks) cause x y order is =
       let me : r.turn.site.me ≡ a = ap (λ (l : List ℕ). get_or l 0 0) order in
-      elim r.fault as (λ f. r.fault ≡ f → option_or (cause_of r.turn.site.me f) (first_cause rs) ≡ Some cause → (p : ℕ) × Names (k ∷ ks) a p cause)
-      [ None ↦ λ f h. let more = first_hinders (a + 1) os rs ks cause x.1 y.1 (ap (drop 1) order) h in (suc more.0, named_more k ks a more.0 cause (opened o r k x.0 y.0 f) more.1)
-      | Some turns.NoMemory ↦ λ f h. (0, subst (Names (k ∷ ks) a 0) (let e : Some NoMemory ≡ Some cause = h in let q : NoMemory ≡ cause = cc in q) tt)
-      | Some turns.GaveUp ↦ λ f h. (0, subst (Names (k ∷ ks) a 0) (let e : Some (GaveUp r.turn.site.me) ≡ Some cause = h in let q : GaveUp r.turn.site.me ≡ cause = cc in q) (me ∙ (let z : a ≡ a + 0 = omega arith in z), none_before (k ∷ ks)))
-      | Some (turns.Lost why) ↦ λ f h.
-          let lost : IfSome (Some (turns.Lost why)) (λ c. IfLost c (shown_in shown r.turn.site.keeper)) = subst (λ z. IfSome z (λ c. IfLost c (shown_in shown r.turn.site.keeper))) f x.0.lost in
-          (0, subst (Names (k ∷ ks) a 0) (let e : Some (SiteLost r.turn.site.me) ≡ Some cause = h in let q : SiteLost r.turn.site.me ≡ cause = cc in q)
-            (me ∙ (let z : a ≡ a + 0 = omega arith in z), ((k, refl, ap (shown_in shown) (sym y.0) ∙ lost.closed), none_before (k ∷ ks)))) ]
+      elim r.fault as (λ f. r.fault ≡ f → option_or (cause_of r.turn.site.me f) (first_cause rs) ≡ Some cause → (p : ℕ) × Names (k ∷ ks) a p cause) [
+        | None ↦ λ f h. let more = first_hinders (a + 1) os rs ks cause x.1 y.1 (ap (drop 1) order) h in (suc more.0, named_more k ks a more.0 cause (opened o r k x.0 y.0 f) more.1)
+        | Some turns.NoMemory ↦ λ f h. (0, subst (Names (k ∷ ks) a 0) (let e : Some NoMemory ≡ Some cause = h in let q : NoMemory ≡ cause = cc in q) tt)
+        | Some turns.GaveUp ↦ λ f h. (0, subst (Names (k ∷ ks) a 0) (let e : Some (GaveUp r.turn.site.me) ≡ Some cause = h in let q : GaveUp r.turn.site.me ≡ cause = cc in q) (me ∙ (let z : a ≡ a + 0 = omega arith in z), none_before (k ∷ ks)))
+        | Some (turns.Lost why) ↦ λ f h.
+            let lost : IfSome (Some (turns.Lost why)) (λ c. IfLost c (shown_in shown r.turn.site.keeper)) = subst (λ z. IfSome z (λ c. IfLost c (shown_in shown r.turn.site.keeper))) f x.0.lost in (
+              0,
+              subst (Names (k ∷ ks) a 0) (let e : Some (SiteLost r.turn.site.me) ≡ Some cause = h in let q : SiteLost r.turn.site.me ≡ cause = cc in q)
+                  (me ∙ (let z : a ≡ a + 0 = omega arith in z), ((k, refl, ap (shown_in shown) (sym y.0) ∙ lost.closed), none_before (k ∷ ks))),
+            )
+      ]
       refl is
   first_hinders a [] (r ∷ rs) ks cause x y order is = absurd x
   first_hinders a (o ∷ os) [] ks cause x y order is = absurd x
@@ -112,13 +121,35 @@ module _ {K G : Type 0} (shown : K → Option Record) (may : K → Record → Ty
 
   named_hinders : (ks : List K) (p : ℕ) (cause : GatherCause) → Names ks 0 p cause → Hinders shown ks cause
   unfolding Names
+  named_hinders ks p (NotAWorld fault) n = absurd n
   named_hinders ks p NoMemory n = tt
   named_hinders ks p (SiteLost site) n = subst (IsFirstClosed shown ks) (let e : p ≡ 0 + p = omega arith in e ∙ sym n.0) n.1
   named_hinders ks p (GaveUp site) n = subst (AreOpenBefore shown ks) (let e : p ≡ 0 + p = omega arith in e ∙ sym n.0) n.1
 
-  pub hinders_all : (olds runs : List (SiteRun K G)) (ks : List K) (cause : Option GatherCause) → AllZip (Ran shown may wire) olds runs → AllZip HasKeeper runs ks → map (λ (r : SiteRun K G). r.turn.site.me) runs ≡ range_with_len 0 (length runs) → cause ≡ first_cause runs → IfSome cause (Hinders shown ks)
-  hinders_all olds runs ks None x y order is = tt
-  hinders_all olds runs ks (Some cause) x y order is = let n = first_hinders 0 olds runs ks cause x y order (sym is) in named_hinders ks n.0 cause n.1
+  named_fits : (olds ks : List K) (p : ℕ) (cause : GatherCause) → Names ks 0 p cause → KeepersFit shown may ks → FitAfter shown may olds cause ks
+  unfolding Names
+  named_fits olds ks p (NotAWorld fault) n fit = absurd n
+  named_fits olds ks p NoMemory n fit = fit
+  named_fits olds ks p (SiteLost site) n fit = fit
+  named_fits olds ks p (GaveUp site) n fit = fit
+
+  pub hinders_all : (firsts : List K) (olds runs : List (SiteRun K G)) (ks : List K) (cause : Option GatherCause) → AllZip (Ran shown may wire) olds runs → AllZip HasKeeper runs ks → map (λ (r : SiteRun K G). r.turn.site.me) runs ≡ range_with_len 0 (length runs)
+      → cause ≡ first_cause runs → KeepersFit shown may ks → IfSome cause (λ c. Hinders shown ks c × FitAfter shown may firsts c ks)
+  hinders_all firsts olds runs ks None x y order is fit = tt
+  hinders_all firsts olds runs ks (Some cause) x y order is fit = let n = first_hinders 0 olds runs ks cause x y order (sym is) in (named_hinders ks n.0 cause n.1, named_fits firsts ks n.0 cause n.1 fit)
+
+module _ {K G : Type 0} (shown : K → Option Record) (may : K → Record → Type 0) (wire : Line) (olds runs : List (SiteRun K G)) (ls : List SiteList) (ran : AllZip (Ran shown may wire) olds runs) (left : AllZip LeavesList runs ls) where
+  -- each list is of the site that began so, and has its end of the desk
+
+  pub began_all : (ks : List K) → AllZip (BeganIn shown) ks olds → AllZip (Began shown) ks ls
+  began_all ks start =
+      zip_through (BeganIn {G = G} shown) LeavesList (Began shown) ks runs ls (λ k r l b z. b ∙ ap Some (sym z.start))
+      (zip_through (BeganIn {G = G} shown) (Ran shown may wire) (BeganIn shown) ks olds runs (λ k o r b z. b ∙ ap Some (sym z.same.start)) start ran) left
+
+  pub ends_all : (ds : List DeskOut) → AllZip (TookEnd {K = K} {G = G}) ds olds → AllZip HasEnd ds ls
+  ends_all ds took =
+      zip_through (TookEnd {K = K} {G = G}) LeavesList HasEnd ds runs ls (λ d r l t z. ap (λ (o : DeskOut). receives_on o.from) z.out ∙ t)
+      (zip_through (TookEnd {K = K} {G = G}) (Ran shown may wire) TookEnd ds olds runs (λ d o r t z. z.same.desk ∙ t) took ran) left
 
 -- before the first turn, where all are open
 only_shown : {K : Type 0} (shown : K → Option Record) (may : K → Record → Type 0) (ks : List K) (rs qs : List Record) → AllZip (λ k r. shown k ≡ Some r) ks rs → AllZip (λ k r. Opens (shown k) (may k) r) ks qs → qs ≡ rs

@@ -6,6 +6,7 @@ mod Looping
 mod Numbers
 mod Offering
 mod OneLog
+mod Parting
 pub mod Passed
 mod Playing
 mod Settling

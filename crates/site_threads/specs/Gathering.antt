@@ -4,13 +4,14 @@ use Rattle.std.specs.List.{AllZip}
 use Rattle.crossbeam_channel.specs.Ends.{receives_on}
 use Rattle.frame_core.specs.Numbers.{Recall}
 use Rattle.site_core.specs.Records.{Record}
+use Rattle.world_core.specs.Faults.{HindersKeepers}
 use Rattle.world_core.specs.Keepers.{IsFirstClosed}
 use Rattle.world_core.specs.Recalls.{AreExactOnceEnded, quarantined}
 use Rattle.wire_core.specs.Fitting.{SitesFit}
 use Rattle.site_threads.specs.declared.desks.DeskOut.{DeskOut}
 use Rattle.site_threads.specs.declared.gathered.Gathered.{Gathered}
 use Rattle.site_threads.specs.declared.gather.GatherCause.{GatherCause}
-use Rattle.site_threads.specs.declared.gather.GatherCause.TheVariants.{NoMemory, SiteLost, GaveUp}
+use Rattle.site_threads.specs.declared.gather.GatherCause.TheVariants.{NotAWorld, NoMemory, SiteLost, GaveUp}
 use Rattle.site_threads.specs.declared.gathered.GatherFault.{GatherFault}
 use Rattle.site_threads.specs.declared.gather.SiteList.{SiteList}
 use Rattle.site_threads.specs.declared.jobs.Receipt.{Receipt}
@@ -67,9 +68,15 @@ abbrev pub AreOpenBefore : {K : Type 0} → (K → Option Record) → List K →
 AreOpenBefore {K} shown keepers place = (s : ℕ) (k : K) → s < place → slice_get keepers s ≡ Some k → (r : Record) × (shown k ≡ Some r)
 
 abbrev pub Hinders : {K : Type 0} → (K → Option Record) → List K → GatherCause → Type 0
+Hinders shown keepers (NotAWorld fault) = HindersKeepers shown keepers fault
 Hinders shown keepers NoMemory = ⊤
 Hinders shown keepers (SiteLost site) = IsFirstClosed shown keepers site
 Hinders shown keepers (GaveUp site) = AreOpenBefore shown keepers site
+
+-- the keepers are as they were, where they make no world, and else fit
+abbrev pub FitAfter : {K : Type 0} → (K → Option Record) → (K → Record → Type 0) → List K → GatherCause → List K → Type 0
+FitAfter shown may old (NotAWorld fault) new = new ≡ old
+FitAfter shown may old cause new = KeepersFit shown may new
 
 -- the receipt's step stands in its site's list
 abbrev pub IsConfirmed : List SiteList → Receipt → Type 0

@@ -19,6 +19,7 @@ use site_core::SiteState;
 use std::snapshot::Snapshot;
 use thiserror::Error;
 use wire_core::{Seat, Wire};
+use world_core::WorldFault;
 
 /// What is left of a site's run beside its keeper.
 #[derive(Drop)]
@@ -37,7 +38,10 @@ pub struct SiteList {
 /// Why a run of all sites has no answer.
 #[derive(Clone, Copy, Debug, PartialEq, Eq, Error)]
 pub enum GatherCause {
-    /// Memory ran out.
+    /// The keepers make no world, or memory ran out while that was tried. Nothing was done.
+    #[error("{0}")]
+    NotAWorld(WorldFault),
+    /// Memory ran out, before the first turn or where a keeper was opened at the end.
     #[error("memory ran out")]
     NoMemory,
     /// This site is closed, and couldn't be opened again.
@@ -109,9 +113,7 @@ fn part<K: SiteKeeper, G: Gate>(
             start,
             ..
         } = site;
-        let Some(keeper) = keeper else {
-            unreachable!()
-        };
+        let Some(keeper) = keeper else { unreachable!() };
         seat = wire.join(seat, mine);
         // There is room for both.
         let _ = keepers.push(keeper);
@@ -121,9 +123,7 @@ fn part<K: SiteKeeper, G: Gate>(
             out,
             pending,
         });
-        if cause.is_none() {
-            cause = cause_of(me, fault);
-        }
+        cause = cause.or(cause_of(me, fault));
     }
     (
         seat,

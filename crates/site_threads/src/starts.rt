@@ -87,7 +87,10 @@ pub fn begin_all<K: SiteKeeper, G: Gate>(
     let mut ends = desks.into_iter();
     let mut asked = gates.into_iter();
     for keeper in keepers {
-        let (Some(out), Some(gate)) = (ends.next(), asked.next()) else {
+        let Some(out) = ends.next() else {
+            unreachable!()
+        };
+        let Some(gate) = asked.next() else {
             unreachable!()
         };
         let Some(me) = SiteNo::of(runs.len() as u64) else {

@@ -8,7 +8,7 @@ ghost use Rattle.wire_core.specs.Fitting.{SitesFit};
 ghost use Rattle.wire_core.specs.Rule.{logs_from};
 ghost use Rattle.wire_core.specs.Seats.{IsSeatOf};
 ghost use Rattle.site_threads.specs.Ends.{IsUnused};
-ghost use Rattle.site_threads.specs.Gathering.{Began, HasEnd, Hinders, IsKept, KeepersFit, keepers_of};
+ghost use Rattle.site_threads.specs.Gathering.{Began, FitAfter, HasEnd, Hinders, IsKept, KeepersFit, keepers_of};
 ghost use Rattle.site_threads.specs.Parting.{IsRoomFor};
 ghost use Rattle.site_threads.specs.Runs.{IsReady, Ran};
 
@@ -25,12 +25,10 @@ use std::alloc::{AllocError, Global};
 use std::sync::Wait;
 use std::thread::Threads;
 use wire_core::{Seat, Wire};
+use world_core::{NotAWorld, World};
 
 /// The record of each keeper.
-fn records_of<K: SiteKeeper>(
-    alloc: Global,
-    keepers: &[K],
-) -> Result<Vec<&SiteState>, AllocError>
+fn records_of<K: SiteKeeper>(alloc: Global, keepers: &[K]) -> Result<Vec<&SiteState>, AllocError>
     requires { All (λ k. IsSome (K.shown k)) keepers.now }
     ensures { IfOk result (λ states. AllShow K.shown keepers.now (map (λ s. s.now) states.items)) }
 {
@@ -64,10 +62,7 @@ struct Room<K: SiteKeeper, G: Gate> {
 }
 
 /// The room for a run of the sites of these keepers.
-fn room_for<K: SiteKeeper, G: Gate>(
-    alloc: Global,
-    keepers: &[K],
-) -> Result<Room<K, G>, AllocError>
+fn room_for<K: SiteKeeper, G: Gate>(alloc: Global, keepers: &[K]) -> Result<Room<K, G>, AllocError>
     requires world { (rs : List Record) × AllShow K.shown keepers.now rs × SitesFit rs [] }
     requires count { (2 ≤ length keepers.now) × (length keepers.now ≤ 16) }
     ensures wire { IfOk result (λ r. IsSeatOf r.wire r.seat × (r.wire.sites ≡ length keepers.now)) }
@@ -127,7 +122,7 @@ fn run_in<K: SiteKeeper + Send, G: Gate + Send, R: Threads + Wait + Sync>(
     ensures ends { AllZip HasEnd desks.items result.lists.items }
     ensures fit { KeepersFit K.shown K.may result.keepers.items }
     ensures back { length result.keepers.items ≡ length keepers.items }
-    ensures cause { IfSome result.cause (Hinders K.shown result.keepers.items) }
+    ensures cause { IfSome result.cause (λ cause. Hinders K.shown result.keepers.items cause × FitAfter K.shown K.may keepers.items cause result.keepers.items) }
 {
     let Room {
         wire,
@@ -161,20 +156,8 @@ fn told<K: SiteKeeper>(ended: Ended<K>) -> Result<Gathered<K>, GatherFault<K>>
     }
 }
 
-/// Runs all sites, each in a thread of its own, where one can be made: so many turns, each asked for at the site's gate,
-/// with at most one job a turn from the site's end of its desk, and a last opening of each keeper that is closed then.
-///
-/// The keepers are open, in the order of their sites, and their records fit together; no job was taken from the desks.
-/// Afterwards each keeper is open in the record to which its list of steps leads from the one that it began with, and the
-/// jobs of the list are the first ones that were put at its desk. Whether the run has an answer or not, in whichever
-/// records the keepers are open, or may be opened, they fit together, and what is quarantined under each recall that has
-/// ended is just what its root reaches.
-///
-/// # Errors
-/// All with the keepers. `NoMemory`: before the first turn, when nothing has changed, or where a keeper couldn't be
-/// opened at the end. `SiteLost` where a keeper is closed and couldn't be opened again, and `GaveUp` where a gate gave up:
-/// the other sites went on. Of several sites that ended their runs the least is named; the sites before it are open.
-pub fn run_world<K: SiteKeeper + Send, G: Gate + Send, R: Threads + Wait + Sync>(
+/// The same for keepers whose records fit together.
+fn run_sites<K: SiteKeeper + Send, G: Gate + Send, R: Threads + Wait + Sync>(
     rt: &R,
     alloc: Global,
     keepers: Vec<K>,
@@ -190,9 +173,9 @@ pub fn run_world<K: SiteKeeper + Send, G: Gate + Send, R: Threads + Wait + Sync>
     ensures kept { IfOk result (λ g. AllZip (IsKept K.shown) g.keepers.items g.lists.items) }
     ensures began { IfOk result (λ g. AllZip (Began K.shown) keepers.items g.lists.items) }
     ensures ends { IfOk result (λ g. AllZip HasEnd desks.items g.lists.items) }
-    ensures fit { KeepersFit K.shown K.may (keepers_of result) }
+    ensures fit { IfOk result (λ g. KeepersFit K.shown K.may g.keepers.items) }
     ensures back { length (keepers_of result) ≡ length keepers.items }
-    ensures err { IfErr result (λ e. Hinders K.shown e.keepers.items e.cause) }
+    ensures err { IfErr result (λ e. Hinders K.shown e.keepers.items e.cause × FitAfter K.shown K.may keepers.items e.cause e.keepers.items) }
 {
     let Ok(room) = room_for::<K, G>(alloc, &keepers) else {
         return Err(GatherFault {
@@ -201,4 +184,46 @@ pub fn run_world<K: SiteKeeper + Send, G: Gate + Send, R: Threads + Wait + Sync>
         });
     };
     told(run_in(rt, alloc, room, keepers, desks, gates, turns))
+}
+
+/// Runs all sites, each in a thread of its own, where one can be made: so many turns, each asked for at the site's gate,
+/// with at most one job a turn from the site's end of its desk, and a last opening of each keeper that is closed then.
+///
+/// The keepers are of one list of sites, in the order of their numbers, open, and their records fit together; no job was
+/// taken from the desks. Afterwards each keeper is open in the record to which its list of steps leads from the one that
+/// it began with, and the jobs of the list are the first ones that were put at its desk. Whether the run has an answer or
+/// not, in whichever records the keepers are open, or may be opened, they fit together, and what is quarantined under
+/// each recall that has ended is just what its root reaches.
+///
+/// # Errors
+/// All with the keepers. `NotAWorld`, with the keepers as they were. `NoMemory`: before the first turn, when nothing has
+/// changed, or where a keeper couldn't be opened at the end. `SiteLost` where a keeper is closed and couldn't be opened
+/// again, and `GaveUp` where a gate gave up: the other sites went on. Of several sites that ended their runs the least is
+/// named; the keepers before it are open.
+pub fn run_world<K: SiteKeeper + Send, G: Gate + Send, R: Threads + Wait + Sync>(
+    rt: &R,
+    alloc: Global,
+    keepers: Vec<K>,
+    desks: Vec<DeskOut>,
+    gates: Vec<G>,
+    turns: u64,
+) -> Result<Gathered<K>, GatherFault<K>>
+    requires count { (2 ≤ length keepers.items) × (length keepers.items ≤ 16) }
+    requires desks { (length desks.items ≡ length keepers.items) × All IsUnused desks.items }
+    requires gates { length gates.items ≡ length keepers.items }
+    requires turns { turns ≤ 1000000 }
+    ensures kept { IfOk result (λ g. AllZip (IsKept K.shown) g.keepers.items g.lists.items) }
+    ensures began { IfOk result (λ g. AllZip (Began K.shown) keepers.items g.lists.items) }
+    ensures ends { IfOk result (λ g. AllZip HasEnd desks.items g.lists.items) }
+    ensures fit { IfOk result (λ g. KeepersFit K.shown K.may g.keepers.items) }
+    ensures back { length (keepers_of result) ≡ length keepers.items }
+    ensures err { IfErr result (λ e. Hinders K.shown e.keepers.items e.cause × FitAfter K.shown K.may keepers.items e.cause e.keepers.items) }
+{
+    match World::new(alloc, keepers) {
+        Ok(world) => run_sites(rt, alloc, world.into_keepers(), desks, gates, turns),
+        Err(NotAWorld { keepers, fault }) => Err(GatherFault {
+            keepers,
+            cause: GatherCause::NotAWorld(fault),
+        }),
+    }
 }
