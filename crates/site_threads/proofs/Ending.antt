@@ -10,7 +10,7 @@ use Rattle.crossbeam_channel.specs.Ends.{receives_on}
 use Rattle.site_threads.specs.declared.desks.DeskOut.{DeskOut}
 use Rattle.site_threads.specs.declared.gather.GatherCause.{GatherCause}
 use Rattle.site_threads.specs.declared.gather.GatherCause.TheVariants.{NotAWorld, NoMemory, SiteLost, GaveUp}
-use Rattle.site_threads.specs.declared.gather.SiteList.{SiteList}
+use Rattle.site_threads.specs.declared.lists.SiteList.{SiteList}
 use Rattle.site_threads.specs.declared.jobs.Entry.{Entry}
 use Rattle.site_threads.specs.declared.jobs.Job.{Job}
 use Rattle.site_threads.specs.declared.runs.SiteRun.{SiteRun}

@@ -9,6 +9,7 @@ mod OneLog
 mod Parting
 pub mod Passed
 mod Playing
+mod Sending
 mod Settling
 mod Stamping
 mod Starting

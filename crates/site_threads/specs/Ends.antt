@@ -1,5 +1,5 @@
 -- What clauses say of the two ends of a desk.
-use Rattle.std.specs.Prelude.{◌≡◌, ◌≤◌, true, List, length}
+use Rattle.std.specs.Prelude.{◌≡◌, ◌≤◌, true, List, [], length}
 use Rattle.crossbeam_channel.specs.Claims.{view, IsSeatAt}
 use Rattle.crossbeam_channel.specs.Ends.{sends_on, receives_on}
 use Rattle.site_threads.specs.declared.jobs.Job.{Job}

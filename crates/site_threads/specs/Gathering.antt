@@ -13,7 +13,7 @@ use Rattle.site_threads.specs.declared.gathered.Gathered.{Gathered}
 use Rattle.site_threads.specs.declared.gather.GatherCause.{GatherCause}
 use Rattle.site_threads.specs.declared.gather.GatherCause.TheVariants.{NotAWorld, NoMemory, SiteLost, GaveUp}
 use Rattle.site_threads.specs.declared.gathered.GatherFault.{GatherFault}
-use Rattle.site_threads.specs.declared.gather.SiteList.{SiteList}
+use Rattle.site_threads.specs.declared.lists.SiteList.{SiteList}
 use Rattle.site_threads.specs.declared.jobs.Receipt.{Receipt}
 use Rattle.site_threads.specs.Ends.{takes, IsOut}
 use Rattle.site_threads.specs.Jobs.{IsEntered, jobs_in, option_items, Kept}

@@ -4,7 +4,7 @@ use Rattle.std.specs.Option.{option_or}
 use Rattle.site_threads.specs.declared.gather.GatherCause.{GatherCause}
 use Rattle.site_threads.specs.declared.gather.GatherCause.TheVariants.{NoMemory, SiteLost, GaveUp}
 use Rattle.site_threads.specs.declared.gather.Ended.{Ended}
-use Rattle.site_threads.specs.declared.gather.SiteList.{SiteList}
+use Rattle.site_threads.specs.declared.lists.SiteList.{SiteList}
 use Rattle.site_threads.specs.declared.runs.SiteRun.{SiteRun}
 use Rattle.site_threads.specs.declared.turns.TurnCause.{TurnCause}
 use Rattle.site_threads.specs.declared.turns.TurnCause.TheVariants as turns

@@ -3,37 +3,19 @@ ghost use Rattle.std.specs.Prelude.{◌≡◌, [], All, flat_map, length, map};
 ghost use Rattle.std.specs.List.{range_with_len, AllZip};
 ghost use Rattle.wire_core.specs.Seats.{IsSeatOf};
 ghost use Rattle.site_threads.specs.Gathering.{KeepersFit};
-ghost use Rattle.site_threads.specs.Jobs.{AreNumbered};
 ghost use Rattle.site_threads.specs.Parting.{HasKeeper, LeavesList, IsRoomFor, cause_of, first_cause};
 ghost use Rattle.site_threads.specs.Runs.{IsRun};
 
-use crate::desks::DeskOut;
 use crate::gates::Gate;
-use crate::jobs::{Entry, Job};
+use crate::lists::SiteList;
 use crate::runs::SiteRun;
 use crate::sites::Site;
 use crate::turns::{SiteTurn, TurnCause};
 use event_json::SiteNo;
 use keeper_core::SiteKeeper;
-use site_core::SiteState;
-use std::snapshot::Snapshot;
 use thiserror::Error;
 use wire_core::{Seat, Wire};
 use world_core::WorldFault;
-
-/// What is left of a site's run beside its keeper.
-#[derive(Drop)]
-pub struct SiteList {
-    /// The steps of the run, in order.
-    pub entries: Vec<Entry>,
-    /// The record that the site began with, for proofs alone.
-    pub start: Snapshot<SiteState>,
-    /// Its end of its desk.
-    pub out: DeskOut,
-    /// The job that was taken from the desk last, where it wasn't done.
-    pub pending: Option<Job>,
-    ghost numbered: { AreNumbered entries.items },
-}
 
 /// Why a run of all sites has no answer.
 #[derive(Clone, Copy, Debug, PartialEq, Eq, Error)]

@@ -5,8 +5,9 @@ ghost use Rattle.site_threads.specs.Gathering.{IsConfirmed, HasJobsOfEnd};
 ghost use Rattle.site_threads.specs.Jobs.{IsEntered, entry_of, input_of, jobs_in};
 
 use crate::desks::{Desk, taken_of};
-use crate::gather::{GatherCause, SiteList};
+use crate::gather::GatherCause;
 use crate::jobs::{Entry, Job, Receipt};
+use crate::lists::SiteList;
 use keeper_core::SiteKeeper;
 use site_core::SiteInput;
 use thiserror::Error;

@@ -1,8 +1,16 @@
 use Rattle.std.proofs.Common.{slice_index_or, sym, subst}
 use Rattle.std.proofs.lemmas.List.Elements.{All-get_or}
+use denote.Param.Send.{sendable}
 use Rattle.site_threads.specs.declared.runs.SiteRun.{SiteRun}
 use Rattle.site_threads.specs.Runs.{IsReady, Ran}
+use Rattle.site_threads.proofs.Sending.{run_send}
 use Rattle.site_threads.proofs.runs.run_all.Goals as goal
+
+pub for_each_mut-requires-send-T : goal.for_each_mut-requires-send-T
+for_each_mut-requires-send-T g c κs within =
+    let k = c.type_bounds.send-K in
+    let h = c.type_bounds.send-G in
+    search (run_send, sendable) depth 20
 
 pub for_each_mut-requires-clause-accepts : goal.for_each_mut-requires-clause-accepts
 for_each_mut-requires-clause-accepts g c κs within i p h is =
