@@ -8,6 +8,7 @@ ghost use Rattle.site_threads.specs.Runs.{IsRun};
 
 use crate::gates::Gate;
 use crate::lists::SiteList;
+use crate::room::add;
 use crate::runs::SiteRun;
 use crate::sites::Site;
 use crate::turns::{SiteTurn, TurnCause};
@@ -97,14 +98,16 @@ fn part<K: SiteKeeper, G: Gate>(
         } = site;
         let Some(keeper) = keeper else { unreachable!() };
         seat = wire.join(seat, mine);
-        // There is room for both.
-        let _ = keepers.push(keeper);
-        let _ = lists.push(SiteList {
-            entries,
-            start,
-            out,
-            pending,
-        });
+        add(&mut keepers, keeper);
+        add(
+            &mut lists,
+            SiteList {
+                entries,
+                start,
+                out,
+                pending,
+            },
+        );
         cause = cause.or(cause_of(me, fault));
     }
     (

@@ -13,6 +13,7 @@ mod jobs;
 mod lists;
 mod offers;
 mod passing;
+mod room;
 mod runs;
 mod sites;
 mod stamps;

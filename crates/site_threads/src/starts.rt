@@ -12,6 +12,7 @@ ghost use Rattle.site_threads.specs.Runs.{IsReady};
 
 use crate::desks::DeskOut;
 use crate::gates::Gate;
+use crate::room::add;
 use crate::runs::SiteRun;
 use crate::turns::SiteTurn;
 use event_json::SiteNo;
@@ -98,8 +99,10 @@ pub fn begin_all<K: SiteKeeper, G: Gate>(
         };
         let (mine, others) = first_apart(wire, rest, me);
         rest = others;
-        // There is room for it.
-        let _ = runs.push(begin(alloc, wire, keeper, gate, out, mine, me));
+        add(
+            &mut runs,
+            begin(alloc, wire, keeper, gate, out, mine, me),
+        );
     }
     runs
 }

@@ -1,4 +1,4 @@
-use Rattle.std.proofs.Common.{◌≡◌, ◌≤◌, ◌++◌, List, Some, All, map, length, vec_capacity}
+use Rattle.std.proofs.Common.{◌≡◌, ◌+◌, ◌≤◌, ◌++◌, List, Some, All, map, length, vec_capacity}
 use Rattle.std.specs.List.{range_with_len, AllZip}
 use Rattle.std.specs.Vec.Iter.{into_iter_items}
 use Rattle.site_core.specs.Records.{Record}
@@ -17,6 +17,8 @@ invariant-loop-keeper g l = record {
   seat : IsSeatOf l.wire l.rest;
   left : l.fn.keepers.items ≡ l.yielded ++ into_iter_items l.keeper-iterator;
   ends : (taken : List DeskOut) × (l.fn.desks.items ≡ taken ++ into_iter_items l.ends) × AllZip TookEnd taken l.runs.items;
+  many : length (into_iter_items l.ends) ≡ length (into_iter_items l.keeper-iterator);
+  few : length l.runs.items + length (into_iter_items l.keeper-iterator) ≤ 16;
   gates : length (into_iter_items l.asked) ≡ length (into_iter_items l.keeper-iterator);
   sites : (rs : List Record) × (l.rest.logs ≡ logs_from (length l.runs.items) rs) × AllZip (λ k r. g.K.SiteKeeper.shown k ≡ Some r) (into_iter_items l.keeper-iterator) rs × NumberedFrom (length l.runs.items) rs;
   ready : All (IsReady {G = g.row.G.Denot} g.K.SiteKeeper.shown g.K.SiteKeeper.may l.wire) l.runs.items;
