@@ -1,4 +1,5 @@
 mod Beginning
+mod Confirming
 mod Ending
 mod Gathering
 mod Handing

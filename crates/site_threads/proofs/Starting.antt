@@ -64,16 +64,6 @@ next_site {K = K} shown items after k me rs z n is = by_rest rs (subst (λ l. Al
     by_rest [] y m = absurd y
     by_rest (q ∷ qs) y m = (q, qs, refl, y.0, y.1, m.0, m.1)
 
-range_push : (a n : ℕ) → range_with_len a (suc n) ≡ range_with_len a n ++ (a + n) ∷ []
-range_push a zero = ap (λ k. k ∷ []) (let x : a ≡ a + 0 = omega arith in x)
-range_push a (suc n) = ap (λ l. a ∷ l) (range_push (a + 1) n ∙ ap (λ k. range_with_len (a + 1) n ++ k ∷ []) (let x : a + 1 + n ≡ a + suc n = omega arith in x))
-
--- the sites of the runs so far
-pub ordered : {A : Type 0} (site : A → ℕ) (xs more : List A) (x : A) → map site xs ≡ range_with_len 0 (length xs) → site x ≡ length xs → more ≡ xs ++ x ∷ [] → map site more ≡ range_with_len 0 (length more)
-ordered site xs more x all mine pushed =
-    ap (map site) pushed ∙ map_push site xs x ∙ (λ i. all i ++ mine i ∷ []) ∙ ap (λ k. range_with_len 0 (length xs) ++ k ∷ []) (let x : length xs ≡ 0 + length xs = omega arith in x) ∙ sym (range_push 0 (length xs))
-    ∙ ap (range_with_len 0) (let l = length_push xs x in let n : suc (length xs) ≡ length (xs ++ x ∷ []) = omega arith in n) ∙ ap (λ l. range_with_len 0 (length l)) (sym pushed)
-
 -- what was written back is the whole list
 pub written : {A : Type 0} (new old : List A) (len : ℕ) → length new ≡ length old → len ≡ length old → take len (new ++ drop (length new) old) ≡ new
 written new old len n m = ap (λ l. take len (new ++ l)) (drop_all (length new) old (omega arith)) ∙ ap (take len) (append-nil new) ∙ take_all len new (omega arith)

@@ -10,7 +10,8 @@ use Rattle.site_threads.specs.Beginning.{BeganIn, TookEnd}
 use Rattle.site_threads.specs.Ends.{IsUnused}
 use Rattle.site_threads.specs.Runs.{IsReady}
 use Rattle.site_threads.proofs.Looping.{left_more, less, one_of}
-use Rattle.site_threads.proofs.Starting.{NumberedFrom, next_site, ordered, placed}
+use Rattle.site_threads.proofs.Numbers.{numbered_push}
+use Rattle.site_threads.proofs.Starting.{NumberedFrom, next_site, placed}
 use Rattle.site_threads.proofs.Zips.{as_long, zipped_more}
 use Rattle.site_threads.proofs.starts.begin_all.Goals as goal
 
@@ -122,7 +123,7 @@ loop-keeper-preserved g c =
         subst (λ k. NumberedFrom k n.1) (sym count) n.6,
       );
       ready = subst (All ready) (sym pushed) (All-push ready runs run i.ready c.begin.ensures.ready);
-      order = ordered (λ (r : SiteRun g.row.K.Denot g.row.G.Denot). r.turn.site.me) runs new run i.order (c.begin.ensures.me ∙ me) pushed;
+      order = numbered_push (λ (r : SiteRun g.row.K.Denot g.row.G.Denot). r.turn.site.me) 0 runs new run i.order (c.begin.ensures.me ∙ me ∙ (let z : length runs ≡ 0 + length runs = omega arith in z)) pushed;
       start = zipped_more (BeganIn shown) c.loop-keeper.yielded runs c.in-Some.keeper run new i.start c.begin.ensures.start pushed;
       room = omega (arith, i.room, c.add.ensures.room);
     }
