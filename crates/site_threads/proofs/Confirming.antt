@@ -35,6 +35,6 @@ just_there xs x y b all within is same =
 
 pub list_there : (ls : List SiteList) (site : ℕ) (l : SiteList) (x : Receipt) (b : Bool) → x.site ≡ site → slice_get ls site ≡ Some l → IsTrue b ↔ IsEntered l.entries.items x → IsTrue b ↔ IsConfirmed ls x
 list_there ls site l x b at there same = (
-    λ yes. (l, ap (slice_get ls) at ∙ there, same.0 yes),
-    λ h. same.1 (subst (λ (m : SiteList). IsEntered m.entries.items x) (same_Some h.0 l (sym h.1 ∙ ap (slice_get ls) at ∙ there)) h.2),
+  λ yes. (l, ap (slice_get ls) at ∙ there, same.0 yes),
+  λ h. same.1 (subst (λ (m : SiteList). IsEntered m.entries.items x) (same_Some h.0 l (sym h.1 ∙ ap (slice_get ls) at ∙ there)) h.2),
 )

@@ -42,6 +42,42 @@ no_fault site (Some turns.NoMemory) h = let n : Some NoMemory ≡ None = h in cc
 no_fault site (Some turns.GaveUp) h = let n : Some (GaveUp site) ≡ None = h in cc
 no_fault site (Some (turns.Lost f)) h = let n : Some (SiteLost site) ≡ None = h in cc
 
+module _ {K : Type 0} (shown : K → Option Record) where
+  -- the site that is named is at the place p, from the site a on, and the keepers before it are open
+  Names : List K → ℕ → ℕ → GatherCause → Type 0
+  Names ks a p (NotAWorld fault) = ⊥
+  Names ks a p NoMemory = Unit {0}
+  Names ks a p (SiteLost site) = (site ≡ a + p) × IsFirstClosed shown ks p
+  Names ks a p (GaveUp site) = (site ≡ a + p) × AreOpenBefore shown ks p
+
+  open_more : (k : K) (ks : List K) (p : ℕ) → ((r : Record) × (shown k ≡ Some r)) → AreOpenBefore shown ks p → AreOpenBefore shown (k ∷ ks) (suc p)
+  open_more k ks p here more zero x h at = let e : Some k ≡ Some x = at in let same : k ≡ x = cc in subst (λ (y : K). (r : Record) × (shown y ≡ Some r)) same here
+  open_more k ks p here more (suc s) x h at = more s x (omega arith) at
+
+  named_more : (k : K) (ks : List K) (a p : ℕ) (cause : GatherCause) → ((r : Record) × (shown k ≡ Some r)) → Names ks (a + 1) p cause → Names (k ∷ ks) a (suc p) cause
+  unfolding Names
+  named_more k ks a p (NotAWorld fault) here n = absurd n
+  named_more k ks a p NoMemory here n = tt
+  named_more k ks a p (SiteLost site) here n = (n.0 ∙ (let z : a + 1 + p ≡ a + suc p = omega arith in z), (n.1.0, open_more k ks p here n.1.1))
+  named_more k ks a p (GaveUp site) here n = (n.0 ∙ (let z : a + 1 + p ≡ a + suc p = omega arith in z), open_more k ks p here n.1)
+
+  none_before : (ks : List K) → AreOpenBefore shown ks 0
+  none_before ks s k h at = absurd (omega arith)
+
+  named_hinders : (ks : List K) (p : ℕ) (cause : GatherCause) → Names ks 0 p cause → Hinders shown ks cause
+  unfolding Names
+  named_hinders ks p (NotAWorld fault) n = absurd n
+  named_hinders ks p NoMemory n = tt
+  named_hinders ks p (SiteLost site) n = subst (IsFirstClosed shown ks) (let e : p ≡ 0 + p = omega arith in e ∙ sym n.0) n.1
+  named_hinders ks p (GaveUp site) n = subst (AreOpenBefore shown ks) (let e : p ≡ 0 + p = omega arith in e ∙ sym n.0) n.1
+
+  named_fits : (may : K → Record → Type 0) (olds ks : List K) (p : ℕ) (cause : GatherCause) → Names ks 0 p cause → KeepersFit shown may ks → FitAfter shown may olds cause ks
+  unfolding Names
+  named_fits may olds ks p (NotAWorld fault) n fit = absurd n
+  named_fits may olds ks p NoMemory n fit = fit
+  named_fits may olds ks p (SiteLost site) n fit = fit
+  named_fits may olds ks p (GaveUp site) n fit = fit
+
 module _ {K G : Type 0} (shown : K → Option Record) (may : K → Record → Type 0) (wire : Line) where
   -- Where no site ended its run.
 
@@ -74,43 +110,23 @@ module _ {K G : Type 0} (shown : K → Option Record) (may : K → Record → Ty
   kept_all (o ∷ os) (r ∷ rs) [] ls a b c none = absurd b
   kept_all (o ∷ os) (r ∷ rs) (k ∷ ks) [] a b c none = absurd c
 
-  -- Where one did: the least is at the place p, from the site a on.
-
-  Names : List K → ℕ → ℕ → GatherCause → Type 0
-  Names ks a p (NotAWorld fault) = ⊥
-  Names ks a p NoMemory = Unit {0}
-  Names ks a p (SiteLost site) = (site ≡ a + p) × IsFirstClosed shown ks p
-  Names ks a p (GaveUp site) = (site ≡ a + p) × AreOpenBefore shown ks p
-
-  open_more : (k : K) (ks : List K) (p : ℕ) → ((r : Record) × (shown k ≡ Some r)) → AreOpenBefore shown ks p → AreOpenBefore shown (k ∷ ks) (suc p)
-  open_more k ks p here more zero x h at = let e : Some k ≡ Some x = at in let same : k ≡ x = cc in subst (λ (y : K). (r : Record) × (shown y ≡ Some r)) same here
-  open_more k ks p here more (suc s) x h at = more s x (omega arith) at
-
-  named_more : (k : K) (ks : List K) (a p : ℕ) (cause : GatherCause) → ((r : Record) × (shown k ≡ Some r)) → Names ks (a + 1) p cause → Names (k ∷ ks) a (suc p) cause
-  unfolding Names
-  named_more k ks a p (NotAWorld fault) here n = absurd n
-  named_more k ks a p NoMemory here n = tt
-  named_more k ks a p (SiteLost site) here n = (n.0 ∙ (let z : a + 1 + p ≡ a + suc p = omega arith in z), (n.1.0, open_more k ks p here n.1.1))
-  named_more k ks a p (GaveUp site) here n = (n.0 ∙ (let z : a + 1 + p ≡ a + suc p = omega arith in z), open_more k ks p here n.1)
-
-  none_before : (ks : List K) → AreOpenBefore shown ks 0
-  none_before ks s k h at = absurd (omega arith)
+  -- Where one did.
 
   first_hinders : (a : ℕ) (olds runs : List (SiteRun K G)) (ks : List K) (cause : GatherCause) → AllZip (Ran shown may wire) olds runs → AllZip HasKeeper runs ks → map (λ (r : SiteRun K G). r.turn.site.me) runs ≡ range_with_len a (length runs) → first_cause runs ≡ Some cause
-      → (p : ℕ) × Names ks a p cause
+      → (p : ℕ) × Names shown ks a p cause
   unfolding Names
   first_hinders a [] [] [] cause x y order is = let n : None ≡ Some cause = is in cc
   first_hinders a (o ∷ os) (r ∷ rs) (k ∷ ks) cause x y order is =
       let me : r.turn.site.me ≡ a = ap (λ (l : List ℕ). get_or l 0 0) order in
-      elim r.fault as (λ f. r.fault ≡ f → option_or (cause_of r.turn.site.me f) (first_cause rs) ≡ Some cause → (p : ℕ) × Names (k ∷ ks) a p cause) [
-        | None ↦ λ f h. let more = first_hinders (a + 1) os rs ks cause x.1 y.1 (ap (drop 1) order) h in (suc more.0, named_more k ks a more.0 cause (opened o r k x.0 y.0 f) more.1)
-        | Some turns.NoMemory ↦ λ f h. (0, subst (Names (k ∷ ks) a 0) (let e : Some NoMemory ≡ Some cause = h in let q : NoMemory ≡ cause = cc in q) tt)
-        | Some turns.GaveUp ↦ λ f h. (0, subst (Names (k ∷ ks) a 0) (let e : Some (GaveUp r.turn.site.me) ≡ Some cause = h in let q : GaveUp r.turn.site.me ≡ cause = cc in q) (me ∙ (let z : a ≡ a + 0 = omega arith in z), none_before (k ∷ ks)))
+      elim r.fault as (λ f. r.fault ≡ f → option_or (cause_of r.turn.site.me f) (first_cause rs) ≡ Some cause → (p : ℕ) × Names shown (k ∷ ks) a p cause) [
+        | None ↦ λ f h. let more = first_hinders (a + 1) os rs ks cause x.1 y.1 (ap (drop 1) order) h in (suc more.0, named_more shown k ks a more.0 cause (opened o r k x.0 y.0 f) more.1)
+        | Some turns.NoMemory ↦ λ f h. (0, subst (Names shown (k ∷ ks) a 0) (let e : Some NoMemory ≡ Some cause = h in let q : NoMemory ≡ cause = cc in q) tt)
+        | Some turns.GaveUp ↦ λ f h. (0, subst (Names shown (k ∷ ks) a 0) (let e : Some (GaveUp r.turn.site.me) ≡ Some cause = h in let q : GaveUp r.turn.site.me ≡ cause = cc in q) (me ∙ (let z : a ≡ a + 0 = omega arith in z), none_before shown (k ∷ ks)))
         | Some (turns.Lost why) ↦ λ f h.
             let lost : IfSome (Some (turns.Lost why)) (λ c. IfLost c (shown_in shown r.turn.site.keeper)) = subst (λ z. IfSome z (λ c. IfLost c (shown_in shown r.turn.site.keeper))) f x.0.lost in (
               0,
-              subst (Names (k ∷ ks) a 0) (let e : Some (SiteLost r.turn.site.me) ≡ Some cause = h in let q : SiteLost r.turn.site.me ≡ cause = cc in q)
-                  (me ∙ (let z : a ≡ a + 0 = omega arith in z), ((k, refl, ap (shown_in shown) (sym y.0) ∙ lost.closed), none_before (k ∷ ks))),
+              subst (Names shown (k ∷ ks) a 0) (let e : Some (SiteLost r.turn.site.me) ≡ Some cause = h in let q : SiteLost r.turn.site.me ≡ cause = cc in q)
+                  (me ∙ (let z : a ≡ a + 0 = omega arith in z), ((k, refl, ap (shown_in shown) (sym y.0) ∙ lost.closed), none_before shown (k ∷ ks))),
             )
       ]
       refl is
@@ -119,24 +135,10 @@ module _ {K G : Type 0} (shown : K → Option Record) (may : K → Record → Ty
   first_hinders a [] [] (k ∷ ks) cause x y order is = absurd y
   first_hinders a (o ∷ os) (r ∷ rs) [] cause x y order is = absurd y
 
-  named_hinders : (ks : List K) (p : ℕ) (cause : GatherCause) → Names ks 0 p cause → Hinders shown ks cause
-  unfolding Names
-  named_hinders ks p (NotAWorld fault) n = absurd n
-  named_hinders ks p NoMemory n = tt
-  named_hinders ks p (SiteLost site) n = subst (IsFirstClosed shown ks) (let e : p ≡ 0 + p = omega arith in e ∙ sym n.0) n.1
-  named_hinders ks p (GaveUp site) n = subst (AreOpenBefore shown ks) (let e : p ≡ 0 + p = omega arith in e ∙ sym n.0) n.1
-
-  named_fits : (olds ks : List K) (p : ℕ) (cause : GatherCause) → Names ks 0 p cause → KeepersFit shown may ks → FitAfter shown may olds cause ks
-  unfolding Names
-  named_fits olds ks p (NotAWorld fault) n fit = absurd n
-  named_fits olds ks p NoMemory n fit = fit
-  named_fits olds ks p (SiteLost site) n fit = fit
-  named_fits olds ks p (GaveUp site) n fit = fit
-
   pub hinders_all : (firsts : List K) (olds runs : List (SiteRun K G)) (ks : List K) (cause : Option GatherCause) → AllZip (Ran shown may wire) olds runs → AllZip HasKeeper runs ks → map (λ (r : SiteRun K G). r.turn.site.me) runs ≡ range_with_len 0 (length runs)
       → cause ≡ first_cause runs → KeepersFit shown may ks → IfSome cause (λ c. Hinders shown ks c × FitAfter shown may firsts c ks)
   hinders_all firsts olds runs ks None x y order is fit = tt
-  hinders_all firsts olds runs ks (Some cause) x y order is fit = let n = first_hinders 0 olds runs ks cause x y order (sym is) in (named_hinders ks n.0 cause n.1, named_fits firsts ks n.0 cause n.1 fit)
+  hinders_all firsts olds runs ks (Some cause) x y order is fit = let n = first_hinders 0 olds runs ks cause x y order (sym is) in (named_hinders shown ks n.0 cause n.1, named_fits shown may firsts ks n.0 cause n.1 fit)
 
 module _ {K G : Type 0} (shown : K → Option Record) (may : K → Record → Type 0) (wire : Line) (olds runs : List (SiteRun K G)) (ls : List SiteList) (ran : AllZip (Ran shown may wire) olds runs) (left : AllZip LeavesList runs ls) where
   -- each list is of the site that began so, and has its end of the desk

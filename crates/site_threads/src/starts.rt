@@ -99,10 +99,7 @@ pub fn begin_all<K: SiteKeeper, G: Gate>(
         };
         let (mine, others) = first_apart(wire, rest, me);
         rest = others;
-        add(
-            &mut runs,
-            begin(alloc, wire, keeper, gate, out, mine, me),
-        );
+        add(&mut runs, begin(alloc, wire, keeper, gate, out, mine, me));
     }
     runs
 }
