@@ -41,7 +41,7 @@ use Rattle.site_rows.specs.declared.rows.SiteRow.{SiteRow}
 use Rattle.site_rows.specs.declared.tables.Table.{Table}
 use Rattle.site_rows.specs.declared.tables.Table.TheVariants.{Store, Site as SiteTable, Address, Event, Part, Quarantine as QuarantineTable, Outbox, Seen, Parent, Recall as RecallTable}
 use Rattle.site_rows.proofs.HeldInTurn.{all_ascend}
-use Rattle.site_rows.proofs.GoodAddresses.{mapped_at, numbered_there, good_addresses}
+use Rattle.site_rows.proofs.GoodAddresses.{any_there, good_addresses, mapped_at, numbered_there}
 use Rattle.site_rows.proofs.PartTables.{rows_of_events}
 use Rattle.site_rows.proofs.ReadFaults.{names_of_rows, sites_of_rows, sizes, table_alike}
 
@@ -60,9 +60,6 @@ site_there n (s ∷ sites) zero site is =
     let at : n ≡ n + 0 = omega arith in
     λ i. Some (site_row (at i, same i))
 site_there n (s ∷ sites) (suc k) site is = let at : n + 1 + k ≡ n + suc k = omega arith in site_there (n + 1) sites k site is ∙ ap (λ j. Some (site_row (j, site))) at
-
-any_there : {X : Type 0} (P : X → Type 0) (xs : List X) (k : ℕ) (x : X) → slice_get xs k ≡ Some x → P x → Any P xs
-any_there P xs k x is holds = (k, x, stands_within xs k x is, get_or_from_slice_get xs k x x is, holds)
 
 store_stands : (s : Record) → IsKept s → IsStoreTable (map site_row (enumerate_from 0 s.sites)) (store_row s ∷ [])
 store_stands s kept =

@@ -1,4 +1,5 @@
 pub mod AddressRowsInTurn
+pub mod AddressesInTurn
 pub mod AddressesOfSites
 pub mod AtTheEnd
 pub mod CapturesLead
@@ -21,7 +22,6 @@ pub mod QuarantineChanges
 pub mod ReadFaults
 pub mod ReadBack
 pub mod RowsOfMaps
-pub mod SameAddressRows
 pub mod SameEvents
 pub mod SameLists
 pub mod SameQuarantines
