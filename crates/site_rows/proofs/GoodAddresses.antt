@@ -44,7 +44,7 @@ numbered_there n (x ∷ xs) (suc k) p is =
     let rest = numbered_there (n + 1) xs k p is in
     (rest.0 ∙ omega arith, rest.1)
 
-taken_there : {X : Type 0} (xs : List X) (k j : ℕ) (x : X) → slice_get (take k xs) j ≡ Some x → (slice_get xs j ≡ Some x) × (j < k)
+pub taken_there : {X : Type 0} (xs : List X) (k j : ℕ) (x : X) → slice_get (take k xs) j ≡ Some x → (slice_get xs j ≡ Some x) × (j < k)
 taken_there [] zero j x is = cc
 taken_there [] (suc k) j x is = cc
 taken_there (y ∷ xs) zero j x is = cc

@@ -184,7 +184,7 @@ good_rows s kept holds Part place bad = none_bad (IsPartTable (map site_of_row (
 good_rows s kept holds QuarantineTable place bad =
     none_bad (IsQuarantineTable (length (rows_of s).site)) (rows_of s).quarantine place (subst (λ m. IsQuarantineTable m (rows_of s).quarantine) (sym (sizes 0 s.sites)) (quarantine_stands s kept holds)) bad
 good_rows s kept holds Outbox place bad =
-    let stand = map_stands (IsOutboxEntry (length s.sites)) Cmp.nat_cmp_total outbox_row s.engagement.outbox (λ k v is. record { same = refl; among = kept.sound.rows k v is; item = holds.outbox k v is }) in
+    let stand = map_stands (IsOutboxEntry (length s.sites)) Cmp.nat_cmp_total outbox_row s.engagement.outbox (λ k v is. record { same = refl; among = kept.sound.rows k v is; item = holds.engagement.outbox k v is }) in
     none_bad (AreOfMap nat_cmp (IsOutboxEntry (length (rows_of s).site))) (rows_of s).outbox place (subst (λ m. AreOfMap nat_cmp (IsOutboxEntry m) (rows_of s).outbox) (sym (sizes 0 s.sites)) stand) bad
 good_rows s kept holds Seen place bad =
     let stand = map_stands (IsSeenEntry (length s.sites)) message_total seen_row s.engagement.seen (λ k v is. record { same = refl; message = (kept.sound.seen k v is).0; recall = (kept.sound.seen k v is).1 }) in
@@ -193,7 +193,7 @@ good_rows s kept holds Parent place bad =
     let stand = map_stands (IsParentEntry (length s.sites)) recall_total parent_row s.engagement.parents (λ k v is. record { same = refl; recall = (kept.sound.parents k v is).0; message = (kept.sound.parents k v is).1 }) in
     none_bad (AreOfMap recall_cmp (IsParentEntry (length (rows_of s).site))) (rows_of s).parent place (subst (λ m. AreOfMap recall_cmp (IsParentEntry m) (rows_of s).parent) (sym (sizes 0 s.sites)) stand) bad
 good_rows s kept holds RecallTable place bad =
-    let stand = map_stands IsOwnEntry Cmp.nat_cmp_total recall_row s.engagement.own (λ k v is. record { same = refl; number = kept.sound.own k (found (get s.engagement.own k) v is); root = holds.own k v is }) in
+    let stand = map_stands IsOwnEntry Cmp.nat_cmp_total recall_row s.engagement.own (λ k v is. record { same = refl; number = kept.sound.own k (found (get s.engagement.own k) v is); root = holds.engagement.own k v is }) in
     none_bad (AreOfMap nat_cmp IsOwnEntry) (rows_of s).recall place stand bad
 
 pub rows_are_good : RowsOfRecordsAreGood
