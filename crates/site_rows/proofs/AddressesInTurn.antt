@@ -1,6 +1,6 @@
 -- Rows of addresses that are good are those of the sites whose addresses they tell.
 use Rattle.std.proofs.Common.{◌≡◌, ◌⊎◌, inl, inr, ℕ, zero, suc, ◌+◌, ◌<◌, ◌≤◌, ℤ, pos, Bool, true, false, Option, Some, None, List, [], ◌∷◌, ◌++◌, length, map, take, refl, sym, ap, subst, ◌∙◌, arith}
-use Rattle.std.specs.Prelude.{Any, T, ◌&&◌, ◌-ℤ◌}
+use Rattle.std.specs.Prelude.{T, ◌&&◌, ◌-ℤ◌}
 use Rattle.std.specs.FinMap as finite
 use Rattle.std.specs.FinMap.{entries, entries-from_sorted, from_sorted, get, get-empty, is_sorted, same_map}
 use Rattle.std.specs.FinMap.Entries.{below_all}
@@ -19,7 +19,7 @@ use Rattle.site_core.proofs.Places.{member_there, some_stands}
 use Rattle.site_core.proofs.Quarantining.{place_of}
 use Rattle.trace_core.proofs.Members.{contains-map}
 use Rattle.site_rows.specs.AddressesInTurn.{AreTextsOf, HaveAddresses, IsRowAt, row_at}
-use Rattle.site_rows.specs.BadAddresses.{IsAddress, IsAddressTable, Stands}
+use Rattle.site_rows.specs.BadAddresses.{IsAddressTable}
 use Rattle.site_rows.specs.RecordRows.{Addresses, address_row, addresses_at, addresses_of}
 use Rattle.site_rows.specs.Texts.{text_cmp}
 use Rattle.site_rows.specs.declared.address_rows.Address.{Address}
@@ -229,8 +229,8 @@ module _ (sites : List Site) (rows : List AddressRow) (are : AreSites sites) (ta
   rows_of_sites =
       let same = same_map item_total item_exact (addresses_of sites) told_map (λ q. same_options (get (addresses_of sites) q) (get told_map q) (told_of_sites q) (sites_of_told q)) in
       let made = rows_back rows (λ k r there.
-          let good = table k r there in
-          let site = back r.site good.site.0 good.site.1.number in
-          let place = back r.place good.place.0 good.place.1.place_of in
-          λ i. record { text = r.text; site = site i; place = place i }) in
+      let good = table k r there in
+      let site = back r.site good.site.0 good.site.1.number in
+      let place = back r.place good.place.0 good.place.1.place_of in
+      λ i. record { text = r.text; site = site i; place = place i }) in
       made ∙ ap (map address_row) (sym entries_told) ∙ ap (λ (m : Addresses). map address_row (entries m)) (sym same)

@@ -1,7 +1,7 @@
 -- The rows of a record stand in tables that have no bad row.
 use Rattle.std.proofs.Common.{◌≡◌, ◌⊎◌, inl, inr, ℕ, zero, suc, ◌+◌, ◌-◌, ◌%◌, ◌<◌, ℤ, pos, Option, Some, None, List, [], ◌∷◌, ◌++◌, length, map, drop, refl, sym, ap, subst, ◌∙◌, arith}
 use lib.IntN.{negsuc}
-use Rattle.std.specs.Prelude.{Any, IsSome, is_some}
+use Rattle.std.specs.Prelude.{IsSome, is_some}
 use Rattle.std.specs.Cmp.{IsTotalOrder}
 use Rattle.std.specs.Cmp as Cmp
 use Rattle.std.specs.FinMap.{FinMap, entries, entries-from_sorted, from_sorted, get}

@@ -1,5 +1,5 @@
 -- The rows of addresses as the addresses of sites.
-use Rattle.std.specs.Prelude.{◌≡◌, ℕ, pos, ◌<◌, Contains, List, Some, length, map, slice_get}
+use Rattle.std.specs.Prelude.{◌≡◌, ℕ, pos, ◌<◌, Contains, List, Some, length, slice_get}
 use Rattle.event_json.specs.Sites.{Site}
 use Rattle.site_rows.specs.declared.rows.AddressRow.{AddressRow}
 
