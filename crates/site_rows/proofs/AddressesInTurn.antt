@@ -165,10 +165,24 @@ same_options None None there here = refl
 same_options None (Some x) there here = here x refl
 same_options (Some x) p there here = sym (there x refl)
 
+rows_ascend : (n : ℕ) (rows : List AddressRow) → IsAddressTable n rows → T (is_sorted text_cmp (map entry_of rows))
+rows_ascend n rows table = ascends rows (λ k a b ha hb. (table (suc k) b hb).by_text k a (omega arith) ha)
+
+-- one text stands at one place
+pub one_text : (n : ℕ) (rows : List AddressRow) → IsAddressTable n rows → (site place other at : ℕ) (text : List ℕ) → Contains rows (row_at site place text) → Contains rows (row_at other at text)
+    → at_place site place ≡ at_place other at
+one_text n rows table site place other at text one two =
+    let told : Addresses = from_sorted (map entry_of rows) in
+    let same = sym (entries-from_sorted text_cmp (map entry_of rows) (rows_ascend n rows table)) in
+    let found = λ (k p : ℕ) (there : Contains rows (row_at k p text)).
+    entry_found item_total told text (at_place k p) (subst (λ es. Contains es (text, at_place k p)) same (contains-map entry_of rows (row_at k p text) there)) in
+    let both : Some (at_place site place) ≡ Some (at_place other at) = sym (found site place one) ∙ found other at two in
+    cc
+
 -- ---- the rows are those of the sites
 module _ (sites : List Site) (rows : List AddressRow) (are : AreSites sites) (table : IsAddressTable (length sites) rows) (have : HaveAddresses rows sites) where
   up : T (is_sorted text_cmp (map entry_of rows))
-  up = ascends rows (λ k a b ha hb. (table (suc k) b hb).by_text k a (omega arith) ha)
+  up = rows_ascend (length sites) rows table
 
   abbrev told_map : Addresses
   told_map = from_sorted (map entry_of rows)

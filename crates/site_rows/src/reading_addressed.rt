@@ -1,7 +1,7 @@
 //! The sites with their addresses, read back.
-ghost use Rattle.std.specs.Prelude.{◌≡◌, ◌≤◌, ◌↔◌, ◌++◌, ◌∷◌, [], List, ℕ, length, map, option_map, pos, IfOk, IfErr, IsTrue, OnOk};
+ghost use Rattle.std.specs.Prelude.{◌≡◌, ◌≤◌, ◌↔◌, ◌++◌, ◌∷◌, [], List, ℕ, length, map, option_map, pos, IfOk, IfErr, IsTrue, OnOk, None};
 ghost use Rattle.std.specs.FinMap.{entries};
-ghost use Rattle.event_json.specs.Sites.{AreSites, Site};
+ghost use Rattle.event_json.specs.Sites.{AreSites, Site, sites_fault};
 ghost use Rattle.site_rows.specs.AddressesInTurn.{AreTextsOf, HaveAddresses, IsRowAt};
 ghost use Rattle.site_rows.specs.BadAddresses.{IsAddressFault, IsAddressTable};
 ghost use Rattle.site_rows.specs.BadRows.{Tells};
@@ -12,7 +12,7 @@ use crate::reading_addresses::check_addresses;
 use crate::reading_entries::TableFault;
 use crate::reading_numbers::natural;
 use crate::rows::AddressRow;
-use event_json::Sites;
+use event_json::{Sites, SitesFault};
 use std::alloc::{AllocError, Global};
 
 /// The most addresses of a site.
@@ -63,12 +63,17 @@ fn add_site(
     sites: &mut Sites,
 ) -> Result<(), AllocError>
     requires table { (sites : ℕ) × IsAddressTable sites rows.now }
+    requires free { (texts : List (List ℕ)) → AreTextsOf rows.now number texts → sites_fault sites.old name.now texts ≡ None }
     ensures { OnOk result ((texts : List (List ℕ)) × AreTextsOf rows.now number texts × (sites.new ≡ sites.old ++ record { name = name.now; addresses = texts } ∷ [])) }
 {
     let texts = texts_of(alloc, rows, number)?;
     match sites.add(name, texts.as_slice()) {
         Ok(_) => Ok(()),
-        Err(_) => Err(AllocError),
+        Err(fault) => {
+            // Good rows tell of no site that can't be added.
+            prove!(matches!(&fault, SitesFault::NoMemory));
+            Err(AllocError)
+        }
     }
 }
 

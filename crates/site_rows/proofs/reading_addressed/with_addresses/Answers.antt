@@ -1,9 +1,10 @@
-use Rattle.std.proofs.Common.{◌<◌, ◌+◌, [], ◌∷◌, length, sym, ap, subst, ◌∙◌}
+use Rattle.std.proofs.Common.{◌≡◌, None, ◌<◌, ◌+◌, [], ◌∷◌, length, sym, ap, subst, ◌∙◌}
 use Rattle.std.specs.List.{slice_get}
 use Rattle.std.proofs.lemmas.List.{length-append}
-use Rattle.event_json.specs.Sites.{Site}
+use Rattle.event_json.specs.Sites.{Site, sites_fault}
 use Rattle.site_core.proofs.Places.{nothing_there}
 use Rattle.site_rows.proofs.AddressesInTurn.{one_more_site}
+use Rattle.site_rows.proofs.FreeAddresses.{free_site}
 use Rattle.site_rows.proofs.InTurn.{behind, nothing_behind}
 use Rattle.site_rows.proofs.NamesOfSites.{named_more}
 use Rattle.site_rows.proofs.reading_addressed.with_addresses.Goals as goal
@@ -27,3 +28,13 @@ loop-number-preserved c =
           })
       | in_default w ↦ absurd (nothing_there names number (nothing_behind (λ (s : Site). s.name) _ (sym w.in_default.ensures)) (subst (λ n. number < n) c.len-number-end.ensures.count c.loop-number-test.true))
     ]
+
+pub add_site-requires-clause-free : goal.add_site-requires-clause-free
+add_site-requires-clause-free c = λ texts told.
+    let number = c.loop-number.number in
+    let names = c.args.names.now in
+    let sites = c.loop-number.sites in
+    let so_far = c.loop-number.invariant in
+    let site = behind (λ (s : Site). s.name) (slice_get names number) c.in-Some.name.now (sym c.in-Some.ensures) in
+    let free = free_site names sites c.args.rows.now number site.0 texts c.len-number-end.ensures.in_order c.requires.table site.1 so_far.counted so_far.names so_far.have told in
+    subst (λ name. sites_fault sites name texts ≡ None) site.2 free
