@@ -1,5 +1,5 @@
 -- A site can be added with the addresses that good rows tell of it.
-use Rattle.std.proofs.Common.{◌≡◌, inl, inr, ℕ, zero, suc, ◌+◌, ◌<◌, ◌≤◌, pos, Bool, true, false, not, Option, Some, None, List, [], ◌∷◌, ◌++◌, length, map, take, drop, refl, sym, ap, subst, ◌∙◌, arith}
+use Rattle.std.proofs.Common.{◌≡◌, inl, inr, ℕ, suc, ◌<◌, ◌≤◌, Bool, true, false, not, Option, Some, None, List, [], ◌∷◌, ◌++◌, length, map, take, drop, refl, sym, ap, ◌∙◌, arith}
 use Rattle.std.specs.Prelude.{bytes_eq, is_some, if◌then◌else◌, nat_le, nat_lt, ◌&&◌, ◌||◌}
 use Rattle.std.specs.List.{Contains, list_all, list_any, slice_get}
 use Rattle.std.proofs.lemmas.Bool.{cases_lt}
@@ -13,7 +13,7 @@ use Rattle.event_json.specs.declared.site_lists.SitesFault.{SitesFault}
 use Rattle.event_json.specs.declared.site_lists.SitesFault.TheVariants.{BadName, NameTaken, TooMany, BadAddress, AddressTaken}
 use Rattle.site_core.proofs.Places.{some_stands, stands_within}
 use Rattle.site_core.proofs.Quarantining.{place_of}
-use Rattle.trace_core.proofs.Members.{contains_here, contains_there, list_any_witness}
+use Rattle.trace_core.proofs.Members.{list_any_witness}
 use Rattle.site_rows.specs.AddressesInTurn.{AreTextsOf, HaveAddresses, row_at}
 use Rattle.site_rows.specs.BadAddresses.{IsAddressTable}
 use Rattle.site_rows.specs.declared.address_rows.Address.{Address}
@@ -38,9 +38,9 @@ once_each : (xs : List (List ℕ)) → ((i j : ℕ) (x : List ℕ) → slice_get
 once_each [] apart = refl
 once_each (x ∷ xs) apart =
     let here = none_of (λ t. bytes_eq t x) xs (λ t among same.
-        let k = place_of xs t among in
-        let wrong : 0 ≡ suc k.0 = apart 0 (suc k.0) x refl (k.1 ∙ ap Some ((bytes_eq-Decides t x).0 same)) in
-        omega (arith, wrong)) in
+    let k = place_of xs t among in
+    let wrong : 0 ≡ suc k.0 = apart 0 (suc k.0) x refl (k.1 ∙ ap Some ((bytes_eq-Decides t x).0 same)) in
+    omega (arith, wrong)) in
     no_or (list_any (λ t. bytes_eq t x) xs) (repeats xs) here (once_each xs (λ i j t hi hj. let next : suc i ≡ suc j = apart (suc i) (suc j) t hi hj in omega (arith, next)))
 
 -- the causes, one after the other
