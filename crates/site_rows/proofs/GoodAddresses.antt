@@ -1,6 +1,6 @@
 -- The rows of the addresses of sites stand in a table that has no bad row.
 use Rattle.std.proofs.Common.{◌≡◌, ◌⊎◌, inl, inr, ℕ, zero, suc, ◌+◌, ◌<◌, pos, Bool, true, false, Option, Some, None, List, [], ◌∷◌, length, map, take, refl, sym, ap, subst, ◌∙◌, arith}
-use Rattle.std.specs.Prelude.{T, option_map, ◌&&◌, ◌-ℤ◌, nat_le}
+use Rattle.std.specs.Prelude.{Any, T, option_map, ◌&&◌, ◌-ℤ◌, nat_le}
 use Rattle.std.specs.FinMap as finite
 use Rattle.std.specs.FinMap.{entries, entries_sorted, get, get-empty, is_sorted}
 use Rattle.std.specs.FinMap.Entries.{below_all}
@@ -44,7 +44,7 @@ numbered_there n (x ∷ xs) (suc k) p is =
     let rest = numbered_there (n + 1) xs k p is in
     (rest.0 ∙ omega arith, rest.1)
 
-taken_there : {X : Type 0} (xs : List X) (k j : ℕ) (x : X) → slice_get (take k xs) j ≡ Some x → (slice_get xs j ≡ Some x) × (j < k)
+pub taken_there : {X : Type 0} (xs : List X) (k j : ℕ) (x : X) → slice_get (take k xs) j ≡ Some x → (slice_get xs j ≡ Some x) × (j < k)
 taken_there [] zero j x is = cc
 taken_there [] (suc k) j x is = cc
 taken_there (y ∷ xs) zero j x is = cc
@@ -55,6 +55,10 @@ all_pass_there : (p : List ℕ → Bool) (xs : List (List ℕ)) (k : ℕ) (x : L
 all_pass_there p [] k x all is = cc
 all_pass_there p (y ∷ xs) zero x all is = let same : y ≡ x = cc in subst (λ z. p z ≡ true) same (left (p y) (list_all p xs) all)
 all_pass_there p (y ∷ xs) (suc k) x all is = all_pass_there p xs k x (right (p y) (list_all p xs) all) is
+
+-- some element is so
+pub any_there : {X : Type 0} (P : X → Type 0) (xs : List X) (k : ℕ) (x : X) → slice_get xs k ≡ Some x → P x → Any P xs
+any_there P xs k x is holds = (k, x, stands_within xs k x is, get_or_from_slice_get xs k x x is, holds)
 
 -- keys that ascend
 less : (o : Ordering) → T (is_lt o) → o ≡ Less

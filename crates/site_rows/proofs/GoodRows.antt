@@ -1,7 +1,7 @@
 -- The rows of a record stand in tables that have no bad row.
 use Rattle.std.proofs.Common.{◌≡◌, ◌⊎◌, inl, inr, ℕ, zero, suc, ◌+◌, ◌-◌, ◌%◌, ◌<◌, ℤ, pos, Option, Some, None, List, [], ◌∷◌, ◌++◌, length, map, drop, refl, sym, ap, subst, ◌∙◌, arith}
 use lib.IntN.{negsuc}
-use Rattle.std.specs.Prelude.{Any, IsSome, is_some}
+use Rattle.std.specs.Prelude.{IsSome, is_some}
 use Rattle.std.specs.Cmp.{IsTotalOrder}
 use Rattle.std.specs.Cmp as Cmp
 use Rattle.std.specs.FinMap.{FinMap, entries, entries-from_sorted, from_sorted, get}
@@ -41,7 +41,7 @@ use Rattle.site_rows.specs.declared.rows.SiteRow.{SiteRow}
 use Rattle.site_rows.specs.declared.tables.Table.{Table}
 use Rattle.site_rows.specs.declared.tables.Table.TheVariants.{Store, Site as SiteTable, Address, Event, Part, Quarantine as QuarantineTable, Outbox, Seen, Parent, Recall as RecallTable}
 use Rattle.site_rows.proofs.HeldInTurn.{all_ascend}
-use Rattle.site_rows.proofs.GoodAddresses.{mapped_at, numbered_there, good_addresses}
+use Rattle.site_rows.proofs.GoodAddresses.{any_there, good_addresses, mapped_at, numbered_there}
 use Rattle.site_rows.proofs.PartTables.{rows_of_events}
 use Rattle.site_rows.proofs.ReadFaults.{names_of_rows, sites_of_rows, sizes, table_alike}
 
@@ -60,9 +60,6 @@ site_there n (s ∷ sites) zero site is =
     let at : n ≡ n + 0 = omega arith in
     λ i. Some (site_row (at i, same i))
 site_there n (s ∷ sites) (suc k) site is = let at : n + 1 + k ≡ n + suc k = omega arith in site_there (n + 1) sites k site is ∙ ap (λ j. Some (site_row (j, site))) at
-
-any_there : {X : Type 0} (P : X → Type 0) (xs : List X) (k : ℕ) (x : X) → slice_get xs k ≡ Some x → P x → Any P xs
-any_there P xs k x is holds = (k, x, stands_within xs k x is, get_or_from_slice_get xs k x x is, holds)
 
 store_stands : (s : Record) → IsKept s → IsStoreTable (map site_row (enumerate_from 0 s.sites)) (store_row s ∷ [])
 store_stands s kept =
@@ -187,7 +184,7 @@ good_rows s kept holds Part place bad = none_bad (IsPartTable (map site_of_row (
 good_rows s kept holds QuarantineTable place bad =
     none_bad (IsQuarantineTable (length (rows_of s).site)) (rows_of s).quarantine place (subst (λ m. IsQuarantineTable m (rows_of s).quarantine) (sym (sizes 0 s.sites)) (quarantine_stands s kept holds)) bad
 good_rows s kept holds Outbox place bad =
-    let stand = map_stands (IsOutboxEntry (length s.sites)) Cmp.nat_cmp_total outbox_row s.engagement.outbox (λ k v is. record { same = refl; among = kept.sound.rows k v is; item = holds.outbox k v is }) in
+    let stand = map_stands (IsOutboxEntry (length s.sites)) Cmp.nat_cmp_total outbox_row s.engagement.outbox (λ k v is. record { same = refl; among = kept.sound.rows k v is; item = holds.engagement.outbox k v is }) in
     none_bad (AreOfMap nat_cmp (IsOutboxEntry (length (rows_of s).site))) (rows_of s).outbox place (subst (λ m. AreOfMap nat_cmp (IsOutboxEntry m) (rows_of s).outbox) (sym (sizes 0 s.sites)) stand) bad
 good_rows s kept holds Seen place bad =
     let stand = map_stands (IsSeenEntry (length s.sites)) message_total seen_row s.engagement.seen (λ k v is. record { same = refl; message = (kept.sound.seen k v is).0; recall = (kept.sound.seen k v is).1 }) in
@@ -196,7 +193,7 @@ good_rows s kept holds Parent place bad =
     let stand = map_stands (IsParentEntry (length s.sites)) recall_total parent_row s.engagement.parents (λ k v is. record { same = refl; recall = (kept.sound.parents k v is).0; message = (kept.sound.parents k v is).1 }) in
     none_bad (AreOfMap recall_cmp (IsParentEntry (length (rows_of s).site))) (rows_of s).parent place (subst (λ m. AreOfMap recall_cmp (IsParentEntry m) (rows_of s).parent) (sym (sizes 0 s.sites)) stand) bad
 good_rows s kept holds RecallTable place bad =
-    let stand = map_stands IsOwnEntry Cmp.nat_cmp_total recall_row s.engagement.own (λ k v is. record { same = refl; number = kept.sound.own k (found (get s.engagement.own k) v is); root = holds.own k v is }) in
+    let stand = map_stands IsOwnEntry Cmp.nat_cmp_total recall_row s.engagement.own (λ k v is. record { same = refl; number = kept.sound.own k (found (get s.engagement.own k) v is); root = holds.engagement.own k v is }) in
     none_bad (AreOfMap nat_cmp IsOwnEntry) (rows_of s).recall place stand bad
 
 pub rows_are_good : RowsOfRecordsAreGood

@@ -1,9 +1,11 @@
 pub mod AddressRowsInTurn
+pub mod AddressesInTurn
 pub mod AddressesOfSites
 pub mod AtTheEnd
 pub mod CapturesLead
 pub mod ChangedEntries
 pub mod ClearsLead
+pub mod FreeAddresses
 pub mod GoodAddresses
 pub mod GoodRows
 pub mod HeldInTurn
@@ -21,7 +23,6 @@ pub mod QuarantineChanges
 pub mod ReadFaults
 pub mod ReadBack
 pub mod RowsOfMaps
-pub mod SameAddressRows
 pub mod SameEvents
 pub mod SameLists
 pub mod SameQuarantines

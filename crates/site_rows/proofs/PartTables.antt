@@ -3,7 +3,7 @@ use Rattle.std.proofs.Common.{◌≡◌, ◌⊎◌, inl, inr, ℕ, zero, suc, �
 use Rattle.std.specs.List.{All, enumerate_from, flat_map, slice_get}
 use Rattle.std.proofs.Math.ListN.{drop_of_length-le}
 use Rattle.std.proofs.lemmas.List.{append-nil, map-append, take-append-drop, take_all}
-use Rattle.std.proofs.lemmas.List.Elements.{All-nil, All-cons}
+use Rattle.std.proofs.lemmas.List.Elements.{All-nil, All-cons, All-head, All-tail}
 use Rattle.std.proofs.lemmas.Option.{slice_get_past}
 use Rattle.epc_core.specs.Items.{uri_key}
 use Rattle.epc_core.specs.Spellings.{IsKey, IsPlain}
@@ -15,8 +15,9 @@ use Rattle.site_core.proofs.Places.{some_stands, taken_more}
 use Rattle.site_rows.specs.BadEvents.{IsEvent, IsEventTable}
 use Rattle.site_rows.specs.BadParts.{AreBodies, AreMembers, IsBodyOf, IsPartTable, all_body_rows}
 use Rattle.site_rows.specs.BadRows.{Begins, IsFirstBad}
+use Rattle.site_rows.specs.Laws.{IsEventAmong}
 use Rattle.site_rows.specs.PartsInTurn.{AreAllRead, IsBodyRead, IsPast, IsStuck}
-use Rattle.site_rows.specs.RecordRows.{body_rows, name_of, part_row, part_rows, parts_of}
+use Rattle.site_rows.specs.RecordRows.{body_rows, event_row, name_of, part_row, part_rows, parts_of}
 use Rattle.site_rows.specs.declared.rows.EventRow.{EventRow}
 use Rattle.site_rows.specs.declared.rows.PartRow.{PartRow}
 use Rattle.site_rows.proofs.InTurn.{rest_there}
@@ -43,10 +44,21 @@ ships_among sites (Note items) members = tt
 ships_among sites (Ship items to outside) members = members.1
 ships_among sites (Make id ins outs) members = tt
 
-pub all_ship_among : (sites : ℕ) (rows : List EventRow) (es : List Content) → AreBodies sites rows (map (λ (e : Content). e.body) es) → All (λ (e : Content). ShipsAmong sites e.body) es
-all_ship_among sites rows [] h = All-nil (λ (e : Content). ShipsAmong sites e.body)
-all_ship_among sites [] (e ∷ es) h = absurd h
-all_ship_among sites (r ∷ rows) (e ∷ es) h = All-cons (λ (x : Content). ShipsAmong sites x.body) e es (ships_among sites e.body h.0.members) (all_ship_among sites rows es h.1)
+pub all_ship_among : (sites : ℕ) (es : List Content) → All (IsEventAmong sites) es → All (λ (e : Content). ShipsAmong sites e.body) es
+all_ship_among sites [] all = All-nil (λ (e : Content). ShipsAmong sites e.body)
+all_ship_among sites (e ∷ es) all =
+    All-cons (λ (x : Content). ShipsAmong sites x.body) e es (ships_among sites e.body (All-head (IsEventAmong sites) e es all).members) (all_ship_among sites es (All-tail (IsEventAmong sites) e es all))
+
+-- they are events, where their rows have plain identifiers
+pub all_among : (sites n : ℕ) (rows : List EventRow) (es : List Content) → AreBodies sites rows (map (λ (e : Content). e.body) es) → rows ≡ map event_row (enumerate_from n es)
+    → ((k : ℕ) (row : EventRow) → slice_get rows k ≡ Some row → IsIdentifier row.id) → All (IsEventAmong sites) es
+all_among sites n rows [] h is plain = All-nil (IsEventAmong sites)
+all_among sites n [] (e ∷ es) h is plain = absurd h
+all_among sites n (r ∷ rows) (e ∷ es) h is plain =
+    let head : r ≡ event_row (n, e) = cc in
+    let tail : rows ≡ map event_row (enumerate_from (n + 1) es) = cc in
+    let id = subst IsIdentifier (ap (λ (x : EventRow). x.id) head) (plain 0 r refl) in
+    All-cons (IsEventAmong sites) e es (record { identifier = id; limits = h.0.limits; members = h.0.members }) (all_among sites (n + 1) rows es h.1 tail (λ k row there. plain (suc k) row there))
 
 -- an event of each kind, with few items
 least_of : (sites m : ℕ) (kind : ℤ) (id : Option (List ℕ)) → kind ≡ pos m → m < 3 → IsIdentifier id → (kind ≡ pos 2) ⊎ (id ≡ None) → (body : Body) × IsBodyOf sites kind id body

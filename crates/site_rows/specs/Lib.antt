@@ -1,3 +1,4 @@
+pub mod AddressesInTurn
 pub mod Appending
 pub mod BadAddresses
 pub mod BadEvents

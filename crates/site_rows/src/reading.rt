@@ -2,10 +2,9 @@
 ghost use Rattle.std.specs.Prelude.{◌≡◌, ◌≤◌, flat_map, length, map, All, IfOk, IfErr, MatchResult};
 ghost use Rattle.std.specs.FinMap.{entries};
 ghost use Rattle.std.specs.List.{enumerate_from};
-ghost use Rattle.event_json.specs.Sites.{ShipsAmong};
 ghost use Rattle.frame_core.specs.Unsignalled.{IsNextNumber};
 ghost use Rattle.site_core.specs.Records.{IsEngagementAmong, Record};
-ghost use Rattle.site_rows.specs.Laws.{HoldsItems, IsKept};
+ghost use Rattle.site_rows.specs.Laws.{HoldsItems, IsEventAmong, IsKept, NamesItems};
 ghost use Rattle.site_rows.specs.RecordRows.{rows_of, addresses_of, parts_of, address_row, event_row, outbox_row, parent_row, recall_row, seen_row, site_row};
 ghost use Rattle.site_rows.specs.ReadRows.{IsStateFault, IsFaultIn};
 ghost use Rattle.site_rows.specs.declared.reading.StateFault.TheVariants.{NoMemory};
@@ -61,6 +60,8 @@ impl From<AllocError> for StateFault {
 pub fn state_of(alloc: Global, rows: &Rows) -> Result<SiteState, StateFault>
     ensures read { IfOk result (λ state. rows_of state ≡ rows.now) }
     ensures bad { IfErr result (λ fault. IsStateFault rows.now fault) }
+    ensures kept { IfOk result (λ state. IsKept state) }
+    ensures items { IfOk result (λ state. HoldsItems state) }
     ensures same { (s : Record) → IsKept s → HoldsItems s → rows_of s ≡ rows.now → MatchResult result (λ state. state ≡ s) (λ fault. fault ≡ NoMemory) }
 {
     read_state(alloc, rows)
@@ -70,6 +71,7 @@ pub fn state_of(alloc: Global, rows: &Rows) -> Result<SiteState, StateFault>
 fn read_state(alloc: Global, rows: &Rows) -> Result<SiteState, StateFault>
     ensures read { IfOk result (λ state. rows_of state ≡ rows.now) }
     ensures kept { IfOk result (λ state. IsKept state) }
+    ensures items { IfOk result (λ state. HoldsItems state) }
     ensures bad { IfErr result (λ fault. IsStateFault rows.now fault) }
 {
     let numbers = match store_of(rows.site.as_slice(), rows.store.as_slice()) {
@@ -118,7 +120,7 @@ fn events_of(alloc: Global, me: SiteNo, sites: &Sites, rows: &Rows) -> Result<Ca
     ensures me { IfOk result (λ c. c.me ≡ me) }
     ensures event { IfOk result (λ c. rows.now.event ≡ map event_row (enumerate_from 1 c.events)) }
     ensures part { IfOk result (λ c. rows.now.part ≡ flat_map (parts_of sites.now) (enumerate_from 1 c.events)) }
-    ensures among { IfOk result (λ c. All (λ e. ShipsAmong (length sites.now) e.body) c.events) }
+    ensures among { IfOk result (λ c. All (IsEventAmong (length sites.now)) c.events) }
     ensures bad { IfErr result (λ fault. IsStateFault rows.now fault) }
 {
     if let Err(fault) = check_events(rows.event.as_slice()) {
@@ -153,6 +155,7 @@ fn diffusion_of(
     ensures parent { IfOk result (λ d. rows.now.parent ≡ map parent_row (entries d.parents)) }
     ensures recall { IfOk result (λ d. rows.now.recall ≡ map recall_row (entries d.own)) }
     ensures among { IfOk result (λ d. IsEngagementAmong sites d) }
+    ensures items { IfOk result (λ d. NamesItems d) }
     ensures bad { IfErr result (λ fault. IsStateFault rows.now fault) }
 {
     let outbox = match outbox_of(alloc, sites, rows.outbox.as_slice()) {

@@ -3,10 +3,10 @@ ghost use Rattle.std.specs.Prelude.{◌≡◌, ◌≤◌, ◌<◌, ◌⊎◌, �
 ghost use Rattle.std.specs.Int.{int_div_euclid, int_rem_euclid};
 ghost use Rattle.std.specs.List.{enumerate_from};
 ghost use Rattle.event_json.specs.Events.{IsIdentifier, IsInstant};
-ghost use Rattle.event_json.specs.Sites.{ShipsAmong};
 ghost use Rattle.site_rows.specs.BadEvents.{IsBelow, IsEvent, IsEventTable};
 ghost use Rattle.site_rows.specs.BadParts.{IsPartTable};
 ghost use Rattle.site_rows.specs.BadRows.{IsFaultOf};
+ghost use Rattle.site_rows.specs.Laws.{IsEventAmong};
 ghost use Rattle.site_rows.specs.PartsInTurn.{IsBodyAnswer};
 ghost use Rattle.site_rows.specs.RecordRows.{SECOND, event_row, parts_of};
 
@@ -37,7 +37,7 @@ pub(crate) fn captured_of(
     ensures me { IfOk result (λ c. c.me ≡ me) }
     ensures events { IfOk result (λ c. events.now ≡ map event_row (enumerate_from 1 c.events)) }
     ensures parts { IfOk result (λ c. parts.now ≡ flat_map (parts_of sites.now) (enumerate_from 1 c.events)) }
-    ensures among { IfOk result (λ c. All (λ e. ShipsAmong (length sites.now) e.body) c.events) }
+    ensures among { IfOk result (λ c. All (IsEventAmong (length sites.now)) c.events) }
     ensures bad { IfErr result (λ fault. IsFaultOf (IsPartTable sites.now events.now) parts.now fault) }
 {
     let mut captured = Captured::new(alloc, me);

@@ -6,6 +6,7 @@ ghost use Rattle.site_core.specs.Quarantines.{HasNoEmptySet};
 ghost use Rattle.site_core.specs.Records.{IsRecallAmong};
 ghost use Rattle.site_rows.specs.Appending.{IsAppended, IsAdded};
 ghost use Rattle.site_rows.specs.BadRows.{Tells, IsFaultOf, IsHeldRow, IsHeldEntry, IsQuarantineTable};
+ghost use Rattle.site_rows.specs.Laws.{HoldsKeys};
 ghost use Rattle.site_rows.specs.RecordRows.{quarantine_rows};
 ghost use Rattle.site_rows.specs.HeldItems.{held_cmp, held_of, all_held, IsLast};
 
@@ -31,6 +32,7 @@ pub(crate) fn quarantine_of(
     ensures rows { IfOk result (λ q. rows.now ≡ flat_map quarantine_rows (entries q)) }
     ensures among { IfOk result (λ q. (r : Recall) → IsSome (get q r) → IsRecallAmong sites r) }
     ensures no_empty_set { IfOk result HasNoEmptySet }
+    ensures items { IfOk result HoldsKeys }
     ensures bad { IfErr result (λ fault. IsFaultOf (IsQuarantineTable sites) rows.now fault) }
 {
     let mut quarantine = Quarantine::new(alloc);

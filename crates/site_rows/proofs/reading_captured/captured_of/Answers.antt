@@ -3,8 +3,9 @@ use Rattle.std.proofs.lemmas.List.{length-append, length-map}
 use Rattle.event_json.specs.Events.{Content}
 use Rattle.trace_core.specs.Sites.{SiteEvents}
 use Rattle.site_rows.proofs.AtTheEnd.{stands_at}
+use Rattle.site_rows.proofs.GoodAddresses.{taken_there}
 use Rattle.site_rows.proofs.ListsInTurn.{event_more, parts_more}
-use Rattle.site_rows.proofs.PartTables.{all_ship_among, each_more, left_over, one_more_read, rows_of_events, stuck_there}
+use Rattle.site_rows.proofs.PartTables.{all_among, each_more, left_over, one_more_read, rows_of_events, stuck_there}
 use Rattle.site_rows.proofs.reading_captured.captured_of.Goals as goal
 
 pub event_at-requires-clause-event : goal.event_at-requires-clause-event
@@ -52,4 +53,8 @@ returns-then-at-parts-clause-bad c =
     (so_far.parts ∙ rows_of_events c.args.sites.now 1 es) so_far.goes_on
 
 pub returns-clause-among : goal.returns-clause-among
-returns-clause-among c = all_ship_among (length c.args.sites.now) (take c.loop-place.place c.args.events.now) c.loop-place.captured.events c.loop-place.invariant.each
+returns-clause-among c =
+    let place = c.loop-place.place in
+    let events = c.args.events.now in
+    let so_far = c.loop-place.invariant in
+    all_among (length c.args.sites.now) 1 (take place events) c.loop-place.captured.events so_far.each so_far.events (λ k row there. (c.requires.table k row (taken_there events place k row there).0).id)
