@@ -1,5 +1,5 @@
 -- What is known of each site after its run.
-use Rattle.std.proofs.Common.{◌≡◌, ℕ, zero, suc, ◌+◌, ◌<◌, Option, Some, None, IsSome, IfSome, true≢false, List, [], ◌∷◌, ◌++◌, map, drop, length, get_or, slice_get, refl, sym, ap, ◌∙◌, subst, arith}
+use Rattle.std.proofs.Common.{◌≡◌, ℕ, zero, suc, ◌+◌, Option, Some, None, IsSome, IfSome, true≢false, List, [], ◌∷◌, ◌++◌, map, drop, length, get_or, refl, sym, ap, ◌∙◌, subst, arith}
 use Rattle.std.specs.List.{AllZip, range_with_len}
 use Rattle.std.specs.Option.{option_or}
 use Rattle.site_core.specs.Records.{Record}
@@ -18,7 +18,7 @@ use Rattle.site_threads.specs.declared.turns.TurnCause.{TurnCause}
 use Rattle.site_threads.specs.declared.turns.TurnCause.TheVariants as turns
 use Rattle.site_threads.specs.Beginning.{BeganIn, TookEnd}
 use Rattle.site_threads.specs.Ends.{takes, IsOut}
-use Rattle.site_threads.specs.Gathering.{Opens, KeepersFit, Began, HasEnd, IsKept, HasJobsOfEnd, AreOpenBefore, FitAfter, Hinders}
+use Rattle.site_threads.specs.Gathering.{Opens, KeepersFit, Began, HasEnd, IsKept, AreOpenBefore, FitAfter, Hinders}
 use Rattle.site_threads.specs.Jobs.{Kept, jobs_in, option_items}
 use Rattle.site_threads.specs.Keepers.{shown_in, may_in}
 use Rattle.site_threads.specs.Parting.{HasKeeper, LeavesList, cause_of, first_cause}

@@ -4,7 +4,6 @@ use denote.Param.Send.{IsSend, sendable}
 use denote.Param.SendFields.{declared_send}
 use Rattle.std.specs.contracts.option.Option as Option
 use Rattle.std.specs.contracts.snapshot.Snapshot as Snapshot
-use Rattle.std.specs.contracts.vec.Vec as Vec
 use Rattle.std.specs.contracts.alloc.Global as Heap
 use Rattle.std.proofs.Crossing.{crosses, Vec-send}
 use Rattle.event_json.proofs.site_numbers.SiteNo.TheSendSync.{the_send as site_send}

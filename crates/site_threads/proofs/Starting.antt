@@ -1,9 +1,9 @@
 -- Sites at the start of a run: each is split off in its turn.
-use Rattle.std.proofs.Common.{◌≡◌, ℕ, zero, suc, ◌+◌, ◌<◌, ◌≤◌, true, false, cond, not, nat_lt, List, [], ◌∷◌, ◌++◌, All, Option, Some, None, IsSome, map, take, drop, take_all, length, get_or, refl, sym, ap, ◌∙◌, subst, arith, lt-ltb, le-ltb}
+use Rattle.std.proofs.Common.{◌≡◌, ℕ, suc, ◌+◌, ◌<◌, ◌≤◌, true, false, cond, not, nat_lt, List, [], ◌∷◌, ◌++◌, All, Option, Some, IsSome, take, drop, take_all, length, get_or, refl, sym, ap, ◌∙◌, subst, arith, lt-ltb, le-ltb}
 use Rattle.std.proofs.lemmas.List.Elements.{All-nil, All-cons}
-use Rattle.std.proofs.lemmas.List.{drop_all, append-nil, map_push, length_push, nil_from_length}
+use Rattle.std.proofs.lemmas.List.{drop_all, append-nil, nil_from_length}
 use Rattle.std.proofs.lemmas.Option.{slice_get-get_or, get_or_from_slice_get}
-use Rattle.std.specs.List.{range_with_len, AllZip}
+use Rattle.std.specs.List.{AllZip}
 use Rattle.site_core.specs.Records.{Record, fresh}
 use Rattle.site_recovery.specs.Laws.{AreInPlace}
 use Rattle.wire_core.specs.Changes.{below, from}

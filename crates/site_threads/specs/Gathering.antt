@@ -1,5 +1,5 @@
 -- What is said of the sites once their run has ended.
-use Rattle.std.specs.Prelude.{◌≡◌, ⊤, ◌<◌, ℕ, ◌++◌, List, [], ◌∷◌, Option, Some, None, Result, Ok, Err, slice_get}
+use Rattle.std.specs.Prelude.{◌≡◌, ⊤, ◌<◌, ℕ, ◌++◌, List, [], Option, Some, None, Result, Ok, Err, slice_get}
 use Rattle.std.specs.List.{AllZip}
 use Rattle.crossbeam_channel.specs.Ends.{receives_on}
 use Rattle.frame_core.specs.Numbers.{Recall}

@@ -1,12 +1,11 @@
-use Rattle.std.proofs.Common.{◌≡◌, ◌+◌, ◌<◌, ◌++◌, ◌∷◌, [], ◌∙◌, List, length, flat_map, ap, subst, sym, refl, arith, vec_len, vec_capacity}
+use Rattle.std.proofs.Common.{◌++◌, ◌∷◌, [], ◌∙◌, flat_map, ap, subst, sym, refl, arith}
 use Rattle.std.specs.List.{AllZip}
 use Rattle.std.specs.Vec.Iter.{into_iter_items}
 use Rattle.std.specs.Option.{option_or}
 use Rattle.std.proofs.lemmas.List.{nil_from_length, append-nil}
 use Rattle.std.proofs.lemmas.List.Concat.{flat_map-append}
 use Rattle.site_threads.specs.declared.runs.SiteRun.{SiteRun}
-use Rattle.site_threads.specs.declared.lists.SiteList.{SiteList}
-use Rattle.site_threads.specs.Parting.{HasKeeper, LeavesList, cause_of, first_cause}
+use Rattle.site_threads.specs.Parting.{HasKeeper, LeavesList, first_cause}
 use Rattle.site_threads.specs.Runs.{IsRun}
 use Rattle.site_threads.proofs.Looping.{left_more, less, one_of}
 use Rattle.site_threads.proofs.Parting.{cause_more}

@@ -1,9 +1,8 @@
-use Rattle.std.proofs.Common.{◌≡◌, ◌+◌, ◌<◌, ◌≤◌, ◌++◌, ◌∷◌, [], ◌∙◌, Some, List, All, length, true≢false, map, refl, sym, ap, subst, arith, rules, vec_len, vec_capacity}
+use Rattle.std.proofs.Common.{◌≡◌, ◌+◌, ◌<◌, ◌≤◌, ◌++◌, ◌∷◌, [], ◌∙◌, Some, List, All, length, true≢false, map, refl, sym, ap, subst, arith}
 use Rattle.std.proofs.lemmas.List.{length_push, nil_from_length, append-nil}
 use Rattle.std.proofs.lemmas.List.Elements.{All-nil, All-push}
 use Rattle.std.specs.List.{AllZip, range_with_len}
 use Rattle.std.specs.Vec.Iter.{into_iter_items}
-use Rattle.site_core.specs.Records.{Record}
 use Rattle.wire_core.specs.Rule.{logs_from}
 use Rattle.site_threads.specs.declared.runs.SiteRun.{SiteRun}
 use Rattle.site_threads.specs.Beginning.{BeganIn, TookEnd}

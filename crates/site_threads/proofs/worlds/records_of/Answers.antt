@@ -1,4 +1,4 @@
-use Rattle.std.proofs.Common.{◌+◌, List, length, take, map, sym, ◌∙◌, ap, subst}
+use Rattle.std.proofs.Common.{◌+◌, List, take, map, sym, ◌∙◌, ap, subst}
 use Rattle.std.specs.Option.{option_map}
 use Rattle.std.proofs.lemmas.List.{map_push}
 use Rattle.site_core.specs.Records.{Record}

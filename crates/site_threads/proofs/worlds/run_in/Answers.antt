@@ -1,9 +1,9 @@
-use Rattle.std.proofs.Common.{◌≡◌, ◌<◌, ◌∙◌, [], All, length, map, sym, ap, subst, arith}
-use Rattle.std.specs.List.{AllZip, range_with_len}
+use Rattle.std.proofs.Common.{◌∙◌, sym, ap, subst, arith}
+use Rattle.std.specs.List.{range_with_len}
 use Rattle.wire_core.specs.Changes.{below, from}
 use Rattle.site_threads.specs.declared.runs.SiteRun.{SiteRun}
 use Rattle.site_threads.specs.Beginning.{BeganIn}
-use Rattle.site_threads.specs.Parting.{HasKeeper, LeavesList, IsRoomFor}
+use Rattle.site_threads.specs.Parting.{HasKeeper, IsRoomFor}
 use Rattle.site_threads.specs.Runs.{IsRun, Ran}
 use Rattle.site_threads.proofs.Ending.{kept_all, began_all, ends_all, hinders_all}
 use Rattle.site_threads.proofs.Starting.{none_apart}

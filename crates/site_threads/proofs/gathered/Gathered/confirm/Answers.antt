@@ -1,4 +1,4 @@
-use Rattle.std.proofs.Common.{◌≡◌, ◌↔◌, IsTrue, true, false, length, slice_get, refl, sym, ap, ◌∙◌, subst, arith}
+use Rattle.std.proofs.Common.{◌↔◌, IsTrue, true, false, length, slice_get, refl, sym, ap, ◌∙◌, subst, arith}
 use Rattle.std.proofs.lemmas.Option.{slice_get_read}
 use Rattle.site_threads.specs.Jobs.{IsEntered}
 use Rattle.site_threads.proofs.Confirming.{list_there}

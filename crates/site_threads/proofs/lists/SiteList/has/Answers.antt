@@ -1,4 +1,4 @@
-use Rattle.std.proofs.Common.{◌≡◌, ◌-◌, ◌<◌, ◌≤◌, ◌∙◌, ap, sym, subst, length, true≢false, rules}
+use Rattle.std.proofs.Common.{◌-◌, ◌≤◌, sym, length, true≢false, rules}
 use Rattle.site_threads.proofs.Confirming.{never_zero, not_past, just_there}
 use Rattle.site_threads.proofs.lists.SiteList.has.Goals as goal
 
