@@ -2,8 +2,6 @@
 #![tactic(auto)]
 
 #[cfg(test)]
-mod changed_rows;
-#[cfg(test)]
 mod engagements;
 #[cfg(test)]
 mod fitting;

@@ -9,7 +9,6 @@ mod Offering
 mod OneLog
 mod Parting
 pub mod Passed
-mod Playing
 mod Sending
 mod Settling
 mod Stamping

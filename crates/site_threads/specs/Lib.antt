@@ -7,7 +7,6 @@ pub mod Keepers
 pub mod Offers
 pub mod Parting
 pub mod Passing
-pub mod Playing
 pub mod Running
 pub mod Runs
 pub mod Sites

@@ -18,8 +18,6 @@ mod runs;
 mod sites;
 mod stamps;
 mod starts;
-#[cfg(test)]
-mod tests;
 mod turns;
 mod worlds;
 

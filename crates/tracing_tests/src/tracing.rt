@@ -55,49 +55,6 @@ fn leaves_a_refused_document_out_whole(rt: HostRuntime) -> Result<(), Fail> {
 }
 
 #[test]
-fn goes_round_a_cycle_of_two_sites(rt: HostRuntime) -> Result<(), Fail> {
-    let alloc = rt.alloc();
-    let a = [&[Ship("x", "b")][..]];
-    let b = [&[Ship("x", "a")][..]];
-    assert!(rt; reaches(alloc, &[&a, &b], 1, "x", "0 uri x; 1 uri x; ")?);
-    Ok(())
-}
-
-#[test]
-fn meets_again_at_the_end_of_a_diamond(rt: HostRuntime) -> Result<(), Fail> {
-    let alloc = rt.alloc();
-    let a = [&[Ship("x", "b"), Ship("x", "c")][..]];
-    let on = [&[Ship("x", "d")][..]];
-    assert!(rt;
-        reaches(
-            alloc,
-            &[&a, &on, &on],
-            0,
-            "x",
-            "0 uri x; 1 uri x; 2 uri x; 3 uri x; "
-        )?
-    );
-    Ok(())
-}
-
-#[test]
-fn stays_where_nothing_leads_on(rt: HostRuntime) -> Result<(), Fail> {
-    let alloc = rt.alloc();
-    let a = [&[Ship("x", "a"), Ship("x", "elsewhere")][..]];
-    assert!(rt; reaches(alloc, &[&a], 0, "x", "0 uri x; ")?);
-    assert!(rt; reaches(alloc, &[&a], 0, "unknown", "0 uri unknown; ")?);
-    Ok(())
-}
-
-#[test]
-fn copies_a_site(rt: HostRuntime) -> Result<(), Fail> {
-    let alloc = rt.alloc();
-    let site = chain(alloc, 2)?;
-    assert_eq!(rt; site.copy(alloc)?.len(), 2);
-    Ok(())
-}
-
-#[test]
 fn follows_a_long_chain_inside_a_site(rt: HostRuntime) -> Result<(), Fail> {
     let alloc = rt.alloc();
     let site = chain(alloc, 1000)?;

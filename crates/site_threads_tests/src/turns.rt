@@ -7,10 +7,10 @@ ghost use Rattle.wire_core.specs.Seats.{IsSeatOf};
 ghost use Rattle.site_threads.specs.Running.{marks_in};
 ghost use Rattle.site_threads.specs.Starting.{IsLastMarked};
 ghost use Rattle.site_threads.specs.Ends.{IsDesk};
-ghost use Rattle.site_threads.specs.Playing.{MayTurn};
+ghost use Rattle.site_threads_tests.specs.Playing.{MayTurn};
 
-use crate::tests::fixtures::{capture, fresh, start};
-use crate::{Desk, DeskFault, FreeGate, Gate, Job, Reply, SiteTurn, TurnReport};
+use crate::turns::fixtures::{capture, fresh, start};
+use site_threads::{Desk, DeskFault, FreeGate, Gate, Job, Reply, SiteTurn, TurnReport};
 use keeper_core::{MemoryKeeper, SiteKeeper};
 use site_core::SiteState;
 use site_recovery::{are_all_sites, check_world};

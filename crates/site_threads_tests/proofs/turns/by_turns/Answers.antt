@@ -1,6 +1,6 @@
 use Rattle.std.proofs.Common.{◌∙◌}
-use Rattle.site_threads.proofs.Playing.{first_marked, second_marked, first_unmarked, second_unmarked}
-use Rattle.site_threads.proofs.tests.by_turns.Goals as goal
+use Rattle.site_threads_tests.proofs.Playing.{first_marked, second_marked, first_unmarked, second_unmarked}
+use Rattle.site_threads_tests.proofs.turns.by_turns.Goals as goal
 
 pub exchange-requires-clause-first : goal.exchange-requires-clause-first
 exchange-requires-clause-first c =

@@ -1,6 +1,6 @@
 //! The two sites, A and B, and their jobs.
 
-use crate::Job;
+use site_threads::Job;
 use epc_core::Epc;
 use event_json::{Sequence, Sites};
 use site_core::SiteState;

@@ -3,7 +3,7 @@ use Rattle.keeper_core.specs.Memory.{shown_in}
 use Rattle.wire_core.specs.Seats.{IsSeatOf}
 use Rattle.site_threads.specs.Running.{marks_in}
 use Rattle.site_threads.specs.Starting.{IsLastMarked}
-use Rattle.site_threads.proofs.tests.exchange.Goals as goal
+use Rattle.site_threads_tests.proofs.turns.exchange.Goals as goal
 
 pub new-one-requires : goal.new-one-requires
 new-one-requires c = record { start = (c.args.first, ap shown_in c.new.ensures, subst (λ k. IsLastMarked c.args.mine.logs k c.args.first) (sym c.me-a.ensures.me) c.requires.first.0) }
