@@ -1,9 +1,9 @@
 //! The commands on files and sites in memory.
 
-use site_commands::{Answer, Fault, Files, audit_sites, capture, init, report_recall, start};
 use event_json::SiteNo;
 use frame_core::{Frame, MsgId};
 use keeper_core::{MemoryKeeper, SiteKeeper};
+use site_commands::{Answer, Fault, Files, audit_sites, capture, init, report_recall, start};
 use site_core::{SiteInput, SiteState};
 use std::alloc::Global;
 use std::test::Fail;

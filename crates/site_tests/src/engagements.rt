@@ -1,9 +1,9 @@
 ghost use Rattle.std.specs.Prelude.{◌≤◌, length};
 
-use scholten_core::{Diffusion, Received, Signalled};
 use epc_core::Epc;
 use event_json::SiteNo;
 use frame_core::{LAST_NUMBER, MsgId, NumberFault, RecallId};
+use scholten_core::{Diffusion, Received, Signalled};
 use std::alloc::Global;
 use std::collections::BTreeMap;
 use std::test::Fail;

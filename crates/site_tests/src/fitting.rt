@@ -1,10 +1,10 @@
 mod conditions;
 
-use site_recovery::{CheckFault, Misfit, are_all_sites, check_world};
 use epc_core::Epc;
 use event_json::{Sequence, SiteNo, Sites};
 use frame_core::{Frame, MsgId, RecallId};
 use site_core::{SiteInput, SiteState};
+use site_recovery::{CheckFault, Misfit, are_all_sites, check_world};
 use std::alloc::Global;
 use std::test::Fail;
 

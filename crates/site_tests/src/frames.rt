@@ -1,6 +1,8 @@
-use frame_core::{Frame, LAST_NUMBER, MsgId, Noted, NumberFault, Outbox, RecallId, Row, Seen, tables};
 use epc_core::Epc;
 use event_json::SiteNo;
+use frame_core::{
+    Frame, LAST_NUMBER, MsgId, Noted, NumberFault, Outbox, RecallId, Row, Seen, tables,
+};
 use std::alloc::Global;
 use std::collections::BTreeMap;
 use std::test::Fail;

@@ -1,6 +1,6 @@
-use keeper_core::{Keep, KeepFault, MemoryKeeper, SiteKeeper};
 use epc_core::Epc;
 use event_json::{Sequence, Sites};
+use keeper_core::{Keep, KeepFault, MemoryKeeper, SiteKeeper};
 use site_core::{Effects, SiteInput, SiteState};
 use std::alloc::Global;
 use std::test::Fail;

@@ -7,10 +7,10 @@ ghost use Rattle.std.specs.Prelude.{◌<◌};
 mod refusals;
 mod restored;
 
-use site_core::{Effects, Quarantine, Refusal, SiteInput, SiteState, Stepped, emittable, step};
 use epc_core::Epc;
 use event_json::{Sequence, SiteNo, Sites};
 use frame_core::{Frame, FrameView, MsgId, RecallId};
+use site_core::{Effects, Quarantine, Refusal, SiteInput, SiteState, Stepped, emittable, step};
 use std::alloc::Global;
 use std::test::Fail;
 

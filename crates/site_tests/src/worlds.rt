@@ -1,4 +1,3 @@
-use world_core::{Answer, World, WorldEvent, WorldFault, WorldInput};
 use epc_core::Epc;
 use event_json::{Sequence, SiteNo, Sites};
 use frame_core::{Frame, MsgId, RecallId};
@@ -8,6 +7,7 @@ use site_recovery::Misfit;
 use std::alloc::Global;
 use std::test::Fail;
 use trace_core::Pair;
+use world_core::{Answer, World, WorldEvent, WorldFault, WorldInput};
 
 /// A document of a shipment of x to the address b.
 const DOCUMENT: &str =

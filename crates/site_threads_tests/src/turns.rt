@@ -10,10 +10,10 @@ ghost use Rattle.site_threads.specs.Ends.{IsDesk};
 ghost use Rattle.site_threads_tests.specs.Playing.{MayTurn};
 
 use crate::turns::fixtures::{capture, fresh, start};
-use site_threads::{Desk, DeskFault, FreeGate, Gate, Job, Reply, SiteTurn, TurnReport};
 use keeper_core::{MemoryKeeper, SiteKeeper};
 use site_core::SiteState;
 use site_recovery::{are_all_sites, check_world};
+use site_threads::{Desk, DeskFault, FreeGate, Gate, Job, Reply, SiteTurn, TurnReport};
 use std::alloc::Global;
 use std::sync::Wait;
 use std::test::Fail;

@@ -1,9 +1,9 @@
 //! Each refusal, and which comes first.
 use super::{FRESH, Short, fresh, gives, message, recall, recalls, site};
-use site_core::{Effects, Refusal, SiteInput, SiteState};
 use epc_core::Epc;
 use event_json::{DocFaultKind, Sequence};
 use frame_core::MsgId;
+use site_core::{Effects, Refusal, SiteInput, SiteState};
 use std::alloc::Global;
 use std::test::Fail;
 

@@ -2,11 +2,11 @@
 ghost use Rattle.std.specs.Prelude.{◌≤◌, ◌+◌, ◌^◌};
 
 use super::{Short, gives, recall, site, three_sites};
-use site_core::{Effects, Quarantine, Refusal, SiteState};
 use epc_core::Epc;
 use event_json::SiteNo;
 use frame_core::{LAST_NUMBER, MsgId, Row, tables};
 use scholten_core::{Diffusion, Own};
+use site_core::{Effects, Quarantine, Refusal, SiteState};
 use std::alloc::Global;
 use std::collections::BTreeMap;
 use std::test::Fail;

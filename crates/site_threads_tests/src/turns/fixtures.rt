@@ -1,9 +1,9 @@
 //! The two sites, A and B, and their jobs.
 
-use site_threads::Job;
 use epc_core::Epc;
 use event_json::{Sequence, Sites};
 use site_core::SiteState;
+use site_threads::Job;
 use std::alloc::Global;
 use std::test::Fail;
 

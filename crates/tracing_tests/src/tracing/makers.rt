@@ -1,10 +1,10 @@
 //! Sites and events of the tests. Sites A to D are numbers 0 to 3, with the addresses a to d.
 
-use trace_core::{Captured, Pair, Standing, reach, trail};
 use epc_core::Epc;
 use event_json::{Doc, PlainText, SiteNo, Sites, read_document};
 use std::alloc::{AllocError, Global};
 use std::test::Fail;
+use trace_core::{Captured, Pair, Standing, reach, trail};
 
 /// An event of the tests.
 #[derive(Clone, Copy, Drop)]
