@@ -67,44 +67,82 @@ wants 1 "$(printf 'refused %s\n' BadLine NoWorld)" '' init other bad.sites
 
 echo "faults"
 wants 3 '' 'fault Read' capture chain dairy none
-cp -r chain damaged
-rm damaged/shop-2.db
-wants 3 '' 'fault NotAStore' audit damaged
-rm -rf damaged && cp -r chain damaged
+# damaged: the chain again, to be spoilt
+damaged() {
+    rm -rf damaged
+    cp -r chain damaged
+}
+damaged
+rm damaged/shop-2.db damaged/shop-2.db-wal
+wants 3 '' 'fault Read' audit damaged
+[ -e damaged/shop-2.db ] && { echo "a missing file was made" >&2; failed=1; }
+damaged
+rm damaged/plant.db-wal
 printf 'this is no database, and never was one' >damaged/plant.db
+wants 3 '' 'fault NotAStore' audit damaged
+damaged
+rm damaged/plant.db-wal
+: >damaged/plant.db
+wants 3 '' 'fault NotAStore' audit damaged
+damaged
+truncate -s 8192 damaged/plant.db
 wants 3 '' 'fault Device' audit damaged
-rm -rf damaged && cp -r chain damaged
+damaged
 cp chain/plant.db damaged/dairy.db
+cp chain/plant.db-wal damaged/dairy.db-wal
 wants 3 '' 'fault OtherSite' audit damaged
-rm -rf damaged && cp -r chain damaged
+damaged
 echo 'site late z' >>damaged/sites
 wants 3 '' 'fault OtherSites' start damaged dairy "$tank"
 echo 'reach dairy x' >>damaged/sites
 wants 3 '' 'fault BadSites' audit damaged
+damaged
+"$recall" report damaged 'dairy#1' >/dev/full 2>err
+[ $? = 3 ] && [ "$(cat err)" = 'fault Write' ] || { echo "a full output: $(cat err)" >&2; failed=1; }
 
-echo "$stops stops of captures and starts"
-rm -rf stopped
-mkdir stopped
-wants 0 '' '' init stopped "$chain/sites"
-for ((n = 0; n < stops; n++)); do
-    "$recall" capture stopped dairy "$chain/dairy.json" >/dev/null 2>&1 &
-    sleep "0.0$((RANDOM % 60 + 10))"
+echo "$stops stops of a capture and as many of a start"
+rm -rf before stopped
+mkdir before
+wants 0 '' '' init before "$chain/sites"
+cp -r before stopped
+begun=$(date +%s%N)
+wants 0 'captured 5 known 0 skipped 1' '' capture stopped plant "$chain/plant.json"
+spent=$((($(date +%s%N) - begun) / 1000))
+
+# stop MOMENT WORD..: the program on these words, stopped after so many microseconds
+stop() {
+    local moment=$1
+    shift
+    "$recall" "$@" >/dev/null 2>&1 &
+    sleep "$(printf '%d.%06d' $((moment / 1000000)) $((moment % 1000000)))"
     kill -9 $! 2>/dev/null
     wait $! 2>/dev/null
+}
+
+old=0
+for ((n = 0; n < stops; n++)); do
+    rm -rf stopped && cp -r before stopped
+    stop $((spent * n / stops)) capture stopped plant "$chain/plant.json"
     wants 0 '' '' audit stopped
+    case "$("$recall" capture stopped plant "$chain/plant.json")" in
+    'captured 5 known 0 skipped 1') old=$((old + 1)) ;;
+    'captured 0 known 5 skipped 1') ;;
+    *) echo "a capture was kept in part" >&2; failed=1 ;;
+    esac
 done
-"$recall" capture stopped dairy "$chain/dairy.json" >out
-case "$(cat out)" in
-'captured 2 known 0 skipped 0' | 'captured 0 known 2 skipped 0') ;;
-*) echo "a capture was kept in part: $(cat out)" >&2; failed=1 ;;
-esac
+echo "  $old of the captures left the record before"
+wants 0 'captured 5 known 0 skipped 1' '' capture before plant "$chain/plant.json"
+old=0
 for ((n = 0; n < stops; n++)); do
-    "$recall" start stopped dairy "$tank" >/dev/null 2>&1 &
-    sleep "0.0$((RANDOM % 60 + 10))"
-    kill -9 $! 2>/dev/null
-    wait $! 2>/dev/null
-    "$recall" audit stopped >out 2>err || { echo "audit after a stop: $(cat out err)" >&2; failed=1; }
-    grep -qv '^open dairy#[0-9]*$' out && { echo "audit after a stop: $(cat out)" >&2; failed=1; }
+    rm -rf stopped && cp -r before stopped
+    stop $((spent * n / stops)) start stopped plant "$tank"
+    "$recall" audit stopped >out 2>err
+    case "$?:$(cat out)$(cat err)" in
+    0:) old=$((old + 1)) ;;
+    '0:open plant#1') ;;
+    *) echo "audit after a stop: $(cat out err)" >&2; failed=1 ;;
+    esac
 done
+echo "  $old of the starts left the record before"
 [ "$failed" = 0 ] && echo "all as it should be"
 exit "$failed"

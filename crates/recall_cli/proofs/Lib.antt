@@ -1,2 +1,3 @@
-pub mod Commands
+pub mod Assembly
+pub mod Endings
 pub mod Words

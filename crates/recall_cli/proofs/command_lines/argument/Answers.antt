@@ -1,6 +1,6 @@
 use Rattle.clap.specs.Words.{found_of}
 use Rattle.clap.proofs.WalkLemmas.{first_value-rows}
-use Rattle.recall_cli.proofs.Commands.{mapped_some}
+use Rattle.recall_cli.proofs.Assembly.{mapped_some}
 use Rattle.recall_cli.proofs.command_lines.argument.Goals as goal
 
 pub returns : goal.returns

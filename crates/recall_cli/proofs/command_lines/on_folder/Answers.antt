@@ -1,7 +1,7 @@
 use Rattle.std.proofs.Common.{ap, ◌∙◌}
 use Rattle.std.proofs.lemmas.Result.{IfOk-weaker}
 use Rattle.clap.specs.Simple.{app_of_fields}
-use Rattle.recall_cli.proofs.Commands.{adds_rule}
+use Rattle.recall_cli.proofs.Assembly.{adds_rule}
 use Rattle.recall_cli.proofs.command_lines.on_folder.Goals as goal
 
 pub returns : goal.returns

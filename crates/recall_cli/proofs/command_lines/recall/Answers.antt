@@ -3,7 +3,7 @@ use Rattle.std.proofs.lemmas.Result.{IfOk-weaker}
 use Rattle.clap.specs.Words.{app_of, new_app}
 use Rattle.clap.specs.Simple.{app_of_fields}
 use Rattle.recall_cli.specs.CommandLines.{needing}
-use Rattle.recall_cli.proofs.Commands.{adds_command}
+use Rattle.recall_cli.proofs.Assembly.{adds_command}
 use Rattle.recall_cli.proofs.command_lines.recall.Goals as goal
 
 pub returns : goal.returns

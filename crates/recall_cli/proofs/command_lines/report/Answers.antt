@@ -1,5 +1,5 @@
 use Rattle.std.proofs.lemmas.Result.{IfOk-weaker}
-use Rattle.recall_cli.proofs.Commands.{adds_rule}
+use Rattle.recall_cli.proofs.Assembly.{adds_rule}
 use Rattle.recall_cli.proofs.command_lines.report.Goals as goal
 
 pub returns : goal.returns
