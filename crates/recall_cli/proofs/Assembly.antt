@@ -1,6 +1,6 @@
 -- how `clap`'s commands are put together
 use Rattle.std.proofs.Common.{◌≡◌, false, true, Option, Some, None, IfSome, option_map, sym, ap, ◌∙◌, ap₂}
-use Rattle.clap.specs.Words.{AddsArg, AddsSubcommand, App, Rule, Shape, app_of, rule_of, with_rule, with_subcommand}
+use Rattle.clap.specs.Words.{AddsArg, AddsSubcommand, App, Rule, app_of, rule_of, with_rule, with_subcommand}
 use Rattle.clap.specs.declared.builder.arg.Arg.{Arg}
 use Rattle.clap.specs.declared.builder.command.Command.{Command}
 use Rattle.clap.proofs.SimpleLemmas.{plain_fields}
