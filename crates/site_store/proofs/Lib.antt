@@ -1,3 +1,10 @@
+pub mod Found
+pub mod InOrder
 pub mod KeptFailures
+pub mod KeptSteps
 pub mod KeptStops
+pub mod Named
+pub mod OpeningReads
+pub mod SameRows
+pub mod SiteSteps
 pub mod StepWrites

@@ -1,4 +1,7 @@
 pub mod Faults
 pub mod Kept
+pub mod Opened
+pub mod Openings
 pub mod Pairs
+pub mod Sites
 pub mod StepWritten

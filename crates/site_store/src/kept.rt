@@ -63,6 +63,7 @@ impl Kept {
         requires changed { changes effects ≡ true }
         ensures steps { StepsKept self.old input result self.new }
         ensures disk { HasCleanDisk (state S.Store conn.new) → Keeps self.old.pair (state S.Store conn.old) → KeepsAfter self.new result (state S.Store conn.new) }
+        ensures clean { HasCleanDisk (state S.Store conn.new) → HasCleanDisk (state S.Store conn.old) }
         ensures calls { IsTrue (is_idle result) → conn.new ≡ conn.old }
     {
         match write_step(self.alloc, conn, self.pair.state(), &input, &effects, &next) {
@@ -86,6 +87,7 @@ impl Kept {
         requires copies { CopiesRecord self.old.pair input }
         ensures steps { StepsKept self.old input result self.new }
         ensures disk { HasCleanDisk (state S.Store conn.new) → Keeps self.old.pair (state S.Store conn.old) → KeepsAfter self.new result (state S.Store conn.new) }
+        ensures clean { HasCleanDisk (state S.Store conn.new) → HasCleanDisk (state S.Store conn.old) }
         ensures calls { IsTrue (is_idle result) → conn.new ≡ conn.old }
     {
         match self.pair.after(&input) {
@@ -112,6 +114,7 @@ impl Kept {
     ) -> Result<Effects, KeepFault>
         ensures steps { StepsKept self.old input result self.new }
         ensures disk { HasCleanDisk (state S.Store conn.new) → Keeps self.old.pair (state S.Store conn.old) → KeepsAfter self.new result (state S.Store conn.new) }
+        ensures clean { HasCleanDisk (state S.Store conn.new) → HasCleanDisk (state S.Store conn.old) }
         ensures calls { IsTrue (is_idle result) → conn.new ≡ conn.old }
     {
         match look(self.pair.state(), &input) {
@@ -135,6 +138,7 @@ impl Kept {
     ) -> Result<Effects, KeepFault>
         ensures steps { AppliesKept self.old.is_open self.old input result self.new }
         ensures disk { HasCleanDisk (state S.Store conn.new) → Keeps self.old.pair (state S.Store conn.old) → KeepsAfter self.new result (state S.Store conn.new) }
+        ensures clean { HasCleanDisk (state S.Store conn.new) → HasCleanDisk (state S.Store conn.old) }
         ensures calls { IsTrue (is_idle result) → conn.new ≡ conn.old }
     {
         if !self.is_open {
@@ -153,6 +157,7 @@ impl Kept {
         requires is_open { self.old.is_open ≡ true }
         ensures stops { StopsInStep self.old input (is_ok result) self.new }
         ensures disk { HasCleanDisk (state S.Store conn.new) → Keeps self.old.pair (state S.Store conn.old) → KeepsStopped self.new (is_ok result) (state S.Store conn.new) }
+        ensures clean { HasCleanDisk (state S.Store conn.new) → HasCleanDisk (state S.Store conn.old) }
     {
         let answer = self.take(conn, input);
         if lacks_memory(&answer) {
@@ -178,6 +183,7 @@ impl Kept {
     ) -> Result<(), AllocError>
         ensures stops { StopsKept self.old.is_open self.old input keep (is_ok result) self.new }
         ensures disk { HasCleanDisk (state S.Store conn.new) → IsTrue self.old.is_open → Keeps self.old.pair (state S.Store conn.old) → KeepsStopped self.new (is_ok result) (state S.Store conn.new) }
+        ensures clean { HasCleanDisk (state S.Store conn.new) → HasCleanDisk (state S.Store conn.old) }
         ensures calls { self.old.is_open ≡ false → conn.new ≡ conn.old }
     {
         if !self.is_open {

@@ -1,11 +1,16 @@
 //! A site kept in the tables of a file: a step stands once its rows are written, and what a stop left is opened again.
 #![tactic(auto)]
 
+mod beginning;
 mod faults;
+mod finding;
 mod kept;
+mod linking;
+mod opening;
 mod pairs;
-mod reopening;
+mod sites;
 mod writing;
 
-pub use reopening::reopen;
+pub use opening::{OpenFault, open_site};
+pub use sites::{Link, StoredSite};
 pub use writing::{Unwritten, write_step};

@@ -37,6 +37,7 @@ pub fn write_step<S: Alter>(
     ensures done { HasCleanDisk (state S.Store conn.new) → Keeps old.now (state S.Store conn.old) → OnOk result (Keeps new.now (state S.Store conn.new)) }
     ensures failed { HasCleanDisk (state S.Store conn.new) → Keeps old.now (state S.Store conn.old) → IfErr result (KeepsWhereFailed old.now new.now (state S.Store conn.new)) }
     ensures counted { IfOk result (IsCounted old.now effects.now new.now) }
+    ensures clean { HasCleanDisk (state S.Store conn.new) → HasCleanDisk (state S.Store conn.old) }
 {
     if !conn.is_autocommit() {
         let error = Error::SqliteFailure(ErrorCode::TransactionState);

@@ -21,7 +21,7 @@ fn fresh(alloc: Global) -> Result<SiteState, Fail> {
 }
 
 /// A document of a transformation of x into y, and of a shipment of y to site B.
-fn document(alloc: Global) -> Result<SiteInput, Fail> {
+pub fn document(alloc: Global) -> Result<SiteInput, Fail> {
     let text = format!(in alloc;
         "{{\"type\":\"EPCISDocument\",\"epcisBody\":{{\"eventList\":[{{\"type\":\"TransformationEvent\",{TIMES},\"inputEPCList\":[\"x\"],\"outputEPCList\":[\"y\"]}},{{\"type\":\"ObjectEvent\",{TIMES},\"eventID\":\"e\",\"action\":\"OBSERVE\",\"epcList\":[\"y\"],\"destinationList\":[{{\"destination\":\"b\"}}]}}]}}}}"
     )?;

@@ -33,7 +33,3 @@ pub has_inserted : (schema : Schema) (table : Table) (db next : Trees) (source s
 has_inserted schema table db next source shown rows shows done has =
     let new = with_rowid Chosen (db table.tree) (cast_row table source) in
     rw done.rows (has_one_more table rows (db table.tree) new shown (and_parts (is_int (rowid new)) true done.keyed).0 (not-true (is_taken (db table.tree) new) (and_parts (not (is_taken (db table.tree) new)) true done.fresh).0) shows has)
-
-pub has_none : (schema : Schema) (table : Table) (db next : Trees) (found : List Row) (rows : List Row) → HasRows table rows (db table.tree) → IsPermutation (ids_of (db table.tree)) (ids_of found)
-    → Applies schema Enforced db (edit_of db table (ids_of found) Given 0 []) next → next table.tree ≡ []
-has_none schema table db next found rows has all done = done.rows ∙ all_gone (db table.tree) (ids_of found) has.keyed all

@@ -1,4 +1,4 @@
--- What the texts of an insert of one row and of a delete of all rows do to the trees.
+-- What the text of an insert of one row does to the trees.
 use Rattle.std.proofs.Common.{◌≡◌, ◌⊎◌, inl, inr, ℕ, ℤ, ◌+◌, ◌/◌, List, [], ◌∷◌, map, length, slice_get, false, Option, None, Some, Ok, Err, Result, refl, sym, ap, subst, subst₂, ◌∙◌, append-nil}
 use Rattle.std.specs.List.Sorted.{IsPermutation}
 use Rattle.std.proofs.lemmas.List.Sorted.{IsPermutation-refl, IsPermutation-map}
@@ -27,10 +27,10 @@ use Rattle.sqlite.specs.declared.run.Mode.{Mode}
 use Rattle.sqlite.specs.Command.{Command}
 use Rattle.sqlite.specs.Listing.{understood}
 use Rattle.sqlite.proofs.Callers.{IsPlain, command_of, runs_as, one_step}
-use Rattle.site_tables.specs.TableRows.{visible, Changes, adds, clears}
-use Rattle.site_tables.specs.Commands.{row_terms, rowids, inserts_row, deletes_all}
+use Rattle.site_tables.specs.TableRows.{visible, Changes, adds}
+use Rattle.site_tables.specs.Commands.{row_terms, rowids, inserts_row}
 use Rattle.site_tables.proofs.Answered.{whole_answer, shows_all}
-use Rattle.site_tables.proofs.Applied.{has_inserted, has_none, keeps_others}
+use Rattle.site_tables.proofs.Applied.{has_inserted, keeps_others}
 
 -- nothing is computed as a row is inserted
 pub record IsSimple (schema : Schema) (at : ℕ) (table : Table) : Type 0 where
@@ -95,29 +95,6 @@ inserted sql schema at table terms width source params old new count simple is o
     let applied = one_row old.step_limit schema table params old.now.trees terms width source ran.0 simple.uncounted (rw (simple.unstamped, append-nil params) refl) one simple.adds ran.1 in
     (ap (λ (d : Database). d.schema) ran.2, subst (Applies schema Enforced old.now.trees (edit_of old.now.trees table [] Chosen 0 (source ∷ []))) (sym (ap (λ (d : Database). d.trees) ran.2)) applied)
 
--- a delete of all rows takes out the rowids that its query finds
-deletes_found : (limit : Option ℕ) (schema : Schema) (table : Table) (params : Row) (db : Trees) (w : Written) → ((gone : List Row) → works schema Enforced 0 table.tree gone [] ≡ [])
-    → Deletes (record { limit = limit; keys = Enforced; schema = schema; table = table; params = params }) (record { lets = []; body = rowids table }) db (Ok w)
-    → (found : List Row) × IsPermutation (map (λ r. rowid r ∷ []) (db table.tree)) found × Applies schema Enforced db (edit_of db table (ids_of found) Given 0 []) w.trees
-deletes_found limit schema table params db w removes h =
-    let found = went h in
-    let edit = went found.2 in
-    let whole = whole_answer table.tree (col 1 0 ∷ []) [] db params found.0 (found.1.answer Null) in
-    let same : w.trees ≡ edit.0 = ap (λ (it : Written). it.trees) (same_value edit.2) in
-    let gone = edit_of db table (ids_of found.0) Given 0 [] in
-    (found.0, shows_all (rowids table) (db table.tree) params found.0 whole, subst (Applies schema Enforced db gone) (sym same) (one_step schema Enforced db edit.0 gone (removes _) edit.1))
-
-pub deleted : (sql : List ℕ) (schema : Schema) (at : ℕ) (table : Table) (params : Row) (old new : State) (count : ℕ) → IsSimple schema at table
-    → (command_of (understood schema sql) ≡ deletes_all at table) × IsPlain (understood schema sql)
-    → old.now.schema ≡ schema → Executes sql params old new (Ok count)
-    → (new.now.schema ≡ schema) × (found : List Row) × IsPermutation (map (λ r. rowid r ∷ []) (old.now.trees table.tree)) found
-    × Applies schema Enforced old.now.trees (edit_of old.now.trees table (ids_of found) Given 0 []) new.now.trees
-deleted sql schema at table params old new count simple is has h =
-    let w = runs_as sql params old new schema has (deletes_all at table) is.0 is.1 count h in
-    let ran = on_table old.step_limit (mode_of old) params old.now new.now schema at table (deletes_all at table) w.tally has simple.listed w.changed in
-    let found = deletes_found old.step_limit schema table params old.now.trees ran.0 simple.removes ran.1 in
-    (ap (λ (d : Database). d.schema) ran.2, found.0, found.1, subst (Applies schema Enforced old.now.trees (edit_of old.now.trees table (ids_of found.0) Given 0 [])) (sym (ap (λ (d : Database). d.trees) ran.2)) found.2)
-
 abbrev pub source_of : Table → Row → Row
 source_of table params = eval_all (row_terms table) (params ∷ [])
 
@@ -133,18 +110,4 @@ inserts_one sql schema at table params old new count simple is one shows has h =
       schema = done.0 ∙ sym has;
       rows = λ rows there. has_inserted schema table old.now.trees new.now.trees (source_of table params) params rows (shows (old.now.trees table.tree)) done.1 there;
       others = rw has (keeps_others schema old.now.trees new.now.trees _ done.1);
-    }
-
-pub deletes_each : (sql : List ℕ) (schema : Schema) (at : ℕ) (table : Table) (params : Row) (old new : State) (count : ℕ) → IsSimple schema at table
-    → (command_of (understood schema sql) ≡ deletes_all at table) × IsPlain (understood schema sql)
-    → old.now.schema ≡ schema → Executes sql params old new (Ok count) → Changes table clears old.now new.now
-deletes_each sql schema at table params old new count simple is has h =
-    let done = deleted sql schema at table params old new count simple is has h in
-    let tree = old.now.trees table.tree in
-    let ids = IsPermutation-map (λ r. id_in (rowid r)) (map (λ r. rowid r ∷ []) tree) done.1 done.2 in
-    let same : IsPermutation (ids_of tree) (ids_of done.1) = rw (map-map (λ r. id_in (rowid r)) (λ r. rowid r ∷ []) tree) at ids in
-    record {
-      schema = done.0 ∙ sym has;
-      rows = λ rows there. rw (has_none schema table old.now.trees new.now.trees done.1 rows there same done.3) (record { keyed = refl; rising = tt; same = IsPermutation-refl [] });
-      others = rw has (keeps_others schema old.now.trees new.now.trees _ done.3);
     }

@@ -1,5 +1,5 @@
 -- What the changes of a step make of the rows that the tables hold.
-use Rattle.std.proofs.Common.{◌≡◌, ℤ, List, [], ◌∷◌, ◌++◌, Bool, true, false, not, ◌&&◌, map, filter, Option, None, Some, Result, Ok, Err, OnOk, refl, sym, ap, subst, ◌∙◌}
+use Rattle.std.proofs.Common.{◌≡◌, ℤ, List, [], ◌∷◌, ◌++◌, Bool, true, false, not, ◌&&◌, map, filter, Option, None, Some, refl, sym, ap, subst, ◌∙◌}
 use Rattle.std.specs.Prelude.{fold}
 use Rattle.std.specs.List.Sorted.{IsPermutation}
 use Rattle.std.specs.Ordering.{is_eq, int_cmp, int_eq}
@@ -123,7 +123,3 @@ stored_after changes before after s leads it = record {
   holds = holds_after changes before after s.committed.trees leads it.holds;
   crash = λ db may. holds_after changes before after db leads (it.crash db may);
 }
-
-pub on_any_ok : {X Y : Type 0} {P Q : Type 0} (r : Result X Y) → (P → Q) → OnOk r P → OnOk r Q
-on_any_ok (Ok x) f h = f h
-on_any_ok (Err e) f h = tt {0}

@@ -20,9 +20,9 @@ use Rattle.sqlite_rules.specs.declared.error.Rowids.TheVariants.{Chosen}
 use Rattle.site_tables.proofs.Removed.{deletes_one_key}
 use Rattle.site_tables.proofs.Answered.{passes_all}
 use Rattle.site_tables.specs.Tables.{site_schema}
-use Rattle.site_tables.specs.TableRows.{visible, HasRows, Changes, GoesOn, Does, Writes, HasWritten, adds, clears, has_key, without_key, FailsInside}
-use Rattle.site_tables.specs.Commands.{row_terms, inserts_row, deletes_all, key_filter, deletes_key}
-use Rattle.site_tables.proofs.Inserted.{IsSimple, source_of, inserts_one, deletes_each}
+use Rattle.site_tables.specs.TableRows.{visible, HasRows, Changes, GoesOn, Does, Writes, HasWritten, adds, has_key, without_key, FailsInside}
+use Rattle.site_tables.specs.Commands.{row_terms, inserts_row, key_filter, deletes_key}
+use Rattle.site_tables.proofs.Inserted.{IsSimple, source_of, inserts_one}
 
 -- the text means this command, and shows no rows
 abbrev pub Means : List ℕ → Command → Type 0
@@ -98,14 +98,6 @@ pub deletes_of_key : (at : ℕ) (table : Table) → IsSimple site_schema at tabl
 deletes_of_key at table simple sql is params reads old new r ran = record {
   done = λ clean. does table (without_key table params) sql params old new r ran.late ran.ended (ran.runs clean) (λ count has h. deletes_one_key sql site_schema at table params old new count simple is reads has h);
   undone = λ clean. keeps sql params old new r ran.same (ran.runs clean);
-  crash = ran.survives;
-}
-
-pub deletes : (at : ℕ) (table : Table) → IsSimple site_schema at table → (sql : List ℕ) → Means sql (deletes_all at table) → (old new : State) (r : Result ℕ Error)
-    → Ran sql [] old new r → Writes table clears old new r
-deletes at table simple sql is old new r ran = record {
-  done = λ clean. does table clears sql [] old new r ran.late ran.ended (ran.runs clean) (λ count has h. deletes_each sql site_schema at table [] old new count simple is has h);
-  undone = λ clean. keeps sql [] old new r ran.same (ran.runs clean);
   crash = ran.survives;
 }
 

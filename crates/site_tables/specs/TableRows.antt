@@ -45,9 +45,6 @@ pub record Changes (table : Table) (change : List Row → List Row) (old new : D
 abbrev pub adds : List Row → List Row → List Row
 adds more rows = rows ++ more
 
-abbrev pub clears : List Row → List Row
-clears rows = []
-
 -- the transaction goes on, or was not begun
 pub record GoesOn (old new : State) : Type 0 where
   pub is_open : new.is_open ≡ old.is_open

@@ -1,0 +1,16 @@
+use Rattle.std.proofs.Common.{sym, subst}
+use Rattle.site_store.specs.Opened.{ReadsAt}
+use Rattle.site_store.proofs.Found.{found_kept}
+use Rattle.site_store.proofs.OpeningReads.{found_stores}
+use Rattle.site_store.proofs.opening.open_site.Goals as goal
+
+pub returns-in-Ok-clause-opened : goal.returns-in-Ok-clause-opened
+returns-in-Ok-clause-opened g c =
+    let it = c.in-Ok.ensures in
+    record {
+      shown = c.in-Ok.state;
+      shows = c.adopt.ensures.shown;
+      named = it.named;
+      reads = subst (λ l. ReadsAt c.args.conn c.in-Ok.state l) (sym c.adopt.ensures.over) (it.crash, it.read);
+      kept = λ found. c.adopt.ensures.stored (found_kept c.in-Ok.state c.args.conn c.read_site.new.conn (found_stores c.args.conn found c.schema-schema.ensures.live c.settled.ensures) it.crash it.read c.settled-in-Ok.ensures);
+    }

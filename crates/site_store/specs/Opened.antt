@@ -1,0 +1,93 @@
+-- As which site a database is opened, and why it isn't.
+use Rattle.std.specs.Prelude.{◌≡◌, ◌≢◌, ◌⊎◌, ◌∷◌, [], ⊤, ℕ, ℤ, pos, List, Option, Some, None, option_map, string_bytes}
+use Rattle.std.specs.List.{find}
+use Rattle.std.specs.Ordering.{int_eq}
+use Rattle.sqlite_disk.specs.declared.Disk as disk
+use Rattle.sqlite_wal.specs.Recovery.{Image}
+use Rattle.sqlite_store.specs.declared.store.FileStore.{FileStore}
+use Rattle.sqlite.specs.Held.{Held}
+use Rattle.sqlite.specs.Files.{file_state, AreFoundIn}
+use Rattle.sqlite.specs.State.{State, HasCleanDisk, Opens, Survives}
+use Rattle.site_core.specs.Records.{Record}
+use Rattle.site_rows.specs.ReadRows.{IsStateFault}
+use Rattle.site_rows.specs.RecordRows.{name_of}
+use Rattle.site_rows.specs.declared.reading.StateFault.TheVariants as states
+use Rattle.site_rows.specs.declared.rows.Rows.{Rows}
+use Rattle.site_rows.specs.declared.rows.SiteRow.{SiteRow}
+use Rattle.site_rows.specs.declared.rows.StoreRow.{StoreRow}
+use Rattle.site_rows.specs.declared.tables.Table.TheVariants as tables
+use Rattle.site_tables.specs.AllReads.{AreListed}
+use Rattle.site_tables.specs.Stored.{contents_of}
+use Rattle.site_store.specs.declared.opening.OpenFault.{OpenFault}
+use Rattle.site_store.specs.declared.opening.OpenFault.TheVariants.{NoMemory, NotAStore, Version, OtherSite, BadRow, Device, Store}
+use Rattle.site_store.specs.declared.sites.Link.{Link}
+use Rattle.site_store.specs.declared.sites.Link.TheVariants.{Connected, Unconnected}
+use Rattle.site_store.specs.declared.sites.StoredSite.{StoredSite}
+use Rattle.site_store.specs.Openings.{ListsRecord}
+use Rattle.site_store.specs.Sites.{shown_by, link_of, IsKeptBy}
+
+-- the name in the row of `site` with this number
+abbrev pub name_at : List SiteRow → ℤ → Option (List ℕ)
+name_at sites number = option_map (λ (s : SiteRow). s.name) (find (λ (s : SiteRow). int_eq s.no number) sites)
+
+-- the row of `store` has version 1 and the number of a site; this is what `site` says of its name
+pub record IsStoreOf (rows : Rows) (name : Option (List ℕ)) : Type 0 where
+  pub row : StoreRow
+  pub rest : List StoreRow
+  pub first : rows.store ≡ row ∷ rest
+  pub version : row.version ≡ pos 1
+  pub name_is : name_at rows.site row.me ≡ name
+
+-- what the rows say against a site of this name, in the order in which it is asked: a row of `store`, its version, a site
+-- of its number, the name of that, and rows that stand in a record's
+abbrev pub IsRefused : List ℕ → Rows → OpenFault → Type 0
+IsRefused name rows NotAStore = rows.store ≡ []
+IsRefused name rows (Version found) = (row : StoreRow) × (rest : List StoreRow) × (rows.store ≡ row ∷ rest) × (row.version ≡ found) × (found ≢ pos 1)
+IsRefused name rows (OtherSite found) = IsStoreOf rows (Some (string_bytes found)) × (string_bytes found ≢ name)
+IsRefused name rows (BadRow bad) =
+    (IsStoreOf rows None × (bad ≡ record { table = tables.Store; row = 1 }))
+    ⊎ (IsStoreOf rows (Some name) × IsStateFault rows (states.BadRow bad))
+IsRefused name rows NoMemory = ⊤
+IsRefused name rows Device = ⊥
+IsRefused name rows Store = ⊥
+
+-- the tables can't be read: they are no site's, a row has a text that isn't UTF-8, or the database fails. Which of these
+-- isn't said.
+abbrev pub IsUnread : OpenFault → Type 0
+IsUnread (Version found) = ⊥
+IsUnread (OtherSite found) = ⊥
+IsUnread other = ⊤
+
+-- the rows that the tables list say so, or they can't be read
+abbrev pub IsOpenFault : State → List ℕ → OpenFault → Type 0
+IsOpenFault s name fault = ((rows : Rows) × AreListed (contents_of rows) s.now.trees × IsRefused name rows fault) ⊎ IsUnread fault
+
+-- the name of the site itself
+abbrev pub own_name : Record → List ℕ
+own_name r = name_of r.sites r.engagement.me
+
+module _ {D : Type 0} {g : disk.Ghosts D} where
+  -- the connection was just made to files in which its tables were found
+  abbrev pub IsFound : Held (FileStore D g) → Type 0
+  IsFound conn = HasCleanDisk (file_state conn) → Opens (file_state conn) × (image : Image) × AreFoundIn image (file_state conn).committed.trees
+
+  -- a reading of the tables, which lists the rows of the record
+  abbrev pub ReadsAt : Held (FileStore D g) → Record → Link D g → Type 0
+  ReadsAt before r (Connected after) =
+      Survives (file_state before) (file_state after) (λ _. ⊥) × (HasCleanDisk (file_state after) → ListsRecord r (file_state before) (file_state after))
+  ReadsAt before r (Unconnected files) = ⊥
+
+  -- it shows the record whose rows the tables list, which is that of a site of this name; over a connection just made the
+  -- tables hold its rows after a crash, too
+  pub record IsOpenedAs (conn : Held (FileStore D g)) (name : List ℕ) (site : StoredSite D g) : Type 0 where
+    pub shown : Record
+    pub shows : shown_by site ≡ Some shown
+    pub named : own_name shown ≡ name
+    pub reads : ReadsAt conn shown (link_of site)
+    pub kept : IsFound conn → IsKeptBy site shown
+
+  -- the connection was given up after a reading, which wrote nothing, and the tables tell why
+  pub record IsNotOpened (conn : Held (FileStore D g)) (name : List ℕ) (fault : OpenFault) : Type 0 where
+    pub last : Held (FileStore D g)
+    pub crash : Survives (file_state conn) (file_state last) (λ _. ⊥)
+    pub cause : HasCleanDisk (file_state last) → IsOpenFault (file_state conn) name fault

@@ -1,0 +1,236 @@
+//! A site kept in the tables of a file.
+ghost use Rattle.std.specs.Prelude.{◌≡◌, ◌≤◌, false, Some, None, Ok, Err, IfOk, IfErr, MatchResult, is_ok};
+ghost use Rattle.site_core.specs.Records.{Record};
+ghost use Rattle.site_core.specs.Steps.{CopiesRecord};
+ghost use Rattle.keeper_core.specs.Keeping.{Applies, Stops, StaysClosed, HindersOpening, Rises};
+ghost use Rattle.site_store.specs.Sites.{shown_by, MayBy, failed_by, statements_by, link_of, IsKeptOver, IsKeptBy, StoresListed, OpensIn, StaysShut, AppliesBy, StopsBy, ReopensBy};
+
+use crate::beginning::begin_tables;
+use crate::kept::Kept;
+use crate::linking::connect;
+use keeper_core::{Keep, KeepFault, SiteKeeper, Unopened};
+use site_core::{Effects, SiteInput, SiteState};
+use site_tables::settled;
+use sqlite::{Connection, FileStore, Files, Options};
+use sqlite_disk::Disk;
+use std::alloc::{AllocError, Global};
+
+/// What leads to the tables.
+#[derive(Drop)]
+pub enum Link<D: Disk> {
+    /// A connection.
+    Connected(Connection<FileStore<D>>),
+    /// The files, where no connection could be made to them.
+    Unconnected(Files<D>),
+}
+
+/// A site kept in the tables of a file, on any disk.
+#[derive(Drop)]
+pub struct StoredSite<D: Disk> {
+    kept: Kept,
+    link: Link<D>,
+    options: Options,
+}
+
+impl<D: Disk + Drop> StoredSite<D> {
+    /// An open site whose rows the tables hold already. Takes no memory.
+    pub(crate) fn adopt(
+        alloc: Global,
+        conn: Connection<FileStore<D>>,
+        options: Options,
+        state: SiteState,
+    ) -> StoredSite<D>
+        ensures shown { shown_by result ≡ Some state }
+        ensures fresh { (failed_by result ≡ 0) × (statements_by result ≡ 0) }
+        ensures over { link_of result ≡ Link.Connected conn }
+        ensures stored { IsKeptOver conn state → IsKeptBy result state }
+    {
+        StoredSite {
+            kept: Kept::new(alloc, state),
+            link: Link::Connected(conn),
+            options,
+        }
+    }
+
+    /// A site that is kept from now on, in an empty database, whose tables are made with all rows of the record, in one
+    /// transaction.
+    ///
+    /// # Errors
+    /// `NoMemory`, `Device` or `Store`, the last also where the database isn't empty. The connection is given up.
+    pub fn create(
+        alloc: Global,
+        conn: Connection<FileStore<D>>,
+        options: Options,
+        state: SiteState,
+    ) -> Result<StoredSite<D>, KeepFault>
+        ensures shown { IfOk result (λ site. shown_by site ≡ Some state) }
+        ensures fresh { IfOk result (λ site. (failed_by site ≡ 0) × (statements_by site ≡ 0)) }
+        ensures stored { IfOk result (λ site. IsKeptBy site state) }
+        ensures kind { IfErr result HindersOpening }
+    {
+        let mut conn = conn;
+        match begin_tables(alloc, &mut conn, &state) {
+            Ok(()) => Ok(StoredSite::adopt(alloc, conn, options, state)),
+            Err(fault) => Err(fault),
+        }
+    }
+
+    /// The connection, or the files where there is none. What the site showed isn't kept.
+    pub fn release(self) -> Link<D>
+        ensures { result ≡ link_of self }
+    {
+        let StoredSite { link, .. } = self;
+        link
+    }
+
+    /// How many statements the last step ran that had effects: one for each row that it wrote, and the two that begin and
+    /// commit. 0 for a step that changed nothing, and before the first.
+    pub fn statements(&self) -> u64
+        ensures { result ≡ statements_by self.now }
+    {
+        self.kept.statements
+    }
+
+    /// A step.
+    fn take(&mut self, input: SiteInput) -> Result<Effects, KeepFault>
+        ensures { AppliesBy self.old input result self.new }
+    {
+        match &mut self.link {
+            Link::Connected(conn) => self.kept.apply(conn, input),
+            Link::Unconnected(_) => Err(KeepFault::Closed),
+        }
+    }
+
+    /// A stop.
+    fn stop_in(&mut self, input: SiteInput, keep: Keep) -> Result<(), AllocError>
+        ensures { StopsBy self.old input keep (is_ok result) self.new }
+    {
+        match &mut self.link {
+            Link::Connected(conn) => self.kept.stop(conn, input, keep),
+            Link::Unconnected(_) => Ok(()),
+        }
+    }
+}
+
+impl<D: Disk + Drop> SiteKeeper for StoredSite<D> {
+    ghost shown = { shown_by };
+
+    ghost may = { MayBy };
+
+    ghost failed = { failed_by };
+
+    ghost applies = { AppliesBy };
+
+    ghost stops = { StopsBy };
+
+    ghost reopens = { ReopensBy };
+
+    fn view(&self) -> Option<&SiteState> {
+        match &self.link {
+            Link::Connected(_) if self.kept.is_open => Some(self.kept.pair.state()),
+            _ => None,
+        }
+    }
+
+    fn failures(&self) -> u64 {
+        self.kept.failures
+    }
+
+    #[tactic(auto, using(crate::proofs::SiteSteps::open_by, crate::proofs::SiteSteps::memory_by, crate::proofs::SiteSteps::closed_by, crate::proofs::SiteSteps::cause_by, crate::proofs::SiteSteps::count_by))]
+    fn apply(&mut self, input: SiteInput) -> Result<Effects, KeepFault>
+        ensures open { (old : Record) → shown_by self.old ≡ Some old → Applies old input result (shown_by self.new) (MayBy self.new) }
+        ensures memory { (old : Record) → shown_by self.old ≡ Some old → result ≡ Err KeepFault.NoMemory → CopiesRecord old input }
+        ensures closed { shown_by self.old ≡ None → (result ≡ Err KeepFault.Closed) × (self.new ≡ self.old) }
+        ensures cause { result ≡ Err KeepFault.Device → Rises (failed_by self.old) (failed_by self.new) }
+        ensures count { failed_by self.old ≤ failed_by self.new }
+        ensures kind { AppliesBy self.old input result self.new }
+    {
+        self.take(input)
+    }
+
+    #[tactic(auto, using(crate::proofs::SiteSteps::stop_open_by, crate::proofs::SiteSteps::stop_closed_by, crate::proofs::SiteSteps::stop_count_by))]
+    fn stop(&mut self, input: SiteInput, keep: Keep) -> Result<(), AllocError>
+        ensures open { (old : Record) → shown_by self.old ≡ Some old → Stops old input keep (is_ok result) (shown_by self.new) (MayBy self.new) }
+        ensures closed { shown_by self.old ≡ None → self.new ≡ self.old }
+        ensures count { failed_by self.old ≤ failed_by self.new }
+        ensures kind { StopsBy self.old input keep (is_ok result) self.new }
+    {
+        self.stop_in(input, keep)
+    }
+
+    #[tactic(auto, using(crate::proofs::SiteSteps::stays_closed, crate::proofs::SiteSteps::left_cause, crate::proofs::SiteSteps::left_count))]
+    fn reopen(self) -> Result<Self, Unopened<Self>>
+        ensures open { (r : Record) → shown_by self ≡ Some r → result ≡ Ok self }
+        ensures opened { shown_by self ≡ None → IfOk result (λ keeper. (r : Record) × MayBy self r × (shown_by keeper ≡ Some r)) }
+        ensures unopened { IfErr result (λ u. HindersOpening u.fault × StaysClosed (MayBy self) (shown_by u.keeper) (MayBy u.keeper)) }
+        ensures cause { IfErr result (λ u. u.fault ≡ KeepFault.Device → Rises (failed_by self) (failed_by u.keeper)) }
+        ensures count { MatchResult result (λ keeper. failed_by self ≤ failed_by keeper) (λ u. failed_by self ≤ failed_by u.keeper) }
+        ensures kind { ReopensBy self result }
+    {
+        if self.view().is_some() {
+            return Ok(self);
+        }
+        open_again(self)
+    }
+
+    fn may_be_opened(&self) {}
+}
+
+/// A closed record opened over a connection just made, in that of its records whose rows the tables list.
+///
+/// # Errors
+/// Why it is closed still, in the records of before.
+fn find_over<D: Disk + Drop>(
+    kept: Kept,
+    conn: Connection<FileStore<D>>,
+    options: Options,
+) -> Result<StoredSite<D>, Unopened<StoredSite<D>>>
+    requires closed { kept.is_open ≡ false }
+    requires stores { StoresListed conn }
+    ensures opened { IfOk result (OpensIn kept) }
+    ensures kind { IfErr result (λ left. HindersOpening left.fault) }
+    ensures unopened { IfErr result (StaysShut kept) }
+{
+    let mut kept = kept;
+    let mut conn = conn;
+    let found = kept.find(&mut conn);
+    settled(&conn);
+    let keeper = StoredSite {
+        kept,
+        link: Link::Connected(conn),
+        options,
+    };
+    match found {
+        Ok(()) => Ok(keeper),
+        Err(fault) => Err(Unopened { keeper, fault }),
+    }
+}
+
+/// A closed site opened again, over its files.
+///
+/// # Errors
+/// Why it is closed still, in the records of before.
+fn open_again<D: Disk + Drop>(site: StoredSite<D>) -> Result<StoredSite<D>, Unopened<StoredSite<D>>>
+    ensures opened { IfOk result (OpensIn site.kept) }
+    ensures kind { IfErr result (λ left. HindersOpening left.fault) }
+    ensures unopened { IfErr result (StaysShut site.kept) }
+{
+    let StoredSite {
+        mut kept,
+        link,
+        options,
+    } = site;
+    kept.is_open = false;
+    match connect(kept.alloc, link, options) {
+        Ok(conn) => find_over(kept, conn, options),
+        Err((error, files)) => {
+            let fault = kept.hindered(&error);
+            let keeper = StoredSite {
+                kept,
+                link: Link::Unconnected(files),
+                options,
+            };
+            Err(Unopened { keeper, fault })
+        }
+    }
+}
