@@ -135,7 +135,10 @@ impl Files<FileSite> for HostFiles<'_> {
         }
         let options = self.options()?;
         let conn = self.connect(path)?;
-        site_store::open_site(alloc, conn, options, name).map_err(unfound)
+        match site_store::open_site(alloc, conn, options, name) {
+            Ok(site) => Ok(site),
+            Err(fault) => Err(unfound(fault)),
+        }
     }
 
     fn close_site(&mut self, keeper: FileSite) {
