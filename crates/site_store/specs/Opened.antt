@@ -1,5 +1,5 @@
 -- As which site a database is opened, and why it isn't.
-use Rattle.std.specs.Prelude.{◌≡◌, ◌≢◌, ◌⊎◌, ◌∷◌, [], ⊤, ℕ, ℤ, pos, List, Option, Some, None, option_map, string_bytes}
+use Rattle.std.specs.Prelude.{◌≡◌, ◌≢◌, ◌⊎◌, ◌∷◌, [], ⊤, ℕ, ℤ, pos, List, Option, Some, None, option_map, string_bytes, if◌then◌else◌}
 use Rattle.std.specs.List.{find}
 use Rattle.std.specs.Ordering.{int_eq}
 use Rattle.sqlite_disk.specs.declared.Disk as disk
@@ -18,6 +18,10 @@ use Rattle.site_rows.specs.declared.rows.StoreRow.{StoreRow}
 use Rattle.site_rows.specs.declared.tables.Table.TheVariants as tables
 use Rattle.site_tables.specs.AllReads.{AreListed}
 use Rattle.site_tables.specs.Stored.{contents_of}
+use Rattle.site_tables.specs.Unreadable.{ShowsBadRow}
+use Rattle.site_tables.specs.declared.faults.ReadFault.{ReadFault}
+use Rattle.site_tables.specs.declared.faults.ReadFault.TheVariants as reads
+use Rattle.site_store.specs.Faults.{is_of_device, is_of_memory}
 use Rattle.site_store.specs.declared.opening.OpenFault.{OpenFault}
 use Rattle.site_store.specs.declared.opening.OpenFault.TheVariants.{NoMemory, NotAStore, Version, OtherSite, BadRow, Device, Store}
 use Rattle.site_store.specs.declared.sites.Link.{Link}
@@ -51,16 +55,24 @@ IsRefused name rows NoMemory = ⊤
 IsRefused name rows Device = ⊥
 IsRefused name rows Store = ⊥
 
--- the tables can't be read: they are no site's, a row has a text that isn't UTF-8, or the database fails. Which of these
--- isn't said.
-abbrev pub IsUnread : OpenFault → Type 0
-IsUnread (Version found) = ⊥
-IsUnread (OtherSite found) = ⊥
-IsUnread other = ⊤
+-- what a fault of a reading is to an opening
+abbrev pub unread : ReadFault → OpenFault
+unread reads.NoMemory = NoMemory
+unread reads.OtherTables = NotAStore
+unread (reads.BadRow table row) = BadRow (record { table = table; row = row })
+unread (reads.Database error) = if is_of_device error then Device else if is_of_memory error then NoMemory else Store
+
+-- the tables can't be read: they are no site's, or the database fails, of which nothing more is said, or the query of a
+-- table shows a row for which no value stands
+abbrev pub IsUnread : State → State → OpenFault → Type 0
+IsUnread old new (Version found) = ⊥
+IsUnread old new (OtherSite found) = ⊥
+IsUnread old new (BadRow bad) = ShowsBadRow bad.table bad.row old new
+IsUnread old new other = ⊤
 
 -- the rows that the tables list say so, or they can't be read
-abbrev pub IsOpenFault : State → List ℕ → OpenFault → Type 0
-IsOpenFault s name fault = ((rows : Rows) × AreListed (contents_of rows) s.now.trees × IsRefused name rows fault) ⊎ IsUnread fault
+abbrev pub IsOpenFault : State → State → List ℕ → OpenFault → Type 0
+IsOpenFault old new name fault = ((rows : Rows) × AreListed (contents_of rows) old.now.trees × IsRefused name rows fault) ⊎ IsUnread old new fault
 
 -- the name of the site itself
 abbrev pub own_name : Record → List ℕ
@@ -90,4 +102,4 @@ module _ {D : Type 0} {g : disk.Ghosts D} where
   pub record IsNotOpened (conn : Held (FileStore D g)) (name : List ℕ) (fault : OpenFault) : Type 0 where
     pub last : Held (FileStore D g)
     pub crash : Survives (file_state conn) (file_state last) (λ _. ⊥)
-    pub cause : HasCleanDisk (file_state last) → IsOpenFault (file_state conn) name fault
+    pub cause : HasCleanDisk (file_state last) → IsOpenFault (file_state conn) (file_state last) name fault

@@ -4,14 +4,14 @@ ghost use Rattle.sqlite.specs.State.{HasCleanDisk, Survives};
 ghost use Rattle.sqlite.specs.Held.{state};
 ghost use Rattle.site_rows.specs.RecordRows.{rows_of};
 ghost use Rattle.site_store.specs.Openings.{ListsRecord};
-ghost use Rattle.site_store.specs.Opened.{name_at, own_name, IsStoreOf, IsRefused, IsUnread, IsOpenFault, IsOpenedAs, IsNotOpened};
+ghost use Rattle.site_store.specs.Opened.{name_at, own_name, IsStoreOf, IsRefused, unread, IsOpenFault, IsOpenedAs, IsNotOpened};
 
 use crate::faults::{is_of_device, is_of_memory};
 use crate::sites::StoredSite;
 use site_core::SiteState;
 use site_rows::{BadRow, Rows, SiteRow, StateFault, StoreRow, Table, state_of};
 use site_tables::{ReadFault, read_rows, settled};
-use sqlite::{Alter, Connection, Error, FileStore, Options};
+use sqlite::{Alter, Connection, FileStore, Options};
 use sqlite_disk::Disk;
 use std::alloc::Global;
 
@@ -37,28 +37,23 @@ pub enum OpenFault {
     Store,
 }
 
-/// What an error of the database is to an opening.
-fn refusal_of(error: &Error) -> OpenFault
-    ensures { IsUnread result }
-{
-    if is_of_device(error) {
-        OpenFault::Device
-    } else if is_of_memory(error) {
-        OpenFault::NoMemory
-    } else {
-        OpenFault::Store
-    }
-}
-
 /// Why the tables couldn't be read.
 fn unread(fault: ReadFault) -> OpenFault
-    ensures { IsUnread result }
+    ensures { result ≡ unread fault }
 {
     match fault {
         ReadFault::NoMemory => OpenFault::NoMemory,
         ReadFault::OtherTables => OpenFault::NotAStore,
         ReadFault::BadRow { table, row } => OpenFault::BadRow(BadRow { table, row }),
-        ReadFault::Database(error) => refusal_of(&error),
+        ReadFault::Database(error) => {
+            if is_of_device(&error) {
+                OpenFault::Device
+            } else if is_of_memory(&error) {
+                OpenFault::NoMemory
+            } else {
+                OpenFault::Store
+            }
+        }
     }
 }
 
@@ -125,7 +120,7 @@ fn read_site<S: Alter>(
 ) -> Result<SiteState, OpenFault>
     ensures read { HasCleanDisk (state S.Store conn.new) → IfOk result (λ site. ListsRecord site (state S.Store conn.old) (state S.Store conn.new)) }
     ensures named { IfOk result (λ site. own_name site ≡ name.now) }
-    ensures refused { HasCleanDisk (state S.Store conn.new) → IfErr result (IsOpenFault (state S.Store conn.old) name.now) }
+    ensures refused { HasCleanDisk (state S.Store conn.new) → IfErr result (IsOpenFault (state S.Store conn.old) (state S.Store conn.new) name.now) }
     ensures crash { Survives (state S.Store conn.old) (state S.Store conn.new) (λ _. ⊥) }
 {
     match read_rows(alloc, conn) {

@@ -1,5 +1,6 @@
 pub mod Answered
 pub mod Applied
+pub mod BadReads
 pub mod Columns
 pub mod Committed
 pub mod Created

@@ -9,4 +9,5 @@ pub mod Stored
 pub mod TableRows
 pub mod Tables
 pub mod Texts
+pub mod Unreadable
 pub mod Values
