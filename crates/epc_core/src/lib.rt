@@ -10,8 +10,6 @@ pub mod laws;
 mod numbers;
 mod plain_texts;
 mod spellings;
-#[cfg(test)]
-mod tests;
 mod texts;
 
 pub use items::{Epc, EpcFault, EpcForm};

@@ -19,8 +19,6 @@ mod site_checks;
 mod site_entries;
 mod site_lists;
 mod site_numbers;
-#[cfg(test)]
-mod tests;
 mod texts;
 
 pub use bodies::Body;

@@ -13,8 +13,6 @@ mod outboxes;
 mod rows;
 mod seen_messages;
 pub mod tables;
-#[cfg(test)]
-mod tests;
 
 pub use frames::{Frame, FrameView};
 pub use identifiers::{MsgId, RecallId};

@@ -4,8 +4,6 @@
 mod faults;
 mod keepers;
 mod memory;
-#[cfg(test)]
-mod tests;
 
 pub use faults::{Keep, KeepFault, Unopened};
 pub use keepers::SiteKeeper;

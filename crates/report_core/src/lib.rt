@@ -11,8 +11,6 @@ mod ordered_keys;
 mod outside;
 mod reports;
 mod roots;
-#[cfg(test)]
-mod tests;
 mod trails;
 
 pub use audits::{Verdict, audit};

@@ -8,8 +8,6 @@ mod diffusions;
 pub mod laws;
 mod outcomes;
 mod own_recalls;
-#[cfg(test)]
-mod tests;
 
 pub use diffusions::Diffusion;
 pub use outcomes::{Began, Received, Signalled};

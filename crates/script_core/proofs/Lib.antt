@@ -19,3 +19,4 @@ pub mod SiteListLemmas
 pub mod TaskLemmas
 pub mod UpLemmas
 pub mod WholeLines
+pub mod WorldRuns

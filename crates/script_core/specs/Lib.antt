@@ -24,4 +24,5 @@ pub mod Steps
 pub mod Streams
 pub mod Tasks
 pub mod Words
+pub mod WorldRuns
 pub mod Writing

@@ -28,8 +28,6 @@ mod streams;
 mod tallies;
 mod tasks;
 pub mod telling;
-#[cfg(test)]
-mod tests;
 mod texts;
 mod worlds;
 mod writing;

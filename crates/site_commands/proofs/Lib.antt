@@ -1,3 +1,4 @@
 pub mod AuditLemmas
+pub mod CallsInTurn
 pub mod ReportLemmas
 pub mod StepLemmas

@@ -1,5 +1,6 @@
 pub mod Answers
 pub mod Audits
+pub mod Calls
 pub mod Faults
 pub mod Folders
 pub mod Reports

@@ -1,7 +1,8 @@
 //! What a command on the sites' files answers.
 
-ghost use Rattle.std.specs.Prelude.{◌≡◌, IfOk, string_bytes};
-ghost use Rattle.site_commands.specs.Answers.{IsAnswer, answer_status, answer_text, refusal_line};
+ghost use Rattle.std.specs.Prelude.{◌≡◌, ◌++◌, IfOk, codes, string_bytes};
+ghost use Rattle.site_commands.specs.Answers.{IsAnswer, answer_status, answer_text};
+ghost use Rattle.site_commands.specs.Calls.{IsRefusal};
 
 use std::alloc::{AllocError, Global};
 
@@ -20,8 +21,7 @@ pub enum Answer {
 impl Answer {
     /// A refusal.
     pub(crate) fn refusal(alloc: Global, what: &str) -> Result<Answer, AllocError>
-        ensures is { IfOk result (λ a. answer_text a ≡ refusal_line what.now) }
-        ensures status { IfOk result (λ a. answer_status a ≡ 1) }
+        ensures is { IfOk result (IsRefusal what.now) }
         ensures sound { IfOk result IsAnswer }
     {
         Ok(Answer::Refused(format!(in alloc; "refused {what}\n")?))
@@ -29,6 +29,7 @@ impl Answer {
 
     /// The refusal of a site that isn't listed.
     pub(crate) fn no_site(alloc: Global, name: &str) -> Result<Answer, AllocError>
+        ensures is { IfOk result (IsRefusal (codes "NoSite " ++ name.now)) }
         ensures sound { IfOk result IsAnswer }
     {
         let what = format!(in alloc; "NoSite {name}")?;

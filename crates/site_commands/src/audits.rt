@@ -1,9 +1,11 @@
 //! `audit`: whether the records of the sites fit together, and whether each ended recall quarantined what it is to.
 
-ghost use Rattle.std.specs.Prelude.{◌≡◌, ◌++◌, IfOk, OnOk, string_bytes};
+ghost use Rattle.std.specs.Prelude.{◌≡◌, ◌++◌, List, IfOk, OnOk, string_bytes};
+ghost use Rattle.site_core.specs.Records.{Record};
 ghost use Rattle.site_recovery.specs.Checking.{records_at};
 ghost use Rattle.site_recovery.specs.FittingAt.{AreAllSites};
 ghost use Rattle.site_commands.specs.Answers.{IsAnswer};
+ghost use Rattle.site_commands.specs.Calls.{AreShown, AuditsAt};
 ghost use Rattle.site_commands.specs.Audits.{AnswersAudit, AuditsRecall, AuditsRecalls, begun, begun_by, differs_text, is_amiss, misfit_text, missing_word, open_text, verdict_text};
 
 use crate::answers::Answer;
@@ -28,7 +30,8 @@ pub fn audit_sites<K: SiteKeeper, F: Files<K>>(
     files: &mut F,
     folder: &str,
 ) -> Result<Answer, Fault>
-    ensures { IfOk result IsAnswer }
+    ensures calls { IfOk result (AuditsAt F.reads F.opens F.closes K.shown folder.now files.old files.new) }
+    ensures sound { IfOk result IsAnswer }
 {
     let sites = sites_of(alloc, files, folder)?;
     let keepers = open_all(alloc, files, folder, &sites)?;
@@ -39,7 +42,8 @@ pub fn audit_sites<K: SiteKeeper, F: Files<K>>(
 
 /// Audits the records that keepers show.
 fn audit_at<K: SiteKeeper>(alloc: Global, sites: &Sites, keepers: &[K]) -> Result<Answer, Fault>
-    ensures { IfOk result IsAnswer }
+    ensures answered { (rs : List Record) → AreShown K.shown keepers.now rs → IfOk result (AnswersAudit sites.now rs) }
+    ensures sound { IfOk result IsAnswer }
 {
     let records = records_of(alloc, keepers)?;
     if !are_all_sites(records.as_slice()) {

@@ -1,10 +1,14 @@
 //! The folder of the sites' files: its list of sites, and opening the sites.
 
-ghost use Rattle.std.specs.Prelude.{◌≡◌, IfOk, string_bytes};
+ghost use Rattle.std.specs.Prelude.{◌≡◌, ◌↔◌, ℕ, List, IfOk, IsTrue, length, string_bytes};
 ghost use Rattle.script_core.specs.Words.{name_at};
+ghost use Rattle.site_core.specs.Records.{Record};
+ghost use Rattle.site_recovery.specs.Checking.{records_at};
+ghost use Rattle.site_commands.specs.Calls.{AreShown, ClosesAll, ListsSites, OpensFrom, OpensSite, ShowsSite};
 ghost use Rattle.site_commands.specs.Folders.{file_path, list_path};
 
 use crate::faults::Fault;
+use event_json::laws::equal_is_same;
 use event_json::{SiteNo, Sites};
 use keeper_core::SiteKeeper;
 use script_core::read_sites;
@@ -12,25 +16,53 @@ use script_core::telling::name_of;
 use site_core::SiteState;
 use std::alloc::{AllocError, Global};
 
-/// The files that the commands read, make and change. What stands behind a path no contract says.
+/// The files that the commands read, make and change. What stands behind a path no contract says: each call that
+/// succeeds is told by a relation of the kind of files, so that contracts say which calls led to an answer.
 pub trait Files<K: SiteKeeper> {
+    ghost use Rattle.std.specs.Prelude.{List, ℕ, Bool, IfOk, OnOk};
+    ghost use Rattle.site_core.specs.Records.{Record};
+
+    /// From these files, the file of this path was read with these bytes, to those files.
+    ghost reads: { Self → List ℕ → List ℕ → Self → Type 0 };
+
+    /// The file of this path was found, or found wanting.
+    ghost finds: { Self → List ℕ → Bool → Self → Type 0 };
+
+    /// The file of a site was made at this path, in this record.
+    ghost makes: { Self → List ℕ → Record → Self → Type 0 };
+
+    /// The file of this path was opened as that of the site of this name.
+    ghost opens: { Self → List ℕ → List ℕ → K → Self → Type 0 };
+
+    /// The file of a site was closed.
+    ghost closes: { Self → K → Self → Type 0 };
+
+    /// A file of these bytes was made at this path.
+    ghost writes: { Self → List ℕ → List ℕ → Self → Type 0 };
+
     /// The bytes of a file. `Read` where it is missing or can't be read.
-    fn read(&mut self, alloc: Global, path: &str) -> Result<Vec<u8>, Fault>;
+    fn read(&mut self, alloc: Global, path: &str) -> Result<Vec<u8>, Fault>
+        ensures { IfOk result (λ bytes. reads self.old path.now bytes.items self.new) };
 
     /// Whether there is a file of this path.
-    fn exists(&mut self, path: &str) -> Result<bool, Fault>;
+    fn exists(&mut self, path: &str) -> Result<bool, Fault>
+        ensures { IfOk result (λ found. finds self.old path.now found self.new) };
 
     /// Makes the file of a site in its first record.
-    fn create_site(&mut self, alloc: Global, path: &str, state: SiteState) -> Result<(), Fault>;
+    fn create_site(&mut self, alloc: Global, path: &str, state: SiteState) -> Result<(), Fault>
+        ensures { OnOk result (makes self.old path.now state self.new) };
 
     /// Opens the file of the site of a name.
-    fn open_site(&mut self, alloc: Global, path: &str, name: &str) -> Result<K, Fault>;
+    fn open_site(&mut self, alloc: Global, path: &str, name: &str) -> Result<K, Fault>
+        ensures { IfOk result (λ keeper. opens self.old path.now name.now keeper self.new) };
 
     /// Closes the file of a site that was opened.
-    fn close_site(&mut self, keeper: K);
+    fn close_site(&mut self, keeper: K)
+        ensures { closes self.old keeper self.new };
 
     /// Makes a file of these bytes. `Write` where one of this path exists, or it can't be made.
-    fn write_new(&mut self, path: &str, bytes: &[u8]) -> Result<(), Fault>;
+    fn write_new(&mut self, path: &str, bytes: &[u8]) -> Result<(), Fault>
+        ensures { OnOk result (writes self.old path.now bytes.now self.new) };
 }
 
 /// The path of a folder's list of sites.
@@ -58,11 +90,13 @@ pub(crate) fn sites_of<K: SiteKeeper, F: Files<K>>(
     alloc: Global,
     files: &mut F,
     folder: &str,
-) -> Result<Sites, Fault> {
+) -> Result<Sites, Fault>
+    ensures { IfOk result (λ sites. ListsSites F.reads folder.now files.old files.new sites) }
+{
     let path = list_path(alloc, folder)?;
     let text = files.read(alloc, path.as_str())?;
     let list = read_sites(alloc, text.as_slice())?;
-    if list.refusals.is_empty() && list.sites.ready() {
+    if list.refusals.as_str().is_empty() && list.sites.ready() {
         Ok(list.sites)
     } else {
         Err(Fault::BadSites)
@@ -73,11 +107,14 @@ pub(crate) fn sites_of<K: SiteKeeper, F: Files<K>>(
 pub(crate) fn open_site<K: SiteKeeper, F: Files<K>>(
     alloc: Global,
     files: &mut F,
-    path: &str,
+    folder: &str,
     sites: &Sites,
     site: SiteNo,
-) -> Result<K, Fault> {
-    let keeper = files.open_site(alloc, path, name_of(sites, site))?;
+) -> Result<K, Fault>
+    ensures { IfOk result (λ keeper. (r : Record) × OpensSite F.opens F.closes K.shown folder.now sites.now site files.old files.new keeper r) }
+{
+    let path = file_path(alloc, folder, sites, site)?;
+    let keeper = files.open_site(alloc, path.as_str(), name_of(sites, site))?;
     if keeps_site(&keeper, sites, site) {
         Ok(keeper)
     } else {
@@ -86,7 +123,11 @@ pub(crate) fn open_site<K: SiteKeeper, F: Files<K>>(
 }
 
 /// Whether the keeper is open and keeps the record of this site of these sites.
-fn keeps_site<K: SiteKeeper>(keeper: &K, sites: &Sites, site: SiteNo) -> bool {
+fn keeps_site<K: SiteKeeper>(keeper: &K, sites: &Sites, site: SiteNo) -> bool
+    ensures { IsTrue result → (r : Record) × ShowsSite K.shown sites.now site keeper.now r }
+{
+    // Lists of sites that are compared as equal are the same.
+    equal_is_same();
     match keeper.view() {
         Some(state) => state.sites() == sites && state.me() == site,
         None => false,
@@ -99,14 +140,16 @@ pub(crate) fn open_all<K: SiteKeeper, F: Files<K>>(
     files: &mut F,
     folder: &str,
     sites: &Sites,
-) -> Result<Vec<K>, Fault> {
+) -> Result<Vec<K>, Fault>
+    ensures opened { IfOk result (λ keepers. (rs : List Record) × OpensFrom F.opens F.closes K.shown folder.now sites.now 0 files.old files.new keepers.items rs) }
+    ensures number { IfOk result (λ keepers. length keepers.items ≡ length sites.now) }
+{
     let mut keepers = Vec::new(alloc);
     for number in 0..sites.len() {
         let Some(site) = SiteNo::of(number) else {
             return Err(Fault::BadSites);
         };
-        let path = file_path(alloc, folder, sites, site)?;
-        keepers.push(open_site(alloc, files, path.as_str(), sites, site)?)?;
+        keepers.push(open_site(alloc, files, folder, sites, site)?)?;
     }
     Ok(keepers)
 }
@@ -115,7 +158,9 @@ pub(crate) fn open_all<K: SiteKeeper, F: Files<K>>(
 pub(crate) fn records_of<'a, K: SiteKeeper>(
     alloc: Global,
     keepers: &'a [K],
-) -> Result<Vec<&'a SiteState>, Fault> {
+) -> Result<Vec<&'a SiteState>, Fault>
+    ensures { IfOk result (λ records. AreShown K.shown keepers.now (records_at records.items)) }
+{
     let mut records = Vec::new(alloc);
     for keeper in keepers {
         match keeper.view() {
@@ -127,7 +172,9 @@ pub(crate) fn records_of<'a, K: SiteKeeper>(
 }
 
 /// Closes the files of all sites.
-pub(crate) fn close_all<K: SiteKeeper, F: Files<K>>(files: &mut F, keepers: Vec<K>) {
+pub(crate) fn close_all<K: SiteKeeper, F: Files<K>>(files: &mut F, keepers: Vec<K>)
+    ensures { ClosesAll F.closes files.old files.new keepers.items }
+{
     for keeper in keepers {
         files.close_site(keeper);
     }

@@ -10,8 +10,6 @@ mod folders;
 mod making;
 mod reports;
 mod steps;
-#[cfg(test)]
-mod tests;
 
 pub use answers::Answer;
 pub use audits::{audit_of, audit_sites};

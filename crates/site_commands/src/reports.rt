@@ -1,9 +1,11 @@
 //! `report`: what is quarantined under a recall, how it came there, and what left the traced sites.
 
-ghost use Rattle.std.specs.Prelude.{◌≡◌, ◌++◌, IfOk, OnOk, string_bytes};
+ghost use Rattle.std.specs.Prelude.{◌≡◌, ◌++◌, List, IfOk, OnOk, string_bytes};
+ghost use Rattle.site_core.specs.Records.{Record};
 ghost use Rattle.site_recovery.specs.Checking.{records_at};
 ghost use Rattle.site_recovery.specs.FittingAt.{AreAllSites};
 ghost use Rattle.site_commands.specs.Answers.{IsAnswer};
+ghost use Rattle.site_commands.specs.Calls.{AreShown, ReportsAt};
 ghost use Rattle.site_commands.specs.Reports.{AnswersReport, head_text, outside_text, outsides_text, pairs_text, report_text, step_text, total_text, trail_text};
 
 use crate::answers::Answer;
@@ -30,7 +32,8 @@ pub fn report_recall<K: SiteKeeper, F: Files<K>>(
     folder: &str,
     recall: &str,
 ) -> Result<Answer, Fault>
-    ensures { IfOk result IsAnswer }
+    ensures calls { IfOk result (ReportsAt F.reads F.opens F.closes K.shown folder.now recall.now files.old files.new) }
+    ensures sound { IfOk result IsAnswer }
 {
     let sites = sites_of(alloc, files, folder)?;
     let Some((name, number)) = recall_of(recall) else {
@@ -52,7 +55,8 @@ fn report_at<K: SiteKeeper>(
     keepers: &[K],
     recall: RecallId,
 ) -> Result<Answer, Fault>
-    ensures { IfOk result IsAnswer }
+    ensures answered { (rs : List Record) → AreShown K.shown keepers.now rs → IfOk result (AnswersReport sites.now rs recall) }
+    ensures sound { IfOk result IsAnswer }
 {
     let records = records_of(alloc, keepers)?;
     if !are_all_sites(records.as_slice()) {

@@ -3,12 +3,13 @@
 ghost use Rattle.std.specs.Prelude.{◌≡◌, Some, IfOk};
 ghost use Rattle.site_core.specs.Records.{Record};
 ghost use Rattle.site_commands.specs.Answers.{IsAnswer};
+ghost use Rattle.site_commands.specs.Calls.{CapturesAt, StartsAt, StepsAt};
 ghost use Rattle.site_commands.specs.Faults.{keeper_fault};
 ghost use Rattle.site_commands.specs.Steps.{AnswersStep};
 
 use crate::answers::Answer;
 use crate::faults::Fault;
-use crate::folders::{Files, file_path, open_site, sites_of};
+use crate::folders::{Files, open_site, sites_of};
 use event_json::{Sequence, SiteNo, Sites};
 use keeper_core::{KeepFault, SiteKeeper};
 use script_core::telling::{effects_text, item_of, refusal_text};
@@ -27,7 +28,8 @@ pub fn capture<K: SiteKeeper, F: Files<K>>(
     site: &str,
     file: &str,
 ) -> Result<Answer, Fault>
-    ensures { IfOk result IsAnswer }
+    ensures calls { IfOk result (CapturesAt F.reads F.opens F.closes K.shown folder.now site.now file.now files.old files.new) }
+    ensures sound { IfOk result IsAnswer }
 {
     let sites = sites_of(alloc, files, folder)?;
     let Some(number) = sites.find(site) else {
@@ -50,7 +52,8 @@ pub fn start<K: SiteKeeper, F: Files<K>>(
     site: &str,
     item: &str,
 ) -> Result<Answer, Fault>
-    ensures { IfOk result IsAnswer }
+    ensures calls { IfOk result (StartsAt F.reads F.opens F.closes K.shown folder.now site.now item.now files.old files.new) }
+    ensures sound { IfOk result IsAnswer }
 {
     let sites = sites_of(alloc, files, folder)?;
     let Some(number) = sites.find(site) else {
@@ -72,10 +75,10 @@ fn step_at<K: SiteKeeper, F: Files<K>>(
     site: SiteNo,
     input: SiteInput,
 ) -> Result<Answer, Fault>
-    ensures { IfOk result IsAnswer }
+    ensures calls { IfOk result (StepsAt F.opens F.closes K.shown folder.now sites.now site input files.old files.new) }
+    ensures sound { IfOk result IsAnswer }
 {
-    let path = file_path(alloc, folder, sites, site)?;
-    let mut keeper = open_site(alloc, files, path.as_str(), sites, site)?;
+    let mut keeper = open_site(alloc, files, folder, sites, site)?;
     let answer = step(alloc, sites, &mut keeper, input);
     files.close_site(keeper);
     answer

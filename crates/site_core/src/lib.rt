@@ -22,8 +22,6 @@ mod spreading;
 mod states;
 pub mod step_laws;
 mod steps;
-#[cfg(test)]
-mod tests;
 
 pub use capturing::{CaptureFault, capture_all, first_block};
 pub use emitting::emittable;

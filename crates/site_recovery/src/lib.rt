@@ -16,8 +16,6 @@ mod reached_items;
 mod reaching;
 mod recalls;
 mod telling;
-#[cfg(test)]
-mod tests;
 mod told_items;
 mod waiting;
 

@@ -15,7 +15,7 @@ pub right : (a b : Bool) → (a && b) ≡ true → b ≡ true
 right true b e = e
 right false b e = cc
 
-stands_good : (p : Site → Bool) (sites : List Site) (n : ℕ) (site : Site) → list_all p sites ≡ true → slice_get sites n ≡ Some site → p site ≡ true
+pub stands_good : (p : Site → Bool) (sites : List Site) (n : ℕ) (site : Site) → list_all p sites ≡ true → slice_get sites n ≡ Some site → p site ≡ true
 stands_good p [] n site all is = cc
 stands_good p (s ∷ sites) zero site all is = let same : s ≡ site = cc in subst (λ z. p z ≡ true) same (left (p s) (list_all p sites) all)
 stands_good p (s ∷ sites) (suc n) site all is = stands_good p sites n site (right (p s) (list_all p sites) all) is

@@ -10,6 +10,8 @@ use Rattle.std.specs.FinMap.Entries.{below_all}
 use Rattle.std.specs.List.{Contains, slice_get, flat_map}
 use Rattle.std.proofs.lemmas.Cmp.{on_total, then_total, tied_itself}
 use Rattle.std.proofs.lemmas.List.{append-nil, map-append, nil_from_length}
+use Rattle.std.proofs.lemmas.Option.{get_or_from_slice_get}
+use Rattle.epc_core.specs.Spellings.{IsKey}
 use Rattle.frame_core.proofs.Ascending.{first, second}
 use Rattle.frame_core.specs.Identifiers.{recall_cmp}
 use Rattle.frame_core.specs.Numbers.{Recall}
@@ -22,9 +24,10 @@ use Rattle.site_core.specs.Quarantines.{Quarantine, items_under, or_none, with_i
 use Rattle.site_core.proofs.Entries.{entry_found, entry_there}
 use Rattle.site_core.specs.Records.{IsRecallAmong}
 use mathlib.Core.Bool.{false≢true}
-use Rattle.site_core.proofs.Places.{member_there}
+use Rattle.site_core.proofs.Places.{member_there, some_stands}
 use Rattle.site_core.proofs.ItemOrder.{item_total}
 use Rattle.site_rows.specs.BadRows.{Match, IsHeldEntry}
+use Rattle.site_rows.specs.Laws.{HoldsKeys}
 use Rattle.site_rows.specs.RecordRows.{quarantine_row, quarantine_rows}
 use Rattle.site_rows.specs.declared.rows.QuarantineRow.{QuarantineRow}
 use Rattle.site_rows.proofs.RowsOfMaps.{rows_matched, matched_each}
@@ -266,3 +269,13 @@ recalls_among sites rows q full m r kept = elim (get q r) as (λ o. get q r ≡ 
       let there = contains-flat_map held_under (entries q) (r, items) (held_of r item.0) at (contains-map (held_of r) (set.items items) item.0 item.1) in
       matched_each (IsHeldEntry sites) (λ k _. IsRecallAmong sites k.0) (λ _ _ _ held. held.among) rows (all_held q) m (held_of r item.0) there
 ] refl kept
+
+-- each item of a recall is one
+pub items_held : (sites : ℕ) (rows : List QuarantineRow) (q : Quarantine) → Match (IsHeldEntry sites) rows (all_held q) → HoldsKeys q
+items_held sites rows q m r items is = λ k d low.
+    let at = entry_there recall_total recall_exact q r items is in
+    let item = some_stands (set.items items) k low in
+    let among = contains-map (held_of r) (set.items items) item.0 (member_there (set.items items) k item.0 item.1) in
+    let there = contains-flat_map held_under (entries q) (r, items) (held_of r item.0) at among in
+    let key = matched_each (IsHeldEntry sites) (λ p _. IsKey p.1) (λ _ _ _ held. held.item) rows (all_held q) m (held_of r item.0) there in
+    subst IsKey (sym (get_or_from_slice_get (set.items items) k item.0 d item.1)) key

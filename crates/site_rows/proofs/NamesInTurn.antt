@@ -52,14 +52,14 @@ any_there : (p : List ℕ → Bool) (front : List Site) (s : Site) (back : List 
 any_there p [] s back none = (neither (p s.name) _ none).0
 any_there p (f ∷ front) s back none = any_there p front s back (neither (p f.name) _ none).1
 
-new_there : (front : List Site) (s : Site) (back : List Site) → repeats (map (λ (x : Site). x.name) (front ++ s ∷ back)) ≡ false → list_any (λ t. bytes_eq t s.name) (map (λ (x : Site). x.name) front) ≡ false
+pub new_there : (front : List Site) (s : Site) (back : List Site) → repeats (map (λ (x : Site). x.name) (front ++ s ∷ back)) ≡ false → list_any (λ t. bytes_eq t s.name) (map (λ (x : Site). x.name) front) ≡ false
 new_there [] s back once = refl
 new_there (f ∷ front) s back once =
     let parts = neither (list_any (λ t. bytes_eq t f.name) (map (λ (x : Site). x.name) (front ++ s ∷ back))) (repeats (map (λ (x : Site). x.name) (front ++ s ∷ back))) once in
     let apart : bytes_eq f.name s.name ≡ false = nat_list_eq_equiv.symm f.name s.name ∙ any_there (λ t. bytes_eq t f.name) front s back parts.0 in
     no_or (bytes_eq f.name s.name) (list_any (λ t. bytes_eq t s.name) (map (λ (x : Site). x.name) front)) apart (new_there front s back parts.1)
 
-not_named : (names : List Site) (text : List ℕ) → list_any (λ t. bytes_eq t text) (map (λ (x : Site). x.name) names) ≡ false → is_some (named names text) ≡ false
+pub not_named : (names : List Site) (text : List ℕ) → list_any (λ t. bytes_eq t text) (map (λ (x : Site). x.name) names) ≡ false → is_some (named names text) ≡ false
 unfolding named
 not_named names text none = is_some-position (λ (s : Site). bytes_eq s.name text) names ∙ sym (any_mapped (λ t. bytes_eq t text) (λ (s : Site). s.name) names) ∙ none
 
@@ -75,7 +75,7 @@ sizes (x ∷ xs) (y ∷ ys) e =
     let tail : map (λ (s : Site). s.name) xs ≡ map (λ (s : Site). s.name) ys = cc in
     ap suc (sizes xs ys tail)
 
-not_full : (n : ℕ) → n < 16 → nat_le 16 n ≡ false
+pub not_full : (n : ℕ) → n < 16 → nat_le 16 n ≡ false
 not_full n low = grind (arith, low)
 
 no_further : (rs : List SiteRow) (names : List Site) (r : SiteRow) → rs ≡ map site_row (enumerate_from 0 names) → (r.no ≡ pos (length names) → sites_fault names r.name [] ≡ None → ⊥) → Begins IsSiteTable (rs ++ r ∷ []) → ⊥

@@ -1,21 +1,26 @@
 -- The faults of tables among those of all tables.
-use Rattle.std.proofs.Common.{◌≡◌, ℕ, suc, ◌+◌, List, [], ◌∷◌, length, map, refl, sym, ap, subst, ◌∙◌}
+use Rattle.std.proofs.Common.{◌≡◌, ℕ, suc, zero, ◌+◌, List, [], ◌∷◌, ◌++◌, length, map, refl, sym, ap, subst, ◌∙◌}
 use Rattle.std.specs.List.{enumerate_from}
 use Rattle.event_json.specs.Sites.{Site}
+use Rattle.event_json.specs.declared.bodies.Body.{Body}
+use Rattle.event_json.specs.declared.bodies.Body.TheVariants.{Note, Ship, Make}
 use Rattle.site_rows.specs.BadAddresses.{IsAddressFault, IsFirstBadAddress}
+use Rattle.site_rows.specs.BadParts.{AreBodies, IsPartTable, all_body_rows, site_of_row}
 use Rattle.site_rows.specs.BadRows.{IsFaultOf, IsFirstBad, IsQuarantineTable}
 use Rattle.site_rows.specs.ReadRows.{IsStateFault, IsFaultIn}
-use Rattle.site_rows.specs.RecordRows.{site_row}
+use Rattle.site_rows.specs.RecordRows.{body_rows, name_of, part_rows, site_row}
 use Rattle.site_rows.specs.declared.reading.StateFault.{StateFault}
-use Rattle.site_rows.specs.declared.tables.Table.TheVariants.{Address, Quarantine}
+use Rattle.site_rows.specs.declared.tables.Table.TheVariants.{Address, Part, Quarantine}
 use Rattle.site_rows.specs.declared.reading_entries.TableFault.{TableFault}
 use Rattle.site_rows.specs.declared.reading_entries.TableFault.TheVariants.{NoMemory, BadRow}
 use Rattle.site_rows.specs.declared.rows.AddressRow.{AddressRow}
+use Rattle.site_rows.specs.declared.rows.EventRow.{EventRow}
+use Rattle.site_rows.specs.declared.rows.PartRow.{PartRow}
 use Rattle.site_rows.specs.declared.rows.QuarantineRow.{QuarantineRow}
 use Rattle.site_rows.specs.declared.rows.Rows.{Rows}
 use Rattle.site_rows.specs.declared.rows.SiteRow.{SiteRow}
 
-sizes : (n : ℕ) (sites : List Site) → length (map site_row (enumerate_from n sites)) ≡ length sites
+pub sizes : (n : ℕ) (sites : List Site) → length (map site_row (enumerate_from n sites)) ≡ length sites
 sizes n [] = refl
 sizes n (s ∷ sites) = ap suc (sizes (n + 1) sites)
 
@@ -36,3 +41,57 @@ quarantine_fault rows n table NoMemory r size same bad is = subst (IsStateFault 
 quarantine_fault rows n table (BadRow place) r size same bad is =
     let here = subst (λ k. IsFirstBad (IsQuarantineTable k) table place) size bad in
     subst (IsStateFault rows) (sym is) (subst (λ t. IsFirstBad (IsQuarantineTable (length rows.site)) t place) same here)
+
+-- the rows of sites have their names
+pub names_of_rows : (n : ℕ) (sites : List Site) (t : ℕ) → name_of (map site_of_row (map site_row (enumerate_from n sites))) t ≡ name_of sites t
+names_of_rows n [] t = refl
+names_of_rows n (s ∷ sites) zero = refl
+names_of_rows n (s ∷ sites) (suc t) = names_of_rows (n + 1) sites t
+
+pub sites_of_rows : (n : ℕ) (sites : List Site) → length (map site_of_row (map site_row (enumerate_from n sites))) ≡ length sites
+sites_of_rows n [] = refl
+sites_of_rows n (s ∷ sites) = ap suc (sites_of_rows (n + 1) sites)
+
+-- and the lists of events tell of no more of them
+module _ (sites others : List Site) (alike : (t : ℕ) → name_of sites t ≡ name_of others t) (size : length sites ≡ length others) where
+  names_alike : (to : List ℕ) → map (name_of sites) to ≡ map (name_of others) to
+  names_alike [] = refl
+  names_alike (t ∷ to) = let one = alike t in let rest = names_alike to in λ i. one i ∷ rest i
+
+  rows_alike : (event : ℕ) (body : Body) → body_rows sites event body ≡ body_rows others event body
+  rows_alike event (Note items) = refl
+  rows_alike event (Ship items to outside) = ap (λ names. (part_rows event 0 items ++ part_rows event 1 names) ++ part_rows event 2 outside) (names_alike to)
+  rows_alike event (Make id ins outs) = refl
+
+  all_rows_alike : (n : ℕ) (bodies : List Body) → all_body_rows sites n bodies ≡ all_body_rows others n bodies
+  all_rows_alike n [] = refl
+  all_rows_alike n (b ∷ bodies) = let one = rows_alike n b in let rest = all_rows_alike (n + 1) bodies in λ i. one i ++ rest i
+
+  pub table_alike : (events : List EventRow) (rows : List PartRow) → IsPartTable sites events rows → IsPartTable others events rows
+  table_alike events rows table = record {
+    bodies = table.bodies;
+    each = subst (λ n. AreBodies n events table.bodies) size table.each;
+    listed = table.listed ∙ all_rows_alike 1 table.bodies;
+  }
+
+-- the first bad row is the same by two definitions that say the same
+first_bad_alike : {R : Type 0} (One Two : List R → Type 0) (rows : List R) (place : ℕ) → ((xs : List R) → One xs → Two xs) → ((xs : List R) → Two xs → One xs) → IsFirstBad One rows place → IsFirstBad Two rows place
+first_bad_alike One Two rows place to from bad = record {
+  before = bad.before;
+  next = bad.next;
+  good = λ some. let b = bad.good some in record { more = b.more; stand = to _ b.stand };
+  bad = λ low b. bad.bad low (record { more = b.more; stand = from _ b.stand });
+  wanting = λ past. ((bad.wanting past).0, λ stand. (bad.wanting past).1 (from rows stand));
+}
+
+pub part_fault : (rows : Rows) (sites : List Site) (events : List EventRow) (table : List PartRow) (f : TableFault) (r : StateFault) → rows.site ≡ map site_row (enumerate_from 0 sites)
+    → events ≡ rows.event → table ≡ rows.part → IsFaultOf (IsPartTable sites events) table f → IsFaultIn Part f r → IsStateFault rows r
+part_fault rows sites events table NoMemory r named same here bad is = subst (IsStateFault rows) (sym is) tt
+part_fault rows sites events table (BadRow place) r named same here bad is =
+    let read : List Site = map site_of_row (map site_row (enumerate_from 0 sites)) in
+    let names = names_of_rows 0 sites in
+    let size = sites_of_rows 0 sites in
+    let of_rows : IsFirstBad (IsPartTable read events) table place =
+    first_bad_alike (IsPartTable sites events) (IsPartTable read events) table place (table_alike sites read (λ t. sym (names t)) (sym size) events) (table_alike read sites names size events) bad in
+    let there : IsFirstBad (IsPartTable (map site_of_row rows.site) events) table place = subst (λ xs. IsFirstBad (IsPartTable (map site_of_row xs) events) table place) (sym named) of_rows in
+    subst (IsStateFault rows) (sym is) (subst (λ xs. IsFirstBad (IsPartTable (map site_of_row rows.site) rows.event) xs place) here (subst (λ xs. IsFirstBad (IsPartTable (map site_of_row rows.site) xs) table place) same there))

@@ -58,7 +58,7 @@ same_names n (x ∷ xs) (y ∷ ys) e =
     λ i. one i ∷ rest i
 
 -- what is found once addresses were added is one of them, or was there before
-found_among : (m : Addresses) (es : List (List ℕ × Address)) (q : List ℕ) (a : Address) → get (fold with_address m es) q ≡ Some a → (get m q ≡ Some a) ⊎ Contains es (q, a)
+pub found_among : (m : Addresses) (es : List (List ℕ × Address)) (q : List ℕ) (a : Address) → get (fold with_address m es) q ≡ Some a → (get m q ≡ Some a) ⊎ Contains es (q, a)
 found_among m [] q a is = inl is
 found_among m (e ∷ es) q a is = elim (found_among (insert m e.0 e.1) es q a is) [
   | inr later ↦ inr (contains_there e (q, a) es later)
@@ -80,7 +80,7 @@ stays m (e ∷ es) q none =
     stays (insert m e.0 e.1) es q (λ a there. none a (contains_there e (q, a) es there)) ∙ get_apart item_total item_exact m e.0 e.1 q ne
 
 -- where no text repeats, each address that is added is found
-all_found : (m : Addresses) (es : List (List ℕ × Address)) (q : List ℕ) (a : Address) → repeats (map (λ e. e.0) es) ≡ false → Contains es (q, a) → get (fold with_address m es) q ≡ Some a
+pub all_found : (m : Addresses) (es : List (List ℕ × Address)) (q : List ℕ) (a : Address) → repeats (map (λ e. e.0) es) ≡ false → Contains es (q, a) → get (fold with_address m es) q ≡ Some a
 all_found m [] q a once at = absurd (contains_none (q, a) at)
 all_found m (e ∷ es) q a once at =
     let parts = neither (list_any (λ u. bytes_eq u e.0) (map (λ x. x.0) es)) (repeats (map (λ x. x.0) es)) once in
@@ -105,10 +105,10 @@ numbered n (y ∷ ys) (suc j) x is =
     let at : n + 1 + j ≡ n + suc j = omega arith in
     contains_there (n, y) (n + suc j, x) (enumerate_from (n + 1) ys) (subst (λ k. Contains (enumerate_from (n + 1) ys) (k, x)) at (numbered (n + 1) ys j x is))
 
-abbrev at_place : ℕ → ℕ → Address
+abbrev pub at_place : ℕ → ℕ → Address
 at_place site place = record { site = site; place = place }
 
-stands : (sites : List Site) (k p : ℕ) (site : Site) (text : List ℕ) → slice_get sites k ≡ Some site → slice_get site.addresses p ≡ Some text
+pub stands : (sites : List Site) (k p : ℕ) (site : Site) (text : List ℕ) → slice_get sites k ≡ Some site → slice_get site.addresses p ≡ Some text
     → Contains (flat_map addresses_at (enumerate_from 0 sites)) (text, at_place k p)
 stands sites k p site text hk hp =
     let site_there : Contains (enumerate_from 0 sites) (k, site) = subst (λ j. Contains (enumerate_from 0 sites) (j, site)) (omega arith) (numbered 0 sites k site hk) in
@@ -135,15 +135,15 @@ address_in n (t ∷ texts) site text a at = elim (contains_cases (address_at sit
       record { place = suc rest.place; there = rest.there; at = rest.at ∙ ap (at_place site) next }
 ]
 
-record IsAddressOf (n : ℕ) (sites : List Site) (text : List ℕ) (a : Address) : Type 0 where
-  number : ℕ
-  site : Site
-  place : ℕ
-  of_list : slice_get sites number ≡ Some site
-  there : slice_get site.addresses place ≡ Some text
-  at : a ≡ at_place (n + number) place
+pub record IsAddressOf (n : ℕ) (sites : List Site) (text : List ℕ) (a : Address) : Type 0 where
+  pub number : ℕ
+  pub site : Site
+  pub place : ℕ
+  pub of_list : slice_get sites number ≡ Some site
+  pub there : slice_get site.addresses place ≡ Some text
+  pub at : a ≡ at_place (n + number) place
 
-address_of : (n : ℕ) (sites : List Site) (text : List ℕ) (a : Address) → Contains (flat_map addresses_at (enumerate_from n sites)) (text, a) → IsAddressOf n sites text a
+pub address_of : (n : ℕ) (sites : List Site) (text : List ℕ) (a : Address) → Contains (flat_map addresses_at (enumerate_from n sites)) (text, a) → IsAddressOf n sites text a
 address_of n [] text a at = absurd (contains_none (text, a) at)
 address_of n (s ∷ sites) text a at = elim (Contains-append_cases (addresses_at (n, s)) (flat_map addresses_at (enumerate_from (n + 1) sites)) (text, a) at) [
   | inl here ↦
@@ -161,7 +161,7 @@ texts_of : (n site : ℕ) (texts : List (List ℕ)) → map (λ (e : List ℕ ×
 texts_of n site [] = refl
 texts_of n site (t ∷ texts) = ap (λ ts. t ∷ ts) (texts_of (n + 1) site texts)
 
-all_texts : (n : ℕ) (sites : List Site) → map (λ (e : List ℕ × Address). e.0) (flat_map addresses_at (enumerate_from n sites)) ≡ flat_map (λ (s : Site). s.addresses) sites
+pub all_texts : (n : ℕ) (sites : List Site) → map (λ (e : List ℕ × Address). e.0) (flat_map addresses_at (enumerate_from n sites)) ≡ flat_map (λ (s : Site). s.addresses) sites
 all_texts n [] = refl
 all_texts n (s ∷ sites) =
     map-append (λ (e : List ℕ × Address). e.0) (addresses_at (n, s)) (flat_map addresses_at (enumerate_from (n + 1) sites))

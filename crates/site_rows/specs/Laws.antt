@@ -1,8 +1,20 @@
 -- Laws of the rows of a record.
-use Rattle.std.specs.Prelude.{◌≡◌}
+use Rattle.std.specs.Prelude.{◌≡◌, ℕ, All, Some, length}
+use Rattle.std.specs.FinMap as finite
+use Rattle.epc_core.specs.Spellings.{IsKey}
+use Rattle.event_json.specs.Events.{Content, IsBody, IsIdentifier}
 use Rattle.event_json.specs.Sites.{AreSites}
+use Rattle.frame_core.specs.Numbers.{Recall}
+use Rattle.frame_core.specs.declared.rows.Row.{Row}
+use Rattle.scholten_core.specs.Engagement.{Engagement}
+use Rattle.scholten_core.specs.declared.own_recalls.Own.{Own}
+use Rattle.site_core.specs.ItemSets as set
+use Rattle.site_core.specs.Quarantines.{Items, Quarantine}
 use Rattle.site_core.specs.Records.{Record, IsSound}
+use Rattle.site_rows.specs.BadParts.{AreMembers}
+use Rattle.site_rows.specs.ReadRows.{IsBadRow}
 use Rattle.site_rows.specs.RecordRows.{rows_of}
+use Rattle.site_rows.specs.declared.tables.Table.{Table}
 
 -- a record that a site may keep
 pub record IsKept (s : Record) : Type 0 where
@@ -12,3 +24,28 @@ pub record IsKept (s : Record) : Type 0 where
 -- two such records are equal where their rows are
 abbrev pub RowsTellTheRecord : Type 0
 RowsTellTheRecord = (s t : Record) → IsKept s → IsKept t → rows_of s ≡ rows_of t → s ≡ t
+
+-- an event within its limits, whose members are items, sites of a list of this length, and plain destinations
+pub record IsEventAmong (sites : ℕ) (e : Content) : Type 0 where
+  pub identifier : IsIdentifier e.id
+  pub limits : IsBody e.body
+  pub members : AreMembers sites e.body
+
+-- each text that is quarantined is the key of an item
+abbrev pub HoldsKeys : Quarantine → Type 0
+HoldsKeys q = (r : Recall) (items : Items) → finite.get q r ≡ Some items → All IsKey (set.items items)
+
+-- each message is about an item, and each own recall began with one
+pub record NamesItems (d : Engagement) : Type 0 where
+  pub outbox : (number : ℕ) (row : Row) → finite.get d.outbox number ≡ Some row → IsKey row.item
+  pub own : (number : ℕ) (own : Own) → finite.get d.own number ≡ Some own → IsKey own.root
+
+-- the texts of the record are those of items, and its events are events
+pub record HoldsItems (s : Record) : Type 0 where
+  pub events : All (IsEventAmong (length s.sites)) s.captured.events
+  pub quarantine : HoldsKeys s.quarantine
+  pub engagement : NamesItems s.engagement
+
+-- no row of such a record is a bad one, and none is wanting
+abbrev pub RowsOfRecordsAreGood : Type 0
+RowsOfRecordsAreGood = (s : Record) → IsKept s → HoldsItems s → (table : Table) (place : ℕ) → IsBadRow (rows_of s) table place → ⊥

@@ -1,9 +1,12 @@
+pub mod AddressesInTurn
 pub mod Appending
 pub mod BadAddresses
 pub mod BadEvents
+pub mod BadParts
 pub mod BadRows
 pub mod HeldItems
 pub mod Laws
+pub mod PartsInTurn
 pub mod ReadRows
 pub mod RecordRows
 pub mod StepRows

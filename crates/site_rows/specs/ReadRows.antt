@@ -1,7 +1,8 @@
 -- Why no record is read from the rows of all tables.
-use Rattle.std.specs.Prelude.{◌≡◌, ℕ, ⊤, length}
+use Rattle.std.specs.Prelude.{◌≡◌, ℕ, ⊤, length, map}
 use Rattle.site_rows.specs.BadAddresses.{IsFirstBadAddress}
 use Rattle.site_rows.specs.BadEvents.{IsFirstBadEvent}
+use Rattle.site_rows.specs.BadParts.{IsPartTable, site_of_row}
 use Rattle.site_rows.specs.BadRows.{IsFirstBad, IsStoreTable, IsSiteTable, IsQuarantineTable, IsOutboxTable, IsSeenTable, IsParentTable, IsRecallTable}
 use Rattle.site_rows.specs.declared.reading.StateFault.{StateFault}
 use Rattle.site_rows.specs.declared.reading.StateFault.TheVariants as fault
@@ -11,13 +12,13 @@ use Rattle.site_rows.specs.declared.reading_entries.TableFault.{TableFault}
 use Rattle.site_rows.specs.declared.reading_entries.TableFault.TheVariants.{NoMemory, BadRow}
 use Rattle.site_rows.specs.declared.rows.Rows.{Rows}
 
--- the row at a place, from 1, is the first bad one of its table. Of `part` nothing is said.
+-- the row at a place, from 1, is the first bad one of its table
 abbrev pub IsBadRow : Rows → Table → ℕ → Type 0
 IsBadRow rows Store place = IsFirstBad (IsStoreTable rows.site) rows.store place
 IsBadRow rows Site place = IsFirstBad IsSiteTable rows.site place
 IsBadRow rows Address place = IsFirstBadAddress (length rows.site) rows.address place
 IsBadRow rows Event place = IsFirstBadEvent rows.event place
-IsBadRow rows Part place = ⊤
+IsBadRow rows Part place = IsFirstBad (IsPartTable (map site_of_row rows.site) rows.event) rows.part place
 IsBadRow rows Quarantine place = IsFirstBad (IsQuarantineTable (length rows.site)) rows.quarantine place
 IsBadRow rows Outbox place = IsFirstBad (IsOutboxTable (length rows.site)) rows.outbox place
 IsBadRow rows Seen place = IsFirstBad (IsSeenTable (length rows.site)) rows.seen place

@@ -19,16 +19,10 @@ mod reading_lists;
 mod reading_numbers;
 mod reading_recalls;
 mod reading_sites;
-#[cfg(test)]
-mod reading_state_tests;
-#[cfg(test)]
-mod reading_tests;
 mod recall_rows;
 mod rows;
 mod step_changes;
 mod tables;
-#[cfg(test)]
-mod tests;
 mod texts;
 mod writing;
 

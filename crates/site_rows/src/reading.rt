@@ -1,10 +1,13 @@
 //! The record of a site, read back from the rows of its tables.
-ghost use Rattle.std.specs.Prelude.{◌≡◌, ◌≤◌, flat_map, length, map, IfOk, IfErr};
+ghost use Rattle.std.specs.Prelude.{◌≡◌, ◌≤◌, flat_map, length, map, All, IfOk, IfErr, MatchResult};
 ghost use Rattle.std.specs.FinMap.{entries};
 ghost use Rattle.std.specs.List.{enumerate_from};
 ghost use Rattle.frame_core.specs.Unsignalled.{IsNextNumber};
+ghost use Rattle.site_core.specs.Records.{IsEngagementAmong, Record};
+ghost use Rattle.site_rows.specs.Laws.{HoldsItems, IsEventAmong, IsKept, NamesItems};
 ghost use Rattle.site_rows.specs.RecordRows.{rows_of, addresses_of, parts_of, address_row, event_row, outbox_row, parent_row, recall_row, seen_row, site_row};
 ghost use Rattle.site_rows.specs.ReadRows.{IsStateFault, IsFaultIn};
+ghost use Rattle.site_rows.specs.declared.reading.StateFault.TheVariants.{NoMemory};
 
 use crate::reading_addressed::addressed;
 use crate::reading_captured::captured_of;
@@ -52,10 +55,23 @@ impl From<AllocError> for StateFault {
 /// The record whose rows these are.
 ///
 /// # Errors
-/// A bad row of the first table that has one: of `part` a row where the lists of the events can't go on, of each other
-/// table its first bad row. A row that is wanting is named by the place where it would stand. And want of memory.
+/// A bad row of the first table that has one: the first bad one of that table. A row that is wanting is named by the
+/// place where it would stand. And want of memory, which alone comes where the rows are those of a record.
 pub fn state_of(alloc: Global, rows: &Rows) -> Result<SiteState, StateFault>
     ensures read { IfOk result (λ state. rows_of state ≡ rows.now) }
+    ensures bad { IfErr result (λ fault. IsStateFault rows.now fault) }
+    ensures kept { IfOk result (λ state. IsKept state) }
+    ensures items { IfOk result (λ state. HoldsItems state) }
+    ensures same { (s : Record) → IsKept s → HoldsItems s → rows_of s ≡ rows.now → MatchResult result (λ state. state ≡ s) (λ fault. fault ≡ NoMemory) }
+{
+    read_state(alloc, rows)
+}
+
+/// The record whose rows these are, which a site may keep.
+fn read_state(alloc: Global, rows: &Rows) -> Result<SiteState, StateFault>
+    ensures read { IfOk result (λ state. rows_of state ≡ rows.now) }
+    ensures kept { IfOk result (λ state. IsKept state) }
+    ensures items { IfOk result (λ state. HoldsItems state) }
     ensures bad { IfErr result (λ fault. IsStateFault rows.now fault) }
 {
     let numbers = match store_of(rows.site.as_slice(), rows.store.as_slice()) {
@@ -69,10 +85,7 @@ pub fn state_of(alloc: Global, rows: &Rows) -> Result<SiteState, StateFault>
         Err(fault) => return Err(in_table(Table::Quarantine, fault)),
     };
     let diffusion = diffusion_of(alloc, numbers, sites.len(), rows)?;
-    match SiteState::restore_if_sound(alloc, sites, captured, quarantine, diffusion) {
-        Some(state) => Ok(state),
-        None => Err(StateFault::NoMemory),
-    }
+    Ok(SiteState::restore(alloc, sites, captured, quarantine, diffusion))
 }
 
 /// The fault of a table among those of all tables.
@@ -103,9 +116,11 @@ fn sites_of(alloc: Global, rows: &Rows) -> Result<Sites, StateFault>
 
 /// The captured events.
 fn events_of(alloc: Global, me: SiteNo, sites: &Sites, rows: &Rows) -> Result<Captured, StateFault>
+    requires { rows.now.site ≡ map site_row (enumerate_from 0 sites.now) }
     ensures me { IfOk result (λ c. c.me ≡ me) }
     ensures event { IfOk result (λ c. rows.now.event ≡ map event_row (enumerate_from 1 c.events)) }
     ensures part { IfOk result (λ c. rows.now.part ≡ flat_map (parts_of sites.now) (enumerate_from 1 c.events)) }
+    ensures among { IfOk result (λ c. All (IsEventAmong (length sites.now)) c.events) }
     ensures bad { IfErr result (λ fault. IsStateFault rows.now fault) }
 {
     if let Err(fault) = check_events(rows.event.as_slice()) {
@@ -139,6 +154,8 @@ fn diffusion_of(
     ensures seen { IfOk result (λ d. rows.now.seen ≡ map seen_row (entries d.seen)) }
     ensures parent { IfOk result (λ d. rows.now.parent ≡ map parent_row (entries d.parents)) }
     ensures recall { IfOk result (λ d. rows.now.recall ≡ map recall_row (entries d.own)) }
+    ensures among { IfOk result (λ d. IsEngagementAmong sites d) }
+    ensures items { IfOk result (λ d. NamesItems d) }
     ensures bad { IfErr result (λ fault. IsStateFault rows.now fault) }
 {
     let outbox = match outbox_of(alloc, sites, rows.outbox.as_slice()) {

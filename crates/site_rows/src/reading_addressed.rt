@@ -1,16 +1,18 @@
 //! The sites with their addresses, read back.
-ghost use Rattle.std.specs.Prelude.{◌≡◌, ◌++◌, ◌∷◌, [], List, ℕ, length, map, IfOk, IfErr, IsTrue, OnOk};
+ghost use Rattle.std.specs.Prelude.{◌≡◌, ◌≤◌, ◌↔◌, ◌++◌, ◌∷◌, [], List, ℕ, length, map, option_map, pos, IfOk, IfErr, IsTrue, OnOk, None};
 ghost use Rattle.std.specs.FinMap.{entries};
-ghost use Rattle.event_json.specs.Sites.{Site};
-ghost use Rattle.site_rows.specs.BadAddresses.{IsAddressFault};
+ghost use Rattle.event_json.specs.Sites.{AreSites, Site, sites_fault};
+ghost use Rattle.site_rows.specs.AddressesInTurn.{AreTextsOf, HaveAddresses, IsRowAt};
+ghost use Rattle.site_rows.specs.BadAddresses.{IsAddressFault, IsAddressTable};
+ghost use Rattle.site_rows.specs.BadRows.{Tells};
 ghost use Rattle.site_rows.specs.RecordRows.{address_row, addresses_of};
 
-use crate::address_rows::{address_rows, name_at};
+use crate::address_rows::name_at;
 use crate::reading_addresses::check_addresses;
 use crate::reading_entries::TableFault;
 use crate::reading_numbers::natural;
 use crate::rows::AddressRow;
-use event_json::Sites;
+use event_json::{Sites, SitesFault};
 use std::alloc::{AllocError, Global};
 
 /// The most addresses of a site.
@@ -31,25 +33,15 @@ pub(crate) fn addressed(
 {
     check_addresses(names.len(), rows)?;
     let sites = with_addresses(alloc, names, rows)?;
-    let made = address_rows(alloc, &sites)?;
-    // Good rows are those of the sites that were made of them, which needs no proof where it is tested.
-    if are_same(made.as_slice(), rows) {
-        Ok(sites)
-    } else {
-        Err(TableFault::NoMemory)
-    }
-}
-
-/// Whether rows are the same.
-fn are_same(made: &[AddressRow], rows: &[AddressRow]) -> bool
-    ensures { IsTrue result → rows.now ≡ made.now }
-{
-    made == rows
+    Ok(sites)
 }
 
 /// The sites of these names, each with the addresses that rows tell of it.
 fn with_addresses(alloc: Global, names: &Sites, rows: &[AddressRow]) -> Result<Sites, AllocError>
-    ensures { IfOk result (λ sites. map (λ s. s.name) sites ≡ map (λ s. s.name) names.now) }
+    requires table { IsAddressTable (length names.now) rows.now }
+    ensures names { IfOk result (λ sites. map (λ s. s.name) sites ≡ map (λ s. s.name) names.now) }
+    ensures addresses { IfOk result (λ sites. HaveAddresses rows.now sites) }
+    ensures in_order { IfOk result (λ sites. AreSites sites) }
 {
     let mut sites = Sites::new(alloc);
     for number in 0..names.len() {
@@ -57,6 +49,8 @@ fn with_addresses(alloc: Global, names: &Sites, rows: &[AddressRow]) -> Result<S
             add_site(alloc, rows, number, name, &mut sites)?;
         }
     }
+    // The length tells the proof that these are sites.
+    let _length = sites.len();
     Ok(sites)
 }
 
@@ -68,12 +62,18 @@ fn add_site(
     name: &str,
     sites: &mut Sites,
 ) -> Result<(), AllocError>
-    ensures { OnOk result ((texts : List (List ℕ)) × (sites.new ≡ sites.old ++ record { name = name.now; addresses = texts } ∷ [])) }
+    requires table { (sites : ℕ) × IsAddressTable sites rows.now }
+    requires free { (texts : List (List ℕ)) → AreTextsOf rows.now number texts → sites_fault sites.old name.now texts ≡ None }
+    ensures { OnOk result ((texts : List (List ℕ)) × AreTextsOf rows.now number texts × (sites.new ≡ sites.old ++ record { name = name.now; addresses = texts } ∷ [])) }
 {
     let texts = texts_of(alloc, rows, number)?;
     match sites.add(name, texts.as_slice()) {
         Ok(_) => Ok(()),
-        Err(_) => Err(AllocError),
+        Err(fault) => {
+            // Good rows tell of no site that can't be added.
+            prove!(matches!(&fault, SitesFault::NoMemory));
+            Err(AllocError)
+        }
     }
 }
 
@@ -82,17 +82,35 @@ fn texts_of<'a>(
     alloc: Global,
     rows: &'a [AddressRow],
     number: u64,
-) -> Result<Vec<&'a str>, AllocError> {
+) -> Result<Vec<&'a str>, AllocError>
+    requires table { (sites : ℕ) × IsAddressTable sites rows.now }
+    ensures { IfOk result (λ texts. AreTextsOf rows.now number (map (λ t. t.now) texts.items)) }
+{
     let mut texts = Vec::new(alloc);
     for place in 0..ADDRESSES {
-        if let Some(row) = rows.iter().find(|row| is_at(row, number, place)) {
-            texts.push(row.text.as_str())?;
+        match row_at(rows, number, place) {
+            Some(row) => texts.push(row.text.as_str())?,
+            None => return Ok(texts),
         }
     }
     Ok(texts)
 }
 
-/// Whether a row is that of a place at a site.
-fn is_at(row: &AddressRow, number: u64, place: u64) -> bool {
+/// The row of a place of a site.
+fn row_at(rows: &[AddressRow], number: u64, place: u64) -> Option<&AddressRow>
+    ensures { Tells (option_map (λ r. r.now) result) (IsRowAt rows.now number place) }
+{
+    for row in rows {
+        if is_at(row, number, place) {
+            return Some(row);
+        }
+    }
+    None
+}
+
+/// Whether a row is that of a place of a site.
+fn is_at(row: &AddressRow, number: u64, place: u64) -> bool
+    ensures { IsTrue result ↔ ((row.now.site ≡ pos number) × (row.now.place ≡ pos place)) }
+{
     natural(row.site) == Some(number) && natural(row.place) == Some(place)
 }

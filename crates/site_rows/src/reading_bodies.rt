@@ -1,8 +1,7 @@
 //! What events say of their items, read back from the rows of their lists in turn.
-ghost use Rattle.std.specs.Prelude.{◌≡◌, ◌≤◌, ◌++◌, length, take, IfOk, IfSome, OnOk, None};
-ghost use Rattle.event_json.specs.Contents.{kind_of, id_of};
-ghost use Rattle.event_json.specs.Events.{IsBody, IsIdentifier};
-ghost use Rattle.site_rows.specs.RecordRows.{body_rows};
+ghost use Rattle.std.specs.Prelude.{◌≡◌, ◌≤◌, length, pos, IfOk, None};
+ghost use Rattle.event_json.specs.Events.{IsIdentifier};
+ghost use Rattle.site_rows.specs.PartsInTurn.{IsBodyAnswer, IsBodyRead};
 
 use crate::event_rows::{INPUT, ITEM, OUTPUT, OUTSIDE, SITE};
 use crate::reading_lists::{ListKey, list_at};
@@ -23,10 +22,7 @@ pub(crate) fn note_at(
     event: u64,
 ) -> Result<Body, AllocError>
     requires within { at.old ≤ length rows.now }
-    ensures within { OnOk result (at.new ≤ length rows.now) }
-    ensures rows { IfOk result (λ body. take at.new rows.now ≡ take at.old rows.now ++ body_rows sites.now event body) }
-    ensures limits { IfOk result IsBody }
-    ensures kind { IfOk result (λ body. (kind_of body ≡ 0) × (id_of body ≡ None)) }
+    ensures { IfOk result (λ body. IsBodyRead sites.now event (pos 0) None rows.now at.old at.new body) }
 {
     let items: Sequence<Epc> = list_at(alloc, sites, rows, at, list(event, ITEM, MEMBERS))?;
     Ok(Body::Note { items })
@@ -41,10 +37,7 @@ pub(crate) fn ship_at(
     event: u64,
 ) -> Result<Option<Body>, AllocError>
     requires within { at.old ≤ length rows.now }
-    ensures within { OnOk result (at.new ≤ length rows.now) }
-    ensures rows { IfOk result (λ body. IfSome body (λ b. take at.new rows.now ≡ take at.old rows.now ++ body_rows sites.now event b)) }
-    ensures limits { IfOk result (λ body. IfSome body IsBody) }
-    ensures kind { IfOk result (λ body. IfSome body (λ b. (kind_of b ≡ 1) × (id_of b ≡ None))) }
+    ensures { IfOk result (λ body. IsBodyAnswer sites.now event (pos 1) None rows.now at.old at.new body) }
 {
     let items: Sequence<Epc> = list_at(alloc, sites, rows, at, list(event, ITEM, MEMBERS))?;
     let to: Sequence<SiteNo> = list_at(alloc, sites, rows, at, list(event, SITE, MEMBERS))?;
@@ -72,14 +65,14 @@ pub(crate) fn make_at(
 ) -> Result<Option<Body>, AllocError>
     requires within { at.old ≤ length rows.now }
     requires plain { IsIdentifier id }
-    ensures within { OnOk result (at.new ≤ length rows.now) }
-    ensures rows { IfOk result (λ body. IfSome body (λ b. take at.new rows.now ≡ take at.old rows.now ++ body_rows sites.now event b)) }
-    ensures limits { IfOk result (λ body. IfSome body IsBody) }
-    ensures kind { IfOk result (λ body. IfSome body (λ b. (kind_of b ≡ 2) × (id_of b ≡ id))) }
+    ensures { IfOk result (λ body. IsBodyAnswer sites.now event (pos 2) id rows.now at.old at.new body) }
 {
     let ins: Sequence<Epc> = list_at(alloc, sites, rows, at, list(event, INPUT, MEMBERS))?;
+    if id.is_none() && ins.is_empty() {
+        return Ok(None);
+    }
     let outs: Sequence<Epc> = list_at(alloc, sites, rows, at, list(event, OUTPUT, MEMBERS))?;
-    if id.is_none() && (ins.is_empty() || outs.is_empty()) {
+    if id.is_none() && outs.is_empty() {
         return Ok(None);
     }
     Ok(Some(Body::Make { id, ins, outs }))

@@ -1,11 +1,14 @@
 //! The captured events, read back from their rows and the rows of their lists.
-ghost use Rattle.std.specs.Prelude.{◌≡◌, ◌≤◌, ◌<◌, ◌⊎◌, ◌++◌, ◌+◌, ◌^◌, ℕ, None, flat_map, length, map, pos, take, IfOk, IfSome, OnOk};
+ghost use Rattle.std.specs.Prelude.{◌≡◌, ◌≤◌, ◌<◌, ◌⊎◌, ◌+◌, ◌^◌, ℕ, None, flat_map, length, map, option_map, pos, All, IfOk, IfErr, IfSome};
 ghost use Rattle.std.specs.Int.{int_div_euclid, int_rem_euclid};
 ghost use Rattle.std.specs.List.{enumerate_from};
-ghost use Rattle.event_json.specs.Contents.{kind_of, id_of};
-ghost use Rattle.event_json.specs.Events.{IsBody, IsIdentifier, IsInstant};
+ghost use Rattle.event_json.specs.Events.{IsIdentifier, IsInstant};
 ghost use Rattle.site_rows.specs.BadEvents.{IsBelow, IsEvent, IsEventTable};
-ghost use Rattle.site_rows.specs.RecordRows.{SECOND, body_rows, event_row, parts_of};
+ghost use Rattle.site_rows.specs.BadParts.{IsPartTable};
+ghost use Rattle.site_rows.specs.BadRows.{IsFaultOf};
+ghost use Rattle.site_rows.specs.Laws.{IsEventAmong};
+ghost use Rattle.site_rows.specs.PartsInTurn.{IsBodyAnswer};
+ghost use Rattle.site_rows.specs.RecordRows.{SECOND, event_row, parts_of};
 
 use crate::reading_bodies::{make_at, note_at, ship_at};
 use crate::reading_entries::TableFault;
@@ -21,7 +24,8 @@ const NANOS: i128 = 1_000_000_000;
 /// The events of the rows, whose lists are these rows, at a site.
 ///
 /// # Errors
-/// The first row of a list that isn't the next one of its event, or the place where one is wanting; and want of memory.
+/// The first row with which the rows are no longer those of the lists of these events, or the place behind the last row
+/// where one is wanting; and want of memory.
 pub(crate) fn captured_of(
     alloc: Global,
     me: SiteNo,
@@ -33,6 +37,8 @@ pub(crate) fn captured_of(
     ensures me { IfOk result (λ c. c.me ≡ me) }
     ensures events { IfOk result (λ c. events.now ≡ map event_row (enumerate_from 1 c.events)) }
     ensures parts { IfOk result (λ c. parts.now ≡ flat_map (parts_of sites.now) (enumerate_from 1 c.events)) }
+    ensures among { IfOk result (λ c. All (IsEventAmong (length sites.now)) c.events) }
+    ensures bad { IfErr result (λ fault. IsFaultOf (IsPartTable sites.now events.now) parts.now fault) }
 {
     let mut captured = Captured::new(alloc, me);
     let mut at = 0;
@@ -60,12 +66,11 @@ fn event_at(
     requires within { at.old ≤ length parts.now }
     requires room { place + 1 < 2 ^ 64 }
     requires event { IsEvent place row.now }
-    ensures within { OnOk result (at.new ≤ length parts.now) }
     ensures row { IfOk result (λ event. IfSome event (λ e. row.now ≡ event_row (place + 1, e))) }
-    ensures parts { IfOk result (λ event. IfSome event (λ e. take at.new parts.now ≡ take at.old parts.now ++ parts_of sites.now (place + 1, e))) }
+    ensures body { IfOk result (λ event. IsBodyAnswer sites.now (place + 1) row.now.kind row.now.make_id parts.now at.old at.new (option_map (λ e. e.body) event)) }
 {
     let id = identifier(alloc, &row.id)?;
-    let instant = instant_of(row.seconds, row.nanos)?;
+    let instant = instant_of(row.seconds, row.nanos);
     match body_at(alloc, sites, parts, at, place as u64 + 1, row)? {
         Some(body) => Ok(Some(Event::new(id, instant, body))),
         None => Ok(None),
@@ -85,10 +90,7 @@ fn body_at(
     requires kind { (n : ℕ) × IsBelow 3 row.now.kind n }
     requires make_id { IsIdentifier row.now.make_id }
     requires of_make { (row.now.kind ≡ pos 2) ⊎ (row.now.make_id ≡ None) }
-    ensures within { OnOk result (at.new ≤ length parts.now) }
-    ensures rows { IfOk result (λ body. IfSome body (λ b. take at.new parts.now ≡ take at.old parts.now ++ body_rows sites.now event b)) }
-    ensures limits { IfOk result (λ body. IfSome body IsBody) }
-    ensures kind { IfOk result (λ body. IfSome body (λ b. (row.now.kind ≡ pos (kind_of b)) × (row.now.make_id ≡ id_of b))) }
+    ensures { IfOk result (λ body. IsBodyAnswer sites.now event row.now.kind row.now.make_id parts.now at.old at.new body) }
 {
     match row.kind {
         0 => Ok(Some(note_at(alloc, sites, parts, at, event)?)),
@@ -115,15 +117,11 @@ fn identifier(alloc: Global, text: &Option<Text>) -> Result<Option<PlainText>, A
 }
 
 /// The instant of so many seconds and nanoseconds, in nanoseconds.
-fn instant_of(seconds: i64, nanos: i64) -> Result<i128, AllocError>
+fn instant_of(seconds: i64, nanos: i64) -> i128
     requires nanos { (n : ℕ) × IsBelow 1_000_000_000 nanos n }
-    ensures seconds { IfOk result (λ t. int_div_euclid t SECOND ≡ seconds) }
-    ensures nanos { IfOk result (λ t. int_rem_euclid t SECOND ≡ nanos) }
-    ensures fits { IfOk result IsInstant }
+    ensures seconds { int_div_euclid result SECOND ≡ seconds }
+    ensures nanos { int_rem_euclid result SECOND ≡ nanos }
+    ensures fits { IsInstant result }
 {
-    let instant = seconds as i128 * NANOS + nanos as i128;
-    if instant.div_euclid(NANOS) != seconds as i128 || instant.rem_euclid(NANOS) != nanos as i128 {
-        return Err(AllocError);
-    }
-    Ok(instant)
+    seconds as i128 * NANOS + nanos as i128
 }

@@ -2,9 +2,11 @@
 ghost use Rattle.std.specs.Prelude.{◌≡◌, ◌≤◌, ◌↔◌, ◌++◌, ◌∷◌, [], T, IfOk, IfErr, IfSome, IsNone, IsSome, IsTrue, flat_map};
 ghost use Rattle.std.specs.FinMap.{entries, get, is_sorted};
 ghost use Rattle.frame_core.specs.Numbers.{Recall};
+ghost use Rattle.site_core.specs.Quarantines.{HasNoEmptySet};
 ghost use Rattle.site_core.specs.Records.{IsRecallAmong};
 ghost use Rattle.site_rows.specs.Appending.{IsAppended, IsAdded};
 ghost use Rattle.site_rows.specs.BadRows.{Tells, IsFaultOf, IsHeldRow, IsHeldEntry, IsQuarantineTable};
+ghost use Rattle.site_rows.specs.Laws.{HoldsKeys};
 ghost use Rattle.site_rows.specs.RecordRows.{quarantine_rows};
 ghost use Rattle.site_rows.specs.HeldItems.{held_cmp, held_of, all_held, IsLast};
 
@@ -29,6 +31,8 @@ pub(crate) fn quarantine_of(
     requires few { sites ≤ 16 }
     ensures rows { IfOk result (λ q. rows.now ≡ flat_map quarantine_rows (entries q)) }
     ensures among { IfOk result (λ q. (r : Recall) → IsSome (get q r) → IsRecallAmong sites r) }
+    ensures no_empty_set { IfOk result HasNoEmptySet }
+    ensures items { IfOk result HoldsKeys }
     ensures bad { IfErr result (λ fault. IsFaultOf (IsQuarantineTable sites) rows.now fault) }
 {
     let mut quarantine = Quarantine::new(alloc);

@@ -1,6 +1,8 @@
 //! The lists of events, read back from their rows in turn.
-ghost use Rattle.std.specs.Prelude.{◌≡◌, ◌≤◌, ◌<◌, ◌++◌, Some, length, map, slice_get, take, IfOk, IfSome, IsTrue, OnOk};
-ghost use Rattle.site_rows.specs.RecordRows.{part_row, part_rows};
+ghost use Rattle.std.specs.Prelude.{◌≡◌, ◌≤◌, ◌↔◌, length, slice_get, IfOk, IsTrue};
+ghost use Rattle.site_rows.specs.BadRows.{Tells};
+ghost use Rattle.site_rows.specs.PartsInTurn.{IsListRead, IsMemberAt};
+ghost use Rattle.site_rows.specs.RecordRows.{part_row};
 
 use crate::reading_numbers::natural;
 use crate::rows::PartRow;
@@ -11,18 +13,27 @@ use std::alloc::{AllocError, Global};
 
 /// A member of a list of an event.
 pub(crate) trait Member: Drop + Sized {
-    ghost use Rattle.std.specs.Prelude.{◌≡◌, List, ℕ, IfOk, IfSome};
+    ghost use Rattle.std.specs.Prelude.{◌≡◌, List, ℕ, IfOk};
     ghost use Rattle.event_json.specs.Sites.{Site};
+    ghost use Rattle.site_rows.specs.BadRows.{Tells};
+    ghost use Rattle.site_rows.specs.PartsInTurn.{IsWritten};
+
+    /// Whether it is one, at a list of sites.
+    ghost is: { List Site → Self → Type 0 };
 
     /// The text that stands for it.
     ghost written: { List Site → Self → List ℕ };
 
-    /// The member that a text stands for.
+    /// The member that a text stands for, where there is one.
     fn read(alloc: Global, sites: &Sites, text: &Text) -> Result<Option<Self>, AllocError>
-        ensures { IfOk result (λ member. IfSome member (λ m. written sites.now m ≡ text.now)) };
+        ensures { IfOk result (λ member. Tells member (IsWritten (is sites.now) (written sites.now) text.now)) };
 }
 
 impl Member for Epc {
+    ghost use Rattle.epc_core.specs.Spellings.{IsKey};
+
+    ghost is = { λ _ item. IsKey item };
+
     ghost written = { λ _ item. item };
 
     fn read(alloc: Global, _sites: &Sites, text: &Text) -> Result<Option<Epc>, AllocError> {
@@ -31,6 +42,10 @@ impl Member for Epc {
 }
 
 impl Member for PlainText {
+    ghost use Rattle.epc_core.specs.Spellings.{IsPlain};
+
+    ghost is = { λ _ text. IsPlain text };
+
     ghost written = { λ _ text. text };
 
     fn read(alloc: Global, _sites: &Sites, text: &Text) -> Result<Option<PlainText>, AllocError> {
@@ -39,7 +54,10 @@ impl Member for PlainText {
 }
 
 impl Member for SiteNo {
+    ghost use Rattle.std.specs.Prelude.{◌<◌, length};
     ghost use Rattle.site_rows.specs.RecordRows.{name_of};
+
+    ghost is = { λ sites site. site < length sites };
 
     ghost written = { name_of };
 
@@ -68,9 +86,7 @@ pub(crate) fn list_at<M: Member>(
     list: ListKey,
 ) -> Result<Sequence<M>, AllocError>
     requires within { at.old ≤ length rows.now }
-    ensures within { OnOk result (at.new ≤ length rows.now) }
-    ensures rows { IfOk result (λ members. take at.new rows.now ≡ take at.old rows.now ++ part_rows list.event list.role (map (M.written sites.now) members)) }
-    ensures few { IfOk result (λ members. length members ≤ list.most) }
+    ensures { IfOk result (λ members. IsListRead (M.is sites.now) (M.written sites.now) list.event list.role list.most rows.now at.old at.new members) }
 {
     let mut members = Vec::new(alloc);
     for place in 0..list.most {
@@ -94,7 +110,7 @@ fn member_at<M: Member>(
     list: ListKey,
     place: u64,
 ) -> Result<Option<M>, AllocError>
-    ensures { IfOk result (λ member. IfSome member (λ m. slice_get rows.now at ≡ Some (part_row list.event list.role (place, M.written sites.now m)))) }
+    ensures { IfOk result (λ member. Tells member (IsMemberAt (M.is sites.now) (M.written sites.now) list.event list.role place (slice_get rows.now at))) }
 {
     let Some(row) = rows.get(at) else {
         return Ok(None);
@@ -107,7 +123,7 @@ fn member_at<M: Member>(
 
 /// Whether a row is that of a place of a list.
 fn is_at(row: &PartRow, list: ListKey, place: u64) -> bool
-    ensures { IsTrue result → row.now ≡ part_row list.event list.role (place, row.now.text) }
+    ensures { IsTrue result ↔ (row.now ≡ part_row list.event list.role (place, row.now.text)) }
 {
     natural(row.event) == Some(list.event)
         && natural(row.role) == Some(list.role)

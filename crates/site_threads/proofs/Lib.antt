@@ -1,10 +1,19 @@
 mod Beginning
+mod Confirming
+mod Ending
+mod Gathering
 mod Handing
+mod Looping
 mod Numbers
 mod Offering
 mod OneLog
+mod Parting
 pub mod Passed
 mod Playing
+mod Sending
+mod Settling
 mod Stamping
+mod Starting
 mod Steps
 mod Taking
+mod Zips

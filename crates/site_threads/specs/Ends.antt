@@ -1,5 +1,5 @@
 -- What clauses say of the two ends of a desk.
-use Rattle.std.specs.Prelude.{◌≡◌, ◌≤◌, true, List, length}
+use Rattle.std.specs.Prelude.{◌≡◌, ◌≤◌, true, List, [], length}
 use Rattle.crossbeam_channel.specs.Claims.{view, IsSeatAt}
 use Rattle.crossbeam_channel.specs.Ends.{sends_on, receives_on}
 use Rattle.site_threads.specs.declared.jobs.Job.{Job}
@@ -34,3 +34,8 @@ pub record IsOut (o : DeskOut) : Type 0 where
 -- the two ends of one desk
 abbrev pub AreEnds : Desk → DeskOut → Type 0
 AreEnds d o = receives_on o.from ≡ sends_on d.to
+
+-- an end from which nothing was taken
+pub record IsUnused (o : DeskOut) : Type 0 where
+  pub out : IsOut o
+  pub untouched : takes o ≡ []

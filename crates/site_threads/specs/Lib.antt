@@ -1,11 +1,15 @@
+pub mod Beginning
 pub mod Desks
 pub mod Ends
+pub mod Gathering
 pub mod Jobs
 pub mod Keepers
 pub mod Offers
+pub mod Parting
 pub mod Passing
 pub mod Playing
 pub mod Running
+pub mod Runs
 pub mod Sites
 pub mod Stamps
 pub mod Starting

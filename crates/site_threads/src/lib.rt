@@ -7,17 +7,28 @@
 mod desks;
 mod following;
 mod gates;
+mod gather;
+mod gathered;
 mod jobs;
+mod lists;
 mod offers;
 mod passing;
+mod room;
+mod runs;
 mod sites;
 mod stamps;
+mod starts;
 #[cfg(test)]
 mod tests;
 mod turns;
+mod worlds;
 
 pub use desks::{Desk, DeskFault, DeskOut};
 pub use gates::{FreeGate, Gate, Pass};
+pub use gather::GatherCause;
+pub use gathered::{GatherFault, Gathered, Stranger};
 pub use jobs::{Entry, Job, Receipt, Reply};
+pub use lists::SiteList;
 pub use sites::Site;
 pub use turns::{SiteTurn, TurnCause, TurnFault, TurnReport};
+pub use worlds::run_world;

@@ -19,8 +19,6 @@ mod pairs;
 mod places;
 mod searches;
 mod spreads;
-#[cfg(test)]
-mod tests;
 mod trails;
 
 pub use adding::{AddFault, Added, Standing};

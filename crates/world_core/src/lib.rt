@@ -9,8 +9,6 @@ mod faults;
 mod forming;
 pub mod laws;
 mod recalls;
-#[cfg(test)]
-mod tests;
 mod turns;
 mod views;
 mod worlds;

@@ -10,4 +10,4 @@ returns-in_ok-effects_text-in-Ok-clause-answered g c = λ old shows.
 pub returns-in_ok-refusal-in-Err-Refused-clause-answered : goal.returns-in_ok-refusal-in-Err-Refused-clause-answered
 returns-in_ok-refusal-in-Err-Refused-clause-answered g c = λ old shows.
     refusal_told c.args.sites.now old c.args.input _ c.in-Err-Refused.why _ c.in_ok-refusal-in-Err-Refused.field-0 (rw c.in-Err-Refused.field-0-is at (c.in-Err-Refused.ensures.open old shows))
-    (c.in_ok-refusal-in-Err-Refused.ensures.is ∙ ap refusal_line (c.as_str.ensures.value ∙ c.in_ok-what-in-Err-Refused.ensures)) c.in_ok-refusal-in-Err-Refused.ensures.status
+    (c.in_ok-refusal-in-Err-Refused.ensures.is.text ∙ ap refusal_line (c.as_str.ensures.value ∙ c.in_ok-what-in-Err-Refused.ensures)) c.in_ok-refusal-in-Err-Refused.ensures.is.status

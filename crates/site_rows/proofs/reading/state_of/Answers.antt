@@ -1,12 +1,5 @@
-use Rattle.std.proofs.Common.{◌∙◌}
-use Rattle.site_rows.proofs.ReadFaults.{as_many_sites, quarantine_fault}
+use Rattle.site_rows.proofs.ReadBack.{read_back}
 use Rattle.site_rows.proofs.reading.state_of.Goals as goal
 
-pub returns-in-Err-quarantine_of-clause-bad : goal.returns-in-Err-quarantine_of-clause-bad
-returns-in-Err-quarantine_of-clause-bad c =
-    let rows = c.args.rows.now in
-    let size = c.len.ensures.count ∙ as_many_sites c.in_ok-sites.sites rows.site c.in_ok-sites.ensures.site in
-    quarantine_fault rows c.len.result c.as_slice-3.result.now c.in-Err-quarantine_of.fault c.in_table-in-Err-quarantine_of.result size c.as_slice-3.ensures c.in-Err-quarantine_of.ensures.bad c.in_table-in-Err-quarantine_of.ensures
-
-pub diffusion_of-requires-clause-count : goal.diffusion_of-requires-clause-count
-diffusion_of-requires-clause-count c = c.len-2.ensures.count ∙ as_many_sites c.in_ok-sites.sites c.args.rows.now.site c.in_ok-sites.ensures.site
+pub returns-clause-same : goal.returns-clause-same
+returns-clause-same c = read_back c.args.rows.now c.read_state.result c.read_state.ensures.read c.read_state.ensures.kept c.read_state.ensures.bad

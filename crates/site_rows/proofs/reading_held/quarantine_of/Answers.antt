@@ -5,7 +5,7 @@ use Rattle.site_rows.specs.Appending.{IsAdded}
 use Rattle.site_rows.specs.BadRows.{Match, IsHeldEntry}
 use Rattle.site_rows.specs.HeldItems.{held_cmp, all_held}
 use Rattle.site_rows.proofs.AtTheEnd.{stands_at}
-use Rattle.site_rows.proofs.HeldInTurn.{all_ascend, nothing_held, rows_held, recalls_among}
+use Rattle.site_rows.proofs.HeldInTurn.{all_ascend, items_held, nothing_held, rows_held, recalls_among}
 use Rattle.site_rows.proofs.OneEntry.{one_held_entry}
 use Rattle.site_rows.proofs.RowsOfMaps.{one_match_more, first_bad}
 use Rattle.site_rows.proofs.reading_held.quarantine_of.Goals as goal
@@ -35,5 +35,7 @@ returns c =
     record {
       rows = rows_held c.args.sites c.args.rows.now c.loop-place.quarantine all;
       among = recalls_among c.args.sites c.args.rows.now c.loop-place.quarantine c.by_recall.ensures.no_empty all;
+      no_empty_set = c.by_recall.ensures.no_empty;
+      items = items_held c.args.sites c.args.rows.now c.loop-place.quarantine all;
       bad = tt;
     }

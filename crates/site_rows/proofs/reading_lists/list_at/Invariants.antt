@@ -1,4 +1,5 @@
 use Rattle.std.proofs.Common.{◌≡◌, ◌≤◌, ◌++◌, length, map, take}
+use Rattle.std.specs.List.{All}
 use Rattle.site_rows.specs.RecordRows.{part_rows}
 use Rattle.site_rows.proofs.reading_lists.list_at.Given as goal
 
@@ -8,4 +9,5 @@ invariant-loop-place g l = record {
   within : l.at ≤ length l.rows;
   counted : length l.members.items ≡ l.place;
   rows : take l.at l.rows ≡ take l.fn.at l.rows ++ part_rows l.list.event l.list.role (map (g.M.Member.written l.sites) l.members.items);
+  all : All (g.M.Member.is l.sites) l.members.items;
 }

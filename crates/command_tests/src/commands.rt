@@ -1,0 +1,248 @@
+//! The commands on files and sites in memory.
+
+use site_commands::{Answer, Fault, Files, audit_sites, capture, init, report_recall, start};
+use event_json::SiteNo;
+use frame_core::{Frame, MsgId};
+use keeper_core::{MemoryKeeper, SiteKeeper};
+use site_core::{SiteInput, SiteState};
+use std::alloc::Global;
+use std::test::Fail;
+
+/// An item x is made into y, which is shipped to B.
+const MADE: &str =
+    "{\"type\":\"EPCISDocument\",\"epcisBody\":{\"eventList\":[{\"type\":\"TransformationEvent\",\"eventTime\":\"2024-05-01T08:00:00Z\",\"eventTimeZoneOffset\":\"+00:00\",\"inputEPCList\":[\"x\"],\"outputEPCList\":[\"y\"]},{\"type\":\"ObjectEvent\",\"eventTime\":\"2024-05-01T08:00:00Z\",\"eventTimeZoneOffset\":\"+00:00\",\"action\":\"OBSERVE\",\"epcList\":[\"y\"],\"destinationList\":[{\"type\":\"location\",\"destination\":\"b\"},{\"type\":\"location\",\"destination\":\"z\"}]}]}}";
+
+/// The site of a file, and its keeper while the file is closed.
+#[derive(Drop)]
+struct Kept {
+    path: String,
+    keeper: Option<MemoryKeeper>,
+}
+
+/// Files in memory.
+#[derive(Drop)]
+struct MemoryFiles {
+    alloc: Global,
+    texts: Vec<(String, Vec<u8>)>,
+    sites: Vec<Kept>,
+}
+
+impl MemoryFiles {
+    fn text_at(&self, path: &str) -> Option<&Vec<u8>> {
+        for (name, bytes) in &self.texts {
+            if name.as_str() == path {
+                return Some(bytes);
+            }
+        }
+        None
+    }
+
+    fn site_at(&self, path: &str) -> Option<usize> {
+        self.sites
+            .iter()
+            .position(|kept| kept.path.as_str() == path)
+    }
+}
+
+impl Files<MemoryKeeper> for MemoryFiles {
+    ghost use Rattle.std.specs.Prelude.{⊤};
+
+    // The texts that the tests read say what the calls did.
+    ghost reads = { λ _ _ _ _. ⊤ };
+
+    ghost finds = { λ _ _ _ _. ⊤ };
+
+    ghost makes = { λ _ _ _ _. ⊤ };
+
+    ghost opens = { λ _ _ _ _ _. ⊤ };
+
+    ghost closes = { λ _ _ _. ⊤ };
+
+    ghost writes = { λ _ _ _ _. ⊤ };
+
+    fn read(&mut self, alloc: Global, path: &str) -> Result<Vec<u8>, Fault> {
+        match self.text_at(path) {
+            Some(bytes) => Ok(bytes.as_slice().to_vec(alloc)?),
+            None => Err(Fault::Read),
+        }
+    }
+
+    fn exists(&mut self, path: &str) -> Result<bool, Fault> {
+        Ok(self.text_at(path).is_some() || self.site_at(path).is_some())
+    }
+
+    fn create_site(&mut self, alloc: Global, path: &str, state: SiteState) -> Result<(), Fault> {
+        let path = String::from_str(alloc, path)?;
+        let keeper = Some(MemoryKeeper::new(state));
+        Ok(self.sites.push(Kept { path, keeper })?)
+    }
+
+    fn open_site(&mut self, _: Global, path: &str, _: &str) -> Result<MemoryKeeper, Fault> {
+        let Some(place) = self.site_at(path) else {
+            return Err(Fault::NotAStore);
+        };
+        match self.sites.get_mut(place) {
+            Some(kept) => kept.keeper.take().ok_or(Fault::Store),
+            None => Err(Fault::Store),
+        }
+    }
+
+    fn close_site(&mut self, keeper: MemoryKeeper) {
+        let place = match keeper.view() {
+            Some(state) => state.me().number() as usize,
+            None => self.sites.len(),
+        };
+        if place < self.sites.len() {
+            self.sites[place].keeper = Some(keeper);
+        }
+    }
+
+    fn write_new(&mut self, path: &str, bytes: &[u8]) -> Result<(), Fault> {
+        let path = String::from_str(self.alloc, path)?;
+        let bytes = bytes.to_vec(self.alloc)?;
+        Ok(self.texts.push((path, bytes))?)
+    }
+}
+
+/// A folder of two sites, with documents and lists beside it.
+fn files(alloc: Global) -> Result<MemoryFiles, Fail> {
+    let mut files = MemoryFiles {
+        alloc,
+        texts: Vec::new(alloc),
+        sites: Vec::new(alloc),
+    };
+    files.write_new("list", b"# two sites\r\nsite A a\n\nsite B b".as_slice())?;
+    files.write_new("bad", b"site A a\nreach A x\nsite A a".as_slice())?;
+    files.write_new("f/sites", b"site A a\n".as_slice())?;
+    files.write_new("made", MADE.as_bytes())?;
+    files.write_new("broken", b"{".as_slice())?;
+    Ok(files)
+}
+
+/// A command, by its words.
+#[derive(Clone, Copy)]
+enum Asked {
+    Init(&'static str, &'static str),
+    Capture(&'static str, &'static str),
+    Start(&'static str, &'static str),
+    Report(&'static str),
+    Audit(&'static str),
+}
+
+fn answer(alloc: Global, files: &mut MemoryFiles, asked: Asked) -> Result<Answer, Fault> {
+    match asked {
+        Asked::Init(folder, list) => init(alloc, files, folder, list),
+        Asked::Capture(site, file) => capture(alloc, files, "d", site, file),
+        Asked::Start(site, item) => start(alloc, files, "d", site, item),
+        Asked::Report(recall) => report_recall(alloc, files, "d", recall),
+        Asked::Audit(folder) => audit_sites(alloc, files, folder),
+    }
+}
+
+/// Whether a command has this status and this text; the text of a fault is its line.
+fn gives(alloc: Global, files: &mut MemoryFiles, asked: Asked, status: u8, text: &str) -> bool {
+    match answer(alloc, files, asked) {
+        Ok(answer) => answer.status() == status && answer.text() == text,
+        Err(fault) => status == 3 && fault.line() == text,
+    }
+}
+
+/// The place of the first of some commands that doesn't have its status and text, from 0.
+fn first_other(
+    alloc: Global,
+    files: &mut MemoryFiles,
+    table: &[(Asked, u8, &str)],
+) -> Option<usize> {
+    for (place, (asked, status, text)) in table.iter().enumerate() {
+        if !gives(alloc, files, *asked, *status, text) {
+            return Some(place);
+        }
+    }
+    None
+}
+
+#[test]
+fn commands_are_answered(rt: HostRuntime) -> Result<(), Fail> {
+    let mut files = files(rt.alloc())?;
+    let table = [
+        (Asked::Audit("d"), 3, "fault Read\n"),
+        (Asked::Audit("f"), 3, "fault BadSites\n"),
+        (Asked::Init("d", "none"), 3, "fault Read\n"),
+        (
+            Asked::Init("d", "bad"),
+            1,
+            "refused BadLine\nrefused BadSite NameTaken\nrefused NoWorld\n",
+        ),
+        (Asked::Init("f", "list"), 1, "refused Exists sites\n"),
+        (Asked::Init("d", "list"), 0, ""),
+        (
+            Asked::Init("d", "list"),
+            1,
+            "refused Exists A\nrefused Exists B\n",
+        ),
+        (Asked::Capture("C", "none"), 1, "refused NoSite C\n"),
+        (Asked::Capture("A", "none"), 3, "fault Read\n"),
+        (
+            Asked::Capture("A", "broken"),
+            1,
+            "refused Doc Syntax event 0 field document\n",
+        ),
+        (
+            Asked::Capture("A", "made"),
+            0,
+            "captured 2 known 0 skipped 0\n",
+        ),
+        (Asked::Start("A", "a b"), 1, "refused BadEpc\n"),
+        (Asked::Start("B", "x"), 1, "refused UnknownItem\n"),
+        (
+            Asked::Start("A", "x"),
+            0,
+            "recall A#1 new 2 messages 1 open\n",
+        ),
+        (Asked::Audit("d"), 0, "open A#1\n"),
+        (
+            Asked::Report("A#1"),
+            0,
+            "recall A#1 root uri x open\npair A uri x\n  1 A uri x\npair A uri y\n  1 A uri x\n  2 A uri y\noutside A uri y z\ntotal 2 outside 1\n",
+        ),
+        (Asked::Report("A#9"), 1, "refused UnknownRecall\n"),
+        (Asked::Report("C#1"), 1, "refused NoSite C\n"),
+        (Asked::Report("A1"), 1, "refused BadLine\n"),
+    ];
+    assert!(rt; first_other(rt.alloc(), &mut files, table.as_slice()).is_none());
+    Ok(())
+}
+
+/// The signal that B has quarantined y comes to A.
+fn signal(files: &mut MemoryFiles) -> Result<(), Fail> {
+    let kept = files.sites.get_mut(0).ok_or("a site")?;
+    let keeper = kept.keeper.as_mut().ok_or("a keeper")?;
+    let a = SiteNo::of(0).ok_or("a site")?;
+    let b = SiteNo::of(1).ok_or("a site")?;
+    let id = MsgId { site: a, number: 1 };
+    keeper.apply(SiteInput::Deliver(Frame::Signal { id, by: b }))?;
+    Ok(())
+}
+
+#[test]
+fn a_record_from_before_is_found(rt: HostRuntime) -> Result<(), Fail> {
+    let mut files = files(rt.alloc())?;
+    let before = [
+        (Asked::Init("d", "list"), 0, ""),
+        (
+            Asked::Capture("A", "made"),
+            0,
+            "captured 2 known 0 skipped 0\n",
+        ),
+        (
+            Asked::Start("A", "x"),
+            0,
+            "recall A#1 new 2 messages 1 open\n",
+        ),
+    ];
+    assert!(rt; first_other(rt.alloc(), &mut files, before.as_slice()).is_none());
+    signal(&mut files)?;
+    let after = [(Asked::Audit("d"), 4, "misfit 2 B\n")];
+    assert!(rt; first_other(rt.alloc(), &mut files, after.as_slice()).is_none());
+    Ok(())
+}

@@ -1,0 +1,242 @@
+//! That the calls succeed with memory at hand, on the worked recall of two sites.
+//!
+//! What a site went through is given in short, which holds no memory, and an answer is looked at by functions that
+//! take none, so that little has to be dropped where a call fails.
+ghost use Rattle.std.specs.Prelude.{◌<◌};
+
+use report_core::{OutsideShipment, RecallReport, ReportFault, Verdict, audit, report};
+use epc_core::{Epc, EpcForm};
+use event_json::{Sequence, SiteNo, Sites};
+use frame_core::{Frame, MsgId, RecallId};
+use site_core::{SiteInput, SiteState};
+use site_recovery::are_all_sites;
+use std::alloc::Global;
+use std::test::Fail;
+use trace_core::Pair;
+
+/// The times of an event.
+const TIMES: &str = "\"eventTime\":\"2024-05-01T08:00:00Z\",\"eventTimeZoneOffset\":\"+00:00\"";
+
+/// An input in short. Items and destinations are of one letter.
+#[derive(Clone, Copy)]
+enum Short {
+    Made(char, char),
+    Shipped(char, char),
+    /// A recall of x.
+    Start,
+    /// The message A.1 to B, which tells it of y under the recall A#1.
+    Told,
+    /// B's signal for that message.
+    Signal,
+}
+
+/// The site of a number, 0 for A.
+fn site(number: u64) -> SiteNo
+    requires { number < 16 }
+{
+    SiteNo::of(number).unwrap()
+}
+
+/// The recall A#1.
+fn recall() -> RecallId {
+    RecallId {
+        site: site(0),
+        number: 1,
+    }
+}
+
+/// The message A.1.
+fn message() -> MsgId {
+    MsgId {
+        site: site(0),
+        number: 1,
+    }
+}
+
+fn document(text: String) -> SiteInput {
+    SiteInput::Capture(Sequence::from_vec(text.into_bytes()))
+}
+
+fn input(alloc: Global, short: Short) -> Result<SiteInput, Fail> {
+    match short {
+        Short::Made(from, to) => Ok(document(format!(in alloc;
+            "{{\"type\":\"TransformationEvent\",{TIMES},\"inputEPCList\":[\"{from}\"],\"outputEPCList\":[\"{to}\"]}}"
+        )?)),
+        Short::Shipped(item, to) => Ok(document(format!(in alloc;
+            "{{\"type\":\"ObjectEvent\",{TIMES},\"action\":\"OBSERVE\",\"epcList\":[\"{item}\"],\"destinationList\":[{{\"destination\":\"{to}\"}}]}}"
+        )?)),
+        Short::Start => Ok(SiteInput::Start(Epc::read(alloc, "x")?)),
+        Short::Told => Ok(SiteInput::Deliver(Frame::Recall {
+            id: message(),
+            dest: site(1),
+            recall: recall(),
+            item: Epc::read(alloc, "y")?,
+        })),
+        Short::Signal => Ok(SiteInput::Deliver(Frame::Signal {
+            id: message(),
+            by: site(1),
+        })),
+    }
+}
+
+/// The sites A and B, with the addresses a and b.
+fn two_sites(alloc: Global) -> Result<Sites, Fail> {
+    let mut sites = Sites::new(alloc);
+    sites.add("A", &["a"])?;
+    sites.add("B", &["b"])?;
+    Ok(sites)
+}
+
+/// One of the sites, which keeps nothing.
+fn fresh(alloc: Global, me: SiteNo) -> Result<SiteState, Fail> {
+    let sites = two_sites(alloc)?;
+    if me.number() < sites.len() as u64 {
+        Ok(SiteState::new(alloc, sites, me))
+    } else {
+        Err("no such site".into())
+    }
+}
+
+fn goes_on(alloc: Global, state: &mut SiteState, short: Short) -> Result<(), Fail> {
+    let input = input(alloc, short)?;
+    state.apply(&input)?;
+    Ok(())
+}
+
+/// The site after these inputs.
+fn after(alloc: Global, me: SiteNo, inputs: &[Short]) -> Result<SiteState, Fail> {
+    let mut state = fresh(alloc, me)?;
+    for short in inputs {
+        goes_on(alloc, &mut state, *short)?;
+    }
+    Ok(state)
+}
+
+/// What a recall of A#1 goes through at A: y is made of x and shipped to B, the recall begins and ends.
+const WHOLE: [Short; 4] = [
+    Short::Made('x', 'y'),
+    Short::Shipped('y', 'b'),
+    Short::Start,
+    Short::Signal,
+];
+
+/// What an audit of A#1 answers where A and B went through this.
+fn audited(alloc: Global, a: &[Short], b: &[Short]) -> Result<Result<Verdict, ReportFault>, Fail> {
+    let a = after(alloc, site(0), a)?;
+    let b = after(alloc, site(1), b)?;
+    if are_all_sites(&[&a, &b]) {
+        Ok(audit(alloc, &[&a, &b], recall()))
+    } else {
+        Err("not all sites".into())
+    }
+}
+
+/// What the report of A#1 is where A went through this, and B through nothing.
+fn reported(alloc: Global, a: &[Short]) -> Result<Result<RecallReport, ReportFault>, Fail> {
+    let a = after(alloc, site(0), a)?;
+    let b = fresh(alloc, site(1))?;
+    if are_all_sites(&[&a, &b]) {
+        Ok(report(alloc, &[&a, &b], recall()))
+    } else {
+        Err("not all sites".into())
+    }
+}
+
+/// Whether the item is the one of this text, of no GS1 key.
+fn is_item(item: &Epc, text: &str) -> bool {
+    match item.form() {
+        EpcForm::Other(own) => own.as_str() == text,
+        _ => false,
+    }
+}
+
+/// Whether the pair is this item at this site.
+fn is_pair(pair: &Pair, site: u64, text: &str) -> bool {
+    pair.site.number() == site && is_item(&pair.item, text)
+}
+
+/// Whether y at B is missing, or too much.
+fn differs_at_b(verdict: &Result<Verdict, ReportFault>, wanted: bool) -> bool {
+    match verdict {
+        Ok(Verdict::Differs { pair, missing }) => *missing == wanted && is_pair(pair, 1, "y"),
+        _ => false,
+    }
+}
+
+#[test]
+fn an_audit_tells_what_differs(rt: HostRuntime) -> Result<(), Fail> {
+    let equal = audited(rt.alloc(), &WHOLE, &[Short::Told])?;
+    assert!(rt; equal == Ok(Verdict::Equal(3)));
+    // B's record is from before the recall.
+    let missing = audited(rt.alloc(), &WHOLE, &[])?;
+    assert!(rt; differs_at_b(&missing, true));
+    // A's record has lost the shipment.
+    let lost = [Short::Made('x', 'y'), Short::Start];
+    let extra = audited(rt.alloc(), &lost, &[Short::Told])?;
+    assert!(rt; differs_at_b(&extra, false));
+    let unknown = audited(rt.alloc(), &[], &[])?;
+    assert!(rt; unknown == Err(ReportFault::UnknownRecall));
+    Ok(())
+}
+
+/// Whether these are x and then y at A.
+fn are_x_and_y(pairs: &[Pair]) -> bool {
+    pairs.len() == 2 && is_pair(&pairs[0], 0, "x") && is_pair(&pairs[1], 0, "y")
+}
+
+/// Whether these trails lead from x at A to itself and to y.
+fn lead_from_x(trails: &[Option<Sequence<Pair>>]) -> bool {
+    if trails.len() != 2 {
+        return false;
+    }
+    match (&trails[0], &trails[1]) {
+        (Some(to_x), Some(to_y)) => {
+            let to_x = to_x.as_slice();
+            to_x.len() == 1 && is_pair(&to_x[0], 0, "x") && are_x_and_y(to_y.as_slice())
+        }
+        _ => false,
+    }
+}
+
+/// Whether just x went to the destination z, from A.
+fn is_x_to_z(outside: &[OutsideShipment]) -> bool {
+    outside.len() == 1
+        && outside[0].site.number() == 0
+        && is_item(&outside[0].item, "x")
+        && outside[0].destination.as_str() == "z"
+}
+
+/// Whether the report is of the recall of x at A, open, with x and y and their trails.
+fn is_of_x(report: &RecallReport) -> bool {
+    !report.ended
+        && is_pair(&report.root, 0, "x")
+        && are_x_and_y(report.pairs.as_slice())
+        && lead_from_x(report.trails.as_slice())
+}
+
+/// Whether it is that report, with no shipment outside, or with that of x to z.
+fn tells(report: &Result<RecallReport, ReportFault>, late: bool) -> bool {
+    match report {
+        Ok(report) => {
+            let outside = report.outside.as_slice();
+            is_of_x(report)
+                && if late {
+                    is_x_to_z(outside)
+                } else {
+                    outside.is_empty()
+                }
+        }
+        Err(_) => false,
+    }
+}
+
+#[test]
+fn a_report_has_trails_and_shipments_outside(rt: HostRuntime) -> Result<(), Fail> {
+    let first = reported(rt.alloc(), &WHOLE[..3])?;
+    assert!(rt; tells(&first, false));
+    // What is shipped outside once the recall began is captured, and told.
+    let late = [WHOLE[0], WHOLE[1], WHOLE[2], Short::Shipped('x', 'z')];
+    let late = reported(rt.alloc(), &late)?;
+    assert!(rt; tells(&late, true));
+    Ok(())
+}

@@ -1,0 +1,188 @@
+mod conditions;
+
+use site_recovery::{CheckFault, Misfit, are_all_sites, check_world};
+use epc_core::Epc;
+use event_json::{Sequence, SiteNo, Sites};
+use frame_core::{Frame, MsgId, RecallId};
+use site_core::{SiteInput, SiteState};
+use std::alloc::Global;
+use std::test::Fail;
+
+/// The times of an event.
+const TIMES: &str = "\"eventTime\":\"2024-05-01T08:00:00Z\",\"eventTimeZoneOffset\":\"+00:00\"";
+
+/// What a site was given.
+#[derive(Clone, Copy)]
+enum Given {
+    /// The item was made of the other one.
+    Made(&'static str, &'static str),
+    /// The item was shipped to the address.
+    Shipped(&'static str, &'static str),
+    /// A recall of the item.
+    Recalled(&'static str),
+    /// The first message of a site, which tells of the item under the first recall of A.
+    Told(u64, &'static str),
+    /// The signal of a site for the first message.
+    Signalled(u64),
+}
+
+use Given::{Made, Recalled, Shipped, Signalled, Told};
+
+/// The site of this number.
+fn number(number: u64) -> Result<SiteNo, Fail> {
+    Ok(SiteNo::of(number).ok_or("no such site")?)
+}
+
+/// The first message of a site.
+fn first_of(site: u64) -> Result<MsgId, Fail> {
+    Ok(MsgId {
+        site: number(site)?,
+        number: 1,
+    })
+}
+
+/// One of sites A, B and C, with an address each, which keeps nothing.
+fn empty(alloc: Global, me: u64) -> Result<SiteState, Fail> {
+    let mut sites = Sites::new(alloc);
+    sites.add("A", &["a"])?;
+    sites.add("B", &["b"])?;
+    sites.add("C", &["c"])?;
+    let me = number(me)?;
+    if me.number() >= sites.len() {
+        return Err(Fail::new("no such site"));
+    }
+    Ok(SiteState::new(alloc, sites, me))
+}
+
+/// What the site is handed.
+fn input(alloc: Global, me: u64, given: Given) -> Result<SiteInput, Fail> {
+    let document = match given {
+        Made(of, item) => format!(in alloc;
+            "{{\"type\":\"TransformationEvent\",{TIMES},\"inputEPCList\":[\"{of}\"],\"outputEPCList\":[\"{item}\"]}}"
+        )?,
+        Shipped(item, to) => format!(in alloc;
+            "{{\"type\":\"ObjectEvent\",{TIMES},\"action\":\"OBSERVE\",\"epcList\":[\"{item}\"],\"destinationList\":[{{\"destination\":\"{to}\"}}]}}"
+        )?,
+        Recalled(root) => return Ok(SiteInput::Start(Epc::read(alloc, root)?)),
+        Told(from, item) => {
+            return Ok(SiteInput::Deliver(Frame::Recall {
+                id: first_of(from)?,
+                dest: number(me)?,
+                recall: RecallId {
+                    site: number(0)?,
+                    number: 1,
+                },
+                item: Epc::read(alloc, item)?,
+            }));
+        }
+        Signalled(by) => {
+            return Ok(SiteInput::Deliver(Frame::Signal {
+                id: first_of(me)?,
+                by: number(by)?,
+            }));
+        }
+    };
+    Ok(SiteInput::Capture(Sequence::from_vec(document.into_bytes())))
+}
+
+/// The site of the number once it was given all this, one after another.
+fn site(alloc: Global, me: u64, given: &[Given]) -> Result<SiteState, Fail> {
+    let mut state = empty(alloc, me)?;
+    for each in given {
+        state.apply(&input(alloc, me, *each)?)?;
+    }
+    Ok(state)
+}
+
+/// What the check says of these sites, None where they fit together.
+fn says(alloc: Global, sites: &[SiteState]) -> Result<Option<Misfit>, Fail> {
+    let mut states = Vec::new(alloc);
+    for site in sites {
+        states.push(site)?;
+    }
+    if !are_all_sites(&states) {
+        return Err(Fail::new("these aren't all sites"));
+    }
+    match check_world(alloc, &states) {
+        Ok(()) => Ok(None),
+        Err(CheckFault::Misfit(misfit)) => Ok(Some(misfit)),
+        Err(CheckFault::NoMemory) => Err(Fail::new("memory ran out")),
+    }
+}
+
+/// Whether the check of these sites names just this condition and site; 0 where they fit together.
+fn names(alloc: Global, sites: &[SiteState], condition: u64, at: u64) -> Result<bool, Fail> {
+    let wanted = match condition {
+        0 => None,
+        condition => Some(Misfit {
+            condition,
+            site: number(at)?,
+        }),
+    };
+    Ok(says(alloc, sites)? == wanted)
+}
+
+/// Sites A, B and C, each of which was given this.
+fn three(alloc: Global, given: [&[Given]; 3]) -> Result<Vec<SiteState>, Fail> {
+    let mut sites = Vec::new(alloc);
+    for me in 0..3usize {
+        sites.push(site(alloc, me as u64, given[me])?)?;
+    }
+    Ok(sites)
+}
+
+/// Whether the check of sites A, B and C, which were given this, names just this condition and site; 0 where they fit
+/// together.
+fn is_charged(alloc: Global, given: [&[Given]; 3], condition: u64, at: u64) -> Result<bool, Fail> {
+    let sites = three(alloc, given)?;
+    names(alloc, &sites, condition, at)
+}
+
+/// A made y of x and shipped it to B.
+const FIRST_RUN: [Given; 2] = [Made("x", "y"), Shipped("y", "b")];
+
+/// Then it began to recall x.
+const BEGUN: [Given; 3] = [Made("x", "y"), Shipped("y", "b"), Recalled("x")];
+
+/// Then B's signal came, and the recall ended.
+const ENDED: [Given; 4] = [
+    Made("x", "y"),
+    Shipped("y", "b"),
+    Recalled("x"),
+    Signalled(1),
+];
+
+#[test]
+fn sites_fit_before_and_after_a_recall(rt: HostRuntime) -> Result<(), Fail> {
+    let alloc = rt.alloc();
+    assert!(rt; is_charged(alloc, [&FIRST_RUN, &[], &[]], 0, 0)?);
+    assert!(rt; is_charged(alloc, [&BEGUN, &[], &[]], 0, 0)?);
+    assert!(rt; is_charged(alloc, [&ENDED, &[Told(0, "y")], &[]], 0, 0)?);
+    Ok(())
+}
+
+#[test]
+fn states_of_different_days_do_not_fit(rt: HostRuntime) -> Result<(), Fail> {
+    let alloc = rt.alloc();
+    // A knows that the recall has ended, and B was never told.
+    assert!(rt; is_charged(alloc, [&ENDED, &[], &[]], 2, 1)?);
+    // B was told of a recall that A never began.
+    assert!(rt; is_charged(alloc, [&[], &[Told(0, "y")], &[]], 3, 1)?);
+    Ok(())
+}
+
+/// Whether the sites are seen to be out of order, and two of three to be too few.
+fn sees_places(alloc: Global) -> Result<bool, Fail> {
+    let sites = three(alloc, [&[], &[], &[]])?;
+    if sites.len() != 3 {
+        return Ok(false);
+    }
+    let (a, b, c) = (&sites[0], &sites[1], &sites[2]);
+    Ok(!are_all_sites(&[b, a, c]) && !are_all_sites(&[a, b]))
+}
+
+#[test]
+fn sites_out_of_order_are_seen(rt: HostRuntime) -> Result<(), Fail> {
+    assert!(rt; sees_places(rt.alloc())?);
+    Ok(())
+}

@@ -1,0 +1,19 @@
+//! A site's frames, engagement, steps, rows and keepers, and sites that fit together, by examples.
+#![tactic(auto)]
+
+#[cfg(test)]
+mod changed_rows;
+#[cfg(test)]
+mod engagements;
+#[cfg(test)]
+mod fitting;
+#[cfg(test)]
+mod frames;
+#[cfg(test)]
+mod keepers;
+#[cfg(test)]
+mod read_records;
+#[cfg(test)]
+mod steps;
+#[cfg(test)]
+mod worlds;

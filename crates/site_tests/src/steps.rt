@@ -1,0 +1,237 @@
+//! That the calls succeed with memory at hand, on the worked recall of two sites; and records to which no run
+//! leads.
+//!
+//! An input is given in short, which holds no memory, so that little has to be dropped where a call fails.
+ghost use Rattle.std.specs.Prelude.{◌<◌};
+
+mod refusals;
+mod restored;
+
+use site_core::{Effects, Quarantine, Refusal, SiteInput, SiteState, Stepped, emittable, step};
+use epc_core::Epc;
+use event_json::{Sequence, SiteNo, Sites};
+use frame_core::{Frame, FrameView, MsgId, RecallId};
+use std::alloc::Global;
+use std::test::Fail;
+
+/// The times of an event.
+const TIMES: &str = "\"eventTime\":\"2024-05-01T08:00:00Z\",\"eventTimeZoneOffset\":\"+00:00\"";
+
+/// An eventID.
+const ID: &str = "\"eventID\":\"e\",";
+
+/// An input in short. Items and addresses are of one letter.
+#[derive(Clone, Copy)]
+enum Short {
+    /// The document of one transformation.
+    Made(char, char),
+    /// The document of one shipment to an address, and whether it has the eventID e.
+    Shipped(char, char, bool),
+    Start(char),
+    /// A message for a site, of the recall A#1, with the item y.
+    Told(MsgId, SiteNo),
+    Signal(MsgId, SiteNo),
+}
+
+/// The site of a number, 0 for A.
+fn site(number: u64) -> SiteNo
+    requires { number < 16 }
+{
+    SiteNo::of(number).unwrap()
+}
+
+/// The recall A#1.
+fn recall() -> RecallId {
+    RecallId {
+        site: site(0),
+        number: 1,
+    }
+}
+
+/// A message of A.
+fn message(number: u64) -> MsgId {
+    MsgId {
+        site: site(0),
+        number,
+    }
+}
+
+fn input(alloc: Global, short: Short) -> Result<SiteInput, Fail> {
+    match short {
+        Short::Made(from, to) => document(format!(in alloc;
+            "{{\"type\":\"TransformationEvent\",{TIMES},\"inputEPCList\":[\"{from}\"],\"outputEPCList\":[\"{to}\"]}}"
+        )?),
+        Short::Shipped(item, to, named) => document(format!(in alloc;
+            "{{\"type\":\"ObjectEvent\",{TIMES},{}\"action\":\"OBSERVE\",\"epcList\":[\"{item}\"],\"destinationList\":[{{\"destination\":\"{to}\"}}]}}",
+            if named { ID } else { "" }
+        )?),
+        Short::Start(item) => {
+            let text = format!(in alloc; "{item}")?;
+            Ok(SiteInput::Start(Epc::read(alloc, text.as_str())?))
+        }
+        Short::Told(id, dest) => Ok(SiteInput::Deliver(Frame::Recall {
+            id,
+            dest,
+            recall: recall(),
+            item: Epc::read(alloc, "y")?,
+        })),
+        Short::Signal(id, by) => Ok(SiteInput::Deliver(Frame::Signal { id, by })),
+    }
+}
+
+fn document(text: String) -> Result<SiteInput, Fail> {
+    Ok(SiteInput::Capture(Sequence::from_vec(text.into_bytes())))
+}
+
+/// Whether the site gives this answer.
+fn gives(
+    alloc: Global,
+    state: &mut SiteState,
+    short: Short,
+    wanted: &Result<Effects, Refusal>,
+) -> Result<bool, Fail> {
+    let input = input(alloc, short)?;
+    Ok(state.apply(&input) == *wanted)
+}
+
+/// The sites A, B and C, with the addresses a, b and c.
+fn three_sites(alloc: Global) -> Result<Sites, Fail> {
+    let mut sites = Sites::new(alloc);
+    sites.add("A", &["a"])?;
+    sites.add("B", &["b"])?;
+    sites.add("C", &["c"])?;
+    Ok(sites)
+}
+
+/// One of the sites, which has captured nothing.
+fn fresh(alloc: Global, me: SiteNo) -> Result<SiteState, Fail> {
+    let sites = three_sites(alloc)?;
+    if me.number() < sites.len() as u64 {
+        Ok(SiteState::new(alloc, sites, me))
+    } else {
+        Err("no such site".into())
+    }
+}
+
+/// What the capture of one fresh event answers.
+const FRESH: Result<Effects, Refusal> = Ok(Effects::Captured {
+    fresh: 1,
+    known: 0,
+    skipped: 0,
+});
+
+/// Site A makes y of x, ships y to B, and starts a recall of x.
+fn recalls(alloc: Global, a: &mut SiteState) -> Result<bool, Fail> {
+    let started = Ok(Effects::Started {
+        recall: recall(),
+        quarantined: 2,
+        numbered: 1,
+        ended: false,
+    });
+    Ok(
+        gives(alloc, a, Short::Made('x', 'y'), &FRESH)?
+            && gives(alloc, a, Short::Shipped('y', 'b', false), &FRESH)?
+            && gives(alloc, a, Short::Start('x'), &started)?,
+    )
+}
+
+/// Whether A may send A.1 for B with y, and nothing else.
+fn tells_b(a: &SiteState, y: &Epc) -> bool {
+    let told = FrameView::Recall {
+        id: message(1),
+        dest: site(1),
+        recall: recall(),
+        item: y,
+    };
+    emittable(a, 1) == Some(told) && emittable(a, 2) == None
+}
+
+#[test]
+fn a_start_tells_where_the_goods_went(rt: HostRuntime) -> Result<(), Fail> {
+    let mut a = fresh(rt.alloc(), site(0))?;
+    assert!(rt; recalls(rt.alloc(), &mut a)?);
+    let y = Epc::read(rt.alloc(), "y")?;
+    assert!(rt; tells_b(&a, &y));
+    Ok(())
+}
+
+/// Whether B may send its signal for A.1.
+fn owes_signal(b: &SiteState) -> bool {
+    let due = FrameView::Signal {
+        id: message(1),
+        by: site(1),
+    };
+    emittable(b, 1) == Some(due)
+}
+
+/// B takes the message once, and may send its signal then.
+fn takes_once(alloc: Global, b: &mut SiteState) -> Result<bool, Fail> {
+    let taken = Ok(Effects::Received {
+        quarantined: 1,
+        numbered: 0,
+        owed: false,
+    });
+    let told = Short::Told(message(1), site(1));
+    Ok(
+        gives(alloc, b, told, &taken)?
+            && gives(alloc, b, told, &Ok(Effects::Repeat))?
+            && owes_signal(b),
+    )
+}
+
+#[test]
+fn a_message_is_taken_once(rt: HostRuntime) -> Result<(), Fail> {
+    let mut b = fresh(rt.alloc(), site(1))?;
+    assert!(rt; takes_once(rt.alloc(), &mut b)?);
+    Ok(())
+}
+
+/// The last signal ends the recall in a record of its own, and is stale where it comes again.
+fn ends_apart(alloc: Global, a: &SiteState, last: &SiteInput) -> Result<bool, Fail> {
+    match step(alloc, a, last)? {
+        Stepped::Next(next, effects) => Ok(
+            effects == Effects::Ended(recall())
+                && next.outbox().is_empty()
+                && a.outbox().len() == 1,
+        ),
+        Stepped::Same(_) => Ok(false),
+    }
+}
+
+/// A signal for a message that was never sent is stale, for which no record is made.
+fn is_stale(alloc: Global, a: &SiteState, unsent: &SiteInput) -> Result<bool, Fail> {
+    Ok(matches!(step(alloc, a, unsent)?, Stepped::Same(Effects::Stale)))
+}
+
+/// A copy is held apart.
+fn is_copied(alloc: Global, a: &SiteState, last: &SiteInput) -> Result<bool, Fail> {
+    let mut copy = a.copy(alloc)?;
+    Ok(copy.apply(last).is_ok() && copy.outbox().is_empty() && a.outbox().len() == 1)
+}
+
+#[test]
+fn the_last_signal_ends_the_recall(rt: HostRuntime) -> Result<(), Fail> {
+    let last = input(rt.alloc(), Short::Signal(message(1), site(1)))?;
+    let unsent = input(rt.alloc(), Short::Signal(message(2), site(1)))?;
+    let mut a = fresh(rt.alloc(), site(0))?;
+    assert!(rt; recalls(rt.alloc(), &mut a)?);
+    assert!(rt; ends_apart(rt.alloc(), &a, &last)?);
+    assert!(rt; is_stale(rt.alloc(), &a, &unsent)?);
+    assert!(rt; is_copied(rt.alloc(), &a, &last)?);
+    Ok(())
+}
+
+/// Quarantines y and answers whether it is held then, and whether it was new.
+fn holds(quarantine: &mut Quarantine, y: &[Epc; 1]) -> Result<bool, Fail> {
+    quarantine.hold_all(recall(), y)?;
+    Ok(quarantine.holds(recall(), &y[0]))
+}
+
+#[test]
+fn items_are_held_by_recall(rt: HostRuntime) -> Result<(), Fail> {
+    let y = [Epc::read(rt.alloc(), "y")?];
+    let mut quarantine = Quarantine::new(rt.alloc());
+    let held = holds(&mut quarantine, &y);
+    assert!(rt; held?);
+    Ok(())
+}

@@ -1,0 +1,166 @@
+-- What is known of each site after its run.
+use Rattle.std.proofs.Common.{◌≡◌, ℕ, zero, suc, ◌+◌, Option, Some, None, IsSome, IfSome, true≢false, List, [], ◌∷◌, ◌++◌, map, drop, length, get_or, refl, sym, ap, ◌∙◌, subst, arith}
+use Rattle.std.specs.List.{AllZip, range_with_len}
+use Rattle.std.specs.Option.{option_or}
+use Rattle.site_core.specs.Records.{Record}
+use Rattle.world_core.specs.Keepers.{IsFirstClosed}
+use Rattle.wire_core.specs.Fitting.{SitesFit}
+use Rattle.wire_core.specs.Seats.{Line}
+use Rattle.crossbeam_channel.specs.Ends.{receives_on}
+use Rattle.site_threads.specs.declared.desks.DeskOut.{DeskOut}
+use Rattle.site_threads.specs.declared.gather.GatherCause.{GatherCause}
+use Rattle.site_threads.specs.declared.gather.GatherCause.TheVariants.{NotAWorld, NoMemory, SiteLost, GaveUp}
+use Rattle.site_threads.specs.declared.lists.SiteList.{SiteList}
+use Rattle.site_threads.specs.declared.jobs.Entry.{Entry}
+use Rattle.site_threads.specs.declared.jobs.Job.{Job}
+use Rattle.site_threads.specs.declared.runs.SiteRun.{SiteRun}
+use Rattle.site_threads.specs.declared.turns.TurnCause.{TurnCause}
+use Rattle.site_threads.specs.declared.turns.TurnCause.TheVariants as turns
+use Rattle.site_threads.specs.Beginning.{BeganIn, TookEnd}
+use Rattle.site_threads.specs.Ends.{takes, IsOut}
+use Rattle.site_threads.specs.Gathering.{Opens, KeepersFit, Began, HasEnd, IsKept, AreOpenBefore, FitAfter, Hinders}
+use Rattle.site_threads.specs.Jobs.{Kept, jobs_in, option_items}
+use Rattle.site_threads.specs.Keepers.{shown_in, may_in}
+use Rattle.site_threads.specs.Parting.{HasKeeper, LeavesList, cause_of, first_cause}
+use Rattle.site_threads.specs.Running.{Holding}
+use Rattle.site_threads.specs.Runs.{Ran}
+use Rattle.site_threads.specs.Turns.{IfLost}
+use Rattle.site_threads.proofs.Gathering.{exact_when_fit}
+use Rattle.site_threads.proofs.Zips.{zip_through}
+
+shown_record : (o : Option Record) → IsSome o → (r : Record) × (o ≡ Some r)
+shown_record (Some r) h = (r, refl)
+shown_record None h = absurd (true≢false (sym h))
+
+neither : (a b : Option GatherCause) → option_or a b ≡ None → (a ≡ None) × (b ≡ None)
+neither None b h = (refl, h)
+neither (Some x) b h = let n : Some x ≡ None = h in cc
+
+no_fault : (site : ℕ) (f : Option TurnCause) → cause_of site f ≡ None → f ≡ None
+no_fault site None h = refl
+no_fault site (Some turns.NoMemory) h = let n : Some NoMemory ≡ None = h in cc
+no_fault site (Some turns.GaveUp) h = let n : Some (GaveUp site) ≡ None = h in cc
+no_fault site (Some (turns.Lost f)) h = let n : Some (SiteLost site) ≡ None = h in cc
+
+module _ {K : Type 0} (shown : K → Option Record) where
+  -- the site that is named is at the place p, from the site a on, and the keepers before it are open
+  Names : List K → ℕ → ℕ → GatherCause → Type 0
+  Names ks a p (NotAWorld fault) = ⊥
+  Names ks a p NoMemory = Unit {0}
+  Names ks a p (SiteLost site) = (site ≡ a + p) × IsFirstClosed shown ks p
+  Names ks a p (GaveUp site) = (site ≡ a + p) × AreOpenBefore shown ks p
+
+  open_more : (k : K) (ks : List K) (p : ℕ) → ((r : Record) × (shown k ≡ Some r)) → AreOpenBefore shown ks p → AreOpenBefore shown (k ∷ ks) (suc p)
+  open_more k ks p here more zero x h at = let e : Some k ≡ Some x = at in let same : k ≡ x = cc in subst (λ (y : K). (r : Record) × (shown y ≡ Some r)) same here
+  open_more k ks p here more (suc s) x h at = more s x (omega arith) at
+
+  named_more : (k : K) (ks : List K) (a p : ℕ) (cause : GatherCause) → ((r : Record) × (shown k ≡ Some r)) → Names ks (a + 1) p cause → Names (k ∷ ks) a (suc p) cause
+  unfolding Names
+  named_more k ks a p (NotAWorld fault) here n = absurd n
+  named_more k ks a p NoMemory here n = tt
+  named_more k ks a p (SiteLost site) here n = (n.0 ∙ (let z : a + 1 + p ≡ a + suc p = omega arith in z), (n.1.0, open_more k ks p here n.1.1))
+  named_more k ks a p (GaveUp site) here n = (n.0 ∙ (let z : a + 1 + p ≡ a + suc p = omega arith in z), open_more k ks p here n.1)
+
+  none_before : (ks : List K) → AreOpenBefore shown ks 0
+  none_before ks s k h at = absurd (omega arith)
+
+  named_hinders : (ks : List K) (p : ℕ) (cause : GatherCause) → Names ks 0 p cause → Hinders shown ks cause
+  unfolding Names
+  named_hinders ks p (NotAWorld fault) n = absurd n
+  named_hinders ks p NoMemory n = tt
+  named_hinders ks p (SiteLost site) n = subst (IsFirstClosed shown ks) (let e : p ≡ 0 + p = omega arith in e ∙ sym n.0) n.1
+  named_hinders ks p (GaveUp site) n = subst (AreOpenBefore shown ks) (let e : p ≡ 0 + p = omega arith in e ∙ sym n.0) n.1
+
+  named_fits : (may : K → Record → Type 0) (olds ks : List K) (p : ℕ) (cause : GatherCause) → Names ks 0 p cause → KeepersFit shown may ks → FitAfter shown may olds cause ks
+  unfolding Names
+  named_fits may olds ks p (NotAWorld fault) n fit = absurd n
+  named_fits may olds ks p NoMemory n fit = fit
+  named_fits may olds ks p (SiteLost site) n fit = fit
+  named_fits may olds ks p (GaveUp site) n fit = fit
+
+module _ {K G : Type 0} (shown : K → Option Record) (may : K → Record → Type 0) (wire : Line) where
+  -- Where no site ended its run.
+
+  opened : (old run : SiteRun K G) (k : K) → Ran shown may wire old run → HasKeeper run k → run.fault ≡ None → (r : Record) × (shown k ≡ Some r)
+  opened old run k ran is fine = shown_record (shown k) (subst (λ (o : Option K). IsSome (shown_in shown o)) is (ran.is_open fine))
+
+  kept_one : (old run : SiteRun K G) (k : K) (l : SiteList) → Ran shown may wire old run → HasKeeper run k → LeavesList run l → run.fault ≡ None → IsKept shown k l
+  kept_one old run k l ran is left fine =
+      let o = opened old run k ran is fine in
+      let h = subst (λ (x : Option Record). Holding x (may_in may run.turn.site.keeper) run.turn.site.start.value run.turn.site.entries.items ran.run.site.runs.log) (ap (shown_in shown) is ∙ o.1) ran.run.site.runs.holding in
+      record {
+        last = o.0;
+        stands = o.1;
+        steps = subst (λ (y : Record × List Entry). Kept y.0 y.1 o.0) (λ i. (sym left.start i, ap (λ v. v.items) (sym left.entries) i)) h.steps;
+        jobs = record {
+          out = subst IsOut (sym left.out) ran.run.out;
+          jobs = subst (λ (y : List Entry × (Option Job × List Job)). jobs_in y.0 ++ option_items y.1.0 ≡ y.1.1) (λ i. (ap (λ v. v.items) (sym left.entries) i, (sym left.pending i, ap takes (sym left.out) i))) ran.run.jobs;
+        };
+      }
+
+  pub kept_all : (olds runs : List (SiteRun K G)) (ks : List K) (ls : List SiteList) → AllZip (Ran shown may wire) olds runs → AllZip HasKeeper runs ks → AllZip LeavesList runs ls → first_cause runs ≡ None → AllZip (IsKept shown) ks ls
+  kept_all [] [] [] [] a b c none = tt
+  kept_all (o ∷ os) (r ∷ rs) (k ∷ ks) (l ∷ ls) a b c none =
+      let n = neither (cause_of r.turn.site.me r.fault) (first_cause rs) none in
+      (kept_one o r k l a.0 b.0 c.0 (no_fault r.turn.site.me r.fault n.0), kept_all os rs ks ls a.1 b.1 c.1 n.1)
+  kept_all [] (r ∷ rs) ks ls a b c none = absurd a
+  kept_all (o ∷ os) [] ks ls a b c none = absurd a
+  kept_all [] [] (k ∷ ks) ls a b c none = absurd b
+  kept_all [] [] [] (l ∷ ls) a b c none = absurd c
+  kept_all (o ∷ os) (r ∷ rs) [] ls a b c none = absurd b
+  kept_all (o ∷ os) (r ∷ rs) (k ∷ ks) [] a b c none = absurd c
+
+  -- Where one did.
+
+  first_hinders : (a : ℕ) (olds runs : List (SiteRun K G)) (ks : List K) (cause : GatherCause) → AllZip (Ran shown may wire) olds runs → AllZip HasKeeper runs ks → map (λ (r : SiteRun K G). r.turn.site.me) runs ≡ range_with_len a (length runs) → first_cause runs ≡ Some cause
+      → (p : ℕ) × Names shown ks a p cause
+  unfolding Names
+  first_hinders a [] [] [] cause x y order is = let n : None ≡ Some cause = is in cc
+  first_hinders a (o ∷ os) (r ∷ rs) (k ∷ ks) cause x y order is =
+      let me : r.turn.site.me ≡ a = ap (λ (l : List ℕ). get_or l 0 0) order in
+      elim r.fault as (λ f. r.fault ≡ f → option_or (cause_of r.turn.site.me f) (first_cause rs) ≡ Some cause → (p : ℕ) × Names shown (k ∷ ks) a p cause) [
+        | None ↦ λ f h. let more = first_hinders (a + 1) os rs ks cause x.1 y.1 (ap (drop 1) order) h in (suc more.0, named_more shown k ks a more.0 cause (opened o r k x.0 y.0 f) more.1)
+        | Some turns.NoMemory ↦ λ f h. (0, subst (Names shown (k ∷ ks) a 0) (let e : Some NoMemory ≡ Some cause = h in let q : NoMemory ≡ cause = cc in q) tt)
+        | Some turns.GaveUp ↦ λ f h. (0, subst (Names shown (k ∷ ks) a 0) (let e : Some (GaveUp r.turn.site.me) ≡ Some cause = h in let q : GaveUp r.turn.site.me ≡ cause = cc in q) (me ∙ (let z : a ≡ a + 0 = omega arith in z), none_before shown (k ∷ ks)))
+        | Some (turns.Lost why) ↦ λ f h.
+            let lost : IfSome (Some (turns.Lost why)) (λ c. IfLost c (shown_in shown r.turn.site.keeper)) = subst (λ z. IfSome z (λ c. IfLost c (shown_in shown r.turn.site.keeper))) f x.0.lost in (
+              0,
+              subst (Names shown (k ∷ ks) a 0) (let e : Some (SiteLost r.turn.site.me) ≡ Some cause = h in let q : SiteLost r.turn.site.me ≡ cause = cc in q)
+                  (me ∙ (let z : a ≡ a + 0 = omega arith in z), ((k, refl, ap (shown_in shown) (sym y.0) ∙ lost.closed), none_before shown (k ∷ ks))),
+            )
+      ]
+      refl is
+  first_hinders a [] (r ∷ rs) ks cause x y order is = absurd x
+  first_hinders a (o ∷ os) [] ks cause x y order is = absurd x
+  first_hinders a [] [] (k ∷ ks) cause x y order is = absurd y
+  first_hinders a (o ∷ os) (r ∷ rs) [] cause x y order is = absurd y
+
+  pub hinders_all : (firsts : List K) (olds runs : List (SiteRun K G)) (ks : List K) (cause : Option GatherCause) → AllZip (Ran shown may wire) olds runs → AllZip HasKeeper runs ks → map (λ (r : SiteRun K G). r.turn.site.me) runs ≡ range_with_len 0 (length runs)
+      → cause ≡ first_cause runs → KeepersFit shown may ks → IfSome cause (λ c. Hinders shown ks c × FitAfter shown may firsts c ks)
+  hinders_all firsts olds runs ks None x y order is fit = tt
+  hinders_all firsts olds runs ks (Some cause) x y order is fit = let n = first_hinders 0 olds runs ks cause x y order (sym is) in (named_hinders shown ks n.0 cause n.1, named_fits shown may firsts ks n.0 cause n.1 fit)
+
+module _ {K G : Type 0} (shown : K → Option Record) (may : K → Record → Type 0) (wire : Line) (olds runs : List (SiteRun K G)) (ls : List SiteList) (ran : AllZip (Ran shown may wire) olds runs) (left : AllZip LeavesList runs ls) where
+  -- each list is of the site that began so, and has its end of the desk
+
+  pub began_all : (ks : List K) → AllZip (BeganIn shown) ks olds → AllZip (Began shown) ks ls
+  began_all ks start =
+      zip_through (BeganIn {G = G} shown) LeavesList (Began shown) ks runs ls (λ k r l b z. b ∙ ap Some (sym z.start))
+      (zip_through (BeganIn {G = G} shown) (Ran shown may wire) (BeganIn shown) ks olds runs (λ k o r b z. b ∙ ap Some (sym z.same.start)) start ran) left
+
+  pub ends_all : (ds : List DeskOut) → AllZip (TookEnd {K = K} {G = G}) ds olds → AllZip HasEnd ds ls
+  ends_all ds took =
+      zip_through (TookEnd {K = K} {G = G}) LeavesList HasEnd ds runs ls (λ d r l t z. ap (λ (o : DeskOut). receives_on o.from) z.out ∙ t)
+      (zip_through (TookEnd {K = K} {G = G}) (Ran shown may wire) TookEnd ds olds runs (λ d o r t z. z.same.desk ∙ t) took ran) left
+
+-- before the first turn, where all are open
+only_shown : {K : Type 0} (shown : K → Option Record) (may : K → Record → Type 0) (ks : List K) (rs qs : List Record) → AllZip (λ k r. shown k ≡ Some r) ks rs → AllZip (λ k r. Opens (shown k) (may k) r) ks qs → qs ≡ rs
+only_shown shown may [] [] [] a b = refl
+only_shown shown may (k ∷ ks) (r ∷ rs) (q ∷ qs) a b = λ i. (subst (λ o. Opens o (may k) q) a.0 b.0) i ∷ only_shown shown may ks rs qs a.1 b.1 i
+only_shown shown may [] (r ∷ rs) qs a b = absurd a
+only_shown shown may (k ∷ ks) [] qs a b = absurd a
+only_shown shown may [] [] (q ∷ qs) a b = absurd b
+only_shown shown may (k ∷ ks) (r ∷ rs) [] a b = absurd b
+
+pub fit_before : {K : Type 0} (shown : K → Option Record) (may : K → Record → Type 0) (ks : List K) (rs : List Record) → AllZip (λ k r. shown k ≡ Some r) ks rs → SitesFit rs [] → KeepersFit shown may ks
+fit_before shown may ks rs a fit qs b = let f = subst (λ l. SitesFit l []) (sym (only_shown shown may ks rs qs a b)) fit in record { fit = f; exact = exact_when_fit qs f }

@@ -1,0 +1,172 @@
+-- The records that the sites may stand in fit together.
+use Rattle.std.proofs.Common.{◌≡◌, ◌⊎◌, ⊎_elim, inl, inr, ℕ, zero, suc, ◌+◌, ◌<◌, ◌≤◌, Option, Some, None, List, [], ◌∷◌, ◌++◌, map, flat_map, drop, length, get_or, set, All, Contains, refl, sym, ap, ◌∙◌, subst, append_assoc, zero-add, arith}
+use Rattle.std.proofs.lemmas.List.Elements.{All-head, All-tail}
+use Rattle.std.specs.List.{AllZip, range_with_len}
+use mathlib.Core.Option.{some}
+use lib.ListN.{get_elem?}
+use Rattle.trace_core.proofs.Members.{contains_cases, contains_none}
+use Rattle.frame_core.specs.declared.frames.Frame.{Frame}
+use Rattle.keeper_core.specs.Keeping.{IsAfter}
+use Rattle.site_core.specs.Records.{Record}
+use Rattle.site_core.specs.declared.inputs.SiteInput.{SiteInput}
+use Rattle.site_recovery.specs.Fit.{Fits}
+use Rattle.site_recovery.specs.Laws.{AreInPlace}
+use Rattle.site_recovery.specs.Looks.{world_of}
+use Rattle.world_core.specs.Recalls.{AreExactOnceEnded, quarantined}
+use Rattle.world_core.specs.Worlds as world
+use Rattle.world_core.specs.Worlds.{Up, WorldState, WorldFits}
+use Rattle.world_core.proofs.EndedRecalls.{ended_is_exact}
+use Rattle.wire_core.specs.declared.views.Log.{Log}
+use Rattle.wire_core.specs.Answers.{Holds}
+use Rattle.wire_core.specs.Fitting.{SitesFit}
+use Rattle.wire_core.specs.Frames.{DeliversOneOf}
+use Rattle.wire_core.specs.Rule.{records, frames}
+use Rattle.wire_core.specs.Seats.{Line, HoldsAll, AreAllOf, Gathered}
+use Rattle.wire_core.proofs.Fitting.{one_step, fewer_fit}
+use Rattle.site_threads.specs.declared.jobs.Entry.{Entry}
+use Rattle.site_threads.specs.declared.runs.SiteRun.{SiteRun}
+use Rattle.site_threads.specs.Gathering.{Opens, EndsAreExact, KeepersFit}
+use Rattle.site_threads.specs.Keepers.{shown_in, may_in}
+use Rattle.site_threads.specs.Parting.{HasKeeper}
+use Rattle.site_threads.specs.Runs.{IsRun}
+use Rattle.site_threads.specs.Running.{Holding}
+use Rattle.site_threads.proofs.Zips.{zip_through}
+
+-- the record last marked, or the one after a step that may be marked
+MayBe : Log → Record → Type 0
+MayBe log r = (r ≡ log.last) ⊎ ((input : SiteInput) × IsAfter log.last input r × DeliversOneOf log.noted input)
+
+may_be : (shown : Option Record) (may : Record → Type 0) (start : Record) (entries : List Entry) (log : Log) (r : Record) → Holding shown may start entries log → Opens shown may r → MayBe log r
+unfolding MayBe
+may_be (Some x) may start entries log r h o = inl (o ∙ h.marked)
+may_be None may start entries log r h o = ⊎_elim (λ (e : r ≡ log.last). inl e) (λ (a : IsAfter log.last h.last.input r). inr (h.last.input, a, h.noted)) (h.old_or_new r o)
+
+-- the place after the records that were changed
+there : (done rest : List Record) (x : Record) → get_elem? (done ++ x ∷ rest) (length done) ≡ some x
+there [] rest x = refl
+there (y ∷ ys) rest x = there ys rest x
+
+put : (done rest : List Record) (x r : Record) → set (done ++ x ∷ rest) (length done) r ≡ done ++ r ∷ rest
+put [] rest x r = refl
+put (y ∷ ys) rest x r = ap (λ l. y ∷ l) (put ys rest x r)
+
+one_more : (done rest : List Record) (sent : List Frame) (log : Log) (r : Record) → SitesFit (done ++ log.last ∷ rest) sent → ((f : Frame) → Contains log.noted f → Contains sent f) → MayBe log r → SitesFit (done ++ r ∷ rest) sent
+unfolding MayBe
+one_more done rest sent log r fit noted b = ⊎_elim (λ (e : r ≡ log.last). subst (λ x. SitesFit (done ++ x ∷ rest) sent) (sym e) fit)
+    (λ (s : (input : SiteInput) × IsAfter log.last input r × DeliversOneOf log.noted input). subst (λ l. SitesFit l sent) (put done rest log.last r)
+    (one_step (done ++ log.last ∷ rest) sent (length done) log.last s.0 r fit (there done rest log.last) s.1 (λ f is. noted f (s.2 f is)))) b
+
+-- The logs of a seat that holds all sites, in order.
+
+high : (a n : ℕ) (ls : List Log) (e : Log) → map (λ (x : Log). x.site) ls ≡ range_with_len a n → Contains ls e → a ≤ e.site
+high a n [] e is c = absurd (contains_none e c)
+high a zero (x ∷ xs) e is c = let l = ap length is in absurd (omega arith)
+high a (suc n) (x ∷ xs) e is c =
+    ⊎_elim
+    (λ (same : x ≡ e). let s : x.site ≡ a = ap (λ (l : List ℕ). get_or l 0 0) is in let t = ap (λ (z : Log). z.site) same in omega (arith, s, t))
+    (λ (d : Contains xs e). let h = high (a + 1) n xs e (ap (drop 1) is) d in omega (arith, h)) (contains_cases x e xs c)
+
+same_from : (a n : ℕ) (all held : List Log) → map (λ (x : Log). x.site) all ≡ range_with_len a n → map (λ (x : Log). x.site) held ≡ range_with_len a n → ((e : Log) → Contains all e → Contains held e) → all ≡ held
+same_from a n [] [] is at known = refl
+same_from a zero [] (y ∷ ys) is at known = let l = ap length at in absurd (omega arith)
+same_from a (suc n) [] (y ∷ ys) is at known = let l = ap length is in absurd (omega arith)
+same_from a zero (x ∷ xs) held is at known = let l = ap length is in absurd (omega arith)
+same_from a (suc n) (x ∷ xs) [] is at known = let l = ap length at in absurd (omega arith)
+same_from a (suc n) (x ∷ xs) (y ∷ ys) is at known =
+    let sx : x.site ≡ a = ap (λ (l : List ℕ). get_or l 0 0) is in
+    let sy : y.site ≡ a = ap (λ (l : List ℕ). get_or l 0 0) at in
+    let first : y ≡ x = ⊎_elim (λ (same : y ≡ x). same) (λ (d : Contains ys x). let h = high (a + 1) n ys x (ap (drop 1) at) d in absurd (omega (arith, h, sx))) (contains_cases y x ys (known x (0, omega arith, refl))) in
+    let rest : xs ≡ ys = same_from (a + 1) n xs ys (ap (drop 1) is) (ap (drop 1) at)
+    (λ e c.
+    let h = high (a + 1) n xs e (ap (drop 1) is) c in
+    ⊎_elim (λ (same : y ≡ e). let t = ap (λ (z : Log). z.site) same in absurd (omega (arith, h, sy, t))) (λ (d : Contains ys e). d) (contains_cases y e ys (known e (let i = c.1 in (suc c.0, omega arith, c.2))))) in
+    λ i. sym first i ∷ rest i
+
+all_held : (count : ℕ) (held all : List Log) → map (λ (x : Log). x.site) held ≡ range_with_len 0 count → AreAllOf count held all → all ≡ held
+all_held count held all at are = same_from 0 count all held are.sites at are.known
+
+holds_from : (k a n : ℕ) (ls : List Log) → map (λ (x : Log). x.site) ls ≡ range_with_len a n → k < n → Holds (a + k) ls
+holds_from k a zero ls is h = absurd (omega arith)
+holds_from k a (suc n) [] is h = let l = ap length is in absurd (omega arith)
+holds_from zero a (suc n) (x ∷ xs) is h = (x, (0, omega arith, refl), ap (λ (l : List ℕ). get_or l 0 0) is ∙ (let z : a ≡ a + 0 = omega arith in z))
+holds_from (suc k) a (suc n) (x ∷ xs) is h =
+    let more = holds_from k (a + 1) n xs (ap (drop 1) is) (omega arith) in
+    let c = more.1 in
+    let i = c.1 in
+    (more.0, (suc c.0, omega arith, c.2), more.2 ∙ (let z : a + 1 + k ≡ a + suc k = omega arith in z))
+
+holds_all : (count : ℕ) (ls : List Log) → map (λ (x : Log). x.site) ls ≡ range_with_len 0 count → HoldsAll count ls
+holds_all count ls is site h = subst (λ k. Holds k ls) (zero-add site) (holds_from site 0 count ls is h)
+
+-- what is quarantined under ended recalls, where the sites fit together
+same_records : (rs : List Record) → world.records (record { sites = map (λ r. Up r) rs; sent = [] }) ≡ rs
+same_records [] = refl
+same_records (r ∷ rs) = ap (λ l. r ∷ l) (same_records rs)
+
+pub exact_when_fit : (rs : List Record) → SitesFit rs [] → EndsAreExact rs
+exact_when_fit rs fit recall =
+    let w : WorldState = record { sites = map (λ r. Up r) rs; sent = [] } in
+    let same : world.records w ≡ rs = same_records rs in
+    let fits : WorldFits w = record { places = subst AreInPlace (sym same) fit.places; fits = subst (λ l. Fits (world_of l) []) (sym same) fit.fits } in
+    subst (λ l. AreExactOnceEnded recall l (quarantined recall l)) same (ended_is_exact w recall fits)
+
+-- what is known of a site at the end, beside its log
+record IsEnd {K G : Type 0} (shown : K → Option Record) (may : K → Record → Type 0) (run : SiteRun K G) (log : Log) : Type 0 where
+  mine : log.site ≡ run.turn.site.me
+  holding : Holding (shown_in shown run.turn.site.keeper) (may_in may run.turn.site.keeper) run.turn.site.start.value run.turn.site.entries.items log
+
+Stands : {K G : Type 0} → (K → Option Record) → (K → Record → Type 0) → SiteRun K G → Record → Type 0
+Stands shown may run r = Opens (shown_in shown run.turn.site.keeper) (may_in may run.turn.site.keeper) r
+
+module _ {K G : Type 0} (shown : K → Option Record) (may : K → Record → Type 0) where
+  any_fit : (sent : List Frame) (done : List Record) (runs : List (SiteRun K G)) (ls : List Log) (rs : List Record) → SitesFit (done ++ records ls) sent → ((e : Log) (f : Frame) → Contains ls e → Contains e.noted f → Contains sent f)
+      → AllZip (IsEnd shown may) runs ls → AllZip (Stands shown may) runs rs → SitesFit (done ++ rs) sent
+  unfolding Stands
+  any_fit sent done [] [] [] fit noted z s = fit
+  any_fit sent done (e ∷ es) (log ∷ ls) (r ∷ rs) fit noted z s =
+      let mine = may_be (shown_in shown e.turn.site.keeper) (may_in may e.turn.site.keeper) e.turn.site.start.value e.turn.site.entries.items log r z.0.holding s.0 in
+      let next = one_more done (records ls) sent log r fit (λ f c. noted log f (0, omega arith, refl) c) mine in
+      let more = any_fit sent (done ++ r ∷ []) es ls rs (subst (λ l. SitesFit l sent) (sym (append_assoc done (r ∷ []) (records ls))) next) (λ x f c d. noted x f (let h = c.1 in (suc c.0, omega arith, c.2)) d) z.1 s.1 in
+      subst (λ l. SitesFit l sent) (append_assoc done (r ∷ []) rs) more
+  any_fit sent done [] (l ∷ ls) rs fit noted z s = absurd z
+  any_fit sent done [] [] (r ∷ rs) fit noted z s = absurd s
+  any_fit sent done (e ∷ es) [] rs fit noted z s = absurd z
+  any_fit sent done (e ∷ es) (l ∷ ls) [] fit noted z s = absurd s
+
+  all_fit : (runs : List (SiteRun K G)) (ls : List Log) (rs : List Record) → Gathered ls → AllZip (IsEnd shown may) runs ls → AllZip (Stands shown may) runs rs → SitesFit rs []
+  all_fit runs ls rs all z s = fewer_fit rs (frames ls) [] (any_fit (frames ls) [] runs ls rs all.fit (λ e f c d. (all.noted e f c d).1) z s) (λ f c. let h = c.1 in absurd (omega arith))
+
+  -- each site has one log
+  ends_of : (wire : Line) (runs : List (SiteRun K G)) → All (IsRun shown may wire) runs → (ls : List Log) × (flat_map (λ (r : SiteRun K G). r.turn.site.seat.logs) runs ≡ ls) × AllZip (IsEnd shown may) runs ls
+  ends_of wire [] all = ([], refl, tt)
+  ends_of wire (r ∷ rs) all =
+      let one = (All-head (IsRun shown may wire) r rs all).site.runs in
+      let more = ends_of wire rs (All-tail (IsRun shown may wire) r rs all) in
+      (one.log ∷ more.0, (λ i. one.alone i ++ more.1 i), (record { mine = one.own.site; holding = one.holding }, more.2))
+
+  -- the joined seat holds the sites of the run, in order
+  in_order : (runs : List (SiteRun K G)) (ls : List Log) → AllZip (IsEnd shown may) runs ls → map (λ (e : Log). e.site) ls ≡ map (λ (r : SiteRun K G). r.turn.site.me) runs
+  in_order [] [] z = refl
+  in_order (r ∷ rs) (l ∷ ls) z = λ i. z.0.mine i ∷ in_order rs ls z.1 i
+  in_order [] (l ∷ ls) z = absurd z
+  in_order (r ∷ rs) [] z = absurd z
+
+  -- as the keepers stand, so do their runs
+  runs_stand : (runs : List (SiteRun K G)) (keepers : List K) (rs : List Record) → AllZip HasKeeper runs keepers → AllZip (λ k r. Opens (shown k) (may k) r) keepers rs → AllZip (Stands shown may) runs rs
+  unfolding Stands
+  runs_stand runs keepers rs = zip_through HasKeeper (λ k r. Opens (shown k) (may k) r) (Stands shown may) runs keepers rs (λ run k r is o. subst (λ (x : Option K). Opens (shown_in shown x) (may_in may x) r) (sym is) o)
+
+  module _ (wire : Line) (runs : List (SiteRun K G)) (logs : List Log) (all : All (IsRun shown may wire) runs) (joined : logs ≡ flat_map (λ (r : SiteRun K G). r.turn.site.seat.logs) runs)
+      (order : map (λ (r : SiteRun K G). r.turn.site.me) runs ≡ range_with_len 0 wire.sites) where
+    sites_are : map (λ (e : Log). e.site) logs ≡ range_with_len 0 wire.sites
+    sites_are = let e = ends_of wire runs all in ap (map (λ (x : Log). x.site)) (joined ∙ e.1) ∙ in_order runs e.0 e.2 ∙ order
+
+    pub all_there : HoldsAll wire.sites logs
+    all_there = holds_all wire.sites logs sites_are
+
+    pub keepers_fit : (everyone : List Log) → AreAllOf wire.sites logs everyone → Gathered everyone → (keepers : List K) → AllZip HasKeeper runs keepers → KeepersFit shown may keepers
+    keepers_fit everyone are gathered keepers have rs stand =
+        let e = ends_of wire runs all in
+        let same = all_held wire.sites logs everyone sites_are are ∙ joined ∙ e.1 in
+        let fit = all_fit runs e.0 rs (subst Gathered same gathered) e.2 (runs_stand runs keepers rs have stand) in
+        record { fit = fit; exact = exact_when_fit rs fit }

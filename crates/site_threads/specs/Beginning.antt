@@ -1,0 +1,14 @@
+-- What clauses say of the run of a site as it begins.
+use Rattle.std.specs.Prelude.{◌≡◌, Option, Some}
+use Rattle.crossbeam_channel.specs.Ends.{receives_on}
+use Rattle.site_core.specs.Records.{Record}
+use Rattle.site_threads.specs.declared.desks.DeskOut.{DeskOut}
+use Rattle.site_threads.specs.declared.runs.SiteRun.{SiteRun}
+
+-- it begins in the record that the keeper shows
+abbrev pub BeganIn : {K G : Type 0} → (K → Option Record) → K → SiteRun K G → Type 0
+BeganIn shown k run = shown k ≡ Some run.turn.site.start.value
+
+-- it has the desk's end
+abbrev pub TookEnd : {K G : Type 0} → DeskOut → SiteRun K G → Type 0
+TookEnd d run = receives_on run.out.from ≡ receives_on d.from

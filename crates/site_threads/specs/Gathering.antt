@@ -1,0 +1,83 @@
+-- What is said of the sites once their run has ended.
+use Rattle.std.specs.Prelude.{◌≡◌, ⊤, ◌<◌, ℕ, ◌++◌, List, [], Option, Some, None, Result, Ok, Err, slice_get}
+use Rattle.std.specs.List.{AllZip}
+use Rattle.crossbeam_channel.specs.Ends.{receives_on}
+use Rattle.frame_core.specs.Numbers.{Recall}
+use Rattle.site_core.specs.Records.{Record}
+use Rattle.world_core.specs.Faults.{HindersKeepers}
+use Rattle.world_core.specs.Keepers.{IsFirstClosed}
+use Rattle.world_core.specs.Recalls.{AreExactOnceEnded, quarantined}
+use Rattle.wire_core.specs.Fitting.{SitesFit}
+use Rattle.site_threads.specs.declared.desks.DeskOut.{DeskOut}
+use Rattle.site_threads.specs.declared.gathered.Gathered.{Gathered}
+use Rattle.site_threads.specs.declared.gather.GatherCause.{GatherCause}
+use Rattle.site_threads.specs.declared.gather.GatherCause.TheVariants.{NotAWorld, NoMemory, SiteLost, GaveUp}
+use Rattle.site_threads.specs.declared.gathered.GatherFault.{GatherFault}
+use Rattle.site_threads.specs.declared.lists.SiteList.{SiteList}
+use Rattle.site_threads.specs.declared.jobs.Receipt.{Receipt}
+use Rattle.site_threads.specs.Ends.{takes, IsOut}
+use Rattle.site_threads.specs.Jobs.{IsEntered, jobs_in, option_items, Kept}
+
+-- the site is open in this record, or closed and may be opened in it
+abbrev pub Opens : Option Record → (Record → Type 0) → Record → Type 0
+Opens (Some x) may r = r ≡ x
+Opens None may r = may r
+
+-- what is quarantined under each recall that has ended is what its root reaches, neither more nor less
+abbrev pub EndsAreExact : List Record → Type 0
+EndsAreExact records = (recall : Recall) → AreExactOnceEnded recall records (quarantined recall records)
+
+-- the sites stand together
+pub record StandTogether (records : List Record) : Type 0 where
+  pub fit : SitesFit records []
+  pub exact : EndsAreExact records
+
+module _ {K : Type 0} (shown : K → Option Record) (may : K → Record → Type 0) where
+  -- in whichever records the keepers are open, or may be opened, the sites stand together
+  abbrev pub KeepersFit : List K → Type 0
+  KeepersFit keepers = (records : List Record) → AllZip (λ k r. Opens (shown k) (may k) r) keepers records → StandTogether records
+
+-- the jobs of the list, and then the one that was taken and not done, are those that were taken from the desk, in order
+pub record HasJobsOfEnd (l : SiteList) : Type 0 where
+  pub out : IsOut l.out
+  pub jobs : jobs_in l.entries.items ++ option_items l.pending ≡ takes l.out
+
+-- the keeper is open in the record to which the list leads, step by step
+pub record IsKept {K : Type 0} (shown : K → Option Record) (k : K) (l : SiteList) : Type 0 where
+  pub last : Record
+  pub stands : shown k ≡ Some last
+  pub steps : Kept l.start.value l.entries.items last
+  pub jobs : HasJobsOfEnd l
+
+-- the list is of a site that began in the record that the keeper showed
+abbrev pub Began : {K : Type 0} → (K → Option Record) → K → SiteList → Type 0
+Began shown k l = shown k ≡ Some l.start.value
+
+-- the list has the desk's end
+abbrev pub HasEnd : DeskOut → SiteList → Type 0
+HasEnd d l = receives_on l.out.from ≡ receives_on d.from
+
+-- The keepers that are handed back, and why the run has no answer.
+
+abbrev pub keepers_of : {K : Type 0} → Result (Gathered K) (GatherFault K) → List K
+keepers_of (Ok g) = g.keepers.items
+keepers_of (Err e) = e.keepers.items
+
+-- the keepers before this place are open
+abbrev pub AreOpenBefore : {K : Type 0} → (K → Option Record) → List K → ℕ → Type 0
+AreOpenBefore {K} shown keepers place = (s : ℕ) (k : K) → s < place → slice_get keepers s ≡ Some k → (r : Record) × (shown k ≡ Some r)
+
+abbrev pub Hinders : {K : Type 0} → (K → Option Record) → List K → GatherCause → Type 0
+Hinders shown keepers (NotAWorld fault) = HindersKeepers shown keepers fault
+Hinders shown keepers NoMemory = ⊤
+Hinders shown keepers (SiteLost site) = IsFirstClosed shown keepers site
+Hinders shown keepers (GaveUp site) = AreOpenBefore shown keepers site
+
+-- the keepers are as they were, where they make no world, and else fit
+abbrev pub FitAfter : {K : Type 0} → (K → Option Record) → (K → Record → Type 0) → List K → GatherCause → List K → Type 0
+FitAfter shown may old (NotAWorld fault) new = new ≡ old
+FitAfter shown may old cause new = KeepersFit shown may new
+
+-- the receipt's step stands in its site's list
+abbrev pub IsConfirmed : List SiteList → Receipt → Type 0
+IsConfirmed lists x = (l : SiteList) × (slice_get lists x.site ≡ Some l) × IsEntered l.entries.items x

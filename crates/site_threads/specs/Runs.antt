@@ -1,0 +1,40 @@
+-- What clauses say of the sites of a run.
+use Rattle.std.specs.Prelude.{◌≡◌, ◌++◌, Option, None, IsSome, IfSome}
+use Rattle.crossbeam_channel.specs.Ends.{receives_on}
+use Rattle.site_core.specs.Records.{Record}
+use Rattle.wire_core.specs.Seats.{Line, IsSeatOf}
+use Rattle.site_threads.specs.declared.runs.SiteRun.{SiteRun}
+use Rattle.site_threads.specs.Ends.{takes, IsOut}
+use Rattle.site_threads.specs.Jobs.{jobs_in, option_items}
+use Rattle.site_threads.specs.Keepers.{shown_in}
+use Rattle.site_threads.specs.Running.{marks_in}
+use Rattle.site_threads.specs.Sites.{IsSite}
+use Rattle.site_threads.specs.Turns.{IfLost}
+
+module _ {K G : Type 0} (shown : K → Option Record) (may : K → Record → Type 0) where
+  -- the jobs of its list, and the one in hand, are those that it took from its desk, in order
+  pub record IsRun (wire : Line) (r : SiteRun K G) : Type 0 where
+    pub seat : IsSeatOf wire r.turn.site.seat
+    pub site : IsSite shown may r.turn.site
+    pub out : IsOut r.out
+    pub jobs : jobs_in r.turn.site.entries.items ++ option_items r.pending ≡ takes r.out
+
+-- the same site of the same run, with the same desk
+pub record SameRun {K G : Type 0} (old new : SiteRun K G) : Type 0 where
+  pub me : new.turn.site.me ≡ old.turn.site.me
+  pub start : new.turn.site.start.value ≡ old.turn.site.start.value
+  pub desk : receives_on new.out.from ≡ receives_on old.out.from
+
+module _ {K G : Type 0} (shown : K → Option Record) (may : K → Record → Type 0) (wire : Line) where
+  -- a run that has not begun
+  pub record IsReady (r : SiteRun K G) : Type 0 where
+    pub run : IsRun shown may wire r
+    pub unmarked : marks_in r.turn.site.seat.logs ≡ 0
+    pub going : r.fault ≡ None
+
+  -- what is known after the turns: a site without a fault is open, and a lost one is closed
+  pub record Ran (old new : SiteRun K G) : Type 0 where
+    pub run : IsRun shown may wire new
+    pub same : SameRun old new
+    pub is_open : new.fault ≡ None → IsSome (shown_in shown new.turn.site.keeper)
+    pub lost : IfSome new.fault (λ cause. IfLost cause (shown_in shown new.turn.site.keeper))

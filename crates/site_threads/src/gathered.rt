@@ -1,0 +1,100 @@
+//! What a run of all sites hands back: receipts are confirmed, and desks settled, by the lists of steps.
+ghost use Rattle.std.specs.Prelude.{◌≡◌, ◌↔◌, IsTrue, is_ok, length, take};
+ghost use Rattle.site_threads.specs.Ends.{puts, IsDesk, AreEnds};
+ghost use Rattle.site_threads.specs.Gathering.{IsConfirmed, HasJobsOfEnd};
+ghost use Rattle.site_threads.specs.Jobs.{IsEntered, entry_of, input_of, jobs_in};
+
+use crate::desks::{Desk, taken_of};
+use crate::gather::GatherCause;
+use crate::jobs::{Entry, Job, Receipt};
+use crate::lists::SiteList;
+use keeper_core::SiteKeeper;
+use site_core::SiteInput;
+use thiserror::Error;
+
+/// The sites after a run of all of them, in the order of their numbers.
+#[derive(Drop)]
+pub struct Gathered<K: SiteKeeper> {
+    /// Their keepers, each open.
+    pub keepers: Vec<K>,
+    /// The steps of each, and its end of its desk.
+    pub lists: Vec<SiteList>,
+}
+
+/// A run of all sites that has no answer, and the keepers, in the order of their sites.
+#[derive(Debug, Drop, Error)]
+#[error("{cause}")]
+pub struct GatherFault<K> {
+    pub keepers: Vec<K>,
+    /// Why; of several sites that ended their runs, the least is named.
+    pub cause: GatherCause,
+}
+
+/// A receipt that names no step of its site's list with that job and that reply.
+#[derive(Clone, Copy, Debug, PartialEq, Eq, Error)]
+#[error("the list has no such step")]
+pub struct Stranger;
+
+/// Whether the input is that of the job.
+fn is_input_of(input: &SiteInput, job: &Job) -> bool
+    ensures { IsTrue result ↔ (input.now ≡ input_of job.now) }
+{
+    match (input, job) {
+        (SiteInput::Capture(bytes), Job::Capture(given)) => bytes == given,
+        (SiteInput::Start(item), Job::Start(given)) => item == given,
+        _ => false,
+    }
+}
+
+/// Whether the step is the one that the receipt names.
+fn is_step_of(entry: &Entry, receipt: &Receipt) -> bool
+    ensures { IsTrue result ↔ (entry.now ≡ entry_of receipt.now) }
+{
+    entry.number == receipt.number
+        && entry.reply == receipt.reply
+        && is_input_of(&entry.input, &receipt.job)
+}
+
+impl SiteList {
+    /// Whether the list has the receipt's job with its reply at its number. Only the step at that place is looked at.
+    pub fn has(&self, receipt: &Receipt) -> bool
+        ensures { IsTrue result ↔ IsEntered self.now.entries.items receipt.now }
+    {
+        if receipt.number == 0 {
+            return false;
+        }
+        match self.entries.get((receipt.number - 1) as usize) {
+            None => false,
+            Some(entry) => is_step_of(entry, receipt),
+        }
+    }
+
+    /// How many jobs of a desk stand in the list: the first ones that were put.
+    pub fn settle(self, desk: Desk) -> u64
+        requires desk { IsDesk desk × AreEnds desk self.out }
+        requires jobs { HasJobsOfEnd self }
+        ensures { (result ≡ length (jobs_in self.entries.items)) × (jobs_in self.entries.items ≡ take result (puts desk)) }
+    {
+        let SiteList { out, pending, .. } = self;
+        let taken = taken_of(desk, out);
+        if pending.is_some() { taken - 1 } else { taken }
+    }
+}
+
+impl<K: SiteKeeper> Gathered<K> {
+    /// Confirms a receipt: `Ok` exactly where its site's list has its job with its reply at its number.
+    pub fn confirm(&self, receipt: &Receipt) -> Result<(), Stranger>
+        ensures { IsTrue (is_ok result) ↔ IsConfirmed self.now.lists.items receipt.now }
+    {
+        match self.lists.get(receipt.site.number() as usize) {
+            None => Err(Stranger),
+            Some(list) => {
+                if list.has(receipt) {
+                    Ok(())
+                } else {
+                    Err(Stranger)
+                }
+            }
+        }
+    }
+}

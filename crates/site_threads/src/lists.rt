@@ -1,0 +1,21 @@
+//! What is left of a site's run beside its keeper.
+ghost use Rattle.site_threads.specs.Jobs.{AreNumbered};
+
+use crate::desks::DeskOut;
+use crate::jobs::{Entry, Job};
+use site_core::SiteState;
+use std::snapshot::Snapshot;
+
+/// What is left of a site's run beside its keeper.
+#[derive(Drop)]
+pub struct SiteList {
+    /// The steps of the run, in order.
+    pub entries: Vec<Entry>,
+    /// The record that the site began with, for proofs alone.
+    pub start: Snapshot<SiteState>,
+    /// Its end of its desk.
+    pub out: DeskOut,
+    /// The job that was taken from the desk last, where it wasn't done.
+    pub pending: Option<Job>,
+    ghost numbered: { AreNumbered entries.items },
+}

@@ -1,0 +1,229 @@
+//! A run of all sites, each in a thread of its own.
+ghost use Rattle.std.specs.Prelude.{◌≡◌, ◌<◌, ◌≤◌, List, [], Some, None, All, IfOk, IfErr, IfSome, IsSome, length, map, vec_capacity};
+ghost use Rattle.std.specs.List.{AllZip};
+ghost use Rattle.site_core.specs.Records.{Record};
+ghost use Rattle.site_recovery.specs.Laws.{AreInPlace};
+ghost use Rattle.world_core.specs.Keepers.{AllShow};
+ghost use Rattle.wire_core.specs.Fitting.{SitesFit};
+ghost use Rattle.wire_core.specs.Rule.{logs_from};
+ghost use Rattle.wire_core.specs.Seats.{IsSeatOf};
+ghost use Rattle.site_threads.specs.Ends.{IsUnused};
+ghost use Rattle.site_threads.specs.Gathering.{Began, FitAfter, HasEnd, Hinders, IsKept, KeepersFit, keepers_of};
+ghost use Rattle.site_threads.specs.Parting.{IsRoomFor};
+ghost use Rattle.site_threads.specs.Runs.{IsReady, Ran};
+
+use crate::desks::DeskOut;
+use crate::gates::Gate;
+use crate::gather::{Ended, GatherCause, close_all};
+use crate::gathered::{GatherFault, Gathered};
+use crate::runs::{SiteRun, run_all};
+use crate::starts::begin_all;
+use event_json::SiteNo;
+use keeper_core::SiteKeeper;
+use site_core::SiteState;
+use std::alloc::{AllocError, Global};
+use std::sync::Wait;
+use std::thread::Threads;
+use wire_core::{Seat, Wire};
+use world_core::{NotAWorld, World};
+
+/// The record of each keeper.
+fn records_of<K: SiteKeeper>(alloc: Global, keepers: &[K]) -> Result<Vec<&SiteState>, AllocError>
+    requires { All (λ k. IsSome (K.shown k)) keepers.now }
+    ensures { IfOk result (λ states. AllShow K.shown keepers.now (map (λ s. s.now) states.items)) }
+{
+    let mut states = Vec::with_capacity(alloc, keepers.len())?;
+    for keeper in keepers {
+        let Some(state) = keeper.view() else {
+            unreachable!()
+        };
+        states.push(state)?;
+    }
+    Ok(states)
+}
+
+/// The wire between the sites of these keepers, and a seat that holds all of them.
+fn wire_between<K: SiteKeeper>(alloc: Global, keepers: &[K]) -> Result<(Wire, Seat), AllocError>
+    requires world { (rs : List Record) × AllShow K.shown keepers.now rs × SitesFit rs [] }
+    requires count { (2 ≤ length keepers.now) × (length keepers.now ≤ 16) }
+    ensures wire { IfOk result (λ r. IsSeatOf r.0 r.1 × (r.0.sites ≡ length keepers.now)) }
+    ensures seat { (rs : List Record) → AllShow K.shown keepers.now rs → IfOk result (λ r. r.1.logs ≡ logs_from 0 rs) }
+{
+    let states = records_of(alloc, keepers)?;
+    Ok(Wire::new(alloc, &states)?)
+}
+
+/// What a run needs memory for, but the sites' own steps.
+struct Room<K: SiteKeeper, G: Gate> {
+    wire: Wire,
+    seat: Seat,
+    runs: Vec<SiteRun<K, G>>,
+    ended: Ended<K>,
+}
+
+/// The room for a run of the sites of these keepers.
+fn room_for<K: SiteKeeper, G: Gate>(alloc: Global, keepers: &[K]) -> Result<Room<K, G>, AllocError>
+    requires world { (rs : List Record) × AllShow K.shown keepers.now rs × SitesFit rs [] }
+    requires count { (2 ≤ length keepers.now) × (length keepers.now ≤ 16) }
+    ensures wire { IfOk result (λ r. IsSeatOf r.wire r.seat × (r.wire.sites ≡ length keepers.now)) }
+    ensures seat { (rs : List Record) → AllShow K.shown keepers.now rs → IfOk result (λ r. r.seat.logs ≡ logs_from 0 rs) }
+    ensures runs { IfOk result (λ r. (r.runs.items ≡ []) × (length keepers.now ≤ vec_capacity r.runs)) }
+    ensures ended { IfOk result (λ r. IsRoomFor (length keepers.now) r.ended) }
+{
+    let (wire, seat) = wire_between(alloc, keepers)?;
+    let count = keepers.len();
+    Ok(Room {
+        wire,
+        seat,
+        runs: Vec::with_capacity(alloc, count)?,
+        ended: Ended {
+            keepers: Vec::with_capacity(alloc, count)?,
+            lists: Vec::with_capacity(alloc, count)?,
+            cause: None,
+        },
+    })
+}
+
+/// The turns of all sites.
+fn run_each<K: SiteKeeper + Send, G: Gate + Send, R: Threads + Wait + Sync>(
+    rt: &R,
+    wire: &Wire,
+    runs: &mut Vec<SiteRun<K, G>>,
+    turns: u64,
+)
+    requires count { 0 < length runs.old.items }
+    requires ready { All (IsReady K.shown K.may wire.now) runs.old.items }
+    requires turns { turns ≤ 1000000 }
+    ensures { AllZip (Ran K.shown K.may wire.now) runs.old.items runs.new.items }
+{
+    run_all(rt, wire, runs.as_mut_slice(), turns);
+}
+
+/// The same from the first opening to the last joining, for which there is room.
+fn run_in<K: SiteKeeper + Send, G: Gate + Send, R: Threads + Wait + Sync>(
+    rt: &R,
+    alloc: Global,
+    room: Room<K, G>,
+    keepers: Vec<K>,
+    desks: Vec<DeskOut>,
+    gates: Vec<G>,
+    turns: u64,
+) -> Ended<K>
+    requires world { (rs : List Record) × AllShow K.shown keepers.items rs × AreInPlace rs × (room.seat.logs ≡ logs_from 0 rs) }
+    requires count { (2 ≤ length keepers.items) × (length keepers.items ≤ 16) }
+    requires wire { IsSeatOf room.wire room.seat × (room.wire.sites ≡ length keepers.items) }
+    requires runs { (room.runs.items ≡ []) × (length keepers.items ≤ vec_capacity room.runs) }
+    requires ended { IsRoomFor (length keepers.items) room.ended }
+    requires desks { (length desks.items ≡ length keepers.items) × All IsUnused desks.items }
+    requires gates { length gates.items ≡ length keepers.items }
+    requires turns { turns ≤ 1000000 }
+    ensures kept { result.cause ≡ None → AllZip (IsKept K.shown) result.keepers.items result.lists.items }
+    ensures began { AllZip (Began K.shown) keepers.items result.lists.items }
+    ensures ends { AllZip HasEnd desks.items result.lists.items }
+    ensures fit { KeepersFit K.shown K.may result.keepers.items }
+    ensures back { length result.keepers.items ≡ length keepers.items }
+    ensures cause { IfSome result.cause (λ cause. Hinders K.shown result.keepers.items cause × FitAfter K.shown K.may keepers.items cause result.keepers.items) }
+{
+    let Room {
+        wire,
+        seat,
+        runs,
+        ended,
+    } = room;
+    let Some(first) = SiteNo::of(0) else {
+        unreachable!()
+    };
+    let (root, all) = wire.split(seat, first);
+    let mut runs = begin_all(alloc, &wire, all, keepers, desks, gates, runs);
+    run_each(rt, &wire, &mut runs, turns);
+    close_all(wire, root, runs, ended)
+}
+
+/// What is told of a run that has ended.
+fn told<K: SiteKeeper>(ended: Ended<K>) -> Result<Gathered<K>, GatherFault<K>>
+    ensures ok { IfOk result (λ g. (ended.cause ≡ None) × (g.keepers ≡ ended.keepers) × (g.lists ≡ ended.lists)) }
+    ensures err { IfErr result (λ e. (ended.cause ≡ Some e.cause) × (e.keepers ≡ ended.keepers)) }
+    ensures back { keepers_of result ≡ ended.keepers.items }
+{
+    let Ended {
+        keepers,
+        lists,
+        cause,
+    } = ended;
+    match cause {
+        None => Ok(Gathered { keepers, lists }),
+        Some(cause) => Err(GatherFault { keepers, cause }),
+    }
+}
+
+/// The same for keepers whose records fit together.
+fn run_sites<K: SiteKeeper + Send, G: Gate + Send, R: Threads + Wait + Sync>(
+    rt: &R,
+    alloc: Global,
+    keepers: Vec<K>,
+    desks: Vec<DeskOut>,
+    gates: Vec<G>,
+    turns: u64,
+) -> Result<Gathered<K>, GatherFault<K>>
+    requires world { (rs : List Record) × AllShow K.shown keepers.items rs × SitesFit rs [] }
+    requires count { (2 ≤ length keepers.items) × (length keepers.items ≤ 16) }
+    requires desks { (length desks.items ≡ length keepers.items) × All IsUnused desks.items }
+    requires gates { length gates.items ≡ length keepers.items }
+    requires turns { turns ≤ 1000000 }
+    ensures kept { IfOk result (λ g. AllZip (IsKept K.shown) g.keepers.items g.lists.items) }
+    ensures began { IfOk result (λ g. AllZip (Began K.shown) keepers.items g.lists.items) }
+    ensures ends { IfOk result (λ g. AllZip HasEnd desks.items g.lists.items) }
+    ensures fit { IfOk result (λ g. KeepersFit K.shown K.may g.keepers.items) }
+    ensures back { length (keepers_of result) ≡ length keepers.items }
+    ensures err { IfErr result (λ e. Hinders K.shown e.keepers.items e.cause × FitAfter K.shown K.may keepers.items e.cause e.keepers.items) }
+{
+    let Ok(room) = room_for::<K, G>(alloc, &keepers) else {
+        return Err(GatherFault {
+            keepers,
+            cause: GatherCause::NoMemory,
+        });
+    };
+    told(run_in(rt, alloc, room, keepers, desks, gates, turns))
+}
+
+/// Runs all sites, each in a thread of its own, where one can be made: so many turns, each asked for at the site's gate,
+/// with at most one job a turn from the site's end of its desk, and a last opening of each keeper that is closed then.
+///
+/// The keepers are of one list of sites, in the order of their numbers, open, and their records fit together; no job was
+/// taken from the desks. Afterwards each keeper is open in the record to which its list of steps leads from the one that
+/// it began with, and the jobs of the list are the first ones that were put at its desk. Whether the run has an answer or
+/// not, in whichever records the keepers are open, or may be opened, they fit together, and what is quarantined under
+/// each recall that has ended is just what its root reaches.
+///
+/// # Errors
+/// All with the keepers. `NotAWorld`, with the keepers as they were. `NoMemory`: before the first turn, when nothing has
+/// changed, or where a keeper couldn't be opened at the end. `SiteLost` where a keeper is closed and couldn't be opened
+/// again, and `GaveUp` where a gate gave up: the other sites went on. Of several sites that ended their runs the least is
+/// named; the keepers before it are open.
+pub fn run_world<K: SiteKeeper + Send, G: Gate + Send, R: Threads + Wait + Sync>(
+    rt: &R,
+    alloc: Global,
+    keepers: Vec<K>,
+    desks: Vec<DeskOut>,
+    gates: Vec<G>,
+    turns: u64,
+) -> Result<Gathered<K>, GatherFault<K>>
+    requires count { (2 ≤ length keepers.items) × (length keepers.items ≤ 16) }
+    requires desks { (length desks.items ≡ length keepers.items) × All IsUnused desks.items }
+    requires gates { length gates.items ≡ length keepers.items }
+    requires turns { turns ≤ 1000000 }
+    ensures kept { IfOk result (λ g. AllZip (IsKept K.shown) g.keepers.items g.lists.items) }
+    ensures began { IfOk result (λ g. AllZip (Began K.shown) keepers.items g.lists.items) }
+    ensures ends { IfOk result (λ g. AllZip HasEnd desks.items g.lists.items) }
+    ensures fit { IfOk result (λ g. KeepersFit K.shown K.may g.keepers.items) }
+    ensures back { length (keepers_of result) ≡ length keepers.items }
+    ensures err { IfErr result (λ e. Hinders K.shown e.keepers.items e.cause × FitAfter K.shown K.may keepers.items e.cause e.keepers.items) }
+{
+    match World::new(alloc, keepers) {
+        Ok(world) => run_sites(rt, alloc, world.into_keepers(), desks, gates, turns),
+        Err(NotAWorld { keepers, fault }) => Err(GatherFault {
+            keepers,
+            cause: GatherCause::NotAWorld(fault),
+        }),
+    }
+}

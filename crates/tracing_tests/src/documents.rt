@@ -1,0 +1,83 @@
+//! Documents and sites with answers that were written by hand.
+
+mod faults;
+mod readings;
+mod sites;
+
+use event_json::{Event, ReadFault, Sites, SitesFault, read_document};
+use std::alloc::{AllocError, Global};
+use std::test::*;
+
+/// The sites `A`, with the address `a`, and `B`, with `b` and `c`.
+fn two_sites(alloc: Global) -> Result<Sites, SitesFault> {
+    let mut sites = Sites::new(alloc);
+    sites.add("A", &["a"])?;
+    sites.add("B", &["b", "c"])?;
+    Ok(sites)
+}
+
+/// What is printed of a document: its counts, or its fault.
+fn outcome(alloc: Global, text: &str) -> Result<String, Fail> {
+    let sites = two_sites(alloc)?;
+    match read_document(alloc, text.as_bytes(), &sites) {
+        Ok(doc) => Ok(format!(in alloc; "read {} skipped {}", doc.events.len(), doc.skipped)?),
+        Err(fault) => Ok(format!(in alloc; "{fault}")?),
+    }
+}
+
+/// Whether each document has the outcome beside it.
+fn have_outcomes(alloc: Global, rows: &[(&str, &str)]) -> Result<bool, Fail> {
+    for (text, want) in rows {
+        if outcome(alloc, text)?.as_str() != *want {
+            return Ok(false);
+        }
+    }
+    Ok(true)
+}
+
+/// Whether the ObjectEvents with these further members have the outcomes beside them.
+fn objects_have(alloc: Global, rows: &[(&str, &str)]) -> Result<bool, Fail> {
+    for (members, want) in rows {
+        if outcome(alloc, object(alloc, members)?.as_str())?.as_str() != *want {
+            return Ok(false);
+        }
+    }
+    Ok(true)
+}
+
+/// Whether the TransformationEvents with these further members have the outcomes beside them.
+fn transformations_have(alloc: Global, rows: &[(&str, &str)]) -> Result<bool, Fail> {
+    for (members, want) in rows {
+        if outcome(alloc, transformation(alloc, members)?.as_str())?.as_str() != *want {
+            return Ok(false);
+        }
+    }
+    Ok(true)
+}
+
+/// An ObjectEvent with further members, each after a comma; of a repeated one the last counts.
+fn object(alloc: Global, members: &str) -> Result<String, AllocError> {
+    format!(in alloc;
+        "{{\"type\":\"ObjectEvent\",\"eventTime\":\"2024-05-01T08:00:00Z\",\"eventTimeZoneOffset\":\"+00:00\",\"action\":\"OBSERVE\",\"epcList\":[\"x\"]{members}}}"
+    )
+}
+
+/// A TransformationEvent of x into y with further members, each after a comma.
+fn transformation(alloc: Global, members: &str) -> Result<String, AllocError> {
+    format!(in alloc;
+        "{{\"type\":\"TransformationEvent\",\"eventTime\":\"2024-05-01T08:00:00Z\",\"eventTimeZoneOffset\":\"+00:00\",\"inputEPCList\":[\"x\"],\"outputEPCList\":[\"y\"]{members}}}"
+    )
+}
+
+/// A document of these events, which are parted by commas.
+fn document(alloc: Global, events: &str) -> Result<String, AllocError> {
+    format!(in alloc; "{{\"type\":\"EPCISDocument\",\"epcisBody\":{{\"eventList\":[{events}]}}}}")
+}
+
+/// The one event of a document.
+fn only_event(alloc: Global, text: &str) -> Result<Event, Fail> {
+    let sites = two_sites(alloc)?;
+    let doc = read_document(alloc, text.as_bytes(), &sites)?;
+    let mut events = doc.events.into_vec();
+    Ok(events.pop().ok_or("an event was read")?)
+}

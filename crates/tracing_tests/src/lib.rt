@@ -1,0 +1,10 @@
+//! Items, documents and chains by examples whose answers were written by hand. The tests stand in a crate of their own,
+//! so that what they test isn't proved again with them.
+#![tactic(auto)]
+
+#[cfg(test)]
+mod documents;
+#[cfg(test)]
+mod epcs;
+#[cfg(test)]
+mod tracing;
