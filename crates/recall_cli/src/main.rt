@@ -6,11 +6,14 @@
 
 mod command_lines;
 mod commands;
+mod helps;
+mod host_files;
 mod statuses;
 #[cfg(test)]
 mod tests;
 
 use commands::run_command;
+use host_files::HostFiles;
 use std::env;
 use std::io::{self, ErrorKind};
 use std::process::ExitCode;
@@ -30,6 +33,7 @@ fn main(rt: HostRuntime) -> ExitCode {
     };
     let status = run_command(
         alloc,
+        &mut HostFiles::new(&rt),
         words.as_slice(),
         &mut rt.stdin(),
         &mut rt.stdout(),

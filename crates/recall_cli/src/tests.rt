@@ -1,6 +1,9 @@
 //! The program's commands on words and streams in memory.
 
 use crate::commands::run_command;
+use keeper_core::MemoryKeeper;
+use site_commands::{Fault, Files};
+use site_core::SiteState;
 use std::alloc::Global;
 use std::io::{self, Error, ErrorKind, Read, Write};
 use std::test::Fail;
@@ -11,6 +14,53 @@ fn words_of(alloc: Global, words: &[&str]) -> Result<Vec<String>, Fail> {
         all.push(String::from_str(alloc, word)?)?;
     }
     Ok(all)
+}
+
+/// Files of which one can be read, a list of sites that is refused.
+#[derive(Drop)]
+struct OneFile;
+
+impl Files<MemoryKeeper> for OneFile {
+    ghost use Rattle.std.specs.Prelude.{⊤};
+
+    // The texts that the tests read say what the calls did.
+    ghost reads = { λ _ _ _ _. ⊤ };
+
+    ghost finds = { λ _ _ _ _. ⊤ };
+
+    ghost makes = { λ _ _ _ _. ⊤ };
+
+    ghost opens = { λ _ _ _ _ _. ⊤ };
+
+    ghost closes = { λ _ _ _. ⊤ };
+
+    ghost writes = { λ _ _ _ _. ⊤ };
+
+    fn read(&mut self, alloc: Global, path: &str) -> Result<Vec<u8>, Fault> {
+        if path == "list" {
+            Ok(b"reach A x".as_slice().to_vec(alloc)?)
+        } else {
+            Err(Fault::Read)
+        }
+    }
+
+    fn exists(&mut self, _: &str) -> Result<bool, Fault> {
+        Ok(false)
+    }
+
+    fn create_site(&mut self, _: Global, _: &str, _: SiteState) -> Result<(), Fault> {
+        Err(Fault::Device)
+    }
+
+    fn open_site(&mut self, _: Global, _: &str, _: &str) -> Result<MemoryKeeper, Fault> {
+        Err(Fault::NotAStore)
+    }
+
+    fn close_site(&mut self, _: MemoryKeeper) {}
+
+    fn write_new(&mut self, _: &str, _: &[u8]) -> Result<(), Fault> {
+        Err(Fault::Write)
+    }
 }
 
 /// Whether a command line ends with this status on this input, and what it writes to its output and
@@ -26,7 +76,14 @@ fn ends(
     let words = words_of(alloc, words)?;
     let mut written = Vec::new(alloc);
     let mut told = Vec::new(alloc);
-    let ended = run_command(alloc, words.as_slice(), &mut input, &mut written, &mut told);
+    let ended = run_command(
+        alloc,
+        &mut OneFile,
+        words.as_slice(),
+        &mut input,
+        &mut written,
+        &mut told,
+    );
     Ok(ended == status && begins(&written, output) && begins(&told, errors))
 }
 
@@ -74,6 +131,18 @@ fn a_bad_command_line_ends_with_2(rt: HostRuntime) -> Result<(), Fail> {
 }
 
 #[test]
+fn commands_on_files_are_told(rt: HostRuntime) -> Result<(), Fail> {
+    let init = ["recall", "init", "d", "list"];
+    let refused = "refused BadLine\nrefused NoWorld\n";
+    assert!(rt; ends(rt.alloc(), init.as_slice(), b"", 1, refused, "")?);
+    let audit = ["recall", "audit", "d"];
+    assert!(rt; ends(rt.alloc(), audit.as_slice(), b"", 3, "", "fault Read\n")?);
+    let short = ["recall", "start", "d", "A"];
+    assert!(rt; ends(rt.alloc(), short.as_slice(), b"", 2, "", "error:")?);
+    Ok(())
+}
+
+#[test]
 fn help_is_an_answer(rt: HostRuntime) -> Result<(), Fail> {
     let of_sim = ["recall", "sim", "--help"];
     assert!(rt; ends(rt.alloc(), of_sim.as_slice(), b"", 0, "Runs a script", "")?);
@@ -106,7 +175,14 @@ impl Write for Broken {
 fn fails(alloc: Global, words: &[&str], mut input: &[u8]) -> Result<bool, Fail> {
     let words = words_of(alloc, words)?;
     let mut told = Vec::new(alloc);
-    let ended = run_command(alloc, words.as_slice(), &mut input, &mut Broken, &mut told);
+    let ended = run_command(
+        alloc,
+        &mut OneFile,
+        words.as_slice(),
+        &mut input,
+        &mut Broken,
+        &mut told,
+    );
     Ok(ended == 3 && told.as_slice() == b"fault Write\n".as_slice())
 }
 
@@ -128,6 +204,7 @@ fn an_input_that_fails_ends_with_3(rt: HostRuntime) -> Result<(), Fail> {
     let mut told = Vec::new(alloc);
     let ended = run_command(
         alloc,
+        &mut OneFile,
         words.as_slice(),
         &mut Broken,
         &mut written,

@@ -1,0 +1,176 @@
+//! The files of the machine.
+
+use keeper_core::KeepFault;
+use site_commands::{Fault, Files};
+use site_core::SiteState;
+use site_store::{Link, OpenFault, StoredSite};
+use sqlite::{Connection, Error as DatabaseError, ErrorCode, FileFrom, FileStore, Options, Wary};
+use std::alloc::Global;
+use std::fs::{self, File};
+use std::hash::{BuildHasher, RandomState};
+use std::io::{Error, ErrorKind, Write};
+
+/// A connection to a database in a file. A write that was torn by a crash may have left any bytes, so each commit syncs
+/// twice.
+type FileConnection = Connection<FileStore<FileFrom<Wary>>>;
+
+/// A site kept in a file.
+type FileSite = StoredSite<FileFrom<Wary>>;
+
+/// The files of the machine on which the program runs.
+#[derive(Drop)]
+pub(crate) struct HostFiles<'a> {
+    runtime: &'a HostRuntime,
+}
+
+impl<'a> HostFiles<'a> {
+    /// The files that a runtime gives.
+    pub(crate) fn new(runtime: &'a HostRuntime) -> HostFiles<'a> {
+        HostFiles { runtime }
+    }
+
+    /// Opens a database, and makes it where there is no file or an empty one.
+    fn connect(&self, path: &str) -> Result<FileConnection, Fault> {
+        match Connection::open_from(self.runtime, path, false, Wary) {
+            Ok(conn) => Ok(conn),
+            Err((error, left)) => {
+                if let Some(left) = left {
+                    drop(left.into_files());
+                }
+                Err(unopened(&error))
+            }
+        }
+    }
+
+    /// The options with which a database is opened again, with a seed drawn at random.
+    fn options(&self) -> Result<Options, Fault> {
+        match RandomState::new(self.runtime) {
+            Ok(state) => Ok(Options::new(state.hash_one(&0u8))),
+            Err(error) => Err(fault_of(&error, Fault::Device)),
+        }
+    }
+}
+
+/// Want of memory, or else the fault that is given.
+fn fault_of(error: &Error, fault: Fault) -> Fault {
+    if error.kind() == ErrorKind::OutOfMemory {
+        Fault::NoMemory
+    } else {
+        fault
+    }
+}
+
+/// Why a file wasn't opened as a database.
+fn unopened(error: &DatabaseError) -> Fault {
+    match error {
+        DatabaseError::SqliteFailure(ErrorCode::OutOfMemory) => Fault::NoMemory,
+        DatabaseError::SqliteFailure(ErrorCode::NotADatabase) => Fault::NotAStore,
+        _ => Fault::Device,
+    }
+}
+
+/// Why a site wasn't made.
+fn unmade(fault: KeepFault) -> Fault {
+    match fault {
+        KeepFault::NoMemory => Fault::NoMemory,
+        KeepFault::Device => Fault::Device,
+        KeepFault::Store | KeepFault::Closed | KeepFault::Refused(_) => Fault::Store,
+    }
+}
+
+/// Why a site wasn't opened.
+fn unfound(fault: OpenFault) -> Fault {
+    match fault {
+        OpenFault::NotAStore => Fault::NotAStore,
+        OpenFault::Version(_) => Fault::Version,
+        OpenFault::OtherSite(_) => Fault::OtherSite,
+        OpenFault::BadRow(_) => Fault::BadRow,
+        OpenFault::Device => Fault::Device,
+        OpenFault::Store => Fault::Store,
+        OpenFault::NoMemory => Fault::NoMemory,
+    }
+}
+
+/// Closes the file of a site. What was committed stands in it or in its log, also where this fails.
+fn close(site: FileSite) {
+    match site.release() {
+        Link::Connected(conn) => {
+            let _ = conn.close();
+        }
+        Link::Unconnected(files) => drop(files),
+    }
+}
+
+impl Files<FileSite> for HostFiles<'_> {
+    ghost use Rattle.std.specs.Prelude.{⊤};
+
+    // What stands behind a path no contract can say.
+    ghost reads = { λ _ _ _ _. ⊤ };
+
+    ghost finds = { λ _ _ _ _. ⊤ };
+
+    ghost makes = { λ _ _ _ _. ⊤ };
+
+    ghost opens = { λ _ _ _ _ _. ⊤ };
+
+    ghost closes = { λ _ _ _. ⊤ };
+
+    ghost writes = { λ _ _ _ _. ⊤ };
+
+    fn read(&mut self, _: Global, path: &str) -> Result<Vec<u8>, Fault> {
+        match fs::read(self.runtime, path) {
+            Ok(bytes) => Ok(bytes),
+            Err(error) => Err(fault_of(&error, Fault::Read)),
+        }
+    }
+
+    fn exists(&mut self, path: &str) -> Result<bool, Fault> {
+        match fs::exists(self.runtime, path) {
+            Ok(exists) => Ok(exists),
+            Err(error) => Err(fault_of(&error, Fault::Read)),
+        }
+    }
+
+    fn create_site(&mut self, alloc: Global, path: &str, state: SiteState) -> Result<(), Fault> {
+        let options = self.options()?;
+        let conn = self.connect(path)?;
+        match StoredSite::create(alloc, conn, options, state) {
+            Ok(site) => {
+                close(site);
+                Ok(())
+            }
+            Err(fault) => Err(unmade(fault)),
+        }
+    }
+
+    fn open_site(&mut self, alloc: Global, path: &str, name: &str) -> Result<FileSite, Fault> {
+        // Connecting would make a file.
+        if !self.exists(path)? {
+            return Err(Fault::Read);
+        }
+        let options = self.options()?;
+        let conn = self.connect(path)?;
+        match site_store::open_site(alloc, conn, options, name) {
+            Ok(site) => Ok(site),
+            Err(fault) => Err(unfound(fault)),
+        }
+    }
+
+    fn close_site(&mut self, keeper: FileSite) {
+        close(keeper);
+    }
+
+    fn write_new(&mut self, path: &str, bytes: &[u8]) -> Result<(), Fault> {
+        match written(self.runtime, path, bytes) {
+            Ok(()) => Ok(()),
+            Err(error) => Err(fault_of(&error, Fault::Write)),
+        }
+    }
+}
+
+/// Makes a file of these bytes, and syncs it.
+fn written(runtime: &HostRuntime, path: &str, bytes: &[u8]) -> std::io::Result<()> {
+    let mut file = File::create_new(runtime, path)?;
+    file.write_all(bytes)?;
+    file.sync_all()
+}

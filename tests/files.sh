@@ -1,0 +1,148 @@
+#!/usr/bin/env bash
+# Drives the program on a folder of files as a person would: each command, each refusal and fault once, and stops by
+# `kill -9` at moments of a capture and a start, after each of which an audit finds the record before or after it.
+# Run by hand: tests/files.sh. It ends with status 0 where all is as it should be, and takes less than two minutes.
+set -u
+here=$(cd "$(dirname "$0")/.." && pwd) || exit 2
+"$here/recall" --help >/dev/null || exit 2
+recall="$here/crates/recall_cli/out/recall_cli"
+chain="$here/examples/dairy"
+tank=urn:epc:id:sgtin:9521321.000011.tank-7
+work=$(mktemp -d) || exit 2
+trap 'rm -rf "$work"' EXIT
+cd "$work" || exit 2
+failed=0
+stops=${STOPS:-50}
+
+# wants STATUS OUTPUT ERRORS WORD..: the program ends so on these words
+wants() {
+    local status=$1 output=$2 errors=$3 ended
+    shift 3
+    "$recall" "$@" >out 2>err </dev/null
+    ended=$?
+    if [ "$ended" != "$status" ] || [ "$(cat out)" != "$output" ] || [ "$(cat err)" != "$errors" ]; then
+        printf 'recall %s\n  status %s, wanted %s\n' "$*" "$ended" "$status" >&2
+        diff <(printf '%s\n' "$output") out >&2
+        diff <(printf '%s\n' "$errors") err >&2
+        failed=1
+    fi
+}
+
+# fresh FOLDER: the chain, with the dairy's and the plant's documents captured
+fresh() {
+    rm -rf "$1"
+    mkdir "$1"
+    wants 0 '' '' init "$1" "$chain/sites"
+    wants 0 'captured 2 known 0 skipped 0' '' capture "$1" dairy "$chain/dairy.json"
+    wants 0 'captured 5 known 0 skipped 1' '' capture "$1" plant "$chain/plant.json"
+}
+
+echo "commands"
+wants 3 '' 'fault Read' audit none
+wants 3 '' 'fault Read' init chain none
+fresh chain
+wants 1 "$(printf 'refused Exists %s\n' dairy plant shop-1 shop-2)" '' init chain "$chain/sites"
+wants 0 'captured 2 known 0 skipped 0' '' capture chain shop-1 "$chain/shop-1.json"
+wants 0 'captured 2 known 0 skipped 0' '' capture chain shop-2 "$chain/shop-2.json"
+wants 0 'captured 0 known 2 skipped 0' '' capture chain shop-2 "$chain/shop-2.json"
+wants 0 '' '' audit chain
+wants 0 'recall dairy#1 new 1 messages 1 open' '' start chain dairy "$tank"
+wants 0 'open dairy#1' '' audit chain
+wants 0 "$(printf '%s\n' 'recall dairy#1 root sgtin 09521321000117 tank-7 open' 'pair dairy sgtin 09521321000117 tank-7' \
+    '  1 dairy sgtin 09521321000117 tank-7' 'total 1 outside 0')" '' report chain 'dairy#1'
+wants 0 'recall plant#1 new 4 messages 2 open' '' start chain plant "$tank"
+
+echo "refusals"
+wants 1 'refused UnknownRecall' '' report chain 'dairy#9'
+wants 1 'refused BadLine' '' report chain dairy
+wants 1 'refused NoSite farm' '' report chain 'farm#1'
+wants 1 'refused NoSite farm' '' capture chain farm none
+wants 1 'refused NoSite farm' '' start chain farm "$tank"
+wants 1 'refused BadEpc' '' start chain dairy 'a b'
+wants 1 'refused UnknownItem' '' start chain dairy x
+echo '{' >bad.json
+wants 1 'refused Doc Syntax event 0 field document' '' capture chain dairy bad.json
+printf 'site A a\nreach A x\n' >bad.sites
+wants 1 "$(printf 'refused %s\n' BadLine NoWorld)" '' init other bad.sites
+
+echo "faults"
+wants 3 '' 'fault Read' capture chain dairy none
+# damaged: the chain again, to be spoilt
+damaged() {
+    rm -rf damaged
+    cp -r chain damaged
+}
+damaged
+rm damaged/shop-2.db damaged/shop-2.db-wal
+wants 3 '' 'fault Read' audit damaged
+[ -e damaged/shop-2.db ] && { echo "a missing file was made" >&2; failed=1; }
+damaged
+rm damaged/plant.db-wal
+printf 'this is no database, and never was one' >damaged/plant.db
+wants 3 '' 'fault NotAStore' audit damaged
+damaged
+rm damaged/plant.db-wal
+: >damaged/plant.db
+wants 3 '' 'fault NotAStore' audit damaged
+damaged
+truncate -s 8192 damaged/plant.db
+wants 3 '' 'fault Device' audit damaged
+damaged
+cp chain/plant.db damaged/dairy.db
+cp chain/plant.db-wal damaged/dairy.db-wal
+wants 3 '' 'fault OtherSite' audit damaged
+damaged
+echo 'site late z' >>damaged/sites
+wants 3 '' 'fault OtherSites' start damaged dairy "$tank"
+echo 'reach dairy x' >>damaged/sites
+wants 3 '' 'fault BadSites' audit damaged
+damaged
+"$recall" report damaged 'dairy#1' >/dev/full 2>err
+[ $? = 3 ] && [ "$(cat err)" = 'fault Write' ] || { echo "a full output: $(cat err)" >&2; failed=1; }
+
+echo "$stops stops of a capture and as many of a start"
+rm -rf before stopped
+mkdir before
+wants 0 '' '' init before "$chain/sites"
+cp -r before stopped
+begun=$(date +%s%N)
+wants 0 'captured 5 known 0 skipped 1' '' capture stopped plant "$chain/plant.json"
+spent=$((($(date +%s%N) - begun) / 1000))
+
+# stop MOMENT WORD..: the program on these words, stopped after so many microseconds
+stop() {
+    local moment=$1
+    shift
+    "$recall" "$@" >/dev/null 2>&1 &
+    sleep "$(printf '%d.%06d' $((moment / 1000000)) $((moment % 1000000)))"
+    kill -9 $! 2>/dev/null
+    wait $! 2>/dev/null
+}
+
+old=0
+for ((n = 0; n < stops; n++)); do
+    rm -rf stopped && cp -r before stopped
+    stop $((spent * n / stops)) capture stopped plant "$chain/plant.json"
+    wants 0 '' '' audit stopped
+    case "$("$recall" capture stopped plant "$chain/plant.json")" in
+    'captured 5 known 0 skipped 1') old=$((old + 1)) ;;
+    'captured 0 known 5 skipped 1') ;;
+    *) echo "a capture was kept in part" >&2; failed=1 ;;
+    esac
+done
+echo "  $old of the captures left the record before"
+wants 0 'captured 5 known 0 skipped 1' '' capture before plant "$chain/plant.json"
+old=0
+for ((n = 0; n < stops; n++)); do
+    rm -rf stopped && cp -r before stopped
+    stop $((spent * n / stops)) start stopped plant "$tank"
+    "$recall" audit stopped >out 2>err
+    case "$?:$(cat out)$(cat err)" in
+    0:) old=$((old + 1)) ;;
+    '0:open plant#1') ;;
+    *) echo "audit after a stop: $(cat out err)" >&2; failed=1 ;;
+    esac
+done
+echo "  $old of the starts left the record before"
+[ "$failed" = 0 ] && echo "all as it should be"
+exit "$failed"
