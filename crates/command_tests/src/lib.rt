@@ -1,4 +1,4 @@
-//! Scripts, reports and commands on files, by what they print.
+//! Scripts, reports, commands on files and command lines, by what they print.
 #![tactic(auto)]
 
 #[cfg(test)]
@@ -7,3 +7,5 @@ mod commands;
 mod reports;
 #[cfg(test)]
 mod scripts;
+#[cfg(test)]
+mod words;

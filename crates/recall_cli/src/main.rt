@@ -4,16 +4,10 @@
 //! status that it answers.
 #![tactic(auto)]
 
-mod command_lines;
-mod commands;
-mod helps;
 mod host_files;
-mod statuses;
-#[cfg(test)]
-mod tests;
 
-use commands::run_command;
 use host_files::HostFiles;
+use recall_commands::{BAD_COMMAND_LINE, FAULT, run_command};
 use std::env;
 use std::io::{self, ErrorKind};
 use std::process::ExitCode;
@@ -24,11 +18,11 @@ fn main(rt: HostRuntime) -> ExitCode {
         Ok(words) => words,
         Err(error) if error.kind() == ErrorKind::OutOfMemory => {
             let _ = rt.eprintln("fault NoMemory");
-            return ExitCode::from(statuses::FAULT);
+            return ExitCode::from(FAULT);
         }
         Err(_) => {
             let _ = rt.eprintln("error: a word of the command line is not text");
-            return ExitCode::from(statuses::BAD_COMMAND_LINE);
+            return ExitCode::from(BAD_COMMAND_LINE);
         }
     };
     let status = run_command(

@@ -1,0 +1,26 @@
+use Rattle.std.proofs.Common.{rules}
+use Rattle.recall_commands.proofs.Endings.{ends_mistaken}
+use Rattle.recall_commands.proofs.Words.{sim_is_no_help, sim_is_not_bad, sim_is_no_files, help_is_no_sim, help_is_not_bad, help_is_no_files}
+use Rattle.recall_commands.proofs.commands.run_command.Goals as goal
+
+pub returns-in-Ok-Sim-clause-help : goal.returns-in-Ok-Sim-clause-help
+returns-in-Ok-Sim-clause-help g c = λ name e. absurd (help_is_no_sim _ name (rw c.in-Ok-Sim.field-0-is at c.in-Ok-Sim.ensures) e)
+
+pub returns-in-Ok-Help-clause-sim : goal.returns-in-Ok-Help-clause-sim
+returns-in-Ok-Help-clause-sim g c = λ name e. absurd (sim_is_no_help _ name (rw c.in-Ok-Help.field-0-is at c.in-Ok-Help.ensures) e)
+
+pub returns-in-Ok-Mistake-clause-sim : goal.returns-in-Ok-Mistake-clause-sim
+returns-in-Ok-Mistake-clause-sim g c = λ name e. absurd (sim_is_not_bad _ name (rw c.in-Ok-Mistake.field-0-is at c.in-Ok-Mistake.ensures) e)
+
+pub returns-in-Ok-Mistake-clause-help : goal.returns-in-Ok-Mistake-clause-help
+returns-in-Ok-Mistake-clause-help g c = λ name e. absurd (help_is_not_bad _ name (rw c.in-Ok-Mistake.field-0-is at c.in-Ok-Mistake.ensures) e)
+
+pub returns-in-Ok-Files-clause-sim : goal.returns-in-Ok-Files-clause-sim
+returns-in-Ok-Files-clause-sim g c = λ name e. absurd (sim_is_no_files _ name _ (rw c.in-Ok-Files.field-0-is at c.in-Ok-Files.ensures) e)
+
+pub returns-in-Ok-Files-clause-help : goal.returns-in-Ok-Files-clause-help
+returns-in-Ok-Files-clause-help g c = λ name e. absurd (help_is_no_files _ name _ (rw c.in-Ok-Files.field-0-is at c.in-Ok-Files.ensures) e)
+
+pub returns-in-Ok-Mistake-clause-ends : goal.returns-in-Ok-Mistake-clause-ends
+returns-in-Ok-Mistake-clause-ends g c =
+    ends_mistaken c.args.words.now _ _ _ (rw c.in-Ok-Mistake.field-0-is at c.in-Ok-Mistake.ensures) (search rules) (search rules) c.say.ensures

@@ -1,0 +1,111 @@
+-- What the words of a command line ask for, as `clap` reads them.
+use Rattle.std.specs.Prelude.{◌≡◌, ◌≢◌, ℕ, true, List, [], Option, Some, codes, map, string_bytes}
+use Rattle.std.specs.Global.{Global}
+use Rattle.std.specs.declared.string.String.{String}
+use Rattle.clap.specs.Words.{App, Row, Rule, Text, new_app, new_rule, with_rule, with_subcommand, first_of, subcommand_of, Kinds, IsAmong, fault_of}
+use Rattle.clap.specs.declared.error.ErrorKind.{ErrorKind}
+use Rattle.clap.specs.declared.error.ErrorKind.TheVariants.{DisplayHelp, OutOfMemory}
+use Rattle.recall_commands.specs.declared.command_lines.Asked.{Asked}
+use Rattle.recall_commands.specs.declared.command_lines.Asked.TheVariants as asked
+use Rattle.recall_commands.specs.declared.command_lines.FileCommand.{FileCommand}
+use Rattle.recall_commands.specs.declared.command_lines.FileCommand.TheVariants.{Init, Capture, Start, Report, Audit}
+
+-- the words as texts
+abbrev pub texts_of : List (String Global) → List (List ℕ)
+texts_of words = map string_bytes words
+
+-- ---- the commands, with the names of their arguments, each of which has to be there
+
+abbrev pub required : Text → Rule
+required name = record (new_rule name) { required = true }
+
+abbrev pub on_folder : Text → App
+on_folder name = with_rule (new_app name) (required (codes "dir"))
+
+abbrev pub sim : App
+sim = new_app (codes "sim")
+
+abbrev pub init : App
+init = with_rule (on_folder (codes "init")) (required (codes "sites"))
+
+abbrev pub capture : App
+capture = with_rule (with_rule (on_folder (codes "capture")) (required (codes "site"))) (required (codes "file"))
+
+abbrev pub start : App
+start = with_rule (with_rule (on_folder (codes "start")) (required (codes "site"))) (required (codes "epc"))
+
+abbrev pub report : App
+report = with_rule (on_folder (codes "report")) (required (codes "recall"))
+
+abbrev pub audit : App
+audit = on_folder (codes "audit")
+
+-- `recall` itself, which has to have one of them
+abbrev pub needing : App → App
+needing a = record a { top = record a.top { subcommand_required = true } }
+
+abbrev pub with_command : App → App → App
+with_command above below = with_subcommand above below.top
+
+abbrev pub recall : App
+recall =
+    with_command (with_command (with_command (with_command (with_command (with_command (needing (new_app (codes "recall"))) sim) init) capture) start) report) audit
+
+-- ---- what words ask for
+
+-- what is wrong with the words, by kind; no kind where nothing is. Help that is asked for is the kind DisplayHelp.
+abbrev pub faults_of : List (List ℕ) → Kinds
+faults_of words = fault_of recall words
+
+-- the command that the words name, with its arguments
+abbrev pub named : List (List ℕ) → Option (Text × List Row)
+named words = subcommand_of recall words
+
+-- the argument of this name
+abbrev pub Gives : List Row → Text → Text → Type 0
+Gives rows name value = first_of name rows ≡ Some value
+
+-- the command has this name and these arguments
+abbrev pub IsCommand : FileCommand → Text → List Row → Type 0
+IsCommand (Init folder list) name rows = (name ≡ codes "init") × Gives rows (codes "dir") folder.now × Gives rows (codes "sites") list.now
+IsCommand (Capture folder site file) name rows =
+    (name ≡ codes "capture") × Gives rows (codes "dir") folder.now × Gives rows (codes "site") site.now × Gives rows (codes "file") file.now
+IsCommand (Start folder site item) name rows =
+    (name ≡ codes "start") × Gives rows (codes "dir") folder.now × Gives rows (codes "site") site.now × Gives rows (codes "epc") item.now
+IsCommand (Report folder recall) name rows = (name ≡ codes "report") × Gives rows (codes "dir") folder.now × Gives rows (codes "recall") recall.now
+IsCommand (Audit folder) name rows = (name ≡ codes "audit") × Gives rows (codes "dir") folder.now
+
+-- the named command is asked for
+abbrev pub AsksNamed : Option (Text × List Row) → Asked → Type 0
+AsksNamed (Some (name, rows)) asked.Sim = name ≡ codes "sim"
+AsksNamed (Some (name, rows)) (asked.Files command) = IsCommand command name rows
+AsksNamed named other = ⊥
+
+-- nothing is wrong with the words: a script is to be run
+abbrev pub AsksSim : List (List ℕ) → Type 0
+AsksSim words = (faults_of words ≡ []) × AsksNamed (named words) asked.Sim
+
+-- or a command on files
+abbrev pub AsksFiles : List (List ℕ) → FileCommand → Type 0
+AsksFiles words command = (faults_of words ≡ []) × AsksNamed (named words) (asked.Files command)
+
+abbrev pub AsksHelp : List (List ℕ) → Type 0
+AsksHelp words = IsAmong DisplayHelp (faults_of words)
+
+-- something else is wrong with them
+abbrev pub IsBad : List (List ℕ) → Type 0
+IsBad words = (kind : ErrorKind) × IsAmong kind (faults_of words) × (kind ≢ DisplayHelp)
+
+-- the words ask for this
+abbrev pub AsksFor : List (List ℕ) → Asked → Type 0
+AsksFor words asked.Sim = AsksSim words
+AsksFor words (asked.Files command) = AsksFiles words command
+AsksFor words (asked.Help text) = AsksHelp words
+AsksFor words (asked.Mistake text) = IsBad words
+
+-- what an error of this kind is told as
+abbrev pub IsToldAs : ErrorKind → Asked → Type 0
+IsToldAs kind asked.Sim = ⊥
+IsToldAs kind (asked.Files command) = ⊥
+IsToldAs kind (asked.Help text) = kind ≡ DisplayHelp
+IsToldAs kind (asked.Mistake text) = (kind ≢ DisplayHelp) × (kind ≢ OutOfMemory)

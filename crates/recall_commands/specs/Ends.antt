@@ -1,0 +1,113 @@
+-- How a command ends: with which status, and what it leaves on its streams.
+use Rattle.std.specs.Prelude.{◌≡◌, ◌⊎◌, ◌==◌, ℕ, List, [], ◌∷◌, Option, Result, Ok, Err, IfOk, IfSome, codes, if◌then◌else◌}
+use Rattle.std.specs.Global.{Global}
+use Rattle.std.specs.declared.string.String.{String}
+use Rattle.std.specs.Io.KnownBytes.{Appends, Keeps}
+use Rattle.script_core.specs.Runs.{IsDone, Leaves}
+use Rattle.script_core.specs.Writing.{AppendsBeginning}
+use Rattle.script_core.specs.declared.faults.ScriptFault.{ScriptFault}
+use Rattle.script_core.specs.declared.faults.ScriptFault.TheVariants as faults
+use Rattle.script_core.specs.declared.tallies.Tally.{Tally}
+use Rattle.site_commands.specs.Answers.{IsAnswer, answer_status, answer_text}
+use Rattle.recall_commands.specs.CommandLines.{AsksSim, AsksFiles, AsksHelp, IsBad, texts_of}
+use Rattle.site_commands.specs.Faults.{fault_line}
+use Rattle.site_commands.specs.declared.answers.Answer.{Answer}
+use Rattle.recall_commands.specs.declared.command_lines.FileCommand.{FileCommand}
+use Rattle.site_commands.specs.declared.faults.Fault.{Fault}
+use Rattle.site_commands.specs.declared.faults.Fault.TheVariants.{NoMemory, Write}
+
+-- what the input still has, and what the output and the error stream hold, where they tell it
+pub record Streams : Type 0 where
+  pub input : Option (List ℕ)
+  pub output : Option (List ℕ)
+  pub errors : Option (List ℕ)
+
+-- the line that tells a fault of a script
+abbrev pub script_fault_line : ScriptFault → List ℕ
+script_fault_line faults.NoMemory = codes "fault NoMemory\n"
+script_fault_line faults.Read = codes "fault Read\n"
+script_fault_line faults.Write = codes "fault Write\n"
+script_fault_line faults.LineTooLong = codes "fault LineTooLong\n"
+script_fault_line faults.TurnsSpent = codes "fault TurnsSpent\n"
+
+-- the script was answered to its end: status 0 where nothing was refused, else 1
+pub record ScriptDone (script : List ℕ) (before after : Streams) (status : ℕ) : Type 0 where
+  pub tally : Tally
+  pub done : IsDone script before.output after.output tally
+  pub silent : Keeps before.errors after.errors
+  pub status_is : status ≡ (if tally.refused == 0 then 0 else 1)
+
+-- a fault ended it: status 3, and its line on the error stream, as far as that takes it
+pub record ScriptFailed (script : List ℕ) (before after : Streams) (status : ℕ) : Type 0 where
+  pub fault : ScriptFault
+  pub leaves : Leaves fault script after.input before.output after.output
+  pub told : AppendsBeginning before.errors after.errors (script_fault_line fault)
+  pub status_is : status ≡ 3
+
+-- a script was run
+abbrev pub RunsScript : Streams → Streams → ℕ → Type 0
+RunsScript before after status = IfSome before.input (λ script. ScriptDone script before after status ⊎ ScriptFailed script before after status)
+
+-- a text was printed, and this is its status; or printing failed: status 3, and the fault's line on the error stream
+abbrev pub TextEnds : ℕ → List ℕ → Option (List ℕ) → Option (List ℕ) → Option (List ℕ) → Option (List ℕ) → ℕ → Type 0
+TextEnds done text output output_after errors errors_after status =
+    ((status ≡ done) × Appends output output_after text × Keeps errors errors_after)
+    ⊎ ((status ≡ 3) × AppendsBeginning output output_after text × AppendsBeginning errors errors_after (fault_line Write))
+
+-- what came of a command on files is told: its answer with its status; or its fault, with status 3, and no answer
+abbrev pub TellsOutcome : Result Answer Fault → Option (List ℕ) → Option (List ℕ) → Option (List ℕ) → Option (List ℕ) → ℕ → Type 0
+TellsOutcome (Ok answer) output output_after errors errors_after status =
+    TextEnds (answer_status answer) (answer_text answer) output output_after errors errors_after status
+TellsOutcome (Err fault) output output_after errors errors_after status =
+    (status ≡ 3) × Keeps output output_after × AppendsBeginning errors errors_after (fault_line fault)
+
+-- a script was asked for, and it was run
+abbrev pub RunsAsked : List (List ℕ) → Streams → Streams → ℕ → Type 0
+RunsAsked words before after status = AsksSim words × RunsScript before after status
+
+-- a command on files was asked for, and what came of it was told: with status 1 only refusals
+pub record DoesFiles (words : List (List ℕ)) (before after : Streams) (status : ℕ) : Type 0 where
+  pub command : FileCommand
+  pub asked : AsksFiles words command
+  pub outcome : Result Answer Fault
+  pub is_answer : IfOk outcome IsAnswer
+  pub unread : Keeps before.input after.input
+  pub told : TellsOutcome outcome before.output after.output before.errors after.errors status
+
+-- help was asked for, and that was the answer
+pub record Helps (words : List (List ℕ)) (before after : Streams) (status : ℕ) : Type 0 where
+  pub asked : AsksHelp words
+  pub text : List ℕ
+  pub unread : Keeps before.input after.input
+  pub ends : TextEnds 0 text before.output after.output before.errors after.errors status
+
+-- the command line is bad: status 2, and what is wrong with it on the error stream
+pub record IsMistaken (words : List (List ℕ)) (before after : Streams) (status : ℕ) : Type 0 where
+  pub bad : IsBad words
+  pub text : List ℕ
+  pub unread : Keeps before.input after.input
+  pub unwritten : Keeps before.output after.output
+  pub told : AppendsBeginning before.errors after.errors text
+  pub status_is : status ≡ 2
+
+-- memory ran out before the command was known: status 3, and that line on the error stream
+pub record LacksMemory (before after : Streams) (status : ℕ) : Type 0 where
+  pub unread : Keeps before.input after.input
+  pub unwritten : Keeps before.output after.output
+  pub told : AppendsBeginning before.errors after.errors (fault_line NoMemory)
+  pub status_is : status ≡ 3
+
+-- how a command line ends
+abbrev pub Ends : List (String Global) → Streams → Streams → ℕ → Type 0
+Ends words before after status =
+    RunsAsked (texts_of words) before after status ⊎ (DoesFiles (texts_of words) before after status ⊎ (Helps (texts_of words) before after status ⊎ (IsMistaken (texts_of words) before after status ⊎ LacksMemory before after status)))
+
+-- `recall sim` runs the script, or memory ran out before
+abbrev pub SimRuns : List (String Global) → Streams → Streams → ℕ → Type 0
+SimRuns words before after status =
+    (name : List ℕ) → texts_of words ≡ name ∷ codes "sim" ∷ [] → RunsScript before after status ⊎ LacksMemory before after status
+
+-- `recall --help` gives help, or memory ran out before
+abbrev pub HelpHelps : List (String Global) → Streams → Streams → ℕ → Type 0
+HelpHelps words before after status =
+    (name : List ℕ) → texts_of words ≡ name ∷ codes "--help" ∷ [] → Helps (texts_of words) before after status ⊎ LacksMemory before after status

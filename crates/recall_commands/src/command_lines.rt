@@ -1,0 +1,226 @@
+//! What the words of a command line ask for.
+
+ghost use Rattle.std.specs.Prelude.{◌≡◌, false, IfOk, IfSome, codes};
+ghost use Rattle.clap.specs.Words.{app_of, found_of, kind_of, rows_of, rule_of, subcommand_rows_of};
+ghost use Rattle.recall_commands.specs.CommandLines.{audit, capture, init, on_folder, recall, report, required, sim, start, texts_of, AsksFor, AsksNamed, Gives, IsCommand, IsToldAs};
+
+use crate::helps;
+use clap::error::ErrorKind;
+use clap::{Arg, ArgMatches, Command, Error};
+use std::alloc::{AllocError, Global};
+
+/// What a command line asks for.
+#[derive(Debug, Drop)]
+pub(crate) enum Asked<'a> {
+    /// A script from the standard input.
+    Sim,
+    /// Something of the sites' files.
+    Files(FileCommand<'a>),
+    /// Help, which is an answer.
+    Help(String),
+    /// A bad command line, with what is wrong with it.
+    Mistake(String),
+}
+
+/// A command on the sites' files in a folder.
+#[derive(Debug, Drop)]
+pub(crate) enum FileCommand<'a> {
+    /// A file is made for each site of a list.
+    Init {
+        folder: &'a str,
+        list: &'a str,
+    },
+    /// A document is captured at a site.
+    Capture {
+        folder: &'a str,
+        site: &'a str,
+        file: &'a str,
+    },
+    /// A recall of an item is started at a site.
+    Start {
+        folder: &'a str,
+        site: &'a str,
+        item: &'a str,
+    },
+    /// A recall is reported.
+    Report {
+        folder: &'a str,
+        recall: &'a str,
+    },
+    /// All sites are audited.
+    Audit {
+        folder: &'a str,
+    },
+}
+
+/// Reads the words of a command line, the program's name first.
+pub(crate) fn read<'a>(alloc: Global, words: &'a [String]) -> Result<Asked<'a>, AllocError>
+    ensures { IfOk result (AsksFor (texts_of words.now)) }
+{
+    let command = recall(alloc)?;
+    match command.try_get_matches_from(words) {
+        // The command has no other subcommands, and no argument is left out.
+        Ok(matches) => named(&matches).ok_or(AllocError),
+        Err(error) => of_error(alloc, &error),
+    }
+}
+
+/// What the subcommand that was met asks for.
+fn named<'a>(matches: &ArgMatches<'a>) -> Option<Asked<'a>>
+    ensures { IfSome result (AsksNamed (subcommand_rows_of matches.now)) }
+{
+    let (name, given) = matches.subcommand()?;
+    if name == "sim" {
+        return Some(Asked::Sim);
+    }
+    Some(Asked::Files(file_command(name, given)?))
+}
+
+/// The command of a name on the sites' files.
+fn file_command<'a>(name: &str, given: &ArgMatches<'a>) -> Option<FileCommand<'a>>
+    ensures { IfSome result (λ c. IsCommand c name.now (rows_of (found_of given.now))) }
+{
+    let folder = argument(given, "dir")?;
+    if name == "init" {
+        let list = argument(given, "sites")?;
+        Some(FileCommand::Init { folder, list })
+    } else if name == "report" {
+        let recall = argument(given, "recall")?;
+        Some(FileCommand::Report { folder, recall })
+    } else if name == "audit" {
+        Some(FileCommand::Audit { folder })
+    } else {
+        site_command(name, folder, given)
+    }
+}
+
+/// The command of a name at one site.
+fn site_command<'a>(name: &str, folder: &'a str, given: &ArgMatches<'a>) -> Option<FileCommand<'a>>
+    requires { Gives (rows_of (found_of given.now)) (codes "dir") folder.now }
+    ensures { IfSome result (λ c. IsCommand c name.now (rows_of (found_of given.now))) }
+{
+    let site = argument(given, "site")?;
+    if name == "capture" {
+        let file = argument(given, "file")?;
+        Some(FileCommand::Capture { folder, site, file })
+    } else if name == "start" {
+        let item = argument(given, "epc")?;
+        Some(FileCommand::Start { folder, site, item })
+    } else {
+        None
+    }
+}
+
+/// The argument of a name.
+fn argument<'a>(given: &ArgMatches<'a>, name: &str) -> Option<&'a str>
+    ensures { IfSome result (λ v. Gives (rows_of (found_of given.now)) name.now v.now) }
+{
+    given.get_str(name)
+}
+
+/// The command `recall`.
+fn recall<'a>(alloc: Global) -> Result<Command<'a>, AllocError>
+    ensures { IfOk result (λ command. app_of command ≡ recall) }
+{
+    let program = Command::new(alloc, "recall")
+        .bin_name("recall")?
+        .about(helps::ABOUT)
+        .after_help(helps::PAGE)
+        .subcommand_required(true)
+        .subcommand(sim(alloc))?
+        .subcommand(init(alloc)?)?
+        .subcommand(capture(alloc)?)?;
+    program
+        .subcommand(start(alloc)?)?
+        .subcommand(report(alloc)?)?
+        .subcommand(audit(alloc)?)
+}
+
+/// An argument that has to be there.
+fn required<'a>(alloc: Global, name: &'a str, help: &'a str) -> Arg<'a>
+    ensures rule { rule_of result ≡ required name.entry.now }
+    ensures local { result.global ≡ false }
+{
+    Arg::new(alloc, name).required(true).help(help)
+}
+
+/// A command on a folder.
+fn on_folder<'a>(
+    alloc: Global,
+    name: &'a str,
+    about: &'a str,
+    example: &'a str,
+) -> Result<Command<'a>, AllocError>
+    ensures { IfOk result (λ command. app_of command ≡ on_folder name.entry.now) }
+{
+    Command::new(alloc, name)
+        .about(about)
+        .after_help(example)
+        .arg(required(alloc, "dir", "The folder of the sites' files"))
+}
+
+fn sim<'a>(alloc: Global) -> Command<'a>
+    ensures { app_of result ≡ sim }
+{
+    Command::new(alloc, "sim")
+        .about(helps::SIM_ABOUT)
+        .after_help(helps::SIM_EXAMPLE)
+}
+
+fn init<'a>(alloc: Global) -> Result<Command<'a>, AllocError>
+    ensures { IfOk result (λ command. app_of command ≡ init) }
+{
+    on_folder(alloc, "init", helps::INIT_ABOUT, helps::INIT_EXAMPLE)?.arg(required(
+        alloc,
+        "sites",
+        "The file that lists the sites",
+    ))
+}
+
+fn capture<'a>(alloc: Global) -> Result<Command<'a>, AllocError>
+    ensures { IfOk result (λ command. app_of command ≡ capture) }
+{
+    on_folder(
+        alloc,
+        "capture",
+        helps::CAPTURE_ABOUT,
+        helps::CAPTURE_EXAMPLE,
+    )?
+    .arg(required(alloc, "site", "The site that captures it"))?
+    .arg(required(alloc, "file", "The file of the document"))
+}
+
+fn start<'a>(alloc: Global) -> Result<Command<'a>, AllocError>
+    ensures { IfOk result (λ command. app_of command ≡ start) }
+{
+    on_folder(alloc, "start", helps::START_ABOUT, helps::START_EXAMPLE)?
+        .arg(required(alloc, "site", "The site that starts it"))?
+        .arg(required(alloc, "epc", "The EPC of the item"))
+}
+
+fn report<'a>(alloc: Global) -> Result<Command<'a>, AllocError>
+    ensures { IfOk result (λ command. app_of command ≡ report) }
+{
+    on_folder(alloc, "report", helps::REPORT_ABOUT, helps::REPORT_EXAMPLE)?.arg(required(
+        alloc,
+        "recall",
+        "The recall, as dairy#1",
+    ))
+}
+
+fn audit<'a>(alloc: Global) -> Result<Command<'a>, AllocError>
+    ensures { IfOk result (λ command. app_of command ≡ audit) }
+{
+    on_folder(alloc, "audit", helps::AUDIT_ABOUT, helps::AUDIT_EXAMPLE)
+}
+
+/// What an error of `clap` is told as. Help that was asked for is one of its errors.
+fn of_error<'a>(alloc: Global, error: &Error) -> Result<Asked<'a>, AllocError>
+    ensures { IfOk result (IsToldAs (kind_of error.now)) }
+{
+    match error.kind() {
+        ErrorKind::OutOfMemory => Err(AllocError),
+        ErrorKind::DisplayHelp => Ok(Asked::Help(error.to_string(alloc)?)),
+        _ => Ok(Asked::Mistake(error.to_string(alloc)?)),
+    }
+}

@@ -1,0 +1,149 @@
+//! What each command does.
+
+ghost use Rattle.std.specs.Prelude.{◌≡◌, ◌==◌, if◌then◌else◌, IfOk, Result, string_bytes};
+ghost use Rattle.std.specs.Io.KnownBytes.{Appends, Keeps};
+ghost use Rattle.script_core.specs.Writing.{AppendsBeginning};
+ghost use Rattle.site_commands.specs.Answers.{IsAnswer};
+ghost use Rattle.recall_commands.specs.Ends.{Ends, SimRuns, HelpHelps, RunsScript, TextEnds, TellsOutcome, script_fault_line};
+ghost use Rattle.site_commands.specs.Faults.{fault_line};
+
+use crate::command_lines::{self, Asked, FileCommand};
+use crate::statuses;
+use keeper_core::SiteKeeper;
+use script_core::{ScriptFault, Tally, run_script, write_text};
+use site_commands::{Answer, Fault, Files, audit_sites, capture, init, report_recall, start};
+use std::alloc::Global;
+use std::io::{Read, Write};
+
+/// Does what the words of a command line ask for, and answers the status to end with: 0 done, 1
+/// something was refused, 2 bad command line, 3 a fault that isn't printed as `refused`, want of
+/// memory too, 4 an audit found something amiss.
+///
+/// The words begin with the program's name. Answers, refusals and help go to `output`, faults and
+/// what is wrong with a command line to `errors`. What contracts don't say of the commands on the
+/// sites' files is what stands in the files.
+pub fn run_command<K: SiteKeeper, F: Files<K>, R: Read, W: Write, E: Write>(
+    alloc: Global,
+    files: &mut F,
+    words: &[String],
+    input: &mut R,
+    output: &mut W,
+    errors: &mut E,
+) -> u8
+    ensures ends { Ends words.now (record { input = R.remaining input.old; output = W.contents output.old; errors = E.contents errors.old })
+        (record { input = R.remaining input.new; output = W.contents output.new; errors = E.contents errors.new }) result }
+    ensures sim { SimRuns words.now (record { input = R.remaining input.old; output = W.contents output.old; errors = E.contents errors.old })
+        (record { input = R.remaining input.new; output = W.contents output.new; errors = E.contents errors.new }) result }
+    ensures help { HelpHelps words.now (record { input = R.remaining input.old; output = W.contents output.old; errors = E.contents errors.old })
+        (record { input = R.remaining input.new; output = W.contents output.new; errors = E.contents errors.new }) result }
+{
+    match command_lines::read(alloc, words) {
+        Ok(Asked::Sim) => sim(alloc, input, output, errors),
+        Ok(Asked::Files(command)) => {
+            let outcome = on_files(alloc, files, &command);
+            tell(&outcome, output, errors)
+        }
+        Ok(Asked::Help(text)) => print(text.as_str(), statuses::DONE, output, errors),
+        Ok(Asked::Mistake(text)) => {
+            say(errors, text.as_str());
+            statuses::BAD_COMMAND_LINE
+        }
+        Err(_) => fault(Fault::NoMemory, errors),
+    }
+}
+
+/// Runs a script.
+fn sim<R: Read, W: Write, E: Write>(
+    alloc: Global,
+    input: &mut R,
+    output: &mut W,
+    errors: &mut E,
+) -> u8
+    ensures { RunsScript (record { input = R.remaining input.old; output = W.contents output.old; errors = E.contents errors.old })
+        (record { input = R.remaining input.new; output = W.contents output.new; errors = E.contents errors.new }) result }
+{
+    match run_script(alloc, input, output) {
+        Ok(tally) => status_of(tally),
+        Err(cause) => {
+            say(errors, script_fault_line(cause));
+            statuses::FAULT
+        }
+    }
+}
+
+/// The status of a script that was answered to its end.
+fn status_of(tally: Tally) -> u8
+    ensures { result ≡ (if tally.refused == 0 then 0 else 1) }
+{
+    if tally.refused == 0 {
+        statuses::DONE
+    } else {
+        statuses::REFUSED
+    }
+}
+
+/// The line that tells a fault of a script.
+fn script_fault_line(cause: ScriptFault) -> &'static str
+    ensures { result.now ≡ script_fault_line cause }
+{
+    match cause {
+        ScriptFault::NoMemory => "fault NoMemory\n",
+        ScriptFault::Read => "fault Read\n",
+        ScriptFault::Write => "fault Write\n",
+        ScriptFault::LineTooLong => "fault LineTooLong\n",
+        ScriptFault::TurnsSpent => "fault TurnsSpent\n",
+    }
+}
+
+/// Does a command on the sites' files.
+fn on_files<K: SiteKeeper, F: Files<K>>(
+    alloc: Global,
+    files: &mut F,
+    command: &FileCommand<'_>,
+) -> Result<Answer, Fault>
+    ensures { IfOk result IsAnswer }
+{
+    match command {
+        FileCommand::Init { folder, list } => init(alloc, files, folder, list),
+        FileCommand::Capture { folder, site, file } => capture(alloc, files, folder, site, file),
+        FileCommand::Start { folder, site, item } => start(alloc, files, folder, site, item),
+        FileCommand::Report { folder, recall } => report_recall(alloc, files, folder, recall),
+        FileCommand::Audit { folder } => audit_sites(alloc, files, folder),
+    }
+}
+
+/// Prints what came of a command on the sites' files.
+fn tell<W: Write, E: Write>(outcome: &Result<Answer, Fault>, output: &mut W, errors: &mut E) -> u8
+    ensures { TellsOutcome outcome.now (W.contents output.old) (W.contents output.new) (E.contents errors.old) (E.contents errors.new) result }
+{
+    match outcome {
+        Ok(answer) => print(answer.text(), answer.status(), output, errors),
+        Err(cause) => fault(*cause, errors),
+    }
+}
+
+/// Prints a text, and answers the status where that is done.
+fn print<W: Write, E: Write>(text: &str, status: u8, output: &mut W, errors: &mut E) -> u8
+    ensures { TextEnds status text.now (W.contents output.old) (W.contents output.new) (E.contents errors.old) (E.contents errors.new) result }
+{
+    match write_text(output, text.as_bytes()) {
+        Ok(()) => status,
+        Err(_) => fault(Fault::Write, errors),
+    }
+}
+
+/// Prints a fault.
+fn fault<E: Write>(cause: Fault, errors: &mut E) -> u8
+    ensures status { result ≡ 3 }
+    ensures told { AppendsBeginning (E.contents errors.old) (E.contents errors.new) (fault_line cause) }
+{
+    say(errors, cause.line());
+    statuses::FAULT
+}
+
+/// Writes to the error stream. Where that fails there is nobody left to tell.
+fn say<E: Write>(errors: &mut E, text: &str)
+    ensures { AppendsBeginning (E.contents errors.old) (E.contents errors.new) text.now }
+{
+    let _ = write_text(errors, text.as_bytes());
+}

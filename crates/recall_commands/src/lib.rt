@@ -1,0 +1,10 @@
+//! What the words of a command line of `recall` ask for, and how it ends.
+#![tactic(auto)]
+
+mod command_lines;
+mod commands;
+mod helps;
+mod statuses;
+
+pub use commands::run_command;
+pub use statuses::{BAD_COMMAND_LINE, FAULT};
