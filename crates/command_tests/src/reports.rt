@@ -4,10 +4,10 @@
 //! take none, so that little has to be dropped where a call fails.
 ghost use Rattle.std.specs.Prelude.{◌<◌};
 
-use report_core::{OutsideShipment, RecallReport, ReportFault, Verdict, audit, report};
 use epc_core::{Epc, EpcForm};
 use event_json::{Sequence, SiteNo, Sites};
 use frame_core::{Frame, MsgId, RecallId};
+use report_core::{OutsideShipment, RecallReport, ReportFault, Verdict, audit, report};
 use site_core::{SiteInput, SiteState};
 use site_recovery::are_all_sites;
 use std::alloc::Global;

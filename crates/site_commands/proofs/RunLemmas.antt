@@ -45,12 +45,12 @@ module _ {K : Type 0} (shown : K → Option Record) where
 
     -- a misfit is told, and nothing else that hinders a run
     pub misfit_told : (sites : List Site) (old new : List K) (cause : GatherCause) (answer : Answer) → Hinders shown new cause → FitAfter shown may old cause new → TellsCause sites cause answer → AnswersRun shown sites old new answer
-    misfit_told sites old new (NotAWorld (worlds.Misfit misfit)) (Amiss text) (records, shows, one, is) fit told = (
+    misfit_told sites old new (NotAWorld (worlds.Misfit misfit)) (Amiss text) (records, shows, dont) fit told = (
       record {
         records = records;
         shows = subst (λ ks. AreShown shown ks records) fit (are_shown new records shows);
         misfit = misfit;
-        is_misfit = is;
+        is_misfit = dont.1;
         text_is = told;
       },
       fit,

@@ -69,7 +69,11 @@ pub fn audit_of(alloc: Global, sites: &Sites, records: &[&SiteState]) -> Result<
 }
 
 /// Which condition fails, and the site that it is charged to.
-pub(crate) fn misfit_text(alloc: Global, sites: &Sites, misfit: Misfit) -> Result<String, AllocError>
+pub(crate) fn misfit_text(
+    alloc: Global,
+    sites: &Sites,
+    misfit: Misfit,
+) -> Result<String, AllocError>
     ensures { IfOk result (λ t. string_bytes t ≡ misfit_text sites.now misfit) }
 {
     let condition = misfit.condition;

@@ -47,8 +47,8 @@ pub fn run_sites<K: SiteKeeper + Send, F: Files<K>, R: Threads + Wait + Sync>(
         return Err(Fault::BadSites);
     }
     let keepers = open_all(alloc, files, folder, &sites)?;
-    let (keepers, answer) = run_of(rt, alloc, &sites, keepers, turns);
-    close_all(files, keepers);
+    let (after, answer) = run_of(rt, alloc, &sites, keepers, turns);
+    close_all(files, after);
     answer
 }
 
@@ -152,11 +152,7 @@ fn tell_recalls<K: SiteKeeper>(
 }
 
 /// A line for each recall of these records, by site, then by number.
-fn recalls_text(
-    alloc: Global,
-    sites: &Sites,
-    records: &[&SiteState],
-) -> Result<String, AllocError>
+fn recalls_text(alloc: Global, sites: &Sites, records: &[&SiteState]) -> Result<String, AllocError>
     ensures { IfOk result (λ t. string_bytes t ≡ ran_texts sites.now (records_at records.now)) }
 {
     let mut text = String::new(alloc);
