@@ -1,5 +1,5 @@
 -- what the keepers show after a run
-use Rattle.std.proofs.Common.{◌≡◌, Option, Some, None, IsSome, List, [], ◌∷◌, All, refl, sym, subst}
+use Rattle.std.proofs.Common.{Option, IsSome, List, [], ◌∷◌, All, refl, sym, subst}
 use Rattle.std.proofs.lemmas.List.Elements.{All-cons, All-nil}
 use Rattle.std.specs.List.{AllZip}
 use Rattle.event_json.specs.Sites.{Site}
@@ -9,7 +9,6 @@ use Rattle.site_threads.specs.declared.gather.GatherCause.{GatherCause}
 use Rattle.site_threads.specs.declared.gather.GatherCause.TheVariants.{NotAWorld, NoMemory, SiteLost, GaveUp}
 use Rattle.site_threads.specs.declared.lists.SiteList.{SiteList}
 use Rattle.world_core.specs.Keepers.{AllShow}
-use Rattle.world_core.specs.declared.faults.WorldFault.{WorldFault}
 use Rattle.world_core.specs.declared.faults.WorldFault.TheVariants as worlds
 use Rattle.site_commands.specs.Calls.{AreShown}
 use Rattle.site_commands.specs.Runs.{AnswersRun, TellsCause}
