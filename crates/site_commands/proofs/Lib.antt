@@ -1,4 +1,5 @@
 pub mod AuditLemmas
 pub mod CallsInTurn
 pub mod ReportLemmas
+pub mod RunLemmas
 pub mod StepLemmas

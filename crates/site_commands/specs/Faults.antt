@@ -2,6 +2,10 @@
 use Rattle.std.specs.Prelude.{ℕ, List, [], ◌∷◌, ◌++◌, codes}
 use Rattle.keeper_core.specs.declared.faults.KeepFault.{KeepFault}
 use Rattle.keeper_core.specs.declared.faults.KeepFault.TheVariants as keeping
+use Rattle.site_threads.specs.declared.gather.GatherCause.{GatherCause}
+use Rattle.site_threads.specs.declared.gather.GatherCause.TheVariants as gathering
+use Rattle.world_core.specs.declared.faults.WorldFault.{WorldFault}
+use Rattle.world_core.specs.declared.faults.WorldFault.TheVariants as worlds
 use Rattle.site_commands.specs.declared.faults.Fault.{Fault}
 use Rattle.site_commands.specs.declared.faults.Fault.TheVariants as faults
 
@@ -18,6 +22,8 @@ fault_name faults.BadRow = codes "BadRow"
 fault_name faults.Device = codes "Device"
 fault_name faults.Store = codes "Store"
 fault_name faults.Closed = codes "Closed"
+fault_name faults.SiteLost = codes "SiteLost"
+fault_name faults.GaveUp = codes "GaveUp"
 
 -- the line that tells a fault
 abbrev pub fault_line : Fault → List ℕ
@@ -30,3 +36,16 @@ keeper_fault (keeping.Refused why) = faults.Closed
 keeper_fault keeping.Device = faults.Device
 keeper_fault keeping.Closed = faults.Closed
 keeper_fault keeping.Store = faults.Store
+
+-- the fault of a run of all sites; a misfit is none, but memory may run out for its text
+abbrev pub world_fault : WorldFault → Fault
+world_fault worlds.NoMemory = faults.NoMemory
+world_fault (worlds.OtherSites place) = faults.OtherSites
+world_fault (worlds.Misfit misfit) = faults.NoMemory
+world_fault (worlds.Closed place) = faults.Closed
+
+abbrev pub gather_fault : GatherCause → Fault
+gather_fault (gathering.NotAWorld fault) = world_fault fault
+gather_fault gathering.NoMemory = faults.NoMemory
+gather_fault (gathering.SiteLost site) = faults.SiteLost
+gather_fault (gathering.GaveUp site) = faults.GaveUp

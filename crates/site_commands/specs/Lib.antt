@@ -4,4 +4,5 @@ pub mod Calls
 pub mod Faults
 pub mod Folders
 pub mod Reports
+pub mod Runs
 pub mod Steps

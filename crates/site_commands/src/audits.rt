@@ -69,7 +69,11 @@ pub fn audit_of(alloc: Global, sites: &Sites, records: &[&SiteState]) -> Result<
 }
 
 /// Which condition fails, and the site that it is charged to.
-fn misfit_text(alloc: Global, sites: &Sites, misfit: Misfit) -> Result<String, AllocError>
+pub(crate) fn misfit_text(
+    alloc: Global,
+    sites: &Sites,
+    misfit: Misfit,
+) -> Result<String, AllocError>
     ensures { IfOk result (λ t. string_bytes t ≡ misfit_text sites.now misfit) }
 {
     let condition = misfit.condition;
@@ -101,12 +105,12 @@ fn audit_recalls(alloc: Global, sites: &Sites, records: &[&SiteState]) -> Result
 /// A recall as the site that began it keeps it.
 #[derive(Clone, Copy, Debug)]
 pub(crate) struct StartedRecall {
-    recall: RecallId,
-    ended: bool,
+    pub(crate) recall: RecallId,
+    pub(crate) ended: bool,
 }
 
 /// The recalls that the sites began, by site, then by number.
-fn begun(alloc: Global, records: &[&SiteState]) -> Result<Vec<StartedRecall>, AllocError>
+pub(crate) fn begun(alloc: Global, records: &[&SiteState]) -> Result<Vec<StartedRecall>, AllocError>
     ensures { IfOk result (λ v. v.items ≡ begun (records_at records.now)) }
 {
     let mut all = Vec::new(alloc);

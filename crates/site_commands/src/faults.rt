@@ -45,6 +45,12 @@ pub enum Fault {
     /// A site is closed.
     #[error("a site is closed")]
     Closed,
+    /// A site was closed in a run, and wasn't opened again.
+    #[error("a site is lost")]
+    SiteLost,
+    /// The gate of a site gave up.
+    #[error("the gate of a site gave up")]
+    GaveUp,
 }
 
 impl Fault {
@@ -65,6 +71,8 @@ impl Fault {
             Fault::Device => "fault Device\n",
             Fault::Store => "fault Store\n",
             Fault::Closed => "fault Closed\n",
+            Fault::SiteLost => "fault SiteLost\n",
+            Fault::GaveUp => "fault GaveUp\n",
         }
     }
 }

@@ -1,4 +1,4 @@
-//! Commands on the files of the sites in a folder: making them, capturing, starting a recall, reports and audits.
+//! Commands on the files of the sites in a folder: making them, capturing, starting a recall, a run of all sites, reports and audits.
 //!
 //! The files themselves stand behind the trait [`Files`].
 #![tactic(auto)]
@@ -9,6 +9,7 @@ mod faults;
 mod folders;
 mod making;
 mod reports;
+mod runs;
 mod steps;
 
 pub use answers::Answer;
@@ -17,4 +18,5 @@ pub use faults::Fault;
 pub use folders::Files;
 pub use making::init;
 pub use reports::{report_of, report_recall};
+pub use runs::{run_of, run_sites};
 pub use steps::{capture, start, step};

@@ -1,0 +1,23 @@
+use Rattle.site_commands.proofs.CallsInTurn.{ok_so}
+use Rattle.site_commands.proofs.runs.run_sites.Goals as goal
+
+pub returns-clause-calls : goal.returns-clause-calls
+returns-clause-calls g c =
+    let opened = c.in_ok-keepers.ensures.opened in
+    ok_so c.run_of-after.result.1
+    (λ a told. record {
+      sites = c.in_ok-sites.sites;
+      mid = c.sites_of.new.files;
+      listed = c.in_ok-sites.ensures;
+      told = record {
+        mid = c.open_all.new.files;
+        keepers = c.in_ok-keepers.keepers.items;
+        records = opened.0;
+        opened = opened.1;
+        number = c.in_ok-keepers.ensures.number;
+        after = c.run_of-after.result.0.items;
+        told = told;
+        closed = c.close_all.ensures;
+      };
+    })
+    c.run_of-after.ensures.answered

@@ -1,0 +1,94 @@
+-- What a run of all sites answers.
+use Rattle.std.specs.Prelude.{◌≡◌, ℕ, List, [], ◌∷◌, ◌++◌, length, Option, string_bytes}
+use Rattle.std.specs.List.{flat_map, AllZip}
+use Rattle.event_json.specs.Sites.{Site}
+use Rattle.script_core.specs.Words.{ended_word, recall_text}
+use Rattle.site_core.specs.Records.{Record}
+use Rattle.site_recovery.specs.Looks.{world_of}
+use Rattle.site_recovery.specs.Misfits.{IsMisfit}
+use Rattle.site_recovery.specs.declared.checking.Misfit.{Misfit}
+use Rattle.site_threads.specs.Gathering.{Began, FitAfter, Hinders, IsKept, StandTogether}
+use Rattle.site_threads.specs.declared.gather.GatherCause.{GatherCause}
+use Rattle.site_threads.specs.declared.gather.GatherCause.TheVariants.{NotAWorld}
+use Rattle.site_threads.specs.declared.lists.SiteList.{SiteList}
+use Rattle.world_core.specs.declared.faults.WorldFault.{WorldFault}
+use Rattle.world_core.specs.declared.faults.WorldFault.TheVariants as worlds
+use Rattle.site_commands.specs.Audits.{begun, misfit_text}
+use Rattle.site_commands.specs.Calls.{AreShown, ClosesAll, ListsSites, OpensFrom}
+use Rattle.site_commands.specs.Faults.{gather_fault}
+use Rattle.site_commands.specs.declared.answers.Answer.{Answer}
+use Rattle.site_commands.specs.declared.answers.Answer.TheVariants.{Done, Refused, Amiss}
+use Rattle.site_commands.specs.declared.audits.StartedRecall.{StartedRecall}
+use Rattle.site_commands.specs.declared.faults.Fault.{Fault}
+
+-- whether a recall has ended
+abbrev pub ran_text : List Site → StartedRecall → List ℕ
+ran_text sites b = recall_text sites b.recall ++ 32 ∷ (ended_word b.ended ++ 10 ∷ [])
+
+-- of those that sites began, in order
+abbrev pub ran_texts : List Site → List Record → List ℕ
+ran_texts sites records = flat_map (ran_text sites) (begun records)
+
+-- the keepers show records that stand together, and of each recall in them it is told whether it has ended
+pub record TellsRecalls {K : Type 0} (shown : K → Option Record) (sites : List Site) (keepers : List K) (text : List ℕ) : Type 0 where
+  pub records : List Record
+  pub shows : AreShown shown keepers records
+  pub together : StandTogether records
+  pub text_is : text ≡ ran_texts sites records
+
+-- the records that the keepers show don't fit together, and that is told
+pub record TellsTheMisfit {K : Type 0} (shown : K → Option Record) (sites : List Site) (keepers : List K) (text : List ℕ) : Type 0 where
+  pub records : List Record
+  pub shows : AreShown shown keepers records
+  pub misfit : Misfit
+  pub is_misfit : IsMisfit (length records) (world_of records) misfit.condition misfit.site
+  pub text_is : text ≡ misfit_text sites misfit
+
+module _ {K : Type 0} (shown : K → Option Record) (sites : List Site) where
+  -- each keeper is open in the record to which its steps lead from the one that it began with, and these are told
+  pub record CameToItsEnd (old new : List K) (text : List ℕ) : Type 0 where
+    pub lists : List SiteList
+    pub began : AllZip (Began shown) old lists
+    pub kept : AllZip (IsKept shown) new lists
+    pub told : TellsRecalls shown sites new text
+
+  -- the run came to its end; or there was none, since the records don't fit together, and the keepers are as they were
+  abbrev pub AnswersRun : List K → List K → Answer → Type 0
+  AnswersRun old new (Done text) = CameToItsEnd old new (string_bytes text)
+  AnswersRun old new (Refused text) = ⊥
+  AnswersRun old new (Amiss text) = TellsTheMisfit shown sites old (string_bytes text) × (new ≡ old)
+
+-- the misfit is told, of the causes that hinder a run
+abbrev pub TellsWorldFault : List Site → WorldFault → Answer → Type 0
+TellsWorldFault sites (worlds.Misfit misfit) (Amiss text) = string_bytes text ≡ misfit_text sites misfit
+TellsWorldFault sites fault answer = ⊥
+
+abbrev pub TellsCause : List Site → GatherCause → Answer → Type 0
+TellsCause sites (NotAWorld fault) answer = TellsWorldFault sites fault answer
+TellsCause sites cause answer = ⊥
+
+-- The run has no answer: the fault is that of a cause which hinders it. The keepers are as they were where they make no
+-- world, and else the sites stand together in whichever records they are open, or may be opened.
+pub record FailsRun {K : Type 0} (shown : K → Option Record) (may : K → Record → Type 0) (old new : List K) (fault : Fault) : Type 0 where
+  pub cause : GatherCause
+  pub hinders : Hinders shown new cause
+  pub fit : FitAfter shown may old cause new
+  pub fault_is : fault ≡ gather_fault cause
+
+-- the files of all sites were opened, the sites ran, and the files were closed
+pub record RunsAll {F K : Type 0} (opens : F → List ℕ → List ℕ → K → F → Type 0) (closes : F → K → F → Type 0) (shown : K → Option Record) (folder : List ℕ) (sites : List Site) (old new : F) (answer : Answer) : Type 0 where
+  pub mid : F
+  pub keepers : List K
+  pub records : List Record
+  pub opened : OpensFrom opens closes shown folder sites 0 old mid keepers records
+  pub number : length keepers ≡ length sites
+  pub after : List K
+  pub told : AnswersRun shown sites keepers after answer
+  pub closed : ClosesAll closes mid new after
+
+-- all sites of a folder ran
+pub record RunsAt {F K : Type 0} (reads : F → List ℕ → List ℕ → F → Type 0) (opens : F → List ℕ → List ℕ → K → F → Type 0) (closes : F → K → F → Type 0) (shown : K → Option Record) (folder : List ℕ) (old new : F) (answer : Answer) : Type 0 where
+  pub sites : List Site
+  pub mid : F
+  pub listed : ListsSites reads folder old mid sites
+  pub told : RunsAll opens closes shown folder sites mid new answer
