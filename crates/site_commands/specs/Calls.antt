@@ -4,6 +4,7 @@ use Rattle.std.specs.Prelude.{◌≡◌, ⊤, ◌≤◌, ◌+◌, ℕ, List, [],
 use Rattle.epc_core.specs.declared.items.EpcFault.{EpcFault}
 use Rattle.epc_core.specs.Reading.{reading}
 use Rattle.event_json.specs.Sites.{Site, named}
+use Rattle.frame_core.specs.Numbers.{Recall}
 use Rattle.script_core.specs.Numbers.{recall_of}
 use Rattle.script_core.specs.SiteLists.{IsSiteList}
 use Rattle.script_core.specs.Words.{name_at}

@@ -1,5 +1,5 @@
 -- What a run of all sites answers.
-use Rattle.std.specs.Prelude.{◌≡◌, ℕ, List, [], ◌∷◌, ◌++◌, length, Option, string_bytes}
+use Rattle.std.specs.Prelude.{◌≡◌, ℕ, All, List, [], ◌∷◌, ◌++◌, length, Option, string_bytes}
 use Rattle.std.specs.List.{flat_map, AllZip}
 use Rattle.event_json.specs.Sites.{Site}
 use Rattle.script_core.specs.Words.{ended_word, recall_text}
@@ -7,7 +7,11 @@ use Rattle.site_core.specs.Records.{Record}
 use Rattle.site_recovery.specs.Looks.{world_of}
 use Rattle.site_recovery.specs.Misfits.{IsMisfit}
 use Rattle.site_recovery.specs.declared.checking.Misfit.{Misfit}
-use Rattle.site_threads.specs.Gathering.{Began, FitAfter, Hinders, IsKept, StandTogether}
+use Rattle.site_threads.specs.Ends.{puts, AreEnds, IsDesk}
+use Rattle.site_threads.specs.Gathering.{Began, FitAfter, HasJobsOfEnd, Hinders, IsKept, StandTogether}
+use Rattle.site_threads.specs.Jobs.{jobs_in}
+use Rattle.site_threads.specs.declared.desks.Desk.{Desk}
+use Rattle.site_threads.specs.declared.desks.DeskOut.{DeskOut}
 use Rattle.site_threads.specs.declared.gather.GatherCause.{GatherCause}
 use Rattle.site_threads.specs.declared.gather.GatherCause.TheVariants.{NotAWorld}
 use Rattle.site_threads.specs.declared.lists.SiteList.{SiteList}
@@ -44,12 +48,29 @@ pub record TellsTheMisfit {K : Type 0} (shown : K → Option Record) (sites : Li
   pub is_misfit : IsMisfit (length records) (world_of records) misfit.condition misfit.site
   pub text_is : text ≡ misfit_text sites misfit
 
+-- no step of the list is a job, so each takes a frame
+abbrev pub HasNoJobs : SiteList → Type 0
+HasNoJobs l = jobs_in l.entries.items ≡ []
+
+-- the two ends of a desk at which no job was put
+pub record AreUnusedEnds (d : Desk) (o : DeskOut) : Type 0 where
+  pub desk : IsDesk d
+  pub none : puts d ≡ []
+  pub ends : AreEnds d o
+
+-- the list of a site whose desk got no job
+pub record IsListOf (d : Desk) (l : SiteList) : Type 0 where
+  pub unused : AreUnusedEnds d l.out
+  pub jobs : HasJobsOfEnd l
+
 module _ {K : Type 0} (shown : K → Option Record) (sites : List Site) where
-  -- each keeper is open in the record to which its steps lead from the one that it began with, and these are told
+  -- each keeper is open in the record to which its steps, of which none is a job, lead from the one that it began with;
+  -- and these records are told
   pub record CameToItsEnd (old new : List K) (text : List ℕ) : Type 0 where
     pub lists : List SiteList
     pub began : AllZip (Began shown) old lists
     pub kept : AllZip (IsKept shown) new lists
+    pub no_jobs : All HasNoJobs lists
     pub told : TellsRecalls shown sites new text
 
   -- the run came to its end; or there was none, since the records don't fit together, and the keepers are as they were

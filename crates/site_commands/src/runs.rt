@@ -3,11 +3,12 @@
 ghost use Rattle.std.specs.Prelude.{◌≡◌, ◌≤◌, ◌++◌, All, IfErr, IfOk, IsSome, OnOk, length, string_bytes};
 ghost use Rattle.site_recovery.specs.Checking.{records_at};
 ghost use Rattle.world_core.specs.Keepers.{AllShow};
+ghost use Rattle.std.specs.List.{AllZip};
 ghost use Rattle.site_threads.specs.Ends.{IsUnused};
 ghost use Rattle.site_threads.specs.Gathering.{KeepersFit};
 ghost use Rattle.site_commands.specs.Answers.{IsAnswer};
 ghost use Rattle.site_commands.specs.Faults.{gather_fault};
-ghost use Rattle.site_commands.specs.Runs.{AnswersRun, FailsRun, RunsAt, TellsCause, TellsRecalls, ran_text, ran_texts};
+ghost use Rattle.site_commands.specs.Runs.{AnswersRun, AreUnusedEnds, FailsRun, HasNoJobs, IsListOf, RunsAt, TellsCause, TellsRecalls, ran_text, ran_texts};
 
 use crate::answers::Answer;
 use crate::audits::{StartedRecall, begun, misfit_text};
@@ -17,7 +18,9 @@ use event_json::Sites;
 use keeper_core::SiteKeeper;
 use script_core::telling::{ended_word, recall_text};
 use site_core::SiteState;
-use site_threads::{Desk, DeskOut, FreeGate, GatherCause, GatherFault, Gathered, run_world};
+use site_threads::{
+    Desk, DeskOut, FreeGate, GatherCause, GatherFault, Gathered, SiteList, run_world,
+};
 use std::alloc::{AllocError, Global};
 use std::sync::Wait;
 use std::thread::Threads;
@@ -72,11 +75,12 @@ pub fn run_of<K: SiteKeeper + Send, R: Threads + Wait + Sync>(
     ensures failed { IfErr result.1 (FailsRun K.shown K.may keepers.items result.0.items) }
     ensures sound { IfOk result.1 IsAnswer }
 {
-    let Ok((desks, gates)) = unused(alloc, keepers.len()) else {
+    let Ok(Idle { desks, ends, gates }) = unused(alloc, keepers.len()) else {
         return (keepers, Err(Fault::NoMemory));
     };
-    match run_world(rt, alloc, keepers, desks, gates, turns) {
-        Ok(Gathered { keepers, .. }) => {
+    match run_world(rt, alloc, keepers, ends, gates, turns) {
+        Ok(Gathered { keepers, lists }) => {
+            settle_all(desks, lists);
             let answer = match tell_recalls(alloc, sites, keepers.as_slice()) {
                 Ok(text) => Ok(Answer::Done(text)),
                 Err(_) => Err(Fault::NoMemory),
@@ -87,19 +91,42 @@ pub fn run_of<K: SiteKeeper + Send, R: Threads + Wait + Sync>(
     }
 }
 
-/// Ends of as many desks, at which no job is put, and gates that let every turn begin.
-fn unused(alloc: Global, count: usize) -> Result<(Vec<DeskOut>, Vec<FreeGate>), AllocError>
-    ensures desks { IfOk result (λ r. (length r.0.items ≡ count) × All IsUnused r.0.items) }
-    ensures gates { IfOk result (λ r. length r.1.items ≡ count) }
+/// What sites need for a run without jobs: both ends of a desk for each, and gates that let every turn begin.
+struct Idle {
+    desks: Vec<Desk>,
+    ends: Vec<DeskOut>,
+    gates: Vec<FreeGate>,
+}
+
+/// The same for as many sites.
+fn unused(alloc: Global, count: usize) -> Result<Idle, AllocError>
+    ensures count { IfOk result (λ u. (length u.ends.items ≡ count) × (length u.gates.items ≡ count)) }
+    ensures ends { IfOk result (λ u. AllZip AreUnusedEnds u.desks.items u.ends.items) }
+    ensures out { IfOk result (λ u. All IsUnused u.ends.items) }
 {
     let mut desks = Vec::new(alloc);
+    let mut ends = Vec::new(alloc);
     let mut gates = Vec::new(alloc);
     for _ in 0..count {
-        let (_, out) = Desk::new(alloc, 1)?;
-        desks.push(out)?;
+        let (desk, out) = Desk::new(alloc, 1)?;
+        desks.push(desk)?;
+        ends.push(out)?;
         gates.push(FreeGate)?;
     }
-    Ok((desks, gates))
+    Ok(Idle { desks, ends, gates })
+}
+
+/// No jobs stand in lists whose desks got none.
+fn settle_all(mut desks: Vec<Desk>, mut lists: Vec<SiteList>)
+    requires { AllZip IsListOf desks.items lists.items }
+    ensures { All HasNoJobs lists.items }
+{
+    while let Some(list) = lists.pop() {
+        let Some(desk) = desks.pop() else {
+            unreachable!()
+        };
+        list.settle(desk);
+    }
 }
 
 /// What is told where a run has no answer.

@@ -2,7 +2,7 @@ use Rattle.std.proofs.Common.{All, IsSome, refl, sym, subst}
 use Rattle.site_threads.specs.declared.gather.GatherCause.TheVariants.{NotAWorld}
 use Rattle.world_core.specs.declared.faults.WorldFault.TheVariants as worlds
 use Rattle.site_commands.proofs.CallsInTurn.{ok_so}
-use Rattle.site_commands.proofs.RunLemmas.{all_kept_open, misfit_told}
+use Rattle.site_commands.proofs.RunLemmas.{all_kept_open, lists_of_all, misfit_told}
 use Rattle.site_commands.proofs.runs.run_of.Goals as goal
 
 pub returns-in_default-clause-failed : goal.returns-in_default-clause-failed
@@ -15,8 +15,13 @@ tell_recalls-requires-clause-open g c =
     subst (λ ks. All (λ (k : g.row.K.Denot). IsSome (shown k)) ks) (sym c.as_slice.ensures.value)
     (all_kept_open shown gathered.keepers.items gathered.lists.items c.in-Ok-run_world.ensures.kept)
 
-pub returns-clause-answered : goal.returns-clause-answered
-returns-clause-answered g c =
+pub settle_all-requires : goal.settle_all-requires
+settle_all-requires g c =
+    let gathered = c.in-Ok-run_world.field-0 in
+    lists_of_all g.K.SiteKeeper.shown gathered.keepers.items c.in-Ok.field-0.desks.items c.in-Ok.field-0.ends.items gathered.lists.items c.in-Ok.ensures.ends c.in-Ok-run_world.ensures.ends c.in-Ok-run_world.ensures.kept
+
+pub returns-in-Err-clause-answered : goal.returns-in-Err-clause-answered
+returns-in-Err-clause-answered g c =
     let left = c.in-Err.field-0 in
     let why = c.in-Err.ensures.err in
     ok_so c.tell_cause.result

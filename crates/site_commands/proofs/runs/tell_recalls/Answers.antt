@@ -1,4 +1,4 @@
-use Rattle.std.proofs.Common.{ap, ◌∙◌}
+use Rattle.std.proofs.Common.{sym, ap, subst, ◌∙◌}
 use Rattle.site_recovery.specs.Checking.{records_at}
 use Rattle.site_commands.specs.Runs.{ran_texts}
 use Rattle.site_commands.proofs.CallsInTurn.{ok_so}
