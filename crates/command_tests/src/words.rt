@@ -1,7 +1,7 @@
 //! The program's commands on words and streams in memory.
 
-use recall_commands::run_command;
 use keeper_core::MemoryKeeper;
+use recall_commands::run_command;
 use site_commands::{Fault, Files};
 use site_core::SiteState;
 use std::alloc::Global;
