@@ -1,9 +1,11 @@
 -- What clauses say of the sites of a run.
-use Rattle.std.specs.Prelude.{◌≡◌, ◌++◌, Option, None, IsSome, IfSome}
+use Rattle.std.specs.Prelude.{◌≡◌, ◌++◌, Bool, true, false, Option, None, IsSome, IfSome}
 use Rattle.crossbeam_channel.specs.Ends.{receives_on}
 use Rattle.site_core.specs.Records.{Record}
 use Rattle.wire_core.specs.Seats.{Line, IsSeatOf}
 use Rattle.site_threads.specs.declared.runs.SiteRun.{SiteRun}
+use Rattle.site_threads.specs.declared.runs.Turned.{Turned}
+use Rattle.site_threads.specs.declared.runs.Turned.TheVariants.{Changed, Idle, Ended}
 use Rattle.site_threads.specs.Ends.{takes, IsOut}
 use Rattle.site_threads.specs.Jobs.{jobs_in, option_items}
 use Rattle.site_threads.specs.Keepers.{shown_in}
@@ -24,6 +26,12 @@ pub record SameRun {K G : Type 0} (old new : SiteRun K G) : Type 0 where
   pub me : new.turn.site.me ≡ old.turn.site.me
   pub start : new.turn.site.start.value ≡ old.turn.site.start.value
   pub desk : receives_on new.out.from ≡ receives_on old.out.from
+
+-- the site goes on after the turn
+abbrev pub goes_on : Turned → Bool
+goes_on Changed = true
+goes_on Idle = true
+goes_on Ended = false
 
 module _ {K G : Type 0} (shown : K → Option Record) (may : K → Record → Type 0) (wire : Line) where
   -- a run that has not begun

@@ -8,7 +8,7 @@ ghost use Rattle.site_threads.specs.Ends.{puts, takes, IsDesk, IsOut, AreEnds};
 
 use crate::jobs::{Job, Receipt};
 use crossbeam_channel::protocol::{Free, Join, Lesson, Outcome, Protocol, Split};
-use crossbeam_channel::{Pass, RuledReceiver, RuledSender, bounded_with};
+use crossbeam_channel::{Pass, RuledReceiver, RuledSender, TryRecvError, bounded_with};
 use std::alloc::{AllocError, Global};
 use std::collections::LinkedList;
 use std::sync::Wait;
@@ -136,6 +136,8 @@ pub struct DeskOut {
     pub count: u64,
     /// How many there can be.
     pub limit: u64,
+    /// Whether the channel told that the other end was dropped, and no job is left.
+    pub gone: bool,
 }
 
 impl Desk {
@@ -169,6 +171,7 @@ impl Desk {
                 teller,
                 count: 0,
                 limit,
+                gone: false,
             },
         ))
     }
@@ -222,7 +225,10 @@ impl DeskOut {
                 self.count += 1;
                 Some(job)
             }
-            Err(_) => None,
+            Err(why) => {
+                self.gone = matches!(why, TryRecvError::Disconnected);
+                None
+            }
         }
     }
 

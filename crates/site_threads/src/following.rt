@@ -63,7 +63,7 @@ pub fn view_of<K: SiteKeeper>(keeper: &Option<K>) -> Option<&SiteState>
 }
 
 /// Whether no count differs.
-fn are_same(one: Stamp, other: Stamp) -> bool
+pub fn are_same(one: Stamp, other: Stamp) -> bool
     ensures { IsTrue result ↔ (one ≡ other) }
 {
     one.events == other.events

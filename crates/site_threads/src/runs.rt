@@ -1,23 +1,27 @@
 //! The sites of a run, each in a thread of its own.
-ghost use Rattle.std.specs.Prelude.{◌≡◌, ◌+◌, ◌++◌, ◌^◌, ◌<◌, ◌≤◌, ℕ, List, None, All, IfSome, IsSome, is_none, length, slice_index_or};
+ghost use Rattle.std.specs.Prelude.{◌≡◌, ◌+◌, ◌++◌, ◌^◌, ◌<◌, ◌≤◌, ℕ, List, None, true, All, IfSome, IsSome, is_none, length, slice_index_or};
 ghost use Rattle.crossbeam_channel.specs.Ends.{receives_on};
 ghost use Rattle.site_threads.specs.Ends.{takes, IsOut};
 ghost use Rattle.site_threads.specs.Jobs.{option_items};
 ghost use Rattle.site_threads.specs.Keepers.{shown_in};
-ghost use Rattle.site_threads.specs.Runs.{IsRun, IsReady, SameRun, Ran};
+ghost use Rattle.site_threads.specs.Runs.{IsRun, IsReady, SameRun, Ran, goes_on};
 ghost use Rattle.site_threads.specs.Running.{marks_in};
 ghost use Rattle.site_threads.specs.Turns.{IfLost};
 ghost use Rattle.site_threads.specs.declared.jobs.Job.{Job};
 ghost use Rattle.site_threads.specs.declared.runs.SiteRun.{SiteRun};
 
 use crate::desks::DeskOut;
+use crate::following::{are_same, view_of};
 use crate::gates::Gate;
 use crate::jobs::Job;
+use crate::stamps::Stamp;
 use crate::turns::{SiteTurn, TurnCause, TurnFault, TurnReport, lost};
 use keeper_core::SiteKeeper;
 use std::sync::Wait;
+use std::sync::atomic::{AtomicU64, Ordering};
 use std::thread;
 use std::thread::Threads;
+use std::time::{Clock, Duration};
 use wire_core::Wire;
 
 /// A site with the desk that it takes its jobs from.
@@ -53,45 +57,113 @@ fn ends_run(cause: TurnCause) -> Option<TurnCause>
     }
 }
 
+/// Sleeps for so many microseconds, where they aren't 0.
+fn pause<R: Clock>(rt: &R, micros: u64) {
+    if micros > 0 {
+        thread::sleep(rt, Duration::from_micros(micros));
+    }
+}
+
+/// How many microseconds a site sleeps after one more turn in which nothing was done: 100 for each of them, at most
+/// 1,000.
+fn longer(micros: u64) -> u64 {
+    micros.min(900) + 100
+}
+
+/// What was done in a turn.
+#[derive(Clone, Copy)]
+enum Turned {
+    /// A job was done, or the site's record changed.
+    Changed,
+    /// Neither.
+    Idle,
+    /// The site ended its run.
+    Ended,
+}
+
+/// What was done in a turn without a job, by the stamps of the records before and after it.
+fn without_job(before: Stamp, after: Stamp) -> Turned
+    ensures { goes_on result ≡ true }
+{
+    if are_same(before, after) {
+        Turned::Idle
+    } else {
+        Turned::Changed
+    }
+}
+
 impl<K: SiteKeeper, G: Gate> SiteRun<K, G> {
-    /// One turn. Whether the site goes on.
-    fn one_turn<R: Wait>(&mut self, rt: &R, wire: &Wire) -> bool
+    /// One turn.
+    fn one_turn<R: Wait>(&mut self, rt: &R, wire: &Wire) -> Turned
         requires run { IsRun K.shown K.may wire.now self.old }
         requires few { marks_in self.old.turn.site.seat.logs < 2 ^ 61 }
         requires going { self.old.fault ≡ None }
         ensures run { IsRun K.shown K.may wire.now self.new }
         ensures same { SameRun self.old self.new }
         ensures marks { marks_in self.new.turn.site.seat.logs ≤ marks_in self.old.turn.site.seat.logs + 18 }
-        ensures going { result ≡ is_none self.new.fault }
+        ensures going { goes_on result ≡ is_none self.new.fault }
         ensures lost { IfSome self.new.fault (λ cause. IfLost cause (shown_in K.shown self.new.turn.site.keeper)) }
     {
+        let before = self.turn.site.stamp;
         let job = next_job(rt, self.pending.take(), &mut self.out);
         match self.turn.turn(wire, job) {
             Ok(report) => {
                 let TurnReport { receipt, .. } = report;
-                if let Some(receipt) = receipt {
-                    self.out.tell(rt, receipt);
+                match receipt {
+                    None => without_job(before, self.turn.site.stamp),
+                    Some(receipt) => {
+                        self.out.tell(rt, receipt);
+                        Turned::Changed
+                    }
                 }
-                true
             }
             Err(fault) => {
                 let TurnFault { cause, job } = fault;
                 self.pending = job;
                 self.fault = ends_run(cause);
-                self.fault.is_none()
+                if self.fault.is_some() {
+                    Turned::Ended
+                } else {
+                    without_job(before, self.turn.site.stamp)
+                }
             }
         }
     }
 
-    /// The turns of a run, and a last opening.
-    pub fn go<R: Wait>(&mut self, rt: &R, wire: &Wire, turns: u64)
+    /// Whether no recall of the site's own is open, and none can begin: its desk is gone, no job is in hand, and no
+    /// message waits for a signal.
+    fn is_done(&self) -> bool {
+        let Some(state) = view_of(&self.turn.site.keeper) else {
+            return false;
+        };
+        self.out.gone && self.pending.is_none() && state.outbox().is_empty()
+    }
+
+    /// The turns of a run, and a last opening. After a turn in which nothing was done the site sleeps, so that a run
+    /// doesn't end while other sites write.
+    ///
+    /// `open` counts the sites of the run that may have an open recall of their own, or begin one. A site takes itself
+    /// off once its desk is gone and its outbox empty; where none is left, no site makes another turn.
+    pub fn go<R: Wait + Clock>(&mut self, rt: &R, wire: &Wire, open: &AtomicU64, turns: u64)
         requires ready { IsReady K.shown K.may wire.now self.old }
         requires turns { turns ≤ 1000000 }
         ensures ran { Ran K.shown K.may wire.now self.old self.new }
     {
+        let mut micros = 0;
+        let mut done = false;
         for _ in 0..turns {
-            if !self.one_turn(rt, wire) {
-                return;
+            pause(rt, micros);
+            if open.load(Ordering::SeqCst) == 0 {
+                break;
+            }
+            match self.one_turn(rt, wire) {
+                Turned::Ended => return,
+                Turned::Changed => micros = 0,
+                Turned::Idle => micros = longer(micros),
+            }
+            if !done && self.is_done() {
+                done = true;
+                open.fetch_sub(1, Ordering::SeqCst);
             }
         }
         if let Err(fault) = self.turn.site.open_again(wire) {
@@ -101,7 +173,7 @@ impl<K: SiteKeeper, G: Gate> SiteRun<K, G> {
 }
 
 /// Each site takes its turns in a thread of its own, where one can be made.
-pub fn run_all<K: SiteKeeper + Send, G: Gate + Send, R: Threads + Wait + Sync>(
+pub fn run_all<K: SiteKeeper + Send, G: Gate + Send, R: Threads + Wait + Clock + Sync>(
     rt: &R,
     wire: &Wire,
     runs: &mut [SiteRun<K, G>],
@@ -114,6 +186,7 @@ pub fn run_all<K: SiteKeeper + Send, G: Gate + Send, R: Threads + Wait + Sync>(
     ensures each { (i : ℕ) (d : SiteRun K G) → i < length runs.old → Ran K.shown K.may wire.now (slice_index_or runs.old i d) (slice_index_or runs.new i d) }
 {
     let threads = runs.len();
+    let open = AtomicU64::new(threads as u64);
     thread::for_each_mut(
         rt,
         runs,
@@ -121,6 +194,6 @@ pub fn run_all<K: SiteKeeper + Send, G: Gate + Send, R: Threads + Wait + Sync>(
         &|_, run: &mut SiteRun<K, G>|
             requires { IsReady K.shown K.may wire.now run.now × (turns ≤ 1000000) }
             ensures { Ran K.shown K.may wire.entry.now run.entry.now run.exit.now }
-        { run.go(rt, wire, turns) },
+        { run.go(rt, wire, &open, turns) },
     );
 }

@@ -24,6 +24,7 @@ use site_core::SiteState;
 use std::alloc::{AllocError, Global};
 use std::sync::Wait;
 use std::thread::Threads;
+use std::time::Clock;
 use wire_core::{Seat, Wire};
 use world_core::{NotAWorld, World};
 
@@ -85,7 +86,7 @@ fn room_for<K: SiteKeeper, G: Gate>(alloc: Global, keepers: &[K]) -> Result<Room
 }
 
 /// The turns of all sites.
-fn run_each<K: SiteKeeper + Send, G: Gate + Send, R: Threads + Wait + Sync>(
+fn run_each<K: SiteKeeper + Send, G: Gate + Send, R: Threads + Wait + Clock + Sync>(
     rt: &R,
     wire: &Wire,
     runs: &mut Vec<SiteRun<K, G>>,
@@ -100,7 +101,7 @@ fn run_each<K: SiteKeeper + Send, G: Gate + Send, R: Threads + Wait + Sync>(
 }
 
 /// The same from the first opening to the last joining, for which there is room.
-fn run_in<K: SiteKeeper + Send, G: Gate + Send, R: Threads + Wait + Sync>(
+fn run_in<K: SiteKeeper + Send, G: Gate + Send, R: Threads + Wait + Clock + Sync>(
     rt: &R,
     alloc: Global,
     room: Room<K, G>,
@@ -157,7 +158,7 @@ fn told<K: SiteKeeper>(ended: Ended<K>) -> Result<Gathered<K>, GatherFault<K>>
 }
 
 /// The same for keepers whose records fit together.
-fn run_sites<K: SiteKeeper + Send, G: Gate + Send, R: Threads + Wait + Sync>(
+fn run_sites<K: SiteKeeper + Send, G: Gate + Send, R: Threads + Wait + Clock + Sync>(
     rt: &R,
     alloc: Global,
     keepers: Vec<K>,
@@ -189,6 +190,12 @@ fn run_sites<K: SiteKeeper + Send, G: Gate + Send, R: Threads + Wait + Sync>(
 /// Runs all sites, each in a thread of its own, where one can be made: so many turns, each asked for at the site's gate,
 /// with at most one job a turn from the site's end of its desk, and a last opening of each keeper that is closed then.
 ///
+/// After a turn in which a site did no job and its record didn't change it sleeps, 100 microseconds for each such turn
+/// one after another and at most 1,000, so that a run lasts while other sites begin or write. A run ends before its turns
+/// are made once nothing is left to do: each site has found its desk without a job, and the other end dropped, and each
+/// recall that a site began has ended. So a gate that waits for other sites wants the other end of a desk to be kept. A
+/// desk that has taken as many jobs as it may isn't asked any more, and counts as kept.
+///
 /// The keepers are of one list of sites, in the order of their numbers, open, and their records fit together; no job was
 /// taken from the desks. Afterwards each keeper is open in the record to which its list of steps leads from the one that
 /// it began with, and the jobs of the list are the first ones that were put at its desk. Whether the run has an answer or
@@ -200,7 +207,7 @@ fn run_sites<K: SiteKeeper + Send, G: Gate + Send, R: Threads + Wait + Sync>(
 /// changed, or where a keeper couldn't be opened at the end. `SiteLost` where a keeper is closed and couldn't be opened
 /// again, and `GaveUp` where a gate gave up: the other sites went on. Of several sites that ended their runs the least is
 /// named; the keepers before it are open.
-pub fn run_world<K: SiteKeeper + Send, G: Gate + Send, R: Threads + Wait + Sync>(
+pub fn run_world<K: SiteKeeper + Send, G: Gate + Send, R: Threads + Wait + Clock + Sync>(
     rt: &R,
     alloc: Global,
     keepers: Vec<K>,
