@@ -6,6 +6,7 @@ ghost use Rattle.script_core.specs.Writing.{AppendsBeginning};
 ghost use Rattle.site_commands.specs.Answers.{IsAnswer};
 ghost use Rattle.recall_commands.specs.CommandLines.{HasTurns};
 ghost use Rattle.recall_commands.specs.Ends.{Ends, SimRuns, HelpHelps, RunsScript, TextEnds, TellsOutcome, script_fault_line};
+ghost use Rattle.recall_commands.specs.Leads.{LeadsTo};
 ghost use Rattle.site_commands.specs.Faults.{fault_line};
 
 use crate::command_lines::{self, Asked, FileCommand};
@@ -26,8 +27,9 @@ use std::time::Clock;
 /// memory too, 4 an audit found something amiss.
 ///
 /// The words begin with the program's name. Answers, refusals and help go to `output`, faults and
-/// what is wrong with a command line to `errors`. What contracts don't say of the commands on the
-/// sites' files is what stands in the files.
+/// what is wrong with a command line to `errors`. An answer of a command on the sites' files is that of
+/// the calls of `files` that lead to it; without such a command `files` isn't asked. What stands in the
+/// files no contract says.
 pub fn run_command<
     R: Threads + Wait + Clock + Sync,
     K: SiteKeeper + Send,
@@ -44,11 +46,11 @@ pub fn run_command<
     output: &mut W,
     errors: &mut E,
 ) -> u8
-    ensures ends { Ends words.now (record { input = I.remaining input.old; output = W.contents output.old; errors = E.contents errors.old })
+    ensures ends { Ends F.reads F.opens F.closes K.shown words.now files.old files.new (record { input = I.remaining input.old; output = W.contents output.old; errors = E.contents errors.old })
         (record { input = I.remaining input.new; output = W.contents output.new; errors = E.contents errors.new }) result }
-    ensures sim { SimRuns words.now (record { input = I.remaining input.old; output = W.contents output.old; errors = E.contents errors.old })
+    ensures sim { SimRuns words.now files.old files.new (record { input = I.remaining input.old; output = W.contents output.old; errors = E.contents errors.old })
         (record { input = I.remaining input.new; output = W.contents output.new; errors = E.contents errors.new }) result }
-    ensures help { HelpHelps words.now (record { input = I.remaining input.old; output = W.contents output.old; errors = E.contents errors.old })
+    ensures help { HelpHelps words.now files.old files.new (record { input = I.remaining input.old; output = W.contents output.old; errors = E.contents errors.old })
         (record { input = I.remaining input.new; output = W.contents output.new; errors = E.contents errors.new }) result }
 {
     match command_lines::read(alloc, words) {
@@ -117,7 +119,8 @@ fn on_files<R: Threads + Wait + Clock + Sync, K: SiteKeeper + Send, F: Files<K>>
     command: &FileCommand<'_>,
 ) -> Result<Answer, Fault>
     requires { HasTurns command.now }
-    ensures { IfOk result IsAnswer }
+    ensures led { IfOk result (LeadsTo F.reads F.opens F.closes K.shown command.now files.old files.new) }
+    ensures sound { IfOk result IsAnswer }
 {
     match command {
         FileCommand::Init { folder, list } => init(alloc, files, folder, list),
