@@ -6,7 +6,10 @@ use site_commands::{Fault, Files};
 use site_core::SiteState;
 use std::alloc::Global;
 use std::io::{self, Error, ErrorKind, Read, Write};
+use std::sync::Wait;
 use std::test::Fail;
+use std::thread::Threads;
+use std::time::Clock;
 
 fn words_of(alloc: Global, words: &[&str]) -> Result<Vec<String>, Fail> {
     let mut all = Vec::new(alloc);
@@ -65,7 +68,8 @@ impl Files<MemoryKeeper> for OneFile {
 
 /// Whether a command line ends with this status on this input, and what it writes to its output and
 /// to the error stream begins so. Where nothing is wanted there, nothing is written.
-fn ends(
+fn ends<R: Threads + Wait + Clock + Sync>(
+    rt: &R,
     alloc: Global,
     words: &[&str],
     mut input: &[u8],
@@ -77,6 +81,7 @@ fn ends(
     let mut written = Vec::new(alloc);
     let mut told = Vec::new(alloc);
     let ended = run_command(
+        rt,
         alloc,
         &mut OneFile,
         words.as_slice(),
@@ -97,6 +102,7 @@ fn a_script_ends_with_0_or_1(rt: HostRuntime) -> Result<(), Fail> {
     let done = b"site A a\nsite B b\nreach A x\n".as_slice();
     assert!(rt;
         ends(
+            &rt,
             rt.alloc(),
             sim.as_slice(),
             done,
@@ -108,6 +114,7 @@ fn a_script_ends_with_0_or_1(rt: HostRuntime) -> Result<(), Fail> {
     let refused = b"site A a\nreach A x".as_slice();
     assert!(rt;
         ends(
+            &rt,
             rt.alloc(),
             sim.as_slice(),
             refused,
@@ -122,11 +129,11 @@ fn a_script_ends_with_0_or_1(rt: HostRuntime) -> Result<(), Fail> {
 #[test]
 fn a_bad_command_line_ends_with_2(rt: HostRuntime) -> Result<(), Fail> {
     let bogus = ["recall", "bogus"];
-    assert!(rt; ends(rt.alloc(), bogus.as_slice(), b"", 2, "", "error:")?);
+    assert!(rt; ends(&rt, rt.alloc(), bogus.as_slice(), b"", 2, "", "error:")?);
     let none = ["recall"];
-    assert!(rt; ends(rt.alloc(), none.as_slice(), b"", 2, "", "error:")?);
+    assert!(rt; ends(&rt, rt.alloc(), none.as_slice(), b"", 2, "", "error:")?);
     let joined = ["recall", "-xh"];
-    assert!(rt; ends(rt.alloc(), joined.as_slice(), b"", 2, "", "error:")?);
+    assert!(rt; ends(&rt, rt.alloc(), joined.as_slice(), b"", 2, "", "error:")?);
     Ok(())
 }
 
@@ -134,20 +141,85 @@ fn a_bad_command_line_ends_with_2(rt: HostRuntime) -> Result<(), Fail> {
 fn commands_on_files_are_told(rt: HostRuntime) -> Result<(), Fail> {
     let init = ["recall", "init", "d", "list"];
     let refused = "refused BadLine\nrefused NoWorld\n";
-    assert!(rt; ends(rt.alloc(), init.as_slice(), b"", 1, refused, "")?);
+    assert!(rt; ends(&rt, rt.alloc(), init.as_slice(), b"", 1, refused, "")?);
     let audit = ["recall", "audit", "d"];
-    assert!(rt; ends(rt.alloc(), audit.as_slice(), b"", 3, "", "fault Read\n")?);
+    assert!(rt;
+        ends(
+            &rt,
+            rt.alloc(),
+            audit.as_slice(),
+            b"",
+            3,
+            "",
+            "fault Read\n"
+        )?
+    );
     let short = ["recall", "start", "d", "A"];
-    assert!(rt; ends(rt.alloc(), short.as_slice(), b"", 2, "", "error:")?);
+    assert!(rt; ends(&rt, rt.alloc(), short.as_slice(), b"", 2, "", "error:")?);
+    Ok(())
+}
+
+#[test]
+fn a_run_takes_1_to_1000000_turns(rt: HostRuntime) -> Result<(), Fail> {
+    let default = ["recall", "run", "d"];
+    assert!(rt;
+        ends(
+            &rt,
+            rt.alloc(),
+            default.as_slice(),
+            b"",
+            3,
+            "",
+            "fault Read\n"
+        )?
+    );
+    let most = ["recall", "run", "d", "--turns", "1000000"];
+    assert!(rt; ends(&rt, rt.alloc(), most.as_slice(), b"", 3, "", "fault Read\n")?);
+    let mut refused = 0;
+    for turns in ["0", "1000001", "x"] {
+        let bad = ["recall", "run", "d", "--turns", turns];
+        if ends(
+            &rt,
+            rt.alloc(),
+            bad.as_slice(),
+            b"",
+            2,
+            "",
+            "error: invalid value",
+        )? {
+            refused += 1;
+        }
+    }
+    assert!(rt; refused == 3);
     Ok(())
 }
 
 #[test]
 fn help_is_an_answer(rt: HostRuntime) -> Result<(), Fail> {
     let of_sim = ["recall", "sim", "--help"];
-    assert!(rt; ends(rt.alloc(), of_sim.as_slice(), b"", 0, "Runs a script", "")?);
+    assert!(rt;
+        ends(
+            &rt,
+            rt.alloc(),
+            of_sim.as_slice(),
+            b"",
+            0,
+            "Runs a script",
+            ""
+        )?
+    );
     let joined = ["recall", "-hx"];
-    assert!(rt; ends(rt.alloc(), joined.as_slice(), b"", 0, "Traces recalled", "")?);
+    assert!(rt;
+        ends(
+            &rt,
+            rt.alloc(),
+            joined.as_slice(),
+            b"",
+            0,
+            "Traces recalled",
+            ""
+        )?
+    );
     Ok(())
 }
 
@@ -172,10 +244,16 @@ impl Write for Broken {
 }
 
 /// Whether a command line ends with status 3 where its output fails, and tells that.
-fn fails(alloc: Global, words: &[&str], mut input: &[u8]) -> Result<bool, Fail> {
+fn fails<R: Threads + Wait + Clock + Sync>(
+    rt: &R,
+    alloc: Global,
+    words: &[&str],
+    mut input: &[u8],
+) -> Result<bool, Fail> {
     let words = words_of(alloc, words)?;
     let mut told = Vec::new(alloc);
     let ended = run_command(
+        rt,
         alloc,
         &mut OneFile,
         words.as_slice(),
@@ -189,9 +267,9 @@ fn fails(alloc: Global, words: &[&str], mut input: &[u8]) -> Result<bool, Fail> 
 #[test]
 fn an_output_that_fails_ends_with_3(rt: HostRuntime) -> Result<(), Fail> {
     let sim = ["recall", "sim"];
-    assert!(rt; fails(rt.alloc(), sim.as_slice(), b"reach A x\n")?);
+    assert!(rt; fails(&rt, rt.alloc(), sim.as_slice(), b"reach A x\n")?);
     let help = ["recall", "--help"];
-    assert!(rt; fails(rt.alloc(), help.as_slice(), b"")?);
+    assert!(rt; fails(&rt, rt.alloc(), help.as_slice(), b"")?);
     Ok(())
 }
 
@@ -203,6 +281,7 @@ fn an_input_that_fails_ends_with_3(rt: HostRuntime) -> Result<(), Fail> {
     let mut written = Vec::new(alloc);
     let mut told = Vec::new(alloc);
     let ended = run_command(
+        &rt,
         alloc,
         &mut OneFile,
         words.as_slice(),

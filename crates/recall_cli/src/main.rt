@@ -26,6 +26,7 @@ fn main(rt: HostRuntime) -> ExitCode {
         }
     };
     let status = run_command(
+        &rt,
         alloc,
         &mut HostFiles::new(&rt),
         words.as_slice(),

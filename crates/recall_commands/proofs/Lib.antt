@@ -1,3 +1,4 @@
 pub mod Assembly
 pub mod Endings
+pub mod Numbers
 pub mod Words

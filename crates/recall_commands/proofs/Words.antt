@@ -1,5 +1,5 @@
 -- what some command lines ask for
-use Rattle.std.proofs.Common.{◌≡◌, ℕ, true, List, [], ◌∷◌, Option, Some, None, Result, IfOk, IfSome, codes, refl, sym, ap, ◌∙◌, subst, ⊎_elim}
+use Rattle.std.proofs.Common.{◌≡◌, ℕ, true, List, [], ◌∷◌, Option, Some, None, Result, IfOk, IfSome, arith, codes, get_or, refl, sym, ap, ◌∙◌, subst, ⊎_elim}
 use Rattle.std.specs.Option.{ok_or}
 use Rattle.std.specs.declared.alloc.AllocError.{AllocError}
 use Rattle.clap.specs.Words.{IsAmong, Row, Text, is_simple, is_simple_and_free}
@@ -9,7 +9,7 @@ use Rattle.clap.proofs.OnLiterals.{clap_on_literals}
 use Rattle.recall_commands.specs.declared.command_lines.Asked.{Asked}
 use Rattle.recall_commands.specs.declared.command_lines.Asked.TheVariants as asked
 use Rattle.recall_commands.specs.declared.command_lines.FileCommand.{FileCommand}
-use Rattle.recall_commands.specs.declared.command_lines.FileCommand.TheVariants.{Init, Capture, Start, Report, Audit}
+use Rattle.recall_commands.specs.declared.command_lines.FileCommand.TheVariants.{Init, Capture, Start, Run, Report, Audit}
 use Rattle.recall_commands.specs.CommandLines.{recall, faults_of, named, AsksSim, AsksFiles, AsksHelp, AsksNamed, IsBad, IsCommand, AsksFor, IsToldAs}
 use mathlib.Core.Logic.{◌⊎◌}
 
@@ -40,6 +40,7 @@ sim_is_no_command : (command : FileCommand) (rows : List Row) → IsCommand comm
 sim_is_no_command (Init folder list) rows is = let bad = is.0 in cc
 sim_is_no_command (Capture folder site file) rows is = let bad = is.0 in cc
 sim_is_no_command (Start folder site item) rows is = let bad = is.0 in cc
+sim_is_no_command (Run folder turns) rows is = let bad : ◌≡◌ {A = ℕ} 115 114 = ap (λ (text : List ℕ). get_or text 0 0) is.0 in absurd (omega arith)
 sim_is_no_command (Report folder recall) rows is = let bad = is.0 in cc
 sim_is_no_command (Audit folder) rows is = let bad = is.0 in cc
 

@@ -1,14 +1,16 @@
 -- What the words of a command line ask for, as `clap` reads them.
-use Rattle.std.specs.Prelude.{◌≡◌, ◌≢◌, ℕ, true, List, [], Option, Some, codes, map, string_bytes}
+use Rattle.std.specs.Prelude.{◌≡◌, ◌≢◌, ◌≤◌, ⊤, ℕ, true, List, [], ◌∷◌, Option, Some, codes, map, string_bytes}
 use Rattle.std.specs.Global.{Global}
 use Rattle.std.specs.declared.string.String.{String}
-use Rattle.clap.specs.Words.{App, Row, Rule, Text, new_app, new_rule, with_rule, with_subcommand, first_of, subcommand_of, Kinds, IsAmong, fault_of}
+use Rattle.std.specs.Str.Parse.{digits_value, without_leading_plus}
+use Rattle.clap.specs.Words.{App, Row, Rule, Text, new_app, new_rule, with_rule, with_subcommand, first_of, one_of, subcommand_of, Kinds, IsAmong, fault_of}
+use Rattle.clap.specs.declared.builder.value_parser.ValueParser.TheVariants.{Unsigned}
 use Rattle.clap.specs.declared.error.ErrorKind.{ErrorKind}
 use Rattle.clap.specs.declared.error.ErrorKind.TheVariants.{DisplayHelp, OutOfMemory}
 use Rattle.recall_commands.specs.declared.command_lines.Asked.{Asked}
 use Rattle.recall_commands.specs.declared.command_lines.Asked.TheVariants as asked
 use Rattle.recall_commands.specs.declared.command_lines.FileCommand.{FileCommand}
-use Rattle.recall_commands.specs.declared.command_lines.FileCommand.TheVariants.{Init, Capture, Start, Report, Audit}
+use Rattle.recall_commands.specs.declared.command_lines.FileCommand.TheVariants.{Init, Capture, Start, Run, Report, Audit}
 
 -- the words as texts
 abbrev pub texts_of : List (String Global) → List (List ℕ)
@@ -34,6 +36,19 @@ capture = with_rule (with_rule (on_folder (codes "capture")) (required (codes "s
 abbrev pub start : App
 start = with_rule (with_rule (on_folder (codes "start")) (required (codes "site"))) (required (codes "epc"))
 
+-- `--turns n`: a number from 1 to 1,000,000, or 2,000 where it isn't there
+abbrev pub turns : Rule
+turns =
+    record (new_rule (codes "turns")) {
+      long = Some (codes "turns");
+      value_names = 1;
+      parser = Some (Unsigned 1 1000000);
+      defaults = codes "2000" ∷ [];
+    }
+
+abbrev pub run : App
+run = with_rule (on_folder (codes "run")) turns
+
 abbrev pub report : App
 report = with_rule (on_folder (codes "report")) (required (codes "recall"))
 
@@ -49,7 +64,7 @@ with_command above below = with_subcommand above below.top
 
 abbrev pub recall : App
 recall =
-    with_command (with_command (with_command (with_command (with_command (with_command (needing (new_app (codes "recall"))) sim) init) capture) start) report) audit
+    with_command (with_command (with_command (with_command (with_command (with_command (with_command (needing (new_app (codes "recall"))) sim) init) capture) start) run) report) audit
 
 -- ---- what words ask for
 
@@ -65,6 +80,10 @@ named words = subcommand_of recall words
 abbrev pub Gives : List Row → Text → Text → Type 0
 Gives rows name value = first_of name rows ≡ Some value
 
+-- the argument of this name is this number
+abbrev pub GivesNumber : List Row → Text → ℕ → Type 0
+GivesNumber rows name n = (text : Text) × (one_of name rows ≡ Some text) × (n ≡ digits_value 10 (without_leading_plus text))
+
 -- the command has this name and these arguments
 abbrev pub IsCommand : FileCommand → Text → List Row → Type 0
 IsCommand (Init folder list) name rows = (name ≡ codes "init") × Gives rows (codes "dir") folder.now × Gives rows (codes "sites") list.now
@@ -72,8 +91,15 @@ IsCommand (Capture folder site file) name rows =
     (name ≡ codes "capture") × Gives rows (codes "dir") folder.now × Gives rows (codes "site") site.now × Gives rows (codes "file") file.now
 IsCommand (Start folder site item) name rows =
     (name ≡ codes "start") × Gives rows (codes "dir") folder.now × Gives rows (codes "site") site.now × Gives rows (codes "epc") item.now
+IsCommand (Run folder turns) name rows =
+    (name ≡ codes "run") × Gives rows (codes "dir") folder.now × GivesNumber rows (codes "turns") turns × (1 ≤ turns) × (turns ≤ 1000000)
 IsCommand (Report folder recall) name rows = (name ≡ codes "report") × Gives rows (codes "dir") folder.now × Gives rows (codes "recall") recall.now
 IsCommand (Audit folder) name rows = (name ≡ codes "audit") × Gives rows (codes "dir") folder.now
+
+-- a run is of at most 1,000,000 turns
+abbrev pub HasTurns : FileCommand → Type 0
+HasTurns (Run folder turns) = turns ≤ 1000000
+HasTurns command = ⊤
 
 -- the named command is asked for
 abbrev pub AsksNamed : Option (Text × List Row) → Asked → Type 0

@@ -9,7 +9,9 @@ use Rattle.script_core.specs.declared.faults.ScriptFault.{ScriptFault}
 use Rattle.script_core.specs.declared.faults.ScriptFault.TheVariants as faults
 use Rattle.script_core.specs.declared.tallies.Tally.{Tally}
 use Rattle.site_commands.specs.Answers.{IsAnswer, answer_status, answer_text}
+use Rattle.site_core.specs.Records.{Record}
 use Rattle.recall_commands.specs.CommandLines.{AsksSim, AsksFiles, AsksHelp, IsBad, texts_of}
+use Rattle.recall_commands.specs.Leads.{LeadsTo}
 use Rattle.site_commands.specs.Faults.{fault_line}
 use Rattle.site_commands.specs.declared.answers.Answer.{Answer}
 use Rattle.recall_commands.specs.declared.command_lines.FileCommand.{FileCommand}
@@ -61,53 +63,59 @@ TellsOutcome (Ok answer) output output_after errors errors_after status =
 TellsOutcome (Err fault) output output_after errors errors_after status =
     (status ≡ 3) × Keeps output output_after × AppendsBeginning errors errors_after (fault_line fault)
 
--- a script was asked for, and it was run
-abbrev pub RunsAsked : List (List ℕ) → Streams → Streams → ℕ → Type 0
-RunsAsked words before after status = AsksSim words × RunsScript before after status
-
--- a command on files was asked for, and what came of it was told: with status 1 only refusals
-pub record DoesFiles (words : List (List ℕ)) (before after : Streams) (status : ℕ) : Type 0 where
-  pub command : FileCommand
-  pub asked : AsksFiles words command
-  pub outcome : Result Answer Fault
-  pub is_answer : IfOk outcome IsAnswer
-  pub unread : Keeps before.input after.input
-  pub told : TellsOutcome outcome before.output after.output before.errors after.errors status
+-- a script was asked for, and it was run, without a call of the files
+abbrev pub RunsAsked : {F : Type 0} → List (List ℕ) → F → F → Streams → Streams → ℕ → Type 0
+RunsAsked words old new before after status = AsksSim words × RunsScript before after status × (new ≡ old)
 
 -- help was asked for, and that was the answer
-pub record Helps (words : List (List ℕ)) (before after : Streams) (status : ℕ) : Type 0 where
+pub record Helps {F : Type 0} (words : List (List ℕ)) (old new : F) (before after : Streams) (status : ℕ) : Type 0 where
   pub asked : AsksHelp words
   pub text : List ℕ
+  pub uncalled : new ≡ old
   pub unread : Keeps before.input after.input
   pub ends : TextEnds 0 text before.output after.output before.errors after.errors status
 
 -- the command line is bad: status 2, and what is wrong with it on the error stream
-pub record IsMistaken (words : List (List ℕ)) (before after : Streams) (status : ℕ) : Type 0 where
+pub record IsMistaken {F : Type 0} (words : List (List ℕ)) (old new : F) (before after : Streams) (status : ℕ) : Type 0 where
   pub bad : IsBad words
   pub text : List ℕ
+  pub uncalled : new ≡ old
   pub unread : Keeps before.input after.input
   pub unwritten : Keeps before.output after.output
   pub told : AppendsBeginning before.errors after.errors text
   pub status_is : status ≡ 2
 
 -- memory ran out before the command was known: status 3, and that line on the error stream
-pub record LacksMemory (before after : Streams) (status : ℕ) : Type 0 where
+pub record LacksMemory {F : Type 0} (old new : F) (before after : Streams) (status : ℕ) : Type 0 where
+  pub uncalled : new ≡ old
   pub unread : Keeps before.input after.input
   pub unwritten : Keeps before.output after.output
   pub told : AppendsBeginning before.errors after.errors (fault_line NoMemory)
   pub status_is : status ≡ 3
 
--- how a command line ends
-abbrev pub Ends : List (String Global) → Streams → Streams → ℕ → Type 0
-Ends words before after status =
-    RunsAsked (texts_of words) before after status ⊎ (DoesFiles (texts_of words) before after status ⊎ (Helps (texts_of words) before after status ⊎ (IsMistaken (texts_of words) before after status ⊎ LacksMemory before after status)))
-
 -- `recall sim` runs the script, or memory ran out before
-abbrev pub SimRuns : List (String Global) → Streams → Streams → ℕ → Type 0
-SimRuns words before after status =
-    (name : List ℕ) → texts_of words ≡ name ∷ codes "sim" ∷ [] → RunsScript before after status ⊎ LacksMemory before after status
+abbrev pub SimRuns : {F : Type 0} → List (String Global) → F → F → Streams → Streams → ℕ → Type 0
+SimRuns words old new before after status =
+    (name : List ℕ) → texts_of words ≡ name ∷ codes "sim" ∷ [] → RunsScript before after status ⊎ LacksMemory old new before after status
 
 -- `recall --help` gives help, or memory ran out before
-abbrev pub HelpHelps : List (String Global) → Streams → Streams → ℕ → Type 0
-HelpHelps words before after status =
-    (name : List ℕ) → texts_of words ≡ name ∷ codes "--help" ∷ [] → Helps (texts_of words) before after status ⊎ LacksMemory before after status
+abbrev pub HelpHelps : {F : Type 0} → List (String Global) → F → F → Streams → Streams → ℕ → Type 0
+HelpHelps words old new before after status =
+    (name : List ℕ) → texts_of words ≡ name ∷ codes "--help" ∷ [] → Helps (texts_of words) old new before after status ⊎ LacksMemory old new before after status
+
+module _ {F K : Type 0} (reads : F → List ℕ → List ℕ → F → Type 0) (opens : F → List ℕ → List ℕ → K → F → Type 0) (closes : F → K → F → Type 0) (shown : K → Option Record) where
+  -- A command on files was asked for, and what came of it was told: an answer, which is that of these calls of the files, with
+  -- status 1 only refusals; or a fault, after which nothing is said of the files.
+  pub record DoesFiles (words : List (List ℕ)) (old new : F) (before after : Streams) (status : ℕ) : Type 0 where
+    pub command : FileCommand
+    pub asked : AsksFiles words command
+    pub outcome : Result Answer Fault
+    pub is_answer : IfOk outcome IsAnswer
+    pub led : IfOk outcome (LeadsTo reads opens closes shown command old new)
+    pub unread : Keeps before.input after.input
+    pub told : TellsOutcome outcome before.output after.output before.errors after.errors status
+
+  -- how a command line ends, from old files to new ones
+  abbrev pub Ends : List (String Global) → F → F → Streams → Streams → ℕ → Type 0
+  Ends words old new before after status =
+      RunsAsked (texts_of words) old new before after status ⊎ (DoesFiles (texts_of words) old new before after status ⊎ (Helps (texts_of words) old new before after status ⊎ (IsMistaken (texts_of words) old new before after status ⊎ LacksMemory old new before after status)))

@@ -2,11 +2,11 @@
 
 ghost use Rattle.std.specs.Prelude.{◌≡◌, false, IfOk, IfSome, codes};
 ghost use Rattle.clap.specs.Words.{app_of, found_of, kind_of, rows_of, rule_of, subcommand_rows_of};
-ghost use Rattle.recall_commands.specs.CommandLines.{audit, capture, init, on_folder, recall, report, required, sim, start, texts_of, AsksFor, AsksNamed, Gives, IsCommand, IsToldAs};
+ghost use Rattle.recall_commands.specs.CommandLines.{audit, capture, init, on_folder, recall, report, required, run, sim, start, texts_of, turns, AsksFor, AsksNamed, Gives, GivesNumber, IsCommand, IsToldAs};
 
 use crate::helps;
 use clap::error::ErrorKind;
-use clap::{Arg, ArgMatches, Command, Error};
+use clap::{Arg, ArgMatches, Command, Error, value_parser};
 use std::alloc::{AllocError, Global};
 
 /// What a command line asks for.
@@ -42,6 +42,11 @@ pub(crate) enum FileCommand<'a> {
         site: &'a str,
         item: &'a str,
     },
+    /// All sites run, for so many turns: 1 to 1,000,000.
+    Run {
+        folder: &'a str,
+        turns: u64,
+    },
     /// A recall is reported.
     Report {
         folder: &'a str,
@@ -59,7 +64,7 @@ pub(crate) fn read<'a>(alloc: Global, words: &'a [String]) -> Result<Asked<'a>, 
 {
     let command = recall(alloc)?;
     match command.try_get_matches_from(words) {
-        // The command has no other subcommands, and no argument is left out.
+        // The command has no other subcommands, no argument is left out, and the turns are in range.
         Ok(matches) => named(&matches).ok_or(AllocError),
         Err(error) => of_error(alloc, &error),
     }
@@ -84,6 +89,8 @@ fn file_command<'a>(name: &str, given: &ArgMatches<'a>) -> Option<FileCommand<'a
     if name == "init" {
         let list = argument(given, "sites")?;
         Some(FileCommand::Init { folder, list })
+    } else if name == "run" {
+        all_sites_command(folder, given)
     } else if name == "report" {
         let recall = argument(given, "recall")?;
         Some(FileCommand::Report { folder, recall })
@@ -91,6 +98,19 @@ fn file_command<'a>(name: &str, given: &ArgMatches<'a>) -> Option<FileCommand<'a
         Some(FileCommand::Audit { folder })
     } else {
         site_command(name, folder, given)
+    }
+}
+
+/// The command to run all sites.
+fn all_sites_command<'a>(folder: &'a str, given: &ArgMatches<'a>) -> Option<FileCommand<'a>>
+    requires { Gives (rows_of (found_of given.now)) (codes "dir") folder.now }
+    ensures { IfSome result (λ c. IsCommand c (codes "run") (rows_of (found_of given.now))) }
+{
+    let turns = number(given, "turns")?;
+    if 1 <= turns && turns <= 1_000_000 {
+        Some(FileCommand::Run { folder, turns })
+    } else {
+        None
     }
 }
 
@@ -118,6 +138,13 @@ fn argument<'a>(given: &ArgMatches<'a>, name: &str) -> Option<&'a str>
     given.get_str(name)
 }
 
+/// The number that the argument of a name gives.
+fn number(given: &ArgMatches<'_>, name: &str) -> Option<u64>
+    ensures { IfSome result (λ n. GivesNumber (rows_of (found_of given.now)) name.now n) }
+{
+    given.get_one::<u64>(name)
+}
+
 /// The command `recall`.
 fn recall<'a>(alloc: Global) -> Result<Command<'a>, AllocError>
     ensures { IfOk result (λ command. app_of command ≡ recall) }
@@ -132,6 +159,7 @@ fn recall<'a>(alloc: Global) -> Result<Command<'a>, AllocError>
         .subcommand(capture(alloc)?)?;
     program
         .subcommand(start(alloc)?)?
+        .subcommand(run(alloc)?)?
         .subcommand(report(alloc)?)?
         .subcommand(audit(alloc)?)
 }
@@ -196,6 +224,25 @@ fn start<'a>(alloc: Global) -> Result<Command<'a>, AllocError>
     on_folder(alloc, "start", helps::START_ABOUT, helps::START_EXAMPLE)?
         .arg(required(alloc, "site", "The site that starts it"))?
         .arg(required(alloc, "epc", "The EPC of the item"))
+}
+
+fn run<'a>(alloc: Global) -> Result<Command<'a>, AllocError>
+    ensures { IfOk result (λ command. app_of command ≡ run) }
+{
+    on_folder(alloc, "run", helps::RUN_ABOUT, helps::RUN_EXAMPLE)?.arg(turns(alloc))
+}
+
+/// The number of turns that each site makes.
+fn turns<'a>(alloc: Global) -> Arg<'a>
+    ensures rule { rule_of result ≡ turns }
+    ensures local { result.global ≡ false }
+{
+    Arg::new(alloc, "turns")
+        .long("turns")
+        .value_name("n")
+        .value_parser(value_parser!(u64).range(1..=1_000_000))
+        .default_value("2000")
+        .help("The turns that each site makes, 1 to 1000000")
 }
 
 fn report<'a>(alloc: Global) -> Result<Command<'a>, AllocError>

@@ -4,43 +4,59 @@ ghost use Rattle.std.specs.Prelude.{◌≡◌, ◌==◌, if◌then◌else◌, If
 ghost use Rattle.std.specs.Io.KnownBytes.{Appends, Keeps};
 ghost use Rattle.script_core.specs.Writing.{AppendsBeginning};
 ghost use Rattle.site_commands.specs.Answers.{IsAnswer};
+ghost use Rattle.recall_commands.specs.CommandLines.{HasTurns};
 ghost use Rattle.recall_commands.specs.Ends.{Ends, SimRuns, HelpHelps, RunsScript, TextEnds, TellsOutcome, script_fault_line};
+ghost use Rattle.recall_commands.specs.Leads.{LeadsTo};
 ghost use Rattle.site_commands.specs.Faults.{fault_line};
 
 use crate::command_lines::{self, Asked, FileCommand};
 use crate::statuses;
 use keeper_core::SiteKeeper;
 use script_core::{ScriptFault, Tally, run_script, write_text};
-use site_commands::{Answer, Fault, Files, audit_sites, capture, init, report_recall, start};
+use site_commands::{
+    Answer, Fault, Files, audit_sites, capture, init, report_recall, run_sites, start,
+};
 use std::alloc::Global;
 use std::io::{Read, Write};
+use std::sync::Wait;
+use std::thread::Threads;
+use std::time::Clock;
 
 /// Does what the words of a command line ask for, and answers the status to end with: 0 done, 1
 /// something was refused, 2 bad command line, 3 a fault that isn't printed as `refused`, want of
 /// memory too, 4 an audit found something amiss.
 ///
 /// The words begin with the program's name. Answers, refusals and help go to `output`, faults and
-/// what is wrong with a command line to `errors`. What contracts don't say of the commands on the
-/// sites' files is what stands in the files.
-pub fn run_command<K: SiteKeeper, F: Files<K>, R: Read, W: Write, E: Write>(
+/// what is wrong with a command line to `errors`. An answer of a command on the sites' files is that of
+/// the calls of `files` that lead to it; without such a command `files` isn't asked. What stands in the
+/// files no contract says.
+pub fn run_command<
+    R: Threads + Wait + Clock + Sync,
+    K: SiteKeeper + Send,
+    F: Files<K>,
+    I: Read,
+    W: Write,
+    E: Write,
+>(
+    rt: &R,
     alloc: Global,
     files: &mut F,
     words: &[String],
-    input: &mut R,
+    input: &mut I,
     output: &mut W,
     errors: &mut E,
 ) -> u8
-    ensures ends { Ends words.now (record { input = R.remaining input.old; output = W.contents output.old; errors = E.contents errors.old })
-        (record { input = R.remaining input.new; output = W.contents output.new; errors = E.contents errors.new }) result }
-    ensures sim { SimRuns words.now (record { input = R.remaining input.old; output = W.contents output.old; errors = E.contents errors.old })
-        (record { input = R.remaining input.new; output = W.contents output.new; errors = E.contents errors.new }) result }
-    ensures help { HelpHelps words.now (record { input = R.remaining input.old; output = W.contents output.old; errors = E.contents errors.old })
-        (record { input = R.remaining input.new; output = W.contents output.new; errors = E.contents errors.new }) result }
+    ensures ends { Ends F.reads F.opens F.closes K.shown words.now files.old files.new (record { input = I.remaining input.old; output = W.contents output.old; errors = E.contents errors.old })
+        (record { input = I.remaining input.new; output = W.contents output.new; errors = E.contents errors.new }) result }
+    ensures sim { SimRuns words.now files.old files.new (record { input = I.remaining input.old; output = W.contents output.old; errors = E.contents errors.old })
+        (record { input = I.remaining input.new; output = W.contents output.new; errors = E.contents errors.new }) result }
+    ensures help { HelpHelps words.now files.old files.new (record { input = I.remaining input.old; output = W.contents output.old; errors = E.contents errors.old })
+        (record { input = I.remaining input.new; output = W.contents output.new; errors = E.contents errors.new }) result }
 {
     match command_lines::read(alloc, words) {
         Ok(Asked::Sim) => sim(alloc, input, output, errors),
         Ok(Asked::Files(command)) => {
-            let outcome = on_files(alloc, files, &command);
+            let outcome = on_files(rt, alloc, files, &command);
             tell(&outcome, output, errors)
         }
         Ok(Asked::Help(text)) => print(text.as_str(), statuses::DONE, output, errors),
@@ -53,14 +69,14 @@ pub fn run_command<K: SiteKeeper, F: Files<K>, R: Read, W: Write, E: Write>(
 }
 
 /// Runs a script.
-fn sim<R: Read, W: Write, E: Write>(
+fn sim<I: Read, W: Write, E: Write>(
     alloc: Global,
-    input: &mut R,
+    input: &mut I,
     output: &mut W,
     errors: &mut E,
 ) -> u8
-    ensures { RunsScript (record { input = R.remaining input.old; output = W.contents output.old; errors = E.contents errors.old })
-        (record { input = R.remaining input.new; output = W.contents output.new; errors = E.contents errors.new }) result }
+    ensures { RunsScript (record { input = I.remaining input.old; output = W.contents output.old; errors = E.contents errors.old })
+        (record { input = I.remaining input.new; output = W.contents output.new; errors = E.contents errors.new }) result }
 {
     match run_script(alloc, input, output) {
         Ok(tally) => status_of(tally),
@@ -96,17 +112,21 @@ fn script_fault_line(cause: ScriptFault) -> &'static str
 }
 
 /// Does a command on the sites' files.
-fn on_files<K: SiteKeeper, F: Files<K>>(
+fn on_files<R: Threads + Wait + Clock + Sync, K: SiteKeeper + Send, F: Files<K>>(
+    rt: &R,
     alloc: Global,
     files: &mut F,
     command: &FileCommand<'_>,
 ) -> Result<Answer, Fault>
-    ensures { IfOk result IsAnswer }
+    requires { HasTurns command.now }
+    ensures led { IfOk result (LeadsTo F.reads F.opens F.closes K.shown command.now files.old files.new) }
+    ensures sound { IfOk result IsAnswer }
 {
     match command {
         FileCommand::Init { folder, list } => init(alloc, files, folder, list),
         FileCommand::Capture { folder, site, file } => capture(alloc, files, folder, site, file),
         FileCommand::Start { folder, site, item } => start(alloc, files, folder, site, item),
+        FileCommand::Run { folder, turns } => run_sites(rt, alloc, files, folder, *turns),
         FileCommand::Report { folder, recall } => report_recall(alloc, files, folder, recall),
         FileCommand::Audit { folder } => audit_sites(alloc, files, folder),
     }

@@ -6,7 +6,7 @@ pub(crate) const ABOUT: &str =
 
 /// The page behind the list of commands.
 pub(crate) const PAGE: &str =
-    "A folder holds a supply chain: the file `sites` lists its sites, and each site keeps its record in a file\nof its own, `<name>.db`. A command is kept as a whole or not at all, also where the machine stops in it.\n\n  recall init chain sites.txt                    a file for each site of the list\n  recall capture chain dairy monday.json         a site captures a document of events\n  recall start chain dairy <epc>                 a site starts a recall of an item\n  recall report chain dairy#1                    what is quarantined, how it came there, what left\n  recall audit chain                             whether all stands as it must; lists all recalls\n\nA list of sites has a line for each: `site <name> <address>..`, where an address is a destination of\nshipments that stands for the site. An item is an EPC, as urn:epc:id:sgtin:0614141.112345.400, a Digital\nLink or any other text without spaces. A recall is named by its site and its number there, as dairy#1.\n\nStatus: 0 done, 1 something was refused, 2 bad command line, 3 a fault, told on the error stream,\n4 an audit found something amiss.\n\n`recall <command> --help` tells more of a command, with an example.";
+    "A folder holds a supply chain: the file `sites` lists its sites, and each site keeps its record in a file\nof its own, `<name>.db`. A command is kept as a whole or not at all, also where the machine stops in it.\n\n  recall init chain sites.txt                    a file for each site of the list\n  recall capture chain dairy monday.json         a site captures a document of events\n  recall start chain dairy <epc>                 a site starts a recall of an item\n  recall run chain                               all sites run, and recalls go from site to site\n  recall report chain dairy#1                    what is quarantined, how it came there, what left\n  recall audit chain                             whether all stands as it must; lists all recalls\n\nA list of sites has a line for each: `site <name> <address>..`, where an address is a destination of\nshipments that stands for the site. An item is an EPC, as urn:epc:id:sgtin:0614141.112345.400, a Digital\nLink or any other text without spaces. A recall is named by its site and its number there, as dairy#1.\n\nStatus: 0 done, 1 something was refused, 2 bad command line, 3 a fault, told on the error stream,\n4 an audit found something amiss.\n\n`recall <command> --help` tells more of a command, with an example.";
 
 pub(crate) const SIM_ABOUT: &str =
     "Runs a script from standard input and answers each line on standard output";
@@ -28,6 +28,12 @@ pub(crate) const START_ABOUT: &str = "Starts a recall of an item at a site that 
 
 pub(crate) const START_EXAMPLE: &str =
     "The item and all that the site made from it are quarantined there. `recall <recall> new <items> messages\n<count> open` tells the recall's name, how many items are quarantined, and how many messages wait for\nother sites; `ended` stands in place of `open` where there are none.\n\nExample:\n  recall start chain dairy urn:epc:id:sgtin:0614141.112345.400\n\nStatus: 0 done, 1 refused, 3 a fault.";
+
+pub(crate) const RUN_ABOUT: &str =
+    "Runs all sites, each in a thread of its own, so that recalls go from site to site";
+
+pub(crate) const RUN_EXAMPLE: &str =
+    "Each site sends what waits for other sites, takes what they send, and signals what it has dealt with. Then\neach recall that a site began is told: `<recall> ended` or `<recall> open`. One that is open goes on in the\nnext run. Where the sites' records don't fit together nothing is run, and `misfit <condition> <site>` told.\n\nExample:\n  recall run chain --turns 5000\n\nStatus: 0 done, 3 a fault, 4 a misfit.";
 
 pub(crate) const REPORT_ABOUT: &str =
     "Reports a recall: what is quarantined, how it came there, what left the sites";

@@ -16,5 +16,6 @@ returns c =
     let second = adds_command _ _ _ _ _ c.in_ok-subcommand-2.ensures first c.in_ok-init.ensures refl in
     let third = adds_command _ _ _ _ _ c.in_ok-program.ensures second c.in_ok-capture.ensures refl in
     let fourth = adds_command _ _ _ _ _ c.in_ok-subcommand-3.ensures third c.in_ok-start.ensures refl in
-    let fifth = adds_command _ _ _ _ _ c.in_ok-subcommand-4.ensures fourth c.in_ok-report.ensures refl in
-    IfOk-weaker c.subcommand-6.result _ _ (λ command adds. adds_command _ _ command _ _ adds fifth c.in_ok-audit.ensures refl) c.subcommand-6.ensures
+    let fifth = adds_command _ _ _ _ _ c.in_ok-subcommand-4.ensures fourth c.in_ok-run.ensures refl in
+    let sixth = adds_command _ _ _ _ _ c.in_ok-subcommand-5.ensures fifth c.in_ok-report.ensures refl in
+    IfOk-weaker c.subcommand-7.result _ _ (λ command adds. adds_command _ _ command _ _ adds sixth c.in_ok-audit.ensures refl) c.subcommand-7.ensures
