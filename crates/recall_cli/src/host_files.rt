@@ -21,12 +21,30 @@ type FileSite = StoredSite<FileFrom<Wary>>;
 #[derive(Drop)]
 pub(crate) struct HostFiles<'a> {
     runtime: &'a HostRuntime,
+    /// The path of the last file of which a call failed.
+    failed: Option<String>,
 }
 
 impl<'a> HostFiles<'a> {
     /// The files that a runtime gives.
     pub(crate) fn new(runtime: &'a HostRuntime) -> HostFiles<'a> {
-        HostFiles { runtime }
+        HostFiles {
+            runtime,
+            failed: None,
+        }
+    }
+
+    /// The path of the last file of which a call failed, where one did and there was memory to keep it.
+    pub(crate) fn failed(&self) -> Option<&str> {
+        match &self.failed {
+            Some(path) => Some(path.as_str()),
+            None => None,
+        }
+    }
+
+    /// Keeps the path of a file of which a call failed.
+    fn note(&mut self, path: &str) {
+        self.failed = String::from_str(self.runtime.alloc(), path).ok();
     }
 
     /// Opens a database, and makes it where there is no file or an empty one.
@@ -47,6 +65,41 @@ impl<'a> HostFiles<'a> {
         match RandomState::new(self.runtime) {
             Ok(state) => Ok(Options::new(state.hash_one(&0u8))),
             Err(error) => Err(fault_of(&error, Fault::Device)),
+        }
+    }
+
+    /// Whether there is a file.
+    fn finds(&self, path: &str) -> Result<bool, Fault> {
+        match fs::exists(self.runtime, path) {
+            Ok(exists) => Ok(exists),
+            Err(error) => Err(fault_of(&error, Fault::Read)),
+        }
+    }
+
+    /// Makes the file of a site.
+    fn make(&self, alloc: Global, path: &str, state: SiteState) -> Result<(), Fault> {
+        let options = self.options()?;
+        let conn = self.connect(path)?;
+        match StoredSite::create(alloc, conn, options, state) {
+            Ok(site) => {
+                close(site);
+                Ok(())
+            }
+            Err(fault) => Err(unmade(fault)),
+        }
+    }
+
+    /// Opens the file of a site of this name.
+    fn open(&self, alloc: Global, path: &str, name: &str) -> Result<FileSite, Fault> {
+        // Connecting would make a file.
+        if !self.finds(path)? {
+            return Err(Fault::Read);
+        }
+        let options = self.options()?;
+        let conn = self.connect(path)?;
+        match site_store::open_site(alloc, conn, options, name) {
+            Ok(site) => Ok(site),
+            Err(fault) => Err(unfound(fault)),
         }
     }
 }
@@ -120,39 +173,40 @@ impl Files<FileSite> for HostFiles<'_> {
     fn read(&mut self, _: Global, path: &str) -> Result<Vec<u8>, Fault> {
         match fs::read(self.runtime, path) {
             Ok(bytes) => Ok(bytes),
-            Err(error) => Err(fault_of(&error, Fault::Read)),
+            Err(error) => {
+                self.note(path);
+                Err(fault_of(&error, Fault::Read))
+            }
         }
     }
 
     fn exists(&mut self, path: &str) -> Result<bool, Fault> {
-        match fs::exists(self.runtime, path) {
+        match self.finds(path) {
             Ok(exists) => Ok(exists),
-            Err(error) => Err(fault_of(&error, Fault::Read)),
+            Err(fault) => {
+                self.note(path);
+                Err(fault)
+            }
         }
     }
 
     fn create_site(&mut self, alloc: Global, path: &str, state: SiteState) -> Result<(), Fault> {
-        let options = self.options()?;
-        let conn = self.connect(path)?;
-        match StoredSite::create(alloc, conn, options, state) {
-            Ok(site) => {
-                close(site);
-                Ok(())
+        match self.make(alloc, path, state) {
+            Ok(()) => Ok(()),
+            Err(fault) => {
+                self.note(path);
+                Err(fault)
             }
-            Err(fault) => Err(unmade(fault)),
         }
     }
 
     fn open_site(&mut self, alloc: Global, path: &str, name: &str) -> Result<FileSite, Fault> {
-        // Connecting would make a file.
-        if !self.exists(path)? {
-            return Err(Fault::Read);
-        }
-        let options = self.options()?;
-        let conn = self.connect(path)?;
-        match site_store::open_site(alloc, conn, options, name) {
+        match self.open(alloc, path, name) {
             Ok(site) => Ok(site),
-            Err(fault) => Err(unfound(fault)),
+            Err(fault) => {
+                self.note(path);
+                Err(fault)
+            }
         }
     }
 
@@ -163,7 +217,10 @@ impl Files<FileSite> for HostFiles<'_> {
     fn write_new(&mut self, path: &str, bytes: &[u8]) -> Result<(), Fault> {
         match written(self.runtime, path, bytes) {
             Ok(()) => Ok(()),
-            Err(error) => Err(fault_of(&error, Fault::Write)),
+            Err(error) => {
+                self.note(path);
+                Err(fault_of(&error, Fault::Write))
+            }
         }
     }
 }

@@ -25,16 +25,28 @@ fn main(rt: HostRuntime) -> ExitCode {
             return ExitCode::from(BAD_COMMAND_LINE);
         }
     };
+    let mut files = HostFiles::new(&rt);
     let status = run_command(
         &rt,
         alloc,
-        &mut HostFiles::new(&rt),
+        &mut files,
         words.as_slice(),
         &mut rt.stdin(),
         &mut rt.stdout(),
         &mut rt.stderr(),
     );
+    if status == FAULT {
+        name_file(&rt, &files);
+    }
     ExitCode::from(status)
+}
+
+/// Names the file of which a call failed, behind the fault.
+fn name_file(rt: &HostRuntime, files: &HostFiles<'_>) {
+    if let Some(path) = files.failed() {
+        let _ = rt.eprint("file ");
+        let _ = rt.eprintln(path);
+    }
 }
 
 /// The words of the command line, the program's name first.

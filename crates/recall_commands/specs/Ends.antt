@@ -1,5 +1,5 @@
 -- How a command ends: with which status, and what it leaves on its streams.
-use Rattle.std.specs.Prelude.{◌≡◌, ◌⊎◌, ◌==◌, ℕ, List, [], ◌∷◌, Option, Result, Ok, Err, IfOk, IfSome, codes, if◌then◌else◌}
+use Rattle.std.specs.Prelude.{◌≡◌, ◌≢◌, ◌⊎◌, ◌==◌, ℕ, List, [], ◌∷◌, Option, Result, Ok, Err, IfOk, IfSome, codes, if◌then◌else◌}
 use Rattle.std.specs.Global.{Global}
 use Rattle.std.specs.declared.string.String.{String}
 use Rattle.std.specs.Io.KnownBytes.{Appends, Keeps}
@@ -56,10 +56,22 @@ TextEnds done text output output_after errors errors_after status =
     ((status ≡ done) × Appends output output_after text × Keeps errors errors_after)
     ⊎ ((status ≡ 3) × AppendsBeginning output output_after text × AppendsBeginning errors errors_after (fault_line Write))
 
+-- where a recall is unknown, the error stream tells which command lists the recalls
+abbrev pub Advises : List ℕ → Option (List ℕ) → Option (List ℕ) → Type 0
+Advises text errors errors_after =
+    ((text ≡ codes "refused UnknownRecall\n") × AppendsBeginning errors errors_after (codes "`recall audit` lists the recalls that sites began\n"))
+    ⊎ ((text ≢ codes "refused UnknownRecall\n") × Keeps errors errors_after)
+
+-- an answer was printed, and the status is its own; or printing failed: status 3, and the fault's line on the error stream
+abbrev pub AnswerEnds : Answer → Option (List ℕ) → Option (List ℕ) → Option (List ℕ) → Option (List ℕ) → ℕ → Type 0
+AnswerEnds answer output output_after errors errors_after status =
+    ((status ≡ answer_status answer) × Appends output output_after (answer_text answer) × Advises (answer_text answer) errors errors_after)
+    ⊎ ((status ≡ 3) × AppendsBeginning output output_after (answer_text answer) × AppendsBeginning errors errors_after (fault_line Write))
+
 -- what came of a command on files is told: its answer with its status; or its fault, with status 3, and no answer
 abbrev pub TellsOutcome : Result Answer Fault → Option (List ℕ) → Option (List ℕ) → Option (List ℕ) → Option (List ℕ) → ℕ → Type 0
 TellsOutcome (Ok answer) output output_after errors errors_after status =
-    TextEnds (answer_status answer) (answer_text answer) output output_after errors errors_after status
+    AnswerEnds answer output output_after errors errors_after status
 TellsOutcome (Err fault) output output_after errors errors_after status =
     (status ≡ 3) × Keeps output output_after × AppendsBeginning errors errors_after (fault_line fault)
 

@@ -5,7 +5,7 @@ ghost use Rattle.std.specs.Io.KnownBytes.{Appends, Keeps};
 ghost use Rattle.script_core.specs.Writing.{AppendsBeginning};
 ghost use Rattle.site_commands.specs.Answers.{IsAnswer};
 ghost use Rattle.recall_commands.specs.CommandLines.{HasTurns};
-ghost use Rattle.recall_commands.specs.Ends.{Ends, SimRuns, HelpHelps, RunsScript, TextEnds, TellsOutcome, script_fault_line};
+ghost use Rattle.recall_commands.specs.Ends.{Ends, SimRuns, HelpHelps, RunsScript, TextEnds, AnswerEnds, Advises, TellsOutcome, script_fault_line};
 ghost use Rattle.recall_commands.specs.Leads.{LeadsTo};
 ghost use Rattle.site_commands.specs.Faults.{fault_line};
 
@@ -137,8 +137,33 @@ fn tell<W: Write, E: Write>(outcome: &Result<Answer, Fault>, output: &mut W, err
     ensures { TellsOutcome outcome.now (W.contents output.old) (W.contents output.new) (E.contents errors.old) (E.contents errors.new) result }
 {
     match outcome {
-        Ok(answer) => print(answer.text(), answer.status(), output, errors),
+        Ok(answer) => tell_answer(answer, output, errors),
         Err(cause) => fault(*cause, errors),
+    }
+}
+
+/// Prints an answer, and what to do next where that isn't plain.
+fn tell_answer<W: Write, E: Write>(answer: &Answer, output: &mut W, errors: &mut E) -> u8
+    ensures { AnswerEnds answer.now (W.contents output.old) (W.contents output.new) (E.contents errors.old) (E.contents errors.new) result }
+{
+    match write_text(output, answer.text().as_bytes()) {
+        Ok(()) => {
+            advise(answer.text(), errors);
+            answer.status()
+        }
+        Err(_) => fault(Fault::Write, errors),
+    }
+}
+
+/// Tells which command lists the recalls, where the one that was asked for is unknown.
+fn advise<E: Write>(text: &str, errors: &mut E)
+    ensures { Advises text.now (E.contents errors.old) (E.contents errors.new) }
+{
+    if text == "refused UnknownRecall\n" {
+        say(
+            errors,
+            "`recall audit` lists the recalls that sites began\n",
+        );
     }
 }
 
