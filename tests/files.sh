@@ -28,6 +28,13 @@ wants() {
     fi
 }
 
+# faults NAME FILE WORD..: the program ends on these words with this fault of this file
+faults() {
+    local name=$1 file=$2
+    shift 2
+    wants 3 '' "$(printf 'fault %s\nfile %s' "$name" "$file")" "$@"
+}
+
 # fresh FOLDER: the chain, with the dairy's and the plant's documents captured
 fresh() {
     rm -rf "$1"
@@ -38,8 +45,8 @@ fresh() {
 }
 
 echo "commands"
-wants 3 '' 'fault Read' audit none
-wants 3 '' 'fault Read' init chain none
+faults Read none/sites audit none
+faults Read none init chain none
 fresh chain
 wants 1 "$(printf 'refused Exists %s\n' dairy plant shop-1 shop-2)" '' init chain "$chain/sites"
 wants 0 'captured 2 known 0 skipped 0' '' capture chain shop-1 "$chain/shop-1.json"
@@ -53,7 +60,7 @@ wants 0 "$(printf '%s\n' 'recall dairy#1 root sgtin 09521321000117 tank-7 open' 
 wants 0 'recall plant#1 new 4 messages 2 open' '' start chain plant "$tank"
 
 echo "refusals"
-wants 1 'refused UnknownRecall' '' report chain 'dairy#9'
+wants 1 'refused UnknownRecall' '`recall audit` lists the recalls that sites began' report chain 'dairy#9'
 wants 1 'refused BadLine' '' report chain dairy
 wants 1 'refused NoSite farm' '' report chain 'farm#1'
 wants 1 'refused NoSite farm' '' capture chain farm none
@@ -66,7 +73,7 @@ printf 'site A a\nreach A x\n' >bad.sites
 wants 1 "$(printf 'refused %s\n' BadLine NoWorld)" '' init other bad.sites
 
 echo "faults"
-wants 3 '' 'fault Read' capture chain dairy none
+faults Read none capture chain dairy none
 # damaged: the chain again, to be spoilt
 damaged() {
     rm -rf damaged
@@ -74,23 +81,43 @@ damaged() {
 }
 damaged
 rm damaged/shop-2.db damaged/shop-2.db-wal
-wants 3 '' 'fault Read' audit damaged
+faults Read damaged/shop-2.db audit damaged
 [ -e damaged/shop-2.db ] && { echo "a missing file was made" >&2; failed=1; }
 damaged
 rm damaged/plant.db-wal
 printf 'this is no database, and never was one' >damaged/plant.db
-wants 3 '' 'fault NotAStore' audit damaged
+faults NotAStore damaged/plant.db audit damaged
 damaged
 rm damaged/plant.db-wal
 : >damaged/plant.db
-wants 3 '' 'fault NotAStore' audit damaged
+faults NotAStore damaged/plant.db audit damaged
 damaged
 truncate -s 8192 damaged/plant.db
-wants 3 '' 'fault Device' audit damaged
+faults Device damaged/plant.db audit damaged
+touch no-folder
+faults Read no-folder/sites audit no-folder
+if command -v sqlite3 >/dev/null; then
+    damaged
+    sqlite3 damaged/plant.db 'update store set version = 2' || failed=1
+    faults Version damaged/plant.db audit damaged
+    damaged
+    sqlite3 damaged/plant.db 'update event set kind = 9 where no = 2' || failed=1
+    faults BadRow damaged/plant.db audit damaged
+    damaged
+    printf 'begin exclusive;\n.shell touch held; sleep 2\n' | sqlite3 damaged/plant.db &
+    while [ ! -e held ]; do sleep 0.01; done
+    faults Device damaged/plant.db audit damaged
+    wait
+    wants 0 "$("$recall" audit chain)" '' audit damaged
+fi
+damaged
+(trap '' XFSZ; ulimit -f 1; "$recall" start damaged dairy "$tank" >out 2>err)
+[ $? = 3 ] && [ "$(head -1 err)" = 'fault Device' ] || { echo "a full disk: $(cat out err)" >&2; failed=1; }
+wants 0 "$("$recall" audit chain)" '' audit damaged
 damaged
 cp chain/plant.db damaged/dairy.db
 cp chain/plant.db-wal damaged/dairy.db-wal
-wants 3 '' 'fault OtherSite' audit damaged
+faults OtherSite damaged/dairy.db audit damaged
 damaged
 echo 'site late z' >>damaged/sites
 wants 3 '' 'fault OtherSites' start damaged dairy "$tank"

@@ -1,0 +1,120 @@
+#!/usr/bin/env bash
+# Drives `recall run` on folders of files as a person would: a recall over sixteen sites to its end, stops by `kill -9`
+# at moments of the run, after each of which an audit finds the files in order and further runs end the recall, and two
+# runs of one folder at once, of which one is refused.
+# Run by hand: tests/run.sh. It ends with status 0 where all is as it should be, and takes less than two minutes.
+set -u
+here=$(cd "$(dirname "$0")/.." && pwd) || exit 2
+"$here/recall" --help >/dev/null || exit 2
+recall="$here/crates/recall_cli/out/recall_cli"
+work=$(mktemp -d) || exit 2
+trap 'rm -rf "$work"' EXIT
+cd "$work" || exit 2
+failed=0
+stops=${STOPS:-30}
+sites=16
+
+# complain WORD..: tells what is wrong
+complain() {
+    printf '%s\n' "$*" >&2
+    failed=1
+}
+
+# wants STATUS OUTPUT ERRORS WORD..: the program ends so on these words
+wants() {
+    local status=$1 output=$2 errors=$3 ended
+    shift 3
+    "$recall" "$@" >out 2>err </dev/null
+    ended=$?
+    if [ "$ended" != "$status" ] || [ "$(cat out)" != "$output" ] || [ "$(cat err)" != "$errors" ]; then
+        complain "recall $*: status $ended, wanted $status; $(cat out err)"
+    fi
+}
+
+# document SITE: the site ships the item `crate` to the next site and to the one after that, the last ones to the first
+document() {
+    local one=$((($1 + 1) % sites)) two=$((($1 + 2) % sites))
+    printf '{"type":"EPCISDocument","epcisBody":{"eventList":[{"type":"ObjectEvent","eventTime":"2024-05-01T08:00:00Z","eventTimeZoneOffset":"+00:00","action":"OBSERVE","epcList":["crate"],"destinationList":[{"type":"location","destination":"a%d"},{"type":"location","destination":"a%d"}]}]}}' "$one" "$two"
+}
+
+mkdir started
+for ((n = 0; n < sites; n++)); do
+    printf 'site s%d a%d\n' "$n" "$n"
+done >list
+wants 0 '' '' init started list
+for ((n = 0; n < sites; n++)); do
+    document "$n" >document.json
+    wants 0 'captured 1 known 0 skipped 0' '' capture started "s$n" document.json
+done
+wants 0 'recall s0#1 new 1 messages 2 open' '' start started s0 crate
+wants 0 'open s0#1' '' audit started
+
+# ended FOLDER: further runs end the recall, and then its quarantine is what its root reaches
+ended() {
+    local tries
+    for ((tries = 0; tries < 20; tries++)); do
+        "$recall" run "$1" >out 2>err </dev/null || complain "a run: $(cat out err)"
+        [ "$(cat out)" = 's0#1 ended' ] && break
+    done
+    wants 0 's0#1 ended' '' run "$1"
+    wants 0 "equal s0#1 pairs $sites" '' audit "$1"
+}
+
+echo "a recall over $sites sites"
+cp -r started whole
+begun=$(date +%s%N)
+"$recall" run whole >out 2>err </dev/null || complain "the first run: $(cat out err)"
+spent=$((($(date +%s%N) - begun) / 1000))
+echo "  $(cat out), after $((spent / 1000)) milliseconds"
+ended whole
+
+echo "bad numbers of turns"
+for turns in 0 1000001 x; do
+    "$recall" run whole --turns "$turns" >out 2>err </dev/null
+    [ $? = 2 ] && [ ! -s out ] && [ -s err ] || complain "turns $turns: $(cat out err)"
+done
+cp -r started few
+wants 0 's0#1 open' '' run few --turns 1
+ended few
+
+echo "$stops stops of a run"
+open=0
+for ((n = 0; n < stops; n++)); do
+    rm -rf stopped && cp -r started stopped
+    moment=$((spent * n / stops))
+    "$recall" run stopped >/dev/null 2>&1 &
+    sleep "$(printf '%d.%06d' $((moment / 1000000)) $((moment % 1000000)))"
+    kill -9 $! 2>/dev/null
+    wait $! 2>/dev/null
+    "$recall" audit stopped >out 2>err
+    case "$?:$(cat out)$(cat err)" in
+    '0:open s0#1') open=$((open + 1)) ;;
+    "0:equal s0#1 pairs $sites") ;;
+    *) complain "audit after a stop: $(cat out err)" ;;
+    esac
+    ended stopped
+done
+echo "  the recall was open after $open of them"
+
+echo "two runs of one folder at once"
+refused=0
+for ((n = 0; n < 10; n++)); do
+    rm -rf twice && cp -r started twice
+    "$recall" run twice >out1 2>err1 </dev/null &
+    "$recall" run twice >out2 2>err2 </dev/null
+    second=$?
+    wait $!
+    first=$?
+    case "$first $second" in
+    '0 0') ;;
+    '0 3') refused=$((refused + 1)); grep -q '^file twice/' err2 || complain "the refused run: $(cat out2 err2)" ;;
+    '3 0') refused=$((refused + 1)); grep -q '^file twice/' err1 || complain "the refused run: $(cat out1 err1)" ;;
+    '3 3') refused=$((refused + 1)) ;;
+    *) complain "two runs: $first $second; $(cat out1 err1 out2 err2)" ;;
+    esac
+    ended twice
+done
+echo "  one was refused $refused times of 10"
+[ "$refused" = 0 ] && complain "two runs never met"
+[ "$failed" = 0 ] && echo "all as it should be"
+exit "$failed"
