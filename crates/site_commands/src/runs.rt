@@ -21,6 +21,7 @@ use site_threads::{Desk, DeskOut, FreeGate, GatherCause, GatherFault, Gathered, 
 use std::alloc::{AllocError, Global};
 use std::sync::Wait;
 use std::thread::Threads;
+use std::time::Clock;
 use world_core::WorldFault;
 
 /// Runs all sites of a folder, each in a thread of its own, where one can be made, for so many turns: at most 1,000,000.
@@ -31,7 +32,7 @@ use world_core::WorldFault;
 /// # Errors
 /// In this order: those of the folder's list, those of opening the sites' files, and those of [`run_of`]; after these
 /// the files are closed.
-pub fn run_sites<K: SiteKeeper + Send, F: Files<K>, R: Threads + Wait + Sync>(
+pub fn run_sites<K: SiteKeeper + Send, F: Files<K>, R: Threads + Wait + Clock + Sync>(
     rt: &R,
     alloc: Global,
     files: &mut F,
@@ -59,7 +60,7 @@ pub fn run_sites<K: SiteKeeper + Send, F: Files<K>, R: Threads + Wait + Sync>(
 /// `OtherSites` where the keepers aren't of one list of sites, in order, and `Closed` where one is closed: they are as
 /// they were. `NoMemory`, `SiteLost` where a keeper was closed and couldn't be opened again, and `GaveUp`: in whichever
 /// records the keepers are open, or may be opened, they fit together, or nothing has changed.
-pub fn run_of<K: SiteKeeper + Send, R: Threads + Wait + Sync>(
+pub fn run_of<K: SiteKeeper + Send, R: Threads + Wait + Clock + Sync>(
     rt: &R,
     alloc: Global,
     sites: &Sites,
