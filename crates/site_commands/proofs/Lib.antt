@@ -1,5 +1,7 @@
 pub mod AuditLemmas
 pub mod CallsInTurn
+pub mod MakingLemmas
+pub mod RefusalLemmas
 pub mod ReportLemmas
 pub mod RunLemmas
 pub mod StepLemmas

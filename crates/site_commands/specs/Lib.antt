@@ -3,6 +3,7 @@ pub mod Audits
 pub mod Calls
 pub mod Faults
 pub mod Folders
+pub mod Making
 pub mod Reports
 pub mod Runs
 pub mod Steps
