@@ -25,11 +25,21 @@ pub enum Link<D: Disk> {
 }
 
 /// A site kept in the tables of a file, on any disk.
-#[derive(Drop)]
 pub struct StoredSite<D: Disk> {
     kept: Kept,
     link: Link<D>,
     options: Options,
+}
+
+// It is written out, so that a caller does not prove again how a connection is dropped.
+impl<D: Disk + Drop> Drop for StoredSite<D> {
+    fn drop(self) {
+        let StoredSite {
+            kept: _,
+            link: _,
+            options: _,
+        } = self;
+    }
 }
 
 impl<D: Disk + Drop> StoredSite<D> {
@@ -79,7 +89,11 @@ impl<D: Disk + Drop> StoredSite<D> {
     pub fn release(self) -> Link<D>
         ensures { result ≡ link_of self }
     {
-        let StoredSite { link, .. } = self;
+        let StoredSite {
+            kept: _,
+            link,
+            options: _,
+        } = self;
         link
     }
 
@@ -108,6 +122,35 @@ impl<D: Disk + Drop> StoredSite<D> {
         match &mut self.link {
             Link::Connected(conn) => self.kept.stop(conn, input, keep),
             Link::Unconnected(_) => Ok(()),
+        }
+    }
+
+    /// A closed site opened again, over its files.
+    ///
+    /// # Errors
+    /// Why it is closed still, in the records of before.
+    fn open_again(self) -> Result<StoredSite<D>, Unopened<StoredSite<D>>>
+        ensures opened { IfOk result (OpensIn self.kept) }
+        ensures kind { IfErr result (λ left. HindersOpening left.fault) }
+        ensures unopened { IfErr result (StaysShut self.kept) }
+    {
+        let StoredSite {
+            mut kept,
+            link,
+            options,
+        } = self;
+        kept.is_open = false;
+        match connect(kept.alloc, link, options) {
+            Ok(conn) => find_over(kept, conn, options),
+            Err((error, files)) => {
+                let fault = kept.hindered(&error);
+                let keeper = StoredSite {
+                    kept,
+                    link: Link::Unconnected(files),
+                    options,
+                };
+                Err(Unopened { keeper, fault })
+            }
         }
     }
 }
@@ -170,7 +213,7 @@ impl<D: Disk + Drop> SiteKeeper for StoredSite<D> {
         if self.view().is_some() {
             return Ok(self);
         }
-        open_again(self)
+        self.open_again()
     }
 
     fn may_be_opened(&self) {}
@@ -203,34 +246,5 @@ fn find_over<D: Disk + Drop>(
     match found {
         Ok(()) => Ok(keeper),
         Err(fault) => Err(Unopened { keeper, fault }),
-    }
-}
-
-/// A closed site opened again, over its files.
-///
-/// # Errors
-/// Why it is closed still, in the records of before.
-fn open_again<D: Disk + Drop>(site: StoredSite<D>) -> Result<StoredSite<D>, Unopened<StoredSite<D>>>
-    ensures opened { IfOk result (OpensIn site.kept) }
-    ensures kind { IfErr result (λ left. HindersOpening left.fault) }
-    ensures unopened { IfErr result (StaysShut site.kept) }
-{
-    let StoredSite {
-        mut kept,
-        link,
-        options,
-    } = site;
-    kept.is_open = false;
-    match connect(kept.alloc, link, options) {
-        Ok(conn) => find_over(kept, conn, options),
-        Err((error, files)) => {
-            let fault = kept.hindered(&error);
-            let keeper = StoredSite {
-                kept,
-                link: Link::Unconnected(files),
-                options,
-            };
-            Err(Unopened { keeper, fault })
-        }
     }
 }
