@@ -1,7 +1,7 @@
-//! Sites kept in files, over disks in memory.
+//! A site's tables over a database in memory, with what its steps change.
 #![tactic(auto)]
 
 #[cfg(test)]
 mod keepers;
 #[cfg(test)]
-mod worlds;
+mod tests;
