@@ -3,10 +3,15 @@
 use event_json::SiteNo;
 use frame_core::{Frame, MsgId};
 use keeper_core::{MemoryKeeper, SiteKeeper};
-use site_commands::{Answer, Fault, Files, audit_sites, capture, init, report_recall, start};
+use site_commands::{
+    Answer, Fault, Files, audit_sites, capture, init, report_recall, run_sites, start,
+};
 use site_core::{SiteInput, SiteState};
 use std::alloc::Global;
+use std::sync::Wait;
 use std::test::Fail;
+use std::thread::Threads;
+use std::time::Clock;
 
 /// An item x is made into y, which is shipped to B.
 const MADE: &str =
@@ -213,6 +218,21 @@ fn commands_are_answered(rt: HostRuntime) -> Result<(), Fail> {
     Ok(())
 }
 
+/// Commands that begin the recall A#1.
+const STARTED: [(Asked, u8, &str); 3] = [
+    (Asked::Init("d", "list"), 0, ""),
+    (
+        Asked::Capture("A", "made"),
+        0,
+        "captured 2 known 0 skipped 0\n",
+    ),
+    (
+        Asked::Start("A", "x"),
+        0,
+        "recall A#1 new 2 messages 1 open\n",
+    ),
+];
+
 /// The signal that B has quarantined y comes to A.
 fn signal(files: &mut MemoryFiles) -> Result<(), Fail> {
     let kept = files.sites.get_mut(0).ok_or("a site")?;
@@ -227,22 +247,38 @@ fn signal(files: &mut MemoryFiles) -> Result<(), Fail> {
 #[test]
 fn a_record_from_before_is_found(rt: HostRuntime) -> Result<(), Fail> {
     let mut files = files(rt.alloc())?;
-    let before = [
-        (Asked::Init("d", "list"), 0, ""),
-        (
-            Asked::Capture("A", "made"),
-            0,
-            "captured 2 known 0 skipped 0\n",
-        ),
-        (
-            Asked::Start("A", "x"),
-            0,
-            "recall A#1 new 2 messages 1 open\n",
-        ),
-    ];
-    assert!(rt; first_other(rt.alloc(), &mut files, before.as_slice()).is_none());
+    assert!(rt; first_other(rt.alloc(), &mut files, STARTED.as_slice()).is_none());
     signal(&mut files)?;
     let after = [(Asked::Audit("d"), 4, "misfit 2 B\n")];
+    assert!(rt; first_other(rt.alloc(), &mut files, after.as_slice()).is_none());
+    Ok(())
+}
+
+/// Whether the recall A#1 ends in a run of all sites, of at most twenty.
+fn ends_in_runs<R: Threads + Wait + Clock + Sync>(
+    rt: &R,
+    alloc: Global,
+    files: &mut MemoryFiles,
+) -> bool {
+    for _ in 0..20 {
+        match run_sites(rt, alloc, files, "d", 2000) {
+            Ok(answer) => {
+                if answer.text() == "A#1 ended\n" {
+                    return answer.status() == 0;
+                }
+            }
+            Err(_) => return false,
+        }
+    }
+    false
+}
+
+#[test]
+fn sites_run_until_a_recall_has_ended(rt: HostRuntime) -> Result<(), Fail> {
+    let mut files = files(rt.alloc())?;
+    assert!(rt; first_other(rt.alloc(), &mut files, STARTED.as_slice()).is_none());
+    assert!(rt; ends_in_runs(&rt, rt.alloc(), &mut files));
+    let after = [(Asked::Audit("d"), 0, "equal A#1 pairs 3\n")];
     assert!(rt; first_other(rt.alloc(), &mut files, after.as_slice()).is_none());
     Ok(())
 }
