@@ -23,5 +23,6 @@ returns-in-Ok-Files-clause-help g c = λ name e. absurd (help_is_no_files _ name
 
 pub returns-in-Ok-Mistake-clause-ends : goal.returns-in-Ok-Mistake-clause-ends
 returns-in-Ok-Mistake-clause-ends g c =
-    ends_mistaken g.F.Files.reads g.F.Files.opens g.F.Files.closes g.K.SiteKeeper.shown c.args.words.now _ _ _ _ _
+    ends_mistaken g.F.Files.reads g.F.Files.finds g.F.Files.makes g.F.Files.opens g.F.Files.closes g.F.Files.writes g.K.SiteKeeper.shown
+    c.args.words.now _ _ _ _ _
     (rw c.in-Ok-Mistake.field-0-is at c.in-Ok-Mistake.ensures) refl (search rules) (search rules) c.say.ensures
