@@ -1,5 +1,5 @@
 -- How a command ends: with which status, and what it leaves on its streams.
-use Rattle.std.specs.Prelude.{◌≡◌, ◌⊎◌, ◌==◌, ℕ, List, [], ◌∷◌, Option, Result, Ok, Err, IfOk, IfSome, codes, if◌then◌else◌}
+use Rattle.std.specs.Prelude.{◌≡◌, ◌⊎◌, ◌==◌, ℕ, Bool, List, [], ◌∷◌, Option, Result, Ok, Err, IfOk, IfSome, codes, if◌then◌else◌}
 use Rattle.std.specs.Global.{Global}
 use Rattle.std.specs.declared.string.String.{String}
 use Rattle.std.specs.Io.KnownBytes.{Appends, Keeps}
@@ -103,7 +103,7 @@ abbrev pub HelpHelps : {F : Type 0} → List (String Global) → F → F → Str
 HelpHelps words old new before after status =
     (name : List ℕ) → texts_of words ≡ name ∷ codes "--help" ∷ [] → Helps (texts_of words) old new before after status ⊎ LacksMemory old new before after status
 
-module _ {F K : Type 0} (reads : F → List ℕ → List ℕ → F → Type 0) (opens : F → List ℕ → List ℕ → K → F → Type 0) (closes : F → K → F → Type 0) (shown : K → Option Record) where
+module _ {F K : Type 0} (reads : F → List ℕ → List ℕ → F → Type 0) (finds : F → List ℕ → Bool → F → Type 0) (makes : F → List ℕ → Record → F → Type 0) (opens : F → List ℕ → List ℕ → K → F → Type 0) (closes : F → K → F → Type 0) (writes : F → List ℕ → List ℕ → F → Type 0) (shown : K → Option Record) where
   -- A command on files was asked for, and what came of it was told: an answer, which is that of these calls of the files, with
   -- status 1 only refusals; or a fault, after which nothing is said of the files.
   pub record DoesFiles (words : List (List ℕ)) (old new : F) (before after : Streams) (status : ℕ) : Type 0 where
@@ -111,7 +111,7 @@ module _ {F K : Type 0} (reads : F → List ℕ → List ℕ → F → Type 0) (
     pub asked : AsksFiles words command
     pub outcome : Result Answer Fault
     pub is_answer : IfOk outcome IsAnswer
-    pub led : IfOk outcome (LeadsTo reads opens closes shown command old new)
+    pub led : IfOk outcome (LeadsTo reads finds makes opens closes writes shown command old new)
     pub unread : Keeps before.input after.input
     pub told : TellsOutcome outcome before.output after.output before.errors after.errors status
 

@@ -46,7 +46,7 @@ pub fn run_command<
     output: &mut W,
     errors: &mut E,
 ) -> u8
-    ensures ends { Ends F.reads F.opens F.closes K.shown words.now files.old files.new (record { input = I.remaining input.old; output = W.contents output.old; errors = E.contents errors.old })
+    ensures ends { Ends F.reads F.finds F.makes F.opens F.closes F.writes K.shown words.now files.old files.new (record { input = I.remaining input.old; output = W.contents output.old; errors = E.contents errors.old })
         (record { input = I.remaining input.new; output = W.contents output.new; errors = E.contents errors.new }) result }
     ensures sim { SimRuns words.now files.old files.new (record { input = I.remaining input.old; output = W.contents output.old; errors = E.contents errors.old })
         (record { input = I.remaining input.new; output = W.contents output.new; errors = E.contents errors.new }) result }
@@ -119,7 +119,7 @@ fn on_files<R: Threads + Wait + Clock + Sync, K: SiteKeeper + Send, F: Files<K>>
     command: &FileCommand<'_>,
 ) -> Result<Answer, Fault>
     requires { HasTurns command.now }
-    ensures led { IfOk result (LeadsTo F.reads F.opens F.closes K.shown command.now files.old files.new) }
+    ensures led { IfOk result (LeadsTo F.reads F.finds F.makes F.opens F.closes F.writes K.shown command.now files.old files.new) }
     ensures sound { IfOk result IsAnswer }
 {
     match command {
