@@ -1,5 +1,5 @@
 use Rattle.std.proofs.Common.{rules, refl}
-use Rattle.recall_commands.proofs.Endings.{ends_mistaken}
+use Rattle.recall_commands.proofs.Endings.{ends_files, ends_mistaken}
 use Rattle.recall_commands.proofs.Words.{sim_is_no_help, sim_is_not_bad, sim_is_no_files, help_is_no_sim, help_is_not_bad, help_is_no_files}
 use Rattle.recall_commands.proofs.commands.run_command.Goals as goal
 
@@ -26,3 +26,8 @@ returns-in-Ok-Mistake-clause-ends g c =
     ends_mistaken g.F.Files.reads g.F.Files.finds g.F.Files.makes g.F.Files.opens g.F.Files.closes g.F.Files.writes g.K.SiteKeeper.shown
     c.args.words.now _ _ _ _ _
     (rw c.in-Ok-Mistake.field-0-is at c.in-Ok-Mistake.ensures) refl (search rules) (search rules) c.say.ensures
+
+pub returns-in-Ok-Files-clause-ends : goal.returns-in-Ok-Files-clause-ends
+returns-in-Ok-Files-clause-ends g c =
+    ends_files g.F.Files.reads g.F.Files.finds g.F.Files.makes g.F.Files.opens g.F.Files.closes g.F.Files.writes g.K.SiteKeeper.shown
+    c.args.words.now _ _ _ _ _ _ _ (rw c.in-Ok-Files.field-0-is at c.in-Ok-Files.ensures) c.on_files-outcome.ensures.sound c.on_files-outcome.ensures.led (search rules) c.tell.ensures
