@@ -162,7 +162,7 @@ fn four_sites_in_lockstep_end_their_recalls(rt: HostRuntime) -> Result<(), Fail>
         AtomicU64::new(0),
     ];
     let gates = in_lockstep(rt.alloc(), &turns)?;
-    let (run, desks) = ran(&rt, rt.alloc(), gates, 100)?;
+    let (run, desks) = ran(&rt, rt.alloc(), gates, 2_000)?;
     let wrong = match run {
         Ok(gathered) => wrong_in(&rt, rt.alloc(), gathered, desks),
         Err(_) => Some("the run"),
