@@ -1,5 +1,7 @@
-//! Running sites, by turns of two of them, and by a desk that is spent.
+//! Running sites: by turns of two of them, by runs of four, and by a desk that is spent.
 #![tactic(auto)]
 
+#[cfg(test)]
+mod running;
 #[cfg(test)]
 mod turns;

@@ -1,0 +1,193 @@
+//! Recalls of four sites, each in a thread of its own.
+mod fixtures;
+mod gates;
+
+ghost use Rattle.std.specs.Prelude.{◌≤◌, List, IfOk};
+ghost use Rattle.std.specs.List.{AllZip};
+ghost use Rattle.site_threads.specs.declared.lists.SiteList.{SiteList};
+ghost use Rattle.site_threads_tests.specs.Serving.{Settles};
+
+use crate::running::fixtures::{desks, keepers};
+use crate::running::gates::{in_lockstep, without_b};
+use event_json::SiteNo;
+use frame_core::RecallId;
+use keeper_core::{MemoryKeeper, SiteKeeper};
+use report_core::{Verdict, audit};
+use site_core::SiteState;
+use site_recovery::{are_all_sites, check_world};
+use site_threads::{Desk, Gate, GatherCause, GatherFault, Gathered, Receipt, SiteList, run_world};
+use std::alloc::{AllocError, Global};
+use std::sync::Wait;
+use std::sync::atomic::AtomicU64;
+use std::test::Fail;
+use std::thread::Threads;
+use std::time::Clock;
+
+/// The records of the keepers that are open.
+fn records(alloc: Global, keepers: &[MemoryKeeper]) -> Result<Vec<&SiteState>, AllocError> {
+    let mut records = Vec::with_capacity(alloc, keepers.len())?;
+    for keeper in keepers {
+        if let Some(record) = keeper.view() {
+            records.push(record)?;
+        }
+    }
+    Ok(records)
+}
+
+/// How many pairs are quarantined under the first recall that the site of this place began, where they are just those in
+/// reach.
+fn equal_pairs(alloc: Global, records: &[&SiteState], place: u64) -> Option<u64> {
+    let site = SiteNo::of(place)?;
+    if !are_all_sites(records) {
+        return None;
+    }
+    match audit(alloc, records, RecallId { site, number: 1 }) {
+        Ok(Verdict::Equal(count)) => Some(count),
+        _ => None,
+    }
+}
+
+/// Whether the recalls of x and w have ended as they should.
+fn are_ended(alloc: Global, keepers: &[MemoryKeeper]) -> bool {
+    match records(alloc, keepers) {
+        Ok(records) => {
+            equal_pairs(alloc, &records, 0) == Some(4) && equal_pairs(alloc, &records, 3) == Some(2)
+        }
+        Err(_) => false,
+    }
+}
+
+/// Whether the records of four keepers fit together.
+fn fit(alloc: Global, keepers: &[MemoryKeeper]) -> bool {
+    match records(alloc, keepers) {
+        Ok(records) => {
+            records.len() == 4 && are_all_sites(&records) && check_world(alloc, &records).is_ok()
+        }
+        Err(_) => false,
+    }
+}
+
+/// The first receipt of B's desk.
+fn receipt_of_b(rt: &impl Wait, desks: &mut Vec<Desk>) -> Option<Receipt>
+    requires desks { (lists : List SiteList) × AllZip Settles desks.old.items lists }
+    ensures desks { (lists : List SiteList) → AllZip Settles desks.old.items lists → AllZip Settles desks.new.items lists }
+{
+    if desks.len() < 2 {
+        return None;
+    }
+    desks[1].receipt(rt)
+}
+
+/// Whether the receipt of B's capture is confirmed, and with another number is not.
+fn is_confirmed(gathered: &Gathered<MemoryKeeper>, receipt: Option<Receipt>) -> bool {
+    let Some(mut receipt) = receipt else {
+        return false;
+    };
+    let confirmed = receipt.number > 0 && gathered.confirm(&receipt).is_ok();
+    receipt.number = receipt.number.saturating_add(1);
+    confirmed && gathered.confirm(&receipt).is_err()
+}
+
+/// Whether so many jobs of each desk stand in its site's list.
+fn are_settled(desks: Vec<Desk>, lists: Vec<SiteList>, counts: &[u64]) -> bool
+    requires { AllZip Settles desks.items lists.items }
+{
+    let mut lists = lists.into_iter();
+    let mut counts = counts.iter();
+    let mut same = true;
+    for desk in desks {
+        let Some(list) = lists.next() else {
+            return false;
+        };
+        let settled = list.settle(desk);
+        same = same && counts.next() == Some(&settled);
+    }
+    same && counts.next().is_none()
+}
+
+/// What is wrong with a run that has an answer.
+fn wrong_in(
+    rt: &impl Wait,
+    alloc: Global,
+    gathered: Gathered<MemoryKeeper>,
+    mut desks: Vec<Desk>,
+) -> Option<&'static str>
+    requires { AllZip Settles desks.items gathered.lists.items }
+{
+    let receipt = receipt_of_b(rt, &mut desks);
+    let confirmed = is_confirmed(&gathered, receipt);
+    let Gathered { keepers, lists } = gathered;
+    let settled = are_settled(desks, lists, &[2, 1, 1, 2]);
+    if !are_ended(alloc, &keepers) {
+        Some("the recalls")
+    } else if !confirmed {
+        Some("the receipt of B's capture")
+    } else if !settled {
+        Some("the jobs in the lists")
+    } else {
+        None
+    }
+}
+
+/// A run of the four sites, and their desks.
+fn ran<G: Gate + Send, R: Threads + Wait + Clock + Sync>(
+    rt: &R,
+    alloc: Global,
+    gates: Vec<G>,
+    turns: u64,
+) -> Result<
+    (
+        Result<Gathered<MemoryKeeper>, GatherFault<MemoryKeeper>>,
+        Vec<Desk>,
+    ),
+    Fail,
+>
+    requires turns { turns ≤ 1000000 }
+    ensures { IfOk result (λ r. IfOk r.0 (λ gathered. AllZip Settles r.1.items gathered.lists.items)) }
+{
+    let keepers = keepers(alloc)?;
+    let (desks, outs) = desks(rt, alloc)?;
+    if keepers.len() != 4 || outs.len() != 4 || gates.len() != 4 {
+        return Err("there aren't four of them".into());
+    }
+    Ok((run_world(rt, alloc, keepers, outs, gates, turns), desks))
+}
+
+#[test]
+fn four_sites_in_lockstep_end_their_recalls(rt: HostRuntime) -> Result<(), Fail> {
+    let turns = [
+        AtomicU64::new(0),
+        AtomicU64::new(0),
+        AtomicU64::new(0),
+        AtomicU64::new(0),
+    ];
+    let gates = in_lockstep(rt.alloc(), &turns)?;
+    let (run, desks) = ran(&rt, rt.alloc(), gates, 2_000)?;
+    let wrong = match run {
+        Ok(gathered) => wrong_in(&rt, rt.alloc(), gathered, desks),
+        Err(_) => Some("the run"),
+    };
+    assert_eq!(rt; wrong, None);
+    Ok(())
+}
+
+/// Whether a run ended since B's gate gave up, and its sites fit together.
+fn gave_up(alloc: Global, run: Result<Gathered<MemoryKeeper>, GatherFault<MemoryKeeper>>) -> bool {
+    match run {
+        Ok(_) => false,
+        Err(fault) => {
+            let GatherFault { keepers, cause } = fault;
+            match cause {
+                GatherCause::GaveUp(site) => site.number() == 1 && fit(alloc, &keepers),
+                _ => false,
+            }
+        }
+    }
+}
+
+#[test]
+fn a_gate_that_gives_up_leaves_sites_that_fit(rt: HostRuntime) -> Result<(), Fail> {
+    let (run, _desks) = ran(&rt, rt.alloc(), without_b(rt.alloc())?, 20)?;
+    assert!(rt; gave_up(rt.alloc(), run));
+    Ok(())
+}
