@@ -1,11 +1,15 @@
 #!/usr/bin/env bash
 # Drives the program on a folder of files as a person would: each command, each refusal and fault once, and stops by
 # `kill -9` at moments of a capture and a start, after each of which an audit finds the record before or after it.
-# Run by hand: tests/files.sh. It ends with status 0 where all is as it should be, and takes less than two minutes.
+# Run by hand, and by the gate on the program that it built. RECALL names another program, STOPS how often it is
+# stopped. It ends with status 0 where all is as it should be, and takes less than two minutes.
 set -u
 here=$(cd "$(dirname "$0")/.." && pwd) || exit 2
-"$here/recall" --help >/dev/null || exit 2
-recall="$here/crates/recall_cli/out/recall_cli"
+recall=${RECALL:-}
+if [ -z "$recall" ]; then
+    "$here/recall" --help >/dev/null || exit 2
+    recall="$here/crates/recall_cli/out/recall_cli"
+fi
 chain="$here/examples/dairy"
 tank=urn:epc:id:sgtin:9521321.000011.tank-7
 work=$(mktemp -d) || exit 2

@@ -2,11 +2,15 @@
 # Drives `recall run` on folders of files as a person would: a recall over sixteen sites to its end, stops by `kill -9`
 # at moments of the run, after each of which an audit finds the files in order and further runs end the recall, and two
 # runs of one folder at once, of which one is refused.
-# Run by hand: tests/run.sh. It ends with status 0 where all is as it should be, and takes less than two minutes.
+# Run by hand, and by the gate on the program that it built. RECALL names another program, STOPS how often it is
+# stopped. It ends with status 0 where all is as it should be, and takes less than two minutes.
 set -u
 here=$(cd "$(dirname "$0")/.." && pwd) || exit 2
-"$here/recall" --help >/dev/null || exit 2
-recall="$here/crates/recall_cli/out/recall_cli"
+recall=${RECALL:-}
+if [ -z "$recall" ]; then
+    "$here/recall" --help >/dev/null || exit 2
+    recall="$here/crates/recall_cli/out/recall_cli"
+fi
 work=$(mktemp -d) || exit 2
 trap 'rm -rf "$work"' EXIT
 cd "$work" || exit 2
