@@ -14,6 +14,7 @@ mod lists;
 mod offers;
 mod passing;
 mod room;
+mod rounds;
 mod runs;
 mod sites;
 mod stamps;

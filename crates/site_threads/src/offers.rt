@@ -8,18 +8,18 @@ use frame_core::{FrameView, MsgId};
 use site_core::{FrameName, SiteState, frame_named};
 
 /// The signal of the message that was taken from the site in this turn, where the record makes it emittable; else the
-/// next message for the site, by number after the one posted last, round to the least. `None` where there is neither.
+/// message of the number that is next. `None` where there is neither.
 pub fn offer(
     state: &SiteState,
     owed: Option<MsgId>,
     to: SiteNo,
-    after: u64,
+    next: Option<u64>,
 ) -> Option<FrameView<'_>>
     ensures { IfSome result (λ f. IsFor state.now.engagement to (frame_of f)) }
 {
     match owed_signal(state, owed, to) {
         Some(signal) => Some(signal),
-        None => match next_message(state, to, after) {
+        None => match next {
             None => None,
             Some(number) => message_to(state, number, to),
         },
@@ -56,20 +56,4 @@ fn owed_signal(state: &SiteState, owed: Option<MsgId>, to: SiteNo) -> Option<Fra
             }
         }
     }
-}
-
-/// The number of the next message for the site, after this number, or the least where none is after it.
-fn next_message(state: &SiteState, to: SiteNo, after: u64) -> Option<u64> {
-    let mut least = None;
-    for (number, row) in state.outbox() {
-        if row.dest == to {
-            if *number > after {
-                return Some(*number);
-            }
-            if least.is_none() {
-                least = Some(*number);
-            }
-        }
-    }
-    least
 }

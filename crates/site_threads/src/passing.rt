@@ -11,6 +11,7 @@ ghost use Rattle.site_threads.specs.Sites.{IsSite, Continues};
 use crate::following::view_of;
 use crate::jobs::Reply;
 use crate::offers::offer;
+use crate::rounds::Round;
 use crate::sites::Site;
 use event_json::SiteNo;
 use frame_core::{Frame, MsgId};
@@ -79,17 +80,17 @@ impl<K: SiteKeeper> Site<K> {
     {
         let place = to.number() as usize;
         let owed = self.owed[place];
-        let after = self.posted[place];
+        let next = next_message(&self.keeper, &mut self.rounds[place], to);
         let Some(state) = view_of(&self.keeper) else {
             return 0;
         };
-        let Some(frame) = offered(alloc, state, owed, to, after) else {
+        let Some(frame) = offered(alloc, state, owed, to, next) else {
             return 0;
         };
-        let posted = number_of(&frame, after);
+        let message = number_of(&frame);
         let answer = wire.post(&mut self.seat, frame);
         let count = count_posted(answer);
-        self.posted[place] = if count == 1 { posted } else { after };
+        self.rounds[place] = self.rounds[place].behind(count, message);
         count
     }
 
@@ -177,17 +178,25 @@ impl<K: SiteKeeper> Site<K> {
     }
 }
 
+/// The number of the next message for a site of the record that is shown.
+fn next_message<K: SiteKeeper>(keeper: &Option<K>, round: &mut Round, to: SiteNo) -> Option<u64> {
+    match view_of(keeper) {
+        Some(state) => round.find(state, to),
+        None => None,
+    }
+}
+
 /// A copy of what the record has for the other site. `None` where there is nothing, or no memory.
 fn offered(
     alloc: Global,
     state: &SiteState,
     owed: Option<MsgId>,
     to: SiteNo,
-    after: u64,
+    next: Option<u64>,
 ) -> Option<Frame>
     ensures { IfSome result (IsFor state.now.engagement to) }
 {
-    match offer(state, owed, to, after) {
+    match offer(state, owed, to, next) {
         None => None,
         Some(frame) => frame.to_frame(alloc).ok(),
     }
@@ -232,10 +241,10 @@ fn message_of(frame: &Frame) -> Option<MsgId> {
     }
 }
 
-/// The number of the message that a frame is, or this one of a signal.
-fn number_of(frame: &Frame, otherwise: u64) -> u64 {
+/// The number of the message that a frame is. `None` of a signal.
+fn number_of(frame: &Frame) -> Option<u64> {
     match frame {
-        Frame::Recall { id, .. } => id.number,
-        Frame::Signal { .. } => otherwise,
+        Frame::Recall { id, .. } => Some(id.number),
+        Frame::Signal { .. } => None,
     }
 }

@@ -10,6 +10,7 @@ ghost use Rattle.site_threads.specs.Sites.{IsSite, Continues};
 
 use crate::following::{follow, follow_shown, view_of};
 use crate::jobs::{Entry, Job, Ready, Receipt, Reply, answered, is_delivery};
+use crate::rounds::Round;
 use crate::stamps::Stamp;
 use event_json::SiteNo;
 use frame_core::MsgId;
@@ -35,8 +36,8 @@ pub struct Site<K: SiteKeeper> {
     pub start: Snapshot<SiteState>,
     /// By site, the message that was taken from it in this turn.
     pub owed: [Option<MsgId>; 16],
-    /// By site, the number of the message that was posted to it last.
-    pub posted: [u64; 16],
+    /// By site, how far its messages were posted.
+    pub rounds: [Round; 16],
 }
 
 impl<K: SiteKeeper> Site<K> {

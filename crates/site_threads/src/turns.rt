@@ -12,6 +12,7 @@ ghost use Rattle.site_threads.specs.Turns.{IfLost, lost};
 
 use crate::gates::{Gate, Pass};
 use crate::jobs::{Entry, Job, Ready, Receipt};
+use crate::rounds::Round;
 use crate::sites::Site;
 use crate::stamps::stamp_of;
 use event_json::SiteNo;
@@ -87,7 +88,7 @@ impl<K: SiteKeeper, G: Gate> SiteTurn<K, G> {
                 entries: Vec::new(alloc),
                 start,
                 owed: [None; 16],
-                posted: [0; 16],
+                rounds: [Round::new(); 16],
             },
             gate,
             turns: 0,
