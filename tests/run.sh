@@ -1,7 +1,7 @@
 #!/usr/bin/env bash
 # Drives `recall run` on folders of files as a person would: a recall over sixteen sites to its end, stops by `kill -9`
 # at moments of the run, after each of which an audit finds the files in order and further runs end the recall, and two
-# runs of one folder at once, of which one is refused.
+# runs of one folder at once, of which one is refused; and it looks what a terminal is told of a run.
 # Run by hand, and by the gate on the program that it built. RECALL names another program, STOPS how often it is
 # stopped. It ends with status 0 where all is as it should be, and takes less than two minutes.
 set -u
@@ -80,6 +80,36 @@ done
 cp -r started few
 wants 0 's0#1 open' '' run few --turns 1
 ended few
+
+# items FROM TO: their texts, as the members of a list
+items() {
+    awk -v from="$1" -v to="$2" 'BEGIN { for (i = from; i < to; i++) printf "%s\"i%d\"", (i > from ? "," : ""), i }'
+}
+
+# Sites in a row, each of which ships its items to the next one. Nothing but a terminal is told how a run goes.
+echo "a run that a terminal is told of"
+mkdir long
+head -4 list >four
+wants 0 '' '' init long four
+times='"eventTime":"2024-05-01T08:00:00Z","eventTimeZoneOffset":"+00:00"'
+texts=$(items 0 1000)
+printf '{"type":"TransformationEvent",%s,"inputEPCList":["x"],"outputEPCList":[%s]}' "$times" "$texts" >document.json
+wants 0 'captured 1 known 0 skipped 0' '' capture long s0 document.json
+for ((n = 0; n < 3; n++)); do
+    printf '{"type":"ObjectEvent",%s,"action":"OBSERVE","epcList":[%s],"destinationList":[{"type":"location","destination":"a%d"}]}' "$times" "$texts" $((n + 1)) >document.json
+    wants 0 'captured 1 known 0 skipped 0' '' capture long "s$n" document.json
+done
+wants 0 'recall s0#1 new 1001 messages 1000 open' '' start long s0 x
+if command -v script >/dev/null; then
+    begun=$(date +%s)
+    script -qefc "$(printf '%q run long --turns 1000000 >told' "$recall")" /dev/null >seen </dev/null || complain "a run at a terminal: $(cat seen)"
+    lasted=$(($(date +%s) - begun))
+    [ "$(cat told)" = 's0#1 ended' ] || complain "a run at a terminal: $(cat told)"
+    lines=$(tr -d '\r' <seen | grep -cE '^turns [0-9]+ messages [0-9]+ open$')
+    [ "$lines" = "$(wc -l <seen)" ] || complain "a terminal was told: $(cat seen)"
+    [ "$lines" -gt 0 ] || [ "$lasted" -lt 4 ] || complain "a terminal was told nothing for $lasted seconds"
+    echo "  $lines lines in $lasted seconds"
+fi
 
 echo "$stops stops of a run"
 open=0

@@ -7,6 +7,7 @@ use site_commands::{
     Answer, Fault, Files, audit_sites, capture, init, report_recall, run_sites, start,
 };
 use site_core::{SiteInput, SiteState};
+use site_threads::FreeGate;
 use std::alloc::Global;
 use std::sync::Wait;
 use std::test::Fail;
@@ -261,7 +262,7 @@ fn ends_in_runs<R: Threads + Wait + Clock + Sync>(
     files: &mut MemoryFiles,
 ) -> bool {
     for _ in 0..20 {
-        match run_sites(rt, alloc, files, "d", 2000) {
+        match run_sites(rt, alloc, files, FreeGate, "d", 2000) {
             Ok(answer) => {
                 if answer.text() == "A#1 ended\n" {
                     return answer.status() == 0;

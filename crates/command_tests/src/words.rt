@@ -4,6 +4,7 @@ use keeper_core::MemoryKeeper;
 use recall_commands::run_command;
 use site_commands::{Fault, Files};
 use site_core::SiteState;
+use site_threads::FreeGate;
 use std::alloc::Global;
 use std::io::{self, Error, ErrorKind, Read, Write};
 use std::sync::Wait;
@@ -84,6 +85,7 @@ fn ends<R: Threads + Wait + Clock + Sync>(
         rt,
         alloc,
         &mut OneFile,
+        FreeGate,
         words.as_slice(),
         &mut input,
         &mut written,
@@ -254,6 +256,7 @@ fn fails<R: Threads + Wait + Clock + Sync>(
         rt,
         alloc,
         &mut OneFile,
+        FreeGate,
         words.as_slice(),
         &mut input,
         &mut Broken,
@@ -282,6 +285,7 @@ fn an_input_that_fails_ends_with_3(rt: HostRuntime) -> Result<(), Fail> {
         &rt,
         alloc,
         &mut OneFile,
+        FreeGate,
         words.as_slice(),
         &mut Broken,
         &mut written,

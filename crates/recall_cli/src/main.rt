@@ -5,8 +5,10 @@
 #![tactic(auto)]
 
 mod host_files;
+mod progress;
 
 use host_files::HostFiles;
+use progress::{Progress, TellingGate};
 use recall_commands::{BAD_COMMAND_LINE, FAULT, run_command};
 use std::env;
 use std::io::{self, ErrorKind};
@@ -26,10 +28,12 @@ fn main(rt: HostRuntime) -> ExitCode {
         }
     };
     let mut files = HostFiles::new(&rt);
+    let progress = Progress::new(&rt);
     let status = run_command(
         &rt,
         alloc,
         &mut files,
+        TellingGate::new(&rt, &progress),
         words.as_slice(),
         &mut rt.stdin(),
         &mut rt.stdout(),

@@ -16,6 +16,7 @@ use script_core::{ScriptFault, Tally, run_script, write_text};
 use site_commands::{
     Answer, Fault, Files, audit_sites, capture, init, report_recall, run_sites, start,
 };
+use site_threads::Gate;
 use std::alloc::Global;
 use std::io::{Read, Write};
 use std::sync::Wait;
@@ -29,11 +30,12 @@ use std::time::Clock;
 /// The words begin with the program's name. Answers, refusals and help go to `output`, faults and
 /// what is wrong with a command line to `errors`. An answer of a command on the sites' files is that of
 /// the calls of `files` that lead to it; without such a command `files` isn't asked. What stands in the
-/// files no contract says.
+/// files no contract says. In a run each site has a copy of the gate to its turns.
 pub fn run_command<
     R: Threads + Wait + Clock + Sync,
     K: SiteKeeper + Send,
     F: Files<K>,
+    G: Gate + Copy + Send,
     I: Read,
     W: Write,
     E: Write,
@@ -41,6 +43,7 @@ pub fn run_command<
     rt: &R,
     alloc: Global,
     files: &mut F,
+    gate: G,
     words: &[String],
     input: &mut I,
     output: &mut W,
@@ -56,7 +59,7 @@ pub fn run_command<
     match command_lines::read(alloc, words) {
         Ok(Asked::Sim) => sim(alloc, input, output, errors),
         Ok(Asked::Files(command)) => {
-            let outcome = on_files(rt, alloc, files, &command);
+            let outcome = on_files(rt, alloc, files, gate, &command);
             tell(&outcome, output, errors)
         }
         Ok(Asked::Help(text)) => print(text.as_str(), statuses::DONE, output, errors),
@@ -112,12 +115,12 @@ fn script_fault_line(cause: ScriptFault) -> &'static str
 }
 
 /// Does a command on the sites' files.
-fn on_files<R: Threads + Wait + Clock + Sync, K: SiteKeeper + Send, F: Files<K>>(
-    rt: &R,
-    alloc: Global,
-    files: &mut F,
-    command: &FileCommand<'_>,
-) -> Result<Answer, Fault>
+fn on_files<
+    R: Threads + Wait + Clock + Sync,
+    K: SiteKeeper + Send,
+    F: Files<K>,
+    G: Gate + Copy + Send,
+>(rt: &R, alloc: Global, files: &mut F, gate: G, command: &FileCommand<'_>) -> Result<Answer, Fault>
     requires { HasTurns command.now }
     ensures led { IfOk result (LeadsTo F.reads F.finds F.makes F.opens F.closes F.writes K.shown command.now files.old files.new) }
     ensures sound { IfOk result IsAnswer }
@@ -126,7 +129,7 @@ fn on_files<R: Threads + Wait + Clock + Sync, K: SiteKeeper + Send, F: Files<K>>
         FileCommand::Init { folder, list } => init(alloc, files, folder, list),
         FileCommand::Capture { folder, site, file } => capture(alloc, files, folder, site, file),
         FileCommand::Start { folder, site, item } => start(alloc, files, folder, site, item),
-        FileCommand::Run { folder, turns } => run_sites(rt, alloc, files, folder, *turns),
+        FileCommand::Run { folder, turns } => run_sites(rt, alloc, files, gate, folder, *turns),
         FileCommand::Report { folder, recall } => report_recall(alloc, files, folder, recall),
         FileCommand::Audit { folder } => audit_sites(alloc, files, folder),
     }

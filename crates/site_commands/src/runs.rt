@@ -17,7 +17,7 @@ use event_json::Sites;
 use keeper_core::SiteKeeper;
 use script_core::telling::{ended_word, recall_text};
 use site_core::SiteState;
-use site_threads::{Desk, DeskOut, FreeGate, GatherCause, GatherFault, Gathered, run_world};
+use site_threads::{Desk, DeskOut, Gate, GatherCause, GatherFault, Gathered, run_world};
 use std::alloc::{AllocError, Global};
 use std::sync::Wait;
 use std::thread::Threads;
@@ -27,18 +27,18 @@ use world_core::WorldFault;
 /// Runs all sites of a folder, each in a thread of its own, where one can be made, for so many turns: at most 1,000,000.
 ///
 /// Frames go from site to site, and nothing else is done. Then each recall that a site began is told, by site and
-/// number: that it has ended, or that it is open. Where the records don't fit together, there is no run.
+/// number: that it has ended, or that it is open. Where the records don't fit together, there is no run. Each site has a
+/// copy of the gate to its turns.
 ///
 /// # Errors
 /// In this order: those of the folder's list, those of opening the sites' files, and those of [`run_of`]; after these
 /// the files are closed.
-pub fn run_sites<K: SiteKeeper + Send, F: Files<K>, R: Threads + Wait + Clock + Sync>(
-    rt: &R,
-    alloc: Global,
-    files: &mut F,
-    folder: &str,
-    turns: u64,
-) -> Result<Answer, Fault>
+pub fn run_sites<
+    K: SiteKeeper + Send,
+    F: Files<K>,
+    G: Gate + Copy + Send,
+    R: Threads + Wait + Clock + Sync,
+>(rt: &R, alloc: Global, files: &mut F, gate: G, folder: &str, turns: u64) -> Result<Answer, Fault>
     requires turns { turns ≤ 1000000 }
     ensures calls { IfOk result (RunsAt F.reads F.opens F.closes K.shown folder.now files.old files.new) }
     ensures sound { IfOk result IsAnswer }
@@ -48,23 +48,24 @@ pub fn run_sites<K: SiteKeeper + Send, F: Files<K>, R: Threads + Wait + Clock + 
         return Err(Fault::BadSites);
     }
     let keepers = open_all(alloc, files, folder, &sites)?;
-    let (after, answer) = run_of(rt, alloc, &sites, keepers, turns);
+    let (after, answer) = run_of(rt, alloc, &sites, keepers, gate, turns);
     close_all(files, after);
     answer
 }
 
-/// Runs the sites of these keepers, in the order of their numbers, for so many turns: at most 1,000,000. The keepers are
-/// handed back, open where there is an answer.
+/// Runs the sites of these keepers, in the order of their numbers, for so many turns: at most 1,000,000. Each has a copy of
+/// the gate to its turns. The keepers are handed back, open where there is an answer.
 ///
 /// # Errors
 /// `OtherSites` where the keepers aren't of one list of sites, in order, and `Closed` where one is closed: they are as
 /// they were. `NoMemory`, `SiteLost` where a keeper was closed and couldn't be opened again, and `GaveUp`: in whichever
 /// records the keepers are open, or may be opened, they fit together, or nothing has changed.
-pub fn run_of<K: SiteKeeper + Send, R: Threads + Wait + Clock + Sync>(
+pub fn run_of<K: SiteKeeper + Send, G: Gate + Copy + Send, R: Threads + Wait + Clock + Sync>(
     rt: &R,
     alloc: Global,
     sites: &Sites,
     keepers: Vec<K>,
+    gate: G,
     turns: u64,
 ) -> (Vec<K>, Result<Answer, Fault>)
     requires count { (2 ≤ length keepers.items) × (length keepers.items ≤ 16) }
@@ -73,7 +74,7 @@ pub fn run_of<K: SiteKeeper + Send, R: Threads + Wait + Clock + Sync>(
     ensures failed { IfErr result.1 (FailsRun K.shown K.may keepers.items result.0.items) }
     ensures sound { IfOk result.1 IsAnswer }
 {
-    let Ok((desks, gates)) = unused(alloc, keepers.len()) else {
+    let Ok((desks, gates)) = unused(alloc, gate, keepers.len()) else {
         return (keepers, Err(Fault::NoMemory));
     };
     match run_world(rt, alloc, keepers, desks, gates, turns) {
@@ -88,8 +89,12 @@ pub fn run_of<K: SiteKeeper + Send, R: Threads + Wait + Clock + Sync>(
     }
 }
 
-/// Ends of as many desks, at which no job is put, and gates that let every turn begin.
-fn unused(alloc: Global, count: usize) -> Result<(Vec<DeskOut>, Vec<FreeGate>), AllocError>
+/// Ends of as many desks, at which no job is put, and copies of a gate.
+fn unused<G: Gate + Copy>(
+    alloc: Global,
+    gate: G,
+    count: usize,
+) -> Result<(Vec<DeskOut>, Vec<G>), AllocError>
     ensures desks { IfOk result (λ r. (length r.0.items ≡ count) × All IsUnused r.0.items) }
     ensures gates { IfOk result (λ r. length r.1.items ≡ count) }
 {
@@ -98,7 +103,7 @@ fn unused(alloc: Global, count: usize) -> Result<(Vec<DeskOut>, Vec<FreeGate>), 
     for _ in 0..count {
         let (_, out) = Desk::new(alloc, 1)?;
         desks.push(out)?;
-        gates.push(FreeGate)?;
+        gates.push(gate)?;
     }
     Ok((desks, gates))
 }

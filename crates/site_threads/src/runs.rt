@@ -16,6 +16,7 @@ use crate::gates::Gate;
 use crate::jobs::Job;
 use crate::stamps::Stamp;
 use crate::turns::{SiteTurn, TurnCause, TurnFault, TurnReport, lost};
+use event_json::SiteNo;
 use keeper_core::SiteKeeper;
 use std::sync::Wait;
 use std::sync::atomic::{AtomicU64, Ordering};
@@ -44,6 +45,13 @@ fn next_job<R: Wait>(rt: &R, pending: Option<Job>, out: &mut DeskOut) -> Option<
     match pending {
         Some(job) => Some(job),
         None => out.next(rt),
+    }
+}
+
+/// Tells a gate how many messages of a site wait for a signal.
+fn tell_open<K: SiteKeeper, G: Gate>(gate: &mut G, keeper: &Option<K>, me: SiteNo) {
+    if let Some(state) = view_of(keeper) {
+        gate.tell_open(me, state.outbox().len());
     }
 }
 
@@ -104,6 +112,11 @@ impl<K: SiteKeeper, G: Gate> SiteRun<K, G> {
         ensures going { goes_on result ≡ is_none self.new.fault }
         ensures lost { IfSome self.new.fault (λ cause. IfLost cause (shown_in K.shown self.new.turn.site.keeper)) }
     {
+        tell_open(
+            &mut self.turn.gate,
+            &self.turn.site.keeper,
+            self.turn.site.me,
+        );
         let before = self.turn.site.stamp;
         let job = next_job(rt, self.pending.take(), &mut self.out);
         match self.turn.turn(wire, job) {

@@ -3,4 +3,4 @@ use Rattle.site_threads.specs.Ends.{IsUnused}
 use Rattle.site_commands.proofs.runs.unused.Given as goal
 
 abbrev pub invariant-loop : goal.invariant-loop
-invariant-loop l = (length l.desks.items ≡ l.counter) × All IsUnused l.desks.items × (length l.gates.items ≡ l.counter) × (l.counter ≤ l.count)
+invariant-loop g l = (length l.desks.items ≡ l.counter) × All IsUnused l.desks.items × (length l.gates.items ≡ l.counter) × (l.counter ≤ l.count)
