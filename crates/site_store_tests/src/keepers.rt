@@ -1,20 +1,20 @@
-//! That a site kept in files is made, stops within a step, and is opened again in the record after it.
-use crate::tests::document;
+//! Sites kept in files in memory, and opened by their name and by no other.
 use event_json::Sites;
-use keeper_core::{Keep, SiteKeeper};
+use keeper_core::SiteKeeper;
 use site_core::SiteState;
-use site_store::StoredSite;
+use site_rows::{Rows, rows_of};
+use site_store::{Link, OpenFault, StoredSite, open_site};
 use sqlite::{Connection, FileStore, Files, Options};
 use sqlite_disk::Memory;
 use std::alloc::Global;
 use std::test::Fail;
 
-/// Site A, beside B, that has captured nothing.
-fn fresh(alloc: Global) -> Result<SiteState, Fail> {
+/// Site A or site B, that has captured nothing.
+pub fn fresh(alloc: Global, is_second: bool) -> Result<SiteState, Fail> {
     let mut sites = Sites::new(alloc);
-    let me = sites.add("A", &["a", "z"])?;
-    sites.add("B", &["b"])?;
-    Ok(SiteState::new(alloc, sites, me))
+    let a = sites.add("A", &["a", "z"])?;
+    let b = sites.add("B", &["b"])?;
+    Ok(SiteState::new(alloc, sites, if is_second { b } else { a }))
 }
 
 /// A connection to an empty database in memory.
@@ -25,40 +25,58 @@ fn connected(alloc: Global) -> Result<Connection<FileStore<Memory>>, Fail> {
     };
     match Connection::open_files(alloc, files, Options::new(1)) {
         Ok(conn) => Ok(conn),
-        Err((error, left)) => {
-            drop(left.into_files());
-            Err(error.into())
-        }
+        Err((error, _)) => Err(error.into()),
     }
 }
 
 /// A site kept in files in memory.
-fn stored(alloc: Global) -> Result<StoredSite<Memory>, Fail> {
-    let state = fresh(alloc)?;
+pub fn stored(alloc: Global, is_second: bool) -> Result<StoredSite<Memory>, Fail> {
+    let state = fresh(alloc, is_second)?;
     match StoredSite::create(alloc, connected(alloc)?, Options::new(1), state) {
         Ok(site) => Ok(site),
         Err(fault) => Err(fault.into()),
     }
 }
 
-/// How many events a site shows.
-fn events<K: SiteKeeper>(site: &K) -> Option<usize> {
-    Some(site.view()?.captured().len())
+/// The site of a name, opened from the tables of a site.
+fn opened(
+    alloc: Global,
+    site: StoredSite<Memory>,
+    name: &str,
+) -> Option<Result<StoredSite<Memory>, OpenFault>> {
+    match site.release() {
+        Link::Connected(conn) => Some(open_site(alloc, conn, Options::new(1), name)),
+        Link::Unconnected(_) => None,
+    }
 }
 
-/// How many events a site shows that stopped in a capture and was opened again.
-fn stops_and_opens<K: SiteKeeper>(alloc: Global, site: K) -> Result<Option<usize>, Fail> {
-    let mut site = site;
-    site.stop(document(alloc)?, Keep::New)?;
-    match site.reopen() {
-        Ok(site) => Ok(events(&site)),
-        Err(unopened) => Err(unopened.fault.into()),
+/// The rows of the record that a site shows.
+fn rows_shown<K: SiteKeeper>(alloc: Global, site: &K) -> Result<Rows, Fail> {
+    match site.view() {
+        Some(state) => Ok(rows_of(alloc, state)?),
+        None => Err("the site is closed".into()),
+    }
+}
+
+/// Whether the tables of a site hold the rows of what it shows: opened again from them, it shows the same.
+pub fn keeps_its_rows(alloc: Global, site: StoredSite<Memory>, name: &str) -> Result<bool, Fail> {
+    let shown = rows_shown(alloc, &site)?;
+    match opened(alloc, site, name) {
+        Some(Ok(site)) => Ok(rows_shown(alloc, &site)? == shown),
+        _ => Ok(false),
+    }
+}
+
+/// Whether the name of the site is told where that of another is asked for.
+fn tells_other_site(alloc: Global) -> Result<bool, Fail> {
+    match opened(alloc, stored(alloc, false)?, "B") {
+        Some(Err(OpenFault::OtherSite(found))) => Ok(found.as_str() == "A"),
+        _ => Ok(false),
     }
 }
 
 #[test]
-fn a_stopped_site_is_opened(rt: HostRuntime) -> Result<(), Fail> {
-    let site = stored(rt.alloc())?;
-    assert!(rt; stops_and_opens(rt.alloc(), site)? == Some(2));
+fn a_site_is_opened_by_its_name_alone(rt: HostRuntime) -> Result<(), Fail> {
+    assert!(rt; tells_other_site(rt.alloc())?);
     Ok(())
 }

@@ -1,7 +1,7 @@
-//! A site's tables over a database in memory, with what its steps change.
+//! Sites kept in files, over disks in memory.
 #![tactic(auto)]
 
 #[cfg(test)]
 mod keepers;
 #[cfg(test)]
-mod tests;
+mod worlds;
