@@ -8,7 +8,11 @@ pub mod GroupSteps
 pub mod Growing
 pub mod HasTargets
 pub mod LookSteps
+pub mod IndexSteps
+pub mod ItemSteps
 pub mod Members
+pub mod NamedLists
+pub mod NumberLists
 pub mod PairLaws
 pub mod PairOrder
 pub mod PairTestsDecide

@@ -2,8 +2,10 @@ pub mod Adding
 pub mod Chains
 pub mod Gathering
 pub mod Groups
+pub mod Indexes
 pub mod Laws
 pub mod Looks
+pub mod Numbers
 pub mod PairTests
 pub mod Pairs
 pub mod Places
