@@ -1,14 +1,13 @@
 -- The index of a list of events, as events are noted and taken back.
-use Rattle.std.proofs.Common.{◌≡◌, ◌<◌, ◌≤◌, ◌+◌, ℕ, Bool, true, false, ◌||◌, List, [], ◌∷◌, ◌++◌, Option, Some, None, length, take, drop, map, slice_get, is_some, refl, sym, ap, subst, ◌∙◌, ⊎_elim, arith, append-nil, length-append}
-use mathlib.Core.Bool.{false≢true}
-use Rattle.std.specs.List.{list_any, Contains}
+use Rattle.std.proofs.Common.{◌≡◌, ℕ, Bool, true, false, ◌||◌, List, [], ◌∷◌, ◌++◌, Some, None, length, take, drop, slice_get, refl, sym, ap, subst, ◌∙◌, ⊎_elim, arith, length-append}
+use Rattle.std.specs.List.{Contains}
 use Rattle.std.specs.Map.{lookup}
 use Rattle.std.specs.BTreeMap.{is_at}
 use Rattle.std.specs.Cmp.Lexicographic.{slice_cmp}
 use Rattle.std.specs.Ordering.{nat_cmp}
 use Rattle.std.specs.String.{string_bytes}
 use Rattle.std.proofs.lemmas.Bool.{cases_Bool}
-use Rattle.std.proofs.lemmas.List.{take-append-drop, take-append-le, take-map, take_at, length-map, map-append}
+use Rattle.std.proofs.lemmas.List.{take-append-drop, take-append-le, take-map, take_at, length-map}
 use Rattle.std.proofs.lemmas.List.Folds.{list_any-append}
 use Rattle.std.proofs.lemmas.Option.{slice_get_within}
 use Rattle.event_json.specs.Events.{Content}
@@ -18,7 +17,7 @@ use Rattle.trace_core.specs.declared.items.Named.{Named}
 use Rattle.trace_core.specs.declared.event_items.Members.{Members}
 use Rattle.trace_core.specs.declared.indexes.Index.{Index}
 use Rattle.trace_core.specs.Indexes.{HasPlaces, NotesItems, ForgetsItems, KeepsItems}
-use Rattle.trace_core.specs.Numbers.{with_names, numbered, names_of, item_places, outs_in, numbers_of, IsMembers, HasMembers}
+use Rattle.trace_core.specs.Numbers.{with_names, numbered, names_of, item_places, outs_in, numbers_of, HasMembers}
 use Rattle.trace_core.specs.PairTests.{lists, same_item}
 use Rattle.trace_core.specs.Places.{kept, places_where, names_item, IsIndex}
 use Rattle.trace_core.specs.Spreads.{items_of}
@@ -29,7 +28,7 @@ use Rattle.trace_core.proofs.PairTestsDecide.{lists_decides}
 use Rattle.trace_core.proofs.RelatedPlaces.{slice_there}
 use Rattle.trace_core.proofs.PlaceLists.{some_place, index_less, index_back, index_same, index_more, notes_items_of, forgets_items_of}
 
-unnamed : (events : List Content) (i : List ℕ) → lists (numbered events) i ≡ false → kept (places_where (names_item i) events) ≡ None
+pub unnamed : (events : List Content) (i : List ℕ) → lists (numbered events) i ≡ false → kept (places_where (names_item i) events) ≡ None
 unnamed events i new = none_of (kept (places_where (names_item i) events)) (some_place (names_item i) 0 events ∙ sym (numbered_named events i) ∙ new)
 
 -- the items that were new are taken back
@@ -53,7 +52,7 @@ outs_named (Make id ins outs) i h = list_any-append (λ j. same_item j i) ins ou
     or_yes false = refl
 
 -- the outputs of an event are numbered
-outs_numbered : (events : List Content) (k : ℕ) (e : Content) → slice_get events k ≡ Some e → (i : List ℕ) → Contains (outs_in e.body) i → lists (numbered events) i ≡ true
+pub outs_numbered : (events : List Content) (k : ℕ) (e : Content) → slice_get events k ≡ Some e → (i : List ℕ) → Contains (outs_in e.body) i → lists (numbered events) i ≡ true
 outs_numbered events k e stands i out =
     let (below, at) = slice_there events k e stands in
     numbered_named events i ∙ list_any_member (names_item i) events e (k, below, at) (outs_named e.body i out)

@@ -1,5 +1,5 @@
 -- The items of an event are noted and taken back, one after another.
-use Rattle.std.proofs.Common.{◌≡◌, ◌<◌, ◌≤◌, ◌+◌, ℕ, Bool, ◌||◌, List, [], ◌∷◌, ◌++◌, length, take, get_or, Option, refl, sym, ap, subst, ◌∙◌, append_assoc}
+use Rattle.std.proofs.Common.{◌≡◌, ◌<◌, ◌≤◌, ◌+◌, ℕ, ◌||◌, List, [], ◌∷◌, ◌++◌, length, take, get_or, Option, refl, sym, ap, subst, ◌∙◌, append_assoc}
 use Rattle.std.proofs.lemmas.List.{take_all, take_more}
 use Rattle.std.proofs.lemmas.List.Folds.{list_any-append}
 use Rattle.event_json.specs.declared.bodies.Body.{Body}
@@ -7,7 +7,7 @@ use Rattle.event_json.specs.declared.bodies.Body.TheVariants.{Make}
 use Rattle.trace_core.specs.declared.items.Named.{Named}
 use Rattle.trace_core.specs.Indexes.{NotesItems, NotesSomeItems, ForgetsPlace, ForgetsItems, KeepsItems}
 use Rattle.trace_core.specs.Numbers.{with_names, names_of, item_places, changed, noted}
-use Rattle.trace_core.specs.Places.{with_last, without_last, or_none, Notes}
+use Rattle.trace_core.specs.Places.{with_last, without_last, or_none}
 use Rattle.trace_core.specs.PairTests.{lists, same_item}
 use Rattle.trace_core.specs.Spreads.{items_of}
 use Rattle.trace_core.proofs.NumberLists.{with_more, with_names-append}

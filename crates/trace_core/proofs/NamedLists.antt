@@ -1,5 +1,5 @@
 -- Items with their places, by number.
-use Rattle.std.proofs.Common.{◌≡◌, ◌<◌, ◌+◌, ◌-◌, ℕ, zero, suc, Bool, true, false, cond, ◌||◌, List, [], ◌∷◌, ◌++◌, Option, Some, None, map, length, take, drop, get_or, slice_get, Result, Ok, Err, OnOk, OnErr, option_map, refl, sym, ap, subst, ◌∙◌, inl, inr, ⊎_elim, append-nil, arith, length-append}
+use Rattle.std.proofs.Common.{◌≡◌, ◌<◌, ℕ, zero, suc, Bool, true, false, cond, ◌||◌, List, [], ◌∷◌, ◌++◌, Option, Some, None, length, get_or, slice_get, Result, Ok, Err, OnOk, OnErr, option_map, refl, sym, ap, subst, ◌∙◌, inl, inr, ⊎_elim, arith}
 use mathlib.Core.Bool.{false≢true}
 use Rattle.std.specs.BTreeMap.{BTreeMap, UpdatesBy}
 use Rattle.std.specs.Cmp.Lexicographic.{slice_cmp}
@@ -11,12 +11,11 @@ use Rattle.std.proofs.lemmas.List.{map-append, length-map}
 use Rattle.std.proofs.lemmas.Map.Text.{is_eq-slice_cmp}
 use Rattle.std.proofs.lemmas.Option.{slice_get-map}
 use Rattle.std.proofs.lemmas.Slice.Eq.{bytes_eq-Decides}
-use Rattle.event_json.specs.Events.{Content}
 use Rattle.trace_core.specs.declared.items.Named.{Named}
 use Rattle.trace_core.specs.Numbers.{number_in, with_name, names_of, item_places, changed, changed_at, noted, number_found, IsNumbered, AreApart}
 use Rattle.trace_core.specs.PairTests.{lists, same_item}
 use Rattle.trace_core.specs.Places.{kept, or_none, ends_with, with_last, without_last}
-use Rattle.trace_core.proofs.NumberLists.{some_is, none_is, number_stays, number_pushed, listed_number, no_number, unnumbered, number_listed, apart_pushed, apart_front, last_is_new}
+use Rattle.trace_core.proofs.NumberLists.{some_is, none_is, number_stays, number_pushed, unnumbered, number_listed, apart_pushed, apart_front, last_is_new}
 use Rattle.trace_core.proofs.PlaceSteps.{kept_all}
 
 kept_with_last : (place : ℕ) (places : List ℕ) → kept (with_last place places) ≡ Some (with_last place places)

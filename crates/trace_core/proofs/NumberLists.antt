@@ -1,9 +1,8 @@
 -- Names by number.
-use Rattle.std.proofs.Common.{◌≡◌, ◌<◌, ◌+◌, ℕ, zero, suc, Bool, true, false, cond, ◌||◌, List, [], ◌∷◌, ◌++◌, Option, Some, None, map, length, take, slice_get, option_map, is_some, unwrap_or, refl, sym, ap, subst, ◌∙◌, inl, inr, ⊎_elim, append-nil, append_assoc, arith, length-append}
+use Rattle.std.proofs.Common.{◌≡◌, ◌<◌, ℕ, zero, suc, Bool, true, false, cond, ◌||◌, List, [], ◌∷◌, ◌++◌, Option, Some, None, length, slice_get, option_map, is_some, unwrap_or, refl, sym, ap, subst, ◌∙◌, inl, inr, ⊎_elim, append-nil, append_assoc, arith}
 use mathlib.Core.Bool.{false≢true}
 use mathlib.Core.Logic.{◌⊎◌}
 use Rattle.std.specs.List.{list_any, flat_map, Contains}
-use Rattle.std.proofs.lemmas.Bool.{cases_Bool}
 use Rattle.std.proofs.lemmas.Grind.{flat_map-append}
 use Rattle.std.proofs.lemmas.List.Folds.{list_any-append}
 use Rattle.std.proofs.lemmas.Option.{slice_get_within}
@@ -14,7 +13,7 @@ use Rattle.trace_core.specs.PairTests.{lists, same_item}
 use Rattle.trace_core.specs.Places.{names_item}
 use Rattle.trace_core.specs.Spreads.{items_of}
 use Rattle.trace_core.proofs.Booleans.{or_false}
-use Rattle.trace_core.proofs.Members.{contains_here, contains_there, list_any_member}
+use Rattle.trace_core.proofs.Members.{contains_here, contains_there}
 
 pub some_is : {X : Type 0} (a b : X) → Some a ≡ Some b → a ≡ b
 some_is a b h = cc

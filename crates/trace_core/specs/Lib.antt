@@ -5,6 +5,7 @@ pub mod Groups
 pub mod Indexes
 pub mod Laws
 pub mod Looks
+pub mod Nodes
 pub mod Numbers
 pub mod PairTests
 pub mod Pairs

@@ -16,12 +16,15 @@ mod indexes;
 mod items;
 pub mod laws;
 mod looks;
+mod nodes;
 mod ordered_keys;
 mod pairs;
 mod places;
 mod searches;
 mod spreads;
+mod targets;
 mod trails;
+mod visits;
 
 pub use adding::{AddFault, Added, Standing};
 pub use captured::Captured;

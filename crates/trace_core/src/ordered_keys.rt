@@ -1,4 +1,5 @@
-ghost use Rattle.std.specs.Prelude.{◌≡◌, IfOk};
+ghost use Rattle.std.specs.Prelude.{◌≡◌, ◌≤◌, ◌↔◌, IfOk, Contains, length};
+ghost use Rattle.std.specs.declared.cmp.Ordering.TheVariants.{Equal};
 ghost use Rattle.std.specs.List.Sorted.{IsStrictlySortedBy};
 
 use std::alloc::{AllocError, Global};
@@ -10,4 +11,17 @@ pub fn keys_in_order<K: Ord + Drop>(alloc: Global, set: BTreeSet<K>) -> Result<V
     ensures ascending { IfOk result (λ keys. IsStrictlySortedBy K.cmp keys.items) }
 {
     set.into_iter().collect(alloc)
+}
+
+/// The keys, ascending and without repeats.
+pub fn in_order<K: Ord + Drop>(alloc: Global, keys: Vec<K>) -> Result<Vec<K>, AllocError>
+    ensures ascending { IfOk result (λ ordered. IsStrictlySortedBy K.cmp ordered.items) }
+    ensures same { IfOk result (λ ordered. ((a b : K) → K.cmp a b ≡ Equal → a ≡ b) → (k : K) → Contains ordered.items k ↔ Contains keys.items k) }
+    ensures fewer { IfOk result (λ ordered. length ordered.items ≤ length keys.items) }
+{
+    let mut set = BTreeSet::new(alloc);
+    for key in keys {
+        set.insert(key)?;
+    }
+    keys_in_order(alloc, set)
 }

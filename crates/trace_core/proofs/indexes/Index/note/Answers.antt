@@ -1,6 +1,4 @@
-use Rattle.std.proofs.Common.{List, ◌∷◌, [], ◌++◌, sym, ap, subst, ◌∙◌, length}
-use Rattle.event_json.specs.declared.bodies.Body.{Body}
-use Rattle.event_json.specs.Events.{Content}
+use Rattle.std.proofs.Common.{List, ◌∷◌, [], ◌++◌, sym, ap, subst, ◌∙◌}
 use Rattle.trace_core.specs.Numbers.{HasMembers, numbers_of, outs_in}
 use Rattle.trace_core.specs.declared.event_items.Members.{Members}
 use Rattle.trace_core.proofs.IndexSteps.{items_noted, names_noted, items_kept, names_kept, items_undone, names_undone, members_more, count_names}

@@ -1,4 +1,4 @@
-use Rattle.std.proofs.Common.{sym, ap, ◌∙◌}
+use Rattle.std.proofs.Common.{sym, ◌∙◌}
 use Rattle.trace_core.proofs.NamedLists.{places_there, no_places_there}
 use Rattle.trace_core.proofs.items.Items.places_at.Goals as goal
 

@@ -1,4 +1,4 @@
-use Rattle.std.proofs.Common.{sym, ap, ◌∙◌}
+use Rattle.std.proofs.Common.{sym, ap}
 use Rattle.trace_core.specs.Numbers.{names_of}
 use Rattle.trace_core.specs.Places.{or_none}
 use Rattle.trace_core.proofs.NumberLists.{number_stands, unnumbered}

@@ -1,4 +1,4 @@
-use Rattle.std.proofs.Common.{List, None, map, sym, ap, ◌∙◌, subst}
+use Rattle.std.proofs.Common.{None, ap, ◌∙◌, subst}
 use Rattle.std.proofs.lemmas.List.{map-append}
 use Rattle.trace_core.specs.declared.items.Named.{Named}
 use Rattle.trace_core.specs.Numbers.{IsNumbered, names_of}
