@@ -19,7 +19,7 @@ use Rattle.trace_core.specs.PairTests.{lists, takes_in}
 use Rattle.trace_core.specs.Places.{at_place, places_where, names_item}
 use Rattle.trace_core.specs.Sites.{SiteEvents}
 use Rattle.trace_core.specs.Spreads.{items_of}
-use Rattle.trace_core.proofs.GroupSteps.{HasMore, sends, makes, event_new, event_again, event_ships, SoFar, adds_none, place_added, places_added}
+use Rattle.trace_core.proofs.GroupSteps.{HasMore, sends, makes, event_new, event_known, event_ships, SoFar, adds_none, place_added, places_added}
 use Rattle.trace_core.proofs.Members.{contains_none}
 use Rattle.trace_core.proofs.NodeSteps.{had_more, more_nodes, no_nodes}
 use Rattle.trace_core.proofs.NumberLists.{some_is}
@@ -49,6 +49,15 @@ module _ (sites : List SiteEvents) (s : SiteEvents) (site : ℕ) (at_site : slic
     added = event_ships ships s i e k site stands seen seen (Had (Stands sites) x.found) (Had (Stands sites) y.found) sent_had takes;
   }
 
+  -- its transformation was seen
+  pub gains_known : (seen : BTreeSet Group) (first : ℕ) → ((j : List ℕ) → at_place (λ f. outs_of s.events j f.body) (slice_get s.events first) ≡ outs_of s.events j e.body) → IsSeen seen site first → Gains (Stands sites) (λ groups q. IsGiven s site groups q) Here seen seen x y
+  gains_known seen first stood_for there = record {
+    nodes = sent_nodes ships s.me site item b;
+    noted = sent;
+    stand = sent_stands;
+    added = event_known ships s i e k site stands seen seen (Had (Stands sites) x.found) (Had (Stands sites) y.found) sent_had first stood_for there;
+  }
+
   module _ (seen seen' : BTreeSet Group) (first : ℕ) (takes : takes_in i e.body ≡ true) (stood_for : (j : List ℕ) → at_place (λ f. outs_of s.events j f.body) (slice_get s.events first) ≡ outs_of s.events j e.body) (upd : Updates group_cmp seen seen' (record { site = site; first = first }) true) where
     -- its transformation is new
     pub gains_group : (c : Body) → c ≡ e.body → (z : Nodes) → NotesNodes y z (group_nodes s.me s.events site k c (make_id c)) → Gains (Stands sites) (λ groups q. IsGiven s site groups q) Here seen seen' x z
@@ -62,15 +71,6 @@ module _ (sites : List SiteEvents) (s : SiteEvents) (site : ℕ) (at_site : slic
           added = event_new ships s i e k site stands seen seen' (Had (Stands sites) x.found) (Had (Stands sites) y.found) sent_had first takes stood_for upd (Had (Stands sites) z.found)
               (had_more (Stands sites) y z group (makes ships s i e) own (group_stand sites s site at_site k e stands (make_id e.body) refl));
         }
-
-    -- it was seen before
-    pub gains_again : IsSeen seen site first → Gains (Stands sites) (λ groups q. IsGiven s site groups q) Here seen seen' x y
-    gains_again there = record {
-      nodes = sent_nodes ships s.me site item b;
-      noted = sent;
-      stand = sent_stands;
-      added = event_again ships s i e k site stands seen seen' (Had (Stands sites) x.found) (Had (Stands sites) y.found) sent_had first takes stood_for upd there;
-    }
 
 -- what is said of a site's number and events is said of the site
 same_site : (me : ℕ) (events : List Content) (s : SiteEvents) → me ≡ s.me → events ≡ s.events → record { me = me; events = events } ≡ s

@@ -218,6 +218,22 @@ module _ (ships : Bool) (s : SiteEvents) (item : List ℕ) (e : Content) where
     pub event_ships : takes_in item e.body ≡ false → AddsUnseen (λ groups q. IsGiven s site groups q) SoughtHere seen seen x y
     event_ships takes = here (λ q. sends q ≡ true) y seen (only_sent takes) sent_adds
 
+    -- its transformation was seen, whether it takes the item in or not
+    pub event_known : (first : ℕ) → ((j : List ℕ) → at_place (λ f. outs_of s.events j f.body) (slice_get s.events first) ≡ outs_of s.events j e.body) → IsSeen seen site first → AddsUnseen (λ groups q. IsGiven s site groups q) SoughtHere seen seen x y
+    event_known first stood_for there =
+        let is : (q : Pair) → at_place (λ f. sought_by ships s.me s.events item f.body q) (slice_get s.events k) ≡ sought_by ships s.me s.events item e.body q = λ q. ap (at_place (λ f. sought_by ships s.me s.events item f.body q)) stands in
+        record {
+          stay = λ q h. (sent q).1 (inl h);
+          sound = λ q h. ⊎_elim (λ before. inl before) (λ now. inr (is q ∙ ap (λ b. b || made_by s.me s.events item e.body q) now)) ((sent q).0 h);
+          complete = λ q h. ⊎_elim
+              (λ now. inl ((sent q).1 (inr now)))
+              (λ made.
+              let (own, rest) = and_parts (q.site == s.me) (takes_in item e.body && outs_of s.events q.item e.body) made in
+              inr (first, there, (eqb-true q.site s.me own, stood_for q.item ∙ (and_parts (takes_in item e.body) (outs_of s.events q.item e.body) rest).1)))
+              (or_cases (sends q) (made_by s.me s.events item e.body q) (sym (is q) ∙ h));
+          given = λ q h. inl h;
+        }
+
     module _ (first : ℕ) (takes : takes_in item e.body ≡ true) (stood_for : (j : List ℕ) → at_place (λ f. outs_of s.events j f.body) (slice_get s.events first) ≡ outs_of s.events j e.body) (upd : Updates group_cmp seen seen' (record { site = site; first = first }) true) where
       -- its transformation is new
       pub event_new : (z : Pair → Type 0) → HasMore y z makes → AddsUnseen (λ groups q. IsGiven s site groups q) SoughtHere seen seen' x z

@@ -10,6 +10,7 @@ pub mod Growing
 pub mod HasTargets
 pub mod IndexSteps
 pub mod ItemSteps
+pub mod KeyOrder
 pub mod LookSteps
 pub mod Members
 pub mod NamedLists

@@ -120,7 +120,7 @@ pub fn reach(alloc: Global, sites: &[&Captured], root: &Pair) -> Result<Vec<Pair
     let starts = nodes_of(alloc, sites, root)?;
     let nodes = closure(alloc, &RelatedPairs { sites }, &starts, &mut looks)?;
     let pairs = pairs_of(alloc, sites, root, &nodes.list)?;
-    in_order(alloc, pairs)
+    in_order(pairs)
 }
 
 /// The nodes that stand for a pair: one for each site that knows its item.

@@ -50,7 +50,7 @@ impl Captured {
         let nodes = closure(alloc, &SitePairs { site: self }, &starts, &mut looks)?;
         let mut found = unknown_items(alloc, self.book(), items, &mut looks)?;
         push_items(alloc, self.book(), &nodes.list, &mut found)?;
-        let items = in_order(alloc, found)?;
+        let items = in_order(found)?;
         Ok((items, looks))
     }
 

@@ -1,7 +1,8 @@
 ghost use Rattle.std.specs.Prelude.{◌≡◌, ℕ, List, true, Some, OnOk, slice_get, sum_by};
+ghost use Rattle.std.specs.BTreeSet.{contains, Updates};
 ghost use Rattle.std.specs.List.{flat_map};
 ghost use Rattle.event_json.specs.Events.{Content};
-ghost use Rattle.trace_core.specs.Groups.{IsGiven, SeesOnly, outputs_at, group_outputs, LooksAtUnseen, sought_by, IsSought};
+ghost use Rattle.trace_core.specs.Groups.{group_cmp, IsGiven, SeesOnly, outputs_at, group_outputs, LooksAtUnseen, sought_by, IsSought};
 ghost use Rattle.trace_core.specs.Looks.{LooksAtMost};
 ghost use Rattle.trace_core.specs.Nodes.{NotesNodes, sent_nodes, part_nodes, group_nodes, Stands, Gains};
 ghost use Rattle.trace_core.specs.Numbers.{numbered};
@@ -75,16 +76,28 @@ fn visit_event(
 {
     if let Some(event) = book.get(place) {
         note_sent(me, number, ships, item, event.body(), nodes)?;
-        if takes_in(name, event.body()) {
-            let first = first_part(book, place, event.body());
-            if seen.insert(Group {
-                site: number,
-                first,
-            })? {
-                note_group(me, book, number, place, event.body(), nodes, looks)?;
-            }
+        let first = first_part(book, place, event.body());
+        // all that a transformation makes was noted when it was seen
+        if !is_seen(seen, number, first) && takes_in(name, event.body()) {
+            see(seen, number, first)?;
+            note_group(me, book, number, place, event.body(), nodes, looks)?;
         }
     }
+    Ok(())
+}
+
+/// Whether a transformation of a site was seen.
+fn is_seen(seen: &BTreeSet<Group>, site: usize, first: usize) -> bool
+    ensures { result ≡ contains group_cmp seen.now (record { site = site; first = first }) }
+{
+    seen.contains(&Group { site, first })
+}
+
+/// A transformation of a site is seen now.
+fn see(seen: &mut BTreeSet<Group>, site: usize, first: usize) -> Result<(), AllocError>
+    ensures { OnOk result (Updates group_cmp seen.old seen.new (record { site = site; first = first }) true) }
+{
+    seen.insert(Group { site, first })?;
     Ok(())
 }
 
