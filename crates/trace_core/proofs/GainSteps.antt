@@ -19,7 +19,7 @@ use Rattle.trace_core.specs.PairTests.{lists, takes_in}
 use Rattle.trace_core.specs.Places.{at_place, places_where, names_item}
 use Rattle.trace_core.specs.Sites.{SiteEvents}
 use Rattle.trace_core.specs.Spreads.{items_of}
-use Rattle.trace_core.proofs.GroupSteps.{HasMore, sends, makes, event_new, event_known, event_ships, SoFar, adds_none, place_added, places_added}
+use Rattle.trace_core.proofs.GroupSteps.{HasMore, sends, makes, event_new, event_again, event_known, event_ships, SoFar, adds_none, place_added, places_added}
 use Rattle.trace_core.proofs.Members.{contains_none}
 use Rattle.trace_core.proofs.NodeSteps.{had_more, more_nodes, no_nodes}
 use Rattle.trace_core.proofs.NumberLists.{some_is}
@@ -71,6 +71,15 @@ module _ (sites : List SiteEvents) (s : SiteEvents) (site : ℕ) (at_site : slic
           added = event_new ships s i e k site stands seen seen' (Had (Stands sites) x.found) (Had (Stands sites) y.found) sent_had first takes stood_for upd (Had (Stands sites) z.found)
               (had_more (Stands sites) y z group (makes ships s i e) own (group_stand sites s site at_site k e stands (make_id e.body) refl));
         }
+
+    -- it was seen before
+    pub gains_again : IsSeen seen site first → Gains (Stands sites) (λ groups q. IsGiven s site groups q) Here seen seen' x y
+    gains_again there = record {
+      nodes = sent_nodes ships s.me site item b;
+      noted = sent;
+      stand = sent_stands;
+      added = event_again ships s i e k site stands seen seen' (Had (Stands sites) x.found) (Had (Stands sites) y.found) sent_had first takes stood_for upd there;
+    }
 
 -- what is said of a site's number and events is said of the site
 same_site : (me : ℕ) (events : List Content) (s : SiteEvents) → me ≡ s.me → events ≡ s.events → record { me = me; events = events } ≡ s

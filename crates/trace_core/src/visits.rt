@@ -1,4 +1,4 @@
-ghost use Rattle.std.specs.Prelude.{◌≡◌, ℕ, List, true, Some, OnOk, slice_get, sum_by};
+ghost use Rattle.std.specs.Prelude.{◌≡◌, ℕ, List, true, false, not, Some, IfOk, OnOk, slice_get, sum_by};
 ghost use Rattle.std.specs.BTreeSet.{contains, Updates};
 ghost use Rattle.std.specs.List.{flat_map};
 ghost use Rattle.event_json.specs.Events.{Content};
@@ -77,28 +77,36 @@ fn visit_event(
     if let Some(event) = book.get(place) {
         note_sent(me, number, ships, item, event.body(), nodes)?;
         let first = first_part(book, place, event.body());
-        // all that a transformation makes was noted when it was seen
-        if !is_seen(seen, number, first) && takes_in(name, event.body()) {
-            see(seen, number, first)?;
+        let may_add = may_add(seen, number, first, event.body());
+        if may_add && takes_in(name, event.body()) && see(seen, number, first)? {
             note_group(me, book, number, place, event.body(), nodes, looks)?;
         }
     }
     Ok(())
 }
 
-/// Whether a transformation of a site was seen.
-fn is_seen(seen: &BTreeSet<Group>, site: usize, first: usize) -> bool
-    ensures { result ≡ contains group_cmp seen.now (record { site = site; first = first }) }
+/// Whether a transformation of a site may still add something: all that it makes was noted when it was seen.
+/// Where it has few inputs, it is cheaper to look through these.
+fn may_add(seen: &BTreeSet<Group>, site: usize, first: usize, body: &Body) -> bool
+    ensures { result ≡ false → contains group_cmp seen.now (record { site = site; first = first }) ≡ true }
 {
-    seen.contains(&Group { site, first })
+    has_few_inputs(body) || !seen.contains(&Group { site, first })
 }
 
-/// A transformation of a site is seen now.
-fn see(seen: &mut BTreeSet<Group>, site: usize, first: usize) -> Result<(), AllocError>
-    ensures { OnOk result (Updates group_cmp seen.old seen.new (record { site = site; first = first }) true) }
+/// Whether a transformation has no more inputs than are looked through at once.
+fn has_few_inputs(body: &Body) -> bool {
+    match body {
+        Body::Make { ins, .. } => ins.len() <= 4,
+        _ => true,
+    }
+}
+
+/// A transformation of a site is seen now. Tells whether it is new.
+fn see(seen: &mut BTreeSet<Group>, site: usize, first: usize) -> Result<bool, AllocError>
+    ensures seen { OnOk result (Updates group_cmp seen.old seen.new (record { site = site; first = first }) true) }
+    ensures new { IfOk result (λ new. new ≡ not (contains group_cmp seen.old (record { site = site; first = first }))) }
 {
-    seen.insert(Group { site, first })?;
-    Ok(())
+    Ok(seen.insert(Group { site, first })?)
 }
 
 /// Notes an item at each other site that it was shipped to, where shipments are asked for. The event names
