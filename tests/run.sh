@@ -100,7 +100,7 @@ for ((n = 0; n < 3; n++)); do
     wants 0 'captured 1 known 0 skipped 0' '' capture long "s$n" document.json
 done
 wants 0 'recall s0#1 new 1001 messages 1000 open' '' start long s0 x
-if command -v script >/dev/null; then
+if script -qec true /dev/null >/dev/null 2>&1 </dev/null; then
     begun=$(date +%s)
     script -qefc "$(printf '%q run long --turns 1000000 >told' "$recall")" /dev/null >seen </dev/null || complain "a run at a terminal: $(cat seen)"
     lasted=$(($(date +%s) - begun))
