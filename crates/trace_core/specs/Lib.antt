@@ -2,8 +2,11 @@ pub mod Adding
 pub mod Chains
 pub mod Gathering
 pub mod Groups
+pub mod Indexes
 pub mod Laws
 pub mod Looks
+pub mod Nodes
+pub mod Numbers
 pub mod PairTests
 pub mod Pairs
 pub mod Places
