@@ -1,8 +1,11 @@
 pub mod AddedPairs
 pub mod AddingSteps
+pub mod BatchOrder
 pub mod Booleans
 pub mod ChainLaws
+pub mod FoundSteps
 pub mod GainSteps
+pub mod Gathered
 pub mod GatheringSteps
 pub mod GroupOrder
 pub mod GroupSteps

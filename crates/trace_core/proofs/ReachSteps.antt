@@ -165,47 +165,35 @@ module _ (sites : List SiteEvents) where
       λ (s, at, item, place). (so_far n).1 ((s, at, item, place), omega (arith, past, slice_get_within sites n.site s at)),
     )
 
-    -- the pairs of the first so many nodes
-    abbrev pub PairsSoFar : List Pair → List Node → Type 0
-    PairsSoFar pairs nodes = (p : Pair) → Contains pairs p ↔ ((p ≡ root) ⊎ ((n : Node) × Contains nodes n × Stands sites n p))
+    -- the pairs of nodes, and the root
+    abbrev pub HasRoot : List Pair → List Node → Type 0
+    HasRoot pairs nodes = (p : Pair) → Contains pairs p ↔ ((p ≡ root) ⊎ ((n : Node) × Contains nodes n × Stands sites n p))
 
-    module _ (pairs : List Pair) (nodes : List Node) (k : ℕ) (node : Node) (below : k < length nodes) (at : node ≡ get_or nodes k node) (so_far : PairsSoFar pairs (take k nodes)) where
-      pub pair_pushed : (pairs' : List Pair) (new : Pair) → pairs' ≡ pairs ++ new ∷ [] → Stands sites node new → PairsSoFar pairs' (take (k + 1) nodes)
-      pair_pushed pairs' new pushed stands p =
-          let both = contains_pushed pairs new p in (
-            λ h. ⊎_elim
-                (λ before. ⊎_elim (λ same. inl same) (λ (n, there, stood). inr (n, (contains_more nodes k node below at n).1 (inl there), stood)) ((so_far p).0 before))
-                (λ same. inr (node, (contains_more nodes k node below at node).1 (inr refl), subst (Stands sites node) same stands))
-                (both.0 (subst (λ ps. Contains ps p) pushed h)),
-            λ h. subst (λ ps. Contains ps p) (sym pushed) (both.1 (⊎_elim
-                (λ same. inl ((so_far p).1 (inl same)))
-                (λ (n, there, stood). ⊎_elim
-                (λ before. inl ((so_far p).1 (inr (n, before, stood))))
-                (λ same. inr (one_stands node new p stands (subst (λ m. Stands sites m p) (sym same) stood)))
-                ((contains_more nodes k node below at n).0 there))
-                h)),
-          )
+    -- the root is added where no node stands for it
+    pub root_added : (pairs pairs' : List Pair) (nodes : List Node) (copy : Pair) → ((p : Pair) → Contains pairs p ↔ ((n : Node) × Contains nodes n × Stands sites n p)) → pairs' ≡ pairs ++ copy ∷ [] → copy ≡ root → HasRoot pairs' nodes
+    root_added pairs pairs' nodes copy are pushed same p =
+        let both = contains_pushed pairs copy p in (
+          λ h. ⊎_elim (λ before. inr ((are p).0 before)) (λ is. inl (sym is ∙ same)) (both.0 (subst (λ ps. Contains ps p) pushed h)),
+          λ h. subst (λ ps. Contains ps p) (sym pushed) (both.1 (⊎_elim (λ is. inr (same ∙ sym is)) (λ from. inl ((are p).1 from)) h)),
+        )
 
-      pub pair_passed : ((p : Pair) → Stands sites node p → ⊥) → PairsSoFar pairs (take (k + 1) nodes)
-      pair_passed nothing p = (
-        λ h. ⊎_elim (λ same. inl same) (λ (n, there, stood). inr (n, (contains_more nodes k node below at n).1 (inl there), stood)) ((so_far p).0 h),
-        λ h. ⊎_elim
-            (λ same. (so_far p).1 (inl same))
-            (λ (n, there, stood). ⊎_elim
-            (λ before. (so_far p).1 (inr (n, before, stood)))
-            (λ same. absurd (nothing p (subst (λ m. Stands sites m p) (sym same) stood)))
-            ((contains_more nodes k node below at n).0 there))
-            h,
-      )
-
-    pub pairs_begin : (none pairs : List Pair) (copy : Pair) → none ≡ [] → pairs ≡ none ++ copy ∷ [] → copy ≡ root → PairsSoFar pairs []
-    pairs_begin none pairs copy empty pushed same p = (
-      λ h. inl (sym (only root p (subst (λ ps. Contains ps p) (pushed ∙ ap (λ ps. ps ++ copy ∷ []) empty ∙ ap (λ c. c ∷ []) same) h))),
+    -- where one does, it is there
+    pub root_there : (pairs : List Pair) (starts list : List Node) (nodes : Nodes) → ((p : Pair) → Contains pairs p ↔ ((n : Node) × Contains list n × Stands sites n p)) → ((n : Node) → Contains starts n ↔ Stands sites n root) → IsListed nodes
+        → ((q : Pair) → Had (Stands sites) nodes.found q ↔ ReachedFromNodes (Stands sites) (Related sites) starts q) → list ≡ nodes.list.items → (length starts ≡ 0 → ⊥) → HasRoot pairs list
+    root_there pairs starts list nodes are begin listed reached same some p = (
+      λ h. inr ((are p).0 h),
       λ h. ⊎_elim
-          (λ is. subst (λ ps. Contains ps p) (sym (pushed ∙ ap (λ ps. ps ++ copy ∷ []) empty ∙ ap (λ c. c ∷ []) same)) (subst (Contains (root ∷ [])) (sym is) (0, omega arith, refl)))
-          (λ (n, there, stood). absurd (contains_none n there))
+          (λ is.
+          let (n, start) = some_member starts some in
+          let (m, found, stands) = (reached root).1 (n, root, start, (begin n).0 start, reaches_itself (Related sites) root) in
+          (are p).1 (m, subst (λ ns. Contains ns m) (sym same) (listed.listed m found), subst (Stands sites m) (sym is) stands))
+          (λ from. (are p).1 from)
           h,
     )
+      where
+        some_member : (xs : List Node) → (length xs ≡ 0 → ⊥) → (n : Node) × Contains xs n
+        some_member [] none = absurd (none refl)
+        some_member (x ∷ xs) none = (x, (0, omega arith, refl))
 
     -- where it is related to anything, it has a node
     root_node : (q : Pair) → Related sites root q → (n : Node) × Stands sites n root
@@ -217,7 +205,7 @@ module _ (sites : List SiteEvents) where
 
     -- the root and the pairs that the found nodes stand for are what is reached
     pub reach_exact : (starts list : List Node) (nodes : Nodes) (pairs : List Pair) → ((n : Node) → Contains starts n ↔ Stands sites n root) → IsListed nodes → ((q : Pair) → Had (Stands sites) nodes.found q ↔ ReachedFromNodes (Stands sites) (Related sites) starts q)
-        → list ≡ nodes.list.items → PairsSoFar pairs list → (p : Pair) → Contains pairs p ↔ Reaches (Related sites) root p
+        → list ≡ nodes.list.items → HasRoot pairs list → (p : Pair) → Contains pairs p ↔ Reaches (Related sites) root p
     reach_exact starts list nodes pairs are listed reached same pairs_are p =
         let R = Related sites in
         let closed : (y z : Pair) → (y ≡ root) ⊎ Had (Stands sites) nodes.found y → R y z → (z ≡ root) ⊎ Had (Stands sites) nodes.found z = λ y z h r. ⊎_elim

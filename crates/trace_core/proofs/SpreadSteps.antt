@@ -1,13 +1,18 @@
 -- The spread of items, and its looks.
-use Rattle.std.proofs.Common.{◌≡◌, ℕ, zero, suc, ◌<◌, ◌≤◌, ◌+◌, ◌-◌, ◌^◌, false, List, [], ◌∷◌, ◌++◌, Option, None, Some, map, take, get_or, slice_get, unwrap_or, length, sum_by, ◌↔◌, refl, sym, ap, ◌∙◌, subst, inl, inr, ⊎_elim, arith}
+use Rattle.std.proofs.Common.{◌≡◌, ℕ, zero, suc, ◌<◌, ◌≤◌, ◌+◌, ◌-◌, ◌^◌, false, List, [], ◌∷◌, ◌++◌, Option, None, Some, map, take, get_or, slice_get, unwrap_or, length, length-append, sum_by, ◌↔◌, refl, sym, ap, ◌∙◌, subst, inl, inr, ⊎_elim, arith}
 use mathlib.Core.Logic.{◌⊎◌}
 use Rattle.std.specs.BTreeSet.{BTreeSet}
 use Rattle.std.specs.Cmp.{eq_by_cmp_equiv}
+use Rattle.std.specs.Cmp.Lexicographic.{slice_cmp}
 use Rattle.std.specs.List.{Contains}
+use Rattle.std.specs.Ordering.{nat_cmp}
+use Rattle.std.proofs.lemmas.Cmp.{nat_list_cmp_total}
 use Rattle.std.proofs.lemmas.List.{length-map}
+use Rattle.std.proofs.lemmas.List.Elements.{Contains-append_left, Contains-append_right}
 use Rattle.std.proofs.lemmas.Map.Keys.{IsDistinct-from_sorted}
 use Rattle.std.proofs.lemmas.Map.Made.{length-le_from_is_member}
-use Rattle.std.proofs.lemmas.Map.Views.{list_any-from_Contains}
+use Rattle.std.proofs.lemmas.Map.Lookups.{exact_bytes}
+use Rattle.std.proofs.lemmas.Map.Views.{Contains-from_any, list_any-from_Contains, tells_apart}
 use Rattle.event_json.specs.Events.{Content}
 use Rattle.trace_core.specs.declared.groups.Group.{Group}
 use Rattle.trace_core.specs.declared.nodes.Node.{Node}
@@ -21,7 +26,7 @@ use Rattle.trace_core.specs.Places.{names_item}
 use Rattle.trace_core.specs.Relations.{Reaches}
 use Rattle.trace_core.specs.Searches.{IsFound}
 use Rattle.trace_core.specs.Sites.{SiteEvents}
-use Rattle.trace_core.specs.Spreads.{Inside, IsSpread, items_of, output_count, HasEachItem, AreLooks}
+use Rattle.trace_core.specs.Spreads.{AreAscendingItems, Inside, IsSpread, items_of, output_count, HasEachItem, AreLooks}
 use Rattle.trace_core.proofs.ChainLaws.{reaches_itself, reaches_step, reached_holds}
 use Rattle.trace_core.proofs.GroupSteps.{adds_same}
 use Rattle.trace_core.specs.Looks.{one_look}
@@ -131,11 +136,23 @@ module _ (s : SiteEvents) where
         subst (Contains (map node_of known)) is (contains-map node_of known q.item (each e q.item there ((lists_decides (items_of e.body) q.item).0 names))))) in
         omega (arith, all, length-map known node_of, listed.count, ap length same)
 
+    -- nor more items than are unknown or found
+    spread_le : (unknown out : List (List ℕ)) → AreAscendingItems out → ((i : List ℕ) → Contains out i → Contains unknown i ⊎ HasItem s.events list i) → length out ≤ length unknown + length list
+    spread_le unknown out ascending parts =
+        let item_of : Node → List ℕ = λ n. unwrap_or (slice_get (numbered s.events) n.item) [] in
+        let laws = eq_by_cmp_equiv nat_list_cmp_total in
+        let all : length out ≤ length (unknown ++ map item_of list) = length-le_from_is_member laws out (unknown ++ map item_of list) (IsDistinct-from_sorted (slice_cmp nat_cmp) out ascending)
+        (λ i there. list_any-from_Contains laws i (unknown ++ map item_of list) (⊎_elim
+        (λ new. Contains-append_left unknown (map item_of list) i new)
+        (λ (n, at, is). Contains-append_right unknown (map item_of list) i (subst (Contains (map item_of list)) (ap (λ o. unwrap_or o []) is) (contains-map item_of list n at)))
+        (parts i (Contains-from_any (tells_apart exact_bytes) i out there)))) in
+        omega (arith, all, length-append unknown (map item_of list), length-map list item_of)
+
     -- the looks of a spread
-    pub looks_spread : (unknown found out : List (List ℕ)) (searched looks : ℕ) → length out < 2 ^ 64 → length out ≤ length found → length found ≤ length unknown + length list → length list ≤ searched → searched ≤ 0 + length list + sum_by (λ e. output_count e.body) s.events
+    pub looks_spread : (unknown found out : List (List ℕ)) (searched looks : ℕ) → length out < 2 ^ 64 → AreAscendingItems out → ((i : List ℕ) → Contains out i → Contains unknown i ⊎ HasItem s.events list i) → length list ≤ searched → searched ≤ 0 + length list + sum_by (λ e. output_count e.body) s.events
         → (searched + length unknown ≤ looks) ⊎ (2 ^ 64 - 1 ≤ looks) → looks ≤ searched + length items → AreLooks s items out looks
-    looks_spread unknown found out searched looks fits fewer parts least most counted given = record {
-      least = ⊎_elim (λ all. omega (arith, fewer, parts, least, all)) (λ past. omega (arith, fits, past)) counted;
+    looks_spread unknown found out searched looks fits ascending parts least most counted given = record {
+      least = ⊎_elim (λ all. omega (arith, spread_le unknown out ascending parts, least, all)) (λ past. omega (arith, fits, past)) counted;
       most = λ known each. omega (arith, nodes_le known each, most, given);
     }
 
@@ -186,37 +203,6 @@ module _ (events : List Content) (items found : List (List ℕ)) (k : ℕ) (i : 
         λ h. let (there, none) = (so_far j).0 h in (more.1 (inl there), none),
         λ (there, none). ⊎_elim (λ before. (so_far j).1 (before, none)) (λ is. absurd (known (subst (λ l. number_in (numbered events) l ≡ None) (sym is) none))) (more.0 there),
       )
-
--- the items of the first so many nodes
-module _ (events : List Content) (old found : List (List ℕ)) (nodes : List Node) (k : ℕ) (node : Node) (below : k < length nodes) (at : node ≡ get_or nodes k node)
-    (so_far : (j : List ℕ) → Contains found j ↔ (Contains old j ⊎ HasItem events (take k nodes) j)) where
-  pub item_pushed : (found' : List (List ℕ)) (item copy : List ℕ) → Some item ≡ slice_get (numbered events) node.item → copy ≡ item → found' ≡ found ++ copy ∷ [] → (j : List ℕ) → Contains found' j ↔ (Contains old j ⊎ HasItem events (take (k + 1) nodes) j)
-  item_pushed found' item copy is same pushed j =
-      let both = contains_pushed found copy j in (
-        λ h. ⊎_elim
-            (λ before. ⊎_elim (λ first. inl first) (λ (n, there, its). inr (n, (contains_more nodes k node below at n).1 (inl there), its)) ((so_far j).0 before))
-            (λ one. inr (node, (contains_more nodes k node below at node).1 (inr refl), sym is ∙ ap Some (sym same ∙ one)))
-            (both.0 (subst (λ ns. Contains ns j) pushed h)),
-        λ h. subst (λ ns. Contains ns j) (sym pushed) (both.1 (⊎_elim
-            (λ first. inl ((so_far j).1 (inl first)))
-            (λ (n, there, its). ⊎_elim
-            (λ before. inl ((so_far j).1 (inr (n, before, its))))
-            (λ one. inr (same ∙ some_is item j (is ∙ ap (λ (m : Node). slice_get (numbered events) m.item) one ∙ its)))
-            ((contains_more nodes k node below at n).0 there))
-            h)),
-      )
-
-  pub item_passed : None ≡ slice_get (numbered events) node.item → (j : List ℕ) → Contains found j ↔ (Contains old j ⊎ HasItem events (take (k + 1) nodes) j)
-  item_passed none j = (
-    λ h. ⊎_elim (λ first. inl first) (λ (n, there, its). inr (n, (contains_more nodes k node below at n).1 (inl there), its)) ((so_far j).0 h),
-    λ h. ⊎_elim
-        (λ first. (so_far j).1 (inl first))
-        (λ (n, there, its). ⊎_elim
-        (λ before. (so_far j).1 (inr (n, before, its)))
-        (λ one. none_is j (none ∙ ap (λ (m : Node). slice_get (numbered events) m.item) one ∙ its))
-        ((contains_more nodes k node below at n).0 there))
-        h,
-  )
 
 -- one look more for one item more
 pub look_counted : (begun looks looks' n n' : ℕ) → (begun + n ≤ looks) ⊎ (2 ^ 64 - 1 ≤ looks) → looks' ≡ one_look looks → n' ≡ n + 1 → (begun + n' ≤ looks') ⊎ (2 ^ 64 - 1 ≤ looks')

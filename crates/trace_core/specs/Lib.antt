@@ -1,5 +1,6 @@
 pub mod Adding
 pub mod Chains
+pub mod Found
 pub mod Gathering
 pub mod Groups
 pub mod Indexes

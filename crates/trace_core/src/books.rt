@@ -2,7 +2,7 @@ ghost use Rattle.std.specs.Prelude.{◌≡◌, ◌++◌, ◌∷◌, [], ◌-◌,
 ghost use Rattle.std.specs.List.{list_any};
 ghost use Rattle.event_json.specs.Contents.{same_content};
 ghost use Rattle.trace_core.specs.Adding.{standing_among};
-ghost use Rattle.trace_core.specs.Numbers.{numbered, number_in, outs_at};
+ghost use Rattle.trace_core.specs.Numbers.{IsNumbered, numbered, number_in, outs_at};
 ghost use Rattle.trace_core.specs.Pairs.{make_id};
 ghost use Rattle.trace_core.specs.PairTests.{same_id};
 ghost use Rattle.trace_core.specs.Places.{at_place, names_item, places_where};
@@ -13,6 +13,7 @@ use crate::indexes::Index;
 use epc_core::Epc;
 use event_json::{Event, PlainText};
 use std::alloc::{AllocError, Global};
+use std::collections::BTreeMap;
 use std::marker::Model;
 
 /// Events in the order in which they came, and an index of what they name.
@@ -113,6 +114,20 @@ impl Book {
         ensures { option_map (λ i. i.now) result ≡ slice_get (numbered self.now) number }
     {
         self.index.items.name(number)
+    }
+
+    /// How many items events name.
+    pub fn item_count(&self) -> usize
+        ensures { result ≡ length (numbered self.now) }
+    {
+        self.index.items.len()
+    }
+
+    /// The items that events name with their numbers, in the order of items.
+    pub fn numbers(&self) -> &BTreeMap<Epc, usize>
+        ensures { IsNumbered result.now (numbered self.now) }
+    {
+        self.index.items.numbers()
     }
 
     /// The places of the events that name the item of a number, ascending.

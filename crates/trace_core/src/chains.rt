@@ -9,6 +9,7 @@ ghost use Rattle.trace_core.specs.Pairs.{IsStrictlyAscending};
 ghost use Rattle.trace_core.specs.Relations.{Reaches};
 ghost use Rattle.trace_core.specs.Sites.{SiteEvents};
 
+use crate::batches::pairs_of;
 use crate::captured::Captured;
 use crate::groups::Group;
 use crate::nodes::{Node, Nodes};
@@ -119,7 +120,10 @@ pub fn reach(alloc: Global, sites: &[&Captured], root: &Pair) -> Result<Vec<Pair
     let mut looks = 0;
     let starts = nodes_of(alloc, sites, root)?;
     let nodes = closure(alloc, &RelatedPairs { sites }, &starts, &mut looks)?;
-    let pairs = pairs_of(alloc, sites, root, &nodes.list)?;
+    let mut pairs = pairs_of(alloc, sites, &nodes.list)?;
+    if starts.is_empty() {
+        pairs.push(root.copy(alloc)?)?;
+    }
     in_order(pairs)
 }
 
@@ -138,26 +142,4 @@ fn nodes_of(alloc: Global, sites: &[&Captured], pair: &Pair) -> Result<Vec<Node>
         }
     }
     Ok(nodes)
-}
-
-/// A pair, and those that nodes stand for.
-fn pairs_of(
-    alloc: Global,
-    sites: &[&Captured],
-    root: &Pair,
-    nodes: &[Node],
-) -> Result<Vec<Pair>, AllocError>
-    ensures { IfOk result (λ pairs. (p : Pair) → Contains pairs.items p ↔ ((p ≡ root.now) ⊎ ((n : Node) × Contains nodes.now n × Stands (sites_at sites.now) n p))) }
-{
-    let mut pairs = Vec::new(alloc);
-    pairs.push(root.copy(alloc)?)?;
-    for node in nodes {
-        if let Some(item) = item_of(sites, node) {
-            pairs.push(Pair {
-                site: node.at,
-                item: item.copy(alloc)?,
-            })?;
-        }
-    }
-    Ok(pairs)
 }

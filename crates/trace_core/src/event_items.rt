@@ -25,6 +25,24 @@ impl Model for Numbers {
 }
 
 impl Numbers {
+    /// One number.
+    pub fn one(alloc: Global, number: usize) -> Result<Numbers, AllocError>
+        ensures { IfOk result (λ numbers. numbers ≡ number ∷ []) }
+    {
+        let mut numbers = Vec::new(alloc);
+        numbers.push(number)?;
+        Ok(Numbers { numbers })
+    }
+
+    /// Adds a number at the end. An `Err` changes nothing.
+    pub fn push(&mut self, number: usize) -> Result<(), AllocError>
+        ensures ok { OnOk result (self.new ≡ self.old ++ number ∷ []) }
+        ensures err { OnErr result (self.new ≡ self.old) }
+    {
+        self.numbers.push(number)?;
+        Ok(())
+    }
+
     /// The numbers in order.
     pub fn as_slice(&self) -> &[usize]
         ensures { result.now ≡ self.now }

@@ -1,5 +1,5 @@
 ghost use Rattle.std.specs.Prelude.{◌≡◌, ◌∷◌, ◌++◌, ◌-◌, [], ℕ, List, Some, cond, OnOk, OnErr, length, take, slice_get, option_map};
-ghost use Rattle.trace_core.specs.Numbers.{AreApart, number_in, number_found, names_of, item_places, noted, changed, changed_at};
+ghost use Rattle.trace_core.specs.Numbers.{AreApart, IsNumbered, number_in, number_found, names_of, item_places, noted, changed, changed_at};
 ghost use Rattle.trace_core.specs.PairTests.{same_item};
 ghost use Rattle.trace_core.specs.Places.{or_none, with_last, without_last};
 
@@ -61,6 +61,13 @@ impl Items {
         ensures { result ≡ number_in (names_of self.now) item.now }
     {
         self.numbers.get(item).copied()
+    }
+
+    /// The items with their numbers, in the order of items.
+    pub fn numbers(&self) -> &BTreeMap<Epc, usize>
+        ensures { IsNumbered result.now (names_of self.now) }
+    {
+        &self.numbers
     }
 
     /// The item of a number, with its places.

@@ -5,10 +5,12 @@
 #![tactic(auto)]
 
 mod adding;
+mod batches;
 mod books;
 mod captured;
 mod chains;
 mod event_items;
+mod found_items;
 mod gathering;
 mod groups;
 mod ids;

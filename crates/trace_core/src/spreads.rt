@@ -1,4 +1,4 @@
-ghost use Rattle.std.specs.Prelude.{◌≡◌, ◌≤◌, ◌+◌, ◌-◌, ◌^◌, ◌⊎◌, ◌↔◌, ◌||◌, IfOk, OnOk, ℕ, List, None, Contains, length, slice_get};
+ghost use Rattle.std.specs.Prelude.{◌≡◌, ◌≤◌, ◌+◌, ◌-◌, ◌^◌, ◌⊎◌, ◌↔◌, ◌||◌, IfOk, OnOk, ℕ, List, None, Contains, length, map, slice_get};
 ghost use Rattle.std.specs.List.{list_any};
 ghost use Rattle.trace_core.specs.declared.nodes.Node.{Node};
 ghost use Rattle.trace_core.specs.declared.pairs.Pair.{Pair};
@@ -12,6 +12,7 @@ ghost use Rattle.trace_core.specs.Spreads.{AreAscendingItems, IsSpread, AreLooks
 
 use crate::books::Book;
 use crate::captured::Captured;
+use crate::found_items::items_of_numbers;
 use crate::gathering::{gather, gather_outputs, make_id, takes_in};
 use crate::groups::Group;
 use crate::looks::count_look;
@@ -160,22 +161,25 @@ fn unknown_items(
     Ok(found)
 }
 
-/// Adds the items that nodes stand for.
+/// Adds the items that nodes stand for. They ascend where they are many of the site's.
 fn push_items(
     alloc: Global,
     book: &Book,
     nodes: &[Node],
     found: &mut Vec<Epc>,
 ) -> Result<(), AllocError>
-    ensures items { OnOk result ((i : List ℕ) → Contains found.new.items i ↔ (Contains found.old.items i ⊎ HasItem book.now nodes.now i)) }
-    ensures fewer { length found.new.items ≤ length found.old.items + length nodes.now }
+    ensures { OnOk result ((i : List ℕ) → Contains found.new.items i ↔ (Contains found.old.items i ⊎ HasItem book.now nodes.now i)) }
 {
-    for node in nodes {
-        if let Some(item) = book.item(node.item) {
-            found.push(item.copy(alloc)?)?;
-        }
-    }
-    Ok(())
+    let numbers = numbers_of(alloc, nodes)?;
+    let mut items = items_of_numbers(alloc, book, &numbers)?;
+    found.append(&mut items)
+}
+
+/// The numbers of nodes.
+fn numbers_of(alloc: Global, nodes: &[Node]) -> Result<Vec<usize>, AllocError>
+    ensures { IfOk result (λ numbers. numbers.items ≡ map (λ n. n.item) nodes.now) }
+{
+    nodes.iter().map(|node| node.item).collect(alloc)
 }
 
 /// Adds the pairs that an item would be related to by one event more: those of the event, and its
