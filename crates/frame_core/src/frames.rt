@@ -10,7 +10,7 @@ use std::alloc::{AllocError, Global};
 ///
 /// The two kinds of message of a diffusing computation, after Dijkstra and Scholten, "Termination
 /// detection for diffusing computations", Information Processing Letters 11 (1980), section 2.
-#[derive(Debug, Drop, PartialEq, Eq)]
+#[derive(Debug, PartialEq, Eq)]
 pub enum Frame {
     /// A message: the item is recalled at `dest`.
     Recall {
@@ -24,6 +24,21 @@ pub enum Frame {
         id: MsgId,
         by: SiteNo,
     },
+}
+
+// It is written out, so that a caller does not prove again how each kind is dropped.
+impl Drop for Frame {
+    fn drop(self) {
+        match self {
+            Frame::Recall {
+                id: _,
+                dest: _,
+                recall: _,
+                item: _,
+            } => {}
+            Frame::Signal { id: _, by: _ } => {}
+        }
+    }
 }
 
 /// A [`Frame`] that is borrowed.

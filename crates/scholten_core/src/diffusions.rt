@@ -22,7 +22,7 @@ use std::marker::Model;
 /// seen, its parents and its own recalls.
 ///
 /// Recalls are numbered one after another from 1 to [`LAST_NUMBER`], and no number comes twice.
-#[derive(Debug, Drop)]
+#[derive(Debug)]
 pub struct Diffusion {
     me: SiteNo,
     outbox: Outbox,
@@ -31,6 +31,21 @@ pub struct Diffusion {
     own: BTreeMap<u64, Own>,
     next_recall: u64,
     alloc: Global,
+}
+
+// It is written out, so that a caller does not prove again how its maps are dropped.
+impl Drop for Diffusion {
+    fn drop(self) {
+        let Diffusion {
+            me: _,
+            outbox: _,
+            seen: _,
+            parents: _,
+            own: _,
+            next_recall: _,
+            alloc: _,
+        } = self;
+    }
 }
 
 impl Model for Diffusion {

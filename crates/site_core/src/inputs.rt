@@ -6,7 +6,7 @@ use frame_core::Frame;
 use std::alloc::{AllocError, Global};
 
 /// What a site is asked to do.
-#[derive(Debug, Drop)]
+#[derive(Debug)]
 pub enum SiteInput {
     /// To capture the events of a document, which has these bytes.
     Capture(Sequence<u8>),
@@ -14,6 +14,17 @@ pub enum SiteInput {
     Start(Epc),
     /// To take a frame that came for it.
     Deliver(Frame),
+}
+
+// It is written out, so that a caller does not prove again how each kind is dropped.
+impl Drop for SiteInput {
+    fn drop(self) {
+        match self {
+            SiteInput::Capture(_) => {}
+            SiteInput::Start(_) => {}
+            SiteInput::Deliver(_) => {}
+        }
+    }
 }
 
 impl SiteInput {

@@ -20,13 +20,26 @@ use trace_core::Captured;
 /// quarantined at it, and its part in the recalls that pass it.
 ///
 /// Every site number in it is of its list, and every message and recall number is 1 to 2^62.
-#[derive(Debug, Drop)]
+#[derive(Debug)]
 pub struct SiteState {
     pub(crate) sites: Sites,
     pub(crate) captured: Captured,
     pub(crate) quarantine: Quarantine,
     pub(crate) diffusion: Diffusion,
     pub(crate) alloc: Global,
+}
+
+// It is written out, so that a caller does not prove again how all that a site keeps is dropped.
+impl Drop for SiteState {
+    fn drop(self) {
+        let SiteState {
+            sites: _,
+            captured: _,
+            quarantine: _,
+            diffusion: _,
+            alloc: _,
+        } = self;
+    }
 }
 
 impl Model for SiteState {

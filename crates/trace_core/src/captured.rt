@@ -17,10 +17,17 @@ use std::collections::BTreeSet;
 use std::marker::Model;
 
 /// The events that a site has captured, in the order in which they came.
-#[derive(Debug, Drop)]
+#[derive(Debug)]
 pub struct Captured {
     me: SiteNo,
     book: Book,
+}
+
+// It is written out, so that a caller does not prove again how events and their index are dropped.
+impl Drop for Captured {
+    fn drop(self) {
+        let Captured { me: _, book: _ } = self;
+    }
 }
 
 impl Model for Captured {
