@@ -21,7 +21,7 @@ static const char *TABLES =
     "CREATE TABLE store (one INTEGER PRIMARY KEY CHECK (one = 1), version INTEGER NOT NULL, me INTEGER NOT NULL, next_message INTEGER NOT NULL, next_recall INTEGER NOT NULL) STRICT;"
     "CREATE TABLE site (no INTEGER PRIMARY KEY, name TEXT NOT NULL UNIQUE) STRICT;"
     "CREATE TABLE address (text TEXT PRIMARY KEY NOT NULL, site INTEGER NOT NULL REFERENCES site(no), place INTEGER NOT NULL) STRICT;"
-    "CREATE TABLE event (no INTEGER PRIMARY KEY, id TEXT UNIQUE, seconds INTEGER NOT NULL, nanos INTEGER NOT NULL, kind INTEGER NOT NULL, make_id TEXT) STRICT;"
+    "CREATE TABLE event (no INTEGER PRIMARY KEY, id TEXT, seconds INTEGER NOT NULL, nanos INTEGER NOT NULL, kind INTEGER NOT NULL, make_id TEXT) STRICT;"
     "CREATE TABLE part (event INTEGER NOT NULL REFERENCES event(no), role INTEGER NOT NULL, place INTEGER NOT NULL, text TEXT NOT NULL, PRIMARY KEY (event, role, place)) STRICT;"
     "CREATE TABLE quarantine (recall_site INTEGER NOT NULL, recall_no INTEGER NOT NULL, item TEXT NOT NULL, PRIMARY KEY (recall_site, recall_no, item)) STRICT;"
     "CREATE TABLE outbox (number INTEGER PRIMARY KEY, dest INTEGER NOT NULL, recall_site INTEGER NOT NULL, recall_no INTEGER NOT NULL, item TEXT NOT NULL) STRICT;"
@@ -154,6 +154,10 @@ int main(int count, char **words) {
     t = now();
     for (long i = 1; i <= steps; i++) signalled(i, steps);
     printf(" Signal %.0f", (now() - t) / steps);
+    long documents = (steps + 9) / 10;
+    t = now();
+    for (long i = 0; i < documents; i++) capture(100);
+    printf(" Hundred %.0f", (now() - t) / documents);
     sqlite3_stmt *all[] = {begin, commit, event, part, quarantine, outbox, seen, parent, numbers, cleared, left};
     for (size_t i = 0; i < sizeof all / sizeof *all; i++) sqlite3_finalize(all[i]);
     must(sqlite3_close(db));

@@ -69,12 +69,12 @@ stored_as_read image s opens live found settles has rows listed =
       site = holds_listed site rows.site (s.committed.trees 1) (shaped site (inr (inl refl)) (omega arith)) read.site;
       address = holds_listed address rows.address (s.committed.trees 3) (shaped address (inr (inr (inl refl))) (omega arith)) read.address;
       event = holds_listed event rows.event (s.committed.trees 5) (shaped event (inr (inr (inr (inl refl)))) (omega arith)) read.event;
-      part = holds_listed part rows.part (s.committed.trees 7) (shaped part (inr (inr (inr (inr (inl refl))))) (omega arith)) read.part;
-      quarantine = holds_listed quarantine rows.quarantine (s.committed.trees 9) (shaped quarantine (inr (inr (inr (inr (inr (inl refl)))))) (omega arith)) read.quarantine;
-      outbox = holds_listed outbox rows.outbox (s.committed.trees 11) (shaped outbox (inr (inr (inr (inr (inr (inr (inl refl))))))) (omega arith)) read.outbox;
-      seen = holds_listed seen rows.seen (s.committed.trees 12) (shaped seen (inr (inr (inr (inr (inr (inr (inr (inl refl)))))))) (omega arith)) read.seen;
-      parent = holds_listed parent rows.parent (s.committed.trees 14) (shaped parent (inr (inr (inr (inr (inr (inr (inr (inr (inl refl))))))))) (omega arith)) read.parent;
-      recall = holds_listed recall rows.recall (s.committed.trees 16) (shaped recall (inr (inr (inr (inr (inr (inr (inr (inr (inr (inl refl)))))))))) (omega arith)) read.recall;
+      part = holds_listed part rows.part (s.committed.trees 6) (shaped part (inr (inr (inr (inr (inl refl))))) (omega arith)) read.part;
+      quarantine = holds_listed quarantine rows.quarantine (s.committed.trees 8) (shaped quarantine (inr (inr (inr (inr (inr (inl refl)))))) (omega arith)) read.quarantine;
+      outbox = holds_listed outbox rows.outbox (s.committed.trees 10) (shaped outbox (inr (inr (inr (inr (inr (inr (inl refl))))))) (omega arith)) read.outbox;
+      seen = holds_listed seen rows.seen (s.committed.trees 11) (shaped seen (inr (inr (inr (inr (inr (inr (inr (inl refl)))))))) (omega arith)) read.seen;
+      parent = holds_listed parent rows.parent (s.committed.trees 13) (shaped parent (inr (inr (inr (inr (inr (inr (inr (inr (inl refl))))))))) (omega arith)) read.parent;
+      recall = holds_listed recall rows.recall (s.committed.trees 15) (shaped recall (inr (inr (inr (inr (inr (inr (inr (inr (inr (inl refl)))))))))) (omega arith)) read.recall;
     } in
     record {
       is_open = opens.is_open;

@@ -55,10 +55,10 @@ none_held trees none = record {
   site = no_rows_in site (trees 1) none.1.0;
   address = no_rows_in address (trees 3) none.1.1.0;
   event = no_rows_in event (trees 5) none.1.1.1.0;
-  part = no_rows_in part (trees 7) none.1.1.1.1.0;
-  quarantine = no_rows_in quarantine (trees 9) none.1.1.1.1.1.0;
-  outbox = no_rows_in outbox (trees 11) none.1.1.1.1.1.1.0;
-  seen = no_rows_in seen (trees 12) none.1.1.1.1.1.1.1.0;
-  parent = no_rows_in parent (trees 14) none.1.1.1.1.1.1.1.1.0;
-  recall = no_rows_in recall (trees 16) none.1.1.1.1.1.1.1.1.1.0;
+  part = no_rows_in part (trees 6) none.1.1.1.1.0;
+  quarantine = no_rows_in quarantine (trees 8) none.1.1.1.1.1.0;
+  outbox = no_rows_in outbox (trees 10) none.1.1.1.1.1.1.0;
+  seen = no_rows_in seen (trees 11) none.1.1.1.1.1.1.1.0;
+  parent = no_rows_in parent (trees 13) none.1.1.1.1.1.1.1.1.0;
+  recall = no_rows_in recall (trees 15) none.1.1.1.1.1.1.1.1.1.0;
 }

@@ -128,7 +128,7 @@ quiet tree gone news = elim (length news == 0) as (λ b. flat_map (λ child. fil
 pub outbox_numbered : (a : ℤ) (b : ℤ) (c : ℤ) (d : ℤ) (e : List ℕ) → IsNumbered site_schema outbox (Int a ∷ Int b ∷ Int c ∷ Int d ∷ Text e ∷ []) (Int a ∷ Null ∷ Int b ∷ Int c ∷ Int d ∷ Text e ∷ []) a
 unfolding first_key
 outbox_numbered a b c d e = record {
-  quiet = quiet 11;
+  quiet = quiet 10;
   stored = λ tree. rw (cast_int a, cast_int b, cast_int c, cast_int d, cast_null) refl;
   shows = rw (cast_int a, cast_int b, cast_int c, cast_int d) refl;
   key = refl;
@@ -142,7 +142,7 @@ outbox_numbered a b c d e = record {
 pub recall_numbered : (a : ℤ) (b : List ℕ) (c : ℤ) → IsNumbered site_schema recall (Int a ∷ Text b ∷ Int c ∷ []) (Int a ∷ Null ∷ Text b ∷ Int c ∷ []) a
 unfolding first_key
 recall_numbered a b c = record {
-  quiet = quiet 16;
+  quiet = quiet 15;
   stored = λ tree. rw (cast_int a, cast_int c, cast_null) refl;
   shows = rw (cast_int a, cast_int c) refl;
   key = refl;

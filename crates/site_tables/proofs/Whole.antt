@@ -18,7 +18,7 @@ site_in_all f a b r p = record {
   done = λ clean. on_ok r (λ d. record {
     goes_on = d.goes_on;
     holds = λ has rows h. let it = d.changes has in let same = λ (t : _) (other : _) (plain : _). it.others t other (rw has plain) in
-        (it.schema ∙ has, record { store = rw (same 0 refl refl) h.store; site = it.rows rows.site h.site; address = rw (same 3 refl refl) h.address; event = rw (same 5 refl refl) h.event; part = rw (same 7 refl refl) h.part; quarantine = rw (same 9 refl refl) h.quarantine; outbox = rw (same 11 refl refl) h.outbox; seen = rw (same 12 refl refl) h.seen; parent = rw (same 14 refl refl) h.parent; recall = rw (same 16 refl refl) h.recall });
+        (it.schema ∙ has, record { store = rw (same 0 refl refl) h.store; site = it.rows rows.site h.site; address = rw (same 3 refl refl) h.address; event = rw (same 5 refl refl) h.event; part = rw (same 6 refl refl) h.part; quarantine = rw (same 8 refl refl) h.quarantine; outbox = rw (same 10 refl refl) h.outbox; seen = rw (same 11 refl refl) h.seen; parent = rw (same 13 refl refl) h.parent; recall = rw (same 15 refl refl) h.recall });
   }) (p.done clean);
   undone = p.undone;
   crash = p.crash;
@@ -29,7 +29,7 @@ address_in_all f a b r p = record {
   done = λ clean. on_ok r (λ d. record {
     goes_on = d.goes_on;
     holds = λ has rows h. let it = d.changes has in let same = λ (t : _) (other : _) (plain : _). it.others t other (rw has plain) in
-        (it.schema ∙ has, record { store = rw (same 0 refl refl) h.store; site = rw (same 1 refl refl) h.site; address = it.rows rows.address h.address; event = rw (same 5 refl refl) h.event; part = rw (same 7 refl refl) h.part; quarantine = rw (same 9 refl refl) h.quarantine; outbox = rw (same 11 refl refl) h.outbox; seen = rw (same 12 refl refl) h.seen; parent = rw (same 14 refl refl) h.parent; recall = rw (same 16 refl refl) h.recall });
+        (it.schema ∙ has, record { store = rw (same 0 refl refl) h.store; site = rw (same 1 refl refl) h.site; address = it.rows rows.address h.address; event = rw (same 5 refl refl) h.event; part = rw (same 6 refl refl) h.part; quarantine = rw (same 8 refl refl) h.quarantine; outbox = rw (same 10 refl refl) h.outbox; seen = rw (same 11 refl refl) h.seen; parent = rw (same 13 refl refl) h.parent; recall = rw (same 15 refl refl) h.recall });
   }) (p.done clean);
   undone = p.undone;
   crash = p.crash;
@@ -40,7 +40,7 @@ event_in_all f a b r p = record {
   done = λ clean. on_ok r (λ d. record {
     goes_on = d.goes_on;
     holds = λ has rows h. let it = d.changes has in let same = λ (t : _) (other : _) (plain : _). it.others t other (rw has plain) in
-        (it.schema ∙ has, record { store = rw (same 0 refl refl) h.store; site = rw (same 1 refl refl) h.site; address = rw (same 3 refl refl) h.address; event = it.rows rows.event h.event; part = rw (same 7 refl refl) h.part; quarantine = rw (same 9 refl refl) h.quarantine; outbox = rw (same 11 refl refl) h.outbox; seen = rw (same 12 refl refl) h.seen; parent = rw (same 14 refl refl) h.parent; recall = rw (same 16 refl refl) h.recall });
+        (it.schema ∙ has, record { store = rw (same 0 refl refl) h.store; site = rw (same 1 refl refl) h.site; address = rw (same 3 refl refl) h.address; event = it.rows rows.event h.event; part = rw (same 6 refl refl) h.part; quarantine = rw (same 8 refl refl) h.quarantine; outbox = rw (same 10 refl refl) h.outbox; seen = rw (same 11 refl refl) h.seen; parent = rw (same 13 refl refl) h.parent; recall = rw (same 15 refl refl) h.recall });
   }) (p.done clean);
   undone = p.undone;
   crash = p.crash;
@@ -51,7 +51,7 @@ part_in_all f a b r p = record {
   done = λ clean. on_ok r (λ d. record {
     goes_on = d.goes_on;
     holds = λ has rows h. let it = d.changes has in let same = λ (t : _) (other : _) (plain : _). it.others t other (rw has plain) in
-        (it.schema ∙ has, record { store = rw (same 0 refl refl) h.store; site = rw (same 1 refl refl) h.site; address = rw (same 3 refl refl) h.address; event = rw (same 5 refl refl) h.event; part = it.rows rows.part h.part; quarantine = rw (same 9 refl refl) h.quarantine; outbox = rw (same 11 refl refl) h.outbox; seen = rw (same 12 refl refl) h.seen; parent = rw (same 14 refl refl) h.parent; recall = rw (same 16 refl refl) h.recall });
+        (it.schema ∙ has, record { store = rw (same 0 refl refl) h.store; site = rw (same 1 refl refl) h.site; address = rw (same 3 refl refl) h.address; event = rw (same 5 refl refl) h.event; part = it.rows rows.part h.part; quarantine = rw (same 8 refl refl) h.quarantine; outbox = rw (same 10 refl refl) h.outbox; seen = rw (same 11 refl refl) h.seen; parent = rw (same 13 refl refl) h.parent; recall = rw (same 15 refl refl) h.recall });
   }) (p.done clean);
   undone = p.undone;
   crash = p.crash;
@@ -62,7 +62,7 @@ quarantine_in_all f a b r p = record {
   done = λ clean. on_ok r (λ d. record {
     goes_on = d.goes_on;
     holds = λ has rows h. let it = d.changes has in let same = λ (t : _) (other : _) (plain : _). it.others t other (rw has plain) in
-        (it.schema ∙ has, record { store = rw (same 0 refl refl) h.store; site = rw (same 1 refl refl) h.site; address = rw (same 3 refl refl) h.address; event = rw (same 5 refl refl) h.event; part = rw (same 7 refl refl) h.part; quarantine = it.rows rows.quarantine h.quarantine; outbox = rw (same 11 refl refl) h.outbox; seen = rw (same 12 refl refl) h.seen; parent = rw (same 14 refl refl) h.parent; recall = rw (same 16 refl refl) h.recall });
+        (it.schema ∙ has, record { store = rw (same 0 refl refl) h.store; site = rw (same 1 refl refl) h.site; address = rw (same 3 refl refl) h.address; event = rw (same 5 refl refl) h.event; part = rw (same 6 refl refl) h.part; quarantine = it.rows rows.quarantine h.quarantine; outbox = rw (same 10 refl refl) h.outbox; seen = rw (same 11 refl refl) h.seen; parent = rw (same 13 refl refl) h.parent; recall = rw (same 15 refl refl) h.recall });
   }) (p.done clean);
   undone = p.undone;
   crash = p.crash;
@@ -73,7 +73,7 @@ outbox_in_all f a b r p = record {
   done = λ clean. on_ok r (λ d. record {
     goes_on = d.goes_on;
     holds = λ has rows h. let it = d.changes has in let same = λ (t : _) (other : _) (plain : _). it.others t other (rw has plain) in
-        (it.schema ∙ has, record { store = rw (same 0 refl refl) h.store; site = rw (same 1 refl refl) h.site; address = rw (same 3 refl refl) h.address; event = rw (same 5 refl refl) h.event; part = rw (same 7 refl refl) h.part; quarantine = rw (same 9 refl refl) h.quarantine; outbox = it.rows rows.outbox h.outbox; seen = rw (same 12 refl refl) h.seen; parent = rw (same 14 refl refl) h.parent; recall = rw (same 16 refl refl) h.recall });
+        (it.schema ∙ has, record { store = rw (same 0 refl refl) h.store; site = rw (same 1 refl refl) h.site; address = rw (same 3 refl refl) h.address; event = rw (same 5 refl refl) h.event; part = rw (same 6 refl refl) h.part; quarantine = rw (same 8 refl refl) h.quarantine; outbox = it.rows rows.outbox h.outbox; seen = rw (same 11 refl refl) h.seen; parent = rw (same 13 refl refl) h.parent; recall = rw (same 15 refl refl) h.recall });
   }) (p.done clean);
   undone = p.undone;
   crash = p.crash;
@@ -84,7 +84,7 @@ seen_in_all f a b r p = record {
   done = λ clean. on_ok r (λ d. record {
     goes_on = d.goes_on;
     holds = λ has rows h. let it = d.changes has in let same = λ (t : _) (other : _) (plain : _). it.others t other (rw has plain) in
-        (it.schema ∙ has, record { store = rw (same 0 refl refl) h.store; site = rw (same 1 refl refl) h.site; address = rw (same 3 refl refl) h.address; event = rw (same 5 refl refl) h.event; part = rw (same 7 refl refl) h.part; quarantine = rw (same 9 refl refl) h.quarantine; outbox = rw (same 11 refl refl) h.outbox; seen = it.rows rows.seen h.seen; parent = rw (same 14 refl refl) h.parent; recall = rw (same 16 refl refl) h.recall });
+        (it.schema ∙ has, record { store = rw (same 0 refl refl) h.store; site = rw (same 1 refl refl) h.site; address = rw (same 3 refl refl) h.address; event = rw (same 5 refl refl) h.event; part = rw (same 6 refl refl) h.part; quarantine = rw (same 8 refl refl) h.quarantine; outbox = rw (same 10 refl refl) h.outbox; seen = it.rows rows.seen h.seen; parent = rw (same 13 refl refl) h.parent; recall = rw (same 15 refl refl) h.recall });
   }) (p.done clean);
   undone = p.undone;
   crash = p.crash;
@@ -95,7 +95,7 @@ parent_in_all f a b r p = record {
   done = λ clean. on_ok r (λ d. record {
     goes_on = d.goes_on;
     holds = λ has rows h. let it = d.changes has in let same = λ (t : _) (other : _) (plain : _). it.others t other (rw has plain) in
-        (it.schema ∙ has, record { store = rw (same 0 refl refl) h.store; site = rw (same 1 refl refl) h.site; address = rw (same 3 refl refl) h.address; event = rw (same 5 refl refl) h.event; part = rw (same 7 refl refl) h.part; quarantine = rw (same 9 refl refl) h.quarantine; outbox = rw (same 11 refl refl) h.outbox; seen = rw (same 12 refl refl) h.seen; parent = it.rows rows.parent h.parent; recall = rw (same 16 refl refl) h.recall });
+        (it.schema ∙ has, record { store = rw (same 0 refl refl) h.store; site = rw (same 1 refl refl) h.site; address = rw (same 3 refl refl) h.address; event = rw (same 5 refl refl) h.event; part = rw (same 6 refl refl) h.part; quarantine = rw (same 8 refl refl) h.quarantine; outbox = rw (same 10 refl refl) h.outbox; seen = rw (same 11 refl refl) h.seen; parent = it.rows rows.parent h.parent; recall = rw (same 15 refl refl) h.recall });
   }) (p.done clean);
   undone = p.undone;
   crash = p.crash;
@@ -106,7 +106,7 @@ recall_in_all f a b r p = record {
   done = λ clean. on_ok r (λ d. record {
     goes_on = d.goes_on;
     holds = λ has rows h. let it = d.changes has in let same = λ (t : _) (other : _) (plain : _). it.others t other (rw has plain) in
-        (it.schema ∙ has, record { store = rw (same 0 refl refl) h.store; site = rw (same 1 refl refl) h.site; address = rw (same 3 refl refl) h.address; event = rw (same 5 refl refl) h.event; part = rw (same 7 refl refl) h.part; quarantine = rw (same 9 refl refl) h.quarantine; outbox = rw (same 11 refl refl) h.outbox; seen = rw (same 12 refl refl) h.seen; parent = rw (same 14 refl refl) h.parent; recall = it.rows rows.recall h.recall });
+        (it.schema ∙ has, record { store = rw (same 0 refl refl) h.store; site = rw (same 1 refl refl) h.site; address = rw (same 3 refl refl) h.address; event = rw (same 5 refl refl) h.event; part = rw (same 6 refl refl) h.part; quarantine = rw (same 8 refl refl) h.quarantine; outbox = rw (same 10 refl refl) h.outbox; seen = rw (same 11 refl refl) h.seen; parent = rw (same 13 refl refl) h.parent; recall = it.rows rows.recall h.recall });
   }) (p.done clean);
   undone = p.undone;
   crash = p.crash;
@@ -119,7 +119,7 @@ store_in_all f of is a b r p = record {
   done = λ clean. on_ok r (λ d. record {
     goes_on = d.goes_on;
     holds = λ has rows h. let it = d.changes has in let same = λ (t : _) (other : _) (plain : _). it.others t other (rw has plain) in
-        (it.schema ∙ has, record { store = subst (λ x. HasRows store x (b.now.trees 0)) (is rows.store) (it.rows (map store_values rows.store) h.store); site = rw (same 1 refl refl) h.site; address = rw (same 3 refl refl) h.address; event = rw (same 5 refl refl) h.event; part = rw (same 7 refl refl) h.part; quarantine = rw (same 9 refl refl) h.quarantine; outbox = rw (same 11 refl refl) h.outbox; seen = rw (same 12 refl refl) h.seen; parent = rw (same 14 refl refl) h.parent; recall = rw (same 16 refl refl) h.recall });
+        (it.schema ∙ has, record { store = subst (λ x. HasRows store x (b.now.trees 0)) (is rows.store) (it.rows (map store_values rows.store) h.store); site = rw (same 1 refl refl) h.site; address = rw (same 3 refl refl) h.address; event = rw (same 5 refl refl) h.event; part = rw (same 6 refl refl) h.part; quarantine = rw (same 8 refl refl) h.quarantine; outbox = rw (same 10 refl refl) h.outbox; seen = rw (same 11 refl refl) h.seen; parent = rw (same 13 refl refl) h.parent; recall = rw (same 15 refl refl) h.recall });
   }) (p.done clean);
   undone = p.undone;
   crash = p.crash;

@@ -69,31 +69,31 @@ abbrev pub address : Table
 address = record (keyed (codes "address") 3 (text (codes "text") ∷ number (codes "site") ∷ number (codes "place") ∷ []) (1 ∷ [])) { references = to (2 ∷ []) (codes "site") (codes "no") ∷ [] }
 
 abbrev pub event : Table
-event = table_of (codes "event") 5 (rowid_key (codes "no") ∷ maybe_text (codes "id") ∷ number (codes "seconds") ∷ number (codes "nanos") ∷ number (codes "kind") ∷ maybe_text (codes "make_id") ∷ []) (Some 0) (0 ∷ []) ((2 ∷ []) ∷ []) [] []
+event = numbered (codes "event") 5 (rowid_key (codes "no") ∷ maybe_text (codes "id") ∷ number (codes "seconds") ∷ number (codes "nanos") ∷ number (codes "kind") ∷ maybe_text (codes "make_id") ∷ [])
 
 abbrev pub part : Table
-part = record (keyed (codes "part") 7 (number (codes "event") ∷ number (codes "role") ∷ number (codes "place") ∷ text (codes "text") ∷ []) (1 ∷ 2 ∷ 3 ∷ [])) { references = to (1 ∷ []) (codes "event") (codes "no") ∷ [] }
+part = record (keyed (codes "part") 6 (number (codes "event") ∷ number (codes "role") ∷ number (codes "place") ∷ text (codes "text") ∷ []) (1 ∷ 2 ∷ 3 ∷ [])) { references = to (1 ∷ []) (codes "event") (codes "no") ∷ [] }
 
 abbrev pub quarantine : Table
-quarantine = keyed (codes "quarantine") 9 (number (codes "recall_site") ∷ number (codes "recall_no") ∷ text (codes "item") ∷ []) (1 ∷ 2 ∷ 3 ∷ [])
+quarantine = keyed (codes "quarantine") 8 (number (codes "recall_site") ∷ number (codes "recall_no") ∷ text (codes "item") ∷ []) (1 ∷ 2 ∷ 3 ∷ [])
 
 abbrev pub outbox : Table
-outbox = numbered (codes "outbox") 11 (rowid_key (codes "number") ∷ number (codes "dest") ∷ number (codes "recall_site") ∷ number (codes "recall_no") ∷ text (codes "item") ∷ [])
+outbox = numbered (codes "outbox") 10 (rowid_key (codes "number") ∷ number (codes "dest") ∷ number (codes "recall_site") ∷ number (codes "recall_no") ∷ text (codes "item") ∷ [])
 
 abbrev pub seen : Table
-seen = keyed (codes "seen") 12 (number (codes "sender") ∷ number (codes "number") ∷ number (codes "recall_site") ∷ number (codes "recall_no") ∷ []) (1 ∷ 2 ∷ [])
+seen = keyed (codes "seen") 11 (number (codes "sender") ∷ number (codes "number") ∷ number (codes "recall_site") ∷ number (codes "recall_no") ∷ []) (1 ∷ 2 ∷ [])
 
 abbrev pub parent : Table
-parent = keyed (codes "parent") 14 (number (codes "recall_site") ∷ number (codes "recall_no") ∷ number (codes "sender") ∷ number (codes "number") ∷ []) (1 ∷ 2 ∷ [])
+parent = keyed (codes "parent") 13 (number (codes "recall_site") ∷ number (codes "recall_no") ∷ number (codes "sender") ∷ number (codes "number") ∷ []) (1 ∷ 2 ∷ [])
 
 abbrev pub recall : Table
-recall = record (numbered (codes "recall") 16 (rowid_key (codes "number") ∷ text (codes "root") ∷ number (codes "ended") ∷ [])) { checks = op2 Or (equals 3 0) (equals 3 1) ∷ [] }
+recall = record (numbered (codes "recall") 15 (rowid_key (codes "number") ∷ text (codes "root") ∷ number (codes "ended") ∷ [])) { checks = op2 Or (equals 3 0) (equals 3 1) ∷ [] }
 
 abbrev pub site_schema : Schema
 site_schema = record {
   tables = store ∷ site ∷ address ∷ event ∷ part ∷ quarantine ∷ outbox ∷ seen ∷ parent ∷ recall ∷ [];
-  indexes = automatic site 0 (2 ∷ []) 2 ∷ automatic address 0 (1 ∷ []) 4 ∷ automatic event 0 (2 ∷ []) 6 ∷ automatic part 0 (1 ∷ 2 ∷ 3 ∷ []) 8 ∷ automatic quarantine 0 (1 ∷ 2 ∷ 3 ∷ []) 10
-      ∷ automatic seen 0 (1 ∷ 2 ∷ []) 13 ∷ automatic parent 0 (1 ∷ 2 ∷ []) 15 ∷ [];
+  indexes = automatic site 0 (2 ∷ []) 2 ∷ automatic address 0 (1 ∷ []) 4 ∷ automatic part 0 (1 ∷ 2 ∷ 3 ∷ []) 7 ∷ automatic quarantine 0 (1 ∷ 2 ∷ 3 ∷ []) 9
+      ∷ automatic seen 0 (1 ∷ 2 ∷ []) 12 ∷ automatic parent 0 (1 ∷ 2 ∷ []) 14 ∷ [];
   views = [];
 }
 

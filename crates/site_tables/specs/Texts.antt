@@ -11,7 +11,7 @@ abbrev pub create_address : List ℕ
 create_address = codes "CREATE TABLE address (text TEXT PRIMARY KEY NOT NULL, site INTEGER NOT NULL REFERENCES site(no), place INTEGER NOT NULL) STRICT"
 
 abbrev pub create_event : List ℕ
-create_event = codes "CREATE TABLE event (no INTEGER PRIMARY KEY, id TEXT UNIQUE, seconds INTEGER NOT NULL, nanos INTEGER NOT NULL, kind INTEGER NOT NULL, make_id TEXT) STRICT"
+create_event = codes "CREATE TABLE event (no INTEGER PRIMARY KEY, id TEXT, seconds INTEGER NOT NULL, nanos INTEGER NOT NULL, kind INTEGER NOT NULL, make_id TEXT) STRICT"
 
 abbrev pub create_part : List ℕ
 create_part = codes "CREATE TABLE part (event INTEGER NOT NULL REFERENCES event(no), role INTEGER NOT NULL, place INTEGER NOT NULL, text TEXT NOT NULL, PRIMARY KEY (event, role, place)) STRICT"

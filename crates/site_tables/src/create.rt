@@ -45,7 +45,7 @@ fn create_event<S: Alter>(tx: &mut Transaction<'_, S>) -> Result<usize, Error>
     ensures made { MakesTables with_address with_event (state S.Store tx.old.conn.now) (state S.Store tx.new.conn.now) result }
 {
     tx.execute(
-        "CREATE TABLE event (no INTEGER PRIMARY KEY, id TEXT UNIQUE, seconds INTEGER NOT NULL, nanos INTEGER NOT NULL, kind INTEGER NOT NULL, make_id TEXT) STRICT",
+        "CREATE TABLE event (no INTEGER PRIMARY KEY, id TEXT, seconds INTEGER NOT NULL, nanos INTEGER NOT NULL, kind INTEGER NOT NULL, make_id TEXT) STRICT",
         &[],
     )
 }

@@ -83,7 +83,7 @@ fn is_event(table: &Table) -> bool
     if !are_event_columns(table.columns.as_slice()) {
         return false;
     }
-    if !has_unique(table, &[2]) {
+    if !has_no_unique(table) {
         return false;
     }
     if !has_no_reference(table) {
@@ -97,7 +97,7 @@ fn is_event(table: &Table) -> bool
 fn is_part(table: &Table) -> bool
     ensures { IsTrue result → table.now ≡ part }
 {
-    if !is_named(table, "part", 7, None, &[1, 2, 3]) {
+    if !is_named(table, "part", 6, None, &[1, 2, 3]) {
         return false;
     }
     if !are_part_columns(table.columns.as_slice()) {
@@ -117,7 +117,7 @@ fn is_part(table: &Table) -> bool
 fn is_quarantine(table: &Table) -> bool
     ensures { IsTrue result → table.now ≡ quarantine }
 {
-    if !is_named(table, "quarantine", 9, None, &[1, 2, 3]) {
+    if !is_named(table, "quarantine", 8, None, &[1, 2, 3]) {
         return false;
     }
     if !are_quarantine_columns(table.columns.as_slice()) {
@@ -137,7 +137,7 @@ fn is_quarantine(table: &Table) -> bool
 fn is_outbox(table: &Table) -> bool
     ensures { IsTrue result → table.now ≡ outbox }
 {
-    if !is_named(table, "outbox", 11, Some(0), &[0]) {
+    if !is_named(table, "outbox", 10, Some(0), &[0]) {
         return false;
     }
     if !are_outbox_columns(table.columns.as_slice()) {
@@ -157,7 +157,7 @@ fn is_outbox(table: &Table) -> bool
 fn is_seen(table: &Table) -> bool
     ensures { IsTrue result → table.now ≡ seen }
 {
-    if !is_named(table, "seen", 12, None, &[1, 2]) {
+    if !is_named(table, "seen", 11, None, &[1, 2]) {
         return false;
     }
     if !are_seen_columns(table.columns.as_slice()) {
@@ -177,7 +177,7 @@ fn is_seen(table: &Table) -> bool
 fn is_parent(table: &Table) -> bool
     ensures { IsTrue result → table.now ≡ parent }
 {
-    if !is_named(table, "parent", 14, None, &[1, 2]) {
+    if !is_named(table, "parent", 13, None, &[1, 2]) {
         return false;
     }
     if !are_parent_columns(table.columns.as_slice()) {
@@ -197,7 +197,7 @@ fn is_parent(table: &Table) -> bool
 fn is_recall(table: &Table) -> bool
     ensures { IsTrue result → table.now ≡ recall }
 {
-    if !is_named(table, "recall", 16, Some(0), &[0]) {
+    if !is_named(table, "recall", 15, Some(0), &[0]) {
         return false;
     }
     if !are_recall_columns(table.columns.as_slice()) {
@@ -320,28 +320,24 @@ fn are_indexes(indexes: &[Index]) -> bool
     else {
         return false;
     };
-    let Some(after_event) = after_index(after_address, "sqlite_autoindex_event_1", 6, 5, &[2])
-    else {
-        return false;
-    };
-    let Some(after_part) = after_index(after_event, "sqlite_autoindex_part_1", 8, 7, &[1, 2, 3])
+    let Some(after_part) = after_index(after_address, "sqlite_autoindex_part_1", 7, 6, &[1, 2, 3])
     else {
         return false;
     };
     let Some(after_quarantine) = after_index(
         after_part,
         "sqlite_autoindex_quarantine_1",
-        10,
         9,
+        8,
         &[1, 2, 3],
     ) else {
         return false;
     };
-    let Some(after_seen) = after_index(after_quarantine, "sqlite_autoindex_seen_1", 13, 12, &[1, 2])
+    let Some(after_seen) = after_index(after_quarantine, "sqlite_autoindex_seen_1", 12, 11, &[1, 2])
     else {
         return false;
     };
-    let Some(after_parent) = after_index(after_seen, "sqlite_autoindex_parent_1", 15, 14, &[1, 2])
+    let Some(after_parent) = after_index(after_seen, "sqlite_autoindex_parent_1", 14, 13, &[1, 2])
     else {
         return false;
     };
