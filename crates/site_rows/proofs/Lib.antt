@@ -5,6 +5,7 @@ pub mod AtTheEnd
 pub mod CapturesLead
 pub mod ChangedEntries
 pub mod ClearsLead
+pub mod EachShown
 pub mod FreeAddresses
 pub mod GoodAddresses
 pub mod GoodRows
