@@ -1,17 +1,19 @@
 -- The items of an event are noted and taken back, one after another.
-use Rattle.std.proofs.Common.{◌≡◌, ◌<◌, ◌≤◌, ◌+◌, ℕ, ◌||◌, List, [], ◌∷◌, ◌++◌, length, take, get_or, Option, refl, sym, ap, subst, ◌∙◌, append_assoc}
-use Rattle.std.proofs.lemmas.List.{take_all, take_more}
+use Rattle.std.proofs.Common.{◌≡◌, ◌<◌, ◌≤◌, ◌+◌, ℕ, Bool, true, false, ◌||◌, List, [], ◌∷◌, ◌++◌, length, take, get_or, Option, Some, unwrap_or, refl, sym, ap, subst, ◌∙◌, append_assoc}
+use Rattle.std.specs.List.{Contains}
+use Rattle.std.proofs.lemmas.List.{take_all, take_more, map-append}
 use Rattle.std.proofs.lemmas.List.Folds.{list_any-append}
 use Rattle.event_json.specs.declared.bodies.Body.{Body}
 use Rattle.event_json.specs.declared.bodies.Body.TheVariants.{Make}
 use Rattle.trace_core.specs.declared.items.Named.{Named}
 use Rattle.trace_core.specs.Indexes.{NotesItems, NotesSomeItems, ForgetsPlace, ForgetsItems, KeepsItems}
-use Rattle.trace_core.specs.Numbers.{with_names, names_of, item_places, changed, noted}
+use Rattle.trace_core.specs.Numbers.{with_names, names_of, number_in, numbers_of, item_places, changed, noted}
 use Rattle.trace_core.specs.Places.{with_last, without_last, or_none}
 use Rattle.trace_core.specs.PairTests.{lists, same_item}
 use Rattle.trace_core.specs.Spreads.{items_of}
-use Rattle.trace_core.proofs.NumberLists.{with_more, with_names-append}
+use Rattle.trace_core.proofs.NumberLists.{with_one, with_more, with_names-append, lists_with, numbers_stay}
 use Rattle.trace_core.proofs.NamedLists.{noted_found, noted_names, forgotten_found, changed_names}
+use Rattle.trace_core.proofs.PairTestsDecide.{lists_decides}
 use Rattle.trace_core.proofs.PlaceSteps.{noted_key, forgotten_key, notes_both, forgets_both, notes_some_more, notes_some_first, noted_some, forgotten_again, lists_more}
 
 module _ (first cur new : List Named) (place : ℕ) (items : List (List ℕ)) (n : ℕ) where
@@ -24,6 +26,28 @@ module _ (first cur new : List Named) (place : ℕ) (items : List (List ℕ)) (n
         let more : take (n + 1) items ≡ take n items ++ x ∷ [] = take_more items n x below ∙ ap (λ z. take n items ++ z ∷ []) (sym at) in
         ap names_of is ∙ noted_names place x cur ∙ ap (λ ns. with_names ns (x ∷ [])) so_far.names ∙ sym (with_names-append (take n items) (names_of first) (x ∷ [])) ∙ ap (with_names (names_of first)) (sym more);
   }
+
+  -- and its number is told
+  pub number_one : (x : List ℕ) (number : ℕ) (numbers numbers' : List ℕ) → n < length items → x ≡ get_or items n x → new ≡ noted place x cur → number_in (names_of new) x ≡ Some number → NotesItems first cur place (take n items)
+      → numbers ≡ numbers_of (names_of cur) (take n items) → numbers' ≡ numbers ++ number ∷ [] → numbers' ≡ numbers_of (names_of new) (take (n + 1) items)
+  number_one x number numbers numbers' below at is known so_far are pushed =
+      let more : take (n + 1) items ≡ take n items ++ x ∷ [] = take_more items n x below ∙ ap (λ z. take n items ++ z ∷ []) (sym at) in
+      let (added, names) = with_one (names_of cur) x in
+      let stay : numbers_of (names_of new) (take n items) ≡ numbers_of (names_of cur) (take n items) =
+      ap (λ ns. numbers_of ns (take n items)) (ap names_of is ∙ noted_names place x cur ∙ names) ∙ numbers_stay (names_of cur) added (take n items) listed in
+      pushed ∙ ap (λ ns. ns ++ number ∷ []) (are ∙ sym stay)
+      ∙ ap (λ o. numbers_of (names_of new) (take n items) ++ unwrap_or o 0 ∷ []) (sym known)
+      ∙ sym (map-append (λ i. unwrap_or (number_in (names_of new) i) 0) (take n items) (x ∷ []))
+      ∙ ap (numbers_of (names_of new)) (sym more)
+    where
+      or_yes : (b : Bool) → (b || true) ≡ true
+      or_yes true = refl
+      or_yes false = refl
+
+      listed : (i : List ℕ) → Contains (take n items) i → lists (names_of cur) i ≡ true
+      listed i there =
+          ap (λ ns. lists ns i) so_far.names ∙ lists_with (take n items) (names_of first) i
+          ∙ ap (λ b. lists (names_of first) i || b) ((lists_decides (take n items) i).1 there) ∙ or_yes (lists (names_of first) i)
 
   -- all of them
   pub note_each : length items ≤ n → NotesItems first cur place (take n items) → NotesItems first cur place items

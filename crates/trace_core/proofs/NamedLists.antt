@@ -1,5 +1,5 @@
 -- Items with their places, by number.
-use Rattle.std.proofs.Common.{◌≡◌, ◌<◌, ℕ, zero, suc, Bool, true, false, cond, ◌||◌, List, [], ◌∷◌, ◌++◌, Option, Some, None, length, get_or, slice_get, Result, Ok, Err, OnOk, OnErr, option_map, refl, sym, ap, subst, ◌∙◌, inl, inr, ⊎_elim, arith}
+use Rattle.std.proofs.Common.{◌≡◌, ◌<◌, ℕ, zero, suc, Bool, true, false, cond, ◌||◌, List, [], ◌∷◌, ◌++◌, Option, Some, None, length, get_or, slice_get, Result, Ok, Err, IfOk, OnOk, OnErr, option_map, refl, sym, ap, subst, ◌∙◌, inl, inr, ⊎_elim, arith}
 use mathlib.Core.Bool.{false≢true}
 use Rattle.std.specs.BTreeMap.{BTreeMap, UpdatesBy}
 use Rattle.std.specs.Cmp.Lexicographic.{slice_cmp}
@@ -262,6 +262,17 @@ module _ {A E : Type 0} (numbers numbers' : BTreeMap (List ℕ) ℕ) (named name
     known = λ j. found j ∙ is.known j ∙ ap (λ (xs : List Named). number_in (names_of xs) j) (sym same);
     apart = subst (λ (xs : List Named). AreApart (names_of xs)) (sym same) is.apart;
   }
+
+-- the number of an item that is added
+pub number_told : {E : Type 0} (r : Result ℕ E) (named named' : List Named) (i : List ℕ) (place : ℕ) → None ≡ number_in (names_of named) i → OnOk r (named' ≡ named ++ record { name = i; places = place ∷ [] } ∷ []) → IfOk r (λ n. n ≡ length named)
+    → IfOk r (λ n. number_in (names_of named') i ≡ Some n)
+number_told (Err e) named named' i place unknown pushed is = tt
+number_told (Ok n) named named' i place unknown pushed is =
+    ap (λ (xs : List Named). number_in (names_of xs) i) pushed
+    ∙ ap (λ ns. number_in ns i) (map-append (λ (x : Named). x.name) named (record { name = i; places = place ∷ [] } ∷ []))
+    ∙ number_pushed (names_of named) i i (sym unknown)
+    ∙ ap (λ b. cond b (Some (length (names_of named))) None) ((bytes_eq-Decides i i).1 refl)
+    ∙ ap Some (length-map named (λ (x : Named). x.name) ∙ sym is)
 
 -- what is looked up by number
 pub places_there : (named : List Named) (n : ℕ) (x : Named) (i : List ℕ) → AreApart (names_of named) → slice_get named n ≡ Some x → slice_get (names_of named) n ≡ Some i → x.places ≡ or_none (item_places named i)

@@ -7,7 +7,7 @@ use Rattle.std.specs.BTreeSet.{BTreeSet, contains, IsOrdered, Updates, btree_set
 use Rattle.std.specs.List.{Contains, flat_map, list_any}
 use Rattle.std.proofs.lemmas.Grind.{flat_map-append}
 use Rattle.std.proofs.lemmas.List.{take_all, take-append-le, take_more, map-append}
-use Rattle.std.proofs.lemmas.List.Elements.{Contains-append_cases, filter-append}
+use Rattle.std.proofs.lemmas.List.Elements.{filter-append}
 use Rattle.trace_core.specs.declared.groups.Group.{Group}
 use Rattle.trace_core.specs.declared.nodes.Node.{Node}
 use Rattle.trace_core.specs.declared.nodes.Nodes.{Nodes}
@@ -17,7 +17,7 @@ use Rattle.trace_core.specs.Looks.{one_look}
 use Rattle.trace_core.specs.Nodes.{node_cmp, Had, NotesNodes, IsListed, destinations, Gains, ReachedFromNodes}
 use Rattle.trace_core.specs.Searches.{IsFound, NotesAll}
 use Rattle.trace_core.proofs.ChainLaws.{reaches_itself, reaches_step, reached_holds}
-use Rattle.trace_core.proofs.GroupSteps.{HasMore, adds_none, adds_both}
+use Rattle.trace_core.proofs.GroupSteps.{HasMore, adds_none}
 use Rattle.trace_core.proofs.LookSteps.{one_look_cases}
 use Rattle.trace_core.proofs.Members.{contains_none}
 use Rattle.trace_core.proofs.NodeOrder.{nodes_exact}
@@ -84,14 +84,6 @@ module _ (S : Node → Pair → Type 0) where
       noted = no_nodes nodes;
       stand = λ n h. absurd (contains_none n h);
       added = adds_none G P seen (Had S nodes.found) none;
-    }
-
-    pub gains_both : (P Q : Pair → Type 0) (a b c : BTreeSet Group) (x y z : Nodes) → Gains S G P a b x y → Gains S G Q b c y z → Gains S G (λ q. P q ⊎ Q q) a c x z
-    gains_both P Q a b c x y z one two = record {
-      nodes = one.nodes ++ two.nodes;
-      noted = more_nodes x y z one.nodes two.nodes one.noted two.noted;
-      stand = λ n h. ⊎_elim (one.stand n) (two.stand n) (Contains-append_cases one.nodes two.nodes n h);
-      added = adds_both G P Q a b c (Had S x.found) (Had S y.found) (Had S z.found) one.added two.added;
     }
 
     -- the same nodes, said in another way

@@ -180,7 +180,7 @@ or_thrice : (a b c : Bool) → ((a || b) || c) ≡ (a || (b || c))
 or_thrice true b c = refl
 or_thrice false b c = refl
 
-lists_with : (items names : List (List ℕ)) (i : List ℕ) → lists (with_names names items) i ≡ (lists names i || lists items i)
+pub lists_with : (items names : List (List ℕ)) (i : List ℕ) → lists (with_names names items) i ≡ (lists names i || lists items i)
 lists_with [] names i = sym (or_false (lists names i))
 lists_with (k ∷ ks) names i = lists_with ks (with_name names k) i ∙ ap (λ b. b || lists ks i) (lists_one names k i) ∙ or_thrice (lists names i) (same_item k i) (lists ks i)
 

@@ -2,14 +2,10 @@
 use Rattle.std.proofs.Common.{◌≡◌, ◌<◌, ◌≤◌, ◌+◌, ℕ, true, List, [], ◌∷◌, ◌++◌, Option, None, Some, length, slice_get, ◌↔◌, refl, sym, ap, ◌∙◌, subst, inl, inr, ⊎_elim, arith}
 use mathlib.Core.Bool.{false≢true}
 use mathlib.Core.Logic.{◌⊎◌}
-use Rattle.std.specs.BTreeSet.{BTreeSet, Updates}
-use Rattle.std.specs.Cmp.{IsTotalOrder}
-use Rattle.std.specs.declared.cmp.Ordering.{Ordering}
+use Rattle.std.specs.BTreeSet.{BTreeSet}
 use Rattle.std.specs.List.{list_any, Contains}
 use Rattle.std.proofs.lemmas.Bool.{cases_eq, cases_lt}
 use Rattle.std.proofs.lemmas.List.Elements.{Contains-append_left, Contains-append_cases, Contains-push}
-use Rattle.std.proofs.lemmas.Map.Lookups.{CmpEqualImpliesEq}
-use Rattle.std.proofs.lemmas.Map.Views.{btree_set_contains_iff}
 use Rattle.std.proofs.lemmas.Option.{slice_get-get_or, slice_get_within, slice_get_cases}
 use Rattle.event_json.specs.Events.{Content}
 use Rattle.trace_core.specs.declared.groups.Group.{Group}
@@ -23,7 +19,6 @@ use Rattle.trace_core.specs.Numbers.{number_in, numbered}
 use Rattle.trace_core.specs.Pairs.{IsRelated}
 use Rattle.trace_core.specs.Places.{kept, places_where, names_item}
 use Rattle.trace_core.specs.Relations.{Reaches}
-use Rattle.trace_core.specs.Searches.{IsFound}
 use Rattle.trace_core.specs.Sites.{SiteEvents}
 use Rattle.trace_core.proofs.ChainLaws.{reaches_itself, reaches_step, reached_holds}
 use Rattle.trace_core.proofs.GroupSteps.{sought_at, sought_places, adds_same}
@@ -31,7 +26,6 @@ use Rattle.trace_core.proofs.IndexSteps.{unnamed}
 use Rattle.trace_core.proofs.Members.{contains_cases, contains_none}
 use Rattle.trace_core.proofs.NodeSteps.{more_nodes, gains_none, gains_retold}
 use Rattle.trace_core.proofs.NumberLists.{some_is, none_is, number_stands, unnumbered, numbered_apart}
-use Rattle.trace_core.proofs.SetMembers.{found-insert}
 use Rattle.trace_core.proofs.Visiting.{BySites, one_site, all_sites_added}
 
 only : {X : Type 0} (x y : X) → Contains (x ∷ []) y → x ≡ y
@@ -43,16 +37,6 @@ contains_pushed xs x y = (
   λ h. ⊎_elim (λ before. inl before) (λ last. inr (only x y last)) (Contains-append_cases xs (x ∷ []) y h),
   λ h. ⊎_elim (λ before. Contains-append_left xs (x ∷ []) y before) (λ same. subst (Contains (xs ++ x ∷ [])) same (Contains-push xs x)) h,
 )
-
--- one key more of a list
-pub key_added : {K : Type 0} (cmp : K → K → Ordering) (total : IsTotalOrder cmp) (old new : BTreeSet K) (key : K) (yielded : List K) → Updates cmp old new key true
-    → (CmpEqualImpliesEq cmp → (k : K) → IsFound cmp old k ↔ Contains yielded k) → CmpEqualImpliesEq cmp → (k : K) → IsFound cmp new k ↔ Contains (yielded ++ key ∷ []) k
-key_added cmp total old new key yielded upd so_far exact k =
-    let found = found-insert cmp total exact old new key upd k in
-    let listed = contains_pushed yielded key k in (
-      λ h. listed.1 (⊎_elim (λ before. inl ((so_far exact k).0 before)) (λ same. inr same) (found.0 h)),
-      λ h. found.1 (⊎_elim (λ before. inl ((so_far exact k).1 before)) (λ same. inr same) (listed.0 h)),
-    )
 
 no_places : (ks : List ℕ) → kept ks ≡ None → ks ≡ []
 no_places [] h = refl
@@ -235,28 +219,6 @@ some_site sites n below = ⊎_elim
 -- what is said of a site's events is said of the site
 pub known_there : (o : Option ℕ) (i : List ℕ) (events : List Content) (s : SiteEvents) → o ≡ number_in (numbered events) i → events ≡ s.events → o ≡ number_in (numbered s.events) i
 known_there o i events s is are = is ∙ ap (λ (es : List Content). number_in (numbered es) i) are
-
--- a list of keys is a set's
-pub same_keys : {K : Type 0} (cmp : K → K → Ordering) (total : IsTotalOrder cmp) (set : BTreeSet K) (ordered yielded keys : List K) → ordered ≡ set.keys → yielded ≡ keys → (CmpEqualImpliesEq cmp → (k : K) → IsFound cmp set k ↔ Contains yielded k)
-    → CmpEqualImpliesEq cmp → (k : K) → Contains ordered k ↔ Contains keys k
-same_keys cmp total set ordered yielded keys are all so_far exact k =
-    let both = btree_set_contains_iff total exact set k in (
-      λ h. subst (λ ks. Contains ks k) all ((so_far exact k).0 (both.1 (subst (λ ks. Contains ks k) are h))),
-      λ h. subst (λ ks. Contains ks k) (sym are) (both.0 ((so_far exact k).1 (subst (λ ks. Contains ks k) (sym all) h))),
-    )
-
--- the item of a node, where its site is there
-pub item_found : (sites : List SiteEvents) (n : Node) (s : SiteEvents) (events : List Content) (o : Option (List ℕ)) → slice_get sites n.site ≡ Some s → events ≡ s.events → o ≡ slice_get (numbered events) n.item → (p : Pair) → Stands sites n p ↔ ((o ≡ Some p.item) × (p.site ≡ n.at))
-item_found sites n s events o at are is p = (
-  λ stands. (is ∙ ap (λ (es : List Content). slice_get (numbered es) n.item) are ∙ item_of_node sites n p s stands at, site_of_node sites n p stands),
-  λ (found, place). (s, at, sym (is ∙ ap (λ (es : List Content). slice_get (numbered es) n.item) are) ∙ found, place),
-)
-
-pub no_item : (sites : List SiteEvents) (n : Node) → (n.site < length sites → ⊥) → (p : Pair) → Stands sites n p ↔ ((None ≡ Some p.item) × (p.site ≡ n.at))
-no_item sites n past p = (
-  λ (s, at, item, place). absurd (past (slice_get_within sites n.site s at)),
-  λ (found, place). none_is p.item found,
-)
 
 pub nothing_left : {X : Type 0} (xs : List X) → length xs ≡ 0 → xs ≡ []
 nothing_left [] none = refl

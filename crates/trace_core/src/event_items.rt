@@ -25,6 +25,15 @@ impl Model for Numbers {
 }
 
 impl Numbers {
+    /// No number. Takes no memory.
+    pub fn new(alloc: Global) -> Numbers
+        ensures { result ≡ [] }
+    {
+        Numbers {
+            numbers: Vec::new(alloc),
+        }
+    }
+
     /// One number.
     pub fn one(alloc: Global, number: usize) -> Result<Numbers, AllocError>
         ensures { IfOk result (λ numbers. numbers ≡ number ∷ []) }
@@ -60,29 +69,6 @@ pub struct Members {
     pub outs: Numbers,
 }
 
-/// The numbers of the outputs that an event has.
-pub fn numbers_of_outs(alloc: Global, known: &Items, body: &Body) -> Result<Numbers, AllocError>
-    ensures { IfOk result (λ numbers. numbers ≡ numbers_of (names_of known.now) (outs_in body.now)) }
-{
-    match body {
-        Body::Make { outs, .. } => numbers_of(alloc, known, outs.as_slice()),
-        _ => Ok(Numbers {
-            numbers: Vec::new(alloc),
-        }),
-    }
-}
-
-/// The numbers of items that are known.
-fn numbers_of(alloc: Global, known: &Items, items: &[Epc]) -> Result<Numbers, AllocError>
-    ensures { IfOk result (λ numbers. numbers ≡ numbers_of (names_of known.now) items.now) }
-{
-    let mut numbers = Vec::new(alloc);
-    for item in items {
-        numbers.push(known.number(item).unwrap_or(0))?;
-    }
-    Ok(Numbers { numbers })
-}
-
 /// Notes that the event at a place names these items. After an `Err` it is noted for some of them.
 fn note_items(
     alloc: Global,
@@ -99,40 +85,78 @@ fn note_items(
     Ok(())
 }
 
-/// Notes the items that the event at a place names. After an `Err` some of them are noted.
+/// Notes that the event at a place names these items, and gives their numbers. After an `Err` it is noted for
+/// some of them.
+fn note_numbered(
+    alloc: Global,
+    known: &mut Items,
+    items: &[Epc],
+    place: usize,
+) -> Result<Numbers, AllocError>
+    ensures ok { OnOk result (NotesItems known.old known.new place items.now) }
+    ensures numbers { IfOk result (λ numbers. numbers ≡ numbers_of (names_of known.new) items.now) }
+    ensures err { OnErr result (NotesSomeItems known.old known.new place items.now) }
+{
+    let mut numbers = Numbers::new(alloc);
+    for item in items {
+        let number = known.note(alloc, item, place)?;
+        numbers.push(number)?;
+    }
+    Ok(numbers)
+}
+
+/// Notes the items that the event at a place names, and gives the numbers of its outputs. After an `Err` some
+/// of them are noted.
 fn note_some_of(
     alloc: Global,
     known: &mut Items,
     body: &Body,
     place: usize,
-) -> Result<(), AllocError>
+) -> Result<Numbers, AllocError>
     ensures ok { OnOk result (NotesItems known.old known.new place (items_of body.now)) }
+    ensures outs { IfOk result (λ outs. outs ≡ numbers_of (names_of known.new) (outs_in body.now)) }
     ensures err { OnErr result (NotesSomeItems known.old known.new place (items_of body.now)) }
 {
     match body {
-        Body::Note { items } => note_items(alloc, known, items.as_slice(), place),
-        Body::Ship { items, .. } => note_items(alloc, known, items.as_slice(), place),
+        Body::Note { items } => note_without_outs(alloc, known, items.as_slice(), place),
+        Body::Ship { items, .. } => note_without_outs(alloc, known, items.as_slice(), place),
         Body::Make { ins, outs, .. } => {
             note_items(alloc, known, ins.as_slice(), place)?;
-            note_items(alloc, known, outs.as_slice(), place)
+            note_numbered(alloc, known, outs.as_slice(), place)
         }
     }
 }
 
-/// Notes the items that the event at a place names. After an `Err` none of them is noted, and no item is
-/// new.
+/// Notes the items of an event at a place that has no outputs. After an `Err` some of them are noted.
+fn note_without_outs(
+    alloc: Global,
+    known: &mut Items,
+    items: &[Epc],
+    place: usize,
+) -> Result<Numbers, AllocError>
+    ensures ok { OnOk result (NotesItems known.old known.new place items.now) }
+    ensures none { IfOk result (λ outs. outs ≡ []) }
+    ensures err { OnErr result (NotesSomeItems known.old known.new place items.now) }
+{
+    note_items(alloc, known, items, place)?;
+    Ok(Numbers::new(alloc))
+}
+
+/// Notes the items that the event at a place names, and gives the numbers of its outputs. After an `Err` none
+/// of them is noted, and no item is new.
 pub fn note_items_of(
     alloc: Global,
     known: &mut Items,
     body: &Body,
     place: usize,
-) -> Result<(), AllocError>
+) -> Result<Numbers, AllocError>
     ensures ok { OnOk result (NotesItems known.old known.new place (items_of body.now)) }
+    ensures outs { IfOk result (λ outs. outs ≡ numbers_of (names_of known.new) (outs_in body.now)) }
     ensures err { OnErr result (KeepsItems known.old known.new place) }
 {
     let before = known.len();
     match note_some_of(alloc, known, body, place) {
-        Ok(()) => Ok(()),
+        Ok(outs) => Ok(outs),
         Err(_) => {
             forget_items_of(known, body, place, before);
             Err(AllocError)

@@ -1,10 +1,8 @@
-ghost use Rattle.std.specs.Prelude.{◌≡◌, ◌++◌, ◌∷◌, [], List, Some, IfOk, OnOk, OnErr, length, option_map};
+ghost use Rattle.std.specs.Prelude.{◌≡◌, ◌++◌, ◌∷◌, [], List, OnOk, OnErr, length};
 ghost use Rattle.event_json.specs.Events.{Content};
 ghost use Rattle.trace_core.specs.Indexes.{HasIds, HasItems, HasPlaces};
-ghost use Rattle.trace_core.specs.Numbers.{names_of, numbers_of, outs_in};
-ghost use Rattle.trace_core.specs.Pairs.{make_id};
 
-use crate::event_items::{Members, Numbers, forget_items_of, note_items_of, numbers_of_outs};
+use crate::event_items::{Members, forget_items_of, note_items_of};
 use crate::gathering::make_id;
 use crate::ids::{forget_id, note_id};
 use crate::items::Items;
@@ -49,16 +47,9 @@ impl Index {
     {
         let known = self.items.len();
         self.members.reserve(1)?;
-        note_items_of(alloc, &mut self.items, event.body(), place)?;
-        match note_rest(
-            alloc,
-            &self.items,
-            &mut self.ids,
-            &mut self.parts,
-            event,
-            place,
-        ) {
-            Ok(outs) => {
+        let outs = note_items_of(alloc, &mut self.items, event.body(), place)?;
+        match note_ids(alloc, &mut self.ids, &mut self.parts, event, place) {
+            Ok(()) => {
                 self.members.push_reserved(Members { known, outs });
                 Ok(())
             }
@@ -88,24 +79,20 @@ fn forget_members(items: &mut Items, members: &mut Vec<Members>, event: &Event, 
     }
 }
 
-/// Notes the ids of the event that comes at a place, and gives the numbers of its outputs. An `Err` changes
-/// nothing that can be looked up.
-fn note_rest(
+/// Notes the ids of the event that comes at a place. An `Err` changes nothing that can be looked up.
+fn note_ids(
     alloc: Global,
-    items: &Items,
     ids: &mut BTreeMap<String, Places>,
     parts: &mut BTreeMap<String, Places>,
     event: &Event,
     place: usize,
-) -> Result<Numbers, AllocError>
-    ensures outs { IfOk result (λ outs. outs ≡ numbers_of (names_of items.now) (outs_in event.now.body)) }
+) -> Result<(), AllocError>
     ensures ok { OnOk result ((events : List Content) → place ≡ length events → HasIds ids.old parts.old events → HasIds ids.new parts.new (events ++ event.now ∷ [])) }
     ensures err { OnErr result ((events : List Content) → place ≡ length events → HasIds ids.old parts.old events → HasIds ids.new parts.new events) }
 {
-    let outs = numbers_of_outs(alloc, items, event.body())?;
     note_id(alloc, ids, event.id(), place)?;
     match note_id(alloc, parts, make_id(event.body()), place) {
-        Ok(()) => Ok(outs),
+        Ok(()) => Ok(()),
         Err(_) => {
             forget_id(ids, event.id(), place);
             Err(AllocError)

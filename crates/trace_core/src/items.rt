@@ -1,4 +1,4 @@
-ghost use Rattle.std.specs.Prelude.{◌≡◌, ◌∷◌, ◌++◌, ◌-◌, [], ℕ, List, Some, cond, OnOk, OnErr, length, take, slice_get, option_map};
+ghost use Rattle.std.specs.Prelude.{◌≡◌, ◌∷◌, ◌++◌, ◌-◌, [], ℕ, List, Some, cond, IfOk, OnOk, OnErr, length, take, slice_get, option_map};
 ghost use Rattle.trace_core.specs.Numbers.{AreApart, IsNumbered, number_in, number_found, names_of, item_places, noted, changed, changed_at};
 ghost use Rattle.trace_core.specs.PairTests.{same_item};
 ghost use Rattle.trace_core.specs.Places.{or_none, with_last, without_last};
@@ -108,10 +108,11 @@ impl Items {
         }
     }
 
-    /// Notes that the event at a place names an item, which gets the next number if it is new. An `Err`
-    /// changes nothing.
-    pub fn note(&mut self, alloc: Global, item: &Epc, place: usize) -> Result<(), AllocError>
+    /// Notes that the event at a place names an item, which gets the next number if it is new, and tells its
+    /// number. An `Err` changes nothing.
+    pub fn note(&mut self, alloc: Global, item: &Epc, place: usize) -> Result<usize, AllocError>
         ensures ok { OnOk result (self.new ≡ noted place item.now self.old) }
+        ensures number { IfOk result (λ number. number_in (names_of self.new) item.now ≡ Some number) }
         ensures err { OnErr result (self.new ≡ self.old) }
     {
         match self.number(item) {
@@ -148,38 +149,41 @@ impl Items {
     }
 }
 
-/// Adds a new item, with its first place. An `Err` changes nothing.
+/// Adds a new item, with its first place, and tells its number. An `Err` changes nothing.
 fn add(
     alloc: Global,
     numbers: &mut BTreeMap<Epc, usize>,
     named: &mut Vec<Named>,
     item: &Epc,
     place: usize,
-) -> Result<(), AllocError>
+) -> Result<usize, AllocError>
     ensures named { OnOk result (named.new.items ≡ named.old.items ++ record { name = item.now; places = place ∷ [] } ∷ []) }
     ensures numbers { OnOk result ((i : List ℕ) → number_found numbers.new i ≡ cond (same_item item.now i) (Some (length named.old.items)) (number_found numbers.old i)) }
+    ensures number { IfOk result (λ number. number ≡ length named.old.items) }
     ensures err { OnErr result ((named.new.items ≡ named.old.items) × ((i : List ℕ) → number_found numbers.new i ≡ number_found numbers.old i)) }
 {
+    let number = named.len();
     named.reserve(1)?;
     let new = Named {
         name: item.copy(alloc)?,
         places: Places::one(alloc, place)?,
     };
-    numbers.insert(item.copy(alloc)?, named.len())?;
+    numbers.insert(item.copy(alloc)?, number)?;
     named.push_reserved(new);
-    Ok(())
+    Ok(number)
 }
 
-/// Notes a place of the item of a number. An `Err` changes nothing.
-fn note_at(named: &mut Vec<Named>, number: usize, place: usize) -> Result<(), AllocError>
+/// Notes a place of the item of a number, and tells the number. An `Err` changes nothing.
+fn note_at(named: &mut Vec<Named>, number: usize, place: usize) -> Result<usize, AllocError>
+    ensures number { IfOk result (λ told. told ≡ number) }
     ensures ok { OnOk result (named.new.items ≡ changed_at (with_last place) number named.old.items) }
     ensures err { OnErr result (named.new.items ≡ named.old.items) }
     ensures names { names_of named.new.items ≡ names_of named.old.items }
 {
-    match named.get_mut(number) {
-        Some(own) => own.places.note(place),
-        None => Ok(()),
+    if let Some(own) = named.get_mut(number) {
+        own.places.note(place)?;
     }
+    Ok(number)
 }
 
 /// Takes a place away from the item of a number, if it is its last one. Takes no memory.

@@ -2,7 +2,7 @@ use Rattle.std.proofs.Common.{List, sym, ap, ◌∙◌, subst, ⊎_elim}
 use Rattle.std.proofs.lemmas.Result.{on_ok_weaker}
 use Rattle.trace_core.specs.declared.items.Named.{Named}
 use Rattle.trace_core.specs.Numbers.{IsNumbered, names_of, number_in, noted}
-use Rattle.trace_core.proofs.NamedLists.{by_outcome, note_added, not_added, noted_known, noted_new}
+use Rattle.trace_core.proofs.NamedLists.{number_told, by_outcome, note_added, not_added, noted_known, noted_new}
 use Rattle.trace_core.proofs.items.Items.note.Goals as goal
 
 pub invariant_of-self : goal.invariant_of-self
@@ -27,3 +27,7 @@ returns-in-None-clause-ok c = on_ok_weaker c.add.result
     (λ is. is ∙ noted_new c.args.place c.args.item.now c.self.inside.named.items (c.in-None.ensures ∙ ap (λ (xs : List Named). number_in (names_of xs) c.args.item.now) (sym c.self.view_is))
     ∙ ap (noted c.args.place c.args.item.now) c.self.view_is)
     c.add.ensures.named
+
+pub returns-in-None-clause-number : goal.returns-in-None-clause-number
+returns-in-None-clause-number c = number_told c.add.result c.self.inside.named.items c.add.new.named.items c.args.item.now c.args.place
+    (c.in-None.ensures ∙ ap (λ (xs : List Named). number_in (names_of xs) c.args.item.now) (sym c.self.view_is)) c.add.ensures.named c.add.ensures.number
