@@ -14,7 +14,7 @@ use Rattle.trace_core.specs.declared.groups.Group.{Group}
 use Rattle.trace_core.specs.declared.pairs.Pair.{Pair}
 use Rattle.trace_core.specs.Gathering.{is_in, shipped_by, made_by, joined_by}
 use Rattle.trace_core.specs.Groups.{group_cmp, IsSeen, outs_of, Gives, IsGiven, AddsUnseen, SeesOnly, sought_by, IsSought}
-use Rattle.trace_core.specs.Pairs.{make_id}
+use Rattle.trace_core.specs.Pairs.{make_id, pair_cmp}
 use Rattle.trace_core.specs.PairTests.{same_id, same_item, ships, takes_in, gives_out, is_related}
 use Rattle.trace_core.specs.Places.{at_place, places_where, names_item}
 use Rattle.trace_core.specs.Searches.{IsFound}
@@ -72,25 +72,16 @@ module _ (events : List Content) (j : List ℕ) where
 
 module _ (G : BTreeSet Group → Pair → Type 0) where
   -- nothing to add
-  pub adds_none : (P : Pair → Type 0) (seen : BTreeSet Group) (pairs : BTreeSet Pair) → ((q : Pair) → P q → ⊥) → AddsUnseen G P seen seen pairs pairs
-  adds_none P seen pairs none = record {
+  pub adds_none : (P : Pair → Type 0) (seen : BTreeSet Group) (Old : Pair → Type 0) → ((q : Pair) → P q → ⊥) → AddsUnseen G P seen seen Old Old
+  adds_none P seen Old none = record {
     stay = λ q h. h;
     sound = λ q h. inl h;
     complete = λ q h. absurd (none q h);
     given = λ q h. inl h;
   }
 
-  -- all was given before
-  pub adds_given : (P : Pair → Type 0) (seen : BTreeSet Group) (pairs : BTreeSet Pair) → ((q : Pair) → P q → G seen q) → AddsUnseen G P seen seen pairs pairs
-  adds_given P seen pairs all = record {
-    stay = λ q h. h;
-    sound = λ q h. inl h;
-    complete = λ q h. inr (all q h);
-    given = λ q h. inl h;
-  }
-
   -- one after another
-  pub adds_both : (P Q : Pair → Type 0) (a b c : BTreeSet Group) (x y z : BTreeSet Pair) → AddsUnseen G P a b x y → AddsUnseen G Q b c y z → AddsUnseen G (λ q. P q ⊎ Q q) a c x z
+  pub adds_both : (P Q : Pair → Type 0) (a b c : BTreeSet Group) (x y z : Pair → Type 0) → AddsUnseen G P a b x y → AddsUnseen G Q b c y z → AddsUnseen G (λ q. P q ⊎ Q q) a c x z
   adds_both P Q a b c x y z one two = record {
     stay = λ q h. two.stay q (one.stay q h);
     sound = λ q h. ⊎_elim
@@ -108,7 +99,7 @@ module _ (G : BTreeSet Group → Pair → Type 0) where
   }
 
   -- the same pairs said in another way
-  pub adds_same : (P Q : Pair → Type 0) (a b : BTreeSet Group) (x y : BTreeSet Pair) → ((q : Pair) → P q ↔ Q q) → AddsUnseen G P a b x y → AddsUnseen G Q a b x y
+  pub adds_same : (P Q : Pair → Type 0) (a b : BTreeSet Group) (x y : Pair → Type 0) → ((q : Pair) → P q ↔ Q q) → AddsUnseen G P a b x y → AddsUnseen G Q a b x y
   adds_same P Q a b x y same one = record {
     stay = one.stay;
     sound = λ q h. ⊎_elim (λ before. inl before) (λ p. inr ((same q).0 p)) (one.sound q h);
@@ -116,37 +107,38 @@ module _ (G : BTreeSet Group → Pair → Type 0) where
     given = one.given;
   }
 
--- a set that has some pairs more, and transformations that were seen before alone
-pub adds_pairs : (G : BTreeSet Group → Pair → Type 0) (p : Pair → Bool) (seen : BTreeSet Group) (old new : BTreeSet Pair) → ((q : Pair) → is_in new q ≡ (is_in old q || p q)) → AddsUnseen G (λ q. p q ≡ true) seen seen old new
-adds_pairs G p seen old new are = record {
-  stay = λ q h. are q ∙ ap (λ b. b || p q) h;
-  sound = λ q h. or_cases (is_in old q) (p q) (sym (are q) ∙ h);
-  complete = λ q h. inl (are q ∙ ap (λ b. is_in old q || b) h ∙ or_yes (is_in old q));
+-- a set of pairs that has some more
+abbrev pub HasMore : (Pair → Type 0) → (Pair → Type 0) → (Pair → Bool) → Type 0
+HasMore Old New p = (q : Pair) → New q ↔ (Old q ⊎ (p q ≡ true))
+
+pub more_in : (p : Pair → Bool) (old new : BTreeSet Pair) → ((q : Pair) → is_in new q ≡ (is_in old q || p q)) → HasMore (IsFound pair_cmp old) (IsFound pair_cmp new) p
+more_in p old new are q = (λ h. or_cases (is_in old q) (p q) (sym (are q) ∙ h), λ h. are q ∙ either (is_in old q) (p q) h)
+  where
+    either : (a b : Bool) → (a ≡ true) ⊎ (b ≡ true) → (a || b) ≡ true
+    either true b h = refl
+    either false b h = ⊎_elim (λ no. absurd (false≢true no)) (λ there. there) h
+
+-- it has some pairs more, and transformations that were seen before alone
+pub adds_pairs : (G : BTreeSet Group → Pair → Type 0) (p : Pair → Bool) (seen : BTreeSet Group) (Old New : Pair → Type 0) → HasMore Old New p → AddsUnseen G (λ q. p q ≡ true) seen seen Old New
+adds_pairs G p seen Old New are = record {
+  stay = λ q h. (are q).1 (inl h);
+  sound = λ q h. (are q).0 h;
+  complete = λ q h. inl ((are q).1 (inr h));
   given = λ q h. inl h;
 }
-  where
-    or_yes : (b : Bool) → (b || true) ≡ true
-    or_yes true = refl
-    or_yes false = refl
 
 -- a transformation is seen now, and all that it gives is added
-pub adds_group : (s : SiteEvents) (site first : ℕ) (p : Pair → Bool) (seen seen' : BTreeSet Group) (old new : BTreeSet Pair) → Updates group_cmp seen seen' (record { site = site; first = first }) true
-    → ((q : Pair) → is_in new q ≡ (is_in old q || p q)) → ((q : Pair) → Gives s first q → p q ≡ true) → AddsUnseen (λ groups q. IsGiven s site groups q) (λ q. p q ≡ true) seen seen' old new
-adds_group s site first p seen seen' old new upd are gives =
-    let plain = adds_pairs (λ groups q. IsGiven s site groups q) p seen old new are in
-    record {
-      stay = plain.stay;
-      sound = plain.sound;
-      complete = plain.complete;
-      given = λ q (other, there, given). ⊎_elim
-          (λ before. inl (other, before, given))
-          (λ same. inr (are q ∙ ap (λ b. is_in old q || b) (gives q (subst (λ n. Gives s n q) (sym (ap (λ (g : Group). g.first) same)) given)) ∙ or_yes (is_in old q)))
-          ((found-insert group_cmp groups_total groups_exact seen seen' (record { site = site; first = first }) upd (record { site = site; first = other })).0 there);
-    }
-  where
-    or_yes : (b : Bool) → (b || true) ≡ true
-    or_yes true = refl
-    or_yes false = refl
+pub adds_group : (s : SiteEvents) (site first : ℕ) (p : Pair → Bool) (seen seen' : BTreeSet Group) (Old New : Pair → Type 0) → Updates group_cmp seen seen' (record { site = site; first = first }) true
+    → HasMore Old New p → ((q : Pair) → Gives s first q → p q ≡ true) → AddsUnseen (λ groups q. IsGiven s site groups q) (λ q. p q ≡ true) seen seen' Old New
+adds_group s site first p seen seen' Old New upd are gives = record {
+  stay = λ q h. (are q).1 (inl h);
+  sound = λ q h. (are q).0 h;
+  complete = λ q h. inl ((are q).1 (inr h));
+  given = λ q (other, there, given). ⊎_elim
+      (λ before. inl (other, before, given))
+      (λ same. inr ((are q).1 (inr (gives q (subst (λ n. Gives s n q) (sym (ap (λ (g : Group). g.first) same)) given)))))
+      ((found-insert group_cmp groups_total groups_exact seen seen' (record { site = site; first = first }) upd (record { site = site; first = other })).0 there);
+}
 
 pub sees_none : (site : ℕ) (seen : BTreeSet Group) → SeesOnly site seen seen
 sees_none site seen g h = inl h
@@ -161,9 +153,9 @@ pub sees_both : (site : ℕ) (a b c : BTreeSet Group) → SeesOnly site a b → 
 sees_both site a b c one two g h = ⊎_elim (λ before. one g before) (λ own. inr own) (two g h)
 
 -- a transformation that was seen before adds nothing
-adds_again : (s : SiteEvents) (site first : ℕ) (P : Pair → Type 0) (seen seen' : BTreeSet Group) (pairs : BTreeSet Pair) → Updates group_cmp seen seen' (record { site = site; first = first }) true → IsSeen seen site first
-    → ((q : Pair) → P q → Gives s first q) → AddsUnseen (λ groups q. IsGiven s site groups q) P seen seen' pairs pairs
-adds_again s site first P seen seen' pairs upd there gives = record {
+adds_again : (s : SiteEvents) (site first : ℕ) (P : Pair → Type 0) (seen seen' : BTreeSet Group) (Old : Pair → Type 0) → Updates group_cmp seen seen' (record { site = site; first = first }) true → IsSeen seen site first
+    → ((q : Pair) → P q → Gives s first q) → AddsUnseen (λ groups q. IsGiven s site groups q) P seen seen' Old Old
+adds_again s site first P seen seen' Old upd there gives = record {
   stay = λ q h. h;
   sound = λ q h. inl h;
   complete = λ q h. inr (first, there, gives q h);
@@ -209,11 +201,11 @@ module _ (ships : Bool) (s : SiteEvents) (item : List ℕ) (e : Content) where
       or_no true = refl
       or_no false = refl
 
-  module _ (k site : ℕ) (stands : slice_get s.events k ≡ Some e) (seen seen' : BTreeSet Group) (x y : BTreeSet Pair) (sent : (q : Pair) → is_in y q ≡ (is_in x q || sends q)) where
+  module _ (k site : ℕ) (stands : slice_get s.events k ≡ Some e) (seen seen' : BTreeSet Group) (x y : Pair → Type 0) (sent : HasMore x y sends) where
     abbrev SoughtHere : Pair → Type 0
     SoughtHere q = at_place (λ f. sought_by ships s.me s.events item f.body q) (slice_get s.events k) ≡ true
 
-    here : (P : Pair → Type 0) (z : BTreeSet Pair) (b : BTreeSet Group) → ((q : Pair) → P q ↔ (sought_by ships s.me s.events item e.body q ≡ true)) → AddsUnseen (λ groups q. IsGiven s site groups q) P seen b x z
+    here : (P : Pair → Type 0) (z : Pair → Type 0) (b : BTreeSet Group) → ((q : Pair) → P q ↔ (sought_by ships s.me s.events item e.body q ≡ true)) → AddsUnseen (λ groups q. IsGiven s site groups q) P seen b x z
         → AddsUnseen (λ groups q. IsGiven s site groups q) SoughtHere seen b x z
     here P z b same = adds_same (λ groups q. IsGiven s site groups q) P SoughtHere seen b x z (λ q.
         let is : at_place (λ f. sought_by ships s.me s.events item f.body q) (slice_get s.events k) ≡ sought_by ships s.me s.events item e.body q = ap (at_place (λ f. sought_by ships s.me s.events item f.body q)) stands in
@@ -226,9 +218,25 @@ module _ (ships : Bool) (s : SiteEvents) (item : List ℕ) (e : Content) where
     pub event_ships : takes_in item e.body ≡ false → AddsUnseen (λ groups q. IsGiven s site groups q) SoughtHere seen seen x y
     event_ships takes = here (λ q. sends q ≡ true) y seen (only_sent takes) sent_adds
 
+    -- its transformation was seen, whether it takes the item in or not
+    pub event_known : (first : ℕ) → ((j : List ℕ) → at_place (λ f. outs_of s.events j f.body) (slice_get s.events first) ≡ outs_of s.events j e.body) → IsSeen seen site first → AddsUnseen (λ groups q. IsGiven s site groups q) SoughtHere seen seen x y
+    event_known first stood_for there =
+        let is : (q : Pair) → at_place (λ f. sought_by ships s.me s.events item f.body q) (slice_get s.events k) ≡ sought_by ships s.me s.events item e.body q = λ q. ap (at_place (λ f. sought_by ships s.me s.events item f.body q)) stands in
+        record {
+          stay = λ q h. (sent q).1 (inl h);
+          sound = λ q h. ⊎_elim (λ before. inl before) (λ now. inr (is q ∙ ap (λ b. b || made_by s.me s.events item e.body q) now)) ((sent q).0 h);
+          complete = λ q h. ⊎_elim
+              (λ now. inl ((sent q).1 (inr now)))
+              (λ made.
+              let (own, rest) = and_parts (q.site == s.me) (takes_in item e.body && outs_of s.events q.item e.body) made in
+              inr (first, there, (eqb-true q.site s.me own, stood_for q.item ∙ (and_parts (takes_in item e.body) (outs_of s.events q.item e.body) rest).1)))
+              (or_cases (sends q) (made_by s.me s.events item e.body q) (sym (is q) ∙ h));
+          given = λ q h. inl h;
+        }
+
     module _ (first : ℕ) (takes : takes_in item e.body ≡ true) (stood_for : (j : List ℕ) → at_place (λ f. outs_of s.events j f.body) (slice_get s.events first) ≡ outs_of s.events j e.body) (upd : Updates group_cmp seen seen' (record { site = site; first = first }) true) where
       -- its transformation is new
-      pub event_new : (z : BTreeSet Pair) → ((q : Pair) → is_in z q ≡ (is_in y q || makes q)) → AddsUnseen (λ groups q. IsGiven s site groups q) SoughtHere seen seen' x z
+      pub event_new : (z : Pair → Type 0) → HasMore y z makes → AddsUnseen (λ groups q. IsGiven s site groups q) SoughtHere seen seen' x z
       event_new z made =
           here (λ q. (sends q ≡ true) ⊎ (makes q ≡ true)) z seen' (either_sought takes)
           (adds_both (λ groups q. IsGiven s site groups q) (λ q. sends q ≡ true) (λ q. makes q ≡ true) seen seen seen' x y z sent_adds
@@ -302,7 +310,7 @@ module _ (ships : Bool) (s : SiteEvents) (item : List ℕ) (site : ℕ) (places 
   SoFar n q = list_any (λ k. sought_at ships s item q (slice_get s.events k)) (take n places) ≡ true
 
   -- one place more
-  pub place_added : (n k me : ℕ) (events : List Content) (a b c : BTreeSet Group) (x y z : BTreeSet Pair) → n < length places → k ≡ get_or places n k → me ≡ s.me → events ≡ s.events
+  pub place_added : (n k me : ℕ) (events : List Content) (a b c : BTreeSet Group) (x y z : Pair → Type 0) → n < length places → k ≡ get_or places n k → me ≡ s.me → events ≡ s.events
       → AddsUnseen (λ groups q. IsGiven s site groups q) (SoFar n) a b x y
       → AddsUnseen (λ groups q. IsGiven (record { me = me; events = events }) site groups q) (λ q. sought_at ships (record { me = me; events = events }) item q (slice_get events k) ≡ true) b c y z
       → AddsUnseen (λ groups q. IsGiven s site groups q) (SoFar (n + 1)) a c x z
@@ -322,7 +330,7 @@ module _ (ships : Bool) (s : SiteEvents) (item : List ℕ) (site : ℕ) (places 
       either false b h = ⊎_elim (λ no. absurd (false≢true no)) (λ yes. yes) h
 
   -- all places
-  pub places_added : (n : ℕ) (a b : BTreeSet Group) (x y : BTreeSet Pair) → length places ≤ n → places ≡ places_where (names_item item) s.events
+  pub places_added : (n : ℕ) (a b : BTreeSet Group) (x y : Pair → Type 0) → length places ≤ n → places ≡ places_where (names_item item) s.events
       → AddsUnseen (λ groups q. IsGiven s site groups q) (SoFar n) a b x y → AddsUnseen (λ groups q. IsGiven s site groups q) (λ q. IsSought ships s item q) a b x y
   places_added n a b x y past are = adds_same (λ groups q. IsGiven s site groups q) (SoFar n) (λ q. IsSought ships s item q) a b x y (λ q.
       let is = ap (list_any (λ k. sought_at ships s item q (slice_get s.events k))) (take_all n places past ∙ are) in

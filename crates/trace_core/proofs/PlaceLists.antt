@@ -74,7 +74,7 @@ module _ {X : Type 0} (p : X → Bool) where
       by_test true so_far = refl
       by_test false so_far = so_far
 
-contains-filter : {X : Type 0} (p : X → Bool) (xs : List X) (x : X) → Contains xs x → p x ≡ true → Contains (filter p xs) x
+pub contains-filter : {X : Type 0} (p : X → Bool) (xs : List X) (x : X) → Contains xs x → p x ≡ true → Contains (filter p xs) x
 contains-filter p [] x h px = absurd (contains_none x h)
 contains-filter p (y ∷ ys) x h px = ⊎_elim
     (λ same. subst (λ b. Contains (cond b (y ∷ filter p ys) (filter p ys)) x) (sym (subst (λ z. p z ≡ true) (sym same) px)) (subst (Contains (y ∷ filter p ys)) same (contains_here y (filter p ys))))
@@ -84,7 +84,7 @@ contains-filter p (y ∷ ys) x h px = ⊎_elim
     (cases_Bool (p y)))
     (contains_cases y x ys h)
 
-contains-from_filter : {X : Type 0} (p : X → Bool) (xs : List X) (x : X) → Contains (filter p xs) x → Contains xs x × (p x ≡ true)
+pub contains-from_filter : {X : Type 0} (p : X → Bool) (xs : List X) (x : X) → Contains (filter p xs) x → Contains xs x × (p x ≡ true)
 contains-from_filter p [] x h = absurd (contains_none x h)
 contains-from_filter p (y ∷ ys) x h = ⊎_elim
     (λ yes. ⊎_elim

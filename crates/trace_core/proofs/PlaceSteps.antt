@@ -12,21 +12,16 @@ use Rattle.std.proofs.Math.Seq.{get_or-append_seam}
 use Rattle.std.proofs.lemmas.Bool.{cases_Bool, cond-true, cond-false, eqb-true, eq-eqb}
 use Rattle.std.proofs.lemmas.List.{take_at, take_all, take-append-drop}
 use Rattle.std.proofs.lemmas.List.Folds.{list_any_more, list_any-append}
-use Rattle.std.proofs.lemmas.Map.Text.{is_eq-slice_cmp, btree_map_updates_text}
+use Rattle.std.proofs.lemmas.Map.Text.{btree_map_updates_text}
 use Rattle.std.proofs.lemmas.Option.{slice_get-get_or, slice_get_cases, get_or_from_slice_get}
 use Rattle.std.proofs.lemmas.Slice.Eq.{bytes_eq-Decides}
 use Rattle.event_json.specs.declared.bodies.Body.{Body}
 use Rattle.event_json.specs.declared.bodies.Body.TheVariants.{Make}
 use Rattle.trace_core.specs.PairTests.{lists, same_item}
 use Rattle.trace_core.specs.Spreads.{items_of}
-use Rattle.trace_core.specs.Places.{kept, or_none, is_place, ends_with, with_last, without_last, item_places, text_places, Notes, NotesSome, Forgets, ForgetsIn, KeepsNone, left_of, is_emptied}
+use Rattle.trace_core.specs.Places.{kept, or_none, is_place, ends_with, with_last, without_last, text_places, Notes, NotesSome, Forgets, ForgetsIn, KeepsNone, left_of, is_emptied}
 
--- what a look-up of an item finds after a change at one
-pub item_found : (old new : BTreeMap (List ℕ) (List ℕ)) (k : List ℕ) (w : Option (List ℕ)) → UpdatesBy (slice_cmp nat_cmp) (slice_cmp nat_cmp k) old new w
-    → (i : List ℕ) → item_places new i ≡ cond (same_item k i) w (item_places old i)
-item_found old new k w upd i = upd.0 i ∙ ap (λ b. cond b w (item_places old i)) (is_eq-slice_cmp k i)
-
--- the same of a text
+-- what a look-up of a text finds after a change at one
 pub text_found : (old new : BTreeMap (String Global) (List ℕ)) (bytes : List ℕ) (w : Option (List ℕ)) → UpdatesBy string_cmp (λ k. slice_cmp nat_cmp bytes (string_bytes k)) old new w
     → (i : List ℕ) → text_places new i ≡ cond (same_item bytes i) w (text_places old i)
 text_found old new bytes w upd i = btree_map_updates_text bytes old new w upd i

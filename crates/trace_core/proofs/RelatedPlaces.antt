@@ -108,13 +108,17 @@ pub parts_found : (events : List Content) (body : Body) (places : List ℕ) (o :
 parts_found events body places o are is = are ∙ ap (λ (p : Option (List ℕ)). places_where (λ e. same_id (make_id e.body) p) events) is
 
 -- they give out what is joined to the body
+pub joined_in_parts : (events : List Content) (body : Body) (j : List ℕ) → list_any (λ k. at_place (λ e. gives_out j e.body) (slice_get events k)) (places_where (λ e. same_id (make_id e.body) (make_id body)) events) ≡ joined_by events body j
+joined_in_parts events body j =
+    any_at_places (λ e. same_id (make_id e.body) (make_id body)) (λ e. gives_out j e.body) events
+    ∙ list_any-same (λ e. same_id (make_id e.body) (make_id body) && gives_out j e.body) (λ e. same_id (make_id body) (make_id e.body) && gives_out j e.body)
+    (λ e. ap (λ b. b && gives_out j e.body) (same_id_either (make_id e.body) (make_id body))) events
+
 pub joined_at_places : (events : List Content) (body : Body) (j : List ℕ) (places : List ℕ) (n : ℕ) → length places ≤ n → places ≡ places_where (λ e. same_id (make_id e.body) (make_id body)) events
     → list_any (λ k. at_place (λ e. gives_out j e.body) (slice_get events k)) (take n places) ≡ joined_by events body j
 joined_at_places events body j places n past are =
     ap (list_any (λ k. at_place (λ e. gives_out j e.body) (slice_get events k))) (take_all n places past ∙ are)
-    ∙ any_at_places (λ e. same_id (make_id e.body) (make_id body)) (λ e. gives_out j e.body) events
-    ∙ list_any-same (λ e. same_id (make_id e.body) (make_id body) && gives_out j e.body) (λ e. same_id (make_id body) (make_id e.body) && gives_out j e.body)
-    (λ e. ap (λ b. b && gives_out j e.body) (same_id_either (make_id e.body) (make_id body))) events
+    ∙ joined_in_parts events body j
 
 -- one of them takes the item in
 pub joins_at_places : (events : List Content) (item : List ℕ) (body : Body) (places : List ℕ) → places ≡ places_where (λ e. same_id (make_id e.body) (make_id body)) events

@@ -1,30 +1,43 @@
 -- The spread of items, and its looks.
-use Rattle.std.proofs.Common.{◌≡◌, ℕ, ◌<◌, ◌≤◌, ◌+◌, true, false, List, [], ◌++◌, map, take, get_or, length, sum_by, ◌↔◌, refl, sym, ap, ◌∙◌, subst, inl, inr, ⊎_elim, arith, length-append}
-use Rattle.std.specs.BTreeSet.{BTreeSet, Updates}
+use Rattle.std.proofs.Common.{◌≡◌, ℕ, zero, suc, ◌<◌, ◌≤◌, ◌+◌, ◌-◌, ◌^◌, false, List, [], ◌∷◌, ◌++◌, Option, None, Some, map, take, get_or, slice_get, unwrap_or, length, length-append, sum_by, ◌↔◌, refl, sym, ap, ◌∙◌, subst, inl, inr, ⊎_elim, arith}
+use mathlib.Core.Logic.{◌⊎◌}
+use Rattle.std.specs.BTreeSet.{BTreeSet}
 use Rattle.std.specs.Cmp.{eq_by_cmp_equiv}
 use Rattle.std.specs.Cmp.Lexicographic.{slice_cmp}
 use Rattle.std.specs.List.{Contains}
 use Rattle.std.specs.Ordering.{nat_cmp}
 use Rattle.std.proofs.lemmas.Cmp.{nat_list_cmp_total}
-use Rattle.std.proofs.lemmas.List.{take_all, length-map}
+use Rattle.std.proofs.lemmas.List.{length-map}
 use Rattle.std.proofs.lemmas.List.Elements.{Contains-append_left, Contains-append_right}
 use Rattle.std.proofs.lemmas.Map.Keys.{IsDistinct-from_sorted}
-use Rattle.std.proofs.lemmas.Map.Lookups.{exact_bytes}
 use Rattle.std.proofs.lemmas.Map.Made.{length-le_from_is_member}
-use Rattle.std.proofs.lemmas.Map.Views.{btree_set_contains_iff, list_any-from_Contains}
-use Rattle.event_json.specs.declared.bodies.Body.{Body}
-use Rattle.event_json.specs.declared.bodies.Body.TheVariants.{Note, Ship, Make}
+use Rattle.std.proofs.lemmas.Map.Lookups.{exact_bytes}
+use Rattle.std.proofs.lemmas.Map.Views.{Contains-from_any, list_any-from_Contains, tells_apart}
+use Rattle.event_json.specs.Events.{Content}
+use Rattle.trace_core.specs.declared.groups.Group.{Group}
+use Rattle.trace_core.specs.declared.nodes.Node.{Node}
+use Rattle.trace_core.specs.declared.nodes.Nodes.{Nodes}
 use Rattle.trace_core.specs.declared.pairs.Pair.{Pair}
-use Rattle.trace_core.specs.Groups.{SeeksFrom}
-use Rattle.trace_core.specs.Pairs.{pair_cmp, GivesOut, IsRelated, IsStrictlyAscending}
-use Rattle.trace_core.specs.Relations.{Reaches, ReachedFrom}
+use Rattle.trace_core.specs.Groups.{SeeksFrom, IsGiven, IsSought}
+use Rattle.trace_core.specs.Nodes.{node_cmp, Stands, Had, IsListed, Gains, ReachedFromNodes, HasItem, IsKnownNode}
+use Rattle.trace_core.specs.Numbers.{number_in, numbered}
+use Rattle.trace_core.specs.Pairs.{IsRelated}
+use Rattle.trace_core.specs.Places.{names_item}
+use Rattle.trace_core.specs.Relations.{Reaches}
 use Rattle.trace_core.specs.Searches.{IsFound}
 use Rattle.trace_core.specs.Sites.{SiteEvents}
 use Rattle.trace_core.specs.Spreads.{AreAscendingItems, Inside, IsSpread, items_of, output_count, HasEachItem, AreLooks}
 use Rattle.trace_core.proofs.ChainLaws.{reaches_itself, reaches_step, reached_holds}
-use Rattle.trace_core.proofs.Members.{contains-map, contains_none}
-use Rattle.trace_core.proofs.PairOrder.{pairs_total, pairs_exact}
-use Rattle.trace_core.proofs.SetMembers.{contains-from_map, contains_more, found-insert}
+use Rattle.trace_core.proofs.GroupSteps.{adds_same}
+use Rattle.trace_core.specs.Looks.{one_look}
+use Rattle.trace_core.proofs.LookSteps.{one_look_cases}
+use Rattle.trace_core.proofs.Members.{contains-map, list_any_witness}
+use Rattle.trace_core.proofs.NodeOrder.{nodes_total}
+use Rattle.trace_core.proofs.NodeSteps.{gains_none, gains_retold}
+use Rattle.trace_core.proofs.NumberLists.{some_is, none_is, number_stands, number_listed, numbered_apart, numbered_named}
+use Rattle.trace_core.proofs.PairTestsDecide.{lists_decides}
+use Rattle.trace_core.proofs.ReachSteps.{contains_pushed, one_stands, unrelated}
+use Rattle.trace_core.proofs.SetMembers.{contains_more}
 
 module _ (s : SiteEvents) where
   abbrev pub here : List ℕ → Pair
@@ -41,118 +54,162 @@ module _ (s : SiteEvents) where
       (λ j k so_far related. reaches_step (SeeksFrom false s) (here i) (here j) (here k) so_far (refl, ⊎_elim (λ (other, same, any). absurd (other refl)) (λ made. made) related))
       i j reaches (reaches_itself (SeeksFrom false s) (here i))
 
-  pub spread_found : (items : List (List ℕ)) (starts : List Pair) → starts ≡ map here items → (j : List ℕ) → ReachedFrom (SeeksFrom false s) starts (here j) ↔ IsSpread s items j
-  spread_found items starts are j = (
-    λ (p, at, reaches). let (i, there, is) = contains-from_map here items p (subst (λ ps. Contains ps p) are at) in
-        (i, there, inside-chain i (here j) (subst (λ x. Reaches (SeeksFrom false s) x (here j)) (sym is) reaches) refl),
-    λ (i, at, reaches). (here i, subst (λ ps. Contains ps (here i)) (sym are) (contains-map here items i at), chain-inside i j reaches),
-  )
-
-  given_out : (b : Body) (j : List ℕ) → GivesOut j b → Contains (items_of b) j
-  given_out (Note items) j h = absurd h
-  given_out (Ship items sites outside) j h = absurd h
-  given_out (Make id ins outs) j h = Contains-append_right ins outs j h
-
-  -- what is found is given or known
-  pub spread_known : (items known : List (List ℕ)) → HasEachItem s known → (j : List ℕ) → IsSpread s items j → Contains (items ++ known) j
-  spread_known items known each j (i, at, reaches) = reached_holds (Inside s) (Contains (items ++ known))
-      (λ x y h related. ⊎_elim
-      (λ (other, same, any). absurd (other refl))
-      (λ (own, (k, e, lt, is, (takes, (l, f, lt', is', (one, gives))))). Contains-append_right items known y (each f y (l, lt', is') (given_out f.body y gives)))
-      related)
-      i j reaches (Contains-append_left items known i at)
-
   -- what is found is at the site
-  found_here : (items : List (List ℕ)) (q : Pair) → ReachedFrom (SeeksFrom false s) (map here items) q → q.site ≡ s.me
-  found_here items q (p, at, reaches) =
-      let (i, there, is) = contains-from_map here items p at in
-      reached_holds (SeeksFrom false s) (λ (q : Pair). q.site ≡ s.me) (λ x y h (same, made). made.0) p q reaches (ap (λ (x : Pair). x.site) (sym is))
+  found_here : (i : List ℕ) (q : Pair) → Reaches (SeeksFrom false s) (here i) q → q.site ≡ s.me
+  found_here i q reaches = reached_holds (SeeksFrom false s) (λ (q : Pair). q.site ≡ s.me) (λ x y h (same, made). made.0) (here i) q reaches refl
 
-  -- so no more is found than is given and known
-  pub found-le : (items known : List (List ℕ)) (found : List Pair) → IsStrictlyAscending found → ((q : Pair) → Contains found q ↔ ReachedFrom (SeeksFrom false s) (map here items) q) → HasEachItem s known → length found ≤ length items + length known
-  found-le items known found ascending reached each =
-      let set : BTreeSet Pair = record { keys = found } in
-      let laws = eq_by_cmp_equiv pairs_total in
-      let all : length found ≤ length (map here (items ++ known)) = length-le_from_is_member laws found (map here (items ++ known)) (IsDistinct-from_sorted pair_cmp found ascending)
-      (λ q h. list_any-from_Contains laws q (map here (items ++ known)) (
-      let there = (reached q).0 ((btree_set_contains_iff pairs_total pairs_exact set q).0 h) in
-      let at = found_here items q there in
-      let is : here q.item ≡ q = ap (λ (n : ℕ). record { site = n; item = q.item }) (sym at) in
-      let from = (spread_found items (map here items) refl q.item).0 (subst (ReachedFrom (SeeksFrom false s) (map here items)) (sym is) there) in
-      subst (Contains (map here (items ++ known))) is (contains-map here (items ++ known) q.item (spread_known items known each q.item from)))) in
-      omega (arith, all, length-append items known, length-map (items ++ known) here)
+  the_site : (n : ℕ) (t : SiteEvents) → slice_get (s ∷ []) n ≡ Some t → (n ≡ 0) × (s ≡ t)
+  the_site zero t h = (refl, some_is s t h)
+  the_site (suc n) t h = none_is t h
 
-  -- each item was found as a pair
-  pub items-le : (found : List Pair) (out : List (List ℕ)) → AreAscendingItems out → ((j : List ℕ) → Contains out j ↔ Contains found (here j)) → length out ≤ length found
-  items-le found out ascending exact =
-      let set : BTreeSet (List ℕ) = record { keys = out } in
-      let laws = eq_by_cmp_equiv nat_list_cmp_total in
-      let all : length out ≤ length (map (λ (p : Pair). p.item) found) = length-le_from_is_member laws out (map (λ (p : Pair). p.item) found) (IsDistinct-from_sorted (slice_cmp nat_cmp) out ascending)
-      (λ j h. list_any-from_Contains laws j (map (λ (p : Pair). p.item) found) (contains-map (λ (p : Pair). p.item) found (here j) ((exact j).0 ((btree_set_contains_iff nat_list_cmp_total exact_bytes set j).0 h)))) in
-      omega (arith, all, length-map found (λ (p : Pair). p.item))
+  -- the item of a node
+  pub its_item : (n : Node) (q : Pair) → Stands (s ∷ []) n q → slice_get (numbered s.events) n.item ≡ Some q.item
+  its_item n q (t, at, item, place) = ap (λ (u : SiteEvents). slice_get (numbered u.events) n.item) (the_site n.site t at).1 ∙ item
 
-same_here : (me : ℕ) (i : List ℕ) (p : Pair) → p ≡ record { site = me; item = i } → (p.site ≡ me) × (p.item ≡ i)
-same_here me i p h = (ap (λ (x : Pair). x.site) h, ap (λ (x : Pair). x.item) h)
+  known_stands : (items : List (List ℕ)) (n : Node) (known : IsKnownNode s items n) → Stands (s ∷ []) n (here known.0)
+  known_stands items n (i, there, number, first, at) = (s, ap (slice_get (s ∷ [])) first, number_stands (numbered s.events) i n.item number, sym at)
 
-pair_here : (me : ℕ) (i : List ℕ) (p : Pair) → p.site ≡ me → p.item ≡ i → p ≡ record { site = me; item = i }
-pair_here me i p site item = ap (λ (n : ℕ). record { site = n; item = p.item }) site ∙ ap (λ (j : List ℕ). record { site = me; item = j }) item
+  pub some_known : (items : List (List ℕ)) (n : Node) → IsKnownNode s items n → (q : Pair) × Stands (s ∷ []) n q
+  some_known items n known = (here known.0, known_stands items n known)
 
-module _ (me : ℕ) (pairs : List Pair) (k : ℕ) (p : Pair) (below : k < length pairs) (at : p ≡ get_or pairs k p) where
-  -- the items so far, at the site
-  abbrev pub ItemsSoFar : BTreeSet (List ℕ) → ℕ → Type 0
-  ItemsSoFar items n = (i : List ℕ) → IsFound (slice_cmp nat_cmp) items i ↔ Contains (take n pairs) (record { site = me; item = i })
+  -- visiting a node
+  pub node_gains : (node : Node) (at : ℕ) (a b : BTreeSet Group) (x y : Nodes) → node.at ≡ at → at ≡ s.me
+      → ((all : List SiteEvents) (i : List ℕ) → slice_get all 0 ≡ Some s → slice_get (numbered s.events) node.item ≡ Some i → Gains (Stands all) (λ groups q. IsGiven s 0 groups q) (λ q. IsSought false s i q) a b x y)
+      → (p : Pair) → Stands (s ∷ []) node p → Gains (Stands (s ∷ [])) (IsGiven s 0) (SeeksFrom false s p) a b x y
+  node_gains node at a b x y own is gained p (t, at_t, item, place) =
+      gains_retold (Stands (s ∷ [])) (λ groups q. IsGiven s 0 groups q) (IsGiven s 0) (λ q. IsSought false s p.item q) (SeeksFrom false s p) a b x y
+      (adds_same (IsGiven s 0) (λ q. IsSought false s p.item q) (SeeksFrom false s p) a b (Had (Stands (s ∷ [])) x.found) (Had (Stands (s ∷ [])) y.found) (λ q. (λ h. (sym (place ∙ own ∙ is), h), λ h. h.1)))
+      (gained (s ∷ []) p.item refl (its_item node p (t, at_t, item, place)))
 
-  pub item_noted : (old new : BTreeSet (List ℕ)) (copy : List ℕ) → copy ≡ p.item → p.site ≡ me → Updates (slice_cmp nat_cmp) old new copy true → ItemsSoFar old k → ItemsSoFar new (k + 1)
-  item_noted old new copy same site upd so_far i =
-      let more = contains_more pairs k p below at (record { site = me; item = i }) in
-      let found = found-insert (slice_cmp nat_cmp) nat_list_cmp_total exact_bytes old new copy upd i in (
-        λ h. more.1 (⊎_elim (λ before. inl ((so_far i).0 before)) (λ is. inr (pair_here me i p site (sym same ∙ is))) (found.0 h)),
-        λ h. found.1 (⊎_elim (λ before. inl ((so_far i).1 before)) (λ is. inr (same ∙ (same_here me i p is).1)) (more.0 h)),
-      )
+  pub node_elsewhere : (node : Node) (at : ℕ) (a : BTreeSet Group) (x : Nodes) → (node.at ≡ at → ⊥) → at ≡ s.me → (p : Pair) → Stands (s ∷ []) node p → Gains (Stands (s ∷ [])) (IsGiven s 0) (SeeksFrom false s p) a a x x
+  node_elsewhere node at a x apart is p (t, at_t, item, place) = gains_none (Stands (s ∷ [])) (IsGiven s 0) (SeeksFrom false s p) a x (λ q h. apart (sym place ∙ sym h.0 ∙ sym is))
 
-  pub item_passed : (items : BTreeSet (List ℕ)) → (p.site ≡ me → ⊥) → ItemsSoFar items k → ItemsSoFar items (k + 1)
-  item_passed items other so_far i =
-      let more = contains_more pairs k p below at (record { site = me; item = i }) in (
-        λ h. more.1 (inl ((so_far i).0 h)),
-        λ h. ⊎_elim (λ before. (so_far i).1 before) (λ is. absurd (other (same_here me i p is).0)) (more.0 h),
-      )
+  module _ (items : List (List ℕ)) (starts list : List Node) (nodes : Nodes) (are : (n : Node) → Contains starts n ↔ IsKnownNode s items n) (listed : IsListed nodes) (stand : (n : Node) → IsFound node_cmp nodes.found n → (q : Pair) × Stands (s ∷ []) n q)
+      (reached : (q : Pair) → Had (Stands (s ∷ [])) nodes.found q ↔ ReachedFromNodes (Stands (s ∷ [])) (SeeksFrom false s) starts q) (same : list ≡ nodes.list.items) where
+    -- a found pair is made of a given item
+    from_given : (n : Node) (q : Pair) → IsFound node_cmp nodes.found n → Stands (s ∷ []) n q → (i : List ℕ) × Contains items i × Reaches (SeeksFrom false s) (here i) q
+    from_given n q found stands =
+        let (m, p, start, stood, reaches) = (reached q).0 (n, found, stands) in
+        let known = (are m).0 start in
+        (known.0, known.1, subst (λ x. Reaches (SeeksFrom false s) x q) (one_stands (s ∷ []) m p (here known.0) stood (known_stands items m known)) reaches)
 
-pub no_items : (me : ℕ) (pairs : List Pair) (items : BTreeSet (List ℕ)) → items.keys ≡ [] → (i : List ℕ) → IsFound (slice_cmp nat_cmp) items i ↔ Contains (take 0 pairs) (record { site = me; item = i })
-no_items me pairs items none i = (
-  λ h. absurd (contains_none i (subst (λ ks. Contains ks i) none ((btree_set_contains_iff nat_list_cmp_total exact_bytes items i).0 h))),
-  λ h. absurd (contains_none (record { site = me; item = i }) h),
-)
+    -- the given items that aren't known, and those of the found nodes, are the spread
+    pub spread_exact : (unknown found : List (List ℕ)) → ((i : List ℕ) → Contains unknown i ↔ (Contains items i × (number_in (numbered s.events) i ≡ None))) → ((i : List ℕ) → Contains found i ↔ (Contains unknown i ⊎ HasItem s.events list i))
+        → (j : List ℕ) → Contains found j ↔ IsSpread s items j
+    spread_exact unknown found unknown_are found_are j = (
+      λ h. ⊎_elim
+          (λ new. (j, ((unknown_are j).0 new).0, reaches_itself (Inside s) j))
+          (λ (n, there, is).
+          let has = listed.found n (subst (λ ns. Contains ns n) same there) in
+          let (q, stands) = stand n has in
+          let its : q.item ≡ j = some_is q.item j (sym (its_item n q stands) ∙ is) in
+          let (i, given, reaches) = from_given n q has stands in
+          (i, given, subst (Reaches (Inside s) i) its (inside-chain i q reaches (found_here i q reaches))))
+          ((found_are j).0 h),
+      λ (i, given, reaches). (found_are j).1 (by_number i given reaches (number_in (numbered s.events) i) refl),
+    )
+      where
+        by_number : (i : List ℕ) → Contains items i → Reaches (Inside s) i j → (o : Option ℕ) → number_in (numbered s.events) i ≡ o → Contains unknown j ⊎ HasItem s.events list j
+        by_number i given reaches None none =
+            let alone : j ≡ i = reached_holds (Inside s) (λ x. x ≡ i) (λ y z is related. absurd (unrelated s i none (here z) (subst (λ k. Inside s k z) is related))) i j reaches refl in
+            inl ((unknown_are j).1 (subst (λ k. Contains items k × (number_in (numbered s.events) k ≡ None)) (sym alone) (given, none)))
+        by_number i given reaches (Some m) known =
+            let start : Node = record { site = 0; item = m; at = s.me } in
+            let its : IsKnownNode s items start = (i, given, known, refl, refl) in
+            let (n, found, stands) = (reached (here j)).1 (start, here i, (are start).1 its, known_stands items start its, chain-inside i j reaches) in
+            inr (n, subst (λ ns. Contains ns n) (sym same) (listed.listed n found), its_item n (here j) stands)
 
-pub all_items : (me : ℕ) (pairs : List Pair) (n : ℕ) (set : BTreeSet (List ℕ)) (items : List (List ℕ)) → length pairs ≤ n → items ≡ set.keys
-    → ((i : List ℕ) → IsFound (slice_cmp nat_cmp) set i ↔ Contains (take n pairs) (record { site = me; item = i })) → (i : List ℕ) → Contains items i ↔ Contains pairs (record { site = me; item = i })
-all_items me pairs n set items past keys so_far i =
-    let both = btree_set_contains_iff nat_list_cmp_total exact_bytes set i in
-    let all = take_all n pairs past in (
-      λ h. subst (λ ps. Contains ps (record { site = me; item = i })) all ((so_far i).0 (both.1 (subst (λ xs. Contains xs i) keys h))),
-      λ h. subst (λ xs. Contains xs i) (sym keys) (both.0 ((so_far i).1 (subst (λ ps. Contains ps (record { site = me; item = i })) (sym all) h))),
+    -- no more nodes are found than items are known
+    nodes_le : (known : List (List ℕ)) → HasEachItem s known → length list ≤ length known
+    nodes_le known each =
+        let node_of : List ℕ → Node = λ i. record { site = 0; item = unwrap_or (number_in (numbered s.events) i) 0; at = s.me } in
+        let laws = eq_by_cmp_equiv nodes_total in
+        let all : length nodes.found.keys ≤ length (map node_of known) = length-le_from_is_member laws nodes.found.keys (map node_of known) (IsDistinct-from_sorted node_cmp nodes.found.keys listed.ordered)
+        (λ n found. list_any-from_Contains laws n (map node_of known) (
+        let (q, (t, at, item, place)) = stand n found in
+        let number : number_in (numbered s.events) q.item ≡ Some n.item = numbered_apart s.events n.item q.item (its_item n q (t, at, item, place)) in
+        let (e, there, names) = list_any_witness (names_item q.item) s.events (sym (numbered_named s.events q.item) ∙ number_listed (numbered s.events) q.item n.item number) in
+        let (i, given, reaches) = from_given n q found (t, at, item, place) in
+        let is : node_of q.item ≡ n =
+        ap (λ o. record { site = 0; item = unwrap_or o 0; at = s.me }) number
+        ∙ ap (λ (m : ℕ). record { site = m; item = n.item; at = s.me }) (sym (the_site n.site t at).0) ∙ ap (λ (m : ℕ). record { site = n.site; item = n.item; at = m }) (sym (found_here i q reaches) ∙ place) in
+        subst (Contains (map node_of known)) is (contains-map node_of known q.item (each e q.item there ((lists_decides (items_of e.body) q.item).0 names))))) in
+        omega (arith, all, length-map known node_of, listed.count, ap length same)
+
+    -- nor more items than are unknown or found
+    spread_le : (unknown out : List (List ℕ)) → AreAscendingItems out → ((i : List ℕ) → Contains out i → Contains unknown i ⊎ HasItem s.events list i) → length out ≤ length unknown + length list
+    spread_le unknown out ascending parts =
+        let item_of : Node → List ℕ = λ n. unwrap_or (slice_get (numbered s.events) n.item) [] in
+        let laws = eq_by_cmp_equiv nat_list_cmp_total in
+        let all : length out ≤ length (unknown ++ map item_of list) = length-le_from_is_member laws out (unknown ++ map item_of list) (IsDistinct-from_sorted (slice_cmp nat_cmp) out ascending)
+        (λ i there. list_any-from_Contains laws i (unknown ++ map item_of list) (⊎_elim
+        (λ new. Contains-append_left unknown (map item_of list) i new)
+        (λ (n, at, is). Contains-append_right unknown (map item_of list) i (subst (Contains (map item_of list)) (ap (λ o. unwrap_or o []) is) (contains-map item_of list n at)))
+        (parts i (Contains-from_any (tells_apart exact_bytes) i out there)))) in
+        omega (arith, all, length-append unknown (map item_of list), length-map list item_of)
+
+    -- the looks of a spread
+    pub looks_spread : (unknown found out : List (List ℕ)) (searched looks : ℕ) → length out < 2 ^ 64 → AreAscendingItems out → ((i : List ℕ) → Contains out i → Contains unknown i ⊎ HasItem s.events list i) → length list ≤ searched → searched ≤ 0 + length list + sum_by (λ e. output_count e.body) s.events
+        → (searched + length unknown ≤ looks) ⊎ (2 ^ 64 - 1 ≤ looks) → looks ≤ searched + length items → AreLooks s items out looks
+    looks_spread unknown found out searched looks fits ascending parts least most counted given = record {
+      least = ⊎_elim (λ all. omega (arith, spread_le unknown out ascending parts, least, all)) (λ past. omega (arith, fits, past)) counted;
+      most = λ known each. omega (arith, nodes_le known each, most, given);
+    }
+
+  -- the nodes of the first so many items
+  module _ (items : List (List ℕ)) (nodes : List Node) (k : ℕ) (i : List ℕ) (below : k < length items) (at : i ≡ get_or items k i) (so_far : (n : Node) → Contains nodes n ↔ IsKnownNode s (take k items) n) where
+    pub known_pushed : (nodes' : List Node) (me number : ℕ) → me ≡ s.me → Some number ≡ number_in (numbered s.events) i → nodes' ≡ nodes ++ record { site = 0; item = number; at = me } ∷ [] → (n : Node) → Contains nodes' n ↔ IsKnownNode s (take (k + 1) items) n
+    known_pushed nodes' me number own known pushed n =
+        let new : Node = record { site = 0; item = number; at = me } in
+        let both = contains_pushed nodes new n in (
+          λ h. ⊎_elim
+              (λ before. let (j, there, is, first, its) = (so_far n).0 before in (j, (contains_more items k i below at j).1 (inl there), is, first, its))
+              (λ same. (i, (contains_more items k i below at i).1 (inr refl), sym known ∙ ap (λ (m : Node). Some m.item) same, sym (ap (λ (m : Node). m.site) same), sym (ap (λ (m : Node). m.at) same) ∙ own))
+              (both.0 (subst (λ ns. Contains ns n) pushed h)),
+          λ (j, there, is, first, its). subst (λ ns. Contains ns n) (sym pushed) (both.1 (⊎_elim
+              (λ before. inl ((so_far n).1 (j, before, is, first, its)))
+              (λ same.
+              let item : number ≡ n.item = some_is number n.item (known ∙ ap (number_in (numbered s.events)) same ∙ is) in
+              inr (ap (λ (m : ℕ). record { site = 0; item = m; at = me }) item ∙ ap (λ (m : ℕ). record { site = m; item = n.item; at = me }) (sym first) ∙ ap (λ (m : ℕ). record { site = n.site; item = n.item; at = m }) (own ∙ sym its)))
+              ((contains_more items k i below at j).0 there))),
+        )
+
+    pub known_passed : None ≡ number_in (numbered s.events) i → (n : Node) → Contains nodes n ↔ IsKnownNode s (take (k + 1) items) n
+    known_passed unknown n = (
+      λ h. let (j, there, is, first, its) = (so_far n).0 h in (j, (contains_more items k i below at j).1 (inl there), is, first, its),
+      λ (j, there, is, first, its). ⊎_elim
+          (λ before. (so_far n).1 (j, before, is, first, its))
+          (λ same. none_is n.item (unknown ∙ ap (number_in (numbered s.events)) same ∙ is))
+          ((contains_more items k i below at j).0 there),
     )
 
--- the items that are found at the site are the spread
-pub spread_there : (s : SiteEvents) (items : List (List ℕ)) (starts found lent : List Pair) (m n : ℕ) (out : List (List ℕ)) → m ≡ s.me → n ≡ s.me
-    → starts ≡ map (λ i. record { site = m; item = i }) items → ((q : Pair) → Contains found q ↔ ReachedFrom (SeeksFrom false s) starts q) → lent ≡ found
-    → ((i : List ℕ) → Contains out i ↔ Contains lent (record { site = n; item = i })) → (j : List ℕ) → Contains out j ↔ IsSpread s items j
-spread_there s items starts found lent m n out is_m is_n are reached same exact j =
-    let at = spread_found s items starts (are ∙ ap (λ (k : ℕ). map (λ i. record { site = k; item = i }) items) is_m) j in
-    let there : (k : ℕ) → k ≡ s.me → Contains lent (record { site = k; item = j }) → Contains found (here s j) =
-    λ k is h. subst (λ (k : ℕ). Contains found (record { site = k; item = j })) is (subst (λ ps. Contains ps (record { site = k; item = j })) same h) in
-    let back : (k : ℕ) → k ≡ s.me → Contains found (here s j) → Contains lent (record { site = k; item = j }) =
-    λ k is h. subst (λ (k : ℕ). Contains lent (record { site = k; item = j })) (sym is) (subst (λ ps. Contains ps (here s j)) (sym same) h) in
-    (λ h. at.0 ((reached (here s j)).0 (there n is_n ((exact j).0 h))), λ h. (exact j).1 (back n is_n ((reached (here s j)).1 (at.1 h))))
+-- those of the first so many items that no event names
+module _ (events : List Content) (items found : List (List ℕ)) (k : ℕ) (i : List ℕ) (below : k < length items) (at : i ≡ get_or items k i)
+    (so_far : (j : List ℕ) → Contains found j ↔ (Contains (take k items) j × (number_in (numbered events) j ≡ None))) where
+  pub unknown_pushed : (found' : List (List ℕ)) (copy : List ℕ) → number_in (numbered events) i ≡ None → copy ≡ i → found' ≡ found ++ copy ∷ [] → (j : List ℕ) → Contains found' j ↔ (Contains (take (k + 1) items) j × (number_in (numbered events) j ≡ None))
+  unknown_pushed found' copy unknown same pushed j =
+      let both = contains_pushed found copy j in
+      let more = contains_more items k i below at j in (
+        λ h. ⊎_elim
+            (λ before. let (there, none) = (so_far j).0 before in (more.1 (inl there), none))
+            (λ is. (more.1 (inr (sym same ∙ is)), subst (λ l. number_in (numbered events) l ≡ None) (sym same ∙ is) unknown))
+            (both.0 (subst (λ ns. Contains ns j) pushed h)),
+        λ (there, none). subst (λ ns. Contains ns j) (sym pushed) (both.1 (⊎_elim (λ before. inl ((so_far j).1 (before, none))) (λ is. inr (same ∙ is)) (more.0 there))),
+      )
 
--- the looks of a spread
-pub looks_spread : (s : SiteEvents) (items : List (List ℕ)) (starts found lent : List Pair) (m n : ℕ) (out : List (List ℕ)) (looks : ℕ) → m ≡ s.me → n ≡ s.me
-    → starts ≡ map (λ i. record { site = m; item = i }) items → IsStrictlyAscending found → ((q : Pair) → Contains found q ↔ ReachedFrom (SeeksFrom false s) starts q) → lent ≡ found
-    → AreAscendingItems out → ((i : List ℕ) → Contains out i ↔ Contains lent (record { site = n; item = i })) → length found ≤ looks → looks ≤ 0 + length found + sum_by (λ e. output_count e.body) s.events → AreLooks s items out looks
-looks_spread s items starts found lent m n out looks is_m is_n are ascending reached same rising exact least most =
-    let begun : starts ≡ map (here s) items = are ∙ ap (λ (k : ℕ). map (λ i. record { site = k; item = i }) items) is_m in
-    let at : (j : List ℕ) → Contains lent (record { site = n; item = j }) ≡ Contains found (here s j) = λ j. ap (λ ps. Contains ps (record { site = n; item = j })) same ∙ ap (λ (k : ℕ). Contains found (record { site = k; item = j })) is_n in
-    let there : length out ≤ length found = items-le s found out rising (λ j. subst (λ (T : Type 0). Contains out j ↔ T) (at j) (exact j)) in
-    record {
-      least = omega (arith, there, least);
-      most = λ known each. omega (arith, most, found-le s items known found ascending (λ q. subst (λ ps. Contains found q ↔ ReachedFrom (SeeksFrom false s) ps q) begun (reached q)) each);
-    }
+  pub unknown_passed : (number_in (numbered events) i ≡ None → ⊥) → (j : List ℕ) → Contains found j ↔ (Contains (take (k + 1) items) j × (number_in (numbered events) j ≡ None))
+  unknown_passed known j =
+      let more = contains_more items k i below at j in (
+        λ h. let (there, none) = (so_far j).0 h in (more.1 (inl there), none),
+        λ (there, none). ⊎_elim (λ before. (so_far j).1 (before, none)) (λ is. absurd (known (subst (λ l. number_in (numbered events) l ≡ None) (sym is) none))) (more.0 there),
+      )
+
+-- one look more for one item more
+pub look_counted : (begun looks looks' n n' : ℕ) → (begun + n ≤ looks) ⊎ (2 ^ 64 - 1 ≤ looks) → looks' ≡ one_look looks → n' ≡ n + 1 → (begun + n' ≤ looks') ⊎ (2 ^ 64 - 1 ≤ looks')
+look_counted begun looks looks' n n' so_far is more = ⊎_elim
+    (λ one. ⊎_elim (λ all. inl (omega (arith, all, is, one, more))) (λ past. inr (omega (arith, past, is, one))) so_far)
+    (λ (same, past). inr (omega (arith, is, same, past)))
+    (one_look_cases looks)
+
+pub look_within : (begun looks looks' k : ℕ) → looks ≤ begun + k → looks' ≡ one_look looks → looks' ≤ begun + (k + 1)
+look_within begun looks looks' k so_far is = ⊎_elim (λ one. omega (arith, so_far, is, one)) (λ (same, past). omega (arith, so_far, is, same)) (one_look_cases looks)

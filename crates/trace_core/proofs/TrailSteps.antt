@@ -22,7 +22,7 @@ use Rattle.trace_core.specs.Trails.{HaveNoRepeats, IsAt, pairs_of, GoBack, IsPat
 use Rattle.trace_core.proofs.ChainLaws.{reached_holds}
 use Rattle.trace_core.proofs.Members.{contains_none, contains_cases, contains_here, contains_there, contains-map}
 use Rattle.trace_core.proofs.PairOrder.{pairs_total, pairs_exact}
-use Rattle.trace_core.proofs.SearchSteps.{notes_none, notes_present, notes_then, notes_new}
+use Rattle.trace_core.proofs.NoteSteps.{notes_none, notes_present, notes_then, notes_new}
 use Rattle.trace_core.proofs.SetMembers.{contains-from_map, found-insert}
 
 append-nil : {X : Type 0} (xs : List X) → xs ++ [] ≡ xs

@@ -15,13 +15,13 @@ use Rattle.std.proofs.lemmas.List.{length-map, get_or-map}
 use Rattle.trace_core.specs.Chains.{Related, RelatesFrom, sites_at}
 use Rattle.trace_core.specs.Groups.{group_cmp, Gives, IsGiven, IsGivenBy, AddsUnseen, SeesOnly}
 use Rattle.trace_core.specs.Pairs.{pair_cmp, IsRelated}
-use Rattle.trace_core.specs.Searches.{IsFound, NotesAll, AreUnseen, Visits}
+use Rattle.trace_core.specs.Searches.{IsFound, AreUnseen}
 use Rattle.trace_core.specs.Sites.{SiteEvents}
 use Rattle.trace_core.proofs.GroupSteps.{adds_both, adds_same, adds_none}
 use Rattle.trace_core.proofs.PairOrder.{pairs_total, pairs_exact}
 
 -- what is gathered
-pub gathered : (G : BTreeSet Group → Pair → Type 0) (R : Pair → Type 0) (seen seen' : BTreeSet Group) (none targets : BTreeSet Pair) (nodes : List Pair) → none.keys ≡ [] → AddsUnseen G R seen seen' none targets → nodes ≡ targets.keys → AreUnseen R G seen seen' nodes
+pub gathered : (G : BTreeSet Group → Pair → Type 0) (R : Pair → Type 0) (seen seen' : BTreeSet Group) (none targets : BTreeSet Pair) (nodes : List Pair) → none.keys ≡ [] → AddsUnseen G R seen seen' (IsFound pair_cmp none) (IsFound pair_cmp targets) → nodes ≡ targets.keys → AreUnseen R G seen seen' nodes
 gathered G R seen seen' none targets nodes empty added keys =
     let not_before : (n : Pair) → IsFound pair_cmp none n → ⊥ = λ n h. false≢true (subst (λ ks. list_any (is_at (pair_cmp n)) ks ≡ true) empty h) in
     let listed : (n : Pair) → IsFound pair_cmp targets n → Contains nodes n = λ n h. subst (λ ks. Contains ks n) (sym keys) ((btree_set_contains_iff pairs_total pairs_exact targets n).0 h) in
@@ -32,11 +32,6 @@ gathered G R seen seen' none targets nodes empty added keys =
       given = λ n h. ⊎_elim (λ before. inl before) (λ found. inr (listed n found)) (added.given n h);
     }
 
--- and noted
-pub visited : (G : BTreeSet Group → Pair → Type 0) (R : Pair → Type 0) (seen seen' : BTreeSet Group) (nodes : List Pair) (found found' : BTreeSet Pair) (waiting waiting' : List Pair)
-    → AreUnseen R G seen seen' nodes → NotesAll pair_cmp found found' waiting waiting' nodes → Visits pair_cmp R G seen seen' found found' waiting waiting'
-visited G R seen seen' nodes found found' waiting waiting' unseen noted = record { nodes = nodes; noted = noted; unseen = unseen }
-
 -- no transformation gives anything
 pub none_given : (s : SiteEvents) (site : ℕ) (none : BTreeSet Group) → none.keys ≡ [] → (q : Pair) → IsGiven s site none q → ⊥
 none_given s site none empty q (first, there, gives) = false≢true (subst (λ ks. list_any (is_at (group_cmp (record { site = site; first = first }))) ks ≡ true) empty there)
@@ -45,11 +40,11 @@ pub none_given_by : (sites : List SiteEvents) (none : BTreeSet Group) → none.k
 none_given_by sites none empty q (k, s, at, given) = none_given s k none empty q given
 
 -- the site is the pair's, or relates it to nothing
-pub from_site : (s : SiteEvents) (site : ℕ) (node : Pair) (a b : BTreeSet Group) (x y : BTreeSet Pair) → s.me ≡ node.site → AddsUnseen (λ groups q. IsGiven s site groups q) (λ q. IsRelated s node.item q) a b x y
+pub from_site : (s : SiteEvents) (site : ℕ) (node : Pair) (a b : BTreeSet Group) (x y : Pair → Type 0) → s.me ≡ node.site → AddsUnseen (λ groups q. IsGiven s site groups q) (λ q. IsRelated s node.item q) a b x y
     → AddsUnseen (IsGiven s site) (RelatesFrom s node) a b x y
 from_site s site node a b x y own = adds_same (IsGiven s site) (λ q. IsRelated s node.item q) (RelatesFrom s node) a b x y (λ q. (λ h. (own, h), λ h. h.1))
 
-pub from_elsewhere : (s : SiteEvents) (site : ℕ) (node : Pair) (a : BTreeSet Group) (x : BTreeSet Pair) → (s.me ≡ node.site → ⊥) → AddsUnseen (IsGiven s site) (RelatesFrom s node) a a x x
+pub from_elsewhere : (s : SiteEvents) (site : ℕ) (node : Pair) (a : BTreeSet Group) (x : Pair → Type 0) → (s.me ≡ node.site → ⊥) → AddsUnseen (IsGiven s site) (RelatesFrom s node) a a x x
 from_elsewhere s site node a x apart = adds_none (IsGiven s site) (RelatesFrom s node) a x (λ q h. apart h.0)
 
 absent : (o : Option SiteEvents) (t : SiteEvents) → o ≡ None → o ≡ Some t → ⊥
@@ -70,7 +65,7 @@ module _ (sites : List SiteEvents) (node : Pair) where
   BySites n q = (k : ℕ) × (s : SiteEvents) × (k < n) × (slice_get sites k ≡ Some s) × RelatesFrom s node q
 
   -- what one site adds, among all
-  lifted : (n : ℕ) (s : SiteEvents) (a b : BTreeSet Group) (x y : BTreeSet Pair) → slice_get sites n ≡ Some s → AddsUnseen (IsGiven s n) (RelatesFrom s node) a b x y → SeesOnly n a b → AddsUnseen (IsGivenBy sites) (RelatesFrom s node) a b x y
+  lifted : (n : ℕ) (s : SiteEvents) (a b : BTreeSet Group) (x y : Pair → Type 0) → slice_get sites n ≡ Some s → AddsUnseen (IsGiven s n) (RelatesFrom s node) a b x y → SeesOnly n a b → AddsUnseen (IsGivenBy sites) (RelatesFrom s node) a b x y
   lifted n s a b x y at added only = record {
     stay = added.stay;
     sound = added.sound;
@@ -86,11 +81,11 @@ module _ (sites : List SiteEvents) (node : Pair) where
         (only (record { site = k; first = first }) there);
   }
 
-  pub no_site : (a : BTreeSet Group) (x : BTreeSet Pair) → AddsUnseen (IsGivenBy sites) (BySites 0) a a x x
+  pub no_site : (a : BTreeSet Group) (x : Pair → Type 0) → AddsUnseen (IsGivenBy sites) (BySites 0) a a x x
   no_site a x = adds_none (IsGivenBy sites) (BySites 0) a x (λ q (k, s, below, at, related). omega (arith, below))
 
   -- one site more
-  pub one_site : (n : ℕ) (s : SiteEvents) (a b c : BTreeSet Group) (x y z : BTreeSet Pair) → slice_get sites n ≡ Some s → AddsUnseen (IsGivenBy sites) (BySites n) a b x y
+  pub one_site : (n : ℕ) (s : SiteEvents) (a b c : BTreeSet Group) (x y z : Pair → Type 0) → slice_get sites n ≡ Some s → AddsUnseen (IsGivenBy sites) (BySites n) a b x y
       → AddsUnseen (IsGiven s n) (RelatesFrom s node) b c y z → SeesOnly n b c → AddsUnseen (IsGivenBy sites) (BySites (n + 1)) a c x z
   one_site n s a b c x y z at so_far added only = adds_same (IsGivenBy sites) (λ q. BySites n q ⊎ RelatesFrom s node q) (BySites (n + 1)) a c x z
       (λ q. (
@@ -109,7 +104,7 @@ module _ (sites : List SiteEvents) (node : Pair) where
       earlier k below other = ⊎_elim (λ lt. lt) (λ past. absurd (other (omega (arith, below, past)))) (cases_lt k n)
 
   -- all sites
-  pub all_sites_added : (n : ℕ) (a b : BTreeSet Group) (x y : BTreeSet Pair) → length sites ≤ n → AddsUnseen (IsGivenBy sites) (BySites n) a b x y → AddsUnseen (IsGivenBy sites) (Related sites node) a b x y
+  pub all_sites_added : (n : ℕ) (a b : BTreeSet Group) (x y : Pair → Type 0) → length sites ≤ n → AddsUnseen (IsGivenBy sites) (BySites n) a b x y → AddsUnseen (IsGivenBy sites) (Related sites node) a b x y
   all_sites_added n a b x y past = adds_same (IsGivenBy sites) (BySites n) (Related sites node) a b x y
       (λ q. (
         λ (k, s, below, at, related). let (lt, is) = there_at sites k s at in (k, s, lt, is, related),
@@ -124,3 +119,6 @@ site_stands refs n r below =
 
 pub as_many_sites : (refs : List (Bor SiteEvents)) (n : ℕ) → length refs ≤ n → length (sites_at refs) ≤ n
 as_many_sites refs n past = omega (arith, past, length-map refs (λ (x : Bor SiteEvents). x.now))
+
+pub as_few_sites : (refs : List (Bor SiteEvents)) (n : ℕ) → n < length refs → n < length (sites_at refs)
+as_few_sites refs n below = omega (arith, below, length-map refs (λ (x : Bor SiteEvents). x.now))

@@ -10,7 +10,7 @@ use Rattle.event_json.specs.declared.bodies.Body.{Body}
 use Rattle.trace_core.specs.declared.groups.Group.{Group}
 use Rattle.trace_core.specs.declared.pairs.Pair.{Pair}
 use Rattle.trace_core.specs.Gathering.{joined_by, shipped_by, made_by}
-use Rattle.trace_core.specs.Pairs.{pair_cmp, make_id, IsMade, IsRelated}
+use Rattle.trace_core.specs.Pairs.{make_id, IsMade, IsRelated}
 use Rattle.trace_core.specs.PairTests.{gives_out, same_id}
 use Rattle.trace_core.specs.Places.{at_place, places_where}
 use Rattle.trace_core.specs.Searches.{IsFound}
@@ -40,12 +40,12 @@ IsGiven s site seen q = (first : ℕ) × IsSeen seen site first × Gives s first
 abbrev pub IsGivenBy : List SiteEvents → BTreeSet Group → Pair → Type 0
 IsGivenBy sites seen q = (k : ℕ) × (s : SiteEvents) × (slice_get sites k ≡ Some s) × IsGiven s k seen q
 
--- the pairs of P are added but for those that transformations gave which were seen; what transformations give that are seen now is there
-pub record AddsUnseen (G : BTreeSet Group → Pair → Type 0) (P : Pair → Type 0) (seen seen' : BTreeSet Group) (old new : BTreeSet Pair) : Type 0 where
-  pub stay : (q : Pair) → IsFound pair_cmp old q → IsFound pair_cmp new q
-  pub sound : (q : Pair) → IsFound pair_cmp new q → IsFound pair_cmp old q ⊎ P q
-  pub complete : (q : Pair) → P q → IsFound pair_cmp new q ⊎ G seen q
-  pub given : (q : Pair) → G seen' q → G seen q ⊎ IsFound pair_cmp new q
+-- the pairs of P are added to those that are there, but for those that transformations gave which were seen; what transformations give that are seen now is there
+pub record AddsUnseen (G : BTreeSet Group → Pair → Type 0) (P : Pair → Type 0) (seen seen' : BTreeSet Group) (Old New : Pair → Type 0) : Type 0 where
+  pub stay : (q : Pair) → Old q → New q
+  pub sound : (q : Pair) → New q → Old q ⊎ P q
+  pub complete : (q : Pair) → P q → New q ⊎ G seen q
+  pub given : (q : Pair) → G seen' q → G seen q ⊎ New q
 
 -- only this site's transformations are seen now
 abbrev pub SeesOnly : ℕ → BTreeSet Group → BTreeSet Group → Type 0

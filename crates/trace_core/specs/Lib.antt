@@ -1,9 +1,13 @@
 pub mod Adding
 pub mod Chains
+pub mod Found
 pub mod Gathering
 pub mod Groups
+pub mod Indexes
 pub mod Laws
 pub mod Looks
+pub mod Nodes
+pub mod Numbers
 pub mod PairTests
 pub mod Pairs
 pub mod Places

@@ -1,15 +1,12 @@
 -- At which places of a list of events keys are named, and what an index of that has.
 use Rattle.std.specs.Prelude.{◌≡◌, ◌==◌, ◌<◌, ◌-◌, ℕ, Bool, true, false, not, cond, ◌&&◌, ◌||◌, if◌then◌else◌, List, [], ◌∷◌, ◌++◌, Option, Some, None, Contains, length, take, slice_get, map, filter}
-use Rattle.std.specs.BTreeMap.{BTreeMap, get, get_by_text}
+use Rattle.std.specs.BTreeMap.{BTreeMap, get_by_text}
 use Rattle.std.specs.List.{enumerate_from}
-use Rattle.std.specs.Cmp.Lexicographic.{slice_cmp}
-use Rattle.std.specs.Ordering.{nat_cmp}
 use Rattle.std.specs.declared.string.String.{String}
 use Rattle.std.specs.declared.alloc.Global.{Global}
 use Rattle.event_json.specs.Events.{Content}
 use Rattle.trace_core.specs.PairTests.{lists, same_item, same_id}
 use Rattle.trace_core.specs.Pairs.{make_id}
-use Rattle.trace_core.specs.declared.indexes.Index.{Index}
 use Rattle.trace_core.specs.Spreads.{items_of}
 
 -- the places, from 0, of those that pass, ascending
@@ -42,10 +39,6 @@ with_last place places = if ends_with place places then places else places ++ pl
 -- without this place at the end
 abbrev pub without_last : ℕ → List ℕ → List ℕ
 without_last place places = if ends_with place places then take (length places - 1) places else places
-
--- what is looked up in an index of items
-abbrev pub item_places : BTreeMap (List ℕ) (List ℕ) → List ℕ → Option (List ℕ)
-item_places index item = get (slice_cmp nat_cmp) index item
 
 -- what is looked up in an index of texts
 abbrev pub text_places : BTreeMap (String Global) (List ℕ) → List ℕ → Option (List ℕ)
@@ -80,12 +73,6 @@ IsPartAt events id place = (e : Content) × (slice_get events place ≡ Some e) 
 -- a look-up finds the places of the events that name the key, no more and no fewer, for each key
 abbrev pub IsIndex : (List ℕ → Option (List ℕ)) → (List ℕ → Content → Bool) → List Content → Type 0
 IsIndex found names events = (key : List ℕ) → found key ≡ kept (places_where (names key) events)
-
--- the index says just what the events say
-pub record HasPlaces (index : Index) (events : List Content) : Type 0 where
-  pub items : IsIndex (item_places index.items) names_item events
-  pub ids : IsIndex (text_places index.ids) has_id events
-  pub parts : IsIndex (text_places index.parts) has_part events
 
 -- the earlier places of each key, and this one for those keys that it is noted for
 abbrev pub IsNoted : (List ℕ → Option (List ℕ)) → (List ℕ → List ℕ) → ℕ → (List ℕ → Bool) → Type 0

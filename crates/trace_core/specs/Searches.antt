@@ -22,9 +22,3 @@ pub record AreUnseen {K S : Type 0} (R : K → Type 0) (G : S → K → Type 0) 
   pub sound : (n : K) → Contains nodes n → R n
   pub complete : (n : K) → R n → Contains nodes n ⊎ G seen n
   pub given : (n : K) → G seen' n → G seen n ⊎ Contains nodes n
-
--- a node is visited: the nodes that it is related to are noted, but for those that were given by what was seen before
-pub record Visits {K S : Type 0} (cmp : K → K → Ordering) (R : K → Type 0) (G : S → K → Type 0) (seen seen' : S) (found found' : BTreeSet K) (waiting waiting' : List K) : Type 0 where
-  pub nodes : List K
-  pub noted : NotesAll cmp found found' waiting waiting' nodes
-  pub unseen : AreUnseen R G seen seen' nodes

@@ -1,7 +1,8 @@
-ghost use Rattle.std.specs.Prelude.{◌≡◌, ◌++◌, ◌∷◌, [], ◌-◌, IfOk, OnOk, OnErr, length, take, slice_get, option_map};
+ghost use Rattle.std.specs.Prelude.{◌≡◌, ◌++◌, ◌∷◌, [], ◌-◌, ℕ, List, Some, IfOk, OnOk, OnErr, length, take, slice_get, option_map};
 ghost use Rattle.std.specs.List.{list_any};
 ghost use Rattle.event_json.specs.Contents.{same_content};
 ghost use Rattle.trace_core.specs.Adding.{standing_among};
+ghost use Rattle.trace_core.specs.Numbers.{IsNumbered, numbered, number_in, outs_at};
 ghost use Rattle.trace_core.specs.Pairs.{make_id};
 ghost use Rattle.trace_core.specs.PairTests.{same_id};
 ghost use Rattle.trace_core.specs.Places.{at_place, names_item, places_where};
@@ -12,6 +13,7 @@ use crate::indexes::Index;
 use epc_core::Epc;
 use event_json::{Event, PlainText};
 use std::alloc::{AllocError, Global};
+use std::collections::BTreeMap;
 use std::marker::Model;
 
 /// Events in the order in which they came, and an index of what they name.
@@ -24,7 +26,7 @@ pub struct Book {
 impl Model for Book {
     ghost use Rattle.std.specs.Prelude.{List};
     ghost use Rattle.event_json.specs.Events.{Content};
-    ghost use Rattle.trace_core.specs.Places.{HasPlaces};
+    ghost use Rattle.trace_core.specs.Indexes.{HasPlaces};
 
     ghost Value = { List Content };
 
@@ -97,8 +99,50 @@ impl Book {
     pub fn places_of(&self, item: &Epc) -> &[usize]
         ensures { result.now ≡ places_where (names_item item.now) self.now }
     {
-        match self.index.items.get(item) {
-            Some(places) => places.as_slice(),
+        self.index.items.places_of(item)
+    }
+
+    /// The number of an item that an event names, in the order in which items are first named.
+    pub fn number_of(&self, item: &Epc) -> Option<usize>
+        ensures { result ≡ number_in (numbered self.now) item.now }
+    {
+        self.index.items.number(item)
+    }
+
+    /// The item of a number.
+    pub fn item(&self, number: usize) -> Option<&Epc>
+        ensures { option_map (λ i. i.now) result ≡ slice_get (numbered self.now) number }
+    {
+        self.index.items.name(number)
+    }
+
+    /// How many items events name.
+    pub fn item_count(&self) -> usize
+        ensures { result ≡ length (numbered self.now) }
+    {
+        self.index.items.len()
+    }
+
+    /// The items that events name with their numbers, in the order of items.
+    pub fn numbers(&self) -> &BTreeMap<Epc, usize>
+        ensures { IsNumbered result.now (numbered self.now) }
+    {
+        self.index.items.numbers()
+    }
+
+    /// The places of the events that name the item of a number, ascending.
+    pub fn places_at(&self, number: usize) -> &[usize]
+        ensures { (i : List ℕ) → slice_get (numbered self.now) number ≡ Some i → result.now ≡ places_where (names_item i) self.now }
+    {
+        self.index.items.places_at(number)
+    }
+
+    /// The numbers of the outputs of the event at a place, none where there is no transformation.
+    pub fn outs_at(&self, place: usize) -> &[usize]
+        ensures { result.now ≡ outs_at self.now (slice_get self.now place) }
+    {
+        match self.index.members.get(place) {
+            Some(members) => members.outs.as_slice(),
             None => &[],
         }
     }
@@ -145,7 +189,7 @@ impl Book {
     pub fn mentions(&self, item: &Epc) -> bool
         ensures { result ≡ list_any (names_item item.now) self.now }
     {
-        self.index.items.contains_key(item)
+        !self.places_of(item).is_empty()
     }
 
     /// An equal book.

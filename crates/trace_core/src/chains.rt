@@ -1,32 +1,40 @@
-ghost use Rattle.std.specs.Prelude.{◌≡◌, ◌↔◌, IfOk, Contains};
+ghost use Rattle.std.specs.Prelude.{◌≡◌, ◌<◌, ◌≤◌, ◌⊎◌, ◌↔◌, Some, IfOk, OnOk, Contains, length, slice_get, option_map};
+ghost use Rattle.trace_core.specs.declared.nodes.Node.{Node};
 ghost use Rattle.trace_core.specs.declared.pairs.Pair.{Pair};
+ghost use Rattle.trace_core.specs.Chains.{Related, RelatesFrom, sites_at};
+ghost use Rattle.trace_core.specs.Groups.{IsGiven, SeesOnly};
+ghost use Rattle.trace_core.specs.Nodes.{Stands, Gains};
+ghost use Rattle.trace_core.specs.Numbers.{number_in, numbered};
 ghost use Rattle.trace_core.specs.Pairs.{IsStrictlyAscending};
-ghost use Rattle.trace_core.specs.Chains.{Related, sites_at};
 ghost use Rattle.trace_core.specs.Relations.{Reaches};
+ghost use Rattle.trace_core.specs.Sites.{SiteEvents};
 
+use crate::batches::pairs_of;
 use crate::captured::Captured;
-use crate::groups::{Group, gather_unseen_from};
+use crate::groups::Group;
+use crate::nodes::{Node, Nodes};
+use crate::ordered_keys::in_order;
 use crate::pairs::Pair;
 use crate::searches::{Relation, closure};
+use crate::visits::visit_item;
+use epc_core::Epc;
 use std::alloc::{AllocError, Global};
 use std::collections::BTreeSet;
 
 /// The related pairs of several sites.
 #[derive(Drop)]
-pub struct RelatedPairs<'a> {
-    /// The sites.
-    pub sites: &'a [&'a Captured],
+struct RelatedPairs<'a> {
+    sites: &'a [&'a Captured],
 }
 
 impl Relation for RelatedPairs<'_> {
     ghost use Rattle.trace_core.specs.Chains.{Related, sites_at};
-    ghost use Rattle.trace_core.specs.Targets.{all_targets};
+    ghost use Rattle.trace_core.specs.Groups.{IsGivenBy};
+    ghost use Rattle.trace_core.specs.Nodes.{Stands};
+
+    ghost stands = { λ r. Stands (sites_at r.sites.now) };
 
     ghost relates = { λ r. Related (sites_at r.sites.now) };
-
-    ghost all_targets = { λ r. all_targets (sites_at r.sites.now) };
-
-    ghost use Rattle.trace_core.specs.Groups.{IsGivenBy};
 
     ghost gives = { λ r. IsGivenBy (sites_at r.sites.now) };
 
@@ -41,19 +49,63 @@ impl Relation for RelatedPairs<'_> {
         BTreeSet::new(alloc)
     }
 
-    fn gather_unseen(
+    fn visit(
         &self,
-        alloc: Global,
-        node: &Pair,
+        node: &Node,
         seen: &mut BTreeSet<Group>,
-        pairs: &mut BTreeSet<Pair>,
+        nodes: &mut Nodes,
         looks: &mut u64,
     ) -> Result<(), AllocError> {
         for number in 0..self.sites.len() {
-            let site = self.sites[number];
-            gather_unseen_from(alloc, site, number, true, node, seen, pairs, looks)?;
+            visit_at(self.sites, number, node, seen, nodes, looks)?;
         }
         Ok(())
+    }
+}
+
+/// Notes what a node is related to by the events of one of the sites.
+fn visit_at(
+    sites: &[&Captured],
+    number: usize,
+    node: &Node,
+    seen: &mut BTreeSet<Group>,
+    nodes: &mut Nodes,
+    looks: &mut u64,
+) -> Result<(), AllocError>
+    requires { number < length sites.now }
+    ensures gains { OnOk result ((p : Pair) → Stands (sites_at sites.now) node.now p → (s : SiteEvents) → slice_get (sites_at sites.now) number ≡ Some s → Gains (Stands (sites_at sites.now)) (IsGiven s number) (RelatesFrom s p) seen.old seen.new nodes.old nodes.new) }
+    ensures only { OnOk result (SeesOnly number seen.old seen.new) }
+    ensures looks { OnOk result (looks.old ≤ looks.new) }
+{
+    let site = sites[number];
+    if site.me() == node.at {
+        if let Some(item) = number_at(sites, number, node) {
+            visit_item(site, number, true, item, seen, nodes, looks)?;
+        }
+    }
+    Ok(())
+}
+
+/// The number that a node's item has at one of the sites, if it is known there.
+fn number_at(sites: &[&Captured], number: usize, node: &Node) -> Option<usize>
+    requires { number < length sites.now }
+    ensures { (p : Pair) → Stands (sites_at sites.now) node.now p → (s : SiteEvents) → slice_get (sites_at sites.now) number ≡ Some s → result ≡ number_in (numbered s.events) p.item }
+{
+    if node.site == number {
+        Some(node.item)
+    } else {
+        sites[number].book().number_of(item_of(sites, node)?)
+    }
+}
+
+/// A node's item.
+fn item_of<'a>(sites: &[&'a Captured], node: &Node) -> Option<&'a Epc>
+    ensures { (p : Pair) → Stands (sites_at sites.now) node.now p ↔ ((option_map (λ i. i.now) result ≡ Some p.item) × (p.site ≡ node.now.at)) }
+{
+    if node.site < sites.len() {
+        sites[node.site].book().item(node.item)
+    } else {
+        None
     }
 }
 
@@ -66,7 +118,28 @@ pub fn reach(alloc: Global, sites: &[&Captured], root: &Pair) -> Result<Vec<Pair
     ensures reached { IfOk result (λ pairs. (p : Pair) → Contains pairs.items p ↔ Reaches (Related (sites_at sites.now)) root.now p) }
 {
     let mut looks = 0;
-    let mut starts = Vec::new(alloc);
-    starts.push(root.copy(alloc)?)?;
-    closure(alloc, &RelatedPairs { sites }, starts, &mut looks)
+    let starts = nodes_of(alloc, sites, root)?;
+    let nodes = closure(alloc, &RelatedPairs { sites }, &starts, &mut looks)?;
+    let mut pairs = pairs_of(alloc, sites, &nodes.list)?;
+    if starts.is_empty() {
+        pairs.push(root.copy(alloc)?)?;
+    }
+    in_order(pairs)
+}
+
+/// The nodes that stand for a pair: one for each site that knows its item.
+fn nodes_of(alloc: Global, sites: &[&Captured], pair: &Pair) -> Result<Vec<Node>, AllocError>
+    ensures { IfOk result (λ nodes. (n : Node) → Contains nodes.items n ↔ Stands (sites_at sites.now) n pair.now) }
+{
+    let mut nodes = Vec::new(alloc);
+    for number in 0..sites.len() {
+        if let Some(item) = sites[number].book().number_of(&pair.item) {
+            nodes.push(Node {
+                site: number,
+                item,
+                at: pair.site,
+            })?;
+        }
+    }
+    Ok(nodes)
 }

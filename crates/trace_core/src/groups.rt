@@ -4,8 +4,9 @@ ghost use Rattle.trace_core.specs.declared.pairs.Pair.{Pair};
 ghost use Rattle.trace_core.specs.Gathering.{is_in, shipped_by};
 ghost use Rattle.trace_core.specs.Groups.{outs_of, IsGiven, AddsUnseen, SeesOnly, first_of, group_outputs, LooksAtUnseen, sought_by, IsSought, SeeksFrom};
 ghost use Rattle.trace_core.specs.Looks.{LooksAtMost};
-ghost use Rattle.trace_core.specs.Pairs.{make_id};
+ghost use Rattle.trace_core.specs.Pairs.{pair_cmp, make_id};
 ghost use Rattle.trace_core.specs.Places.{at_place};
+ghost use Rattle.trace_core.specs.Searches.{IsFound};
 
 use crate::books::Book;
 use crate::captured::Captured;
@@ -38,7 +39,7 @@ pub fn gather_unseen_from(
     pairs: &mut BTreeSet<Pair>,
     looks: &mut u64,
 ) -> Result<(), AllocError>
-    ensures added { OnOk result (AddsUnseen (IsGiven site.now number) (SeeksFrom ships site.now node.now) seen.old seen.new pairs.old pairs.new) }
+    ensures added { OnOk result (AddsUnseen (IsGiven site.now number) (SeeksFrom ships site.now node.now) seen.old seen.new (IsFound pair_cmp pairs.old) (IsFound pair_cmp pairs.new)) }
     ensures only { OnOk result (SeesOnly number seen.old seen.new) }
     ensures looks { OnOk result (LooksAtUnseen number site.now.events seen.old seen.new looks.old looks.new) }
 {
@@ -60,7 +61,7 @@ fn gather_unseen(
     pairs: &mut BTreeSet<Pair>,
     looks: &mut u64,
 ) -> Result<(), AllocError>
-    ensures added { OnOk result (AddsUnseen (λ groups q. IsGiven site.now number groups q) (λ q. IsSought ships site.now item.now q) seen.old seen.new pairs.old pairs.new) }
+    ensures added { OnOk result (AddsUnseen (λ groups q. IsGiven site.now number groups q) (λ q. IsSought ships site.now item.now q) seen.old seen.new (IsFound pair_cmp pairs.old) (IsFound pair_cmp pairs.new)) }
     ensures only { OnOk result (SeesOnly number seen.old seen.new) }
     ensures looks { OnOk result (LooksAtUnseen number site.now.events seen.old seen.new looks.old looks.new) }
 {
@@ -95,7 +96,7 @@ fn gather_unseen_at(
     pairs: &mut BTreeSet<Pair>,
     looks: &mut u64,
 ) -> Result<(), AllocError>
-    ensures added { OnOk result (AddsUnseen (λ groups q. IsGiven (record { me = me; events = book.now }) number groups q) (λ q. at_place (λ e. sought_by ships me book.now item.now e.body q) (slice_get book.now place) ≡ true) seen.old seen.new pairs.old pairs.new) }
+    ensures added { OnOk result (AddsUnseen (λ groups q. IsGiven (record { me = me; events = book.now }) number groups q) (λ q. at_place (λ e. sought_by ships me book.now item.now e.body q) (slice_get book.now place) ≡ true) seen.old seen.new (IsFound pair_cmp pairs.old) (IsFound pair_cmp pairs.new)) }
     ensures only { OnOk result (SeesOnly number seen.old seen.new) }
     ensures looks { OnOk result (LooksAtUnseen number book.now seen.old seen.new looks.old looks.new) }
 {
@@ -152,7 +153,7 @@ fn gather_group(
 
 /// The place that stands for the transformation of the event at a place: that of the first part with its
 /// id, and its own where it has none.
-fn first_part(book: &Book, place: usize, body: &Body) -> usize
+pub fn first_part(book: &Book, place: usize, body: &Body) -> usize
     ensures first { result ≡ first_of book.now place body.now }
     ensures outputs { (e : Content) (j : List ℕ) → slice_get book.now place ≡ Some e → e.body ≡ body.now → at_place (λ f. outs_of book.now j f.body) (slice_get book.now result) ≡ outs_of book.now j body.now }
 {

@@ -1,22 +1,25 @@
-ghost use Rattle.std.specs.Prelude.{◌≡◌, ◌++◌, ◌∷◌, [], List, Some, OnOk, OnErr, length, option_map};
+ghost use Rattle.std.specs.Prelude.{◌≡◌, ◌++◌, ◌∷◌, [], List, OnOk, OnErr, length};
 ghost use Rattle.event_json.specs.Events.{Content};
-ghost use Rattle.trace_core.specs.Pairs.{make_id};
-ghost use Rattle.trace_core.specs.Places.{HasPlaces};
+ghost use Rattle.trace_core.specs.Indexes.{HasIds, HasItems, HasPlaces};
 
+use crate::event_items::{Members, forget_items_of, note_items_of};
 use crate::gathering::make_id;
 use crate::ids::{forget_id, note_id};
-use crate::places::{Places, forget_items_of, note_items_of};
-use epc_core::Epc;
+use crate::items::Items;
+use crate::places::Places;
 use event_json::Event;
 use std::alloc::{AllocError, Global};
 use std::collections::BTreeMap;
 
-/// At which places of a list of events items, eventIDs and the ids of transformations stand. What is
-/// looked up stands in ordered maps, so that no choice of texts makes a look-up slow.
+/// At which places of a list of events items, eventIDs and the ids of transformations stand, and which
+/// outputs each event has. What is looked up stands in ordered maps, so that no choice of texts makes a
+/// look-up slow.
 #[derive(Debug, Drop)]
 pub struct Index {
-    /// By item: the events that name it.
-    pub items: BTreeMap<Epc, Places>,
+    /// By item: its number, and the events that name it.
+    pub items: Items,
+    /// By event: its members.
+    pub members: Vec<Members>,
     /// By eventID: the events that have it.
     pub ids: BTreeMap<String, Places>,
     /// By transformationID: the transformations that have it.
@@ -29,7 +32,8 @@ impl Index {
         ensures { HasPlaces result [] }
     {
         Index {
-            items: BTreeMap::new(alloc),
+            items: Items::new(alloc),
+            members: Vec::new(alloc),
             ids: BTreeMap::new(alloc),
             parts: BTreeMap::new(alloc),
         }
@@ -41,25 +45,57 @@ impl Index {
         ensures ok { OnOk result ((events : List Content) → place ≡ length events → HasPlaces self.old events → HasPlaces self.new (events ++ event.now ∷ [])) }
         ensures err { OnErr result ((events : List Content) → place ≡ length events → HasPlaces self.old events → HasPlaces self.new events) }
     {
-        note_items_of(alloc, &mut self.items, event.body(), place)?;
-        if note_id(alloc, &mut self.ids, event.id(), place).is_err() {
-            forget_items_of(&mut self.items, event.body(), place);
-            return Err(AllocError);
+        let known = self.items.len();
+        self.members.reserve(1)?;
+        let outs = note_items_of(alloc, &mut self.items, event.body(), place)?;
+        match note_ids(alloc, &mut self.ids, &mut self.parts, event, place) {
+            Ok(()) => {
+                self.members.push_reserved(Members { known, outs });
+                Ok(())
+            }
+            Err(_) => {
+                forget_items_of(&mut self.items, event.body(), place, known);
+                Err(AllocError)
+            }
         }
-        if note_id(alloc, &mut self.parts, make_id(event.body()), place).is_err() {
-            forget_id(&mut self.ids, event.id(), place);
-            forget_items_of(&mut self.items, event.body(), place);
-            return Err(AllocError);
-        }
-        Ok(())
     }
 
     /// Takes away the last event, which stood at a place. Takes no memory.
     pub fn forget(&mut self, event: &Event, place: usize)
         ensures { (events : List Content) → place ≡ length events → HasPlaces self.old (events ++ event.now ∷ []) → HasPlaces self.new events }
     {
-        forget_items_of(&mut self.items, event.body(), place);
+        forget_members(&mut self.items, &mut self.members, event, place);
         forget_id(&mut self.ids, event.id(), place);
         forget_id(&mut self.parts, make_id(event.body()), place);
+    }
+}
+
+/// Takes away the members of the last event, which stood at a place. Takes no memory.
+fn forget_members(items: &mut Items, members: &mut Vec<Members>, event: &Event, place: usize)
+    ensures { (events : List Content) → place ≡ length events → HasItems items.old members.old.items (events ++ event.now ∷ []) → HasItems items.new members.new.items events }
+{
+    if let Some(own) = members.pop() {
+        forget_items_of(items, event.body(), place, own.known);
+    }
+}
+
+/// Notes the ids of the event that comes at a place. An `Err` changes nothing that can be looked up.
+fn note_ids(
+    alloc: Global,
+    ids: &mut BTreeMap<String, Places>,
+    parts: &mut BTreeMap<String, Places>,
+    event: &Event,
+    place: usize,
+) -> Result<(), AllocError>
+    ensures ok { OnOk result ((events : List Content) → place ≡ length events → HasIds ids.old parts.old events → HasIds ids.new parts.new (events ++ event.now ∷ [])) }
+    ensures err { OnErr result ((events : List Content) → place ≡ length events → HasIds ids.old parts.old events → HasIds ids.new parts.new events) }
+{
+    note_id(alloc, ids, event.id(), place)?;
+    match note_id(alloc, parts, make_id(event.body()), place) {
+        Ok(()) => Ok(()),
+        Err(_) => {
+            forget_id(ids, event.id(), place);
+            Err(AllocError)
+        }
     }
 }

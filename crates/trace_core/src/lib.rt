@@ -5,21 +5,28 @@
 #![tactic(auto)]
 
 mod adding;
+mod batches;
 mod books;
 mod captured;
 mod chains;
+mod event_items;
+mod found_items;
 mod gathering;
 mod groups;
 mod ids;
 mod indexes;
+mod items;
 pub mod laws;
 mod looks;
+mod nodes;
 mod ordered_keys;
 mod pairs;
 mod places;
 mod searches;
 mod spreads;
+mod targets;
 mod trails;
+mod visits;
 
 pub use adding::{AddFault, Added, Standing};
 pub use captured::Captured;

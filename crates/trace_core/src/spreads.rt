@@ -1,7 +1,10 @@
-ghost use Rattle.std.specs.Prelude.{◌≡◌, ◌↔◌, ◌||◌, IfOk, OnOk, ℕ, List, Contains, map, slice_get};
+ghost use Rattle.std.specs.Prelude.{◌≡◌, ◌≤◌, ◌+◌, ◌-◌, ◌^◌, ◌⊎◌, ◌↔◌, ◌||◌, IfOk, OnOk, ℕ, List, None, Contains, length, map, slice_get};
 ghost use Rattle.std.specs.List.{list_any};
+ghost use Rattle.trace_core.specs.declared.nodes.Node.{Node};
 ghost use Rattle.trace_core.specs.declared.pairs.Pair.{Pair};
 ghost use Rattle.trace_core.specs.Gathering.{is_in, added_by, joins};
+ghost use Rattle.trace_core.specs.Nodes.{HasItem, IsKnownNode};
+ghost use Rattle.trace_core.specs.Numbers.{number_in, numbered};
 ghost use Rattle.trace_core.specs.Pairs.{IsStrictlyAscending};
 ghost use Rattle.trace_core.specs.PairTests.{takes_in};
 ghost use Rattle.trace_core.specs.Places.{at_place};
@@ -9,11 +12,15 @@ ghost use Rattle.trace_core.specs.Spreads.{AreAscendingItems, IsSpread, AreLooks
 
 use crate::books::Book;
 use crate::captured::Captured;
+use crate::found_items::items_of_numbers;
 use crate::gathering::{gather, gather_outputs, make_id, takes_in};
-use crate::groups::{Group, gather_unseen_from};
-use crate::ordered_keys::keys_in_order;
+use crate::groups::Group;
+use crate::looks::count_look;
+use crate::nodes::{Node, Nodes};
+use crate::ordered_keys::{in_order, keys_in_order};
 use crate::pairs::Pair;
 use crate::searches::{Relation, closure};
+use crate::visits::visit_item;
 use epc_core::Epc;
 use event_json::{Body, Event, SiteNo};
 use std::alloc::{AllocError, Global};
@@ -40,9 +47,11 @@ impl Captured {
     {
         let alloc = self.alloc();
         let mut looks = 0;
-        let starts = pairs_at(alloc, self.me(), items)?;
-        let found = closure(alloc, &SitePairs { site: self }, starts, &mut looks)?;
-        let items = items_at(alloc, self.me(), &found)?;
+        let starts = nodes_of(alloc, self, items)?;
+        let nodes = closure(alloc, &SitePairs { site: self }, &starts, &mut looks)?;
+        let mut found = unknown_items(alloc, self.book(), items, &mut looks)?;
+        push_items(alloc, self.book(), &nodes.list, &mut found)?;
+        let items = in_order(found)?;
         Ok((items, looks))
     }
 
@@ -77,14 +86,14 @@ struct SitePairs<'a> {
 }
 
 impl Relation for SitePairs<'_> {
-    ghost use Rattle.std.specs.Prelude.{⊤, false, sum_by};
+    ghost use Rattle.std.specs.Prelude.{⊤, ◌∷◌, [], false, sum_by};
     ghost use Rattle.trace_core.specs.Groups.{SeeksFrom, unseen_outputs};
+    ghost use Rattle.trace_core.specs.Nodes.{Stands};
     ghost use Rattle.trace_core.specs.Spreads.{output_count};
-    ghost use Rattle.trace_core.specs.Targets.{site_targets};
+
+    ghost stands = { λ r. Stands (r.site.now ∷ []) };
 
     ghost relates = { λ r. SeeksFrom false r.site.now };
-
-    ghost all_targets = { λ r. site_targets r.site.now };
 
     ghost use Rattle.trace_core.specs.Groups.{IsGiven};
 
@@ -100,44 +109,77 @@ impl Relation for SitePairs<'_> {
         BTreeSet::new(alloc)
     }
 
-    fn gather_unseen(
+    fn visit(
         &self,
-        alloc: Global,
-        node: &Pair,
+        node: &Node,
         seen: &mut BTreeSet<Group>,
-        pairs: &mut BTreeSet<Pair>,
+        nodes: &mut Nodes,
         looks: &mut u64,
     ) -> Result<(), AllocError> {
-        gather_unseen_from(alloc, self.site, 0, false, node, seen, pairs, looks)
+        if node.at == self.site.me() {
+            visit_item(self.site, 0, false, node.item, seen, nodes, looks)?;
+        }
+        Ok(())
     }
 }
 
-/// The items at a site.
-fn pairs_at(alloc: Global, me: SiteNo, items: &[Epc]) -> Result<Vec<Pair>, AllocError>
-    ensures { IfOk result (λ pairs. pairs.items ≡ map (λ i. record { site = me; item = i }) items.now) }
+/// The nodes of those of the items that are known.
+fn nodes_of(alloc: Global, site: &Captured, items: &[Epc]) -> Result<Vec<Node>, AllocError>
+    ensures { IfOk result (λ nodes. (n : Node) → Contains nodes.items n ↔ IsKnownNode site.now items.now n) }
 {
-    let mut pairs = Vec::new(alloc);
+    let mut nodes = Vec::new(alloc);
     for item in items {
-        pairs.push(Pair {
-            site: me,
-            item: item.copy(alloc)?,
-        })?;
-    }
-    Ok(pairs)
-}
-
-/// The items of those pairs that are at a site, ascending and without repeats.
-fn items_at(alloc: Global, me: SiteNo, pairs: &[Pair]) -> Result<Vec<Epc>, AllocError>
-    ensures ascending { IfOk result (λ items. AreAscendingItems items.items) }
-    ensures exact { IfOk result (λ items. (i : List ℕ) → Contains items.items i ↔ Contains pairs.now (record { site = me; item = i })) }
-{
-    let mut items = BTreeSet::new(alloc);
-    for pair in pairs {
-        if pair.site == me {
-            items.insert(pair.item.copy(alloc)?)?;
+        if let Some(number) = site.book().number_of(item) {
+            nodes.push(Node {
+                site: 0,
+                item: number,
+                at: site.me(),
+            })?;
         }
     }
-    keys_in_order(alloc, items)
+    Ok(nodes)
+}
+
+/// Those of the items that no event names. Each is a look.
+fn unknown_items(
+    alloc: Global,
+    book: &Book,
+    items: &[Epc],
+    looks: &mut u64,
+) -> Result<Vec<Epc>, AllocError>
+    ensures unknown { IfOk result (λ found. (i : List ℕ) → Contains found.items i ↔ (Contains items.now i × (number_in (numbered book.now) i ≡ None))) }
+    ensures least { IfOk result (λ found. (looks.old + length found.items ≤ looks.new) ⊎ (2 ^ 64 - 1 ≤ looks.new)) }
+    ensures most { looks.new ≤ looks.old + length items.now }
+{
+    let mut found = Vec::new(alloc);
+    for item in items {
+        if book.number_of(item).is_none() {
+            count_look(looks);
+            found.push(item.copy(alloc)?)?;
+        }
+    }
+    Ok(found)
+}
+
+/// Adds the items that nodes stand for. They ascend where they are many of the site's.
+fn push_items(
+    alloc: Global,
+    book: &Book,
+    nodes: &[Node],
+    found: &mut Vec<Epc>,
+) -> Result<(), AllocError>
+    ensures { OnOk result ((i : List ℕ) → Contains found.new.items i ↔ (Contains found.old.items i ⊎ HasItem book.now nodes.now i)) }
+{
+    let numbers = numbers_of(alloc, nodes)?;
+    let mut items = items_of_numbers(alloc, book, &numbers)?;
+    found.append(&mut items)
+}
+
+/// The numbers of nodes.
+fn numbers_of(alloc: Global, nodes: &[Node]) -> Result<Vec<usize>, AllocError>
+    ensures { IfOk result (λ numbers. numbers.items ≡ map (λ n. n.item) nodes.now) }
+{
+    nodes.iter().map(|node| node.item).collect(alloc)
 }
 
 /// Adds the pairs that an item would be related to by one event more: those of the event, and its

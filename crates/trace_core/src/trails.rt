@@ -4,9 +4,8 @@ ghost use Rattle.trace_core.specs.Relations.{Reaches};
 ghost use Rattle.trace_core.specs.Trails.{IsTrail, HaveNoRepeats, IsShortest, GoBack, IsTraced, NotesSteps};
 
 use crate::captured::Captured;
-use crate::chains::RelatedPairs;
 use crate::pairs::Pair;
-use crate::searches::{Relation, unseen_targets};
+use crate::targets::unseen_targets;
 use std::alloc::{AllocError, Global};
 use std::collections::{BTreeSet, VecDeque};
 
@@ -32,9 +31,7 @@ pub fn trail(
     ensures shortest { IfOk result (λ found. IfSome found (λ pairs. IsShortest (sites_at sites.now) root.now target.now pairs.items)) }
     ensures none { IfOk result (λ found. IfNone found (Reaches (Related (sites_at sites.now)) root.now target.now → ⊥)) }
 {
-    let relation = RelatedPairs { sites };
-    let mut groups = relation.none_seen(alloc);
-    let mut looks = 0;
+    let mut groups = BTreeSet::new(alloc);
     let mut steps = Vec::new(alloc);
     let mut seen = BTreeSet::new(alloc);
     steps.push(Step {
@@ -47,8 +44,8 @@ pub fn trail(
         if steps[place].pair == *target {
             return Ok(Some(traced(alloc, &steps, place)?));
         }
-        let node = &steps[place].pair;
-        let targets = unseen_targets(alloc, &relation, node, &mut groups, &mut looks)?;
+        let pair = &steps[place].pair;
+        let targets = unseen_targets(alloc, sites, pair, &mut groups)?;
         note_steps(alloc, &mut steps, &mut seen, place, targets)?;
         place += 1;
     }

@@ -1,16 +1,13 @@
-use Rattle.std.proofs.Common.{◌+◌, ◌-◌, ◌++◌, length}
-use Rattle.std.specs.BTreeSet.{btree_set_len}
-use Rattle.trace_core.specs.Pairs.{pair_cmp}
-use Rattle.trace_core.proofs.SearchLooks.{CountsLooks}
-use Rattle.trace_core.proofs.SearchSteps.{GroupSearches}
+use Rattle.std.proofs.Common.{◌-◌, ◌^◌}
+use Rattle.trace_core.proofs.NodeSteps.{CountsLooks, Searching}
 use Rattle.trace_core.proofs.searches.closure.Given as goal
 
-abbrev pub invariant-loop-node : goal.invariant-loop-node
-invariant-loop-node g l = record {
-  searches : GroupSearches pair_cmp (g.R.Relation.relates l.relation) l.fn.starts.items (g.R.Relation.all_targets l.relation) (g.R.Relation.gives l.relation) l.seen l.found l.waiting.items;
-  counts : CountsLooks (g.R.Relation.bounds_looks l.relation) (g.R.Relation.outputs l.relation) (g.R.Relation.unseen l.relation l.seen) l.initial.looks l.looks l.found l.waiting.items;
+abbrev pub invariant-loop-place : goal.invariant-loop-place
+invariant-loop-place g l = record {
+  searches : Searching (g.R.Relation.stands l.relation) (g.R.Relation.relates l.relation) (g.R.Relation.gives l.relation) l.starts l.seen l.nodes l.place;
+  counts : CountsLooks (g.R.Relation.bounds_looks l.relation) (g.R.Relation.outputs l.relation) (g.R.Relation.unseen l.relation l.seen) l.initial.looks l.looks l.place;
 }
 
--- how many are not found yet, and how many are waiting
-abbrev pub decreases-loop-node : goal.decreases-loop-node
-decreases-loop-node g l = length (l.fn.starts.items ++ g.R.Relation.all_targets l.relation) + length l.waiting.items - btree_set_len l.found
+-- how many places may be left
+abbrev pub decreases-loop-place : goal.decreases-loop-place
+decreases-loop-place g l = 2 ^ 64 - l.place

@@ -1,6 +1,6 @@
 use Rattle.std.proofs.Common.{List, subst, sym, arith}
 use Rattle.event_json.specs.Events.{Content}
-use Rattle.trace_core.specs.Places.{HasPlaces}
+use Rattle.trace_core.specs.Indexes.{HasPlaces}
 use Rattle.trace_core.proofs.books.Book.push.Goals as goal
 
 pub invariant_of-self-2 : goal.invariant_of-self-2

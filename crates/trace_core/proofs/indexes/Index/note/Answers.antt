@@ -1,46 +1,46 @@
-use Rattle.trace_core.specs.Pairs.{make_id}
-use Rattle.trace_core.specs.Places.{item_places, text_places, names_item, has_id, has_part}
-use Rattle.trace_core.proofs.PlaceLists.{notes_items_of, forgets_items_of, notes_id, forgets_id, id_of_body, index_more, index_same, index_back, index_unchanged, when_ok, when_err}
+use Rattle.std.proofs.Common.{List, ◌∷◌, [], ◌++◌, sym, ap, subst, ◌∙◌}
+use Rattle.event_json.specs.declared.bodies.Body.{Body}
+use Rattle.trace_core.specs.Numbers.{HasMembers, names_of, numbers_of, outs_in}
+use Rattle.trace_core.specs.declared.event_items.Members.{Members}
+use Rattle.trace_core.proofs.IndexSteps.{items_noted, names_noted, items_kept, names_kept, items_undone, names_undone, members_more, count_names}
 use Rattle.trace_core.proofs.PlaceSteps.{after_fault}
 use Rattle.trace_core.proofs.indexes.Index.note.Goals as goal
 
 -- the items weren't noted
-pub returns-in_err-note_items_of-clause-err : goal.returns-in_err-note_items_of-clause-err
-returns-in_err-note_items_of-clause-err c = after_fault c.from_residual.result (λ events last before. record {
-  items = index_same (item_places c.args.self.now.items) (item_places c.note_items_of.new.index) names_item events c.args.place last c.in_err-note_items_of.ensures.err before.items;
+pub returns-in_err-outs-clause-err : goal.returns-in_err-outs-clause-err
+returns-in_err-outs-clause-err c = after_fault c.from_residual-in_err-outs.result (λ events last before. record {
+  items = record {
+    places = items_kept c.args.self.now.items events c.args.place last before.items.names before.items.places c.note_items_of.new.known c.in_err-outs.ensures.err;
+    names = names_kept c.args.self.now.items events c.args.place last before.items.names before.items.places c.note_items_of.new.known c.in_err-outs.ensures.err;
+    members = subst (λ (ms : List Members). HasMembers events ms) (sym c.in_ok-reserve.ensures.items) before.items.members;
+  };
   ids = before.ids;
-  parts = before.parts;
 })
 
--- the eventID wasn't
-pub returns-then-is_err-clause-err : goal.returns-then-is_err-clause-err
-returns-then-is_err-clause-err c events last before = record {
-  items = index_back (item_places c.args.self.now.items) (item_places c.note_items_of.new.index) (item_places c.forget_items_of.new.index) names_item events c.args.place c.args.event.now last
-      (notes_items_of _ _ c.args.place c.args.event.now c.body.result.now c.body.ensures.value c.in_ok-note_items_of.ensures.ok)
-      (forgets_items_of _ _ c.args.place c.args.event.now c.body-then-is_err.result.now c.body-then-is_err.ensures.value c.forget_items_of.ensures) before.items;
-  ids = index_unchanged (text_places c.args.self.now.ids) (text_places c.note_id.new.index) has_id events (when_err c.note_id.result c.is_err.result c.is_err.ensures.value c.if-is_err.true c.note_id.ensures.err) before.ids;
-  parts = before.parts;
-}
+pub returns-in-Ok-clause-ok : goal.returns-in-Ok-clause-ok
+returns-in-Ok-clause-ok c events last before =
+    let names = names_noted c.args.self.now.items events c.args.place last before.items.names before.items.places c.note_items_of.new.known c.args.event.now c.body.result.now c.body.ensures.value c.in_ok-outs.ensures.ok in
+    record {
+      items = record {
+        places = items_noted c.args.self.now.items events c.args.place last before.items.names before.items.places c.note_items_of.new.known c.args.event.now c.body.result.now c.body.ensures.value c.in_ok-outs.ensures.ok;
+        names = names;
+        members = subst (λ (ms : List Members). HasMembers (events ++ c.args.event.now ∷ []) ms) (sym c.push_reserved.ensures.items)
+            (members_more events c.args.event.now c.reserve.new.self.items _ (subst (λ (ms : List Members). HasMembers events ms) (sym c.in_ok-reserve.ensures.items) before.items.members)
+            (c.len-known.ensures ∙ sym (count_names c.args.self.now.items events before.items.names))
+            (c.in_ok-outs.ensures.outs ∙ ap (λ (b : Body). numbers_of (names_of c.note_items_of.new.known) (outs_in b)) c.body.ensures.value ∙ ap (λ ns. numbers_of ns (outs_in c.args.event.now.body)) names));
+      };
+      ids = c.in-Ok.ensures.ok events last before.ids;
+    }
 
--- the id of a transformation wasn't
-pub returns-then-is_err-2-clause-err : goal.returns-then-is_err-2-clause-err
-returns-then-is_err-2-clause-err c events last before = record {
-  items = index_back (item_places c.args.self.now.items) (item_places c.note_items_of.new.index) (item_places c.forget_items_of-then-is_err-2.new.index) names_item events c.args.place c.args.event.now last
-      (notes_items_of _ _ c.args.place c.args.event.now c.body.result.now c.body.ensures.value c.in_ok-note_items_of.ensures.ok)
-      (forgets_items_of _ _ c.args.place c.args.event.now c.body-then-is_err-2.result.now c.body-then-is_err-2.ensures.value c.forget_items_of-then-is_err-2.ensures) before.items;
-  ids = index_back (text_places c.args.self.now.ids) (text_places c.note_id.new.index) (text_places c.forget_id.new.index) has_id events c.args.place c.args.event.now last
-      (notes_id _ _ c.args.place c.args.event.now _ c.args.event.now.id c.id.ensures.value (when_ok c.note_id.result c.is_err.result c.is_err.ensures.value c.if-is_err.false c.note_id.ensures.ok))
-      (forgets_id _ _ c.args.place c.args.event.now _ c.args.event.now.id c.id-then-is_err-2.ensures.value c.forget_id.ensures) before.ids;
-  parts = index_unchanged (text_places c.args.self.now.parts) (text_places c.note_id-2.new.index) has_part events (when_err c.note_id-2.result c.is_err-2.result c.is_err-2.ensures.value c.if-is_err-2.true c.note_id-2.ensures.err) before.parts;
-}
-
-pub returns-clause-ok : goal.returns-clause-ok
-returns-clause-ok c events last before = record {
-  items = index_more (item_places c.args.self.now.items) (item_places c.note_items_of.new.index) names_item events c.args.place last c.args.event.now
-      (notes_items_of _ _ c.args.place c.args.event.now c.body.result.now c.body.ensures.value c.in_ok-note_items_of.ensures.ok) before.items;
-  ids = index_more (text_places c.args.self.now.ids) (text_places c.note_id.new.index) has_id events c.args.place last c.args.event.now
-      (notes_id _ _ c.args.place c.args.event.now _ c.args.event.now.id c.id.ensures.value (when_ok c.note_id.result c.is_err.result c.is_err.ensures.value c.if-is_err.false c.note_id.ensures.ok)) before.ids;
-  parts = index_more (text_places c.args.self.now.parts) (text_places c.note_id-2.new.index) has_part events c.args.place last c.args.event.now
-      (notes_id _ _ c.args.place c.args.event.now _ (make_id c.args.event.now.body) (id_of_body _ c.body-2.result.now c.args.event.now c.make_id.ensures c.body-2.ensures.value)
-      (when_ok c.note_id-2.result c.is_err-2.result c.is_err-2.ensures.value c.if-is_err-2.false c.note_id-2.ensures.ok)) before.parts;
+-- the rest wasn't
+pub returns-in-Err-clause-err : goal.returns-in-Err-clause-err
+returns-in-Err-clause-err c events last before = record {
+  items = record {
+    places = items_undone c.args.self.now.items events c.args.place last before.items.names before.items.places c.note_items_of.new.known c.forget_items_of.new.known c.args.event.now c.body.result.now c.body-in-Err.result.now
+        c.body.ensures.value c.body-in-Err.ensures.value c.len-known.result c.len-known.ensures c.in_ok-outs.ensures.ok c.forget_items_of.ensures;
+    names = names_undone c.args.self.now.items events c.args.place last before.items.names before.items.places c.note_items_of.new.known c.forget_items_of.new.known c.args.event.now c.body.result.now c.body-in-Err.result.now
+        c.body.ensures.value c.body-in-Err.ensures.value c.len-known.result c.len-known.ensures c.in_ok-outs.ensures.ok c.forget_items_of.ensures;
+    members = subst (λ (ms : List Members). HasMembers events ms) (sym c.in_ok-reserve.ensures.items) before.items.members;
+  };
+  ids = c.in-Err.ensures.err events last before.ids;
 }

@@ -1,0 +1,17 @@
+use Rattle.std.specs.List.{Contains}
+use Rattle.trace_core.proofs.FoundSteps.{IsMarked, marked_found, nothing_has, all_given}
+use Rattle.trace_core.proofs.Gathered.{gathering_begins, gathering_goes_on, gathering_ends}
+use Rattle.trace_core.proofs.found_items.marked_items.Goals as goal
+
+pub loop-name-init : goal.loop-name-init
+loop-name-init c = gathering_begins (IsMarked c.args.marks.now) c.args.known.now.entries (λ i. ⊥) c.into_iter-name-iterator.result (Contains c.new-items.result.items)
+    c.into_iter-name-iterator.ensures.into_iter_gives.0 (nothing_has c.new-items.result.items c.new-items.ensures.items)
+
+pub loop-name-preserved : goal.loop-name-preserved
+loop-name-preserved c = gathering_goes_on (IsMarked c.args.marks.now) c.args.known.now.entries (λ i. ⊥) c.loop-name.name-iterator c.next.new.self _ (Contains c.loop-name.items.items) (Contains c.push_if_marked.new.items.items) c.in-Some.ensures.steps
+    c.in_ok-push_if_marked.ensures c.loop-name.invariant
+
+pub returns : goal.returns
+returns c i = all_given
+    (gathering_ends (IsMarked c.args.marks.now) c.args.known.now.entries (λ i. ⊥) c.loop-name.name-iterator (Contains c.loop-name.items.items) c.in-None.ensures.steps.0 c.loop-name.invariant i)
+    (marked_found c.args.known.now c.args.marks.now c.into_iter-name-iterator.ensures.into_iter_gives.5 i)

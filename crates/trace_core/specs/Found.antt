@@ -1,0 +1,41 @@
+-- Found nodes as an answer: in batches, and the items of a batch by their numbers.
+use Rattle.std.specs.Prelude.{◌≡◌, ℕ, Bool, true, false, List, Some, slice_get, unwrap_or, Contains}
+use Rattle.std.specs.BTreeMap.{BTreeMap, get}
+use Rattle.std.specs.declared.cmp.Ordering.{Ordering}
+use Rattle.std.specs.Ordering.{nat_cmp, ordering_then}
+use Rattle.event_json.specs.Events.{Content}
+use Rattle.trace_core.specs.declared.batches.Batch.{Batch}
+use Rattle.trace_core.specs.declared.nodes.Node.{Node}
+use Rattle.trace_core.specs.declared.pairs.Pair.{Pair}
+use Rattle.trace_core.specs.Nodes.{Stands}
+use Rattle.trace_core.specs.Numbers.{numbered, number_found}
+use Rattle.trace_core.specs.Places.{or_none}
+use Rattle.trace_core.specs.Sites.{SiteEvents}
+
+-- whether the mark at a number is set
+abbrev pub is_set : List Bool → ℕ → Bool
+is_set marks n = unwrap_or (slice_get marks n) false
+
+-- the item's number is marked
+abbrev pub HasMark : BTreeMap (List ℕ) ℕ → List Bool → List ℕ → Type 0
+HasMark known marks i = (n : ℕ) × (number_found known i ≡ Some n) × (is_set marks n ≡ true)
+
+-- the item has one of the numbers
+abbrev pub HasNumber : List Content → List ℕ → List ℕ → Type 0
+HasNumber events numbers i = (n : ℕ) × Contains numbers n × (slice_get (numbered events) n ≡ Some i)
+
+-- by the site of the pairs, and then by the site that numbered their items
+abbrev pub batch_cmp : Batch → Batch → Ordering
+batch_cmp a b = ordering_then (nat_cmp a.at b.at) (nat_cmp a.site b.site)
+
+-- the node's number is in its batch
+abbrev pub IsInBatch : BTreeMap Batch (List ℕ) → Node → Type 0
+IsInBatch batches n = Contains (or_none (get batch_cmp batches (record { at = n.at; site = n.site }))) n.item
+
+-- one of the batch's nodes stands for the pair
+abbrev pub Gives : List SiteEvents → Batch × List ℕ → Pair → Type 0
+Gives sites b p = (n : ℕ) × Contains b.1 n × Stands sites (record { site = b.0.site; item = n; at = b.0.at }) p
+
+-- one of the items at the site
+abbrev pub IsPairOf : ℕ → List (List ℕ) → Pair → Type 0
+IsPairOf at items p = Contains items p.item × (p.site ≡ at)

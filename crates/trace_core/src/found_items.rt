@@ -1,0 +1,108 @@
+ghost use Rattle.std.specs.Prelude.{◌≡◌, ◌<◌, ◌⊎◌, ◌↔◌, ℕ, List, true, IfOk, OnOk, Contains, length};
+ghost use Rattle.trace_core.specs.Found.{is_set, HasMark, HasNumber};
+
+use crate::books::Book;
+use epc_core::Epc;
+use std::alloc::{AllocError, Global};
+use std::collections::BTreeMap;
+
+/// The items of these numbers. Where they are many of a book's, they ascend: all its items are gone through
+/// in order then, which costs less than sorting those of the numbers.
+pub fn items_of_numbers(
+    alloc: Global,
+    book: &Book,
+    numbers: &[usize],
+) -> Result<Vec<Epc>, AllocError>
+    ensures { IfOk result (λ items. (i : List ℕ) → Contains items.items i ↔ HasNumber book.now numbers.now i) }
+{
+    if are_many(numbers.len(), book.item_count()) {
+        items_in_order(alloc, book, numbers)
+    } else {
+        items_in_turn(alloc, book, numbers)
+    }
+}
+
+/// Whether so many numbers are at least a sixteenth of all.
+fn are_many(numbers: usize, all: usize) -> bool {
+    all / 16 <= numbers
+}
+
+/// The items of these numbers, ascending. It costs all items of the book.
+fn items_in_order(alloc: Global, book: &Book, numbers: &[usize]) -> Result<Vec<Epc>, AllocError>
+    ensures { IfOk result (λ items. (i : List ℕ) → Contains items.items i ↔ HasNumber book.now numbers.now i) }
+{
+    let marks = marks_of(alloc, book.item_count(), numbers)?;
+    marked_items(alloc, book.numbers(), &marks)
+}
+
+/// The items whose numbers are marked, ascending.
+fn marked_items(
+    alloc: Global,
+    known: &BTreeMap<Epc, usize>,
+    marks: &[bool],
+) -> Result<Vec<Epc>, AllocError>
+    ensures { IfOk result (λ items. (i : List ℕ) → Contains items.items i ↔ HasMark known.now marks.now i) }
+{
+    let mut items = Vec::new(alloc);
+    for (name, number) in known {
+        push_if_marked(alloc, name, *number, marks, &mut items)?;
+    }
+    Ok(items)
+}
+
+/// Adds an item, if its number is marked.
+fn push_if_marked(
+    alloc: Global,
+    name: &Epc,
+    number: usize,
+    marks: &[bool],
+    items: &mut Vec<Epc>,
+) -> Result<(), AllocError>
+    ensures { OnOk result ((i : List ℕ) → Contains items.new.items i ↔ (Contains items.old.items i ⊎ ((is_set marks.now number ≡ true) × (name.now ≡ i)))) }
+{
+    if is_marked(marks, number) {
+        items.push(name.copy(alloc)?)?;
+    }
+    Ok(())
+}
+
+/// The items of these numbers, in their order.
+fn items_in_turn(alloc: Global, book: &Book, numbers: &[usize]) -> Result<Vec<Epc>, AllocError>
+    ensures { IfOk result (λ items. (i : List ℕ) → Contains items.items i ↔ HasNumber book.now numbers.now i) }
+{
+    let mut items = Vec::new(alloc);
+    for number in numbers {
+        if let Some(item) = book.item(*number) {
+            items.push(item.copy(alloc)?)?;
+        }
+    }
+    Ok(items)
+}
+
+/// So many marks, of which those at the numbers are set.
+fn marks_of(alloc: Global, len: usize, numbers: &[usize]) -> Result<Vec<bool>, AllocError>
+    ensures { IfOk result (λ marks. (n : ℕ) → is_set marks.items n ≡ true ↔ ((n < len) × Contains numbers.now n)) }
+{
+    let mut marks = vec![in alloc; false; len]?;
+    for number in numbers {
+        set_mark(&mut marks, *number);
+    }
+    Ok(marks)
+}
+
+/// Sets the mark at a number, if there is one.
+fn set_mark(marks: &mut [bool], number: usize)
+    ensures count { length marks.new ≡ length marks.old }
+    ensures set { (n : ℕ) → is_set marks.new n ≡ true ↔ ((is_set marks.old n ≡ true) ⊎ ((n < length marks.old) × (number ≡ n))) }
+{
+    if number < marks.len() {
+        marks[number] = true;
+    }
+}
+
+/// Whether the mark at a number is set.
+fn is_marked(marks: &[bool], number: usize) -> bool
+    ensures { result ≡ is_set marks.now number }
+{
+    marks.get(number).copied().unwrap_or(false)
+}

@@ -1,0 +1,196 @@
+ghost use Rattle.std.specs.Prelude.{◌≡◌, ◌∷◌, ◌++◌, ◌-◌, [], ℕ, List, Some, cond, IfOk, OnOk, OnErr, length, take, slice_get, option_map};
+ghost use Rattle.trace_core.specs.Numbers.{AreApart, IsNumbered, number_in, number_found, names_of, item_places, noted, changed, changed_at};
+ghost use Rattle.trace_core.specs.PairTests.{same_item};
+ghost use Rattle.trace_core.specs.Places.{or_none, with_last, without_last};
+
+use crate::places::Places;
+use epc_core::Epc;
+use std::alloc::{AllocError, Global};
+use std::collections::BTreeMap;
+use std::marker::Model;
+
+/// An item that events name.
+#[derive(Debug, Drop)]
+pub struct Named {
+    /// The item.
+    pub name: Epc,
+    /// The events that name it.
+    pub places: Places,
+}
+
+/// Items by number, in the order in which they were first named. What is looked up stands in an ordered
+/// map, so that no choice of texts makes a look-up slow.
+#[derive(Debug, Drop)]
+pub struct Items {
+    numbers: BTreeMap<Epc, usize>,
+    named: Vec<Named>,
+}
+
+impl Model for Items {
+    ghost use Rattle.std.specs.Prelude.{List};
+    ghost use Rattle.trace_core.specs.declared.items.Named.{Named};
+    ghost use Rattle.trace_core.specs.Numbers.{IsNumbered, names_of};
+
+    ghost Value = { List Named };
+
+    ghost view = { λ i. i.named.items };
+
+    ghost invariant = { λ i. IsNumbered i.numbers (names_of i.named.items) };
+}
+
+impl Items {
+    /// No items. Takes no memory.
+    pub fn new(alloc: Global) -> Items
+        ensures { result ≡ [] }
+    {
+        Items {
+            numbers: BTreeMap::new(alloc),
+            named: Vec::new(alloc),
+        }
+    }
+
+    /// How many items there are.
+    pub fn len(&self) -> usize
+        ensures { result ≡ length self.now }
+    {
+        self.named.len()
+    }
+
+    /// The number of an item, if it is known.
+    pub fn number(&self, item: &Epc) -> Option<usize>
+        ensures { result ≡ number_in (names_of self.now) item.now }
+    {
+        self.numbers.get(item).copied()
+    }
+
+    /// The items with their numbers, in the order of items.
+    pub fn numbers(&self) -> &BTreeMap<Epc, usize>
+        ensures { IsNumbered result.now (names_of self.now) }
+    {
+        &self.numbers
+    }
+
+    /// The item of a number, with its places.
+    fn get(&self, number: usize) -> Option<&Named>
+        ensures stands { option_map (λ x. x.now) result ≡ slice_get self.now number }
+        ensures apart { AreApart (names_of self.now) }
+    {
+        self.named.get(number)
+    }
+
+    /// The item of a number.
+    pub fn name(&self, number: usize) -> Option<&Epc>
+        ensures { option_map (λ i. i.now) result ≡ slice_get (names_of self.now) number }
+    {
+        match self.get(number) {
+            Some(own) => Some(&own.name),
+            None => None,
+        }
+    }
+
+    /// The places of the item of a number.
+    pub fn places_at(&self, number: usize) -> &[usize]
+        ensures { (i : List ℕ) → slice_get (names_of self.now) number ≡ Some i → result.now ≡ or_none (item_places self.now i) }
+    {
+        match self.get(number) {
+            Some(own) => own.places.as_slice(),
+            None => &[],
+        }
+    }
+
+    /// The places of an item, none if it isn't known.
+    pub fn places_of(&self, item: &Epc) -> &[usize]
+        ensures { result.now ≡ or_none (item_places self.now item.now) }
+    {
+        match self.number(item) {
+            Some(number) => self.places_at(number),
+            None => &[],
+        }
+    }
+
+    /// Notes that the event at a place names an item, which gets the next number if it is new, and tells its
+    /// number. An `Err` changes nothing.
+    pub fn note(&mut self, alloc: Global, item: &Epc, place: usize) -> Result<usize, AllocError>
+        ensures ok { OnOk result (self.new ≡ noted place item.now self.old) }
+        ensures number { IfOk result (λ number. number_in (names_of self.new) item.now ≡ Some number) }
+        ensures err { OnErr result (self.new ≡ self.old) }
+    {
+        match self.number(item) {
+            Some(number) => note_at(&mut self.named, number, place),
+            None => add(alloc, &mut self.numbers, &mut self.named, item, place),
+        }
+    }
+
+    /// Takes a place away from an item, if it is its last one. The item keeps its number. Takes no memory.
+    pub fn forget(&mut self, item: &Epc, place: usize)
+        ensures { self.new ≡ changed (without_last place) item.now self.old }
+    {
+        if let Some(number) = self.number(item) {
+            forget_at(&mut self.named, number, place);
+        }
+    }
+
+    /// Leaves the items of the first numbers alone. Takes no memory.
+    pub fn truncate(&mut self, kept: usize)
+        ensures { self.new ≡ take kept self.old }
+    {
+        while kept < self.len() {
+            self.pop();
+        }
+    }
+
+    /// Takes the item of the last number away. Takes no memory.
+    fn pop(&mut self)
+        ensures { self.new ≡ take (length self.old - 1) self.old }
+    {
+        if let Some(last) = self.named.pop() {
+            self.numbers.remove(&last.name);
+        }
+    }
+}
+
+/// Adds a new item, with its first place, and tells its number. An `Err` changes nothing.
+fn add(
+    alloc: Global,
+    numbers: &mut BTreeMap<Epc, usize>,
+    named: &mut Vec<Named>,
+    item: &Epc,
+    place: usize,
+) -> Result<usize, AllocError>
+    ensures named { OnOk result (named.new.items ≡ named.old.items ++ record { name = item.now; places = place ∷ [] } ∷ []) }
+    ensures numbers { OnOk result ((i : List ℕ) → number_found numbers.new i ≡ cond (same_item item.now i) (Some (length named.old.items)) (number_found numbers.old i)) }
+    ensures number { IfOk result (λ number. number ≡ length named.old.items) }
+    ensures err { OnErr result ((named.new.items ≡ named.old.items) × ((i : List ℕ) → number_found numbers.new i ≡ number_found numbers.old i)) }
+{
+    let number = named.len();
+    named.reserve(1)?;
+    let new = Named {
+        name: item.copy(alloc)?,
+        places: Places::one(alloc, place)?,
+    };
+    numbers.insert(item.copy(alloc)?, number)?;
+    named.push_reserved(new);
+    Ok(number)
+}
+
+/// Notes a place of the item of a number, and tells the number. An `Err` changes nothing.
+fn note_at(named: &mut Vec<Named>, number: usize, place: usize) -> Result<usize, AllocError>
+    ensures number { IfOk result (λ told. told ≡ number) }
+    ensures ok { OnOk result (named.new.items ≡ changed_at (with_last place) number named.old.items) }
+    ensures err { OnErr result (named.new.items ≡ named.old.items) }
+    ensures names { names_of named.new.items ≡ names_of named.old.items }
+{
+    if let Some(own) = named.get_mut(number) {
+        own.places.note(place)?;
+    }
+    Ok(number)
+}
+
+/// Takes a place away from the item of a number, if it is its last one. Takes no memory.
+fn forget_at(named: &mut Vec<Named>, number: usize, place: usize)
+    ensures { named.new.items ≡ changed_at (without_last place) number named.old.items }
+{
+    if let Some(own) = named.get_mut(number) {
+        own.places.forget(place);
+    }
+}
