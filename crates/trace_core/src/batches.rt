@@ -89,6 +89,7 @@ fn push_batch(
 fn push_pairs(at: SiteNo, items: Vec<Epc>, pairs: &mut Vec<Pair>) -> Result<(), AllocError>
     ensures { OnOk result ((p : Pair) → Contains pairs.new.items p ↔ (Contains pairs.old.items p ⊎ IsPairOf at items.items p)) }
 {
+    pairs.reserve(items.len())?;
     for item in items {
         pairs.push(Pair { site: at, item })?;
     }

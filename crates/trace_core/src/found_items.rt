@@ -34,18 +34,19 @@ fn items_in_order(alloc: Global, book: &Book, numbers: &[usize]) -> Result<Vec<E
     ensures { IfOk result (λ items. (i : List ℕ) → Contains items.items i ↔ HasNumber book.now numbers.now i) }
 {
     let marks = marks_of(alloc, book.item_count(), numbers)?;
-    marked_items(alloc, book.numbers(), &marks)
+    marked_items(alloc, book.numbers(), &marks, numbers.len())
 }
 
-/// The items whose numbers are marked, ascending.
+/// The items whose numbers are marked, ascending. Room is made for so many at once.
 fn marked_items(
     alloc: Global,
     known: &BTreeMap<Epc, usize>,
     marks: &[bool],
+    count: usize,
 ) -> Result<Vec<Epc>, AllocError>
     ensures { IfOk result (λ items. (i : List ℕ) → Contains items.items i ↔ HasMark known.now marks.now i) }
 {
-    let mut items = Vec::new(alloc);
+    let mut items = Vec::with_capacity(alloc, count)?;
     for (name, number) in known {
         push_if_marked(alloc, name, *number, marks, &mut items)?;
     }
