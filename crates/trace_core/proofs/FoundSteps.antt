@@ -2,25 +2,25 @@
 use Rattle.std.proofs.Common.{◌≡◌, ◌<◌, ◌≤◌, ◌+◌, ℕ, Bool, true, false, cond, List, [], ◌∷◌, ◌++◌, Option, None, Some, map, take, get_or, slice_get, length, Result, Ok, Err, OnOk, is_ok, ◌↔◌, refl, sym, ap, ◌∙◌, subst, inl, inr, ⊎_elim, arith}
 use mathlib.Core.Bool.{false≢true}
 use mathlib.Core.Logic.{◌⊎◌}
-use Rattle.std.proofs.Math.ListN.{set, replicate}
+use Rattle.std.proofs.Math.ListN.{set}
 use Rattle.std.specs.BTreeMap.{BTreeMap, IsOrdered, Updates, get}
 use Rattle.std.specs.Cmp.{eq_by_cmp_equiv}
 use Rattle.std.specs.Cmp.Lexicographic.{slice_cmp}
 use Rattle.std.specs.List.{Contains}
 use Rattle.std.specs.Map.{lookup}
 use Rattle.std.specs.Ordering.{nat_cmp, eq_by_cmp}
-use Rattle.std.proofs.lemmas.Bool.{cases_Bool, cases_eq, cases_lt, cond-false}
+use Rattle.std.proofs.lemmas.Bool.{cases_Bool, cond-false}
 use Rattle.std.proofs.lemmas.Cmp.{nat_list_cmp_total}
-use Rattle.std.proofs.lemmas.List.{get_or-replicate, get_or-set_same, get_or-set_other, length-replicate, get_or_past}
 use Rattle.std.proofs.lemmas.List.Elements.{Contains-append_left, Contains-append_right, Contains-append_cases}
 use Rattle.std.proofs.lemmas.Map.Lookups.{exact_bytes}
 use Rattle.std.proofs.lemmas.Map.Views.{btree_map_get_iff, tells_apart}
-use Rattle.std.proofs.lemmas.Option.{slice_get_within, unwrap_or-slice_get}
+use Rattle.std.proofs.lemmas.Option.{slice_get_within}
 use Rattle.event_json.specs.Events.{Content}
-use Rattle.trace_core.specs.declared.batches.Batch.{Batch}
+use Rattle.trace_core.specs.declared.nodes.Batch.{Batch}
 use Rattle.trace_core.specs.declared.nodes.Node.{Node}
 use Rattle.trace_core.specs.declared.pairs.Pair.{Pair}
-use Rattle.trace_core.specs.Found.{is_set, HasMark, HasNumber, batch_cmp, IsInBatch, Gives, IsPairOf}
+use Rattle.trace_core.specs.Found.{HasMark, HasNumber, batch_cmp, IsInBatch, Gives, IsPairOf}
+use Rattle.trace_core.specs.Marks.{is_set}
 use Rattle.trace_core.specs.Nodes.{Stands, HasItem}
 use Rattle.trace_core.specs.Numbers.{IsNumbered, numbered, number_found}
 use Rattle.trace_core.specs.Places.{or_none}
@@ -29,61 +29,11 @@ use Rattle.trace_core.proofs.BatchOrder.{batches_exact, batches_total}
 use Rattle.trace_core.proofs.Gathered.{FromSome}
 use Rattle.trace_core.proofs.Members.{contains-map, contains_none}
 use Rattle.trace_core.proofs.NumberLists.{some_is, none_is, number_stands}
-use Rattle.trace_core.proofs.ReachSteps.{contains_pushed}
-use Rattle.trace_core.proofs.SetMembers.{contains_more, contains-from_map}
+use Rattle.trace_core.proofs.SetMembers.{contains_pushed, contains_more, contains-from_map}
 
 -- an item whose mark is set
 abbrev pub IsMarked : List Bool → List ℕ × ℕ → List ℕ → Type 0
 IsMarked marks e i = (is_set marks e.1 ≡ true) × (e.0 ≡ i)
-
--- the marks at the first so many numbers are set
-pub record AreMarked (marks : List Bool) (len : ℕ) (numbers : List ℕ) : Type 0 where
-  pub count : length marks ≡ len
-  pub each : (n : ℕ) → is_set marks n ≡ true ↔ ((n < len) × Contains numbers n)
-
-pub no_marks : (marks : List Bool) (len : ℕ) → marks ≡ replicate len false → AreMarked marks len []
-no_marks marks len is = record {
-  count = ap length is ∙ length-replicate len false;
-  each = λ n. (λ h. absurd (false≢true (sym (unset n) ∙ ap (λ (ms : List Bool). is_set ms n) (sym is) ∙ h)), λ (below, there). absurd (contains_none n there));
-}
-  where
-    unset : (n : ℕ) → is_set (replicate len false) n ≡ false
-    unset n = unwrap_or-slice_get (replicate len false) n false ∙ ⊎_elim
-        (λ below. get_or-replicate len n false false below)
-        (λ past. get_or_past (replicate len false) n false (omega (arith, length-replicate len false, past)))
-        (cases_lt n len)
-
--- a mark is set
-pub mark_set : (marks marks' : List Bool) (number : ℕ) → number < length marks → marks' ≡ set marks number true → (n : ℕ) → is_set marks' n ≡ true ↔ ((is_set marks n ≡ true) ⊎ ((n < length marks) × (number ≡ n)))
-mark_set marks marks' number below is n = ⊎_elim
-    (λ same. (λ h. inr (omega (arith, same, below), sym same), λ h. subst (λ j. is_set marks' j ≡ true) (sym same) here))
-    (λ apart. (λ h. inl (sym (other apart) ∙ h), λ h. ⊎_elim (λ before. other apart ∙ before) (λ (within, same). absurd (apart (sym same))) h))
-    (cases_eq n number)
-  where
-    here : is_set marks' number ≡ true
-    here = ap (λ (ms : List Bool). is_set ms number) is ∙ unwrap_or-slice_get (set marks number true) number false ∙ get_or-set_same marks number true false below
-
-    other : (n ≡ number → ⊥) → is_set marks' n ≡ is_set marks n
-    other apart = ap (λ (ms : List Bool). is_set ms n) is ∙ unwrap_or-slice_get (set marks number true) n false ∙ get_or-set_other marks number n true false apart ∙ sym (unwrap_or-slice_get marks n false)
-
--- there is no mark
-pub no_mark_set : (marks : List Bool) (number : ℕ) → length marks ≤ number → (n : ℕ) → is_set marks n ≡ true ↔ ((is_set marks n ≡ true) ⊎ ((n < length marks) × (number ≡ n)))
-no_mark_set marks number past n = (λ h. inl h, λ h. ⊎_elim (λ before. before) (λ (below, same). absurd (omega (arith, below, past, same))) h)
-
--- one number more
-pub one_marked : (marks marks' : List Bool) (len : ℕ) (numbers : List ℕ) (k n : ℕ) → k < length numbers → n ≡ get_or numbers k n → length marks' ≡ length marks
-    → ((m : ℕ) → is_set marks' m ≡ true ↔ ((is_set marks m ≡ true) ⊎ ((m < length marks) × (n ≡ m)))) → AreMarked marks len (take k numbers) → AreMarked marks' len (take (k + 1) numbers)
-one_marked marks marks' len numbers k n within at same more so_far = record {
-  count = same ∙ so_far.count;
-  each = λ m.
-      let listed = contains_more numbers k n within at m in (
-        λ h. ⊎_elim
-            (λ before. let (below, there) = (so_far.each m).0 before in (below, listed.1 (inl there)))
-            (λ (below, is). (omega (arith, below, so_far.count), listed.1 (inr is)))
-            ((more m).0 h),
-        λ (below, there). (more m).1 (⊎_elim (λ before. inl ((so_far.each m).1 (below, before))) (λ is. inr (omega (arith, below, so_far.count), is)) (listed.0 there)),
-      );
-}
 
 -- the marked items of a map
 pub marked_found : (known : BTreeMap (List ℕ) ℕ) (marks : List Bool) → IsOrdered (slice_cmp nat_cmp) known → (i : List ℕ) → FromSome (IsMarked marks) known.entries i ↔ HasMark known marks i
@@ -160,6 +110,36 @@ number_added numbers old had item is before m =
     let all : numbers ≡ or_none old ++ item ∷ [] = is ∙ ap (λ ns. ns ++ item ∷ []) before in
     let both = contains_pushed (or_none old) item m in
     (λ h. both.0 (subst (λ ns. Contains ns m) all h), λ h. subst (λ ns. Contains ns m) (sym all) (both.1 h))
+
+-- a node of a batch that is there
+pub batch_marked : (old new : BTreeMap Batch (List ℕ)) (node : Node) (own numbers : List ℕ) → Updates batch_cmp old new (batch_of node) (Some numbers) → Some own ≡ get batch_cmp old (batch_of node)
+    → ((m : ℕ) → Contains numbers m ↔ (Contains own m ⊎ (node.item ≡ m))) → (n : Node) → IsInBatch new n ↔ (IsInBatch old n ⊎ (node ≡ n))
+batch_marked old new node own numbers upd is marked = batch_noted old new node numbers upd
+    (λ m. subst (λ o. Contains numbers m ↔ (Contains (or_none o) m ⊎ (node.item ≡ m))) is (marked m))
+
+-- of a new one
+pub batch_begun : (old new : BTreeMap Batch (List ℕ)) (node : Node) (none numbers : List ℕ) → Updates batch_cmp old new (batch_of node) (Some numbers) → None ≡ get batch_cmp old (batch_of node) → none ≡ []
+    → ((m : ℕ) → Contains numbers m ↔ (Contains none m ⊎ (node.item ≡ m))) → (n : Node) → IsInBatch new n ↔ (IsInBatch old n ⊎ (node ≡ n))
+batch_begun old new node none numbers upd is empty marked = batch_noted old new node numbers upd
+    (λ m. subst (λ o. Contains numbers m ↔ (Contains (or_none o) m ⊎ (node.item ≡ m))) is (subst (λ ns. Contains numbers m ↔ (Contains ns m ⊎ (node.item ≡ m))) empty (marked m)))
+
+-- a batch that has the same numbers as before
+pub batch_same : (old new : BTreeMap Batch (List ℕ)) (node : Node) (own numbers : List ℕ) → Updates batch_cmp old new (batch_of node) (Some numbers) → Some own ≡ get batch_cmp old (batch_of node)
+    → ((m : ℕ) → Contains numbers m ↔ Contains own m) → (n : Node) → IsInBatch new n ↔ IsInBatch old n
+batch_same old new node own numbers upd is same n = ⊎_elim
+    (λ at.
+    let here : batch_of node ≡ batch_of n = tells_apart batches_exact (batch_of node) (batch_of n) at in
+    let was : Some own ≡ get batch_cmp old (batch_of n) = is ∙ ap (get batch_cmp old) here in
+    let now : get batch_cmp new (batch_of n) ≡ Some numbers = ap (get batch_cmp new) (sym here) ∙ upd.1 in (
+      λ h. subst (λ o. Contains (or_none o) n.item) was ((same n.item).0 (subst (λ o. Contains (or_none o) n.item) now h)),
+      λ h. subst (λ o. Contains (or_none o) n.item) (sym now) ((same n.item).1 (subst (λ o. Contains (or_none o) n.item) (sym was) h)),
+    ))
+    (λ not_at.
+    let stay : get batch_cmp new (batch_of n) ≡ get batch_cmp old (batch_of n) = upd.0 (batch_of n) ∙ cond-false (eq_by_cmp batch_cmp (batch_of node) (batch_of n)) (Some numbers) (get batch_cmp old (batch_of n)) not_at in (
+      λ h. subst (λ o. Contains (or_none o) n.item) stay h,
+      λ h. subst (λ o. Contains (or_none o) n.item) (sym stay) h,
+    ))
+    (cases_Bool (eq_by_cmp batch_cmp (batch_of node) (batch_of n)))
 
 pub no_batches : (batches : BTreeMap Batch (List ℕ)) → batches.entries ≡ [] → (n : Node) → IsInBatch batches n ↔ Contains [] n
 no_batches batches none n = (
@@ -298,6 +278,9 @@ nothing_has xs none x = (λ h. contains_none x (subst (λ ys. Contains ys x) non
 -- one equivalence after another
 pub iff_then : {A B C : Type 0} → A ↔ B → B ↔ C → A ↔ C
 iff_then one two = (λ a. two.0 (one.0 a), λ d. one.1 (two.1 d))
+
+pub widened : {A B C D : Type 0} → A ↔ (B ⊎ C) → B ↔ D → A ↔ (D ⊎ C)
+widened one two = (λ a. ⊎_elim (λ b. inl (two.0 b)) (λ d. inr d) (one.0 a), λ h. one.1 (⊎_elim (λ d. inl (two.1 d)) (λ d. inr d) h))
 
 pub either_then : {A B C D : Type 0} → A ↔ (B ⊎ C) → C ↔ D → A ↔ (B ⊎ D)
 either_then one two = (λ a. ⊎_elim (λ b. inl b) (λ d. inr (two.0 d)) (one.0 a), λ h. one.1 (⊎_elim (λ b. inl b) (λ d. inr (two.1 d)) h))

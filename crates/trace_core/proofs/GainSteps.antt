@@ -1,7 +1,7 @@
 -- What a search gains from an event, and from all events that name an item.
 use Rattle.std.proofs.Common.{◌≡◌, ◌<◌, ◌≤◌, ◌+◌, ℕ, Bool, true, false, List, [], ◌++◌, Some, length, get_or, slice_get, refl, sym, ap, ◌∙◌, subst, ⊎_elim}
 use mathlib.Core.Bool.{false≢true}
-use Rattle.std.specs.BTreeSet.{BTreeSet, Updates}
+use Rattle.std.specs.BTreeSet.{BTreeSet}
 use Rattle.std.specs.List.{Contains}
 use Rattle.std.proofs.lemmas.List.Elements.{Contains-append_cases}
 use Rattle.std.proofs.lemmas.Option.{slice_get-get_or}
@@ -9,9 +9,8 @@ use Rattle.event_json.specs.Events.{Content}
 use Rattle.event_json.specs.declared.bodies.Body.{Body}
 use Rattle.trace_core.specs.declared.groups.Group.{Group}
 use Rattle.trace_core.specs.declared.nodes.Node.{Node}
-use Rattle.trace_core.specs.declared.nodes.Nodes.{Nodes}
 use Rattle.trace_core.specs.declared.pairs.Pair.{Pair}
-use Rattle.trace_core.specs.Groups.{group_cmp, IsSeen, outs_of, IsGiven, AddsUnseen, sought_by, IsSought}
+use Rattle.trace_core.specs.Groups.{IsSeen, Sees, outs_of, IsGiven, AddsUnseen, sought_by, IsSought}
 use Rattle.trace_core.specs.Nodes.{Stands, Had, NotesNodes, Gains, sent_nodes, group_nodes}
 use Rattle.trace_core.specs.Numbers.{numbered}
 use Rattle.trace_core.specs.Pairs.{make_id}
@@ -27,11 +26,11 @@ use Rattle.trace_core.proofs.PlaceLists.{place_passes}
 use Rattle.trace_core.proofs.VisitSteps.{sent_stand, some_sent, group_stand, some_in_group}
 
 module _ (sites : List SiteEvents) (s : SiteEvents) (site : ℕ) (at_site : slice_get sites site ≡ Some s) (item : ℕ) (i : List ℕ) (numbered_so : slice_get (numbered s.events) item ≡ Some i)
-    (ships : Bool) (k : ℕ) (e : Content) (stands : slice_get s.events k ≡ Some e) (named : at_place (names_item i) (slice_get s.events k) ≡ true) (b : Body) (is : b ≡ e.body) (x y : Nodes) (sent : NotesNodes x y (sent_nodes ships s.me site item b)) where
+    (ships : Bool) (k : ℕ) (e : Content) (stands : slice_get s.events k ≡ Some e) (named : at_place (names_item i) (slice_get s.events k) ≡ true) (b : Body) (is : b ≡ e.body) (x y : List Node) (sent : NotesNodes x y (sent_nodes ships s.me site item b)) where
   its_item : lists (items_of b) i ≡ true
   its_item = ap (λ (c : Body). lists (items_of c) i) is ∙ sym (ap (at_place (names_item i)) stands) ∙ named
 
-  sent_had : HasMore (Had (Stands sites) x.found) (Had (Stands sites) y.found) (sends ships s i e)
+  sent_had : HasMore (Had (Stands sites) x) (Had (Stands sites) y) (sends ships s i e)
   sent_had = had_more (Stands sites) x y (sent_nodes ships s.me site item b) (sends ships s i e) sent (sent_stand sites s site at_site item i numbered_so ships e b is its_item)
 
   sent_stands : (n : Node) → Contains (sent_nodes ships s.me site item b) n → (q : Pair) × Stands sites n q
@@ -46,7 +45,7 @@ module _ (sites : List SiteEvents) (s : SiteEvents) (site : ℕ) (at_site : slic
     nodes = sent_nodes ships s.me site item b;
     noted = sent;
     stand = sent_stands;
-    added = event_ships ships s i e k site stands seen seen (Had (Stands sites) x.found) (Had (Stands sites) y.found) sent_had takes;
+    added = event_ships ships s i e k site stands seen seen (Had (Stands sites) x) (Had (Stands sites) y) sent_had takes;
   }
 
   -- its transformation was seen
@@ -55,12 +54,12 @@ module _ (sites : List SiteEvents) (s : SiteEvents) (site : ℕ) (at_site : slic
     nodes = sent_nodes ships s.me site item b;
     noted = sent;
     stand = sent_stands;
-    added = event_known ships s i e k site stands seen seen (Had (Stands sites) x.found) (Had (Stands sites) y.found) sent_had first stood_for there;
+    added = event_known ships s i e k site stands seen seen (Had (Stands sites) x) (Had (Stands sites) y) sent_had first stood_for there;
   }
 
-  module _ (seen seen' : BTreeSet Group) (first : ℕ) (takes : takes_in i e.body ≡ true) (stood_for : (j : List ℕ) → at_place (λ f. outs_of s.events j f.body) (slice_get s.events first) ≡ outs_of s.events j e.body) (upd : Updates group_cmp seen seen' (record { site = site; first = first }) true) where
+  module _ (seen seen' : BTreeSet Group) (first : ℕ) (takes : takes_in i e.body ≡ true) (stood_for : (j : List ℕ) → at_place (λ f. outs_of s.events j f.body) (slice_get s.events first) ≡ outs_of s.events j e.body) (upd : Sees seen seen' (record { site = site; first = first })) where
     -- its transformation is new
-    pub gains_group : (c : Body) → c ≡ e.body → (z : Nodes) → NotesNodes y z (group_nodes s.me s.events site k c (make_id c)) → Gains (Stands sites) (λ groups q. IsGiven s site groups q) Here seen seen' x z
+    pub gains_group : (c : Body) → c ≡ e.body → (z : List Node) → NotesNodes y z (group_nodes s.me s.events site k c (make_id c)) → Gains (Stands sites) (λ groups q. IsGiven s site groups q) Here seen seen' x z
     gains_group c same z made =
         let own : NotesNodes y z (group_nodes s.me s.events site k e.body (make_id e.body)) = subst (λ (d : Body). NotesNodes y z (group_nodes s.me s.events site k d (make_id d))) same made in
         let group = group_nodes s.me s.events site k e.body (make_id e.body) in
@@ -68,7 +67,7 @@ module _ (sites : List SiteEvents) (s : SiteEvents) (site : ℕ) (at_site : slic
           nodes = sent_nodes ships s.me site item b ++ group;
           noted = more_nodes x y z (sent_nodes ships s.me site item b) group sent own;
           stand = λ n h. ⊎_elim (sent_stands n) (some_in_group sites s site at_site k e.body (make_id e.body) n) (Contains-append_cases (sent_nodes ships s.me site item b) group n h);
-          added = event_new ships s i e k site stands seen seen' (Had (Stands sites) x.found) (Had (Stands sites) y.found) sent_had first takes stood_for upd (Had (Stands sites) z.found)
+          added = event_new ships s i e k site stands seen seen' (Had (Stands sites) x) (Had (Stands sites) y) sent_had first takes stood_for upd (Had (Stands sites) z)
               (had_more (Stands sites) y z group (makes ships s i e) own (group_stand sites s site at_site k e stands (make_id e.body) refl));
         }
 
@@ -78,7 +77,7 @@ module _ (sites : List SiteEvents) (s : SiteEvents) (site : ℕ) (at_site : slic
       nodes = sent_nodes ships s.me site item b;
       noted = sent;
       stand = sent_stands;
-      added = event_again ships s i e k site stands seen seen' (Had (Stands sites) x.found) (Had (Stands sites) y.found) sent_had first takes stood_for upd there;
+      added = event_again ships s i e k site stands seen seen' (Had (Stands sites) x) (Had (Stands sites) y) sent_had first takes stood_for upd there;
     }
 
 -- what is said of a site's number and events is said of the site
@@ -86,28 +85,28 @@ same_site : (me : ℕ) (events : List Content) (s : SiteEvents) → me ≡ s.me 
 same_site me events s is are = ap (λ (m : ℕ). record { me = m; events = events }) is ∙ ap (λ (es : List Content). record { me = s.me; events = es }) are
 
 -- what visiting an event at a place says
-abbrev pub GainsAt : Bool → ℕ → List Content → ℕ → ℕ → List ℕ → ℕ → BTreeSet Group → BTreeSet Group → Nodes → Nodes → Type 0
+abbrev pub GainsAt : Bool → ℕ → List Content → ℕ → ℕ → List ℕ → ℕ → BTreeSet Group → BTreeSet Group → List Node → List Node → Type 0
 GainsAt ships me events site item name k seen seen' old new =
     (sites : List SiteEvents) → slice_get sites site ≡ Some (record { me = me; events = events }) → slice_get (numbered events) item ≡ Some name → at_place (names_item name) (slice_get events k) ≡ true
     → Gains (Stands sites) (λ groups q. IsGiven (record { me = me; events = events }) site groups q) (λ q. at_place (λ e. sought_by ships me events name e.body q) (slice_get events k) ≡ true) seen seen' old new
 
 module _ (ships : Bool) (s : SiteEvents) (site item : ℕ) (places : List ℕ) where
   -- the events at the first so many places
-  abbrev pub GainsSoFar : ℕ → BTreeSet Group → BTreeSet Group → Nodes → Nodes → Type 0
+  abbrev pub GainsSoFar : ℕ → BTreeSet Group → BTreeSet Group → List Node → List Node → Type 0
   GainsSoFar n seen seen' old new =
       (sites : List SiteEvents) (i : List ℕ) → slice_get sites site ≡ Some s → slice_get (numbered s.events) item ≡ Some i
       → Gains (Stands sites) (λ groups q. IsGiven s site groups q) (SoFar ships s i site places n) seen seen' old new
 
-  pub no_place : (seen : BTreeSet Group) (nodes : Nodes) → GainsSoFar 0 seen seen nodes nodes
+  pub no_place : (seen : BTreeSet Group) (nodes : List Node) → GainsSoFar 0 seen seen nodes nodes
   no_place seen nodes sites i at_site so = record {
     nodes = [];
     noted = no_nodes nodes;
     stand = λ n h. absurd (contains_none n h);
-    added = adds_none (λ groups q. IsGiven s site groups q) (SoFar ships s i site places 0) seen (Had (Stands sites) nodes.found) (λ q h. false≢true h);
+    added = adds_none (λ groups q. IsGiven s site groups q) (SoFar ships s i site places 0) seen (Had (Stands sites) nodes) (λ q h. false≢true h);
   }
 
   -- one place more
-  pub one_place : (n k me : ℕ) (events : List Content) (name : List ℕ) (a b c : BTreeSet Group) (x y z : Nodes) → n < length places → k ≡ get_or places n k → me ≡ s.me → events ≡ s.events → Some name ≡ slice_get (numbered events) item
+  pub one_place : (n k me : ℕ) (events : List Content) (name : List ℕ) (a b c : BTreeSet Group) (x y z : List Node) → n < length places → k ≡ get_or places n k → me ≡ s.me → events ≡ s.events → Some name ≡ slice_get (numbered events) item
       → places ≡ places_where (names_item name) events → GainsSoFar n a b x y → GainsAt ships me events site item name k b c y z → GainsSoFar (n + 1) a c x z
   one_place n k me events name a b c x y z below at is are named those so_far now sites i at_site so =
       let same : name ≡ i = some_is name i (named ∙ ap (λ (es : List Content). slice_get (numbered es) item) are ∙ so) in
@@ -119,12 +118,12 @@ module _ (ships : Bool) (s : SiteEvents) (site item : ℕ) (places : List ℕ) w
         nodes = one.nodes ++ two.nodes;
         noted = more_nodes x y z one.nodes two.nodes one.noted two.noted;
         stand = λ m h. ⊎_elim (one.stand m) (two.stand m) (Contains-append_cases one.nodes two.nodes m h);
-        added = place_added ships s i site places n k me events a b c (Had (Stands sites) x.found) (Had (Stands sites) y.found) (Had (Stands sites) z.found) below at is are one.added
-            (subst (λ j. AddsUnseen (λ groups q. IsGiven (record { me = me; events = events }) site groups q) (HereOf j) b c (Had (Stands sites) y.found) (Had (Stands sites) z.found)) same two.added);
+        added = place_added ships s i site places n k me events a b c (Had (Stands sites) x) (Had (Stands sites) y) (Had (Stands sites) z) below at is are one.added
+            (subst (λ j. AddsUnseen (λ groups q. IsGiven (record { me = me; events = events }) site groups q) (HereOf j) b c (Had (Stands sites) y) (Had (Stands sites) z)) same two.added);
       }
 
   -- all places
-  pub all_places : (n : ℕ) (events : List Content) (name : List ℕ) (a b : BTreeSet Group) (x y : Nodes) → length places ≤ n → events ≡ s.events → Some name ≡ slice_get (numbered events) item → places ≡ places_where (names_item name) events → GainsSoFar n a b x y
+  pub all_places : (n : ℕ) (events : List Content) (name : List ℕ) (a b : BTreeSet Group) (x y : List Node) → length places ≤ n → events ≡ s.events → Some name ≡ slice_get (numbered events) item → places ≡ places_where (names_item name) events → GainsSoFar n a b x y
       → (sites : List SiteEvents) (i : List ℕ) → slice_get sites site ≡ Some s → slice_get (numbered s.events) item ≡ Some i → Gains (Stands sites) (λ groups q. IsGiven s site groups q) (λ q. IsSought ships s i q) a b x y
   all_places n events name a b x y past are named those so_far sites i at_site so =
       let same : name ≡ i = some_is name i (named ∙ ap (λ (es : List Content). slice_get (numbered es) item) are ∙ so) in
@@ -133,6 +132,6 @@ module _ (ships : Bool) (s : SiteEvents) (site item : ℕ) (places : List ℕ) w
         nodes = one.nodes;
         noted = one.noted;
         stand = one.stand;
-        added = places_added ships s i site places n a b (Had (Stands sites) x.found) (Had (Stands sites) y.found) past
+        added = places_added ships s i site places n a b (Had (Stands sites) x) (Had (Stands sites) y) past
             (those ∙ ap (λ (es : List Content). places_where (names_item name) es) are ∙ ap (λ j. places_where (names_item j) s.events) same) one.added;
       }

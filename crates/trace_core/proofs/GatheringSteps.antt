@@ -1,9 +1,8 @@
 -- The pairs that a site's events relate an item to, event by event, and what one more pair adds.
-use Rattle.std.proofs.Common.{◌≡◌, ◌==◌, ◌<◌, ◌≤◌, ◌+◌, ℕ, Bool, true, false, cond, not, ◌&&◌, ◌||◌, List, length, take, get_or, ◌↔◌, Option, Some, None, is_some, option_map, refl, sym, ap, ◌∙◌, subst, arith}
+use Rattle.std.proofs.Common.{◌≡◌, ◌==◌, ◌<◌, ◌+◌, ℕ, Bool, true, false, cond, not, ◌&&◌, ◌||◌, List, length, take, get_or, ◌↔◌, Option, Some, None, is_some, option_map, refl, sym, ap, ◌∙◌, subst, arith}
 use Rattle.std.proofs.lemmas.Map.Views.{btree_set_contains_iff}
 use Rattle.std.proofs.lemmas.Bool.{true≢false}
 use Rattle.std.proofs.lemmas.Bool.Decides.{nat_tests}
-use Rattle.std.proofs.lemmas.List.{take_all}
 use Rattle.std.proofs.lemmas.List.Folds.{list_any_more}
 use Rattle.std.specs.Borrow.{Bor}
 use Rattle.std.specs.BTreeSet.{BTreeSet, Updates}
@@ -106,12 +105,6 @@ related_exact s item set pairs keys related p =
     let both = btree_set_contains_iff pairs_total pairs_exact set p in
     let decides = related_decides s item p in
     (λ h. decides.0 (sym (related p) ∙ both.1 (subst (λ xs. Contains xs p) keys h)), λ h. subst (λ xs. Contains xs p) (sym keys) (both.0 (related p ∙ decides.1 h)))
-
--- at the end of the events
-pub related_at_end : (s : SiteEvents) (item : List ℕ) (set : BTreeSet Pair) (pairs : List Pair) (events : List Content) (n : ℕ) → pairs ≡ set.keys → events ≡ s.events → length events ≤ n
-    → ((p : Pair) → is_in set p ≡ list_any (λ e. related_by s.me s.events item e.body p) (take n events)) → (p : Pair) → Contains pairs p ↔ IsRelated s item p
-related_at_end s item set pairs events n keys all past so_far = related_exact s item set pairs keys
-    (λ p. so_far p ∙ ap (list_any (λ e. related_by s.me s.events item e.body p)) (take_all n events past ∙ all) ∙ sym (is_related-by_events s item p))
 
 nothing_more : (o own : Bool) → (o || (own && false)) ≡ o
 nothing_more true true = refl

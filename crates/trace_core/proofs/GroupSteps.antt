@@ -13,7 +13,7 @@ use Rattle.event_json.specs.declared.bodies.Body.{Body}
 use Rattle.trace_core.specs.declared.groups.Group.{Group}
 use Rattle.trace_core.specs.declared.pairs.Pair.{Pair}
 use Rattle.trace_core.specs.Gathering.{is_in, shipped_by, made_by, joined_by}
-use Rattle.trace_core.specs.Groups.{group_cmp, IsSeen, outs_of, Gives, IsGiven, AddsUnseen, SeesOnly, sought_by, IsSought}
+use Rattle.trace_core.specs.Groups.{group_cmp, IsSeen, Sees, outs_of, Gives, IsGiven, AddsUnseen, SeesOnly, sought_by, IsSought}
 use Rattle.trace_core.specs.Pairs.{make_id, pair_cmp}
 use Rattle.trace_core.specs.PairTests.{same_id, same_item, ships, takes_in, gives_out, is_related}
 use Rattle.trace_core.specs.Places.{at_place, places_where, names_item}
@@ -66,9 +66,6 @@ module _ (events : List Content) (j : List ℕ) where
       or_no : (a : Bool) → (a || false) ≡ a
       or_no true = refl
       or_no false = refl
-
-  pub own_gives : (k : ℕ) (e : Content) (b : Body) → slice_get events k ≡ Some e → e.body ≡ b → at_place (λ f. outs_of events j f.body) (slice_get events k) ≡ outs_of events j b
-  own_gives k e b stands is = ap (at_place (λ f. outs_of events j f.body)) stands ∙ ap (outs_of events j) is
 
 module _ (G : BTreeSet Group → Pair → Type 0) where
   -- nothing to add
@@ -128,7 +125,7 @@ adds_pairs G p seen Old New are = record {
 }
 
 -- a transformation is seen now, and all that it gives is added
-pub adds_group : (s : SiteEvents) (site first : ℕ) (p : Pair → Bool) (seen seen' : BTreeSet Group) (Old New : Pair → Type 0) → Updates group_cmp seen seen' (record { site = site; first = first }) true
+pub adds_group : (s : SiteEvents) (site first : ℕ) (p : Pair → Bool) (seen seen' : BTreeSet Group) (Old New : Pair → Type 0) → Sees seen seen' (record { site = site; first = first })
     → HasMore Old New p → ((q : Pair) → Gives s first q → p q ≡ true) → AddsUnseen (λ groups q. IsGiven s site groups q) (λ q. p q ≡ true) seen seen' Old New
 adds_group s site first p seen seen' Old New upd are gives = record {
   stay = λ q h. (are q).1 (inl h);
@@ -137,23 +134,27 @@ adds_group s site first p seen seen' Old New upd are gives = record {
   given = λ q (other, there, given). ⊎_elim
       (λ before. inl (other, before, given))
       (λ same. inr ((are q).1 (inr (gives q (subst (λ n. Gives s n q) (sym (ap (λ (g : Group). g.first) same)) given)))))
-      ((found-insert group_cmp groups_total groups_exact seen seen' (record { site = site; first = first }) upd (record { site = site; first = other })).0 there);
+      ((upd (record { site = site; first = other })).0 there);
 }
+
+-- a transformation that is inserted is seen
+pub seen_inserted : (seen seen' : BTreeSet Group) (g : Group) → Updates group_cmp seen seen' g true → Sees seen seen' g
+seen_inserted seen seen' g upd = found-insert group_cmp groups_total groups_exact seen seen' g upd
 
 pub sees_none : (site : ℕ) (seen : BTreeSet Group) → SeesOnly site seen seen
 sees_none site seen g h = inl h
 
-pub sees_one : (site first : ℕ) (seen seen' : BTreeSet Group) → Updates group_cmp seen seen' (record { site = site; first = first }) true → SeesOnly site seen seen'
+pub sees_one : (site first : ℕ) (seen seen' : BTreeSet Group) → Sees seen seen' (record { site = site; first = first }) → SeesOnly site seen seen'
 sees_one site first seen seen' upd g h = ⊎_elim
     (λ before. inl before)
     (λ same. inr (sym (ap (λ (x : Group). x.site) same)))
-    ((found-insert group_cmp groups_total groups_exact seen seen' (record { site = site; first = first }) upd g).0 h)
+    ((upd g).0 h)
 
 pub sees_both : (site : ℕ) (a b c : BTreeSet Group) → SeesOnly site a b → SeesOnly site b c → SeesOnly site a c
 sees_both site a b c one two g h = ⊎_elim (λ before. one g before) (λ own. inr own) (two g h)
 
 -- a transformation that was seen before adds nothing
-adds_again : (s : SiteEvents) (site first : ℕ) (P : Pair → Type 0) (seen seen' : BTreeSet Group) (Old : Pair → Type 0) → Updates group_cmp seen seen' (record { site = site; first = first }) true → IsSeen seen site first
+adds_again : (s : SiteEvents) (site first : ℕ) (P : Pair → Type 0) (seen seen' : BTreeSet Group) (Old : Pair → Type 0) → Sees seen seen' (record { site = site; first = first }) → IsSeen seen site first
     → ((q : Pair) → P q → Gives s first q) → AddsUnseen (λ groups q. IsGiven s site groups q) P seen seen' Old Old
 adds_again s site first P seen seen' Old upd there gives = record {
   stay = λ q h. h;
@@ -162,7 +163,7 @@ adds_again s site first P seen seen' Old upd there gives = record {
   given = λ q (other, found, given). ⊎_elim
       (λ before. inl (other, before, given))
       (λ same. inl (other, subst (λ (g : Group). IsFound group_cmp seen g) same there, given))
-      ((found-insert group_cmp groups_total groups_exact seen seen' (record { site = site; first = first }) upd (record { site = site; first = other })).0 found);
+      ((upd (record { site = site; first = other })).0 found);
 }
 
 module _ (ships : Bool) (s : SiteEvents) (item : List ℕ) (e : Content) where
@@ -234,7 +235,7 @@ module _ (ships : Bool) (s : SiteEvents) (item : List ℕ) (e : Content) where
           given = λ q h. inl h;
         }
 
-    module _ (first : ℕ) (takes : takes_in item e.body ≡ true) (stood_for : (j : List ℕ) → at_place (λ f. outs_of s.events j f.body) (slice_get s.events first) ≡ outs_of s.events j e.body) (upd : Updates group_cmp seen seen' (record { site = site; first = first }) true) where
+    module _ (first : ℕ) (takes : takes_in item e.body ≡ true) (stood_for : (j : List ℕ) → at_place (λ f. outs_of s.events j f.body) (slice_get s.events first) ≡ outs_of s.events j e.body) (upd : Sees seen seen' (record { site = site; first = first })) where
       -- its transformation is new
       pub event_new : (z : Pair → Type 0) → HasMore y z makes → AddsUnseen (λ groups q. IsGiven s site groups q) SoughtHere seen seen' x z
       event_new z made =

@@ -14,7 +14,7 @@ use Rattle.trace_core.specs.Spreads.{items_of}
 use Rattle.trace_core.proofs.NumberLists.{with_one, with_more, with_names-append, lists_with, numbers_stay}
 use Rattle.trace_core.proofs.NamedLists.{noted_found, noted_names, forgotten_found, changed_names}
 use Rattle.trace_core.proofs.PairTestsDecide.{lists_decides}
-use Rattle.trace_core.proofs.PlaceSteps.{noted_key, forgotten_key, notes_both, forgets_both, notes_some_more, notes_some_first, noted_some, forgotten_again, lists_more}
+use Rattle.trace_core.proofs.PlaceSteps.{noted_key, forgotten_key, notes_both, forgets_both, notes_some_more, noted_some, forgotten_again, lists_more}
 
 module _ (first cur new : List Named) (place : ℕ) (items : List (List ℕ)) (n : ℕ) where
   -- one item more
@@ -93,13 +93,6 @@ module _ (first second third : List Named) (place : ℕ) (xs ys all : List (List
         more = more ++ two.more;
         names = two.names ∙ ap (λ ns. ns ++ two.more) (one.names ∙ is) ∙ append_assoc (names_of first) more two.more;
       }
-
-  pub note_some_of_first : NotesSomeItems first second place xs → NotesSomeItems first second place all
-  note_some_of_first one = record {
-    noted = notes_some_first (item_places first) (item_places second) place (lists xs) (lists ys) (lists all) either one.noted;
-    more = one.more;
-    names = one.names;
-  }
 
   pub forget_two : ForgetsPlace first second place (lists xs) → ForgetsPlace second third place (lists ys) → ForgetsPlace first third place (lists all)
   forget_two one two = record {

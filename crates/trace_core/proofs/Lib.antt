@@ -15,6 +15,7 @@ pub mod IndexSteps
 pub mod ItemSteps
 pub mod KeyOrder
 pub mod LookSteps
+pub mod MarkSteps
 pub mod Members
 pub mod NamedLists
 pub mod NodeOrder
@@ -28,6 +29,7 @@ pub mod PlaceLists
 pub mod PlaceSteps
 pub mod ReachSteps
 pub mod RelatedPlaces
+pub mod SeenSteps
 pub mod SetMembers
 pub mod SpreadSteps
 pub mod StandingPlaces

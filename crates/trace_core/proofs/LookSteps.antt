@@ -1,7 +1,7 @@
 -- How looks add up.
 use Rattle.std.proofs.Common.{◌≡◌, ◌<◌, ◌≤◌, ◌+◌, ◌-◌, ◌^◌, ℕ, Bool, true, false, cond, nat_lt, eqb, Option, Some, None, List, [], ◌∷◌, map, filter, take, length, get_or, slice_get, sum_by, refl, sym, ap, ◌∙◌, subst, inl, inr, ⊎_elim, arith}
 use mathlib.Core.Logic.{◌⊎◌}
-use Rattle.std.specs.BTreeSet.{BTreeSet, contains, Updates}
+use Rattle.std.specs.BTreeSet.{BTreeSet, contains}
 use Rattle.std.specs.List.{enumerate_from, Contains}
 use Rattle.std.proofs.lemmas.Bool.{cases_Bool, cond-true, cond-false, eqb-true, eq-eqb}
 use Rattle.std.proofs.lemmas.List.{take_more}
@@ -10,18 +10,16 @@ use Rattle.std.proofs.lemmas.List.Sums.{sum_by-cons, sum_by_push, sum_by-take-le
 use Rattle.std.proofs.lemmas.Option.{slice_get-get_or, slice_get_cases}
 use Rattle.event_json.specs.Events.{Content}
 use Rattle.trace_core.specs.declared.groups.Group.{Group}
-use Rattle.trace_core.specs.Groups.{group_cmp, outputs_at, parts_of, or_place, first_of, group_outputs, unseen_outputs, LooksAtUnseen}
+use Rattle.trace_core.specs.Groups.{group_cmp, Sees, outputs_at, parts_of, or_place, first_of, group_outputs, unseen_outputs, LooksAtUnseen}
 use Rattle.trace_core.specs.Looks.{one_look, LooksAtMost}
 use Rattle.trace_core.specs.Pairs.{make_id}
 use Rattle.trace_core.specs.PairTests.{same_id}
 use Rattle.trace_core.specs.Places.{places_where}
 use Rattle.trace_core.specs.Spreads.{output_count}
-use Rattle.trace_core.proofs.GroupOrder.{groups_total, groups_exact}
 use Rattle.trace_core.proofs.Members.{contains_here, contains_there}
 use Rattle.trace_core.proofs.PairTestsDecide.{same_id_decides}
 use Rattle.trace_core.proofs.PlaceLists.{place_there}
 use Rattle.trace_core.proofs.RelatedPlaces.{slice_there}
-use Rattle.trace_core.proofs.SetMembers.{found-insert}
 
 -- it grows by one, or stays at the end
 pub one_look_cases : (n : ℕ) → (one_look n ≡ n + 1) ⊎ ((one_look n ≡ n) × (2 ^ 64 - 1 ≤ n))
@@ -118,7 +116,7 @@ module _ (site : ℕ) (events : List Content) where
       some_of true n = omega arith
       some_of false n = omega arith
 
-  module _ (first : ℕ) (seen seen' : BTreeSet Group) (upd : Updates group_cmp seen seen' (record { site = site; first = first }) true) (new : contains group_cmp seen (record { site = site; first = first }) ≡ false) where
+  module _ (first : ℕ) (seen seen' : BTreeSet Group) (upd : Sees seen seen' (record { site = site; first = first })) (new : contains group_cmp seen (record { site = site; first = first }) ≡ false) where
     -- the outputs of the transformation that is seen now, at one place
     abbrev mine : ℕ × Content → ℕ
     mine a = cond (eqb (first_of events a.0 a.1.body) first) (output_count a.1.body) 0
@@ -127,7 +125,7 @@ module _ (site : ℕ) (events : List Content) where
     less_left a =
         let at = first_of events a.0 a.1.body in
         let n = output_count a.1.body in
-        let still = found-insert group_cmp groups_total groups_exact seen seen' (record { site = site; first = first }) upd (record { site = site; first = at }) in
+        let still = upd (record { site = site; first = at }) in
         ⊎_elim
         (λ yes.
         let same : first ≡ at = sym (eqb-true at first yes) in
@@ -177,13 +175,13 @@ module _ (site : ℕ) (events : List Content) where
       group_looked looks looks' looked = record { least = looked.least; most = omega (arith, looked.most, group_left (make_id e.body), all_left) }
 
   -- a transformation that was seen isn't looked at again
-  pub group_passed : (first : ℕ) (seen seen' : BTreeSet Group) (looks : ℕ) → Updates group_cmp seen seen' (record { site = site; first = first }) true → LooksAtUnseen site events seen seen' looks looks
+  pub group_passed : (first : ℕ) (seen seen' : BTreeSet Group) (looks : ℕ) → Sees seen seen' (record { site = site; first = first }) → LooksAtUnseen site events seen seen' looks looks
   unfolding unseen_outputs
   group_passed first seen seen' looks upd = record { least = omega arith; most = omega (arith, sum_by-le-sum_by (left_at seen') (left_at seen) (enumerate_from 0 events) (λ a. fewer (record { site = site; first = first_of events a.0 a.1.body }) (output_count a.1.body))) }
     where
       fewer : (g : Group) (n : ℕ) → cond (contains group_cmp seen' g) 0 n ≤ cond (contains group_cmp seen g) 0 n
       fewer g n =
-          let still = found-insert group_cmp groups_total groups_exact seen seen' (record { site = site; first = first }) upd g in
+          let still = upd g in
           ⊎_elim
           (λ there. omega (arith, cond-true (contains group_cmp seen' g) 0 n (still.1 (inl there))))
           (λ away. ⊎_elim

@@ -1,11 +1,15 @@
--- The order of nodes tells them apart.
+-- An order of nodes, which tells them apart.
 use Rattle.std.proofs.Common.{ℕ, ap}
 use Rattle.std.specs.Cmp.{IsTotalOrder}
 use Rattle.std.specs.declared.cmp.Ordering.{Ordering}
 use Rattle.std.specs.Ordering.{nat_cmp, ordering_then}
 use Rattle.std.proofs.lemmas.Cmp.{then_total, on_total, nat_cmp_total}
 use Rattle.std.proofs.lemmas.Map.Lookups.{CmpEqualImpliesEq, exact_pairs, exact_unsigned}
-use Rattle.trace_core.specs.Nodes.{node_cmp}
+use Rattle.trace_core.specs.declared.nodes.Node.{Node}
+
+-- by site, then by item, then by the pair's site
+abbrev pub node_cmp : Node → Node → Ordering
+node_cmp a b = ordering_then (nat_cmp a.site b.site) (ordering_then (nat_cmp a.item b.item) (nat_cmp a.at b.at))
 
 abbrev two_cmp : ℕ × ℕ → ℕ × ℕ → Ordering
 two_cmp x y = ordering_then (nat_cmp x.0 y.0) (nat_cmp x.1 y.1)

@@ -1,5 +1,5 @@
 -- The places of keys, as events are noted and taken back.
-use Rattle.std.proofs.Common.{◌≡◌, ◌==◌, ◌<◌, ◌-◌, ◌+◌, ◌≤◌, ℕ, Bool, true, false, not, cond, ◌&&◌, ◌||◌, List, [], ◌∷◌, ◌++◌, Option, Some, None, length, take, drop, get_or, slice_get, Result, Ok, Err, OnErr, refl, sym, ap, subst, ◌∙◌, ⊎_elim, append-nil, length-append, arith}
+use Rattle.std.proofs.Common.{◌≡◌, ◌==◌, ◌<◌, ◌-◌, ◌+◌, ℕ, Bool, true, false, not, cond, ◌&&◌, ◌||◌, List, [], ◌∷◌, ◌++◌, Option, Some, None, length, take, drop, get_or, slice_get, Result, Ok, Err, OnErr, refl, sym, ap, ◌∙◌, ⊎_elim, append-nil, length-append, arith}
 use mathlib.Core.Bool.{false≢true}
 use Rattle.std.specs.BTreeMap.{BTreeMap, UpdatesBy}
 use Rattle.std.specs.Cmp.Lexicographic.{slice_cmp}
@@ -10,7 +10,7 @@ use Rattle.std.specs.declared.string.String.{String}
 use Rattle.std.specs.declared.alloc.Global.{Global}
 use Rattle.std.proofs.Math.Seq.{get_or-append_seam}
 use Rattle.std.proofs.lemmas.Bool.{cases_Bool, cond-true, cond-false, eqb-true, eq-eqb}
-use Rattle.std.proofs.lemmas.List.{take_at, take_all, take-append-drop}
+use Rattle.std.proofs.lemmas.List.{take_at, take-append-drop}
 use Rattle.std.proofs.lemmas.List.Folds.{list_any_more, list_any-append}
 use Rattle.std.proofs.lemmas.Map.Text.{btree_map_updates_text}
 use Rattle.std.proofs.lemmas.Option.{slice_get-get_or, slice_get_cases, get_or_from_slice_get}
@@ -146,13 +146,6 @@ module _ (found left : List ℕ → Option (List ℕ)) (place : ℕ) (key : List
       (λ other. taken i ∙ cond-false _ (left_of place (found i)) (found i) other ∙ sym (cond-false _ (kept (without_last place (or_none (found key)))) (found i) other))
       (cases_Bool (same_item key i)))
 
--- without a key there is nothing to take away
-pub forgets_none : (found : List ℕ → Option (List ℕ)) (place : ℕ) (key : List ℕ) → found key ≡ None → ForgetsIn found found place key
-forgets_none found place key none i = ⊎_elim
-    (λ here. let same : found i ≡ None = ap found (sym ((bytes_eq-Decides key i).0 here)) ∙ none in same ∙ ap (left_of place) (sym same) ∙ sym (cond-true _ (left_of place (found i)) (found i) here))
-    (λ other. sym (cond-false _ (left_of place (found i)) (found i) other))
-    (cases_Bool (same_item key i))
-
 -- one after another
 module _ (first second third : List ℕ → Option (List ℕ)) (place : ℕ) (xs ys all : List ℕ → Bool) (both : (i : List ℕ) → all i ≡ (xs i || ys i)) where
   pub notes_both : Notes first second place xs → Notes second third place ys → Notes first third place all
@@ -205,13 +198,6 @@ noted_some first cur new place items n so_far same = record {
   noted = λ earlier noted before is i. same i ∙ so_far earlier noted before is i;
 }
 
--- all of a list
-pub notes_all : (found found' : List ℕ → Option (List ℕ)) (place : ℕ) (items : List (List ℕ)) (n : ℕ) → length items ≤ n → Notes found found' place (lists (take n items)) → Notes found found' place (lists items)
-notes_all found found' place items n past = subst (λ xs. Notes found found' place (lists xs)) (take_all n items past)
-
-pub forgets_all : (found found' : List ℕ → Option (List ℕ)) (place : ℕ) (items : List (List ℕ)) (n : ℕ) → length items ≤ n → Forgets found found' place (lists (take n items)) → Forgets found found' place (lists items)
-forgets_all found found' place items n past = subst (λ xs. Forgets found found' place (lists xs)) (take_all n items past)
-
 -- some of the second keys after all of the first
 pub notes_some_more : (first second third : List ℕ → Option (List ℕ)) (place : ℕ) (xs ys all : List ℕ → Bool) → ((i : List ℕ) → all i ≡ (xs i || ys i)) → Notes first second place xs → NotesSome second third place ys → NotesSome first third place all
 notes_some_more first second third place xs ys all both one two = record {
@@ -263,6 +249,3 @@ made_items b id ins outs xs ys is are_ins are_outs i =
 -- noted for no key, or taken away from none
 pub notes_none : (found : List ℕ → Option (List ℕ)) (place : ℕ) (keys : List ℕ → Bool) → ((i : List ℕ) → keys i ≡ false) → Notes found found place keys
 notes_none found place keys none earlier noted before is i = is i ∙ ap (λ b. kept (earlier i ++ cond b (place ∷ []) [])) (sym (ap (λ b. noted i || b) (none i) ∙ or_no (noted i)))
-
-pub forgets_no_key : (found : List ℕ → Option (List ℕ)) (place : ℕ) (keys : List ℕ → Bool) → ((i : List ℕ) → keys i ≡ false) → Forgets found found place keys
-forgets_no_key found place keys none earlier noted before is i = is i ∙ ap (λ b. kept (earlier i ++ cond b (place ∷ []) [])) (sym (ap (λ b. noted i && not b) (none i) ∙ and_yes (noted i)))

@@ -5,16 +5,15 @@ use mathlib.Core.Logic.{◌⊎◌}
 use Rattle.std.specs.BTreeSet.{BTreeSet}
 use Rattle.std.specs.List.{list_any, Contains}
 use Rattle.std.proofs.lemmas.Bool.{cases_eq, cases_lt}
-use Rattle.std.proofs.lemmas.List.Elements.{Contains-append_left, Contains-append_cases, Contains-push}
+use Rattle.std.proofs.lemmas.List.Elements.{Contains-append_cases}
 use Rattle.std.proofs.lemmas.Option.{slice_get-get_or, slice_get_within, slice_get_cases}
 use Rattle.event_json.specs.Events.{Content}
 use Rattle.trace_core.specs.declared.groups.Group.{Group}
 use Rattle.trace_core.specs.declared.nodes.Node.{Node}
-use Rattle.trace_core.specs.declared.nodes.Nodes.{Nodes}
 use Rattle.trace_core.specs.declared.pairs.Pair.{Pair}
 use Rattle.trace_core.specs.Chains.{Related, RelatesFrom}
 use Rattle.trace_core.specs.Groups.{IsGiven, IsGivenBy, SeesOnly, IsSought}
-use Rattle.trace_core.specs.Nodes.{Stands, Had, IsListed, Gains, ReachedFromNodes}
+use Rattle.trace_core.specs.Nodes.{Stands, Had, Gains, ReachedFromNodes}
 use Rattle.trace_core.specs.Numbers.{number_in, numbered}
 use Rattle.trace_core.specs.Pairs.{IsRelated}
 use Rattle.trace_core.specs.Places.{kept, places_where, names_item}
@@ -23,20 +22,11 @@ use Rattle.trace_core.specs.Sites.{SiteEvents}
 use Rattle.trace_core.proofs.ChainLaws.{reaches_itself, reaches_step, reached_holds}
 use Rattle.trace_core.proofs.GroupSteps.{sought_at, sought_places, adds_same}
 use Rattle.trace_core.proofs.IndexSteps.{unnamed}
-use Rattle.trace_core.proofs.Members.{contains_cases, contains_none}
+use Rattle.trace_core.proofs.Members.{contains_none}
 use Rattle.trace_core.proofs.NodeSteps.{more_nodes, gains_none, gains_retold}
 use Rattle.trace_core.proofs.NumberLists.{some_is, none_is, number_stands, unnumbered, numbered_apart}
+use Rattle.trace_core.proofs.SetMembers.{contains_pushed}
 use Rattle.trace_core.proofs.Visiting.{BySites, one_site, all_sites_added}
-
-only : {X : Type 0} (x y : X) → Contains (x ∷ []) y → x ≡ y
-only x y h = ⊎_elim (λ e. e) (λ none. absurd (contains_none y none)) (contains_cases x y [] h)
-
--- one element more at the end
-pub contains_pushed : {X : Type 0} (xs : List X) (x y : X) → Contains (xs ++ x ∷ []) y ↔ (Contains xs y ⊎ (x ≡ y))
-contains_pushed xs x y = (
-  λ h. ⊎_elim (λ before. inl before) (λ last. inr (only x y last)) (Contains-append_cases xs (x ∷ []) y h),
-  λ h. ⊎_elim (λ before. Contains-append_left xs (x ∷ []) y before) (λ same. subst (Contains (xs ++ x ∷ [])) same (Contains-push xs x)) h,
-)
 
 no_places : (ks : List ℕ) → kept ks ≡ None → ks ≡ []
 no_places [] h = refl
@@ -62,9 +52,6 @@ module _ (sites : List SiteEvents) where
       let same : t ≡ s = some_is t s (sym at ∙ here) in
       sym (numbered_apart s.events n.item p.item (ap (λ (u : SiteEvents). slice_get (numbered u.events) n.item) (sym same) ∙ item))
 
-  pub item_of_node : (n : Node) (p : Pair) (s : SiteEvents) → Stands sites n p → slice_get sites n.site ≡ Some s → slice_get (numbered s.events) n.item ≡ Some p.item
-  item_of_node n p s (t, at, item, place) here = ap (λ (u : SiteEvents). slice_get (numbered u.events) n.item) (some_is s t (sym here ∙ at)) ∙ item
-
   pub site_of_node : (n : Node) (p : Pair) → Stands sites n p → p.site ≡ n.at
   site_of_node n p (t, at, item, place) = place
 
@@ -73,35 +60,35 @@ module _ (sites : List SiteEvents) where
     it : s ≡ t
     it = some_is s t (sym at_s ∙ at_t)
 
-    pub site_gains : (item : ℕ) (a b : BTreeSet Group) (x y : Nodes) → s.me ≡ node.at → Some item ≡ number_in (numbered t.events) p.item
+    pub site_gains : (item : ℕ) (a b : BTreeSet Group) (x y : List Node) → s.me ≡ node.at → Some item ≡ number_in (numbered t.events) p.item
         → ((all : List SiteEvents) (i : List ℕ) → slice_get all number ≡ Some s → slice_get (numbered s.events) item ≡ Some i → Gains (Stands all) (λ groups q. IsGiven s number groups q) (λ q. IsSought true s i q) a b x y)
         → Gains (Stands sites) (IsGiven t number) (RelatesFrom t p) a b x y
     site_gains item a b x y own known gained = subst (λ (u : SiteEvents). Gains (Stands sites) (IsGiven u number) (RelatesFrom u p) a b x y) it
         (gains_retold (Stands sites) (λ groups q. IsGiven s number groups q) (IsGiven s number) (λ q. IsSought true s p.item q) (RelatesFrom s p) a b x y
-        (adds_same (IsGiven s number) (λ q. IsSought true s p.item q) (RelatesFrom s p) a b (Had (Stands sites) x.found) (Had (Stands sites) y.found) (λ q. (λ h. (own ∙ sym (site_of_node node p stands), h), λ h. h.1)))
+        (adds_same (IsGiven s number) (λ q. IsSought true s p.item q) (RelatesFrom s p) a b (Had (Stands sites) x) (Had (Stands sites) y) (λ q. (λ h. (own ∙ sym (site_of_node node p stands), h), λ h. h.1)))
         (gained sites p.item at_s (number_stands (numbered s.events) p.item item (ap (λ (u : SiteEvents). number_in (numbered u.events) p.item) it ∙ sym known))))
 
-    pub unknown_gains : (a : BTreeSet Group) (x : Nodes) → None ≡ number_in (numbered t.events) p.item → Gains (Stands sites) (IsGiven t number) (RelatesFrom t p) a a x x
+    pub unknown_gains : (a : BTreeSet Group) (x : List Node) → None ≡ number_in (numbered t.events) p.item → Gains (Stands sites) (IsGiven t number) (RelatesFrom t p) a a x x
     unknown_gains a x unknown = gains_none (Stands sites) (IsGiven t number) (RelatesFrom t p) a x (λ q h. unrelated t p.item (sym unknown) q h.1)
 
-    pub elsewhere_gains : (a : BTreeSet Group) (x : Nodes) → (s.me ≡ node.at → ⊥) → Gains (Stands sites) (IsGiven t number) (RelatesFrom t p) a a x x
+    pub elsewhere_gains : (a : BTreeSet Group) (x : List Node) → (s.me ≡ node.at → ⊥) → Gains (Stands sites) (IsGiven t number) (RelatesFrom t p) a a x x
     elsewhere_gains a x apart = gains_none (Stands sites) (IsGiven t number) (RelatesFrom t p) a x (λ q h. apart (ap (λ (u : SiteEvents). u.me) it ∙ h.0 ∙ site_of_node node p stands))
 
   -- one site more
-  pub sites_gain : (n : ℕ) (s : SiteEvents) (p : Pair) (a b c : BTreeSet Group) (x y z : Nodes) → slice_get sites n ≡ Some s → Gains (Stands sites) (IsGivenBy sites) (BySites sites p n) a b x y
+  pub sites_gain : (n : ℕ) (s : SiteEvents) (p : Pair) (a b c : BTreeSet Group) (x y z : List Node) → slice_get sites n ≡ Some s → Gains (Stands sites) (IsGivenBy sites) (BySites sites p n) a b x y
       → Gains (Stands sites) (IsGiven s n) (RelatesFrom s p) b c y z → SeesOnly n b c → Gains (Stands sites) (IsGivenBy sites) (BySites sites p (n + 1)) a c x z
   sites_gain n s p a b c x y z at one two sees = record {
     nodes = one.nodes ++ two.nodes;
     noted = more_nodes x y z one.nodes two.nodes one.noted two.noted;
     stand = λ m h. ⊎_elim (one.stand m) (two.stand m) (Contains-append_cases one.nodes two.nodes m h);
-    added = one_site sites p n s a b c (Had (Stands sites) x.found) (Had (Stands sites) y.found) (Had (Stands sites) z.found) at one.added two.added sees;
+    added = one_site sites p n s a b c (Had (Stands sites) x) (Had (Stands sites) y) (Had (Stands sites) z) at one.added two.added sees;
   }
 
-  pub no_site_gains : (p : Pair) (a : BTreeSet Group) (x : Nodes) → Gains (Stands sites) (IsGivenBy sites) (BySites sites p 0) a a x x
+  pub no_site_gains : (p : Pair) (a : BTreeSet Group) (x : List Node) → Gains (Stands sites) (IsGivenBy sites) (BySites sites p 0) a a x x
   no_site_gains p a x = gains_none (Stands sites) (IsGivenBy sites) (BySites sites p 0) a x (λ q (k, s, below, at, related). omega (arith, below))
 
-  pub all_sites_gain : (n : ℕ) (p : Pair) (a b : BTreeSet Group) (x y : Nodes) → length sites ≤ n → Gains (Stands sites) (IsGivenBy sites) (BySites sites p n) a b x y → Gains (Stands sites) (IsGivenBy sites) (Related sites p) a b x y
-  all_sites_gain n p a b x y past = gains_retold (Stands sites) (IsGivenBy sites) (IsGivenBy sites) (BySites sites p n) (Related sites p) a b x y (all_sites_added sites p n a b (Had (Stands sites) x.found) (Had (Stands sites) y.found) past)
+  pub all_sites_gain : (n : ℕ) (p : Pair) (a b : BTreeSet Group) (x y : List Node) → length sites ≤ n → Gains (Stands sites) (IsGivenBy sites) (BySites sites p n) a b x y → Gains (Stands sites) (IsGivenBy sites) (Related sites p) a b x y
+  all_sites_gain n p a b x y past = gains_retold (Stands sites) (IsGivenBy sites) (IsGivenBy sites) (BySites sites p n) (Related sites p) a b x y (all_sites_added sites p n a b (Had (Stands sites) x) (Had (Stands sites) y) past)
 
   module _ (root : Pair) where
     -- the nodes of the first so many sites
@@ -162,15 +149,15 @@ module _ (sites : List SiteEvents) where
         )
 
     -- where one does, it is there
-    pub root_there : (pairs : List Pair) (starts list : List Node) (nodes : Nodes) → ((p : Pair) → Contains pairs p ↔ ((n : Node) × Contains list n × Stands sites n p)) → ((n : Node) → Contains starts n ↔ Stands sites n root) → IsListed nodes
-        → ((q : Pair) → Had (Stands sites) nodes.found q ↔ ReachedFromNodes (Stands sites) (Related sites) starts q) → list ≡ nodes.list.items → (length starts ≡ 0 → ⊥) → HasRoot pairs list
-    root_there pairs starts list nodes are begin listed reached same some p = (
+    pub root_there : (pairs : List Pair) (starts list : List Node) (nodes : List Node) → ((p : Pair) → Contains pairs p ↔ ((n : Node) × Contains list n × Stands sites n p)) → ((n : Node) → Contains starts n ↔ Stands sites n root)
+        → ((q : Pair) → Had (Stands sites) nodes q ↔ ReachedFromNodes (Stands sites) (Related sites) starts q) → list ≡ nodes → (length starts ≡ 0 → ⊥) → HasRoot pairs list
+    root_there pairs starts list nodes are begin reached same some p = (
       λ h. inr ((are p).0 h),
       λ h. ⊎_elim
           (λ is.
           let (n, start) = some_member starts some in
           let (m, found, stands) = (reached root).1 (n, root, start, (begin n).0 start, reaches_itself (Related sites) root) in
-          (are p).1 (m, subst (λ ns. Contains ns m) (sym same) (listed.listed m found), subst (Stands sites m) (sym is) stands))
+          (are p).1 (m, subst (λ ns. Contains ns m) (sym same) found, subst (Stands sites m) (sym is) stands))
           (λ from. (are p).1 from)
           h,
     )
@@ -188,11 +175,11 @@ module _ (sites : List SiteEvents) where
         numbered_by (Some m) known = (record { site = k; item = m; at = root.site }, (s, slice_get-get_or sites k s below ∙ ap Some at, number_stands (numbered s.events) root.item m known, refl))
 
     -- the root and the pairs that the found nodes stand for are what is reached
-    pub reach_exact : (starts list : List Node) (nodes : Nodes) (pairs : List Pair) → ((n : Node) → Contains starts n ↔ Stands sites n root) → IsListed nodes → ((q : Pair) → Had (Stands sites) nodes.found q ↔ ReachedFromNodes (Stands sites) (Related sites) starts q)
-        → list ≡ nodes.list.items → HasRoot pairs list → (p : Pair) → Contains pairs p ↔ Reaches (Related sites) root p
-    reach_exact starts list nodes pairs are listed reached same pairs_are p =
+    pub reach_exact : (starts list : List Node) (nodes : List Node) (pairs : List Pair) → ((n : Node) → Contains starts n ↔ Stands sites n root) → ((q : Pair) → Had (Stands sites) nodes q ↔ ReachedFromNodes (Stands sites) (Related sites) starts q)
+        → list ≡ nodes → HasRoot pairs list → (p : Pair) → Contains pairs p ↔ Reaches (Related sites) root p
+    reach_exact starts list nodes pairs are reached same pairs_are p =
         let R = Related sites in
-        let closed : (y z : Pair) → (y ≡ root) ⊎ Had (Stands sites) nodes.found y → R y z → (z ≡ root) ⊎ Had (Stands sites) nodes.found z = λ y z h r. ⊎_elim
+        let closed : (y z : Pair) → (y ≡ root) ⊎ Had (Stands sites) nodes y → R y z → (z ≡ root) ⊎ Had (Stands sites) nodes z = λ y z h r. ⊎_elim
         (λ is.
         let (n, stands) = root_node z (subst (λ (x : Pair). R x z) is r) in
         inr ((reached z).1 (n, root, (are n).1 stands, stands, reaches_step R root root z (reaches_itself R root) (subst (λ (x : Pair). R x z) is r))))
@@ -201,13 +188,13 @@ module _ (sites : List SiteEvents) where
           λ h. ⊎_elim
               (λ is. subst (Reaches R root) (sym is) (reaches_itself R root))
               (λ (n, there, stands).
-              let (m, s, start, stood, reaches) = (reached p).0 (n, listed.found n (subst (λ ns. Contains ns n) same there), stands) in
+              let (m, s, start, stood, reaches) = (reached p).0 (n, subst (λ ns. Contains ns n) same there, stands) in
               subst (λ x. Reaches R x p) (one_stands m s root stood ((are m).0 start)) reaches)
               ((pairs_are p).0 h),
           λ reaches. (pairs_are p).1 (⊎_elim
               (λ is. inl is)
-              (λ (n, found, stands). inr (n, subst (λ ns. Contains ns n) (sym same) (listed.listed n found), stands))
-              (reached_holds R (λ q. (q ≡ root) ⊎ Had (Stands sites) nodes.found q) closed root p reaches (inl refl))),
+              (λ (n, found, stands). inr (n, subst (λ ns. Contains ns n) (sym same) found, stands))
+              (reached_holds R (λ q. (q ≡ root) ⊎ Had (Stands sites) nodes q) closed root p reaches (inl refl))),
         )
 
 pub some_site : (sites : List SiteEvents) (n : ℕ) → n < length sites → (s : SiteEvents) × (slice_get sites n ≡ Some s)

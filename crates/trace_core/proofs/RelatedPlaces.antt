@@ -1,12 +1,12 @@
 -- The places of the events that name an item lead to all that relates it.
-use Rattle.std.proofs.Common.{◌≡◌, ◌==◌, not, ◌&&◌, ◌<◌, ◌≤◌, ◌+◌, ℕ, Bool, true, false, ◌||◌, List, take, length, get_or, slice_get, ◌↔◌, Option, Some, None, refl, sym, ap, subst, ◌∙◌, ⊎_elim}
+use Rattle.std.proofs.Common.{◌≡◌, ◌==◌, not, ◌&&◌, ◌<◌, ◌≤◌, ℕ, Bool, true, false, ◌||◌, List, take, length, get_or, slice_get, ◌↔◌, Option, Some, None, refl, sym, ap, subst, ◌∙◌, ⊎_elim}
 use mathlib.Core.Bool.{false≢true}
 use Rattle.std.specs.BTreeSet.{BTreeSet}
 use Rattle.std.specs.List.{list_any, Contains}
 use Rattle.std.proofs.lemmas.Bool.{or_cases, and_parts}
 use Rattle.std.proofs.lemmas.Bool.Decides.{same_from_decides}
 use Rattle.std.proofs.lemmas.List.{take_all}
-use Rattle.std.proofs.lemmas.List.Folds.{list_any_more, list_any-append}
+use Rattle.std.proofs.lemmas.List.Folds.{list_any-append}
 use Rattle.std.proofs.lemmas.Option.{slice_get-get_or, slice_get_cases, get_or_from_slice_get}
 use Rattle.event_json.specs.Events.{Content}
 use Rattle.event_json.specs.declared.bodies.Body.{Body}
@@ -81,16 +81,6 @@ pub related_at_places : (s : SiteEvents) (item : List ℕ) (set : BTreeSet Pair)
     → ((p : Pair) → is_in set p ≡ list_any (λ k. related_at s.me s.events item (slice_get s.events k) p) (take n places)) → (p : Pair) → Contains pairs p ↔ IsRelated s item p
 related_at_places s item set pairs places n keys past are so_far = related_exact s item set pairs keys
     (λ p. so_far p ∙ ap (list_any (λ k. related_at s.me s.events item (slice_get s.events k) p)) (take_all n places past ∙ are) ∙ related_by_places s item p)
-
--- one more place
-pub one_more_place : (s : SiteEvents) (item : List ℕ) (cur new : BTreeSet Pair) (places : List ℕ) (n k : ℕ) → n < length places → k ≡ get_or places n k
-    → ((p : Pair) → is_in new p ≡ (is_in cur p || related_at s.me s.events item (slice_get s.events k) p))
-    → ((p : Pair) → is_in cur p ≡ list_any (λ k. related_at s.me s.events item (slice_get s.events k) p) (take n places))
-    → (p : Pair) → is_in new p ≡ list_any (λ k. related_at s.me s.events item (slice_get s.events k) p) (take (n + 1) places)
-one_more_place s item cur new places n k below at gathered so_far p =
-    let more : list_any (λ k. related_at s.me s.events item (slice_get s.events k) p) (take (n + 1) places) ≡ (list_any (λ k. related_at s.me s.events item (slice_get s.events k) p) (take n places) || related_at s.me s.events item (slice_get s.events k) p) =
-    list_any_more (λ k. related_at s.me s.events item (slice_get s.events k) p) places n k below ∙ ap (λ j. list_any (λ k. related_at s.me s.events item (slice_get s.events k) p) (take n places) || related_at s.me s.events item (slice_get s.events j) p) (sym at) in
-    gathered p ∙ ap (λ b. b || related_at s.me s.events item (slice_get s.events k) p) (so_far p) ∙ sym more
 
 same_id_either : (a b : Option (List ℕ)) → same_id a b ≡ same_id b a
 same_id_either a b = same_from_decides {P = HaveOneId a b} _ _ (same_id_decides a b)

@@ -9,7 +9,7 @@ use Rattle.std.specs.Ordering.{eq_by_cmp}
 use Rattle.std.specs.declared.cmp.Ordering.{Ordering}
 use Rattle.std.proofs.lemmas.Bool.{cases_Bool, cond-true, cond-false}
 use Rattle.std.proofs.lemmas.List.{take_more}
-use Rattle.std.proofs.lemmas.List.Elements.{Contains-append_left, Contains-append_right, Contains-append_cases}
+use Rattle.std.proofs.lemmas.List.Elements.{Contains-append_left, Contains-append_right, Contains-append_cases, Contains-push}
 use Rattle.std.proofs.lemmas.Map.Lookups.{CmpEqualImpliesEq}
 use Rattle.std.proofs.lemmas.Map.Views.{tells_apart}
 use Rattle.trace_core.specs.Searches.{IsFound}
@@ -59,6 +59,13 @@ contains_more xs i x lt at y =
           (λ same. Contains-append_right (take i xs) (x ∷ []) y (subst (Contains (x ∷ [])) same (contains_here x [])))
           either),
     )
+
+-- one element more at the end
+pub contains_pushed : {X : Type 0} (xs : List X) (x y : X) → Contains (xs ++ x ∷ []) y ↔ (Contains xs y ⊎ (x ≡ y))
+contains_pushed xs x y = (
+  λ h. ⊎_elim (λ before. inl before) (λ last. inr (only x y last)) (Contains-append_cases xs (x ∷ []) y h),
+  λ h. ⊎_elim (λ before. Contains-append_left xs (x ∷ []) y before) (λ same. subst (Contains (xs ++ x ∷ [])) same (Contains-push xs x)) h,
+)
 
 pub contains-from_map : {A B : Type 0} (f : A → B) (xs : List A) (y : B) → Contains (map f xs) y → (x : A) × Contains xs x × (f x ≡ y)
 contains-from_map f [] y h = absurd (contains_none y h)

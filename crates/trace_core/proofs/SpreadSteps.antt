@@ -1,30 +1,28 @@
 -- The spread of items, and its looks.
-use Rattle.std.proofs.Common.{◌≡◌, ℕ, zero, suc, ◌<◌, ◌≤◌, ◌+◌, ◌-◌, ◌^◌, false, List, [], ◌∷◌, ◌++◌, Option, None, Some, map, take, get_or, slice_get, unwrap_or, length, length-append, sum_by, ◌↔◌, refl, sym, ap, ◌∙◌, subst, inl, inr, ⊎_elim, arith}
+use Rattle.std.proofs.Common.{◌≡◌, ℕ, zero, suc, ◌<◌, ◌≤◌, ◌+◌, ◌-◌, ◌^◌, true, false, Decides, List, [], ◌∷◌, ◌++◌, Option, None, Some, map, take, get_or, slice_get, unwrap_or, length, length-append, sum_by, ◌↔◌, refl, sym, ap, ◌∙◌, subst, inl, inr, ⊎_elim, arith}
 use mathlib.Core.Logic.{◌⊎◌}
 use Rattle.std.specs.BTreeSet.{BTreeSet}
 use Rattle.std.specs.Cmp.{eq_by_cmp_equiv}
 use Rattle.std.specs.Cmp.Lexicographic.{slice_cmp}
 use Rattle.std.specs.List.{Contains}
-use Rattle.std.specs.Ordering.{nat_cmp}
+use Rattle.std.specs.Ordering.{nat_cmp, eq_by_cmp}
 use Rattle.std.proofs.lemmas.Cmp.{nat_list_cmp_total}
 use Rattle.std.proofs.lemmas.List.{length-map}
 use Rattle.std.proofs.lemmas.List.Elements.{Contains-append_left, Contains-append_right}
 use Rattle.std.proofs.lemmas.Map.Keys.{IsDistinct-from_sorted}
-use Rattle.std.proofs.lemmas.Map.Made.{length-le_from_is_member}
+use Rattle.std.proofs.lemmas.Map.Made.{length-le_from_is_member, IsDistinct-from_AllPairs}
 use Rattle.std.proofs.lemmas.Map.Lookups.{exact_bytes}
 use Rattle.std.proofs.lemmas.Map.Views.{Contains-from_any, list_any-from_Contains, tells_apart}
 use Rattle.event_json.specs.Events.{Content}
 use Rattle.trace_core.specs.declared.groups.Group.{Group}
 use Rattle.trace_core.specs.declared.nodes.Node.{Node}
-use Rattle.trace_core.specs.declared.nodes.Nodes.{Nodes}
 use Rattle.trace_core.specs.declared.pairs.Pair.{Pair}
 use Rattle.trace_core.specs.Groups.{SeeksFrom, IsGiven, IsSought}
-use Rattle.trace_core.specs.Nodes.{node_cmp, Stands, Had, IsListed, Gains, ReachedFromNodes, HasItem, IsKnownNode}
+use Rattle.trace_core.specs.Nodes.{Stands, Had, AreOnce, Gains, ReachedFromNodes, HasItem, IsKnownNode}
 use Rattle.trace_core.specs.Numbers.{number_in, numbered}
 use Rattle.trace_core.specs.Pairs.{IsRelated}
 use Rattle.trace_core.specs.Places.{names_item}
 use Rattle.trace_core.specs.Relations.{Reaches}
-use Rattle.trace_core.specs.Searches.{IsFound}
 use Rattle.trace_core.specs.Sites.{SiteEvents}
 use Rattle.trace_core.specs.Spreads.{AreAscendingItems, Inside, IsSpread, items_of, output_count, HasEachItem, AreLooks}
 use Rattle.trace_core.proofs.ChainLaws.{reaches_itself, reaches_step, reached_holds}
@@ -32,12 +30,12 @@ use Rattle.trace_core.proofs.GroupSteps.{adds_same}
 use Rattle.trace_core.specs.Looks.{one_look}
 use Rattle.trace_core.proofs.LookSteps.{one_look_cases}
 use Rattle.trace_core.proofs.Members.{contains-map, list_any_witness}
-use Rattle.trace_core.proofs.NodeOrder.{nodes_total}
+use Rattle.trace_core.proofs.NodeOrder.{node_cmp, nodes_exact, nodes_total}
 use Rattle.trace_core.proofs.NodeSteps.{gains_none, gains_retold}
 use Rattle.trace_core.proofs.NumberLists.{some_is, none_is, number_stands, number_listed, numbered_apart, numbered_named}
 use Rattle.trace_core.proofs.PairTestsDecide.{lists_decides}
-use Rattle.trace_core.proofs.ReachSteps.{contains_pushed, one_stands, unrelated}
-use Rattle.trace_core.proofs.SetMembers.{contains_more}
+use Rattle.trace_core.proofs.ReachSteps.{one_stands, unrelated}
+use Rattle.trace_core.proofs.SetMembers.{contains_pushed, contains_more}
 
 module _ (s : SiteEvents) where
   abbrev pub here : List ℕ → Pair
@@ -73,21 +71,21 @@ module _ (s : SiteEvents) where
   some_known items n known = (here known.0, known_stands items n known)
 
   -- visiting a node
-  pub node_gains : (node : Node) (at : ℕ) (a b : BTreeSet Group) (x y : Nodes) → node.at ≡ at → at ≡ s.me
+  pub node_gains : (node : Node) (at : ℕ) (a b : BTreeSet Group) (x y : List Node) → node.at ≡ at → at ≡ s.me
       → ((all : List SiteEvents) (i : List ℕ) → slice_get all 0 ≡ Some s → slice_get (numbered s.events) node.item ≡ Some i → Gains (Stands all) (λ groups q. IsGiven s 0 groups q) (λ q. IsSought false s i q) a b x y)
       → (p : Pair) → Stands (s ∷ []) node p → Gains (Stands (s ∷ [])) (IsGiven s 0) (SeeksFrom false s p) a b x y
   node_gains node at a b x y own is gained p (t, at_t, item, place) =
       gains_retold (Stands (s ∷ [])) (λ groups q. IsGiven s 0 groups q) (IsGiven s 0) (λ q. IsSought false s p.item q) (SeeksFrom false s p) a b x y
-      (adds_same (IsGiven s 0) (λ q. IsSought false s p.item q) (SeeksFrom false s p) a b (Had (Stands (s ∷ [])) x.found) (Had (Stands (s ∷ [])) y.found) (λ q. (λ h. (sym (place ∙ own ∙ is), h), λ h. h.1)))
+      (adds_same (IsGiven s 0) (λ q. IsSought false s p.item q) (SeeksFrom false s p) a b (Had (Stands (s ∷ [])) x) (Had (Stands (s ∷ [])) y) (λ q. (λ h. (sym (place ∙ own ∙ is), h), λ h. h.1)))
       (gained (s ∷ []) p.item refl (its_item node p (t, at_t, item, place)))
 
-  pub node_elsewhere : (node : Node) (at : ℕ) (a : BTreeSet Group) (x : Nodes) → (node.at ≡ at → ⊥) → at ≡ s.me → (p : Pair) → Stands (s ∷ []) node p → Gains (Stands (s ∷ [])) (IsGiven s 0) (SeeksFrom false s p) a a x x
+  pub node_elsewhere : (node : Node) (at : ℕ) (a : BTreeSet Group) (x : List Node) → (node.at ≡ at → ⊥) → at ≡ s.me → (p : Pair) → Stands (s ∷ []) node p → Gains (Stands (s ∷ [])) (IsGiven s 0) (SeeksFrom false s p) a a x x
   node_elsewhere node at a x apart is p (t, at_t, item, place) = gains_none (Stands (s ∷ [])) (IsGiven s 0) (SeeksFrom false s p) a x (λ q h. apart (sym place ∙ sym h.0 ∙ sym is))
 
-  module _ (items : List (List ℕ)) (starts list : List Node) (nodes : Nodes) (are : (n : Node) → Contains starts n ↔ IsKnownNode s items n) (listed : IsListed nodes) (stand : (n : Node) → IsFound node_cmp nodes.found n → (q : Pair) × Stands (s ∷ []) n q)
-      (reached : (q : Pair) → Had (Stands (s ∷ [])) nodes.found q ↔ ReachedFromNodes (Stands (s ∷ [])) (SeeksFrom false s) starts q) (same : list ≡ nodes.list.items) where
+  module _ (items : List (List ℕ)) (starts list : List Node) (nodes : List Node) (are : (n : Node) → Contains starts n ↔ IsKnownNode s items n) (once : AreOnce nodes) (stand : (n : Node) → Contains nodes n → (q : Pair) × Stands (s ∷ []) n q)
+      (reached : (q : Pair) → Had (Stands (s ∷ [])) nodes q ↔ ReachedFromNodes (Stands (s ∷ [])) (SeeksFrom false s) starts q) (same : list ≡ nodes) where
     -- a found pair is made of a given item
-    from_given : (n : Node) (q : Pair) → IsFound node_cmp nodes.found n → Stands (s ∷ []) n q → (i : List ℕ) × Contains items i × Reaches (SeeksFrom false s) (here i) q
+    from_given : (n : Node) (q : Pair) → Contains nodes n → Stands (s ∷ []) n q → (i : List ℕ) × Contains items i × Reaches (SeeksFrom false s) (here i) q
     from_given n q found stands =
         let (m, p, start, stood, reaches) = (reached q).0 (n, found, stands) in
         let known = (are m).0 start in
@@ -100,7 +98,7 @@ module _ (s : SiteEvents) where
       λ h. ⊎_elim
           (λ new. (j, ((unknown_are j).0 new).0, reaches_itself (Inside s) j))
           (λ (n, there, is).
-          let has = listed.found n (subst (λ ns. Contains ns n) same there) in
+          let has = subst (λ ns. Contains ns n) same there in
           let (q, stands) = stand n has in
           let its : q.item ≡ j = some_is q.item j (sym (its_item n q stands) ∙ is) in
           let (i, given, reaches) = from_given n q has stands in
@@ -117,15 +115,14 @@ module _ (s : SiteEvents) where
             let start : Node = record { site = 0; item = m; at = s.me } in
             let its : IsKnownNode s items start = (i, given, known, refl, refl) in
             let (n, found, stands) = (reached (here j)).1 (start, here i, (are start).1 its, known_stands items start its, chain-inside i j reaches) in
-            inr (n, subst (λ ns. Contains ns n) (sym same) (listed.listed n found), its_item n (here j) stands)
+            inr (n, subst (λ ns. Contains ns n) (sym same) found, its_item n (here j) stands)
 
-    -- no more nodes are found than items are known
-    nodes_le : (known : List (List ℕ)) → HasEachItem s known → length list ≤ length known
-    nodes_le known each =
-        let node_of : List ℕ → Node = λ i. record { site = 0; item = unwrap_or (number_in (numbered s.events) i) 0; at = s.me } in
-        let laws = eq_by_cmp_equiv nodes_total in
-        let all : length nodes.found.keys ≤ length (map node_of known) = length-le_from_is_member laws nodes.found.keys (map node_of known) (IsDistinct-from_sorted node_cmp nodes.found.keys listed.ordered)
-        (λ n found. list_any-from_Contains laws n (map node_of known) (
+    -- a found node is that of a known item
+    abbrev node_of : List ℕ → Node
+    node_of i = record { site = 0; item = unwrap_or (number_in (numbered s.events) i) 0; at = s.me }
+
+    known_item : (known : List (List ℕ)) → HasEachItem s known → (n : Node) → Contains nodes n → Contains (map node_of known) n
+    known_item known each n found =
         let (q, (t, at, item, place)) = stand n found in
         let number : number_in (numbered s.events) q.item ≡ Some n.item = numbered_apart s.events n.item q.item (its_item n q (t, at, item, place)) in
         let (e, there, names) = list_any_witness (names_item q.item) s.events (sym (numbered_named s.events q.item) ∙ number_listed (numbered s.events) q.item n.item number) in
@@ -133,8 +130,16 @@ module _ (s : SiteEvents) where
         let is : node_of q.item ≡ n =
         ap (λ o. record { site = 0; item = unwrap_or o 0; at = s.me }) number
         ∙ ap (λ (m : ℕ). record { site = m; item = n.item; at = s.me }) (sym (the_site n.site t at).0) ∙ ap (λ (m : ℕ). record { site = n.site; item = n.item; at = m }) (sym (found_here i q reaches) ∙ place) in
-        subst (Contains (map node_of known)) is (contains-map node_of known q.item (each e q.item there ((lists_decides (items_of e.body) q.item).0 names))))) in
-        omega (arith, all, length-map known node_of, listed.count, ap length same)
+        subst (Contains (map node_of known)) is (contains-map node_of known q.item (each e q.item there ((lists_decides (items_of e.body) q.item).0 names)))
+
+    -- no more nodes are found than items are known
+    nodes_le : (known : List (List ℕ)) → HasEachItem s known → length list ≤ length known
+    nodes_le known each =
+        let laws = eq_by_cmp_equiv nodes_total in
+        let tells : (m n : Node) → Decides (eq_by_cmp node_cmp m n) (m ≡ n) = λ m n. (λ at. tells_apart nodes_exact m n at, λ is. subst (λ x. eq_by_cmp node_cmp m x ≡ true) is (laws.refl m)) in
+        let all : length nodes ≤ length (map node_of known) = length-le_from_is_member laws nodes (map node_of known) (IsDistinct-from_AllPairs tells nodes once)
+        (λ n listed. list_any-from_Contains laws n (map node_of known) (known_item known each n (Contains-from_any (tells_apart nodes_exact) n nodes listed))) in
+        omega (arith, all, length-map known node_of, ap length same)
 
     -- nor more items than are unknown or found
     spread_le : (unknown out : List (List ℕ)) → AreAscendingItems out → ((i : List ℕ) → Contains out i → Contains unknown i ⊎ HasItem s.events list i) → length out ≤ length unknown + length list

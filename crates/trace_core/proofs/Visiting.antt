@@ -14,7 +14,7 @@ use Rattle.std.specs.Borrow.{Bor}
 use Rattle.std.proofs.lemmas.List.{length-map, get_or-map}
 use Rattle.trace_core.specs.Chains.{Related, RelatesFrom, sites_at}
 use Rattle.trace_core.specs.Groups.{group_cmp, Gives, IsGiven, IsGivenBy, AddsUnseen, SeesOnly}
-use Rattle.trace_core.specs.Pairs.{pair_cmp, IsRelated}
+use Rattle.trace_core.specs.Pairs.{pair_cmp}
 use Rattle.trace_core.specs.Searches.{IsFound, AreUnseen}
 use Rattle.trace_core.specs.Sites.{SiteEvents}
 use Rattle.trace_core.proofs.GroupSteps.{adds_both, adds_same, adds_none}
@@ -38,14 +38,6 @@ none_given s site none empty q (first, there, gives) = false≢true (subst (λ k
 
 pub none_given_by : (sites : List SiteEvents) (none : BTreeSet Group) → none.keys ≡ [] → (q : Pair) → IsGivenBy sites none q → ⊥
 none_given_by sites none empty q (k, s, at, given) = none_given s k none empty q given
-
--- the site is the pair's, or relates it to nothing
-pub from_site : (s : SiteEvents) (site : ℕ) (node : Pair) (a b : BTreeSet Group) (x y : Pair → Type 0) → s.me ≡ node.site → AddsUnseen (λ groups q. IsGiven s site groups q) (λ q. IsRelated s node.item q) a b x y
-    → AddsUnseen (IsGiven s site) (RelatesFrom s node) a b x y
-from_site s site node a b x y own = adds_same (IsGiven s site) (λ q. IsRelated s node.item q) (RelatesFrom s node) a b x y (λ q. (λ h. (own, h), λ h. h.1))
-
-pub from_elsewhere : (s : SiteEvents) (site : ℕ) (node : Pair) (a : BTreeSet Group) (x : Pair → Type 0) → (s.me ≡ node.site → ⊥) → AddsUnseen (IsGiven s site) (RelatesFrom s node) a a x x
-from_elsewhere s site node a x apart = adds_none (IsGiven s site) (RelatesFrom s node) a x (λ q h. apart h.0)
 
 absent : (o : Option SiteEvents) (t : SiteEvents) → o ≡ None → o ≡ Some t → ⊥
 absent o t none some = cc

@@ -1,20 +1,17 @@
 -- Found nodes as an answer: in batches, and the items of a batch by their numbers.
-use Rattle.std.specs.Prelude.{◌≡◌, ℕ, Bool, true, false, List, Some, slice_get, unwrap_or, Contains}
+use Rattle.std.specs.Prelude.{◌≡◌, ℕ, Bool, true, List, Some, slice_get, Contains}
 use Rattle.std.specs.BTreeMap.{BTreeMap, get}
 use Rattle.std.specs.declared.cmp.Ordering.{Ordering}
 use Rattle.std.specs.Ordering.{nat_cmp, ordering_then}
 use Rattle.event_json.specs.Events.{Content}
-use Rattle.trace_core.specs.declared.batches.Batch.{Batch}
+use Rattle.trace_core.specs.declared.nodes.Batch.{Batch}
 use Rattle.trace_core.specs.declared.nodes.Node.{Node}
 use Rattle.trace_core.specs.declared.pairs.Pair.{Pair}
+use Rattle.trace_core.specs.Marks.{is_set}
 use Rattle.trace_core.specs.Nodes.{Stands}
 use Rattle.trace_core.specs.Numbers.{numbered, number_found}
 use Rattle.trace_core.specs.Places.{or_none}
 use Rattle.trace_core.specs.Sites.{SiteEvents}
-
--- whether the mark at a number is set
-abbrev pub is_set : List Bool → ℕ → Bool
-is_set marks n = unwrap_or (slice_get marks n) false
 
 -- the item's number is marked
 abbrev pub HasMark : BTreeMap (List ℕ) ℕ → List Bool → List ℕ → Type 0

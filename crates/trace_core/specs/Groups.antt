@@ -1,5 +1,5 @@
 -- Transformations that a search comes to once: all parts of one id at a site, or one without an id.
-use Rattle.std.specs.Prelude.{◌≡◌, ◌≤◌, ◌+◌, ℕ, Bool, true, false, ◌&&◌, ◌||◌, cond, List, Option, None, Some, slice_get, sum_by}
+use Rattle.std.specs.Prelude.{◌≡◌, ◌≤◌, ◌+◌, ℕ, Bool, true, false, ◌&&◌, ◌||◌, cond, List, Option, None, Some, slice_get, sum_by, suc, ◌↔◌, [], ◌∷◌, ◌++◌, map}
 use mathlib.Core.Logic.{◌⊎◌}
 use Rattle.std.specs.BTreeSet.{BTreeSet, contains}
 use Rattle.std.specs.List.{enumerate_from}
@@ -21,8 +21,17 @@ use Rattle.trace_core.specs.Spreads.{output_count}
 abbrev pub group_cmp : Group → Group → Ordering
 group_cmp a b = ordering_then (nat_cmp a.site b.site) (nat_cmp a.first b.first)
 
+-- the transformations with these first parts, by site, from this one on
+abbrev pub groups_from : ℕ → List (List ℕ) → List Group
+groups_from site [] = []
+groups_from site (firsts ∷ rest) = map (λ first. record { site = site; first = first }) firsts ++ groups_from (suc site) rest
+
 abbrev pub IsSeen : BTreeSet Group → ℕ → ℕ → Type 0
 IsSeen seen site first = IsFound group_cmp seen (record { site = site; first = first })
+
+-- the transformation is seen now, and no other is new
+abbrev pub Sees : BTreeSet Group → BTreeSet Group → Group → Type 0
+Sees seen seen' g = (h : Group) → IsFound group_cmp seen' h ↔ (IsFound group_cmp seen h ⊎ (g ≡ h))
 
 -- an output of a transformation, or of one that has its id
 abbrev pub outs_of : List Content → List ℕ → Body → Bool

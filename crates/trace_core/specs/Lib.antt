@@ -6,6 +6,7 @@ pub mod Groups
 pub mod Indexes
 pub mod Laws
 pub mod Looks
+pub mod Marks
 pub mod Nodes
 pub mod Numbers
 pub mod PairTests

@@ -1,46 +1,37 @@
 -- Pairs as a search keeps them, by numbers.
-use Rattle.std.specs.Prelude.{◌≡◌, ◌==◌, ℕ, Bool, not, cond, List, [], ◌++◌, Option, None, Some, map, filter, length, slice_get, Contains}
-use Rattle.std.specs.BTreeSet.{BTreeSet, IsOrdered, btree_set_len}
+use Rattle.std.specs.Prelude.{◌≡◌, ◌≢◌, ◌==◌, ℕ, Bool, not, cond, List, [], ◌++◌, Option, None, Some, map, filter, slice_get, AllPairs, Contains}
+use Rattle.std.specs.BTreeSet.{BTreeSet}
 use Rattle.std.specs.List.{flat_map}
-use Rattle.std.specs.declared.cmp.Ordering.{Ordering}
-use Rattle.std.specs.Ordering.{nat_cmp, ordering_then}
 use Rattle.event_json.specs.Events.{Content}
 use Rattle.event_json.specs.declared.bodies.Body.{Body}
 use Rattle.event_json.specs.declared.bodies.Body.TheVariants.{Note, Ship, Make}
 use Rattle.trace_core.specs.declared.groups.Group.{Group}
 use Rattle.trace_core.specs.declared.nodes.Node.{Node}
-use Rattle.trace_core.specs.declared.nodes.Nodes.{Nodes}
 use Rattle.trace_core.specs.declared.pairs.Pair.{Pair}
 use Rattle.trace_core.specs.Groups.{AddsUnseen, parts_of}
 use Rattle.trace_core.specs.Numbers.{number_in, numbered, outs_at}
 use Rattle.trace_core.specs.Relations.{Reaches}
-use Rattle.trace_core.specs.Searches.{IsFound, NotesAll}
 use Rattle.trace_core.specs.Sites.{SiteEvents}
-
--- by site, then by item, then by the pair's site
-abbrev pub node_cmp : Node → Node → Ordering
-node_cmp a b = ordering_then (nat_cmp a.site b.site) (ordering_then (nat_cmp a.item b.item) (nat_cmp a.at b.at))
 
 -- the node stands for the pair: the site at its place numbered the pair's item so
 abbrev pub Stands : List SiteEvents → Node → Pair → Type 0
 Stands sites n q = (s : SiteEvents) × (slice_get sites n.site ≡ Some s) × (slice_get (numbered s.events) n.item ≡ Some q.item) × (q.site ≡ n.at)
 
--- a node that was found stands for the pair
-abbrev pub Had : (Node → Pair → Type 0) → BTreeSet Node → Pair → Type 0
-Had S found q = (n : Node) × IsFound node_cmp found n × S n q
+-- one of the nodes stands for the pair
+abbrev pub Had : (Node → Pair → Type 0) → List Node → Pair → Type 0
+Had S nodes q = (n : Node) × Contains nodes n × S n q
 
--- the nodes are found now, and those that weren't before come at the end of the list; nothing else is new
-pub record NotesNodes (old new : Nodes) (nodes : List Node) : Type 0 where
-  pub notes : NotesAll node_cmp old.found new.found old.list.items new.list.items nodes
+-- no node comes twice
+abbrev pub AreOnce : List Node → Type 0
+AreOnce nodes = AllPairs (λ m n. m ≢ n) nodes
+
+-- the nodes are found now, and those that weren't before come at the end; nothing else is new
+pub record NotesNodes (old new nodes : List Node) : Type 0 where
   pub more : List Node
-  pub appended : new.list.items ≡ old.list.items ++ more
-
--- the list has each node of the set once, and no other
-pub record IsListed (nodes : Nodes) : Type 0 where
-  pub listed : (n : Node) → IsFound node_cmp nodes.found n → Contains nodes.list.items n
-  pub found : (n : Node) → Contains nodes.list.items n → IsFound node_cmp nodes.found n
-  pub count : btree_set_len nodes.found ≡ length nodes.list.items
-  pub ordered : IsOrdered node_cmp nodes.found
+  pub appended : new ≡ old ++ more
+  pub only : (n : Node) → Contains more n → Contains nodes n
+  pub all : (n : Node) → Contains nodes n → Contains new n
+  pub once : AreOnce old → AreOnce new
 
 -- an item at each of the sites but the own one
 abbrev pub destinations : ℕ → ℕ → ℕ → List ℕ → List Node
@@ -66,11 +57,11 @@ group_nodes me events site place b None = part_nodes me events site place
 group_nodes me events site place b (Some id) = flat_map (λ k. part_nodes me events site k) (parts_of events b)
 
 -- nodes are noted that stand for pairs of P, but for those that transformations gave which were seen before
-pub record Gains (S : Node → Pair → Type 0) (G : BTreeSet Group → Pair → Type 0) (P : Pair → Type 0) (seen seen' : BTreeSet Group) (old new : Nodes) : Type 0 where
+pub record Gains (S : Node → Pair → Type 0) (G : BTreeSet Group → Pair → Type 0) (P : Pair → Type 0) (seen seen' : BTreeSet Group) (old new : List Node) : Type 0 where
   pub nodes : List Node
   pub noted : NotesNodes old new nodes
   pub stand : (n : Node) → Contains nodes n → (q : Pair) × S n q
-  pub added : AddsUnseen G P seen seen' (Had S old.found) (Had S new.found)
+  pub added : AddsUnseen G P seen seen' (Had S old) (Had S new)
 
 -- a chain leads from a pair that one of the starts stands for
 abbrev pub ReachedFromNodes : (Node → Pair → Type 0) → (Pair → Pair → Type 0) → List Node → Pair → Type 0

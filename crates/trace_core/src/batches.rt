@@ -8,21 +8,12 @@ ghost use Rattle.trace_core.specs.Nodes.{Stands};
 use crate::captured::Captured;
 use crate::event_items::Numbers;
 use crate::found_items::items_of_numbers;
-use crate::nodes::Node;
+use crate::nodes::{Batch, Node};
 use crate::pairs::Pair;
 use epc_core::Epc;
 use event_json::SiteNo;
 use std::alloc::{AllocError, Global};
 use std::collections::BTreeMap;
-
-/// What found nodes have in common whose pairs are listed together. Batches are in the order of their pairs.
-#[derive(Clone, Copy, Debug, PartialEq, Eq, PartialOrd, Ord)]
-pub struct Batch {
-    /// The site of the pairs.
-    pub at: SiteNo,
-    /// The place of the site that numbered their items, among those that are searched.
-    pub site: usize,
-}
 
 /// The pairs that nodes stand for. Those of a batch ascend where they are many.
 pub fn pairs_of(alloc: Global, sites: &[&Captured], nodes: &[Node]) -> Result<Vec<Pair>, AllocError>
@@ -98,6 +89,7 @@ fn push_batch(
 fn push_pairs(at: SiteNo, items: Vec<Epc>, pairs: &mut Vec<Pair>) -> Result<(), AllocError>
     ensures { OnOk result ((p : Pair) → Contains pairs.new.items p ↔ (Contains pairs.old.items p ⊎ IsPairOf at items.items p)) }
 {
+    pairs.reserve(items.len())?;
     for item in items {
         pairs.push(Pair { site: at, item })?;
     }

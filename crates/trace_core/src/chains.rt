@@ -11,15 +11,14 @@ ghost use Rattle.trace_core.specs.Sites.{SiteEvents};
 
 use crate::batches::pairs_of;
 use crate::captured::Captured;
-use crate::groups::Group;
 use crate::nodes::{Node, Nodes};
 use crate::ordered_keys::in_order;
 use crate::pairs::Pair;
 use crate::searches::{Relation, closure};
+use crate::seen::Seen;
 use crate::visits::visit_item;
 use epc_core::Epc;
 use std::alloc::{AllocError, Global};
-use std::collections::BTreeSet;
 
 /// The related pairs of several sites.
 #[derive(Drop)]
@@ -45,14 +44,14 @@ impl Relation for RelatedPairs<'_> {
 
     ghost unseen = { λ r seen. 0 };
 
-    fn none_seen(&self, alloc: Global) -> BTreeSet<Group> {
-        BTreeSet::new(alloc)
+    fn none_seen(&self, alloc: Global) -> Seen {
+        Seen::new(alloc)
     }
 
     fn visit(
         &self,
         node: &Node,
-        seen: &mut BTreeSet<Group>,
+        seen: &mut Seen,
         nodes: &mut Nodes,
         looks: &mut u64,
     ) -> Result<(), AllocError> {
@@ -68,7 +67,7 @@ fn visit_at(
     sites: &[&Captured],
     number: usize,
     node: &Node,
-    seen: &mut BTreeSet<Group>,
+    seen: &mut Seen,
     nodes: &mut Nodes,
     looks: &mut u64,
 ) -> Result<(), AllocError>
@@ -120,7 +119,7 @@ pub fn reach(alloc: Global, sites: &[&Captured], root: &Pair) -> Result<Vec<Pair
     let mut looks = 0;
     let starts = nodes_of(alloc, sites, root)?;
     let nodes = closure(alloc, &RelatedPairs { sites }, &starts, &mut looks)?;
-    let mut pairs = pairs_of(alloc, sites, &nodes.list)?;
+    let mut pairs = pairs_of(alloc, sites, nodes.as_slice())?;
     if starts.is_empty() {
         pairs.push(root.copy(alloc)?)?;
     }

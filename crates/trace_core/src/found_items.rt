@@ -1,7 +1,9 @@
-ghost use Rattle.std.specs.Prelude.{◌≡◌, ◌<◌, ◌⊎◌, ◌↔◌, ℕ, List, true, IfOk, OnOk, Contains, length};
-ghost use Rattle.trace_core.specs.Found.{is_set, HasMark, HasNumber};
+ghost use Rattle.std.specs.Prelude.{◌≡◌, ◌⊎◌, ◌↔◌, ℕ, List, true, IfOk, OnOk, Contains};
+ghost use Rattle.trace_core.specs.Found.{HasMark, HasNumber};
+ghost use Rattle.trace_core.specs.Marks.{is_set};
 
 use crate::books::Book;
+use crate::marks::{is_marked, marks_of};
 use epc_core::Epc;
 use std::alloc::{AllocError, Global};
 use std::collections::BTreeMap;
@@ -32,18 +34,19 @@ fn items_in_order(alloc: Global, book: &Book, numbers: &[usize]) -> Result<Vec<E
     ensures { IfOk result (λ items. (i : List ℕ) → Contains items.items i ↔ HasNumber book.now numbers.now i) }
 {
     let marks = marks_of(alloc, book.item_count(), numbers)?;
-    marked_items(alloc, book.numbers(), &marks)
+    marked_items(alloc, book.numbers(), &marks, numbers.len())
 }
 
-/// The items whose numbers are marked, ascending.
+/// The items whose numbers are marked, ascending. Room is made for so many at once.
 fn marked_items(
     alloc: Global,
     known: &BTreeMap<Epc, usize>,
     marks: &[bool],
+    count: usize,
 ) -> Result<Vec<Epc>, AllocError>
     ensures { IfOk result (λ items. (i : List ℕ) → Contains items.items i ↔ HasMark known.now marks.now i) }
 {
-    let mut items = Vec::new(alloc);
+    let mut items = Vec::with_capacity(alloc, count)?;
     for (name, number) in known {
         push_if_marked(alloc, name, *number, marks, &mut items)?;
     }
@@ -77,32 +80,4 @@ fn items_in_turn(alloc: Global, book: &Book, numbers: &[usize]) -> Result<Vec<Ep
         }
     }
     Ok(items)
-}
-
-/// So many marks, of which those at the numbers are set.
-fn marks_of(alloc: Global, len: usize, numbers: &[usize]) -> Result<Vec<bool>, AllocError>
-    ensures { IfOk result (λ marks. (n : ℕ) → is_set marks.items n ≡ true ↔ ((n < len) × Contains numbers.now n)) }
-{
-    let mut marks = vec![in alloc; false; len]?;
-    for number in numbers {
-        set_mark(&mut marks, *number);
-    }
-    Ok(marks)
-}
-
-/// Sets the mark at a number, if there is one.
-fn set_mark(marks: &mut [bool], number: usize)
-    ensures count { length marks.new ≡ length marks.old }
-    ensures set { (n : ℕ) → is_set marks.new n ≡ true ↔ ((is_set marks.old n ≡ true) ⊎ ((n < length marks.old) × (number ≡ n))) }
-{
-    if number < marks.len() {
-        marks[number] = true;
-    }
-}
-
-/// Whether the mark at a number is set.
-fn is_marked(marks: &[bool], number: usize) -> bool
-    ensures { result ≡ is_set marks.now number }
-{
-    marks.get(number).copied().unwrap_or(false)
 }

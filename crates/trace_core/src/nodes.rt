@@ -1,15 +1,18 @@
-ghost use Rattle.std.specs.Prelude.{◌≡◌, ◌∷◌, [], OnOk, length};
+ghost use Rattle.std.specs.Prelude.{◌≡◌, ◌∷◌, ◌⊎◌, ◌↔◌, [], false, IfOk, OnOk, OnErr, length};
+ghost use Rattle.trace_core.specs.declared.nodes.Node.{Node};
+ghost use Rattle.trace_core.specs.Found.{IsInBatch};
 ghost use Rattle.trace_core.specs.Looks.{LooksAtMost};
-ghost use Rattle.std.specs.BTreeSet.{IsOrdered};
-ghost use Rattle.trace_core.specs.Nodes.{node_cmp, NotesNodes, destinations, made_nodes};
+ghost use Rattle.trace_core.specs.Nodes.{NotesNodes, destinations, made_nodes};
 
 use crate::looks::count_look;
+use crate::marks::Marks;
 use event_json::SiteNo;
 use std::alloc::{AllocError, Global};
-use std::collections::BTreeSet;
+use std::collections::BTreeMap;
+use std::marker::Model;
 
 /// A pair as a search keeps it: by the number that a site gave its item.
-#[derive(Clone, Copy, Debug, PartialEq, Eq, PartialOrd, Ord)]
+#[derive(Clone, Copy, Debug)]
 pub struct Node {
     /// The place of that site among those that are searched.
     pub site: usize,
@@ -19,71 +22,113 @@ pub struct Node {
     pub at: SiteNo,
 }
 
-/// The nodes that a search has found, as a set and in the order in which they were found.
+/// What nodes have in common whose items were numbered by one site, and whose pairs are at one site. They are
+/// in the order of their pairs.
+#[derive(Clone, Copy, Debug, PartialEq, Eq, PartialOrd, Ord)]
+pub struct Batch {
+    /// The site of the pairs.
+    pub at: SiteNo,
+    /// The place of the site that numbered their items, among those that are searched.
+    pub site: usize,
+}
+
+/// The nodes that a search has found, in the order in which they were found, and marks of their numbers.
 #[derive(Drop)]
 pub struct Nodes {
-    /// The set.
-    pub found: BTreeSet<Node>,
-    /// The list.
-    pub list: Vec<Node>,
+    marks: BTreeMap<Batch, Marks>,
+    list: Vec<Node>,
+}
+
+impl Model for Nodes {
+    ghost use Rattle.std.specs.Prelude.{List, ◌↔◌, Contains};
+    ghost use Rattle.trace_core.specs.declared.nodes.Node.{Node};
+    ghost use Rattle.trace_core.specs.Found.{IsInBatch};
+
+    ghost Value = { List Node };
+
+    ghost view = { λ n. n.list.items };
+
+    ghost invariant = { λ n. (m : Node) → IsInBatch n.marks m ↔ Contains n.list.items m };
 }
 
 impl Nodes {
     /// No nodes. Takes no memory.
     pub fn new(alloc: Global) -> Nodes
-        ensures found { result.found.keys ≡ [] }
-        ensures list { result.list.items ≡ [] }
-        ensures ordered { IsOrdered node_cmp result.found }
+        ensures { result ≡ [] }
     {
         Nodes {
-            found: BTreeSet::new(alloc),
+            marks: BTreeMap::new(alloc),
             list: Vec::new(alloc),
         }
     }
 
-    /// Notes a node as found.
-    pub fn note(&mut self, site: usize, item: usize, at: SiteNo) -> Result<(), AllocError>
+    /// How many nodes there are.
+    pub fn len(&self) -> usize
+        ensures { result ≡ length self.now }
+    {
+        self.list.len()
+    }
+
+    /// The nodes in the order in which they were found.
+    pub fn as_slice(&self) -> &[Node]
+        ensures { result.now ≡ self.now }
+    {
+        self.list.as_slice()
+    }
+
+    /// Notes a node as found, where the site that numbered its item has so many.
+    pub fn note(
+        &mut self,
+        site: usize,
+        item: usize,
+        at: SiteNo,
+        all: usize,
+    ) -> Result<(), AllocError>
         ensures { OnOk result (NotesNodes self.old self.new (record { site = site; item = item; at = at } ∷ [])) }
     {
-        if self.found.insert(Node { site, item, at })? {
-            self.list.push(Node { site, item, at })?;
+        let alloc = *self.list.allocator();
+        self.list.reserve(1)?;
+        if mark_node(alloc, &mut self.marks, site, item, at, all)? {
+            self.list.push_reserved(Node { site, item, at });
         }
         Ok(())
     }
 
-    /// Notes nodes as found.
+    /// Notes nodes as found: those with which a search starts.
     pub fn note_all(&mut self, nodes: &[Node]) -> Result<(), AllocError>
         ensures { OnOk result (NotesNodes self.old self.new nodes.now) }
     {
         for node in nodes {
-            self.note(node.site, node.item, node.at)?;
+            self.note(node.site, node.item, node.at, usize::MAX)?;
         }
         Ok(())
     }
 
-    /// Notes an item at each of the sites but the own one.
+    /// Notes an item at each of the sites but the own one, where a site numbered so many.
     pub fn note_destinations(
         &mut self,
         me: SiteNo,
         site: usize,
         item: usize,
+        all: usize,
         sites: &[SiteNo],
     ) -> Result<(), AllocError>
         ensures { OnOk result (NotesNodes self.old self.new (destinations me site item sites.now)) }
     {
         for at in sites {
             if *at != me {
-                self.note(site, item, *at)?;
+                self.note(site, item, *at, all)?;
             }
         }
         Ok(())
     }
 
-    /// Notes each of the items at a site. Each is a look.
+    /// Notes each of the items at a site that numbered so many. Each is a look.
     pub fn note_outputs(
         &mut self,
         me: SiteNo,
         site: usize,
+        all: usize,
         items: &[usize],
         looks: &mut u64,
     ) -> Result<(), AllocError>
@@ -92,8 +137,32 @@ impl Nodes {
     {
         for item in items {
             count_look(looks);
-            self.note(site, *item, me)?;
+            self.note(site, *item, me, all)?;
         }
         Ok(())
     }
+}
+
+/// Marks a node, where the site that numbered its item has so many. Tells whether it is new. An `Err` changes
+/// nothing.
+fn mark_node(
+    alloc: Global,
+    marks: &mut BTreeMap<Batch, Marks>,
+    site: usize,
+    item: usize,
+    at: SiteNo,
+    all: usize,
+) -> Result<bool, AllocError>
+    ensures marked { OnOk result ((n : Node) → IsInBatch marks.new n ↔ (IsInBatch marks.old n ⊎ (record { site = site; item = item; at = at } ≡ n))) }
+    ensures new { IfOk result (λ new. new ≡ false ↔ IsInBatch marks.old (record { site = site; item = item; at = at })) }
+    ensures err { OnErr result ((n : Node) → IsInBatch marks.new n ↔ IsInBatch marks.old n) }
+{
+    let batch = Batch { at, site };
+    if let Some(own) = marks.get_mut(&batch) {
+        return own.mark(alloc, item, all);
+    }
+    let mut own = Marks::new(alloc);
+    own.mark(alloc, item, all)?;
+    marks.insert(batch, own)?;
+    Ok(true)
 }

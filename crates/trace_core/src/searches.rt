@@ -3,14 +3,12 @@ ghost use Rattle.std.specs.BTreeSet.{BTreeSet};
 ghost use Rattle.trace_core.specs.declared.groups.Group.{Group};
 ghost use Rattle.trace_core.specs.declared.nodes.Node.{Node};
 ghost use Rattle.trace_core.specs.declared.pairs.Pair.{Pair};
-ghost use Rattle.trace_core.specs.Nodes.{node_cmp, Had, IsListed, Gains, ReachedFromNodes};
-ghost use Rattle.trace_core.specs.Searches.{IsFound};
+ghost use Rattle.trace_core.specs.Nodes.{Had, AreOnce, Gains, ReachedFromNodes};
 
-use crate::groups::Group;
 use crate::looks::count_look;
 use crate::nodes::{Node, Nodes};
+use crate::seen::Seen;
 use std::alloc::{AllocError, Global};
-use std::collections::BTreeSet;
 
 /// A relation of pairs, which a search keeps as nodes.
 pub trait Relation {
@@ -33,7 +31,7 @@ pub trait Relation {
     ghost unseen: { Self → BTreeSet Group → ℕ };
 
     /// No transformation: it gives nothing. Takes no memory.
-    fn none_seen(&self, alloc: Global) -> BTreeSet<Group>
+    fn none_seen(&self, alloc: Global) -> Seen
         ensures none { (q : Pair) → gives self.now result q → ⊥ }
         ensures outputs { bounds_looks self.now → unseen self.now result ≤ outputs self.now };
 
@@ -42,7 +40,7 @@ pub trait Relation {
     fn visit(
         &self,
         node: &Node,
-        seen: &mut BTreeSet<Group>,
+        seen: &mut Seen,
         nodes: &mut Nodes,
         looks: &mut u64,
     ) -> Result<(), AllocError>
@@ -61,18 +59,18 @@ pub fn closure<R: Relation>(
     looks: &mut u64,
 ) -> Result<Nodes, AllocError>
     requires { (n : Node) → Contains starts.now n → (q : Pair) × R.stands relation.now n q }
-    ensures listed { IfOk result IsListed }
-    ensures stand { IfOk result (λ nodes. (n : Node) → IsFound node_cmp nodes.found n → (q : Pair) × R.stands relation.now n q) }
-    ensures reached { IfOk result (λ nodes. (q : Pair) → Had (R.stands relation.now) nodes.found q ↔ ReachedFromNodes (R.stands relation.now) (R.relates relation.now) starts.now q) }
-    ensures least { IfOk result (λ nodes. length nodes.list.items ≤ looks.new) }
-    ensures most { IfOk result (λ nodes. R.bounds_looks relation.now → looks.new ≤ looks.old + length nodes.list.items + R.outputs relation.now) }
+    ensures once { IfOk result (λ nodes. AreOnce nodes) }
+    ensures stand { IfOk result (λ nodes. (n : Node) → Contains nodes n → (q : Pair) × R.stands relation.now n q) }
+    ensures reached { IfOk result (λ nodes. (q : Pair) → Had (R.stands relation.now) nodes q ↔ ReachedFromNodes (R.stands relation.now) (R.relates relation.now) starts.now q) }
+    ensures least { IfOk result (λ nodes. length nodes ≤ looks.new) }
+    ensures most { IfOk result (λ nodes. R.bounds_looks relation.now → looks.new ≤ looks.old + length nodes + R.outputs relation.now) }
 {
     let mut nodes = Nodes::new(alloc);
     let mut seen = relation.none_seen(alloc);
     nodes.note_all(starts)?;
     let mut place = 0;
-    while place < nodes.list.len() {
-        let node = nodes.list[place];
+    while place < nodes.len() {
+        let node = nodes.as_slice()[place];
         count_look(looks);
         relation.visit(&node, &mut seen, &mut nodes, looks)?;
         place += 1;

@@ -14,12 +14,12 @@ use crate::books::Book;
 use crate::captured::Captured;
 use crate::found_items::items_of_numbers;
 use crate::gathering::{gather, gather_outputs, make_id, takes_in};
-use crate::groups::Group;
 use crate::looks::count_look;
 use crate::nodes::{Node, Nodes};
 use crate::ordered_keys::{in_order, keys_in_order};
 use crate::pairs::Pair;
 use crate::searches::{Relation, closure};
+use crate::seen::Seen;
 use crate::visits::visit_item;
 use epc_core::Epc;
 use event_json::{Body, Event, SiteNo};
@@ -50,7 +50,7 @@ impl Captured {
         let starts = nodes_of(alloc, self, items)?;
         let nodes = closure(alloc, &SitePairs { site: self }, &starts, &mut looks)?;
         let mut found = unknown_items(alloc, self.book(), items, &mut looks)?;
-        push_items(alloc, self.book(), &nodes.list, &mut found)?;
+        push_items(alloc, self.book(), nodes.as_slice(), &mut found)?;
         let items = in_order(found)?;
         Ok((items, looks))
     }
@@ -105,14 +105,14 @@ impl Relation for SitePairs<'_> {
 
     ghost unseen = { λ r seen. unseen_outputs 0 r.site.now.events seen };
 
-    fn none_seen(&self, alloc: Global) -> BTreeSet<Group> {
-        BTreeSet::new(alloc)
+    fn none_seen(&self, alloc: Global) -> Seen {
+        Seen::new(alloc)
     }
 
     fn visit(
         &self,
         node: &Node,
-        seen: &mut BTreeSet<Group>,
+        seen: &mut Seen,
         nodes: &mut Nodes,
         looks: &mut u64,
     ) -> Result<(), AllocError> {

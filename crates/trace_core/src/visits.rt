@@ -1,5 +1,5 @@
-ghost use Rattle.std.specs.Prelude.{◌≡◌, ℕ, List, true, false, not, Some, IfOk, OnOk, slice_get, sum_by};
-ghost use Rattle.std.specs.BTreeSet.{contains, Updates};
+ghost use Rattle.std.specs.Prelude.{◌≡◌, ℕ, List, true, false, Some, OnOk, slice_get, sum_by};
+ghost use Rattle.std.specs.BTreeSet.{contains};
 ghost use Rattle.std.specs.List.{flat_map};
 ghost use Rattle.event_json.specs.Events.{Content};
 ghost use Rattle.trace_core.specs.Groups.{group_cmp, IsGiven, SeesOnly, outputs_at, group_outputs, LooksAtUnseen, sought_by, IsSought};
@@ -13,12 +13,12 @@ ghost use Rattle.trace_core.specs.Sites.{SiteEvents};
 use crate::books::Book;
 use crate::captured::Captured;
 use crate::gathering::{make_id, takes_in};
-use crate::groups::{Group, first_part};
+use crate::groups::first_part;
 use crate::nodes::Nodes;
+use crate::seen::Seen;
 use epc_core::Epc;
 use event_json::{Body, SiteNo};
 use std::alloc::AllocError;
-use std::collections::BTreeSet;
 
 /// Notes what the item of a number is related to at a site, at other sites where shipments are asked for, but
 /// for what transformations gave that were seen before. It costs the events that name the item, and the
@@ -28,7 +28,7 @@ pub fn visit_item(
     number: usize,
     ships: bool,
     item: usize,
-    seen: &mut BTreeSet<Group>,
+    seen: &mut Seen,
     nodes: &mut Nodes,
     looks: &mut u64,
 ) -> Result<(), AllocError>
@@ -65,7 +65,7 @@ fn visit_event(
     item: usize,
     name: &Epc,
     place: usize,
-    seen: &mut BTreeSet<Group>,
+    seen: &mut Seen,
     nodes: &mut Nodes,
     looks: &mut u64,
 ) -> Result<(), AllocError>
@@ -75,10 +75,10 @@ fn visit_event(
     ensures looks { OnOk result (LooksAtUnseen number book.now seen.old seen.new looks.old looks.new) }
 {
     if let Some(event) = book.get(place) {
-        note_sent(me, number, ships, item, event.body(), nodes)?;
+        note_sent(me, book, number, ships, item, event.body(), nodes)?;
         let first = first_part(book, place, event.body());
         let may_add = may_add(seen, number, first, event.body());
-        if may_add && takes_in(name, event.body()) && see(seen, number, first)? {
+        if may_add && takes_in(name, event.body()) && seen.see(number, first, book.len())? {
             note_group(me, book, number, place, event.body(), nodes, looks)?;
         }
     }
@@ -87,10 +87,10 @@ fn visit_event(
 
 /// Whether a transformation of a site may still add something: all that it makes was noted when it was seen.
 /// Where it has few inputs, it is cheaper to look through these.
-fn may_add(seen: &BTreeSet<Group>, site: usize, first: usize, body: &Body) -> bool
+fn may_add(seen: &Seen, site: usize, first: usize, body: &Body) -> bool
     ensures { result ≡ false → contains group_cmp seen.now (record { site = site; first = first }) ≡ true }
 {
-    has_few_inputs(body) || !seen.contains(&Group { site, first })
+    has_few_inputs(body) || !seen.has(site, first)
 }
 
 /// Whether a transformation has no more inputs than are looked through at once.
@@ -101,18 +101,11 @@ fn has_few_inputs(body: &Body) -> bool {
     }
 }
 
-/// A transformation of a site is seen now. Tells whether it is new.
-fn see(seen: &mut BTreeSet<Group>, site: usize, first: usize) -> Result<bool, AllocError>
-    ensures seen { OnOk result (Updates group_cmp seen.old seen.new (record { site = site; first = first }) true) }
-    ensures new { IfOk result (λ new. new ≡ not (contains group_cmp seen.old (record { site = site; first = first }))) }
-{
-    Ok(seen.insert(Group { site, first })?)
-}
-
 /// Notes an item at each other site that it was shipped to, where shipments are asked for. The event names
 /// the item.
 fn note_sent(
     me: SiteNo,
+    book: &Book,
     number: usize,
     ships: bool,
     item: usize,
@@ -123,7 +116,7 @@ fn note_sent(
 {
     match body {
         Body::Ship { sites, .. } if ships => {
-            nodes.note_destinations(me, number, item, sites.as_slice())
+            nodes.note_destinations(me, number, item, book.item_count(), sites.as_slice())
         }
         _ => Ok(()),
     }
@@ -145,7 +138,7 @@ fn note_group(
 {
     match make_id(body) {
         Some(_) => note_parts(me, book, number, book.parts_of(make_id(body)), nodes, looks),
-        None => nodes.note_outputs(me, number, book.outs_at(place), looks),
+        None => nodes.note_outputs(me, number, book.item_count(), book.outs_at(place), looks),
     }
 }
 
@@ -162,7 +155,7 @@ fn note_parts(
     ensures looks { OnOk result (LooksAtMost (sum_by (λ k. outputs_at (slice_get book.now k)) places.now) looks.old looks.new) }
 {
     for place in places {
-        nodes.note_outputs(me, number, book.outs_at(*place), looks)?;
+        nodes.note_outputs(me, number, book.item_count(), book.outs_at(*place), looks)?;
     }
     Ok(())
 }

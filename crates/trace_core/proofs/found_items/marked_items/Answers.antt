@@ -4,8 +4,8 @@ use Rattle.trace_core.proofs.Gathered.{gathering_begins, gathering_goes_on, gath
 use Rattle.trace_core.proofs.found_items.marked_items.Goals as goal
 
 pub loop-name-init : goal.loop-name-init
-loop-name-init c = gathering_begins (IsMarked c.args.marks.now) c.args.known.now.entries (λ i. ⊥) c.into_iter-name-iterator.result (Contains c.new-items.result.items)
-    c.into_iter-name-iterator.ensures.into_iter_gives.0 (nothing_has c.new-items.result.items c.new-items.ensures.items)
+loop-name-init c = gathering_begins (IsMarked c.args.marks.now) c.args.known.now.entries (λ i. ⊥) c.into_iter-name-iterator.result (Contains c.in_ok-items.items.items)
+    c.into_iter-name-iterator.ensures.into_iter_gives.0 (nothing_has c.in_ok-items.items.items c.in_ok-items.ensures.items)
 
 pub loop-name-preserved : goal.loop-name-preserved
 loop-name-preserved c = gathering_goes_on (IsMarked c.args.marks.now) c.args.known.now.entries (λ i. ⊥) c.loop-name.name-iterator c.next.new.self _ (Contains c.loop-name.items.items) (Contains c.push_if_marked.new.items.items) c.in-Some.ensures.steps

@@ -14,13 +14,13 @@ use Rattle.trace_core.proofs.visits.visit_event.Goals.{else-may_add-via-then-may
 pub returns-in_ok-note_group-clause-gains : goal.returns-in_ok-note_group-clause-gains
 returns-in_ok-note_group-clause-gains c sites at_site so named =
     gains_group sites (record { me = c.args.me; events = c.args.book.now }) c.args.number at_site c.args.item c.args.name.now so c.args.ships c.args.place c.in-Some.event.now (sym c.in-Some.ensures) named
-    c.body.result.now c.body.ensures.value c.args.nodes.now c.note_sent.new.nodes c.in_ok-note_sent.ensures c.args.seen.now c.see.new.seen c.first_part-first.result
+    c.body.result.now c.body.ensures.value c.args.nodes.now c.note_sent.new.nodes c.in_ok-note_sent.ensures c.args.seen.now c.see.new.self c.first_part-first.result
     (ap (λ (b : Body). takes_in c.args.name.now b) (sym c.body-then-may_add.ensures.value) ∙ sym c.takes_in.ensures ∙ c.if-takes_in.true)
     (λ j. c.first_part-first.ensures.outputs c.in-Some.event.now j (sym c.in-Some.ensures) (sym c.body-in-Some.ensures.value) ∙ ap (λ (b : Body). outs_of c.args.book.now j b) c.body-in-Some.ensures.value)
     c.in_ok-see.ensures.seen c.body-then-branch.result.now c.body-then-branch.ensures.value c.note_group.new.nodes c.in_ok-note_group.ensures.noted
 
 pub returns-in_ok-note_group-clause-looks : goal.returns-in_ok-note_group-clause-looks
-returns-in_ok-note_group-clause-looks c = group_looked c.args.number c.args.book.now c.first_part-first.result c.args.seen.now c.see.new.seen c.in_ok-see.ensures.seen
+returns-in_ok-note_group-clause-looks c = group_looked c.args.number c.args.book.now c.first_part-first.result c.args.seen.now c.see.new.self c.in_ok-see.ensures.seen
     (wasnt_seen _ c.in_ok-see.ensures.new c.if-branch.true)
     c.args.place c.in-Some.event.now (sym c.in-Some.ensures)
     (c.first_part-first.ensures.first ∙ ap (λ (b : Body). first_of c.args.book.now c.args.place b) c.body-in-Some.ensures.value) c.args.looks.now _
@@ -32,7 +32,7 @@ pub returns-else-may_add-clause-gains : goal.returns-else-may_add-clause-gains
 returns-else-may_add-clause-gains c sites at_site so named =
     elim c.else-may_add.branch [
       | else-may_add-via-then-may_add+then-takes_in+in_ok-see+else-branch w ↦ rw w.seen-is (gains_again sites (record { me = c.args.me; events = c.args.book.now }) c.args.number at_site c.args.item c.args.name.now so c.args.ships c.args.place c.in-Some.event.now (sym c.in-Some.ensures) named
-          c.body.result.now c.body.ensures.value c.args.nodes.now c.note_sent.new.nodes c.in_ok-note_sent.ensures c.args.seen.now w.see.new.seen c.first_part-first.result
+          c.body.result.now c.body.ensures.value c.args.nodes.now c.note_sent.new.nodes c.in_ok-note_sent.ensures c.args.seen.now w.see.new.self c.first_part-first.result
           (ap (λ (b : Body). takes_in c.args.name.now b) (sym w.body-then-may_add.ensures.value) ∙ sym w.takes_in.ensures ∙ w.if-takes_in.true)
           (λ j. c.first_part-first.ensures.outputs c.in-Some.event.now j (sym c.in-Some.ensures) (sym c.body-in-Some.ensures.value) ∙ ap (λ (b : Body). outs_of c.args.book.now j b) c.body-in-Some.ensures.value)
           w.in_ok-see.ensures.seen (was_seen _ w.in_ok-see.ensures.new w.if-branch.false))
@@ -48,7 +48,7 @@ returns-else-may_add-clause-gains c sites at_site so named =
 pub returns-else-may_add-clause-looks : goal.returns-else-may_add-clause-looks
 returns-else-may_add-clause-looks c =
     elim c.else-may_add.branch [
-      | else-may_add-via-then-may_add+then-takes_in+in_ok-see+else-branch w ↦ rw w.seen-is (group_passed c.args.number c.args.book.now c.first_part-first.result c.args.seen.now w.see.new.seen c.args.looks.now w.in_ok-see.ensures.seen)
+      | else-may_add-via-then-may_add+then-takes_in+in_ok-see+else-branch w ↦ rw w.seen-is (group_passed c.args.number c.args.book.now c.first_part-first.result c.args.seen.now w.see.new.self c.args.looks.now w.in_ok-see.ensures.seen)
       | else-may_add-via-then-may_add+else-takes_in w ↦ rw w.seen-is (looks_none c.args.number c.args.book.now c.args.seen.now c.args.looks.now)
       | else-may_add-via-else-may_add w ↦ rw w.seen-is (looks_none c.args.number c.args.book.now c.args.seen.now c.args.looks.now)
     ]

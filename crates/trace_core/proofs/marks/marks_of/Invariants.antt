@@ -1,6 +1,6 @@
 use Rattle.std.proofs.Common.{take}
-use Rattle.trace_core.proofs.FoundSteps.{AreMarked}
-use Rattle.trace_core.proofs.found_items.marks_of.Given as goal
+use Rattle.trace_core.proofs.MarkSteps.{AreMarked}
+use Rattle.trace_core.proofs.marks.marks_of.Given as goal
 
 -- the marks at the numbers so far are set
 abbrev pub invariant-loop-number : goal.invariant-loop-number
