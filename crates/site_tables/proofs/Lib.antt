@@ -5,6 +5,7 @@ pub mod Columns
 pub mod Committed
 pub mod Created
 pub mod Declared
+pub mod Failing
 pub mod Folded
 pub mod Inserted
 pub mod Leading
