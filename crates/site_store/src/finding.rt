@@ -1,12 +1,12 @@
 //! A closed record opened in that of its records whose rows the tables list.
-ghost use Rattle.std.specs.Prelude.{◌≡◌, ◌⊎◌, ◌↔◌, true, Some, None, Err, IsTrue, IfOk, IfErr, OnOk, OnErr};
+ghost use Rattle.std.specs.Prelude.{◌≡◌, ◌⊎◌, ◌↔◌, true, Some, None, Err, IsTrue, IsSome, IfOk, IfErr, OnOk, OnErr};
 ghost use Rattle.sqlite.specs.State.{HasCleanDisk, Survives};
 ghost use Rattle.sqlite.specs.Held.{state};
 ghost use Rattle.site_core.specs.Records.{Record};
 ghost use Rattle.keeper_core.specs.Keeping.{HindersOpening};
 ghost use Rattle.site_rows.specs.RecordRows.{rows_of};
 ghost use Rattle.site_store.specs.Kept.{MayIn, failures_after};
-ghost use Rattle.site_store.specs.Openings.{ListsRecord, opening_fault};
+ghost use Rattle.site_store.specs.Openings.{ListsRecord, ListsRows, opening_fault};
 
 use crate::faults::{is_of_device, is_of_memory, one_more};
 use crate::kept::Kept;
@@ -58,6 +58,7 @@ impl Kept {
 
     /// What hindered an opening, counted where the device failed.
     pub fn hindered(&mut self, error: &Error) -> KeepFault
+        ensures is { result ≡ opening_fault error.now }
         ensures kind { HindersOpening result }
         ensures counted { self.new ≡ record self.old { failures = failures_after result self.old.failures } }
     {

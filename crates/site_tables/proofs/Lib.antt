@@ -12,6 +12,7 @@ pub mod Leading
 pub mod Listed
 pub mod MadeTables
 pub mod Meanings
+pub mod OnlyRows
 pub mod Order
 pub mod Puts
 pub mod Removed
