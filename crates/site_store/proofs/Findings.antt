@@ -5,7 +5,8 @@ use Rattle.std.proofs.Common.{◌≡◌, ◌⊎◌, inl, inr, ℕ, zero, suc, �
 use Rattle.sqlite_trees.specs.declared.error.StoreError.{StoreError}
 use Rattle.sqlite_trees.specs.declared.error.StoreError.TheVariants as stores
 use Rattle.sqlite.specs.declared.error.Error.{Error}
-use Rattle.sqlite.specs.State.{State, HasCause, store_error}
+use Rattle.sqlite.specs.Effect.{Database}
+use Rattle.sqlite.specs.State.{State, IsUnchanged, HasCause, store_error}
 use Rattle.event_json.specs.Sites.{Site}
 use Rattle.site_core.specs.Records.{Record}
 use Rattle.site_rows.specs.Laws.{IsKept, HoldsItems}
@@ -13,6 +14,7 @@ use Rattle.site_rows.specs.RecordRows.{rows_of, store_row, site_row}
 use Rattle.site_rows.specs.declared.rows.Rows.{Rows}
 use Rattle.site_rows.specs.declared.rows.SiteRow.{SiteRow}
 use Rattle.site_rows.specs.declared.rows.StoreRow.{StoreRow}
+use Rattle.site_rows.specs.declared.tables.Table.{«Table» as SiteTable}
 use Rattle.site_rows.proofs.GoodRows.{rows_are_good}
 use Rattle.site_tables.specs.AllReads.{AreListed}
 use Rattle.site_tables.specs.Reads.{FailsToRead}
@@ -104,3 +106,27 @@ fault_of old new stores.Unstorable h e = absurd h
 pub fault_is : (old new : State) (e : Error) → FailsToRead old new e → opening_fault e ≡ faults.Store → IsSome old.step_limit
 fault_is old new e (inl h) is = fault_of old new h.0 h.2 (sym (ap opening_fault h.1) ∙ is)
 fault_is old new e (inr h) is = h.1
+
+-- rows that are listed after a reading which changed nothing were listed before
+pub listed_before : (r : Record) (old new : State) → IsUnchanged old new → ListsRows r new → ListsRows r old
+listed_before r old new same it =
+    let was : new.now ≡ old.now = same.0.now_is in
+    record {
+      schema = sym (ap (λ (d : Database). d.schema) was) ∙ it.schema;
+      listed = subst (λ (d : Database). AreListed (contents_of (rows_of r)) d.trees) was it.listed;
+      readable = it.readable;
+    }
+
+limit_still : (old new : State) → new.step_limit ≡ old.step_limit → IsSome old.step_limit → IsSome new.step_limit
+limit_still old new same some = subst IsSome (sym same) some
+
+-- tables that list the rows of a record can't be read only where the limit on steps was met, or for another fault
+pub refused_store : (r : Record) (table : SiteTable) (place : ℕ) (old new : State) → IsUnreadable old new (reads.BadRow table place) → ListsRows r new → ⊥
+refused_store r table place old new h it = let was = listed_before r old new h.3 it in no_bad_row table place (rows_of r) old.now.trees was.readable was.listed h.2
+
+pub steps_met : (e : Error) (old new : State) → IsUnreadable old new (reads.Database e) → new.step_limit ≡ old.step_limit → opening_fault e ≡ faults.Store → IsSome new.step_limit
+steps_met e old new h same is = limit_still old new same (fault_is old new e h.1 is)
+
+pub no_limit : (limit : Option ℕ) → limit ≡ None → IsSome limit → ⊥
+no_limit None none some = absurd cc
+no_limit (Some n) none some = absurd cc

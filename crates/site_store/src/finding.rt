@@ -117,6 +117,7 @@ impl Kept {
         ensures opened { OnOk result ((self.new.is_open ≡ true) × MayIn self.old self.new.pair) }
         ensures count { OnOk result (self.new.failures ≡ self.old.failures) }
         ensures listed { HasCleanDisk (state S.Store conn.new) → OnOk result (ListsRecord self.new.pair (state S.Store conn.old) (state S.Store conn.new)) }
+        ensures finds { HasCleanDisk (state S.Store conn.new) → result ≡ Err KeepFault.Store → (r : Record) → MayIn self.old r → ListsRows r (state S.Store conn.new) → IsSome (state S.Store conn.new).step_limit }
         ensures kind { IfErr result HindersOpening }
         ensures unchanged { IfErr result (λ fault. self.new ≡ record self.old { failures = failures_after fault self.old.failures }) }
         ensures crash { Survives (state S.Store conn.old) (state S.Store conn.new) (λ _. ⊥) }
@@ -125,7 +126,8 @@ impl Kept {
             Ok(rows) => self.recognise(&rows),
             Err(ReadFault::NoMemory) => Err(KeepFault::NoMemory),
             Err(ReadFault::Database(error)) => Err(self.hindered(&error)),
-            Err(ReadFault::OtherTables | ReadFault::BadRow { .. }) => Err(KeepFault::Store),
+            Err(ReadFault::OtherTables) => Err(KeepFault::Store),
+            Err(ReadFault::BadRow { .. }) => Err(KeepFault::Store),
         }
     }
 }
