@@ -101,10 +101,7 @@ pub fn declared_site() -> Declaration
     Declaration {
         name: "site",
         tree: 1,
-        columns: &[
-            Column::Key("no"),
-            Column::Text("name"),
-        ],
+        columns: &[Column::Key("no"), Column::Text("name")],
         key: Some(0),
         primary: &[0],
         unique: &[2],

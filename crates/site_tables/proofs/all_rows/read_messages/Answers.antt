@@ -37,5 +37,5 @@ returns-in_err-seen-clause-cause g c clean before =
     let same = c.in_ok-quarantine.ensures.same early in
     let more : AreReadableBefore Seen mid.now.trees = (before_still old mid new same c.read_table.ensures.crash Outbox read, (c.in_ok-outbox.outbox, c.in_ok-outbox.ensures.rows later)) in
     let told : IsUnreadable old new c.in_err-seen.field-0.0 = met_later old mid new same c.read_table.ensures.crash c.in_err-seen.field-0.0
-        (met_after mid late new (c.in_ok-outbox.ensures.same later) c.read_table-2.ensures.crash Seen seen seen_values c.in_err-seen.field-0.0 more (λ place h. h) (c.in_err-seen.ensures.cause clean)) in
+    (met_after mid late new (c.in_ok-outbox.ensures.same later) c.read_table-2.ensures.crash Seen seen seen_values c.in_err-seen.field-0.0 more (λ place h. h) (c.in_err-seen.ensures.cause clean)) in
     search rules

@@ -48,6 +48,6 @@ returns-in_err-recalls-clause-cause g c clean =
     let events : AreReadableBefore Quarantine second.now.trees = before_still first second new kept c.read_events.ensures.crash Quarantine ((sites, (c.in_ok-events.events.event, c.in_ok-events.ensures.event later)), (c.in_ok-events.events.part, c.in_ok-events.ensures.part later)) in
     let still = c.in_ok-messages.ensures.same latest in
     let messages : AreReadableBefore Parent third.now.trees = before_still second third new still c.read_messages.ensures.crash Parent
-        (((events, (c.in_ok-messages.messages.quarantine, c.in_ok-messages.ensures.quarantine latest)), (c.in_ok-messages.messages.outbox, c.in_ok-messages.ensures.outbox latest)), (c.in_ok-messages.messages.seen, c.in_ok-messages.ensures.seen latest)) in
+    (((events, (c.in_ok-messages.messages.quarantine, c.in_ok-messages.ensures.quarantine latest)), (c.in_ok-messages.messages.outbox, c.in_ok-messages.ensures.outbox latest)), (c.in_ok-messages.messages.seen, c.in_ok-messages.ensures.seen latest)) in
     let told : IsUnreadable old new c.in_err-recalls.field-0.0 = met_later old first new same c.read_sites.ensures.crash c.in_err-recalls.field-0.0 (met_later first second new kept c.read_events.ensures.crash c.in_err-recalls.field-0.0 (met_later second third new still c.read_messages.ensures.crash c.in_err-recalls.field-0.0 (c.in_err-recalls.ensures.cause clean messages))) in
     search rules

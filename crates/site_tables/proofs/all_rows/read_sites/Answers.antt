@@ -37,5 +37,5 @@ returns-in_err-address-clause-cause g c clean =
     let same = c.in_ok-store.ensures.same early in
     let more : AreReadableBefore Address mid.now.trees = (before_still old mid new same c.read_table.ensures.crash Site read, (c.in_ok-site.site, c.in_ok-site.ensures.rows later)) in
     let told : IsUnreadable old new c.in_err-address.field-0.0 = met_later old mid new same c.read_table.ensures.crash c.in_err-address.field-0.0
-        (met_after mid late new (c.in_ok-site.ensures.same later) c.read_table-2.ensures.crash Address address address_values c.in_err-address.field-0.0 more (λ place h. h) (c.in_err-address.ensures.cause clean)) in
+    (met_after mid late new (c.in_ok-site.ensures.same later) c.read_table-2.ensures.crash Address address address_values c.in_err-address.field-0.0 more (λ place h. h) (c.in_err-address.ensures.cause clean)) in
     search rules

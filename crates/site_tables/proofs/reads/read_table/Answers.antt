@@ -23,6 +23,6 @@ returns-in_err-read_each-clause-cause g c clean =
     let selects : Selects g.T.Stored.listed c.text.result.now = rw c.text.ensures.is c.text.ensures.selects in
     let fault = c.in_err-read_each.field-0.0 in
     let met : IsReadFault c.table.result g.T.Stored.listed g.T.Stored.shown (state g.S.Store c.args.conn.now) (state g.S.Store c.read_each.new.conn) fault =
-        read_fault g.S.Store c.table.result g.T.Stored.listed g.T.Stored.shown c.text.result.now selects c.args.conn.now c.read_each.new.conn known fault (c.in_err-read_each.ensures.cause clean) in
+    read_fault g.S.Store c.table.result g.T.Stored.listed g.T.Stored.shown c.text.result.now selects c.args.conn.now c.read_each.new.conn known fault (c.in_err-read_each.ensures.cause clean) in
     let told = rw c.table.ensures at met in
     search rules
