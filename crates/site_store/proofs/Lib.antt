@@ -1,3 +1,4 @@
+pub mod Findings
 pub mod Found
 pub mod InOrder
 pub mod KeptFailures

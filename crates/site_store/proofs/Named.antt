@@ -21,7 +21,7 @@ same_pos : (a b : ℕ) → pos a ≡ pos b → a ≡ b
 same_pos a b e = cc
 
 -- the row of a site is found by its number
-find_numbered : (sites : List Site) (first at number : ℕ) → number ≡ first + at
+pub find_numbered : (sites : List Site) (first at number : ℕ) → number ≡ first + at
     → find (λ (s : SiteRow). int_eq s.no (pos number)) (map site_row (enumerate_from first sites)) ≡ option_map (λ (s : Site). site_row (number, s)) (slice_get sites at)
 find_numbered [] first at number e = refl
 find_numbered (s ∷ sites) first zero number e =

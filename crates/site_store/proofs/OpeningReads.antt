@@ -2,7 +2,7 @@
 use Rattle.std.specs.Prelude.{IfOk, IfErr, slice_get, nat_eq, ◌≢◌}
 use Rattle.std.specs.Cmp.Lexicographic.{pointwise}
 use Rattle.std.proofs.lemmas.Option.{same_Some}
-use Rattle.std.proofs.Common.{◌≡◌, List, [], ◌∷◌, ℕ, pos, Result, Ok, Err, Option, Some, None, Bool, true, false, if◌then◌else◌, inl, inr, sym, ap, ◌∙◌, subst}
+use Rattle.std.proofs.Common.{◌≡◌, List, [], ◌∷◌, ℕ, pos, Result, Ok, Err, Option, Some, None, true, false, inl, sym, ap, ◌∙◌, subst}
 use Rattle.sqlite_disk.specs.declared.Disk as disk
 use Rattle.sqlite_store.specs.declared.store.FileStore.{FileStore}
 use Rattle.sqlite.specs.Held.{Held}
@@ -18,12 +18,7 @@ use Rattle.site_tables.specs.Stored.{contents_of}
 use Rattle.site_tables.specs.Tables.{site_schema}
 use Rattle.site_tables.proofs.Committed.{Settles}
 use Rattle.site_store.specs.declared.opening.OpenFault.{OpenFault}
-use Rattle.site_store.specs.Opened.{name_at, IsStoreOf, IsFound, IsRefused, IsUnread, IsOpenFault, unread}
-use Rattle.site_store.specs.Faults.{is_of_device, is_of_memory}
-use Rattle.site_store.specs.declared.opening.OpenFault.TheVariants.{NoMemory, Device, Store}
-use Rattle.site_tables.specs.Unreadable.{IsUnreadable}
-use Rattle.site_tables.specs.declared.faults.ReadFault.{ReadFault}
-use Rattle.site_tables.specs.declared.faults.ReadFault.TheVariants as reads
+use Rattle.site_store.specs.Opened.{name_at, IsStoreOf, IsFound, IsRefused, IsOpenFault}
 use Rattle.site_store.specs.Openings.{ListsRecord}
 use Rattle.site_store.specs.Sites.{StoresListed}
 use Rattle.site_store.proofs.InOrder.{stored_as_read}
@@ -53,24 +48,10 @@ lists_read (Ok r) rows old new is schema listed same = (schema, subst (λ x. Are
 lists_read (Err fault) rows old new is schema listed same = tt
 
 -- and a refusal of such rows
-pub refused_read : (result : Result Record OpenFault) (rows : Rows) (name : List ℕ) (old new : State) → IfErr result (IsRefused name rows) → AreListed (contents_of rows) old.now.trees → IfErr result (IsOpenFault old new name)
-refused_read (Ok r) rows name old new is listed = tt
-refused_read (Err fault) rows name old new is listed = inl (rows, listed, is)
-
--- tables that can't be read
-pub is_unread : (fault : ReadFault) (old new : State) → IsUnreadable old new fault → IsUnread old new (unread fault)
-is_unread reads.NoMemory old new h = tt
-is_unread reads.OtherTables old new h = tt
-is_unread (reads.BadRow table row) old new h = h
-is_unread (reads.Database e) old new h = by (is_of_device e) (is_of_memory e)
-  where
-    by : (device memory : Bool) → IsUnread old new (if device then Device else if memory then NoMemory else Store)
-    by true memory = tt
-    by false true = tt
-    by false false = tt
-
-pub unread_told : (fault : ReadFault) (name : List ℕ) (old new : State) → IsUnreadable old new fault → IsOpenFault old new name (unread fault)
-unread_told fault name old new h = inr (is_unread fault old new h)
+pub refused_read : (result : Result Record OpenFault) (rows : Rows) (name : List ℕ) (old new : State) → IfErr result (IsRefused name rows) → old.now.schema ≡ site_schema → AreListed (contents_of rows) old.now.trees → IsUnchanged old new
+    → IfErr result (IsOpenFault old new name)
+refused_read (Ok r) rows name old new is schema listed same = tt
+refused_read (Err fault) rows name old new is schema listed same = inl (rows, schema, listed, is, same)
 
 module _ {D : Type 0} {g : disk.Ghosts D} where
   -- a connection just made stores what its queries list

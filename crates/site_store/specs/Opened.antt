@@ -1,5 +1,5 @@
 -- As which site a database is opened, and why it isn't.
-use Rattle.std.specs.Prelude.{◌≡◌, ◌≢◌, ◌⊎◌, ◌∷◌, [], ⊤, ℕ, ℤ, pos, List, Option, Some, None, option_map, string_bytes, if◌then◌else◌}
+use Rattle.std.specs.Prelude.{◌≡◌, ◌≢◌, ◌⊎◌, ◌∷◌, [], ⊤, ℕ, ℤ, pos, List, Option, Some, None, IsSome, option_map, string_bytes, if◌then◌else◌}
 use Rattle.std.specs.List.{find}
 use Rattle.std.specs.Ordering.{int_eq}
 use Rattle.sqlite_disk.specs.declared.Disk as disk
@@ -7,8 +7,9 @@ use Rattle.sqlite_wal.specs.Recovery.{Image}
 use Rattle.sqlite_store.specs.declared.store.FileStore.{FileStore}
 use Rattle.sqlite.specs.Held.{Held}
 use Rattle.sqlite.specs.Files.{file_state, AreFoundIn}
-use Rattle.sqlite.specs.State.{State, HasCleanDisk, Opens, Survives}
+use Rattle.sqlite.specs.State.{State, HasCleanDisk, IsUnchanged, Opens, Survives}
 use Rattle.site_core.specs.Records.{Record}
+use Rattle.site_rows.specs.Laws.{IsKept, HoldsItems}
 use Rattle.site_rows.specs.ReadRows.{IsStateFault}
 use Rattle.site_rows.specs.RecordRows.{name_of}
 use Rattle.site_rows.specs.declared.reading.StateFault.TheVariants as states
@@ -18,7 +19,8 @@ use Rattle.site_rows.specs.declared.rows.StoreRow.{StoreRow}
 use Rattle.site_rows.specs.declared.tables.Table.TheVariants as tables
 use Rattle.site_tables.specs.AllReads.{AreListed}
 use Rattle.site_tables.specs.Stored.{contents_of}
-use Rattle.site_tables.specs.Unreadable.{ShowsBadRow}
+use Rattle.site_tables.specs.Tables.{site_schema}
+use Rattle.site_tables.specs.Unreadable.{IsUnreadable}
 use Rattle.site_tables.specs.declared.faults.ReadFault.{ReadFault}
 use Rattle.site_tables.specs.declared.faults.ReadFault.TheVariants as reads
 use Rattle.site_store.specs.Faults.{is_of_device, is_of_memory}
@@ -27,7 +29,7 @@ use Rattle.site_store.specs.declared.opening.OpenFault.TheVariants.{NoMemory, No
 use Rattle.site_store.specs.declared.sites.Link.{Link}
 use Rattle.site_store.specs.declared.sites.Link.TheVariants.{Connected, Unconnected}
 use Rattle.site_store.specs.declared.sites.StoredSite.{StoredSite}
-use Rattle.site_store.specs.Openings.{ListsRecord}
+use Rattle.site_store.specs.Openings.{ListsRecord, ListsRows}
 use Rattle.site_store.specs.Sites.{shown_by, link_of, IsKeptBy}
 
 -- the name in the row of `site` with this number
@@ -62,21 +64,32 @@ unread reads.OtherTables = NotAStore
 unread (reads.BadRow table row) = BadRow (record { table = table; row = row })
 unread (reads.Database error) = if is_of_device error then Device else if is_of_memory error then NoMemory else Store
 
--- the tables can't be read: they are no site's, or the database fails, of which nothing more is said, or the query of a
--- table shows a row for which no value stands
+-- the tables can't be read
 abbrev pub IsUnread : State → State → OpenFault → Type 0
-IsUnread old new (Version found) = ⊥
-IsUnread old new (OtherSite found) = ⊥
-IsUnread old new (BadRow bad) = ShowsBadRow bad.table bad.row old new
-IsUnread old new other = ⊤
+IsUnread old new fault = (why : ReadFault) × IsUnreadable old new why × (fault ≡ unread why)
 
--- the rows that the tables list say so, or they can't be read
+-- the tables are a site's, nothing is changed, and the rows that they list say so; or they can't be read
 abbrev pub IsOpenFault : State → State → List ℕ → OpenFault → Type 0
-IsOpenFault old new name fault = ((rows : Rows) × AreListed (contents_of rows) old.now.trees × IsRefused name rows fault) ⊎ IsUnread old new fault
+IsOpenFault old new name fault =
+    ((rows : Rows) × (old.now.schema ≡ site_schema) × AreListed (contents_of rows) old.now.trees × IsRefused name rows fault × IsUnchanged old new) ⊎ IsUnread old new fault
 
 -- the name of the site itself
 abbrev pub own_name : Record → List ℕ
 own_name r = name_of r.sites r.engagement.me
+
+-- the tables list the rows of this record, which a site of this name may keep
+pub record ListsSite (r : Record) (name : List ℕ) (s : State) : Type 0 where
+  pub rows : ListsRows r s
+  pub kept : IsKept r
+  pub items : HoldsItems r
+  pub named : own_name r ≡ name
+
+-- memory ran out, the device failed or was shut, or the limit on the steps of a query was met
+abbrev pub IsOfMachine : State → OpenFault → Type 0
+IsOfMachine s NoMemory = ⊤
+IsOfMachine s Device = ⊤
+IsOfMachine s Store = IsSome s.step_limit
+IsOfMachine s other = ⊥
 
 module _ {D : Type 0} {g : disk.Ghosts D} where
   -- the connection was just made to files in which its tables were found
@@ -89,17 +102,24 @@ module _ {D : Type 0} {g : disk.Ghosts D} where
       Survives (file_state before) (file_state after) (λ _. ⊥) × (HasCleanDisk (file_state after) → ListsRecord r (file_state before) (file_state after))
   ReadsAt before r (Unconnected files) = ⊥
 
+  abbrev pub IsCleanAt : Link D g → Type 0
+  IsCleanAt (Connected conn) = HasCleanDisk (file_state conn)
+  IsCleanAt (Unconnected files) = ⊥
+
   -- it shows the record whose rows the tables list, which is that of a site of this name; over a connection just made the
-  -- tables hold its rows after a crash, too
+  -- tables hold its rows after a crash, too. Where the tables list the rows of such a site, it is that.
   pub record IsOpenedAs (conn : Held (FileStore D g)) (name : List ℕ) (site : StoredSite D g) : Type 0 where
     pub shown : Record
     pub shows : shown_by site ≡ Some shown
     pub named : own_name shown ≡ name
     pub reads : ReadsAt conn shown (link_of site)
+    pub finds : IsCleanAt (link_of site) → (r : Record) → ListsSite r name (file_state conn) → shown ≡ r
     pub kept : IsFound conn → IsKeptBy site shown
 
-  -- the connection was given up after a reading, which wrote nothing, and the tables tell why
+  -- the connection was given up after a reading, which wrote nothing, and the tables tell why. Where they list the rows of
+  -- such a site, nothing but the machine hinders its opening.
   pub record IsNotOpened (conn : Held (FileStore D g)) (name : List ℕ) (fault : OpenFault) : Type 0 where
     pub last : Held (FileStore D g)
     pub crash : Survives (file_state conn) (file_state last) (λ _. ⊥)
     pub cause : HasCleanDisk (file_state last) → IsOpenFault (file_state conn) (file_state last) name fault
+    pub finds : HasCleanDisk (file_state last) → (r : Record) → ListsSite r name (file_state conn) → IsOfMachine (file_state conn) fault

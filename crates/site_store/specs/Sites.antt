@@ -1,5 +1,5 @@
 -- A site kept by the files of a connection.
-use Rattle.std.specs.Prelude.{◌≡◌, ℕ, Option, Some, None, Result, Ok, Err, Bool, false, IsTrue}
+use Rattle.std.specs.Prelude.{◌≡◌, ⊤, ℕ, Option, Some, None, Result, Ok, Err, Bool, false, IsTrue}
 use Rattle.sqlite_disk.specs.declared.Disk as disk
 use Rattle.sqlite_store.specs.declared.store.FileStore.{FileStore}
 use Rattle.sqlite.specs.Held.{Held}
@@ -10,7 +10,7 @@ use Rattle.site_core.specs.declared.inputs.SiteInput.{SiteInput}
 use Rattle.site_core.specs.declared.outcomes.Effects.{Effects}
 use Rattle.keeper_core.specs.declared.faults.Keep.{Keep}
 use Rattle.keeper_core.specs.declared.faults.KeepFault.{KeepFault}
-use Rattle.keeper_core.specs.declared.faults.KeepFault.TheVariants.{Closed}
+use Rattle.keeper_core.specs.declared.faults.KeepFault.TheVariants.{Closed, Store}
 use Rattle.keeper_core.specs.declared.faults.Unopened.{Unopened}
 use Rattle.site_tables.specs.AllReads.{AreListed}
 use Rattle.site_tables.specs.Stored.{Contents, IsStored}
@@ -20,7 +20,7 @@ use Rattle.site_store.specs.declared.sites.Link.{Link}
 use Rattle.site_store.specs.declared.sites.Link.TheVariants.{Connected, Unconnected}
 use Rattle.site_store.specs.declared.sites.StoredSite.{StoredSite}
 use Rattle.site_store.specs.Kept.{shown_in, MayIn, AppliesKept, StopsKept, KeepsAfter, KeepsStopped, is_idle}
-use Rattle.site_store.specs.Openings.{StaysAs}
+use Rattle.site_store.specs.Openings.{StaysAs, ListsRows}
 use Rattle.site_store.specs.StepWritten.{Keeps}
 
 module _ {D : Type 0} {g : disk.Ghosts D} where
@@ -103,6 +103,11 @@ module _ {D : Type 0} {g : disk.Ghosts D} where
   abbrev pub StaysShut : Kept → Unopened (StoredSite D g) → Type 0
   StaysShut old left = StaysAs old left.fault left.keeper.kept
 
+  -- where a connection was made, Store says that its tables list the rows of none of the records
+  abbrev pub NoneListed : Kept → KeepFault → Link D g → Type 0
+  NoneListed old fault (Connected conn) = HasCleanDisk (file_state conn) → fault ≡ Store → (r : Record) → MayIn old r → ListsRows r (file_state conn) → ⊥
+  NoneListed old fault (Unconnected files) = ⊤
+
   abbrev pub ReopensBy : StoredSite D g → Result (StoredSite D g) (Unopened (StoredSite D g)) → Type 0
   ReopensBy old (Ok site) = shown_by old ≡ None → OpensIn old.kept site
-  ReopensBy old (Err left) = StaysShut old.kept left
+  ReopensBy old (Err left) = StaysShut old.kept left × NoneListed old.kept left.fault left.keeper.link

@@ -1,12 +1,12 @@
 //! A closed record opened in that of its records whose rows the tables list.
-ghost use Rattle.std.specs.Prelude.{◌≡◌, ◌⊎◌, ◌↔◌, true, Some, None, Err, IsTrue, IfOk, IfErr, OnOk, OnErr};
+ghost use Rattle.std.specs.Prelude.{◌≡◌, ◌⊎◌, ◌↔◌, true, Some, None, Err, IsTrue, IsSome, IfOk, IfErr, OnOk, OnErr};
 ghost use Rattle.sqlite.specs.State.{HasCleanDisk, Survives};
 ghost use Rattle.sqlite.specs.Held.{state};
 ghost use Rattle.site_core.specs.Records.{Record};
 ghost use Rattle.keeper_core.specs.Keeping.{HindersOpening};
 ghost use Rattle.site_rows.specs.RecordRows.{rows_of};
 ghost use Rattle.site_store.specs.Kept.{MayIn, failures_after};
-ghost use Rattle.site_store.specs.Openings.{ListsRecord, opening_fault};
+ghost use Rattle.site_store.specs.Openings.{ListsRecord, ListsRows, opening_fault};
 
 use crate::faults::{is_of_device, is_of_memory, one_more};
 use crate::kept::Kept;
@@ -58,6 +58,7 @@ impl Kept {
 
     /// What hindered an opening, counted where the device failed.
     pub fn hindered(&mut self, error: &Error) -> KeepFault
+        ensures is { result ≡ opening_fault error.now }
         ensures kind { HindersOpening result }
         ensures counted { self.new ≡ record self.old { failures = failures_after result self.old.failures } }
     {
@@ -116,6 +117,7 @@ impl Kept {
         ensures opened { OnOk result ((self.new.is_open ≡ true) × MayIn self.old self.new.pair) }
         ensures count { OnOk result (self.new.failures ≡ self.old.failures) }
         ensures listed { HasCleanDisk (state S.Store conn.new) → OnOk result (ListsRecord self.new.pair (state S.Store conn.old) (state S.Store conn.new)) }
+        ensures finds { HasCleanDisk (state S.Store conn.new) → result ≡ Err KeepFault.Store → (r : Record) → MayIn self.old r → ListsRows r (state S.Store conn.new) → IsSome (state S.Store conn.new).step_limit }
         ensures kind { IfErr result HindersOpening }
         ensures unchanged { IfErr result (λ fault. self.new ≡ record self.old { failures = failures_after fault self.old.failures }) }
         ensures crash { Survives (state S.Store conn.old) (state S.Store conn.new) (λ _. ⊥) }
@@ -124,7 +126,8 @@ impl Kept {
             Ok(rows) => self.recognise(&rows),
             Err(ReadFault::NoMemory) => Err(KeepFault::NoMemory),
             Err(ReadFault::Database(error)) => Err(self.hindered(&error)),
-            Err(ReadFault::OtherTables | ReadFault::BadRow { .. }) => Err(KeepFault::Store),
+            Err(ReadFault::OtherTables) => Err(KeepFault::Store),
+            Err(ReadFault::BadRow { .. }) => Err(KeepFault::Store),
         }
     }
 }

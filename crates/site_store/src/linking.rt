@@ -1,5 +1,5 @@
 //! A connection made again.
-ghost use Rattle.std.specs.Prelude.{IfOk};
+ghost use Rattle.std.specs.Prelude.{◌≡◌, None, IfOk};
 ghost use Rattle.site_store.specs.Sites.{StoresListed};
 
 use crate::sites::Link;
@@ -17,7 +17,8 @@ fn open_files_again<D: Disk + Drop>(
     files: Files<D>,
     options: Options,
 ) -> Result<Connection<FileStore<D>>, (Error, Files<D>)>
-    ensures { IfOk result StoresListed }
+    ensures stores { IfOk result StoresListed }
+    ensures unlimited { IfOk result (λ conn. conn.step_limit ≡ None) }
 {
     if !files.may_be_used() {
         return Err((Error::SqliteFailure(ErrorCode::CannotOpen), files));
@@ -41,7 +42,8 @@ pub fn connect<D: Disk + Drop>(
     link: Link<D>,
     options: Options,
 ) -> Result<Connection<FileStore<D>>, (Error, Files<D>)>
-    ensures { IfOk result StoresListed }
+    ensures stores { IfOk result StoresListed }
+    ensures unlimited { IfOk result (λ conn. conn.step_limit ≡ None) }
 {
     let files = match link {
         Link::Connected(conn) => match conn.close_files() {

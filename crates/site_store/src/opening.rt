@@ -1,10 +1,12 @@
 //! A site opened from the tables of a file.
-ghost use Rattle.std.specs.Prelude.{◌≡◌, ◌↔◌, IsTrue, IfOk, IfErr, OnOk, Some, option_map, pos};
+ghost use Rattle.std.specs.Prelude.{◌≡◌, ◌↔◌, IsTrue, IfOk, IfErr, OnOk, MatchResult, Some, option_map, pos};
 ghost use Rattle.sqlite.specs.State.{HasCleanDisk, Survives};
 ghost use Rattle.sqlite.specs.Held.{state};
+ghost use Rattle.site_core.specs.Records.{Record};
+ghost use Rattle.site_rows.specs.Laws.{IsKept, HoldsItems};
 ghost use Rattle.site_rows.specs.RecordRows.{rows_of};
 ghost use Rattle.site_store.specs.Openings.{ListsRecord};
-ghost use Rattle.site_store.specs.Opened.{name_at, own_name, IsStoreOf, IsRefused, unread, IsOpenFault, IsOpenedAs, IsNotOpened};
+ghost use Rattle.site_store.specs.Opened.{name_at, own_name, IsStoreOf, IsRefused, unread, IsOpenFault, ListsSite, IsOfMachine, IsOpenedAs, IsNotOpened};
 
 use crate::faults::{is_of_device, is_of_memory};
 use crate::sites::StoredSite;
@@ -103,6 +105,7 @@ fn record_of(alloc: Global, rows: &Rows, name: &str) -> Result<SiteState, OpenFa
     ensures read { IfOk result (λ state. rows_of state ≡ rows.now) }
     ensures named { IfOk result (λ state. own_name state ≡ name.now) }
     ensures refused { IfErr result (IsRefused name.now rows.now) }
+    ensures same { (r : Record) → IsKept r → HoldsItems r → own_name r ≡ name.now → rows.now ≡ rows_of r → MatchResult result (λ state. state ≡ r) (λ fault. fault ≡ OpenFault.NoMemory) }
 {
     check_name(alloc, rows, name)?;
     match state_of(alloc, rows) {
@@ -121,6 +124,7 @@ fn read_site<S: Alter>(
     ensures read { HasCleanDisk (state S.Store conn.new) → IfOk result (λ site. ListsRecord site (state S.Store conn.old) (state S.Store conn.new)) }
     ensures named { IfOk result (λ site. own_name site ≡ name.now) }
     ensures refused { HasCleanDisk (state S.Store conn.new) → IfErr result (IsOpenFault (state S.Store conn.old) (state S.Store conn.new) name.now) }
+    ensures finds { HasCleanDisk (state S.Store conn.new) → (r : Record) → ListsSite r name.now (state S.Store conn.old) → MatchResult result (λ site. site ≡ r) (IsOfMachine (state S.Store conn.old)) }
     ensures crash { Survives (state S.Store conn.old) (state S.Store conn.new) (λ _. ⊥) }
 {
     match read_rows(alloc, conn) {

@@ -3,7 +3,7 @@ ghost use Rattle.std.specs.Prelude.{◌≡◌, ◌≤◌, false, Some, None, Ok,
 ghost use Rattle.site_core.specs.Records.{Record};
 ghost use Rattle.site_core.specs.Steps.{CopiesRecord};
 ghost use Rattle.keeper_core.specs.Keeping.{Applies, Stops, StaysClosed, HindersOpening, Rises};
-ghost use Rattle.site_store.specs.Sites.{shown_by, MayBy, failed_by, statements_by, link_of, IsKeptOver, IsKeptBy, StoresListed, OpensIn, StaysShut, AppliesBy, StopsBy, ReopensBy};
+ghost use Rattle.site_store.specs.Sites.{shown_by, MayBy, failed_by, statements_by, link_of, IsKeptOver, IsKeptBy, StoresListed, OpensIn, StaysShut, NoneListed, AppliesBy, StopsBy, ReopensBy};
 
 use crate::beginning::begin_tables;
 use crate::kept::Kept;
@@ -133,6 +133,7 @@ impl<D: Disk + Drop> StoredSite<D> {
         ensures opened { IfOk result (OpensIn self.kept) }
         ensures kind { IfErr result (λ left. HindersOpening left.fault) }
         ensures unopened { IfErr result (StaysShut self.kept) }
+        ensures unfound { IfErr result (λ left. NoneListed self.kept left.fault left.keeper.link) }
     {
         let StoredSite {
             mut kept,
@@ -230,9 +231,11 @@ fn find_over<D: Disk + Drop>(
 ) -> Result<StoredSite<D>, Unopened<StoredSite<D>>>
     requires closed { kept.is_open ≡ false }
     requires stores { StoresListed conn }
+    requires unlimited { conn.step_limit ≡ None }
     ensures opened { IfOk result (OpensIn kept) }
     ensures kind { IfErr result (λ left. HindersOpening left.fault) }
     ensures unopened { IfErr result (StaysShut kept) }
+    ensures unfound { IfErr result (λ left. NoneListed kept left.fault left.keeper.link) }
 {
     let mut kept = kept;
     let mut conn = conn;

@@ -22,11 +22,11 @@ use Rattle.sqlite_sql.specs.Program.{overlay}
 use Rattle.sqlite_value.specs.declared.keys.Key.{Key}
 use Rattle.sqlite.specs.Table.{Table}
 use Rattle.sqlite.specs.Tree.{Trees}
-use Rattle.sqlite.specs.State.{State, Shown, IsUnchanged, Survives, CommitsShowing}
+use Rattle.sqlite.specs.State.{State, Shown, Begins, IsUnchanged, Survives, CommitsShowing}
 use Rattle.sqlite.specs.Effect.{Database}
 use Rattle.sqlite.proofs.StateLemmas.{survives_weaker}
 use Rattle.sqlite.specs.Listing.{understood, reads_listing}
-use Rattle.sqlite.proofs.Callers.{IsPlain, command_of, reads_as, never_commits}
+use Rattle.sqlite.proofs.Callers.{IsPlain, command_of, reads_as, begins_as, never_commits}
 use Rattle.sqlite_schema.specs.Names.{place_of}
 use Rattle.site_tables.specs.Tables.{site_schema}
 use Rattle.site_tables.specs.TableRows.{visible, key_of}
@@ -100,15 +100,24 @@ rows_sorted table keyed tree rows a =
     subst₂ (λ u v. is_lt (key_cmp 0 ks u v) ≡ false) (all (k + 1) e here ∙ ap (key_of table) (sym (shown_at a.ordered (k + 1) d here))) (all k e near ∙ ap (key_of table) (sym (shown_at a.ordered k d near)))
     (subst (λ by. is_lt (key_cmp 0 by (get_or a.ordered (k + 1) e).0 (get_or a.ordered k e).0) ≡ false) keys (a.sorted k e low here)))
 
+-- the rows of a whole answer are those of the table by their keys
+pub whole_listed : (table : Table) → IsKeyed table → (tree rows : List Row) → IsWhole (by_key table) tree [] rows → IsListed table tree rows
+whole_listed table keyed tree rows whole = record {
+  same = subst (λ shown. IsPermutation shown rows) (map_alike (λ r. eval_all (by_key table).project ([] ∷ r ∷ [])) (visible table) tree (λ r. as_visible table [] r)) (shows_all (by_key table) tree [] rows whole);
+  sorted = rows_sorted table keyed tree rows whole;
+}
+
 pub reads_table : (table : Table) → (sql : List ℕ) → Selects table sql
     → (old new : State) (rows : List Row) → old.now.schema ≡ site_schema → Shown sql [] old new rows → IsListed table (old.now.trees table.tree) rows
-reads_table table sql is old new rows has h =
-    let tree = old.now.trees table.tree in
-    let whole = reads_whole table sql is old new rows has h in
-    record {
-      same = subst (λ shown. IsPermutation shown rows) (map_alike (λ r. eval_all (by_key table).project ([] ∷ r ∷ [])) (visible table) tree (λ r. as_visible table [] r)) (shows_all (by_key table) tree [] rows whole);
-      sorted = rows_sorted table is.keyed tree rows whole;
-    }
+reads_table table sql is old new rows has h = whole_listed table is.keyed (old.now.trees table.tree) rows (reads_whole table sql is old new rows has h)
+
+-- rows with which an answer begins are the first of the table by their keys
+pub begins_table : (table : Table) → (sql : List ℕ) → Selects table sql
+    → (s : State) (rows : List Row) → s.now.schema ≡ site_schema → Begins sql [] s rows → (others : List Row) × IsListed table (s.now.trees table.tree) (rows ++ others)
+begins_table table sql is s rows has h =
+    let first = begins_as sql [] s s site_schema has (selects_all table) is.command is.plain is.listing rows h in
+    let whole = whole_answer table.tree _ _ s.now.trees [] (rows ++ first.1.0) (first.1.1 Null) in
+    (first.1.0, whole_listed table is.keyed (s.now.trees table.tree) (rows ++ first.1.0) whole)
 
 -- ---- a query that is read one row at a time
 

@@ -1,33 +1,45 @@
--- What a reading of the tables has met that names a bad row.
-use Rattle.std.specs.Prelude.{ℕ, List}
+-- What a reading of the tables has met that is refused.
+use Rattle.std.proofs.Common.{◌≡◌, ◌≢◌, ℕ, List, sym, ap, subst, ◌∙◌}
 use Rattle.sqlite.specs.Order.{Row}
-use Rattle.sqlite.specs.State.{State, IsUnchanged}
+use Rattle.sqlite.specs.Effect.{Database}
+use Rattle.sqlite.specs.State.{State, IsUnchanged, Survives}
+use Rattle.sqlite.specs.Table.{Table}
 use Rattle.sqlite.proofs.Callers.{unchanged_then}
 use Rattle.site_rows.specs.declared.tables.Table.{«Table» as SiteTable}
-use Rattle.site_rows.specs.declared.tables.Table.TheVariants.{Store, Site, Address, Event, Part, Quarantine, Outbox, Seen, Parent, Recall}
 use Rattle.site_tables.specs.declared.faults.ReadFault.{ReadFault}
-use Rattle.site_tables.specs.declared.faults.ReadFault.TheVariants.{NoMemory, OtherTables, BadRow, Database}
-use Rattle.site_tables.specs.Reads.{HasBadRow}
-use Rattle.site_tables.specs.Unreadable.{ShowsBadRow, IsUnreadable}
+use Rattle.site_tables.specs.declared.faults.ReadFault.TheVariants.{NoMemory, OtherTables, BadRow, Database as OfDatabase}
+use Rattle.site_tables.specs.Reads.{HasBadRow, IsReadFault}
+use Rattle.site_tables.specs.Tables.{site_schema}
+use Rattle.site_tables.specs.Unreadable.{AreReadableBefore, IsBadAt, IsUnreadable}
+use Rattle.site_tables.proofs.Failing.{fails_later}
 
-later : {X : Type 0} (sql : List ℕ) (row_of : X → Row) (place : ℕ) (old mid new : State) → IsUnchanged old mid → HasBadRow sql row_of place mid new → HasBadRow sql row_of place old new
-later sql row_of place old mid new same h = (unchanged_then old mid new same h.0, h.1, h.2, h.3, h.4, h.5)
+-- the fault of a table is that of the tables, where those before it were read
+pub met : {X : Type 0} (named : SiteTable) (table : Table) (row_of : X → Row) (old new : State) (fault : ReadFault) → AreReadableBefore named old.now.trees
+    → ((place : ℕ) → HasBadRow table row_of place (old.now.trees table.tree) → IsBadAt named place old.now.trees) → IsReadFault named table row_of old new fault → IsUnreadable old new fault
+met named table row_of old new NoMemory before is h = h
+met named table row_of old new OtherTables before is h = h
+met named table row_of old new (BadRow t place) before is h = subst (λ (n : SiteTable). IsUnreadable old new (BadRow n place)) (sym h.1) (h.0, before, is place h.2, h.3)
+met named table row_of old new (OfDatabase e) before is h = h
 
-shown_later : (table : SiteTable) (place : ℕ) (old mid new : State) → IsUnchanged old mid → ShowsBadRow table place mid new → ShowsBadRow table place old new
-shown_later Store place old mid new same h = later _ _ place old mid new same h
-shown_later Site place old mid new same h = later _ _ place old mid new same h
-shown_later Address place old mid new same h = later _ _ place old mid new same h
-shown_later Event place old mid new same h = later _ _ place old mid new same h
-shown_later Part place old mid new same h = later _ _ place old mid new same h
-shown_later Quarantine place old mid new same h = later _ _ place old mid new same h
-shown_later Outbox place old mid new same h = later _ _ place old mid new same h
-shown_later Seen place old mid new same h = later _ _ place old mid new same h
-shown_later Parent place old mid new same h = later _ _ place old mid new same h
-shown_later Recall place old mid new same h = later _ _ place old mid new same h
+-- so it is after tables were read, which changes nothing
+module _ (old mid new : State) (same : IsUnchanged old mid) (survives : Survives old mid (λ _. ⊥)) where
+  was : mid.now ≡ old.now
+  was = same.0.now_is
 
--- after other tables were read, which changes nothing
-pub met_later : (fault : ReadFault) (old mid new : State) → IsUnchanged old mid → IsUnreadable mid new fault → IsUnreadable old new fault
-met_later NoMemory old mid new same h = tt
-met_later OtherTables old mid new same h = tt
-met_later (BadRow table place) old mid new same h = shown_later table place old mid new same h
-met_later (Database e) old mid new same h = tt
+  schema_was : mid.now.schema ≡ site_schema → old.now.schema ≡ site_schema
+  schema_was h = sym (ap (λ (d : Database). d.schema) was) ∙ h
+
+  pub met_later : (fault : ReadFault) → IsUnreadable mid new fault → IsUnreadable old new fault
+  met_later NoMemory h = schema_was h
+  met_later OtherTables h = λ e. h (ap (λ (d : Database). d.schema) was ∙ e)
+  met_later (BadRow table place) h =
+      (schema_was h.0, subst (λ (d : Database). AreReadableBefore table d.trees) was h.1, subst (λ (d : Database). IsBadAt table place d.trees) was h.2, unchanged_then old mid new same h.3)
+  met_later (OfDatabase e) h = (schema_was h.0, fails_later old mid new e same survives h.1)
+
+  -- what was read stays so
+  pub before_still : (table : SiteTable) → AreReadableBefore table old.now.trees → AreReadableBefore table mid.now.trees
+  before_still table h = subst (λ (d : Database). AreReadableBefore table d.trees) (sym was) h
+
+  pub met_after : {X : Type 0} (named : SiteTable) (table : Table) (row_of : X → Row) (fault : ReadFault) → AreReadableBefore named old.now.trees
+      → ((place : ℕ) → HasBadRow table row_of place (mid.now.trees table.tree) → IsBadAt named place mid.now.trees) → IsReadFault named table row_of mid new fault → IsUnreadable old new fault
+  met_after named table row_of fault before is h = met_later fault (met named table row_of mid new fault (before_still named before) is h)

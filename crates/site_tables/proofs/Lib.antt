@@ -5,12 +5,14 @@ pub mod Columns
 pub mod Committed
 pub mod Created
 pub mod Declared
+pub mod Failing
 pub mod Folded
 pub mod Inserted
 pub mod Leading
 pub mod Listed
 pub mod MadeTables
 pub mod Meanings
+pub mod OnlyRows
 pub mod Order
 pub mod Puts
 pub mod Removed

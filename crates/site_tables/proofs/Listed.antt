@@ -32,9 +32,9 @@ module _ {S : Type 0} (g : Ghosts S) (table : Table) {X : Type 0} (row_of : X �
   read_listed (Err e) h = tt
 
 -- a row that no value stands for is the one after those that were given
-pub bad_row : {S X : Type 0} (g : Ghosts S) (table : SiteTable) (sql : List ℕ) (row_of : X → Row) (old new : Held S) (place : ℕ) (fault : ReadFault) (row : Row) (given : List Row)
-    → IsUnchanged (state g old) (state g new) → Begins sql [] (state g new) (given ++ row ∷ []) → place ≡ length given + 1
+pub bad_row : {S X : Type 0} (g : Ghosts S) (table : SiteTable) (sql : List ℕ) (row_of : X → Row) (old new : Held S) (place : ℕ) (fault : ReadFault) (row : Row) (read : List X)
+    → IsUnchanged (state g old) (state g new) → Begins sql [] (state g new) (map row_of read ++ row ∷ []) → place ≡ length read + 1
     → (fault ≡ faults.NoMemory) ⊎ ((fault ≡ faults.BadRow table place) × IsBadRow row_of row) → FailsToList g table sql row_of old new fault
-bad_row g table sql row_of old new place fault row given still begins at why =
+bad_row g table sql row_of old new place fault row read still begins at why =
     ⊎_elim (λ none. subst (FailsToList g table sql row_of old new) (sym none) (tt {0}))
-    (λ bad. subst (FailsToList g table sql row_of old new) (sym bad.0) (refl, (still, given, row, begins, at, bad.1))) why
+    (λ bad. subst (FailsToList g table sql row_of old new) (sym bad.0) (refl, (still, read, row, begins, at, bad.1))) why

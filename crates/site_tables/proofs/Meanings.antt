@@ -1,5 +1,8 @@
 -- What the texts mean, as the resolver reads them.
-use Rattle.std.proofs.Common.{◌≡◌, [], ◌∷◌, refl}
+use Rattle.std.proofs.Common.{◌≡◌, ◌⊎◌, inl, inr, [], ◌∷◌, refl, true≢false}
+use Rattle.sqlite.specs.Table.{Table}
+use Rattle.sqlite.specs.Tree.{Trees}
+use Rattle.sqlite_sql.specs.Program.{overlay, QueryOverflows}
 use Rattle.sqlite.specs.Term.{col}
 use Rattle.sqlite_tied.specs.Compute.{everything}
 use Rattle.sqlite.specs.Listing.{understood}
@@ -7,9 +10,19 @@ use Rattle.sqlite.proofs.Callers.{IsPlain, command_of}
 use Rattle.site_tables.specs.Made.{with_store, with_site, with_address, with_event, with_part, with_quarantine, with_outbox, with_seen, with_parent, with_recall}
 use Rattle.site_tables.specs.Tables.{store, site, address, event, part, quarantine, outbox, seen, parent, recall, no_schema, site_schema}
 use Rattle.site_tables.specs.Texts as text
-use Rattle.site_tables.specs.Commands.{inserts_row, deletes_key, upserts_row, updates_each}
+use Rattle.site_tables.specs.Commands.{by_key, inserts_row, deletes_key, upserts_row, updates_each}
 use Rattle.site_tables.specs.Reads.{Selects}
 use Rattle.site_tables.proofs.Created.{IsMade}
+
+only_third : {A B C D E : Type 0} → (B → ⊥) → (D → ⊥) → (A × B) ⊎ ((C × D) ⊎ E) → E
+only_third no_b no_d (inl h) = absurd (no_b h.1)
+only_third no_b no_d (inr (inl h)) = absurd (no_d h.1)
+only_third no_b no_d (inr (inr h)) = h
+
+-- a query of a whole table has no SUM that might overflow
+sums_nothing : (table : Table) (db : Trees) → QueryOverflows (by_key table) (overlay db []) [] → ⊥
+sums_nothing table db (inl h) = h
+sums_nothing table db (inr any) = any.4
 
 pub create_store_is : IsMade text.create_store no_schema (record store { tree = 0 })
 unfolding understood everything
@@ -108,43 +121,43 @@ update_store_is = (refl, (refl, refl))
 
 pub select_store_is : Selects store text.select_store
 unfolding understood everything
-select_store_is = record { command = refl; plain = (refl, refl); listing = refl; keyed = λ _. refl }
+select_store_is = record { command = refl; plain = (refl, refl); alone = (_, refl, refl, refl); listing = refl; accepted = λ limit trees e. only_third true≢false (sums_nothing store trees); keyed = λ _. refl }
 
 pub select_site_is : Selects site text.select_site
 unfolding understood everything
-select_site_is = record { command = refl; plain = (refl, refl); listing = refl; keyed = λ _. refl }
+select_site_is = record { command = refl; plain = (refl, refl); alone = (_, refl, refl, refl); listing = refl; accepted = λ limit trees e. only_third true≢false (sums_nothing site trees); keyed = λ _. refl }
 
 pub select_address_is : Selects address text.select_address
 unfolding understood everything
-select_address_is = record { command = refl; plain = (refl, refl); listing = refl; keyed = λ _. refl }
+select_address_is = record { command = refl; plain = (refl, refl); alone = (_, refl, refl, refl); listing = refl; accepted = λ limit trees e. only_third true≢false (sums_nothing address trees); keyed = λ _. refl }
 
 pub select_event_is : Selects event text.select_event
 unfolding understood everything
-select_event_is = record { command = refl; plain = (refl, refl); listing = refl; keyed = λ _. refl }
+select_event_is = record { command = refl; plain = (refl, refl); alone = (_, refl, refl, refl); listing = refl; accepted = λ limit trees e. only_third true≢false (sums_nothing event trees); keyed = λ _. refl }
 
 pub select_part_is : Selects part text.select_part
 unfolding understood everything
-select_part_is = record { command = refl; plain = (refl, refl); listing = refl; keyed = λ _. refl }
+select_part_is = record { command = refl; plain = (refl, refl); alone = (_, refl, refl, refl); listing = refl; accepted = λ limit trees e. only_third true≢false (sums_nothing part trees); keyed = λ _. refl }
 
 pub select_quarantine_is : Selects quarantine text.select_quarantine
 unfolding understood everything
-select_quarantine_is = record { command = refl; plain = (refl, refl); listing = refl; keyed = λ _. refl }
+select_quarantine_is = record { command = refl; plain = (refl, refl); alone = (_, refl, refl, refl); listing = refl; accepted = λ limit trees e. only_third true≢false (sums_nothing quarantine trees); keyed = λ _. refl }
 
 pub select_outbox_is : Selects outbox text.select_outbox
 unfolding understood everything
-select_outbox_is = record { command = refl; plain = (refl, refl); listing = refl; keyed = λ _. refl }
+select_outbox_is = record { command = refl; plain = (refl, refl); alone = (_, refl, refl, refl); listing = refl; accepted = λ limit trees e. only_third true≢false (sums_nothing outbox trees); keyed = λ _. refl }
 
 pub select_seen_is : Selects seen text.select_seen
 unfolding understood everything
-select_seen_is = record { command = refl; plain = (refl, refl); listing = refl; keyed = λ _. refl }
+select_seen_is = record { command = refl; plain = (refl, refl); alone = (_, refl, refl, refl); listing = refl; accepted = λ limit trees e. only_third true≢false (sums_nothing seen trees); keyed = λ _. refl }
 
 pub select_parent_is : Selects parent text.select_parent
 unfolding understood everything
-select_parent_is = record { command = refl; plain = (refl, refl); listing = refl; keyed = λ _. refl }
+select_parent_is = record { command = refl; plain = (refl, refl); alone = (_, refl, refl, refl); listing = refl; accepted = λ limit trees e. only_third true≢false (sums_nothing parent trees); keyed = λ _. refl }
 
 pub select_recall_is : Selects recall text.select_recall
 unfolding understood everything
-select_recall_is = record { command = refl; plain = (refl, refl); listing = refl; keyed = λ _. refl }
+select_recall_is = record { command = refl; plain = (refl, refl); alone = (_, refl, refl, refl); listing = refl; accepted = λ limit trees e. only_third true≢false (sums_nothing recall trees); keyed = λ _. refl }
 
 pub insert_outbox_is : (command_of (understood site_schema text.insert_outbox) ≡ inserts_row 6 outbox) × IsPlain (understood site_schema text.insert_outbox)
 unfolding understood everything

@@ -1,5 +1,5 @@
 -- What the queries of the tables find.
-use Rattle.std.specs.Prelude.{◌≡◌, ◌≢◌, ◌⊎◌, ⊤, false, ℕ, ◌+◌, List, [], ◌∷◌, ◌++◌, map, length, IsPermutation, IsSorted, IsUtf8}
+use Rattle.std.specs.Prelude.{◌≡◌, ◌≢◌, ◌⊎◌, ⊤, false, ℕ, ◌+◌, ◌≤◌, nat_le, List, [], ◌∷◌, ◌++◌, map, length, IsPermutation, IsSorted, IsSome, IsTrue, IsUtf8, Option, Ok}
 use Rattle.std.specs.Ordering.{on}
 use Rattle.std.specs.declared.cmp.Ordering.{Ordering}
 use Rattle.std.specs.declared.cmp.Ordering.TheVariants.{Less}
@@ -8,11 +8,16 @@ use Rattle.sqlite_value.specs.Keys.{ascending}
 use Rattle.sqlite_value.specs.Order.{column}
 use Rattle.sqlite_trees.specs.Tree.{IsAscending}
 use Rattle.sqlite_sql.specs.Query.{key_cmp}
+use Rattle.sqlite_trees.specs.declared.error.StoreError.{StoreError}
 use Rattle.sqlite.specs.declared.error.Error.{Error}
+use Rattle.sqlite.specs.declared.error.Error.TheVariants.{SqliteFailure}
+use Rattle.sqlite.specs.declared.error.ErrorCode.TheVariants.{OperationInterrupted}
 use Rattle.sqlite.specs.declared.types.Value.TheVariants.{Text}
+use Rattle.sqlite.specs.Effect.{RefusesToRead}
 use Rattle.sqlite.specs.Order.{Row}
+use Rattle.sqlite.specs.Tree.{Trees}
 use Rattle.sqlite.specs.Table.{Table}
-use Rattle.sqlite.specs.State.{State, Begins, IsUnchanged, FailsToQuery}
+use Rattle.sqlite.specs.State.{State, Begins, IsUnchanged, Survives, FailsToQuery, HasCause, store_error}
 use Rattle.sqlite_trees.specs.declared.store.Store.{Ghosts}
 use Rattle.sqlite.specs.Held.{Held, state}
 use Rattle.sqlite.specs.Given.{IsPlain}
@@ -42,7 +47,11 @@ pub record IsListed (table : Table) (tree rows : List Row) : Type 0 where
 pub record Selects (table : Table) (sql : List ℕ) : Type 0 where
   pub command : command_of (understood site_schema sql) ≡ selects_all table
   pub plain : IsPlain (understood site_schema sql)
+  -- it is one statement, with no parameter
+  pub alone : (c : _) × (understood site_schema sql ≡ Ok c) × IsTrue (nat_le (length sql) c.tail) × (c.names ≡ [])
   pub listing : reads_listing site_schema sql ≡ false
+  -- only the limit on steps refuses it
+  pub accepted : (limit : Option ℕ) (trees : Trees) (e : Error) → RefusesToRead limit (selects_all table) (record { schema = site_schema; trees = trees }) [] e → (e ≡ SqliteFailure OperationInterrupted) × IsSome limit
   -- the query's key of a row is that of the row as it is shown
   pub keyed : (row : Row) → (output (by_key table) ([] ∷ row ∷ [])).0 ≡ key_of table (visible table row)
 
@@ -54,17 +63,38 @@ AreTexts row = (at : ℕ) (t : List ℕ) → column row at ≡ Text t → IsUtf8
 abbrev pub IsBadRow : {X : Type 0} → (X → Row) → Row → Type 0
 IsBadRow {X} row_of row = AreTexts row → (x : X) → row ≢ row_of x
 
--- the query shows a bad row at this place, from 1, and nothing is changed
-abbrev pub HasBadRow : {X : Type 0} → List ℕ → (X → Row) → ℕ → State → State → Type 0
-HasBadRow sql row_of place old new = IsUnchanged old new × (given : List Row) × (row : Row) × Begins sql [] new (given ++ row ∷ []) × (place ≡ length given + 1) × IsBadRow row_of row
+-- the rows of the table by their keys are some that are read, then this one, at this place from 1, for which no value
+-- stands, and others
+abbrev pub HasBadRow : {X : Type 0} → Table → (X → Row) → ℕ → List Row → Type 0
+HasBadRow {X} table row_of place tree =
+    (read : List X) × (row : Row) × (others : List Row) × IsListed table tree (map row_of read ++ row ∷ others) × (place ≡ length read + 1) × IsBadRow row_of row
 
--- the query fails at a later row than its first
+-- why the database fails while a table of a site is read: memory ran out, the disk failed, the connection was shut
+-- already, or its limit on steps was met
+abbrev pub FailsToRead : State → State → Error → Type 0
+FailsToRead old new e = ((cause : StoreError) × (e ≡ store_error cause) × HasCause old new ⊥ cause) ⊎ ((e ≡ SqliteFailure OperationInterrupted) × IsSome old.step_limit)
+
+-- why the rows of a table aren't read: the tables are another's, or they are a site's, and memory ran out, or the table
+-- has a bad row, and nothing is changed, or the database failed
+abbrev pub IsReadFault : {X : Type 0} → SiteTable → Table → (X → Row) → State → State → ReadFault → Type 0
+IsReadFault named table row_of old new OtherTables = old.now.schema ≢ site_schema
+IsReadFault named table row_of old new NoMemory = old.now.schema ≡ site_schema
+IsReadFault named table row_of old new (BadRow t place) = (old.now.schema ≡ site_schema) × (t ≡ named) × HasBadRow table row_of place (old.now.trees table.tree) × IsUnchanged old new
+IsReadFault named table row_of old new (Database e) = (old.now.schema ≡ site_schema) × FailsToRead old new e
+
+-- ---- a query whose rows are read one at a time
+
+-- it shows a bad row at this place, from 1, and nothing is changed
+abbrev pub ShowsBadRow : {X : Type 0} → List ℕ → (X → Row) → ℕ → State → State → Type 0
+ShowsBadRow {X} sql row_of place old new = IsUnchanged old new × (read : List X) × (row : Row) × Begins sql [] new (map row_of read ++ row ∷ []) × (place ≡ length read + 1) × IsBadRow row_of row
+
+-- it fails at a later row than its first
 abbrev pub FailsAtRow : {S : Type 0} → Ghosts S → List ℕ → Held S → Held S → Error → Type 0
-FailsAtRow {S} g sql old new e = (mid : Held S) × IsUnchanged (state g old) (state g mid) × FailsToQuery sql [] (state g mid) (state g new) e
+FailsAtRow {S} g sql old new e = (mid : Held S) × IsUnchanged (state g old) (state g mid) × Survives (state g old) (state g mid) (λ _. ⊥) × FailsToQuery sql [] (state g mid) (state g new) e
 
--- why a query of a table gives no rows
+-- why it gives no rows
 abbrev pub FailsToList : {S X : Type 0} → Ghosts S → SiteTable → List ℕ → (X → Row) → Held S → Held S → ReadFault → Type 0
 FailsToList g table sql row_of old new NoMemory = ⊤
-FailsToList g table sql row_of old new OtherTables = old ≡ new
-FailsToList g table sql row_of old new (BadRow t place) = (t ≡ table) × HasBadRow sql row_of place (state g old) (state g new)
+FailsToList g table sql row_of old new OtherTables = ⊥
+FailsToList g table sql row_of old new (BadRow t place) = (t ≡ table) × ShowsBadRow sql row_of place (state g old) (state g new)
 FailsToList g table sql row_of old new (Database e) = FailsToQuery sql [] (state g old) (state g new) e ⊎ FailsAtRow g sql old new e

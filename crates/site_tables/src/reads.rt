@@ -1,9 +1,9 @@
 //! The rows of a table, and of all tables.
-ghost use Rattle.std.specs.Prelude.{◌≡◌, List, map, IfOk, IfErr, OnOk};
+ghost use Rattle.std.specs.Prelude.{◌≡◌, ◌≢◌, List, map, Err, IfOk, IfErr, OnOk};
 ghost use Rattle.sqlite.specs.Order.{Row};
 ghost use Rattle.sqlite.specs.State.{HasCleanDisk, IsUnchanged, Survives};
 ghost use Rattle.sqlite.specs.Held.{state};
-ghost use Rattle.site_tables.specs.Reads.{FailsToList, IsListed, IsStrict};
+ghost use Rattle.site_tables.specs.Reads.{IsReadFault, IsListed, IsStrict};
 ghost use Rattle.site_tables.specs.Tables.{site_schema};
 ghost use Rattle.site_tables.specs.TableRows.{HasRows};
 
@@ -27,7 +27,8 @@ pub fn read_table<T: Stored + Drop, S: Alter>(
     ensures exact { HasCleanDisk (state S.Store conn.new) → (held : List Row) → HasRows T.Stored.listed held ((state S.Store conn.old).now.trees T.Stored.listed.tree) → IsStrict T.Stored.listed held
         → IfOk result (λ rows. map T.Stored.shown rows ≡ held) }
     ensures same { HasCleanDisk (state S.Store conn.new) → OnOk result (IsUnchanged (state S.Store conn.old) (state S.Store conn.new)) }
-    ensures cause { HasCleanDisk (state S.Store conn.new) → IfErr result (FailsToList S.Store T.Stored.named T.Stored.query T.Stored.shown conn.old conn.new) }
+    ensures other { (state S.Store conn.old).now.schema ≢ site_schema → (result ≡ Err ReadFault.OtherTables) × (conn.new ≡ conn.old) }
+    ensures cause { HasCleanDisk (state S.Store conn.new) → IfErr result (IsReadFault T.Stored.named T.Stored.listed T.Stored.shown (state S.Store conn.old) (state S.Store conn.new)) }
     ensures crash { Survives (state S.Store conn.old) (state S.Store conn.new) (λ _. ⊥) }
 {
     if !is_site_schema(conn.schema()) {

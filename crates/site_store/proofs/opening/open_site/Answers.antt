@@ -1,5 +1,5 @@
 use Rattle.std.proofs.Common.{sym, subst}
-use Rattle.site_store.specs.Opened.{ReadsAt}
+use Rattle.site_store.specs.Opened.{ReadsAt, IsCleanAt}
 use Rattle.site_store.proofs.Found.{found_kept}
 use Rattle.site_store.proofs.OpeningReads.{found_stores}
 use Rattle.site_store.proofs.opening.open_site.Goals as goal
@@ -12,5 +12,6 @@ returns-in-Ok-clause-opened g c =
       shows = c.adopt.ensures.shown;
       named = it.named;
       reads = subst (λ l. ReadsAt c.args.conn c.in-Ok.state l) (sym c.adopt.ensures.over) (it.crash, it.read);
+      finds = λ clean r lists. it.finds (subst IsCleanAt c.adopt.ensures.over clean) r lists;
       kept = λ found. c.adopt.ensures.stored (found_kept c.in-Ok.state c.args.conn c.read_site.new.conn (found_stores c.args.conn found c.schema-schema.ensures.live c.settled.ensures) it.crash it.read c.settled-in-Ok.ensures);
     }

@@ -1,9 +1,16 @@
 use Rattle.std.proofs.Common.{◌≡◌, [], ◌∷◌, sym, ◌∙◌, rules}
-use Rattle.site_tables.proofs.Terms.{whole_three, one_term}
+use Rattle.sqlite.specs.Term.{op2}
+use Rattle.sqlite_sql.specs.declared.ops.BinaryOp.TheVariants.{Or}
+use Rattle.site_tables.specs.Tables.{equals}
+use Rattle.site_tables.proofs.Terms.{whole_three, one_term, no_term}
 use Rattle.site_tables.proofs.known_checks.checks_zero_or_one.Goals as goal
 
 pub returns-then-nodes-ge3 : goal.returns-then-nodes-ge3
-returns-then-nodes-ge3 c alike =
+returns-then-nodes-ge3 c =
     let root = c.in-Some.root in
     let one : c.checks.inside.roots ≡ root ∷ [] = search rules in
-    sym c.checks.view_is ∙ one_term c.checks.inside.nodes c.checks.inside.roots root _ one (whole_three c.as_slice-nodes.result.now c.checks.inside.nodes root _ c.as_slice-nodes.ensures c.if-nodes-ge3.true (c.is_zero_or_one.ensures alike))
+    one_term c.checks.inside.nodes c.checks.inside.roots root (op2 Or (equals c.args.place 0) (equals c.args.place 1)) _ _ c.checks.view_is one (whole_three c.as_slice-nodes.result.now c.checks.inside.nodes root _ _ c.as_slice-nodes.ensures c.if-nodes-ge3.true c.is_zero_or_one.ensures)
+
+pub returns-in-None : goal.returns-in-None
+returns-in-None c =
+    (λ h. absurd cc, λ e. absurd (no_term c.checks.inside.nodes c.checks.inside.roots (op2 Or (equals c.args.place 0) (equals c.args.place 1)) (λ root one. c.in-None.ensures root (c.as_slice.ensures ∙ one)) (c.checks.view_is ∙ e)))

@@ -1,13 +1,22 @@
-use Rattle.std.proofs.Common.{◌≡◌, slice_index_or, IsTrue, ap₂, rules}
-use Rattle.sqlite_value.specs.declared.value.Value.TheVariants.{Null}
-use Rattle.sqlite.specs.Term.{op2}
-use Rattle.sqlite_sql.specs.declared.ops.BinaryOp.TheVariants.{Or}
+use Rattle.std.proofs.Common.{◌≡◌, pos, suc, slice_index_or, refl, rules}
+use Rattle.sqlite_value.specs.declared.value.Value.TheVariants.{Null, Int}
+use Rattle.sqlite.specs.Term.{col, lit}
+use Rattle.sqlite.specs.Collation.TheVariants as collations
+use Rattle.sqlite_sql.specs.declared.ops.BinaryOp.TheVariants.{Compare, Or}
+use Rattle.sqlite_sql.specs.declared.ops.CompareOp.TheVariants.{Eq}
 use Rattle.sqlite_schema.specs.declared.code.Op.TheVariants.{Literal, Binary}
+use Rattle.site_tables.specs.Tables.{equals}
+use Rattle.site_tables.proofs.Terms.{pair_is}
 use Rattle.site_tables.proofs.known_checks.is_zero_or_one.Goals as goal
 
-pub returns-then-is_equality : goal.returns-then-is_equality
-returns-then-is_equality c alike depth =
+pub returns-then-is_zero : goal.returns-then-is_zero
+returns-then-is_zero c depth =
     let it = c.in-Some-Binary-Or-default-default in
-    let first : IsTrue c.is_equality.result = search rules in
     let found : slice_index_or c.args.nodes.now c.args.at (Literal Null) ≡ Binary Or it.a it.b = search rules in
-    rw found (ap₂ (op2 Or) (c.is_equality.ensures first depth) (c.is_equality-then-is_equality.ensures alike depth))
+    pair_is Or c.args.nodes.now (suc (suc depth)) c.args.at it.a it.b (equals c.args.place 0) (equals c.args.place 1) c.is_equality-is_zero.result c.is_equality-is_one.result _ found (c.is_equality-is_zero.ensures depth) (c.is_equality-is_one.ensures depth) (rw c.if-is_zero.true refl)
+
+pub returns-else-is_zero : goal.returns-else-is_zero
+returns-else-is_zero c depth =
+    let it = c.in-Some-Binary-Or-default-default in
+    let found : slice_index_or c.args.nodes.now c.args.at (Literal Null) ≡ Binary Or it.a it.b = search rules in
+    pair_is Or c.args.nodes.now (suc (suc depth)) c.args.at it.a it.b (equals c.args.place 0) (equals c.args.place 1) c.is_equality-is_zero.result c.is_equality-is_one.result _ found (c.is_equality-is_zero.ensures depth) (c.is_equality-is_one.ensures depth) (rw c.if-is_zero.false refl)

@@ -67,7 +67,7 @@ returns-in_err-row-clause-cause g c clean =
     let same : c.from_residual-in_err-row.result ≡ Err (Database c.in_err-row.field-0.0) = search rules in
     let fails = (rw c.in_err-row.was at (moved.err late)) c.args.sql.now [] (map g.T.Stored.shown c.rows.read.items) was.0 in
     let there : now ≡ c.conn-in_err-row-1.given.0 = search rules in
-    rw (same, ← there) (inr (c.rows.rows.conn.now, was.1, fails))
+    rw (same, ← there) (inr (c.rows.rows.conn.now, was.1, c.rows.invariant.1, fails))
 
 pub returns-in_err-row_of-clause-cause : goal.returns-in_err-row_of-clause-cause
 returns-in_err-row_of-clause-cause g c clean =
@@ -80,5 +80,4 @@ returns-in_err-row_of-clause-cause g c clean =
     let same : c.from_residual-in_err-row_of.result ≡ Err c.in_err-row_of.field-0.0 = search rules in
     let still = unchanged_then _ _ _ was.1 (rw c.in_ok-row.was at (moved.same late)) in
     let there : now ≡ c.conn-in_err-row_of-1.given.0 = search rules in
-    let many : c.len.result ≡ length given = search (rules, length-map c.rows.read.items g.T.Stored.shown) in
-    rw (same, ← there) (bad_row g.S.Store c.args.table c.args.sql.now g.T.Stored.shown c.args.conn.now now (c.len.result + 1) c.in_err-row_of.field-0.0 c.in-Some.row.now given still (given_begin g.S.Store c.args.sql.now [] now _ next) (ap (λ (n : ℕ). n + 1) many) c.in_err-row_of.ensures.err)
+    rw (same, ← there) (bad_row g.S.Store c.args.table c.args.sql.now g.T.Stored.shown c.args.conn.now now (c.len.result + 1) c.in_err-row_of.field-0.0 c.in-Some.row.now c.rows.read.items still (given_begin g.S.Store c.args.sql.now [] now _ next) (search rules) c.in_err-row_of.ensures.err)

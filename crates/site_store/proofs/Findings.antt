@@ -1,0 +1,132 @@
+-- Where the tables list the rows of a record, its opening finds it, or the machine fails.
+use Rattle.std.specs.Prelude.{MatchResult, IsSome, slice_get, map, option_map, ◌≢◌, string_bytes}
+use Rattle.std.specs.List.{find, enumerate_from}
+use Rattle.std.proofs.Common.{◌≡◌, ◌⊎◌, inl, inr, ℕ, zero, suc, ◌<◌, pos, List, [], ◌∷◌, Option, Some, None, Result, Ok, Err, length, refl, sym, ap, subst, ◌∙◌, arith}
+use Rattle.sqlite_trees.specs.declared.error.StoreError.{StoreError}
+use Rattle.sqlite_trees.specs.declared.error.StoreError.TheVariants as stores
+use Rattle.sqlite.specs.declared.error.Error.{Error}
+use Rattle.sqlite.specs.Effect.{Database}
+use Rattle.sqlite.specs.State.{State, IsUnchanged, HasCause, store_error}
+use Rattle.event_json.specs.Sites.{Site}
+use Rattle.site_core.specs.Records.{Record}
+use Rattle.site_rows.specs.Laws.{IsKept, HoldsItems}
+use Rattle.site_rows.specs.RecordRows.{rows_of, store_row, site_row}
+use Rattle.site_rows.specs.declared.rows.Rows.{Rows}
+use Rattle.site_rows.specs.declared.rows.SiteRow.{SiteRow}
+use Rattle.site_rows.specs.declared.rows.StoreRow.{StoreRow}
+use Rattle.site_rows.specs.declared.tables.Table.{«Table» as SiteTable}
+use Rattle.site_rows.proofs.GoodRows.{rows_are_good}
+use Rattle.site_tables.specs.AllReads.{AreListed}
+use Rattle.site_tables.specs.Reads.{FailsToRead}
+use Rattle.site_tables.specs.Stored.{contents_of}
+use Rattle.site_tables.specs.Unreadable.{IsUnreadable}
+use Rattle.site_tables.specs.declared.faults.ReadFault.{ReadFault}
+use Rattle.site_tables.specs.declared.faults.ReadFault.TheVariants as reads
+use Rattle.site_tables.proofs.OnlyRows.{only_rows, no_bad_row}
+use Rattle.keeper_core.specs.declared.faults.KeepFault.{KeepFault}
+use Rattle.keeper_core.specs.declared.faults.KeepFault.TheVariants as faults
+use Rattle.site_store.specs.Openings.{ListsRows, opening_fault}
+use Rattle.site_store.specs.Opened.{own_name, name_at, IsStoreOf, IsRefused, ListsSite, IsOfMachine, unread}
+use Rattle.site_store.specs.declared.opening.OpenFault.{OpenFault}
+use Rattle.site_store.specs.declared.opening.OpenFault.TheVariants.{NoMemory, NotAStore, Version, OtherSite, BadRow, Device, Store}
+use Rattle.site_store.proofs.Named.{named_own, find_numbered}
+
+-- ---- the machine
+
+error_of : (old new : State) (cause : StoreError) → HasCause old new ⊥ cause → IsOfMachine old (unread (reads.Database (store_error cause)))
+error_of old new stores.OutOfMemory h = tt
+error_of old new stores.Io h = tt
+error_of old new stores.Corrupt h = tt
+error_of old new stores.Full h = tt
+error_of old new stores.Broken h = tt
+error_of old new stores.Unstorable h = absurd h
+
+error_is : (old new : State) (e : Error) → FailsToRead old new e → IsOfMachine old (unread (reads.Database e))
+error_is old new e (inl h) = subst (λ x. IsOfMachine old (unread (reads.Database x))) (sym h.1) (error_of old new h.0 h.2)
+error_is old new e (inr h) = subst (λ x. IsOfMachine old (unread (reads.Database x))) (sym h.0) h.1
+
+pub of_machine : (r : Record) (why : ReadFault) (old new : State) → ListsRows r old → IsUnreadable old new why → IsOfMachine old (unread why)
+of_machine r reads.NoMemory old new it h = tt
+of_machine r reads.OtherTables old new it h = absurd (h it.schema)
+of_machine r (reads.BadRow table place) old new it h = absurd (no_bad_row table place (rows_of r) old.now.trees it.readable it.listed h.2)
+of_machine r (reads.Database e) old new it h = error_is old new e h.1
+
+pub rows_found : (r : Record) (rows : Rows) (s : State) → ListsRows r s → AreListed (contents_of rows) s.now.trees → rows ≡ rows_of r
+rows_found r rows s it listed = only_rows (rows_of r) rows s.now.trees it.readable it.listed listed
+
+-- ---- rows of such a site are not refused
+
+one_row : (a b : StoreRow) (more : List StoreRow) → a ∷ more ≡ b ∷ [] → a ≡ b
+one_row a b more e = cc
+
+no_name : (sites : List Site) (at number : ℕ) → at < length sites → option_map (λ (s : SiteRow). s.name) (option_map (λ (s : Site). site_row (number, s)) (slice_get sites at)) ≡ None → ⊥
+no_name [] at number low e = absurd (omega (arith, low))
+no_name (s ∷ sites) zero number low e = let x : Some s.name ≡ None = e in absurd cc
+no_name (s ∷ sites) (suc at) number low e = no_name sites at number (omega (arith, low)) e
+
+-- a site of the list has a name in its rows
+unnamed : (sites : List Site) (me : ℕ) → me < length sites → name_at (map site_row (enumerate_from 0 sites)) (pos me) ≡ None → ⊥
+unnamed sites me low none = no_name sites me me low (sym (ap (option_map (λ (s : SiteRow). s.name)) (find_numbered sites 0 me me (omega arith))) ∙ none)
+
+first_is : (r : Record) (row : StoreRow) (rest : List StoreRow) → (rows_of r).store ≡ row ∷ rest → row ≡ store_row r
+first_is r row rest e = one_row row (store_row r) rest (sym e)
+
+pub not_refused : (r : Record) (name : List ℕ) (fault : OpenFault) → IsKept r → HoldsItems r → own_name r ≡ name → IsRefused name (rows_of r) fault → fault ≡ NoMemory
+not_refused r name NoMemory kept items named h = refl
+not_refused r name NotAStore kept items named h = absurd (let e : store_row r ∷ [] ≡ [] = h in cc)
+not_refused r name (Version found) kept items named h =
+    let same : h.0 ≡ store_row r = first_is r h.0 h.1 h.2 in
+    absurd (h.4 (sym h.3 ∙ ap (λ (x : StoreRow). x.version) same))
+not_refused r name (OtherSite found) kept items named h = absurd (h.1 (sym (named_own r (rows_of r) (string_bytes found) refl h.0) ∙ named))
+not_refused r name (BadRow bad) kept items named (inl h) =
+    let me = r.engagement.me in
+    let same : h.0.row ≡ store_row r = first_is r h.0.row h.0.rest h.0.first in
+    let none : name_at (map site_row (enumerate_from 0 r.sites)) (pos me) ≡ None = subst (λ (x : StoreRow). name_at (map site_row (enumerate_from 0 r.sites)) x.me ≡ None) same h.0.name_is in
+    absurd (unnamed r.sites me kept.sound.me none)
+not_refused r name (BadRow bad) kept items named (inr h) = absurd (rows_are_good r kept items bad.table bad.row h.1)
+not_refused r name Device kept items named h = absurd h
+not_refused r name Store kept items named h = absurd h
+
+-- ---- results
+
+pub found_site : (r : Record) (s : State) (result : Result Record OpenFault) → MatchResult result (λ site. site ≡ r) (λ fault. fault ≡ NoMemory) → MatchResult result (λ site. site ≡ r) (IsOfMachine s)
+found_site r s (Ok site) h = h
+found_site r s (Err fault) h = subst (IsOfMachine s) (sym h) (tt {0})
+
+-- ---- a keeper that isn't open
+
+fault_of : (old new : State) (cause : StoreError) → HasCause old new ⊥ cause → opening_fault (store_error cause) ≡ faults.Store → IsSome old.step_limit
+fault_of old new stores.OutOfMemory h e = absurd cc
+fault_of old new stores.Io h e = absurd cc
+fault_of old new stores.Corrupt h e = absurd cc
+fault_of old new stores.Full h e = absurd cc
+fault_of old new stores.Broken h e = absurd cc
+fault_of old new stores.Unstorable h e = absurd h
+
+pub fault_is : (old new : State) (e : Error) → FailsToRead old new e → opening_fault e ≡ faults.Store → IsSome old.step_limit
+fault_is old new e (inl h) is = fault_of old new h.0 h.2 (sym (ap opening_fault h.1) ∙ is)
+fault_is old new e (inr h) is = h.1
+
+-- rows that are listed after a reading which changed nothing were listed before
+pub listed_before : (r : Record) (old new : State) → IsUnchanged old new → ListsRows r new → ListsRows r old
+listed_before r old new same it =
+    let was : new.now ≡ old.now = same.0.now_is in
+    record {
+      schema = sym (ap (λ (d : Database). d.schema) was) ∙ it.schema;
+      listed = subst (λ (d : Database). AreListed (contents_of (rows_of r)) d.trees) was it.listed;
+      readable = it.readable;
+    }
+
+limit_still : (old new : State) → new.step_limit ≡ old.step_limit → IsSome old.step_limit → IsSome new.step_limit
+limit_still old new same some = subst IsSome (sym same) some
+
+-- tables that list the rows of a record can't be read only where the limit on steps was met, or for another fault
+pub refused_store : (r : Record) (table : SiteTable) (place : ℕ) (old new : State) → IsUnreadable old new (reads.BadRow table place) → ListsRows r new → ⊥
+refused_store r table place old new h it = let was = listed_before r old new h.3 it in no_bad_row table place (rows_of r) old.now.trees was.readable was.listed h.2
+
+pub steps_met : (e : Error) (old new : State) → IsUnreadable old new (reads.Database e) → new.step_limit ≡ old.step_limit → opening_fault e ≡ faults.Store → IsSome new.step_limit
+steps_met e old new h same is = limit_still old new same (fault_is old new e h.1 is)
+
+pub no_limit : (limit : Option ℕ) → limit ≡ None → IsSome limit → ⊥
+no_limit None none some = absurd cc
+no_limit (Some n) none some = absurd cc

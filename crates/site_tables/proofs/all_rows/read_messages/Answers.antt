@@ -1,0 +1,41 @@
+use Rattle.std.proofs.Common.{arith, rules}
+use Rattle.sqlite.specs.State.{HasCleanDisk}
+use Rattle.sqlite.specs.Held.{state}
+use Rattle.site_rows.specs.declared.tables.Table.TheVariants.{Quarantine, Outbox, Seen}
+use Rattle.site_tables.specs.Tables.{quarantine, outbox, seen}
+use Rattle.site_tables.specs.Unreadable.{AreReadableBefore, IsUnreadable}
+use Rattle.site_tables.specs.Values.{quarantine_values, outbox_values, seen_values}
+use Rattle.site_tables.proofs.BadReads.{met, met_later, met_after, before_still}
+use Rattle.site_tables.proofs.all_rows.read_messages.Goals as goal
+
+pub returns-in_err-quarantine-clause-cause : goal.returns-in_err-quarantine-clause-cause
+returns-in_err-quarantine-clause-cause g c clean before =
+    let old = state g.S.Store c.args.conn.now in
+    let new = state g.S.Store c.read_table.new.conn in
+    let told : IsUnreadable old new c.in_err-quarantine.field-0.0 = met Quarantine quarantine quarantine_values old new c.in_err-quarantine.field-0.0 before (λ place h. h) (c.in_err-quarantine.ensures.cause clean) in
+    search rules
+
+pub returns-in_err-outbox-clause-cause : goal.returns-in_err-outbox-clause-cause
+returns-in_err-outbox-clause-cause g c clean before =
+    let old = state g.S.Store c.args.conn.now in
+    let new = state g.S.Store c.read_table-2.new.conn in
+    let mid = state g.S.Store c.read_table.new.conn in
+    let early : HasCleanDisk mid = omega (arith, c.read_table-2.ensures.crash.clean) in
+    let read : AreReadableBefore Outbox old.now.trees = (before, (c.in_ok-quarantine.quarantine, c.in_ok-quarantine.ensures.rows early)) in
+    let told : IsUnreadable old new c.in_err-outbox.field-0.0 = met_after old mid new (c.in_ok-quarantine.ensures.same early) c.read_table.ensures.crash Outbox outbox outbox_values c.in_err-outbox.field-0.0 read (λ place h. h) (c.in_err-outbox.ensures.cause clean) in
+    search rules
+
+pub returns-in_err-seen-clause-cause : goal.returns-in_err-seen-clause-cause
+returns-in_err-seen-clause-cause g c clean before =
+    let old = state g.S.Store c.args.conn.now in
+    let new = state g.S.Store c.read_table-3.new.conn in
+    let mid = state g.S.Store c.read_table.new.conn in
+    let late = state g.S.Store c.read_table-2.new.conn in
+    let later : HasCleanDisk late = omega (arith, c.read_table-3.ensures.crash.clean) in
+    let early : HasCleanDisk mid = omega (arith, c.read_table-2.ensures.crash.clean) in
+    let read : AreReadableBefore Outbox old.now.trees = (before, (c.in_ok-quarantine.quarantine, c.in_ok-quarantine.ensures.rows early)) in
+    let same = c.in_ok-quarantine.ensures.same early in
+    let more : AreReadableBefore Seen mid.now.trees = (before_still old mid new same c.read_table.ensures.crash Outbox read, (c.in_ok-outbox.outbox, c.in_ok-outbox.ensures.rows later)) in
+    let told : IsUnreadable old new c.in_err-seen.field-0.0 = met_later old mid new same c.read_table.ensures.crash c.in_err-seen.field-0.0
+    (met_after mid late new (c.in_ok-outbox.ensures.same later) c.read_table-2.ensures.crash Seen seen seen_values c.in_err-seen.field-0.0 more (λ place h. h) (c.in_err-seen.ensures.cause clean)) in
+    search rules

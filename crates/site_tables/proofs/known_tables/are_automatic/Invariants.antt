@@ -1,0 +1,7 @@
+use Rattle.std.proofs.Common.{◌≡◌, map, take}
+use Rattle.site_tables.specs.Known.{index_as}
+use Rattle.site_tables.proofs.known_tables.are_automatic.Given as goal
+
+-- so far all are those that are declared
+abbrev pub invariant-loop-at : goal.invariant-loop-at
+invariant-loop-at l = take l.at l.indexes ≡ map index_as (take l.at l.declared)
