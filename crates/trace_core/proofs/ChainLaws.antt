@@ -1,6 +1,7 @@
 -- Chains of a relation grow at their end.
 use Rattle.std.proofs.Common.{◌≡◌, ℕ, zero, suc, List, [], ◌∷◌, ◌++◌, refl, sym, subst}
-use Rattle.trace_core.specs.Relations.{IsChain, last_of, Reaches, Chain}
+use Rattle.std.specs.List.{Contains}
+use Rattle.trace_core.specs.Relations.{IsChain, last_of, Reaches, Chain, ReachedFrom}
 
 module _ {X : Type 0} (R : X → X → Type 0) where
   chain_push : (x : X) (rest : List X) (z : X) → IsChain R (x ∷ rest) → R (last_of x rest) z → IsChain R (x ∷ (rest ++ z ∷ []))
@@ -24,6 +25,12 @@ module _ {X : Type 0} (R : X → X → Type 0) where
 
   pub reached_holds : (P : X → Type 0) → ((y z : X) → P y → R y z → P z) → (x y : X) → Reaches R x y → P x → P y
   reached_holds P closed x y (rest, chain, ends) h = subst P ends (along_chain P closed x rest chain h)
+
+  pub reached_step : (starts : List X) (y z : X) → ReachedFrom R starts y → R y z → ReachedFrom R starts z
+  reached_step starts y z (x, at, reaches) r = (x, at, reaches_step x y z reaches r)
+
+  pub reached_start : (starts : List X) (x : X) → Contains starts x → ReachedFrom R starts x
+  reached_start starts x at = (x, at, reaches_itself x)
 
   -- a chain with one more step at its front
   chain_front : (x y z : X) (n : ℕ) → R x y → Chain R y n z → Chain R x (suc n) z
