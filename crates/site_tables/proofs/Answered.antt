@@ -25,8 +25,8 @@ use Rattle.sqlite.specs.Tree.{Trees}
 use Rattle.sqlite.specs.State.{State, Shown, Begins, IsUnchanged, Survives, CommitsShowing}
 use Rattle.sqlite.specs.Effect.{Database}
 use Rattle.sqlite.proofs.StateLemmas.{survives_weaker}
-use Rattle.sqlite.specs.Listing.{understood, reads_listing}
-use Rattle.sqlite.proofs.Callers.{IsPlain, command_of, reads_as, begins_as, never_commits}
+use Rattle.sqlite.specs.Listing.{understood}
+use Rattle.sqlite.proofs.Callers.{IsPlain, reads_as, begins_as, never_commits}
 use Rattle.sqlite_schema.specs.Names.{place_of}
 use Rattle.site_tables.specs.Tables.{site_schema}
 use Rattle.site_tables.specs.TableRows.{visible, key_of}

@@ -1,7 +1,6 @@
 -- What an insert or a delete leaves of the rows of a table, and of the other tables.
-use Rattle.std.proofs.Common.{◌≡◌, ◌≢◌, ℕ, ◌==◌, List, [], ◌∷◌, ◌++◌, true, false, not, ◌∙◌}
+use Rattle.std.proofs.Common.{◌≡◌, ◌≢◌, ℕ, ◌==◌, List, [], ◌∷◌, ◌++◌, true, false, not}
 use Rattle.std.specs.List.{AllByRecursion, list_any}
-use Rattle.std.specs.List.Sorted.{IsPermutation}
 use Rattle.std.proofs.lemmas.Bool.{or_parts, and_parts, not-true, eqb-false}
 use Rattle.sqlite.specs.Order.{Row}
 use Rattle.sqlite.specs.Table.{Table}
@@ -11,12 +10,11 @@ use Rattle.sqlite_schema.specs.declared.schema.Index.{Index}
 use Rattle.sqlite_schema.specs.declared.schema.Keys.TheVariants.{Enforced}
 use Rattle.sqlite_trees.specs.Tree.{rowid}
 use Rattle.sqlite_trees.specs.View.{is_int}
-use Rattle.sqlite_rules.specs.declared.error.Rowids.TheVariants.{Chosen, Given}
+use Rattle.sqlite_rules.specs.declared.error.Rowids.TheVariants.{Chosen}
 use Rattle.sqlite_rules.specs.Cast.{cast_row}
 use Rattle.sqlite_rules.specs.Edit.{Edit, Applies, edit_of, with_rowid, is_taken}
-use Rattle.sqlite_rules.specs.Calls.{ids_of}
 use Rattle.site_tables.specs.TableRows.{visible, HasRows, Keeps}
-use Rattle.site_tables.proofs.RowLemmas.{has_one_more, all_gone}
+use Rattle.site_tables.proofs.RowLemmas.{has_one_more}
 
 differ : (a b : ℕ) → a == b ≡ false → a ≢ b
 differ a b none = eqb-false a b none

@@ -5,7 +5,6 @@ use Rattle.std.specs.Fmt.{decimal}
 use Rattle.std.proofs.lemmas.Fmt.{decimal_digit}
 use Rattle.sqlite_value.specs.Keys.{plain}
 use Rattle.sqlite_catalog.specs.Listing.{automatic}
-use Rattle.sqlite_schema.specs.declared.schema.Index.{Index}
 use Rattle.sqlite.specs.Table.{Table}
 use Rattle.site_tables.specs.Known.{declared, IsNamed, HasUniques, column_as, uniques_as, checks_as, references_as}
 use Rattle.site_tables.specs.declared.declarations.Declaration.{Declaration}

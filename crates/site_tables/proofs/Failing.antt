@@ -1,17 +1,14 @@
 -- Why the rows of a table of a site aren't read.
-use Rattle.std.proofs.Common.{◌≡◌, ◌⊎◌, inl, inr, ℕ, ◌+◌, ◌++◌, ◌∷◌, ◌≤◌, List, [], length, map, Option, Result, Ok, Err, true, false, IsTrue, sym, ap, subst, subst₂, ◌∙◌, append_assoc, arith, rules, tests, true≢false, nat_le}
+use Rattle.std.proofs.Common.{◌≡◌, inl, inr, ℕ, ◌++◌, ◌∷◌, ◌≤◌, List, [], length, map, Result, Ok, IsTrue, sym, ap, subst, subst₂, ◌∙◌, append_assoc, arith, rules, tests, true≢false, nat_le}
 use Rattle.std.specs.Prelude.{IsSome}
 use Rattle.sqlite.specs.Order.{Row}
 use Rattle.sqlite.specs.Table.{Table}
-use Rattle.sqlite.specs.Tree.{Trees}
 use Rattle.sqlite.specs.Effect.{Database, RefusesToRead}
 use Rattle.sqlite.specs.Listing.{understood, reads_listing, IsSourceOf}
 use Rattle.sqlite_trees.specs.declared.store.Store.{Ghosts}
 use Rattle.sqlite_trees.specs.declared.error.StoreError.{StoreError}
 use Rattle.sqlite_trees.specs.declared.error.StoreError.TheVariants.{OutOfMemory, Io, Corrupt, Full, Broken, Unstorable}
 use Rattle.sqlite.specs.declared.error.Error.{Error}
-use Rattle.sqlite.specs.declared.error.Error.TheVariants.{SqliteFailure}
-use Rattle.sqlite.specs.declared.error.ErrorCode.TheVariants.{OperationInterrupted}
 use Rattle.sqlite.specs.Held.{Held, state}
 use Rattle.sqlite.specs.Given.{IsPlain}
 use Rattle.sqlite.specs.State.{State, IsUnchanged, Survives, HasCause, FailsToQuery, IsNotRun, IsNoStatement}
@@ -19,7 +16,6 @@ use Rattle.sqlite.proofs.Callers.{command_of}
 use Rattle.site_rows.specs.declared.tables.Table.{«Table» as SiteTable}
 use Rattle.site_tables.specs.declared.faults.ReadFault.{ReadFault}
 use Rattle.site_tables.specs.declared.faults.ReadFault.TheVariants.{NoMemory, OtherTables, BadRow, Database as OfDatabase}
-use Rattle.site_tables.specs.Commands.{by_key, selects_all}
 use Rattle.site_tables.specs.Reads.{IsListed, Selects, HasBadRow, ShowsBadRow, FailsToRead, FailsToList, IsReadFault}
 use Rattle.site_tables.specs.Tables.{site_schema}
 use Rattle.site_tables.proofs.Answered.{begins_table}

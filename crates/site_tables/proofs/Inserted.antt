@@ -1,35 +1,28 @@
 -- What the text of an insert of one row does to the trees.
-use Rattle.std.proofs.Common.{◌≡◌, ◌⊎◌, inl, inr, ℕ, ℤ, ◌+◌, ◌/◌, List, [], ◌∷◌, map, length, slice_get, false, Option, None, Some, Ok, Err, Result, refl, sym, ap, subst, subst₂, ◌∙◌, append-nil}
-use Rattle.std.specs.List.Sorted.{IsPermutation}
-use Rattle.std.proofs.lemmas.List.Sorted.{IsPermutation-refl, IsPermutation-map}
-use Rattle.sqlite.specs.declared.types.Value.TheVariants.{Null}
-use Rattle.sqlite_trees.specs.Tree.{rowid}
-use Rattle.sqlite_trees.proofs.ListLemmas.{map-map}
+use Rattle.std.proofs.Common.{◌≡◌, ◌⊎◌, inl, inr, ℕ, ℤ, ◌+◌, ◌/◌, List, [], ◌∷◌, length, slice_get, false, Option, None, Some, Ok, Err, Result, refl, sym, ap, subst, subst₂, ◌∙◌, append-nil}
 use Rattle.sqlite.specs.Order.{Row}
-use Rattle.sqlite.specs.Term.{Term, col, eval_all}
+use Rattle.sqlite.specs.Term.{Term, eval_all}
 use Rattle.sqlite.specs.Table.{Table}
 use Rattle.sqlite.specs.Schema.{Schema}
 use Rattle.sqlite.specs.Source.TheVariants.{Values}
 use Rattle.sqlite.specs.Command.TheVariants.{Insert}
 use Rattle.sqlite.specs.Tree.{Trees}
 use Rattle.sqlite.specs.Edit.{edit_of}
-use Rattle.sqlite.specs.Rowids.TheVariants.{Chosen, Given}
+use Rattle.sqlite.specs.Rowids.TheVariants.{Chosen}
 use Rattle.sqlite_schema.specs.declared.schema.Keys.TheVariants.{Enforced}
-use Rattle.sqlite_rules.specs.Edit.{Applies, with_rowid, id_in}
-use Rattle.sqlite_rules.specs.Calls.{ids_of}
+use Rattle.sqlite_rules.specs.Edit.{Applies, with_rowid}
 use Rattle.sqlite_rules.specs.Cast.{cast_row}
 use Rattle.sqlite_rules.specs.Action.{works, Writes}
 use Rattle.sqlite.specs.Effect.{Database, value_rows}
 use Rattle.sqlite.specs.Does.{Tally, AtPlace, OnRows, OnTable, WritesRows, Concludes}
-use Rattle.sqlite.specs.Rows.{Written, Task, Inserts, Deletes, stamped, Counts, rowids_for}
+use Rattle.sqlite.specs.Rows.{Written, Task, Inserts, stamped, Counts, rowids_for}
 use Rattle.sqlite.specs.State.{State, mode_of, Executes}
 use Rattle.sqlite.specs.declared.run.Mode.{Mode}
 use Rattle.sqlite.specs.Command.{Command}
 use Rattle.sqlite.specs.Listing.{understood}
 use Rattle.sqlite.proofs.Callers.{IsPlain, command_of, runs_as, one_step}
 use Rattle.site_tables.specs.TableRows.{visible, Changes, adds}
-use Rattle.site_tables.specs.Commands.{row_terms, rowids, inserts_row}
-use Rattle.site_tables.proofs.Answered.{whole_answer, shows_all}
+use Rattle.site_tables.specs.Commands.{row_terms, inserts_row}
 use Rattle.site_tables.proofs.Applied.{has_inserted, keeps_others}
 
 -- nothing is computed as a row is inserted

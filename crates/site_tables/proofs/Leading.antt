@@ -26,7 +26,7 @@ use Rattle.site_rows.specs.declared.changes.Numbers.{Numbers}
 use Rattle.site_rows.specs.declared.changes.RecallKey.{RecallKey}
 use Rattle.site_rows.specs.declared.changes.RowChanges.{RowChanges}
 use Rattle.site_rows.specs.StepRows as step
-use Rattle.site_tables.specs.Changed.{changed, puts_outbox, puts_recall, drops_outbox, drops_parent, renumbers}
+use Rattle.site_tables.specs.Changed.{changed, drops_outbox, drops_parent, renumbers}
 use Rattle.sqlite.specs.State.{State}
 use Rattle.site_tables.specs.Stored.{Holds, IsStored, contents_of}
 use Rattle.site_tables.specs.Tables.{outbox, parent, recall}

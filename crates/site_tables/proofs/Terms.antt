@@ -1,5 +1,5 @@
 -- Conditions of a declaration, read off its nodes.
-use Rattle.std.proofs.Common.{◌≡◌, ◌≢◌, ◌↔◌, ℕ, ◌+◌, ◌-◌, ◌≤◌, suc, List, [], ◌∷◌, length, map, Bool, true, false, ◌&&◌, IsTrue, slice_index_or, subst, sym, ap, ap₂, ◌∙◌, refl, arith}
+use Rattle.std.proofs.Common.{◌≡◌, ◌≢◌, ◌↔◌, ℕ, ◌-◌, ◌≤◌, suc, List, [], ◌∷◌, length, Bool, true, false, ◌&&◌, IsTrue, slice_index_or, subst, sym, ap, ap₂, ◌∙◌, refl, arith}
 use Rattle.sqlite.specs.Term.{Term, op2}
 use Rattle.sqlite_value.specs.declared.value.Value.TheVariants.{Null}
 use Rattle.sqlite_sql.specs.declared.ops.BinaryOp.{BinaryOp}

@@ -1,5 +1,5 @@
 -- What the writes of one table are for all tables.
-use Rattle.std.proofs.Common.{◌≡◌, List, [], ◌∷◌, ◌++◌, Ok, Err, Result, refl, sym, ◌∙◌, arith, map, subst}
+use Rattle.std.proofs.Common.{◌≡◌, List, ◌++◌, Ok, Err, Result, refl, sym, ◌∙◌, arith, map, subst}
 use Rattle.std.proofs.lemmas.List.{map-append}
 use Rattle.sqlite.specs.Order.{Row}
 use Rattle.sqlite.specs.declared.error.Error.{Error}

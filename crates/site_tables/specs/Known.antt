@@ -1,5 +1,5 @@
 -- What the declarations of a site's tables say, where a test of a table asks it.
-use Rattle.std.specs.Prelude.{◌≡◌, ℕ, false, true, List, [], ◌∷◌, map, length, Option, Some, None}
+use Rattle.std.specs.Prelude.{◌≡◌, ℕ, false, true, List, [], ◌∷◌, map, Option, Some, None}
 use Rattle.sqlite.specs.Table.{Table}
 use Rattle.sqlite.specs.Term.{Term, op2}
 use Rattle.sqlite_sql.specs.declared.ops.BinaryOp.TheVariants.{Or}

@@ -1,5 +1,5 @@
 -- What the queries of the tables find.
-use Rattle.std.specs.Prelude.{◌≡◌, ◌≢◌, ◌⊎◌, ⊤, false, ℕ, ◌+◌, ◌≤◌, nat_le, List, [], ◌∷◌, ◌++◌, map, length, IsPermutation, IsSorted, IsSome, IsTrue, IsUtf8, Option, Ok}
+use Rattle.std.specs.Prelude.{◌≡◌, ◌≢◌, ◌⊎◌, ⊤, false, ℕ, ◌+◌, nat_le, List, [], ◌∷◌, ◌++◌, map, length, IsPermutation, IsSorted, IsSome, IsTrue, IsUtf8, Option, Ok}
 use Rattle.std.specs.Ordering.{on}
 use Rattle.std.specs.declared.cmp.Ordering.{Ordering}
 use Rattle.std.specs.declared.cmp.Ordering.TheVariants.{Less}

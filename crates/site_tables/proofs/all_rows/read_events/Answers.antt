@@ -5,7 +5,7 @@ use Rattle.site_rows.specs.declared.tables.Table.TheVariants.{Event, Part}
 use Rattle.site_tables.specs.Tables.{event, part}
 use Rattle.site_tables.specs.Unreadable.{AreReadableBefore, IsUnreadable}
 use Rattle.site_tables.specs.Values.{event_values, part_values}
-use Rattle.site_tables.proofs.BadReads.{met, met_later, met_after, before_still}
+use Rattle.site_tables.proofs.BadReads.{met, met_after}
 use Rattle.site_tables.proofs.all_rows.read_events.Goals as goal
 
 pub returns-in_err-event-clause-cause : goal.returns-in_err-event-clause-cause

@@ -5,7 +5,7 @@ use Rattle.site_rows.specs.declared.tables.Table.TheVariants.{Parent, Recall}
 use Rattle.site_tables.specs.Tables.{parent, recall}
 use Rattle.site_tables.specs.Unreadable.{AreReadableBefore, IsUnreadable}
 use Rattle.site_tables.specs.Values.{parent_values, recall_values}
-use Rattle.site_tables.proofs.BadReads.{met, met_later, met_after, before_still}
+use Rattle.site_tables.proofs.BadReads.{met, met_after}
 use Rattle.site_tables.proofs.all_rows.read_recalls.Goals as goal
 
 pub returns-in_err-parent-clause-cause : goal.returns-in_err-parent-clause-cause

@@ -1,6 +1,4 @@
-use Rattle.std.proofs.Common.{◌≡◌, [], ◌∷◌, sym, ◌∙◌, rules}
-use Rattle.sqlite.specs.Term.{op2}
-use Rattle.sqlite_sql.specs.declared.ops.BinaryOp.TheVariants.{Or}
+use Rattle.std.proofs.Common.{◌≡◌, [], ◌∷◌, ◌∙◌, rules}
 use Rattle.site_tables.specs.Tables.{equals}
 use Rattle.site_tables.proofs.Terms.{whole_two, one_term, no_term}
 use Rattle.site_tables.proofs.known_checks.checks_one.Goals as goal

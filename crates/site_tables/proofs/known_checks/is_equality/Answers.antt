@@ -2,10 +2,9 @@ use Rattle.std.proofs.Common.{◌≡◌, pos, suc, slice_index_or, refl, rules}
 use Rattle.sqlite_value.specs.declared.value.Value.TheVariants.{Null, Int}
 use Rattle.sqlite.specs.Term.{col, lit}
 use Rattle.sqlite.specs.Collation.TheVariants as collations
-use Rattle.sqlite_sql.specs.declared.ops.BinaryOp.TheVariants.{Compare, Or}
+use Rattle.sqlite_sql.specs.declared.ops.BinaryOp.TheVariants.{Compare}
 use Rattle.sqlite_sql.specs.declared.ops.CompareOp.TheVariants.{Eq}
 use Rattle.sqlite_schema.specs.declared.code.Op.TheVariants.{Literal, Binary}
-use Rattle.site_tables.specs.Tables.{equals}
 use Rattle.site_tables.proofs.Terms.{pair_is}
 use Rattle.site_tables.proofs.known_checks.is_equality.Goals as goal
 

@@ -1,7 +1,6 @@
-use Rattle.std.proofs.Common.{◌≡◌, List, map, IfOk, sym, ap, subst, ◌∙◌, rules}
+use Rattle.std.proofs.Common.{◌≡◌, rules}
 use Rattle.sqlite.specs.Held.{state}
-use Rattle.sqlite.specs.Order.{Row}
-use Rattle.site_tables.specs.Reads.{Selects, IsListed, IsReadFault}
+use Rattle.site_tables.specs.Reads.{Selects, IsReadFault}
 use Rattle.site_tables.proofs.Failing.{read_fault}
 use Rattle.site_tables.specs.Tables.{site_schema}
 use Rattle.site_tables.proofs.Listed.{read_listed, listed_is}

@@ -1,10 +1,9 @@
-use Rattle.std.proofs.Common.{◌≡◌, ℕ, ◌+◌, length, inl, inr, Err, [], ◌∷◌, ◌++◌, map, refl, sym, ap, subst, ◌∙◌, rules, arith}
+use Rattle.std.proofs.Common.{◌≡◌, ◌+◌, inl, inr, Err, [], ◌∷◌, ◌++◌, map, refl, sym, ap, subst, ◌∙◌, rules, arith}
 use Rattle.sqlite.specs.State.{HasCleanDisk, Survives, CommitsShowing}
 use Rattle.std.proofs.lemmas.List.{map_push}
 use Rattle.sqlite.specs.Given.{HasGiven}
 use Rattle.sqlite.specs.Held.{state}
 use Rattle.sqlite.proofs.Callers.{begun_plain, unchanged_then, given_begin}
-use Rattle.std.proofs.lemmas.List.{length-map}
 use Rattle.site_tables.proofs.Answered.{commits_nothing}
 use Rattle.site_tables.proofs.Listed.{bad_row}
 use Rattle.site_tables.specs.declared.faults.ReadFault.TheVariants.{Database}
