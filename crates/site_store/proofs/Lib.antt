@@ -6,6 +6,9 @@ pub mod KeptSteps
 pub mod KeptStops
 pub mod Named
 pub mod OpeningReads
+pub mod ReadableRows
+pub mod RisingParts
+pub mod RisingRows
 pub mod SameRows
 pub mod SiteSteps
 pub mod StepWrites

@@ -1,5 +1,6 @@
 pub mod Faults
 pub mod Kept
+pub mod Laws
 pub mod Opened
 pub mod Openings
 pub mod Pairs

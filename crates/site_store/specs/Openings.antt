@@ -1,5 +1,6 @@
 -- What hinders an opening, and what an opening finds.
-use Rattle.std.specs.Prelude.{◌≡◌, if◌then◌else◌, false}
+use Rattle.std.specs.Prelude.{◌≡◌, if◌then◌else◌, false, map}
+use Rattle.std.specs.List.{AllByRecursion}
 use Rattle.sqlite.specs.State.{State, IsUnchanged}
 use Rattle.sqlite.specs.declared.error.Error.{Error}
 use Rattle.site_core.specs.Records.{Record}
@@ -7,9 +8,10 @@ use Rattle.keeper_core.specs.declared.faults.KeepFault.{KeepFault}
 use Rattle.keeper_core.specs.declared.faults.KeepFault.TheVariants.{NoMemory, Device, Store}
 use Rattle.site_rows.specs.RecordRows.{rows_of}
 use Rattle.site_tables.specs.AllReads.{AreListed}
-use Rattle.site_tables.specs.Readable.{MayBeRead}
-use Rattle.site_tables.specs.Stored.{contents_of}
-use Rattle.site_tables.specs.Tables.{site_schema}
+use Rattle.site_tables.specs.Reads.{AreTexts, IsStrict}
+use Rattle.site_tables.specs.Stored.{Contents, contents_of}
+use Rattle.site_tables.specs.Tables.{store, site, address, event, part, quarantine, outbox, seen, parent, recall, site_schema}
+use Rattle.site_tables.specs.Values.{store_values}
 use Rattle.site_store.specs.declared.kept.Kept.{Kept}
 use Rattle.site_store.specs.Faults.{is_of_device, is_of_memory}
 use Rattle.site_store.specs.Kept.{failures_after}
@@ -18,11 +20,36 @@ use Rattle.site_store.specs.Kept.{failures_after}
 abbrev pub opening_fault : Error → KeepFault
 opening_fault error = if is_of_device error then Device else if is_of_memory error then NoMemory else Store
 
--- the tables are a site's, and list the rows of the record, which rise in each by its key
+-- the rows of each table rise by its key, so that no two have one key
+pub record RowsRise (rows : Contents) : Type 0 where
+  pub store : IsStrict store (map store_values rows.store)
+  pub site : IsStrict site rows.site
+  pub address : IsStrict address rows.address
+  pub event : IsStrict event rows.event
+  pub part : IsStrict part rows.part
+  pub quarantine : IsStrict quarantine rows.quarantine
+  pub outbox : IsStrict outbox rows.outbox
+  pub seen : IsStrict seen rows.seen
+  pub parent : IsStrict parent rows.parent
+  pub recall : IsStrict recall rows.recall
+
+-- the texts of each table are UTF-8; `store` has none
+pub record TextsAreUtf8 (rows : Contents) : Type 0 where
+  pub site : AllByRecursion AreTexts rows.site
+  pub address : AllByRecursion AreTexts rows.address
+  pub event : AllByRecursion AreTexts rows.event
+  pub part : AllByRecursion AreTexts rows.part
+  pub quarantine : AllByRecursion AreTexts rows.quarantine
+  pub outbox : AllByRecursion AreTexts rows.outbox
+  pub seen : AllByRecursion AreTexts rows.seen
+  pub parent : AllByRecursion AreTexts rows.parent
+  pub recall : AllByRecursion AreTexts rows.recall
+
+-- the tables are a site's, and list the rows of the record, whose texts are UTF-8
 pub record ListsRows (r : Record) (s : State) : Type 0 where
   pub schema : s.now.schema ≡ site_schema
   pub listed : AreListed (contents_of (rows_of r)) s.now.trees
-  pub readable : MayBeRead (contents_of (rows_of r))
+  pub texts : TextsAreUtf8 (contents_of (rows_of r))
 
 -- closed, with the records of before, and the device has failed once more where that is the fault
 abbrev pub StaysAs : Kept → KeepFault → Kept → Type 0

@@ -5,6 +5,7 @@ mod beginning;
 mod faults;
 mod finding;
 mod kept;
+pub mod laws;
 mod linking;
 mod opening;
 mod pairs;
