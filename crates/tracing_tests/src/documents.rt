@@ -25,34 +25,36 @@ fn outcome(alloc: Global, text: &str) -> Result<String, Fail> {
     }
 }
 
-/// Whether each document has the outcome beside it.
-fn have_outcomes(alloc: Global, rows: &[(&str, &str)]) -> Result<bool, Fail> {
+/// What the text of a row is: a document, or the further members of its one event.
+#[derive(Clone, Copy)]
+enum RowsOf {
+    Documents,
+    Objects,
+    Transformations,
+}
+
+/// Whether each row has the outcome beside its text.
+fn have_outcomes(alloc: Global, rows_of: RowsOf, rows: &[(&str, &str)]) -> Result<bool, Fail> {
     for (text, want) in rows {
-        if outcome(alloc, text)?.as_str() != *want {
+        if !has_outcome(alloc, rows_of, text, want)? {
             return Ok(false);
         }
     }
     Ok(true)
 }
 
-/// Whether the ObjectEvents with these further members have the outcomes beside them.
-fn objects_have(alloc: Global, rows: &[(&str, &str)]) -> Result<bool, Fail> {
-    for (members, want) in rows {
-        if outcome(alloc, object(alloc, members)?.as_str())?.as_str() != *want {
-            return Ok(false);
-        }
+/// Whether a row has this outcome.
+fn has_outcome(alloc: Global, rows_of: RowsOf, text: &str, want: &str) -> Result<bool, Fail> {
+    match rows_of {
+        RowsOf::Documents => is_outcome(alloc, text, want),
+        RowsOf::Objects => is_outcome(alloc, object(alloc, text)?.as_str(), want),
+        RowsOf::Transformations => is_outcome(alloc, transformation(alloc, text)?.as_str(), want),
     }
-    Ok(true)
 }
 
-/// Whether the TransformationEvents with these further members have the outcomes beside them.
-fn transformations_have(alloc: Global, rows: &[(&str, &str)]) -> Result<bool, Fail> {
-    for (members, want) in rows {
-        if outcome(alloc, transformation(alloc, members)?.as_str())?.as_str() != *want {
-            return Ok(false);
-        }
-    }
-    Ok(true)
+/// Whether a document has this outcome.
+fn is_outcome(alloc: Global, document: &str, want: &str) -> Result<bool, Fail> {
+    Ok(outcome(alloc, document)?.as_str() == want)
 }
 
 /// An ObjectEvent with further members, each after a comma; of a repeated one the last counts.

@@ -7,23 +7,33 @@ use std::test::Fail;
 /// Whether each text has the key beside it.
 fn have_keys(alloc: Global, rows: &[(&str, &str)]) -> Result<bool, Fail> {
     for (text, key) in rows {
-        let read = Epc::read(alloc, text)?.key(alloc)?;
-        if read.as_str() != *key {
+        if !has_key(alloc, text, key)? {
             return Ok(false);
         }
     }
     Ok(true)
 }
 
+/// Whether a text is read as the item of a key.
+fn has_key(alloc: Global, text: &str, key: &str) -> Result<bool, Fail> {
+    let item = Epc::read(alloc, text)?;
+    Ok(item.key(alloc)?.as_str() == key)
+}
+
 /// Whether each text is an opaque item.
 fn are_opaque(alloc: Global, texts: &[&str]) -> Result<bool, Fail> {
     for text in texts {
-        let read = Epc::read(alloc, text)?.key(alloc)?;
-        if read.as_str().strip_prefix("uri ") != Some(*text) {
+        if !is_opaque(alloc, text)? {
             return Ok(false);
         }
     }
     Ok(true)
+}
+
+/// Whether a text is read as an opaque item.
+fn is_opaque(alloc: Global, text: &str) -> Result<bool, Fail> {
+    let item = Epc::read(alloc, text)?;
+    Ok(item.key(alloc)?.as_str().strip_prefix("uri ") == Some(text))
 }
 
 // Numbers from the EPC Tag Data Standard, EPCIS, the Digital Link standard and the check digit's
@@ -144,12 +154,15 @@ fn refusals(rt: HostRuntime) -> Result<(), Fail> {
 /// Whether the key gives an item that has it, and of which an equal one is made.
 fn is_given_back(alloc: Global, key: &str) -> Result<bool, Fail> {
     match Epc::from_key(alloc, key)? {
-        Some(item) => {
-            let copy = item.copy(alloc)?;
-            Ok(copy.key(alloc)?.as_str() == key && hashed(&copy) == hashed(&item))
-        }
+        Some(item) => has_copy(alloc, &item, key),
         None => Ok(false),
     }
+}
+
+/// Whether an equal item is made of an item, with this key.
+fn has_copy(alloc: Global, item: &Epc, key: &str) -> Result<bool, Fail> {
+    let copy = item.copy(alloc)?;
+    Ok(copy.key(alloc)?.as_str() == key && hashed(&copy) == hashed(item))
 }
 
 /// What a hasher makes of an item.
@@ -168,19 +181,33 @@ fn keys(rt: HostRuntime) -> Result<(), Fail> {
     Ok(())
 }
 
+/// Whether no text is the key of an item.
+fn are_no_keys(alloc: Global, texts: &[&str]) -> Result<bool, Fail> {
+    for text in texts {
+        if is_key(alloc, text)? {
+            return Ok(false);
+        }
+    }
+    Ok(true)
+}
+
+/// Whether a text is the key of an item.
+fn is_key(alloc: Global, text: &str) -> Result<bool, Fail> {
+    Ok(Epc::from_key(alloc, text)?.is_some())
+}
+
 // Of texts that are the key of no item, both spellings of a number among them, none is told as want
 // of memory.
 #[test]
 fn no_keys(rt: HostRuntime) -> Result<(), Fail> {
-    for text in [
+    let texts = [
         "sgtin 10614141123458 400",
         "sscc 106141412345678907",
         "uri urn:epc:id:sgtin:0614141.112345.400",
         "uri https://id.gs1.org/00/106141412345678908",
         "uri a b",
         "y",
-    ] {
-        assert!(rt; Epc::from_key(rt.alloc(), text)?.is_none());
-    }
+    ];
+    assert!(rt; are_no_keys(rt.alloc(), &texts)?);
     Ok(())
 }

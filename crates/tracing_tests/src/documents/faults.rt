@@ -1,8 +1,6 @@
 //! Each kind of fault as it is printed, with its event and field. None is told as want of memory.
 
-use super::{
-    document, have_outcomes, object, objects_have, outcome, transformation, transformations_have,
-};
+use super::{RowsOf, document, have_outcomes, is_outcome, object, transformation};
 use std::alloc::{AllocError, Global};
 use std::test::*;
 
@@ -37,7 +35,7 @@ fn of_documents(rt: HostRuntime) -> Result<(), Fail> {
             "read 0 skipped 1",
         ),
     ];
-    assert!(rt; have_outcomes(rt.alloc(), &rows)?);
+    assert!(rt; have_outcomes(rt.alloc(), RowsOf::Documents, &rows)?);
     Ok(())
 }
 
@@ -82,7 +80,7 @@ fn of_object_events(rt: HostRuntime) -> Result<(), Fail> {
             "read 1 skipped 0",
         ),
     ];
-    assert!(rt; objects_have(rt.alloc(), &rows)?);
+    assert!(rt; have_outcomes(rt.alloc(), RowsOf::Objects, &rows)?);
     Ok(())
 }
 
@@ -110,51 +108,59 @@ fn of_transformations(rt: HostRuntime) -> Result<(), Fail> {
             "read 1 skipped 0",
         ),
     ];
-    assert!(rt; transformations_have(rt.alloc(), &rows)?);
+    assert!(rt; have_outcomes(rt.alloc(), RowsOf::Transformations, &rows)?);
     Ok(())
 }
 
-/// The text this many times, with commas between.
-fn repeated(alloc: Global, text: &str, count: u32) -> Result<String, AllocError> {
-    let mut all = String::new(alloc);
+/// Adds the text this many times, with commas between.
+fn push_repeated(all: &mut String, text: &str, count: u32) -> Result<(), AllocError> {
     for place in 0..count {
         if place > 0 {
             all.push_str(",")?;
         }
         all.push_str(text)?;
     }
-    Ok(all)
+    Ok(())
+}
+
+/// Whether a document of so many events that are skipped has this outcome.
+fn events_have(alloc: Global, count: u32, want: &str) -> Result<bool, Fail> {
+    let mut events = String::new(alloc);
+    push_repeated(&mut events, "{\"type\":\"TransactionEvent\"}", count)?;
+    is_outcome(alloc, document(alloc, events.as_str())?.as_str(), want)
+}
+
+/// Whether an ObjectEvent of so many members that are no texts has this outcome.
+fn items_have(alloc: Global, count: u32, want: &str) -> Result<bool, Fail> {
+    let mut members = String::new(alloc);
+    members.push_str(",\"epcList\":[")?;
+    push_repeated(&mut members, "5", count)?;
+    members.push_str("]")?;
+    is_outcome(alloc, object(alloc, members.as_str())?.as_str(), want)
 }
 
 // Events that are skipped count too.
 #[test]
 fn of_too_many(rt: HostRuntime) -> Result<(), Fail> {
-    let events = repeated(rt.alloc(), "{\"type\":\"TransactionEvent\"}", 1001)?;
-    let text = document(rt.alloc(), events.as_str())?;
-    assert_eq!(rt;
-        outcome(rt.alloc(), text.as_str())?.as_str(),
-        "TooManyEvents event 0 field eventList"
-    );
-    let items = repeated(rt.alloc(), "5", 1001)?;
-    let text = object(
-        rt.alloc(),
-        format!(in rt.alloc(); ",\"epcList\":[{items}]")?.as_str(),
-    )?;
-    assert_eq!(rt;
-        outcome(rt.alloc(), text.as_str())?.as_str(),
-        "TooManyEpcs event 1 field epcList"
-    );
+    let events = "TooManyEvents event 0 field eventList";
+    assert!(rt; events_have(rt.alloc(), 1001, events)?);
+    let items = "TooManyEpcs event 1 field epcList";
+    assert!(rt; items_have(rt.alloc(), 1001, items)?);
     Ok(())
+}
+
+/// Whether a document of a shipment, an event that is skipped and half a transformation has this outcome.
+fn third_has(alloc: Global, want: &str) -> Result<bool, Fail> {
+    let whole = object(alloc, "")?;
+    let half = transformation(alloc, r#","outputEPCList":[]"#)?;
+    let events = format!(in alloc; "{whole},{{\"type\":\"TransactionEvent\"}},{half}")?;
+    is_outcome(alloc, document(alloc, events.as_str())?.as_str(), want)
 }
 
 // A fault behind events that are kept, and one that is skipped.
 #[test]
 fn of_a_later_event(rt: HostRuntime) -> Result<(), Fail> {
-    let whole = object(rt.alloc(), "")?;
-    let half = transformation(rt.alloc(), r#","outputEPCList":[]"#)?;
-    let events = format!(in rt.alloc(); "{whole},{{\"type\":\"TransactionEvent\"}},{half}")?;
-    let text = document(rt.alloc(), events.as_str())?;
     let want = "HalfTransformation event 3 field transformationID";
-    assert_eq!(rt; outcome(rt.alloc(), text.as_str())?.as_str(), want);
+    assert!(rt; third_has(rt.alloc(), want)?);
     Ok(())
 }

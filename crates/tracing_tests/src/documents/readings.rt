@@ -1,22 +1,27 @@
 //! What is read of documents.
 
-use super::{document, have_outcomes, object, only_event, transformation, two_sites};
-use event_json::{Body, PlainText, read_document};
-use std::alloc::Global;
+use super::{RowsOf, document, have_outcomes, object, only_event, transformation, two_sites};
+use event_json::{Body, Doc, Event, SiteNo, read_document};
+use std::alloc::{AllocError, Global};
 use std::test::*;
 
 /// Whether each event time, at an offset that it doesn't depend on, is the instant beside it.
 fn are_instants(alloc: Global, rows: &[(&str, i128)]) -> Result<bool, Fail> {
     for (time, want) in rows {
-        let members = format!(in alloc;
-            ",\"eventTime\":\"{time}\",\"eventTimeZoneOffset\":\"-05:00\""
-        )?;
-        let text = object(alloc, members.as_str())?;
-        if only_event(alloc, text.as_str())?.instant() != *want {
+        if instant(alloc, time)? != *want {
             return Ok(false);
         }
     }
     Ok(true)
+}
+
+/// The instant of an event time.
+fn instant(alloc: Global, time: &str) -> Result<i128, Fail> {
+    let members = format!(in alloc;
+        ",\"eventTime\":\"{time}\",\"eventTimeZoneOffset\":\"-05:00\""
+    )?;
+    let text = object(alloc, members.as_str())?;
+    Ok(only_event(alloc, text.as_str())?.instant())
 }
 
 #[test]
@@ -32,29 +37,70 @@ fn instants(rt: HostRuntime) -> Result<(), Fail> {
     Ok(())
 }
 
+/// Whether these are the sites of the numbers 1, 0 and 1.
+fn are_one_zero_one(sites: &[SiteNo]) -> bool {
+    match sites {
+        [first, second, third] => {
+            first.number() == 1 && second.number() == 0 && third.number() == 1
+        }
+        _ => false,
+    }
+}
+
+/// Whether an event has this eventID.
+fn has_id(event: &Event, wanted: &str) -> bool {
+    match event.id() {
+        Some(id) => id.as_str() == wanted,
+        None => false,
+    }
+}
+
+/// Whether an event is a shipment to the sites of the numbers 1, 0 and 1, and to one destination outside.
+fn ships(event: &Event) -> bool {
+    match event.body() {
+        Body::Ship { sites, outside, .. } => {
+            are_one_zero_one(sites.as_slice()) && outside.len() == 1
+        }
+        _ => false,
+    }
+}
+
+/// Whether the one event of a document is such a shipment with the eventID e.
+fn is_shipment(alloc: Global, text: &str) -> Result<bool, Fail> {
+    let event = only_event(alloc, text)?;
+    Ok(has_id(&event, "e") && ships(&event))
+}
+
 #[test]
 fn shipments(rt: HostRuntime) -> Result<(), Fail> {
     let text = object(
         rt.alloc(),
         ",\"eventID\":\"e\",\"destinationList\":[{\"destination\":\"c\"},{\"destination\":\"B\"},{\"destination\":\"a\"},{\"destination\":\"b\"}]",
     )?;
-    let event = only_event(rt.alloc(), text.as_str())?;
-    assert_eq!(rt; event.id().map(PlainText::as_str), Some("e"));
-    let Body::Ship {
-        items: _items,
-        sites,
-        outside,
-    } = event.body()
-    else {
-        return Err(Fail::new("destinations, so the items were shipped"));
-    };
-    let mut numbers = Vec::new(rt.alloc());
-    for site in sites.as_slice() {
-        numbers.push(site.number())?;
-    }
-    assert_eq!(rt; numbers.as_slice(), [1, 0, 1].as_slice());
-    assert_eq!(rt; outside.len(), 1);
+    assert!(rt; is_shipment(rt.alloc(), text.as_str())?);
     Ok(())
+}
+
+/// Whether an event is equal to its copy.
+fn is_copied(alloc: Global, event: &Event) -> Result<bool, AllocError> {
+    Ok(are_equal(event, &event.copy(alloc)?))
+}
+
+/// Whether two events are equal.
+fn are_equal(one: &Event, two: &Event) -> bool {
+    *one == *two
+}
+
+/// Whether two events have one body.
+fn have_one_body(one: &Event, two: &Event) -> bool {
+    *one.body() == *two.body()
+}
+
+/// Whether the events of two documents differ by their times alone.
+fn are_of_two_times(alloc: Global, first: &str, other: &str) -> Result<bool, Fail> {
+    let one = only_event(alloc, first)?;
+    let two = only_event(alloc, other)?;
+    Ok(have_one_body(&one, &two) && !are_equal(&one, &two) && is_copied(alloc, &one)?)
 }
 
 // Another time makes another event of the same body.
@@ -62,29 +108,32 @@ fn shipments(rt: HostRuntime) -> Result<(), Fail> {
 fn equal_events(rt: HostRuntime) -> Result<(), Fail> {
     let first = transformation(rt.alloc(), "")?;
     let other = transformation(rt.alloc(), ",\"eventTime\":\"2024-05-01T08:00:01Z\"")?;
-    let one = only_event(rt.alloc(), first.as_str())?;
-    let two = only_event(rt.alloc(), other.as_str())?;
-    assert!(rt; one == one.copy(rt.alloc())?);
-    assert!(rt; one != two);
-    assert!(rt; one.body() == two.body());
+    assert!(rt; are_of_two_times(rt.alloc(), first.as_str(), other.as_str())?);
     Ok(())
+}
+
+/// Whether a copy of a document has the same events, and as many skipped: one.
+fn doc_is_copied(alloc: Global, doc: &Doc) -> Result<bool, AllocError> {
+    let copy = doc.copy(alloc)?;
+    Ok(copy.skipped == 1 && copy.events == doc.events)
+}
+
+/// So it is of the document that is read of a text.
+fn text_is_copied(alloc: Global, text: &str) -> Result<bool, Fail> {
+    let sites = two_sites(alloc)?;
+    let doc = read_document(alloc, text.as_bytes(), &sites)?;
+    Ok(doc_is_copied(alloc, &doc)?)
 }
 
 #[test]
 fn copies(rt: HostRuntime) -> Result<(), Fail> {
-    let sites = two_sites(rt.alloc())?;
     let shipment = object(
         rt.alloc(),
         ",\"destinationList\":[{\"destination\":\"b\"},{\"destination\":\"z\"}]",
     )?;
-    let text = document(
-        rt.alloc(),
-        format!(in rt.alloc(); "{shipment},{{\"type\":\"TransactionEvent\"}}")?.as_str(),
-    )?;
-    let doc = read_document(rt.alloc(), text.as_bytes(), &sites)?;
-    let copy = doc.copy(rt.alloc())?;
-    assert_eq!(rt; copy.skipped, 1);
-    assert!(rt; copy.events == doc.events);
+    let events = format!(in rt.alloc(); "{shipment},{{\"type\":\"TransactionEvent\"}}")?;
+    let text = document(rt.alloc(), events.as_str())?;
+    assert!(rt; text_is_copied(rt.alloc(), text.as_str())?);
     Ok(())
 }
 
@@ -100,6 +149,6 @@ fn as_producers_write_them(rt: HostRuntime) -> Result<(), Fail> {
             "read 1 skipped 2",
         ),
     ];
-    assert!(rt; have_outcomes(rt.alloc(), &rows)?);
+    assert!(rt; have_outcomes(rt.alloc(), RowsOf::Documents, &rows)?);
     Ok(())
 }

@@ -2,17 +2,27 @@
 
 use super::two_sites;
 use event_json::{PlainText, SiteNo, Sites};
-use std::alloc::Global;
+use std::alloc::{AllocError, Global};
 use std::test::*;
+
+/// Whether the second site is found by its name, and its name and last address by its number.
+fn has_second(sites: &Sites, second: SiteNo) -> bool {
+    sites.find("B") == Some(second)
+        && sites.name(second) == Some("B")
+        && sites.address(second, 1) == Some("c")
+}
+
+/// Whether a copy of the two sites is ready, and has the second one.
+fn copy_has_second(alloc: Global, second: SiteNo) -> Result<bool, Fail> {
+    let sites = two_sites(alloc)?;
+    let copy = sites.copy(alloc)?;
+    Ok(copy.ready() && has_second(&copy, second))
+}
 
 #[test]
 fn found(rt: HostRuntime) -> Result<(), Fail> {
-    let sites = two_sites(rt.alloc())?.copy(rt.alloc())?;
     let second = SiteNo::of(1).ok_or("a number")?;
-    assert!(rt; sites.ready());
-    assert_eq!(rt; sites.find("B"), Some(second));
-    assert_eq!(rt; sites.name(second), Some("B"));
-    assert_eq!(rt; sites.address(second, 1), Some("c"));
+    assert!(rt; copy_has_second(rt.alloc(), second)?);
     Ok(())
 }
 
@@ -25,29 +35,35 @@ fn refusal(alloc: Global, name: &str, addresses: &[&str]) -> Result<String, Fail
     }
 }
 
+/// Whether this is printed there.
+fn is_refused(alloc: Global, name: &str, addresses: &[&str], want: &str) -> Result<bool, Fail> {
+    Ok(refusal(alloc, name, addresses)?.as_str() == want)
+}
+
 // None is told as want of memory.
 #[test]
 fn refusals(rt: HostRuntime) -> Result<(), Fail> {
     let many = [""; 17];
-    assert_eq!(rt; refusal(rt.alloc(), "a.b", &["b"])?.as_str(), "BadName");
-    assert_eq!(rt; refusal(rt.alloc(), "A", &many)?.as_str(), "NameTaken");
-    assert_eq!(rt; refusal(rt.alloc(), "C", &many)?.as_str(), "TooMany");
-    assert_eq!(rt;
-        refusal(rt.alloc(), "C", &["b", "a b"])?.as_str(),
-        "BadAddress"
-    );
-    assert_eq!(rt;
-        refusal(rt.alloc(), "C", &["x", "x"])?.as_str(),
-        "AddressTaken"
-    );
+    assert!(rt; is_refused(rt.alloc(), "a.b", &["b"], "BadName")?);
+    assert!(rt; is_refused(rt.alloc(), "A", &many, "NameTaken")?);
+    assert!(rt; is_refused(rt.alloc(), "C", &many, "TooMany")?);
+    assert!(rt; is_refused(rt.alloc(), "C", &["b", "a b"], "BadAddress")?);
+    assert!(rt; is_refused(rt.alloc(), "C", &["x", "x"], "AddressTaken")?);
     Ok(())
+}
+
+/// Whether a text is plain; of one that is, an equal one is made.
+fn is_plain(alloc: Global, text: &str) -> Result<bool, AllocError> {
+    match PlainText::read(alloc, text)? {
+        Some(text) => Ok(text == text.copy(alloc)?),
+        None => Ok(false),
+    }
 }
 
 #[test]
 fn plain_texts(rt: HostRuntime) -> Result<(), Fail> {
-    let text = PlainText::read(rt.alloc(), "x")?.ok_or("plain")?;
-    assert!(rt; text == text.copy(rt.alloc())?);
-    assert!(rt; PlainText::read(rt.alloc(), "a\u{7f}")?.is_none());
+    assert!(rt; is_plain(rt.alloc(), "x")?);
+    assert!(rt; !is_plain(rt.alloc(), "a\u{7f}")?);
     Ok(())
 }
 
