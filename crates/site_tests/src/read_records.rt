@@ -26,59 +26,79 @@ fn part(alloc: Global, role: i64, place: i64, text: &str) -> Result<PartRow, Fai
     })
 }
 
-fn parts(alloc: Global, changed: Changed) -> Result<Sequence<PartRow>, Fail> {
-    let mut parts = Vec::new(alloc);
-    parts.push(part(alloc, 0, 0, "uri a")?)?;
+/// Adds a part of the event.
+fn add_part(
+    alloc: Global,
+    parts: &mut Vec<PartRow>,
+    role: i64,
+    place: i64,
+    text: &str,
+) -> Result<(), Fail> {
+    parts.push(part(alloc, role, place, text)?)?;
+    Ok(())
+}
+
+/// Adds the parts of the shipment.
+fn add_parts(alloc: Global, parts: &mut Vec<PartRow>, changed: Changed) -> Result<(), Fail> {
+    add_part(alloc, parts, 0, 0, "uri a")?;
     let item = if matches!(changed, Changed::Item) {
         "b"
     } else {
         "uri b"
     };
-    parts.push(part(alloc, 0, 1, item)?)?;
+    add_part(alloc, parts, 0, 1, item)?;
     let site = if matches!(changed, Changed::Destination) {
         "C"
     } else {
         "B"
     };
-    parts.push(part(alloc, 1, 0, site)?)?;
+    add_part(alloc, parts, 1, 0, site)?;
     let place = if matches!(changed, Changed::LastPart) {
         1
     } else {
         0
     };
-    parts.push(part(alloc, 2, place, "out")?)?;
+    add_part(alloc, parts, 2, place, "out")
+}
+
+fn parts(alloc: Global, changed: Changed) -> Result<Sequence<PartRow>, Fail> {
+    let mut parts = Vec::new(alloc);
+    add_parts(alloc, &mut parts, changed)?;
     Ok(Sequence::from_vec(parts))
+}
+
+/// Adds a site.
+fn add_site(alloc: Global, sites: &mut Vec<SiteRow>, no: i64, name: &str) -> Result<(), Fail> {
+    let name = Text::of(alloc, name)?;
+    sites.push(SiteRow { no, name })?;
+    Ok(())
 }
 
 fn sites(alloc: Global) -> Result<Sequence<SiteRow>, Fail> {
     let mut sites = Vec::new(alloc);
-    let first = Text::of(alloc, "A")?;
-    sites.push(SiteRow { no: 0, name: first })?;
-    let second = Text::of(alloc, "B")?;
-    sites.push(SiteRow {
-        no: 1,
-        name: second,
-    })?;
+    add_site(alloc, &mut sites, 0, "A")?;
+    add_site(alloc, &mut sites, 1, "B")?;
     Ok(Sequence::from_vec(sites))
 }
 
 fn addresses(alloc: Global, changed: Changed) -> Result<Sequence<AddressRow>, Fail> {
-    let mut addresses = Vec::new(alloc);
     let place = if matches!(changed, Changed::Address) {
         1
     } else {
         0
     };
     let text = Text::of(alloc, "b")?;
-    addresses.push(AddressRow {
+    let row = AddressRow {
         text,
         site: 1,
         place,
-    })?;
+    };
+    let mut addresses = Vec::new(alloc);
+    addresses.push(row)?;
     Ok(Sequence::from_vec(addresses))
 }
 
-fn rows(alloc: Global, changed: Changed) -> Result<Rows, Fail> {
+fn stores(alloc: Global) -> Result<Sequence<StoreRow>, Fail> {
     let mut store = Vec::new(alloc);
     store.push(StoreRow {
         version: 1,
@@ -86,6 +106,10 @@ fn rows(alloc: Global, changed: Changed) -> Result<Rows, Fail> {
         next_message: 1,
         next_recall: 1,
     })?;
+    Ok(Sequence::from_vec(store))
+}
+
+fn events(alloc: Global) -> Result<Sequence<EventRow>, Fail> {
     let mut event = Vec::new(alloc);
     event.push(EventRow {
         no: 1,
@@ -95,14 +119,23 @@ fn rows(alloc: Global, changed: Changed) -> Result<Rows, Fail> {
         kind: 1,
         make_id: None,
     })?;
-    let site = sites(alloc)?;
-    let address = addresses(alloc, changed)?;
-    let part = parts(alloc, changed)?;
+    Ok(Sequence::from_vec(event))
+}
+
+/// The rows of site A with these parts, and no messages.
+fn rows_with(
+    alloc: Global,
+    site: Sequence<SiteRow>,
+    address: Sequence<AddressRow>,
+    part: Sequence<PartRow>,
+) -> Result<Rows, Fail> {
+    let store = stores(alloc)?;
+    let event = events(alloc)?;
     Ok(Rows {
-        store: Sequence::from_vec(store),
+        store,
         site,
         address,
-        event: Sequence::from_vec(event),
+        event,
         part,
         quarantine: Sequence::new(alloc),
         outbox: Sequence::new(alloc),
@@ -110,6 +143,13 @@ fn rows(alloc: Global, changed: Changed) -> Result<Rows, Fail> {
         parent: Sequence::new(alloc),
         recall: Sequence::new(alloc),
     })
+}
+
+fn rows(alloc: Global, changed: Changed) -> Result<Rows, Fail> {
+    let site = sites(alloc)?;
+    let address = addresses(alloc, changed)?;
+    let part = parts(alloc, changed)?;
+    rows_with(alloc, site, address, part)
 }
 
 /// The table and the place of the bad row, `None` where no row is bad; want of memory is no answer.

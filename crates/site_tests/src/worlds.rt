@@ -46,50 +46,67 @@ fn capture(alloc: Global) -> Result<WorldInput, Fail> {
     Ok(WorldInput::Capture(Sequence::from_vec(bytes)))
 }
 
-fn deliver(number: u64, frame: u64) -> Result<WorldEvent, Fail> {
-    Ok(WorldEvent::Step {
-        site: site(number)?,
-        input: WorldInput::Deliver(frame),
-    })
+/// Adds a step of a site.
+fn add_step(events: &mut Vec<WorldEvent>, number: u64, input: WorldInput) -> Result<(), Fail> {
+    let site = site(number)?;
+    events.push(WorldEvent::Step { site, input })?;
+    Ok(())
 }
 
-/// A recall of x from A to B and back, where B stops as it takes the message.
-fn spread(alloc: Global, world: &mut World<MemoryKeeper>) -> Result<Vec<Answer>, Fail> {
-    let mut events = Vec::new(alloc);
-    events.push(WorldEvent::Step {
-        site: site(0)?,
-        input: capture(alloc)?,
-    })?;
-    events.push(WorldEvent::Step {
-        site: site(0)?,
-        input: WorldInput::Start(Epc::read(alloc, "x")?),
-    })?;
-    events.push(deliver(1, 1)?)?;
-    events.push(WorldEvent::Send {
-        site: site(0)?,
-        place: 1,
-    })?;
+/// Adds the delivery of a frame at a site.
+fn add_delivery(events: &mut Vec<WorldEvent>, number: u64, frame: u64) -> Result<(), Fail> {
+    add_step(events, number, WorldInput::Deliver(frame))
+}
+
+/// Adds that a site sends the first of its frames.
+fn add_send(events: &mut Vec<WorldEvent>, number: u64) -> Result<(), Fail> {
+    let site = site(number)?;
+    events.push(WorldEvent::Send { site, place: 1 })?;
+    Ok(())
+}
+
+/// Adds that a site is opened again.
+fn add_opening(events: &mut Vec<WorldEvent>, number: u64) -> Result<(), Fail> {
+    let site = site(number)?;
+    events.push(WorldEvent::Reopen { site })?;
+    Ok(())
+}
+
+/// Adds that site B stops once it has written what the first frame brings.
+fn add_stop(events: &mut Vec<WorldEvent>) -> Result<(), Fail> {
     events.push(WorldEvent::Stop {
         site: site(1)?,
         input: WorldInput::Deliver(1),
         keep: Keep::New,
     })?;
-    events.push(deliver(1, 1)?)?;
-    events.push(WorldEvent::Reopen { site: site(1)? })?;
-    events.push(WorldEvent::Reopen { site: site(1)? })?;
-    events.push(deliver(1, 1)?)?;
-    events.push(WorldEvent::Send {
-        site: site(1)?,
-        place: 1,
-    })?;
-    events.push(deliver(0, 2)?)?;
-    events.push(deliver(2, 2)?)?;
+    Ok(())
+}
+
+/// Adds a recall of x from A to B and back, where B stops as it takes the message.
+fn add_recall(alloc: Global, events: &mut Vec<WorldEvent>) -> Result<(), Fail> {
+    add_step(events, 0, capture(alloc)?)?;
+    add_step(events, 0, WorldInput::Start(Epc::read(alloc, "x")?))?;
+    add_delivery(events, 1, 1)?;
+    add_send(events, 0)?;
+    add_stop(events)?;
+    add_delivery(events, 1, 1)?;
+    add_opening(events, 1)?;
+    add_opening(events, 1)?;
+    add_delivery(events, 1, 1)?;
+    add_send(events, 1)?;
+    add_delivery(events, 0, 2)?;
+    add_delivery(events, 2, 2)
+}
+
+/// What the world answers to that recall.
+fn spread(alloc: Global, world: &mut World<MemoryKeeper>) -> Result<Vec<Answer>, Fail> {
+    let mut events = Vec::new(alloc);
+    add_recall(alloc, &mut events)?;
     Ok(world.run(events)?)
 }
 
-/// What the events of `spread` are answered.
-fn wanted(alloc: Global) -> Result<Vec<Answer>, Fail> {
-    let mut answers = Vec::new(alloc);
+/// Adds what the events of a recall are answered.
+fn add_answers(answers: &mut Vec<Answer>) -> Result<(), Fail> {
     answers.push(Answer::Done(Effects::Captured {
         fresh: 1,
         known: 0,
@@ -111,7 +128,41 @@ fn wanted(alloc: Global) -> Result<Vec<Answer>, Fail> {
     answers.push(Answer::Sent(2))?;
     answers.push(Answer::Done(Effects::Ended(recall()?)))?;
     answers.push(Answer::NoSite)?;
-    Ok(answers)
+    Ok(())
+}
+
+/// Whether the answers are those of a recall.
+fn are_answers(alloc: Global, answers: &Vec<Answer>) -> Result<bool, Fail> {
+    let mut wanted = Vec::new(alloc);
+    add_answers(&mut wanted)?;
+    Ok(*answers == wanted)
+}
+
+/// Adds the pair of x at a site.
+fn add_pair(alloc: Global, pairs: &mut Vec<Pair>, number: u64) -> Result<(), Fail> {
+    let site = site(number)?;
+    let item = Epc::read(alloc, "x")?;
+    pairs.push(Pair { site, item })?;
+    Ok(())
+}
+
+/// Whether x is quarantined at both sites, and nothing else.
+fn is_quarantined(alloc: Global, world: &World<MemoryKeeper>) -> Result<bool, Fail> {
+    let mut pairs = Vec::new(alloc);
+    add_pair(alloc, &mut pairs, 0)?;
+    add_pair(alloc, &mut pairs, 1)?;
+    Ok(world.quarantined(recall()?)? == pairs)
+}
+
+/// Whether the recall has ended, and two frames were sent.
+fn has_ended(world: &World<MemoryKeeper>) -> Result<bool, Fail> {
+    let (recall, second) = (recall()?, site(1)?);
+    Ok(
+        world.ended(recall) == Some(true)
+            && world.frame(2).is_some()
+            && world.frame(3).is_none()
+            && world.view(second).is_some(),
+    )
 }
 
 /// Whether the answers are those wanted, and the world tells what is quarantined, that the recall has ended, and
@@ -119,24 +170,8 @@ fn wanted(alloc: Global) -> Result<Vec<Answer>, Fail> {
 fn spreads(alloc: Global) -> Result<bool, Fail> {
     let mut world = two_sites(alloc)?;
     let answers = spread(alloc, &mut world)?;
-    let mut pairs = Vec::new(alloc);
-    pairs.push(Pair {
-        site: site(0)?,
-        item: Epc::read(alloc, "x")?,
-    })?;
-    pairs.push(Pair {
-        site: site(1)?,
-        item: Epc::read(alloc, "x")?,
-    })?;
-    Ok(
-        answers == wanted(alloc)?
-            && world.quarantined(recall()?)? == pairs
-            && world.ended(recall()?) == Some(true)
-            && world.frame(2).is_some()
-            && world.frame(3).is_none()
-            && world.view(site(1)?).is_some()
-            && world.into_keepers().len() == 2,
-    )
+    let told = are_answers(alloc, &answers)? && is_quarantined(alloc, &world)?;
+    Ok(told && has_ended(&world)? && world.into_keepers().len() == 2)
 }
 
 #[test]
