@@ -4,8 +4,8 @@ use Rattle.sqlite.specs.declared.types.Value.TheVariants.{Int, Text}
 use Rattle.sqlite_value.specs.Order.{column}
 use Rattle.site_core.specs.Records.{Record}
 use Rattle.site_rows.specs.RecordRows.{rows_of, store_row}
-use Rattle.site_tables.specs.Readable.{MayBeRead}
 use Rattle.site_tables.specs.Stored.{contents_of}
+use Rattle.site_tables.proofs.Readable.{MayBeRead}
 use Rattle.site_store.specs.Openings.{RowsRise, TextsAreUtf8}
 use Rattle.site_store.proofs.RisingParts.{rises_part}
 use Rattle.site_store.proofs.RisingRows.{rises_address, rises_event, rises_outbox, rises_parent, rises_quarantine, rises_recall, rises_seen, rises_site, rises_store}

@@ -15,6 +15,7 @@ pub mod Meanings
 pub mod OnlyRows
 pub mod Order
 pub mod Puts
+pub mod Readable
 pub mod Removed
 pub mod Renewed
 pub mod RowLemmas

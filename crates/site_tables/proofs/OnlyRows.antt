@@ -23,7 +23,6 @@ use Rattle.site_rows.specs.declared.rows.RecallRow.{RecallRow}
 use Rattle.site_rows.specs.declared.tables.Table.{«Table» as SiteTable}
 use Rattle.site_rows.specs.declared.tables.Table.TheVariants.{Store, Site, Address, Event, Part, Quarantine, Outbox, Seen, Parent, Recall}
 use Rattle.site_tables.specs.AllReads.{AreListed}
-use Rattle.site_tables.specs.Readable.{AreInOrder, MayBeRead}
 use Rattle.site_tables.specs.Reads.{key_order, AreTexts, IsStrict, IsListed, HasBadRow}
 use Rattle.site_tables.specs.Stored.{contents_of}
 use Rattle.site_tables.specs.Tables.{store, site, address, event, part, quarantine, outbox, seen, parent, recall}
@@ -31,6 +30,7 @@ use Rattle.site_tables.specs.TableRows.{visible, key_of}
 use Rattle.site_tables.specs.Unreadable.{IsBadAt}
 use Rattle.site_tables.specs.Values.{store_values, site_values, address_values, event_values, part_values, quarantine_values, outbox_values, seen_values, parent_values, recall_values}
 use Rattle.site_tables.proofs.Order.{sorted_is}
+use Rattle.site_tables.proofs.Readable.{AreInOrder, MayBeRead}
 
 only_list : (table : Table) (tree xs ys : List Row) → IsStrict table xs → IsListed table tree xs → IsListed table tree ys → ys ≡ xs
 only_list table tree xs ys strict listed also =

@@ -4,7 +4,6 @@ pub mod Commands
 pub mod Filled
 pub mod Known
 pub mod Made
-pub mod Readable
 pub mod Reads
 pub mod Stored
 pub mod TableRows

@@ -1,5 +1,6 @@
 -- Why the tables of a site can't be read.
-use Rattle.std.specs.Prelude.{◌≡◌, ◌≢◌, ⊤, ℕ, List, map}
+use Rattle.std.specs.Prelude.{◌≡◌, ◌≢◌, ℕ, List, [], ◌∷◌, ◌++◌, map}
+use Rattle.std.specs.List.{AllByRecursion}
 use Rattle.sqlite.specs.Order.{Row}
 use Rattle.sqlite.specs.State.{State, IsUnchanged}
 use Rattle.sqlite.specs.Table.{Table}
@@ -12,63 +13,38 @@ use Rattle.site_tables.specs.Reads.{IsListed, HasBadRow, FailsToRead}
 use Rattle.site_tables.specs.Tables.{store, site, address, event, part, quarantine, outbox, seen, parent, recall, site_schema}
 use Rattle.site_tables.specs.Values.{store_values, site_values, address_values, event_values, part_values, quarantine_values, outbox_values, seen_values, parent_values, recall_values}
 
+-- the tables in the order in which they are read
+abbrev pub tables_in_order : List SiteTable
+tables_in_order = Store ∷ Site ∷ Address ∷ Event ∷ Part ∷ Quarantine ∷ Outbox ∷ Seen ∷ Parent ∷ Recall ∷ []
+
+-- it holds of this table as it is declared and of the values that stand for its rows
+abbrev pub HoldsOf : ((X : Type 0) → Table → (X → Row) → Type 0) → SiteTable → Type 0
+HoldsOf P Store = P _ store store_values
+HoldsOf P Site = P _ site site_values
+HoldsOf P Address = P _ address address_values
+HoldsOf P Event = P _ event event_values
+HoldsOf P Part = P _ part part_values
+HoldsOf P Quarantine = P _ quarantine quarantine_values
+HoldsOf P Outbox = P _ outbox outbox_values
+HoldsOf P Seen = P _ seen seen_values
+HoldsOf P Parent = P _ parent parent_values
+HoldsOf P Recall = P _ recall recall_values
+
 -- values stand for all rows of the table
-abbrev pub IsReadable : {X : Type 0} → Table → (X → Row) → Trees → Type 0
-IsReadable {X} table row_of db = (rows : List X) × IsListed table (db table.tree) (map row_of rows)
+abbrev pub IsReadable : Trees → SiteTable → Type 0
+IsReadable db = HoldsOf (λ X table row_of. (rows : List X) × IsListed table (db table.tree) (map row_of rows))
 
--- so they do for each table as far as this one
-abbrev pub ReadStore : Trees → Type 0
-ReadStore db = IsReadable store store_values db
+-- so they do for each of these tables
+abbrev pub AreReadable : List SiteTable → Trees → Type 0
+AreReadable tables db = AllByRecursion (IsReadable db) tables
 
-abbrev pub ReadSite : Trees → Type 0
-ReadSite db = ReadStore db × IsReadable site site_values db
-
-abbrev pub ReadAddress : Trees → Type 0
-ReadAddress db = ReadSite db × IsReadable address address_values db
-
-abbrev pub ReadEvent : Trees → Type 0
-ReadEvent db = ReadAddress db × IsReadable event event_values db
-
-abbrev pub ReadPart : Trees → Type 0
-ReadPart db = ReadEvent db × IsReadable part part_values db
-
-abbrev pub ReadQuarantine : Trees → Type 0
-ReadQuarantine db = ReadPart db × IsReadable quarantine quarantine_values db
-
-abbrev pub ReadOutbox : Trees → Type 0
-ReadOutbox db = ReadQuarantine db × IsReadable outbox outbox_values db
-
-abbrev pub ReadSeen : Trees → Type 0
-ReadSeen db = ReadOutbox db × IsReadable seen seen_values db
-
-abbrev pub ReadParent : Trees → Type 0
-ReadParent db = ReadSeen db × IsReadable parent parent_values db
-
--- and for each before this one
+-- the tables in their order are some that can be read, then this one, and others
 abbrev pub AreReadableBefore : SiteTable → Trees → Type 0
-AreReadableBefore Store db = ⊤
-AreReadableBefore Site db = ReadStore db
-AreReadableBefore Address db = ReadSite db
-AreReadableBefore Event db = ReadAddress db
-AreReadableBefore Part db = ReadEvent db
-AreReadableBefore Quarantine db = ReadPart db
-AreReadableBefore Outbox db = ReadQuarantine db
-AreReadableBefore Seen db = ReadOutbox db
-AreReadableBefore Parent db = ReadSeen db
-AreReadableBefore Recall db = ReadParent db
+AreReadableBefore table db = (read others : List SiteTable) × (tables_in_order ≡ read ++ table ∷ others) × AreReadable read db
 
 -- the row at this place by key, from 1, is the first of this table for which no value stands
 abbrev pub IsBadAt : SiteTable → ℕ → Trees → Type 0
-IsBadAt Store place db = HasBadRow store store_values place (db store.tree)
-IsBadAt Site place db = HasBadRow site site_values place (db site.tree)
-IsBadAt Address place db = HasBadRow address address_values place (db address.tree)
-IsBadAt Event place db = HasBadRow event event_values place (db event.tree)
-IsBadAt Part place db = HasBadRow part part_values place (db part.tree)
-IsBadAt Quarantine place db = HasBadRow quarantine quarantine_values place (db quarantine.tree)
-IsBadAt Outbox place db = HasBadRow outbox outbox_values place (db outbox.tree)
-IsBadAt Seen place db = HasBadRow seen seen_values place (db seen.tree)
-IsBadAt Parent place db = HasBadRow parent parent_values place (db parent.tree)
-IsBadAt Recall place db = HasBadRow recall recall_values place (db recall.tree)
+IsBadAt table place db = HoldsOf (λ X t row_of. HasBadRow t row_of place (db t.tree)) table
 
 -- the tables are another's; or they are a site's, and memory ran out, or the row is the first that is bad, table by table,
 -- and nothing is changed, or the database failed

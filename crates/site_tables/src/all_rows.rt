@@ -1,13 +1,12 @@
 //! The rows of all tables.
-ghost use Rattle.std.specs.Prelude.{◌≡◌, ◌≢◌, map, Err, IfOk, IfErr, OnOk};
+ghost use Rattle.std.specs.Prelude.{◌≡◌, ◌≢◌, map, take, Err, IfOk, IfErr, OnOk};
 ghost use Rattle.sqlite.specs.State.{HasCleanDisk, IsUnchanged, Survives};
 ghost use Rattle.sqlite.specs.Held.{state};
 ghost use Rattle.site_tables.specs.AllReads.{AreListed};
 ghost use Rattle.site_tables.specs.Reads.{IsListed};
 ghost use Rattle.site_tables.specs.Stored.{contents_of};
 ghost use Rattle.site_tables.specs.Tables.{store, site, address, event, part, quarantine, outbox, seen, parent, recall, site_schema};
-ghost use Rattle.site_tables.specs.Unreadable.{AreReadableBefore, IsUnreadable};
-ghost use Rattle.site_rows.specs.declared.tables.Table.TheVariants.{Event as EventTable, Quarantine as QuarantineTable, Parent as ParentTable};
+ghost use Rattle.site_tables.specs.Unreadable.{tables_in_order, AreReadable, IsUnreadable};
 ghost use Rattle.site_tables.specs.Values.{store_values, site_values, address_values, event_values, part_values, quarantine_values, outbox_values, seen_values, parent_values, recall_values};
 
 use crate::faults::ReadFault;
@@ -77,7 +76,7 @@ fn read_events<S: Alter>(alloc: Global, conn: &mut Connection<S>) -> Result<Even
     ensures event { HasCleanDisk (state S.Store conn.new) → IfOk result (λ read. IsListed event ((state S.Store conn.old).now.trees event.tree) (map event_values read.event)) }
     ensures part { HasCleanDisk (state S.Store conn.new) → IfOk result (λ read. IsListed part ((state S.Store conn.old).now.trees part.tree) (map part_values read.part)) }
     ensures same { HasCleanDisk (state S.Store conn.new) → OnOk result (IsUnchanged (state S.Store conn.old) (state S.Store conn.new)) }
-    ensures cause { HasCleanDisk (state S.Store conn.new) → AreReadableBefore EventTable (state S.Store conn.old).now.trees → IfErr result (IsUnreadable (state S.Store conn.old) (state S.Store conn.new)) }
+    ensures cause { HasCleanDisk (state S.Store conn.new) → AreReadable (take 3 tables_in_order) (state S.Store conn.old).now.trees → IfErr result (IsUnreadable (state S.Store conn.old) (state S.Store conn.new)) }
     ensures crash { Survives (state S.Store conn.old) (state S.Store conn.new) (λ _. ⊥) }
 {
     let event = read_table(alloc, conn)?;
@@ -95,7 +94,7 @@ fn read_messages<S: Alter>(
     ensures outbox { HasCleanDisk (state S.Store conn.new) → IfOk result (λ read. IsListed outbox ((state S.Store conn.old).now.trees outbox.tree) (map outbox_values read.outbox)) }
     ensures seen { HasCleanDisk (state S.Store conn.new) → IfOk result (λ read. IsListed seen ((state S.Store conn.old).now.trees seen.tree) (map seen_values read.seen)) }
     ensures same { HasCleanDisk (state S.Store conn.new) → OnOk result (IsUnchanged (state S.Store conn.old) (state S.Store conn.new)) }
-    ensures cause { HasCleanDisk (state S.Store conn.new) → AreReadableBefore QuarantineTable (state S.Store conn.old).now.trees → IfErr result (IsUnreadable (state S.Store conn.old) (state S.Store conn.new)) }
+    ensures cause { HasCleanDisk (state S.Store conn.new) → AreReadable (take 5 tables_in_order) (state S.Store conn.old).now.trees → IfErr result (IsUnreadable (state S.Store conn.old) (state S.Store conn.new)) }
     ensures crash { Survives (state S.Store conn.old) (state S.Store conn.new) (λ _. ⊥) }
 {
     let quarantine = read_table(alloc, conn)?;
@@ -117,7 +116,7 @@ fn read_recalls<S: Alter>(
     ensures parent { HasCleanDisk (state S.Store conn.new) → IfOk result (λ read. IsListed parent ((state S.Store conn.old).now.trees parent.tree) (map parent_values read.parent)) }
     ensures recall { HasCleanDisk (state S.Store conn.new) → IfOk result (λ read. IsListed recall ((state S.Store conn.old).now.trees recall.tree) (map recall_values read.recall)) }
     ensures same { HasCleanDisk (state S.Store conn.new) → OnOk result (IsUnchanged (state S.Store conn.old) (state S.Store conn.new)) }
-    ensures cause { HasCleanDisk (state S.Store conn.new) → AreReadableBefore ParentTable (state S.Store conn.old).now.trees → IfErr result (IsUnreadable (state S.Store conn.old) (state S.Store conn.new)) }
+    ensures cause { HasCleanDisk (state S.Store conn.new) → AreReadable (take 8 tables_in_order) (state S.Store conn.old).now.trees → IfErr result (IsUnreadable (state S.Store conn.old) (state S.Store conn.new)) }
     ensures crash { Survives (state S.Store conn.old) (state S.Store conn.new) (λ _. ⊥) }
 {
     let parent = read_table(alloc, conn)?;

@@ -1,4 +1,3 @@
-use Rattle.std.proofs.Common.{◌≡◌, sym}
 use Rattle.sqlite.specs.Held.{state}
 use Rattle.site_store.proofs.Findings.{rows_found, listed_before, refused_store}
 use Rattle.site_store.proofs.kept.Kept.find.Goals as goal
