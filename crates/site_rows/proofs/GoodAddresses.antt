@@ -80,20 +80,21 @@ module _ {K X : Type 0} (R : K → K → Ordering) where
   in_order (x ∷ es) (suc j) (suc k) d e up low hd he = in_order es j k d e (second _ _ up) (omega (arith, low)) hd he
 
 -- ---- the addresses
+-- each is of a site of the list
+pub address_told : (sites : List Site) (e : List ℕ × Address) → Contains (entries (addresses_of sites)) e → IsAddressOf 0 sites e.0 e.1
+address_told sites e there =
+    let found = entry_found item_total (addresses_of sites) e.0 e.1 there in
+    elim (found_among finite.empty (flat_map addresses_at (enumerate_from 0 sites)) e.0 e.1 found) [
+      | inl before ↦ let never : None ≡ Some e.1 = sym (get-empty text_cmp e.0) ∙ before in cc
+      | inr at ↦ address_of 0 sites e.0 e.1 at
+    ]
+
 module _ (sites : List Site) (are : AreSites sites) where
   abbrev listed : List (List ℕ × Address)
   listed = entries (addresses_of sites)
 
   abbrev rows : List AddressRow
   rows = map address_row listed
-
-  told : (e : List ℕ × Address) → Contains listed e → IsAddressOf 0 sites e.0 e.1
-  told e there =
-      let found = entry_found item_total (addresses_of sites) e.0 e.1 there in
-      elim (found_among finite.empty (flat_map addresses_at (enumerate_from 0 sites)) e.0 e.1 found) [
-        | inl before ↦ let never : None ≡ Some e.1 = sym (get-empty text_cmp e.0) ∙ before in cc
-        | inr at ↦ address_of 0 sites e.0 e.1 at
-      ]
 
   -- each address of each site has a row
   has_row : (number place : ℕ) (site : Site) (text : List ℕ) → slice_get sites number ≡ Some site → slice_get site.addresses place ≡ Some text → Stands rows (pos number) (pos place)
@@ -109,8 +110,8 @@ module _ (sites : List Site) (are : AreSites sites) where
   -- no two rows are of one place
   same_place : (d e : List ℕ × Address) → Contains listed d → Contains listed e → d.1.site ≡ e.1.site → d.1.place ≡ e.1.place → d.0 ≡ e.0
   same_place d e hd he site place =
-      let one = told d hd in
-      let two = told e he in
+      let one = address_told sites d hd in
+      let two = address_told sites e he in
       let number : one.number ≡ two.number = omega (arith, ap (λ (a : Address). a.site) one.at, ap (λ (a : Address). a.site) two.at, site) in
       let at : one.place ≡ two.place = omega (arith, ap (λ (a : Address). a.place) one.at, ap (λ (a : Address). a.place) two.at, place) in
       let sites_same : Some one.site ≡ Some two.site = sym one.of_list ∙ ap (slice_get sites) number ∙ two.of_list in
@@ -129,7 +130,7 @@ module _ (sites : List Site) (are : AreSites sites) where
   good : (k : ℕ) (e : List ℕ × Address) → slice_get listed k ≡ Some e → IsAddress (length sites) rows k (address_row e)
   good k e at =
       let there = member_there listed k e at in
-      let is = told e there in
+      let is = address_told sites e there in
       let up = entries_sorted (addresses_of sites) in
       let few = few_addresses sites is.number is.site are is.of_list in
       let low = stands_within is.site.addresses is.place e.0 is.there in

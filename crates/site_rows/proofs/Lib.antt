@@ -12,6 +12,7 @@ pub mod GoodRows
 pub mod HeldInTurn
 pub mod InTurn
 pub mod KeyTests
+pub mod KeysInUtf8
 pub mod ListsInTurn
 pub mod MessageRows
 pub mod NamesInTurn

@@ -1,9 +1,11 @@
 -- Laws of the rows of a record.
-use Rattle.std.specs.Prelude.{◌≡◌, ℕ, All, Some, length}
+use Rattle.std.specs.Prelude.{◌≡◌, ℕ, All, IfSome, IsUtf8, Some, length}
 use Rattle.std.specs.FinMap as finite
 use Rattle.epc_core.specs.Spellings.{IsKey}
 use Rattle.event_json.specs.Events.{Content, IsBody, IsIdentifier}
-use Rattle.event_json.specs.Sites.{AreSites}
+use Rattle.event_json.specs.Sites.{AreSites, Site}
+use Rattle.event_json.specs.declared.bodies.Body.{Body}
+use Rattle.event_json.specs.declared.bodies.Body.TheVariants.{Note, Ship, Make}
 use Rattle.frame_core.specs.Numbers.{Recall}
 use Rattle.frame_core.specs.declared.rows.Row.{Row}
 use Rattle.scholten_core.specs.Engagement.{Engagement}
@@ -49,3 +51,25 @@ pub record HoldsItems (s : Record) : Type 0 where
 -- no row of such a record is a bad one, and none is wanting
 abbrev pub RowsOfRecordsAreGood : Type 0
 RowsOfRecordsAreGood = (s : Record) → IsKept s → HoldsItems s → (table : Table) (place : ℕ) → IsBadRow (rows_of s) table place → ⊥
+
+-- the texts of a site are UTF-8, and those of what an event says, and of an event
+pub record IsSiteInUtf8 (s : Site) : Type 0 where
+  pub name : IsUtf8 s.name
+  pub addresses : All IsUtf8 s.addresses
+
+abbrev pub IsBodyInUtf8 : Body → Type 0
+IsBodyInUtf8 (Note items) = All IsUtf8 items
+IsBodyInUtf8 (Ship items to outside) = All IsUtf8 items × All IsUtf8 outside
+IsBodyInUtf8 (Make id ins outs) = IfSome id IsUtf8 × All IsUtf8 ins × All IsUtf8 outs
+
+pub record IsEventInUtf8 (e : Content) : Type 0 where
+  pub id : IfSome e.id IsUtf8
+  pub body : IsBodyInUtf8 e.body
+
+-- each text that the record keeps is UTF-8
+pub record HoldsTexts (s : Record) : Type 0 where
+  pub sites : All IsSiteInUtf8 s.sites
+  pub events : All IsEventInUtf8 s.captured.events
+  pub quarantine : (r : Recall) (items : Items) → finite.get s.quarantine r ≡ Some items → All IsUtf8 (set.items items)
+  pub outbox : (number : ℕ) (row : Row) → finite.get s.engagement.outbox number ≡ Some row → IsUtf8 row.item
+  pub own : (number : ℕ) (own : Own) → finite.get s.engagement.own number ≡ Some own → IsUtf8 own.root

@@ -9,5 +9,6 @@ pub mod Laws
 pub mod PartsInTurn
 pub mod ReadRows
 pub mod RecordRows
+pub mod Shown
 pub mod StepRows
 pub mod Texts

@@ -24,7 +24,7 @@ pub struct Address {
 }
 
 /// The most addresses of a site.
-const ADDRESSES: u64 = 16;
+pub(crate) const ADDRESSES: u64 = 16;
 
 /// The name of the site of a number.
 pub(crate) fn name_at(sites: &Sites, number: u64) -> Option<&str>
@@ -39,7 +39,7 @@ pub(crate) fn name_at(sites: &Sites, number: u64) -> Option<&str>
 }
 
 /// The address at a place, from 0, of the site of a number.
-fn address_at(sites: &Sites, number: u64, place: u64) -> Option<&str>
+pub(crate) fn address_at(sites: &Sites, number: u64, place: u64) -> Option<&str>
     ensures { option_map (λ t. t.now) result ≡ option_and_then (λ s. slice_get s.addresses place) (slice_get sites.now number) }
 {
     let _few = sites.len();

@@ -1,40 +1,92 @@
 //! What the types of all that a site keeps say of its texts.
-ghost use Rattle.std.specs.Prelude.{◌≡◌, All, Contains, Some, length, slice_get};
+ghost use Rattle.std.specs.Prelude.{◌≡◌, ℕ, List, All, Contains, IfSome, IsUtf8, Some, length, option_map, slice_get};
 ghost use Rattle.std.specs.FinMap.{get};
-ghost use Rattle.epc_core.specs.Spellings.{IsKey, IsPlain};
-ghost use Rattle.event_json.specs.Sites.{ShipsAmong};
+ghost use Rattle.event_json.specs.Sites.{ShipsAmong, Site};
+ghost use Rattle.frame_core.specs.Numbers.{Recall};
 ghost use Rattle.frame_core.specs.declared.rows.Row.{Row};
 ghost use Rattle.scholten_core.specs.declared.own_recalls.Own.{Own};
 ghost use Rattle.site_core.specs.ItemSets as set;
+ghost use Rattle.site_core.specs.Quarantines.{Items};
 ghost use Rattle.site_rows.specs.BadParts.{AreMembers};
-ghost use Rattle.site_rows.specs.Laws.{HoldsItems, HoldsKeys, IsEventAmong, IsKept};
+ghost use Rattle.site_rows.specs.Laws.{HoldsItems, HoldsTexts, IsBodyInUtf8, IsKept, IsSiteInUtf8};
+ghost use Rattle.site_rows.specs.Shown.{IsEventOfTexts, IsItemText, IsPlainText};
 
+use crate::address_rows::{ADDRESSES, address_at, name_at};
 use epc_core::Epc;
-use event_json::{Body, PlainText};
+use event_json::{Body, PlainText, Sites};
 use frame_core::tables::Key;
 use frame_core::{RecallId, Row};
 use scholten_core::Own;
 use site_core::{ItemSet, SiteState};
 use std::collections::{BTreeMap, BTreeSet};
 
-/// What a site keeps is a record whose rows can be read back: its events are within their limits, and its texts are those
-/// of items, sites and plain destinations. It is for proofs: it goes through all that the site keeps, tells nothing and
-/// changes nothing.
+/// What a site keeps is a record whose rows can be read back: its events are within their limits, its texts are those of
+/// items, sites and plain destinations, and each is UTF-8. It is for proofs: it goes through all that the site keeps,
+/// tells nothing and changes nothing.
 pub fn sites_keep_items(state: &SiteState)
     ensures kept { IsKept state.now }
     ensures items { HoldsItems state.now }
+    ensures texts { HoldsTexts state.now }
 {
     // Their readers tell the proof that the sites are in order and the record is sound.
-    let _known = (state.sites().len(), state.me());
+    let sites = state.sites();
+    let _known = (sites.len(), state.me());
+    show_sites(sites);
     show_events(state);
     show_quarantine(state);
     show_outbox(state);
     show_own_recalls(state);
 }
 
-/// Each captured event is one.
+/// The texts of each site are UTF-8.
+fn show_sites(sites: &Sites)
+    ensures { All IsSiteInUtf8 sites.now }
+{
+    for number in 0..sites.len() {
+        show_site(sites, number);
+    }
+}
+
+/// The texts of the site of a number are.
+fn show_site(sites: &Sites, number: u64)
+    ensures { (site : Site) → slice_get sites.now number ≡ Some site → IsSiteInUtf8 site }
+{
+    show_name(sites, number);
+    show_addresses(sites, number);
+}
+
+/// Its name is.
+fn show_name(sites: &Sites, number: u64)
+    ensures { (site : Site) → slice_get sites.now number ≡ Some site → IsUtf8 site.name }
+{
+    if let Some(name) = name_at(sites, number) {
+        let _name = name.as_bytes();
+    }
+}
+
+/// Each of its addresses is.
+fn show_addresses(sites: &Sites, number: u64)
+    ensures { (site : Site) → slice_get sites.now number ≡ Some site → All IsUtf8 site.addresses }
+{
+    // A site of a list has at most 16.
+    let _few = sites.len();
+    for place in 0..ADDRESSES {
+        show_address(sites, number, place);
+    }
+}
+
+/// Its address at a place is.
+fn show_address(sites: &Sites, number: u64, place: u64)
+    ensures { (site : Site) (text : List ℕ) → slice_get sites.now number ≡ Some site → slice_get site.addresses place ≡ Some text → IsUtf8 text }
+{
+    if let Some(text) = address_at(sites, number, place) {
+        let _text = text.as_bytes();
+    }
+}
+
+/// Each captured event is one, with its texts in UTF-8.
 fn show_events(state: &SiteState)
-    ensures { All (IsEventAmong (length state.now.sites)) state.now.captured.events }
+    ensures { All (IsEventOfTexts (length state.now.sites)) state.now.captured.events }
 {
     for place in 0..state.captured().len() {
         show_event(state, place);
@@ -43,19 +95,30 @@ fn show_events(state: &SiteState)
 
 /// The event at a place is one.
 fn show_event(state: &SiteState, place: usize)
-    ensures { (e : _) → slice_get state.now.captured.events place ≡ Some e → IsEventAmong (length state.now.sites) e }
+    ensures { (e : _) → slice_get state.now.captured.events place ≡ Some e → IsEventOfTexts (length state.now.sites) e }
 {
     // Its reader tells the proof that events ship to sites of the list.
     let _me = state.me();
     if let Some(event) = state.captured().event(place) {
-        let _id = event.id();
+        let id = event.id();
+        show_id(id);
         show_body(event.body());
     }
 }
 
-/// The members of an event are items, sites of the list and plain destinations.
+/// An id is UTF-8, where there is one.
+fn show_id(id: Option<&PlainText>)
+    ensures { IfSome (option_map (λ t. t.now) id.entry) IsUtf8 }
+{
+    if let Some(text) = id {
+        show_text(text);
+    }
+}
+
+/// The members of an event are items, sites of the list and plain destinations, and its texts are UTF-8.
 fn show_body(body: &Body)
-    ensures { (sites : _) → ShipsAmong sites body.now → AreMembers sites body.now }
+    ensures members { (sites : _) → ShipsAmong sites body.now → AreMembers sites body.now }
+    ensures texts { IsBodyInUtf8 body.now }
 {
     match body {
         Body::Note { items } => show_items(items.as_slice()),
@@ -63,48 +126,63 @@ fn show_body(body: &Body)
             show_items(items.as_slice());
             show_plain(outside.as_slice());
         }
-        Body::Make { ins, outs, .. } => {
+        Body::Make { id, ins, outs } => {
+            show_id(id.as_ref());
             show_items(ins.as_slice());
             show_items(outs.as_slice());
         }
     }
 }
 
+/// An item has the key of an item.
+fn show_item(item: &Epc)
+    ensures { IsItemText item.now }
+{
+    let _form = item.form();
+}
+
 /// Items have keys of items.
 fn show_items(items: &[Epc])
-    ensures { All IsKey items.now }
+    ensures { All IsItemText items.now }
 {
     for item in items {
-        let _form = item.form();
+        show_item(item);
     }
+}
+
+/// A plain text is plain.
+fn show_text(text: &PlainText)
+    ensures { IsPlainText text.now }
+{
+    let _bytes = text.as_str().as_bytes();
 }
 
 /// Plain texts are plain.
 fn show_plain(texts: &[PlainText])
-    ensures { All IsPlain texts.now }
+    ensures { All IsPlainText texts.now }
 {
     for text in texts {
-        let _text = text.as_str();
+        show_text(text);
     }
 }
 
 /// What is quarantined has keys of items.
 fn show_quarantine(state: &SiteState)
-    ensures { HoldsKeys state.now.quarantine }
+    ensures { (recall : Recall) (items : Items) → get state.now.quarantine recall ≡ Some items → All IsItemText (set.items items) }
 {
     show_entries(state.quarantine().by_recall(), &OfItems {});
 }
 
 /// Messages are about items.
 fn show_outbox(state: &SiteState)
-    ensures { (number : _) (row : Row) → get state.now.engagement.outbox number ≡ Some row → IsKey row.item }
+    ensures { (number : _) (row : Row) → get state.now.engagement.outbox number ≡ Some row → IsItemText row.item }
 {
     show_entries(state.outbox(), &OfItems {});
 }
 
 /// Own recalls began with items.
 fn show_own_recalls(state: &SiteState)
-    ensures { (number : _) (own : Own) → get state.now.engagement.own number ≡ Some own → IsKey own.root }
+    ensures { (number : _) (own : Own) → get state.now.engagement.own number ≡ Some own → IsItemText own.root }
 {
     show_entries(state.own_recalls(), &OfItems {});
 }
@@ -134,10 +212,10 @@ struct OfItems {}
 
 impl EntryFact<RecallId, ItemSet> for OfItems {
     ghost use Rattle.std.specs.Prelude.{All};
-    ghost use Rattle.epc_core.specs.Spellings.{IsKey};
     ghost use Rattle.site_core.specs.ItemSets as set;
+    ghost use Rattle.site_rows.specs.Shown.{IsItemText};
 
-    ghost holds = { λ _ _ items. All IsKey (set.items items) };
+    ghost holds = { λ _ _ items. All IsItemText (set.items items) };
 
     fn show(&self, _recall: &RecallId, items: &ItemSet) {
         show_set(items.items());
@@ -145,30 +223,30 @@ impl EntryFact<RecallId, ItemSet> for OfItems {
 }
 
 impl EntryFact<u64, Row> for OfItems {
-    ghost use Rattle.epc_core.specs.Spellings.{IsKey};
+    ghost use Rattle.site_rows.specs.Shown.{IsItemText};
 
-    ghost holds = { λ _ _ row. IsKey row.item };
+    ghost holds = { λ _ _ row. IsItemText row.item };
 
     fn show(&self, _number: &u64, row: &Row) {
-        let _form = row.item.form();
+        show_item(&row.item);
     }
 }
 
 impl EntryFact<u64, Own> for OfItems {
-    ghost use Rattle.epc_core.specs.Spellings.{IsKey};
+    ghost use Rattle.site_rows.specs.Shown.{IsItemText};
 
-    ghost holds = { λ _ _ own. IsKey own.root };
+    ghost holds = { λ _ _ own. IsItemText own.root };
 
     fn show(&self, _number: &u64, own: &Own) {
-        let _form = own.root.form();
+        show_item(&own.root);
     }
 }
 
 /// The items of a set have keys of items.
 fn show_set(items: &BTreeSet<Epc>)
-    ensures { All IsKey items.now.keys }
+    ensures { All IsItemText items.now.keys }
 {
     for item in items {
-        let _form = item.form();
+        show_item(item);
     }
 }

@@ -24,7 +24,7 @@ use Rattle.site_tables.specs.declared.faults.ReadFault.{ReadFault}
 use Rattle.site_tables.specs.declared.faults.ReadFault.TheVariants as reads
 use Rattle.site_tables.proofs.OnlyRows.{only_rows, no_bad_row}
 use Rattle.keeper_core.specs.declared.faults.KeepFault.TheVariants as faults
-use Rattle.site_store.specs.Openings.{ListsRows, opening_fault}
+use Rattle.site_store.specs.Openings.{ListsRows, TextsAreUtf8, opening_fault}
 use Rattle.site_store.specs.Opened.{own_name, name_at, IsRefused, IsOfMachine, unread}
 use Rattle.site_store.specs.declared.opening.OpenFault.{OpenFault}
 use Rattle.site_store.specs.declared.opening.OpenFault.TheVariants.{NoMemory, NotAStore, Version, OtherSite, BadRow, Device, Store}
@@ -45,14 +45,14 @@ error_is : (old new : State) (e : Error) → FailsToRead old new e → IsOfMachi
 error_is old new e (inl h) = subst (λ x. IsOfMachine old (unread (reads.Database x))) (sym h.1) (error_of old new h.0 h.2)
 error_is old new e (inr h) = subst (λ x. IsOfMachine old (unread (reads.Database x))) (sym h.0) h.1
 
-pub of_machine : (r : Record) (why : ReadFault) (old new : State) → ListsRows r old → IsUnreadable old new why → IsOfMachine old (unread why)
-of_machine r reads.NoMemory old new it h = tt
-of_machine r reads.OtherTables old new it h = absurd (h it.schema)
-of_machine r (reads.BadRow table place) old new it h = absurd (no_bad_row table place (rows_of r) old.now.trees (may_be_read r it.texts) it.listed h.2)
-of_machine r (reads.Database e) old new it h = error_is old new e h.1
+pub of_machine : (r : Record) (why : ReadFault) (old new : State) → TextsAreUtf8 (contents_of (rows_of r)) → ListsRows r old → IsUnreadable old new why → IsOfMachine old (unread why)
+of_machine r reads.NoMemory old new texts it h = tt
+of_machine r reads.OtherTables old new texts it h = absurd (h it.schema)
+of_machine r (reads.BadRow table place) old new texts it h = absurd (no_bad_row table place (rows_of r) old.now.trees (may_be_read r texts) it.listed h.2)
+of_machine r (reads.Database e) old new texts it h = error_is old new e h.1
 
-pub rows_found : (r : Record) (rows : Rows) (s : State) → ListsRows r s → AreListed (contents_of rows) s.now.trees → rows ≡ rows_of r
-rows_found r rows s it listed = only_rows (rows_of r) rows s.now.trees (may_be_read r it.texts) it.listed listed
+pub rows_found : (r : Record) (rows : Rows) (s : State) → TextsAreUtf8 (contents_of (rows_of r)) → ListsRows r s → AreListed (contents_of rows) s.now.trees → rows ≡ rows_of r
+rows_found r rows s texts it listed = only_rows (rows_of r) rows s.now.trees (may_be_read r texts) it.listed listed
 
 -- ---- rows of such a site are not refused
 
@@ -114,15 +114,14 @@ listed_before r old new same it =
     record {
       schema = sym (ap (λ (d : Database). d.schema) was) ∙ it.schema;
       listed = subst (λ (d : Database). AreListed (contents_of (rows_of r)) d.trees) was it.listed;
-      texts = it.texts;
     }
 
 limit_still : (old new : State) → new.step_limit ≡ old.step_limit → IsSome old.step_limit → IsSome new.step_limit
 limit_still old new same some = subst IsSome (sym same) some
 
 -- tables that list the rows of a record can't be read only where the limit on steps was met, or for another fault
-pub refused_store : (r : Record) (table : SiteTable) (place : ℕ) (old new : State) → IsUnreadable old new (reads.BadRow table place) → ListsRows r new → ⊥
-refused_store r table place old new h it = let was = listed_before r old new h.3 it in no_bad_row table place (rows_of r) old.now.trees (may_be_read r was.texts) was.listed h.2
+pub refused_store : (r : Record) (table : SiteTable) (place : ℕ) (old new : State) → IsUnreadable old new (reads.BadRow table place) → TextsAreUtf8 (contents_of (rows_of r)) → ListsRows r new → ⊥
+refused_store r table place old new h texts it = let was = listed_before r old new h.3 it in no_bad_row table place (rows_of r) old.now.trees (may_be_read r texts) was.listed h.2
 
 pub steps_met : (e : Error) (old new : State) → IsUnreadable old new (reads.Database e) → new.step_limit ≡ old.step_limit → opening_fault e ≡ faults.Store → IsSome new.step_limit
 steps_met e old new h same is = limit_still old new same (fault_is old new e h.1 is)

@@ -12,3 +12,4 @@ pub mod RisingRows
 pub mod SameRows
 pub mod SiteSteps
 pub mod StepWrites
+pub mod TextsOfRows

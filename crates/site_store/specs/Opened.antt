@@ -11,7 +11,7 @@ use Rattle.sqlite.specs.State.{State, HasCleanDisk, IsUnchanged, Opens, Survives
 use Rattle.site_core.specs.Records.{Record}
 use Rattle.site_rows.specs.Laws.{IsKept, HoldsItems}
 use Rattle.site_rows.specs.ReadRows.{IsStateFault}
-use Rattle.site_rows.specs.RecordRows.{name_of}
+use Rattle.site_rows.specs.RecordRows.{name_of, rows_of}
 use Rattle.site_rows.specs.declared.reading.StateFault.TheVariants as states
 use Rattle.site_rows.specs.declared.rows.Rows.{Rows}
 use Rattle.site_rows.specs.declared.rows.SiteRow.{SiteRow}
@@ -29,7 +29,7 @@ use Rattle.site_store.specs.declared.opening.OpenFault.TheVariants.{NoMemory, No
 use Rattle.site_store.specs.declared.sites.Link.{Link}
 use Rattle.site_store.specs.declared.sites.Link.TheVariants.{Connected, Unconnected}
 use Rattle.site_store.specs.declared.sites.StoredSite.{StoredSite}
-use Rattle.site_store.specs.Openings.{ListsRecord, ListsRows}
+use Rattle.site_store.specs.Openings.{ListsRecord, ListsRows, TextsAreUtf8}
 use Rattle.site_store.specs.Sites.{shown_by, link_of, IsKeptBy}
 
 -- the name in the row of `site` with this number
@@ -77,11 +77,12 @@ IsOpenFault old new name fault =
 abbrev pub own_name : Record → List ℕ
 own_name r = name_of r.sites r.engagement.me
 
--- the tables list the rows of this record, which a site of this name may keep
+-- the tables list the rows of this record, whose texts are UTF-8, and which a site of this name may keep
 pub record ListsSite (r : Record) (name : List ℕ) (s : State) : Type 0 where
   pub rows : ListsRows r s
   pub kept : IsKept r
   pub items : HoldsItems r
+  pub texts : TextsAreUtf8 (contents_of (rows_of r))
   pub named : own_name r ≡ name
 
 -- memory ran out, the device failed or was shut, or the limit on the steps of a query was met

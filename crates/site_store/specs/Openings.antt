@@ -45,11 +45,10 @@ pub record TextsAreUtf8 (rows : Contents) : Type 0 where
   pub parent : AllByRecursion AreTexts rows.parent
   pub recall : AllByRecursion AreTexts rows.recall
 
--- the tables are a site's, and list the rows of the record, whose texts are UTF-8
+-- the tables are a site's, and list the rows of the record
 pub record ListsRows (r : Record) (s : State) : Type 0 where
   pub schema : s.now.schema ≡ site_schema
   pub listed : AreListed (contents_of (rows_of r)) s.now.trees
-  pub texts : TextsAreUtf8 (contents_of (rows_of r))
 
 -- closed, with the records of before, and the device has failed once more where that is the fault
 abbrev pub StaysAs : Kept → KeepFault → Kept → Type 0

@@ -6,10 +6,12 @@ ghost use Rattle.site_core.specs.Records.{Record};
 ghost use Rattle.keeper_core.specs.Keeping.{HindersOpening};
 ghost use Rattle.site_rows.specs.RecordRows.{rows_of};
 ghost use Rattle.site_store.specs.Kept.{MayIn, failures_after};
-ghost use Rattle.site_store.specs.Openings.{ListsRecord, ListsRows, opening_fault};
+ghost use Rattle.site_store.specs.Openings.{ListsRecord, ListsRows, TextsAreUtf8, opening_fault};
+ghost use Rattle.site_tables.specs.Stored.{contents_of};
 
 use crate::faults::{is_of_device, is_of_memory, one_more};
 use crate::kept::Kept;
+use crate::laws::rows_of_a_site_are_utf8;
 use crate::pairs::Pair;
 use keeper_core::KeepFault;
 use site_core::SiteState;
@@ -109,6 +111,16 @@ impl Kept {
         }
     }
 
+    /// The texts of each record in which a closed one may be opened are UTF-8. It is for proofs.
+    fn show_texts(&self)
+        ensures { (r : Record) → MayIn self.now r → TextsAreUtf8 (contents_of (rows_of r)) }
+    {
+        rows_of_a_site_are_utf8(self.pair.state());
+        if let Some(next) = &self.next {
+            rows_of_a_site_are_utf8(next);
+        }
+    }
+
     /// The record whose rows the tables list, of those in which a closed one may be opened, is the record from now on.
     ///
     /// # Errors
@@ -122,6 +134,7 @@ impl Kept {
         ensures unchanged { IfErr result (λ fault. self.new ≡ record self.old { failures = failures_after fault self.old.failures }) }
         ensures crash { Survives (state S.Store conn.old) (state S.Store conn.new) (λ _. ⊥) }
     {
+        self.show_texts();
         match read_rows(self.alloc, conn) {
             Ok(rows) => self.recognise(&rows),
             Err(ReadFault::NoMemory) => Err(KeepFault::NoMemory),
