@@ -15,6 +15,6 @@ module _ {F K : Type 0} (reads : F → List ℕ → List ℕ → F → Type 0) (
   LeadsTo (Init folder list) old new answer = InitsAt reads finds makes writes folder.now list.now old new answer
   LeadsTo (Capture folder site file) old new answer = CapturesAt reads opens closes shown folder.now site.now file.now old new answer
   LeadsTo (Start folder site item) old new answer = StartsAt reads opens closes shown folder.now site.now item.now old new answer
-  LeadsTo (Run folder turns) old new answer = RunsAt reads opens closes shown folder.now old new answer
+  LeadsTo (Run folder turns) old new answer = RunsAt reads opens closes shown folder.now turns old new answer
   LeadsTo (Report folder recall) old new answer = ReportsAt reads opens closes shown folder.now recall.now old new answer
   LeadsTo (Audit folder) old new answer = AuditsAt reads opens closes shown folder.now old new answer

@@ -1,5 +1,5 @@
 -- what the keepers show after a run
-use Rattle.std.proofs.Common.{Option, IsSome, List, [], ◌∷◌, All, refl, sym, subst}
+use Rattle.std.proofs.Common.{ℕ, Option, IsSome, List, [], ◌∷◌, All, refl, sym, subst}
 use Rattle.std.proofs.lemmas.List.Elements.{All-cons, All-nil}
 use Rattle.std.specs.List.{AllZip}
 use Rattle.event_json.specs.Sites.{Site}
@@ -43,8 +43,8 @@ module _ {K : Type 0} (shown : K → Option Record) where
     shown_stand keepers rs fit all = fit rs (all_open_in keepers rs all)
 
     -- a misfit is told, and nothing else that hinders a run
-    pub misfit_told : (sites : List Site) (old new : List K) (cause : GatherCause) (answer : Answer) → Hinders shown new cause → FitAfter shown may old cause new → TellsCause sites cause answer → AnswersRun shown sites old new answer
-    misfit_told sites old new (NotAWorld (worlds.Misfit misfit)) (Amiss text) (records, shows, dont) fit told = (
+    pub misfit_told : (sites : List Site) (turns : ℕ) (old new : List K) (cause : GatherCause) (answer : Answer) → Hinders shown new cause → FitAfter shown may old cause new → TellsCause sites cause answer → AnswersRun shown sites turns old new answer
+    misfit_told sites turns old new (NotAWorld (worlds.Misfit misfit)) (Amiss text) (records, shows, dont) fit told = (
       record {
         records = records;
         shows = subst (λ ks. AreShown shown ks records) fit (are_shown new records shows);
@@ -54,11 +54,11 @@ module _ {K : Type 0} (shown : K → Option Record) where
       },
       fit,
     )
-    misfit_told sites old new (NotAWorld (worlds.Misfit misfit)) (Done text) hinders fit told = absurd told
-    misfit_told sites old new (NotAWorld (worlds.Misfit misfit)) (Refused text) hinders fit told = absurd told
-    misfit_told sites old new (NotAWorld worlds.NoMemory) answer hinders fit told = absurd told
-    misfit_told sites old new (NotAWorld (worlds.OtherSites place)) answer hinders fit told = absurd told
-    misfit_told sites old new (NotAWorld (worlds.Closed place)) answer hinders fit told = absurd told
-    misfit_told sites old new NoMemory answer hinders fit told = absurd told
-    misfit_told sites old new (SiteLost site) answer hinders fit told = absurd told
-    misfit_told sites old new (GaveUp site) answer hinders fit told = absurd told
+    misfit_told sites turns old new (NotAWorld (worlds.Misfit misfit)) (Done text) hinders fit told = absurd told
+    misfit_told sites turns old new (NotAWorld (worlds.Misfit misfit)) (Refused text) hinders fit told = absurd told
+    misfit_told sites turns old new (NotAWorld worlds.NoMemory) answer hinders fit told = absurd told
+    misfit_told sites turns old new (NotAWorld (worlds.OtherSites place)) answer hinders fit told = absurd told
+    misfit_told sites turns old new (NotAWorld (worlds.Closed place)) answer hinders fit told = absurd told
+    misfit_told sites turns old new NoMemory answer hinders fit told = absurd told
+    misfit_told sites turns old new (SiteLost site) answer hinders fit told = absurd told
+    misfit_told sites turns old new (GaveUp site) answer hinders fit told = absurd told

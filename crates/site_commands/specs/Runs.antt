@@ -1,5 +1,5 @@
 -- What a run of all sites answers.
-use Rattle.std.specs.Prelude.{◌≡◌, ℕ, List, [], ◌∷◌, ◌++◌, length, Option, string_bytes}
+use Rattle.std.specs.Prelude.{◌≡◌, ◌≤◌, ℕ, List, [], ◌∷◌, ◌++◌, All, length, Option, string_bytes}
 use Rattle.std.specs.List.{flat_map, AllZip}
 use Rattle.event_json.specs.Sites.{Site}
 use Rattle.script_core.specs.Words.{ended_word, recall_text}
@@ -8,6 +8,7 @@ use Rattle.site_recovery.specs.Looks.{world_of}
 use Rattle.site_recovery.specs.Misfits.{IsMisfit}
 use Rattle.site_recovery.specs.declared.checking.Misfit.{Misfit}
 use Rattle.site_threads.specs.Gathering.{Began, FitAfter, Hinders, IsKept, StandTogether}
+use Rattle.site_threads.specs.Jobs.{AreOfFrames}
 use Rattle.site_threads.specs.declared.gather.GatherCause.{GatherCause}
 use Rattle.site_threads.specs.declared.gather.GatherCause.TheVariants.{NotAWorld}
 use Rattle.site_threads.specs.declared.lists.SiteList.{SiteList}
@@ -44,12 +45,15 @@ pub record TellsTheMisfit {K : Type 0} (shown : K → Option Record) (sites : Li
   pub is_misfit : IsMisfit (length records) (world_of records) misfit.condition misfit.site
   pub text_is : text ≡ misfit_text sites misfit
 
-module _ {K : Type 0} (shown : K → Option Record) (sites : List Site) where
-  -- each keeper is open in the record to which its steps lead from the one that it began with, and these are told
+module _ {K : Type 0} (shown : K → Option Record) (sites : List Site) (turns : ℕ) where
+  -- each keeper is open in the record to which its steps lead from the one that it began with, and these are told; each
+  -- step is that of a frame, and no site's gate was asked for more turns than these
   pub record CameToItsEnd (old new : List K) (text : List ℕ) : Type 0 where
     pub lists : List SiteList
     pub began : AllZip (Began shown) old lists
     pub kept : AllZip (IsKept shown) new lists
+    pub frames : All (λ l. AreOfFrames l.entries.items) lists
+    pub asked : All (λ l. l.turns ≤ turns) lists
     pub told : TellsRecalls shown sites new text
 
   -- the run came to its end; or there was none, since the records don't fit together, and the keepers are as they were
@@ -75,20 +79,20 @@ pub record FailsRun {K : Type 0} (shown : K → Option Record) (may : K → Reco
   pub fit : FitAfter shown may old cause new
   pub fault_is : fault ≡ gather_fault cause
 
--- the files of all sites were opened, the sites ran, and the files were closed
-pub record RunsAll {F K : Type 0} (opens : F → List ℕ → List ℕ → K → F → Type 0) (closes : F → K → F → Type 0) (shown : K → Option Record) (folder : List ℕ) (sites : List Site) (old new : F) (answer : Answer) : Type 0 where
+-- the files of all sites were opened, the sites ran for at most so many turns, and the files were closed
+pub record RunsAll {F K : Type 0} (opens : F → List ℕ → List ℕ → K → F → Type 0) (closes : F → K → F → Type 0) (shown : K → Option Record) (folder : List ℕ) (sites : List Site) (turns : ℕ) (old new : F) (answer : Answer) : Type 0 where
   pub mid : F
   pub keepers : List K
   pub records : List Record
   pub opened : OpensFrom opens closes shown folder sites 0 old mid keepers records
   pub number : length keepers ≡ length sites
   pub after : List K
-  pub told : AnswersRun shown sites keepers after answer
+  pub told : AnswersRun shown sites turns keepers after answer
   pub closed : ClosesAll closes mid new after
 
--- all sites of a folder ran
-pub record RunsAt {F K : Type 0} (reads : F → List ℕ → List ℕ → F → Type 0) (opens : F → List ℕ → List ℕ → K → F → Type 0) (closes : F → K → F → Type 0) (shown : K → Option Record) (folder : List ℕ) (old new : F) (answer : Answer) : Type 0 where
+-- all sites of a folder ran for at most so many turns
+pub record RunsAt {F K : Type 0} (reads : F → List ℕ → List ℕ → F → Type 0) (opens : F → List ℕ → List ℕ → K → F → Type 0) (closes : F → K → F → Type 0) (shown : K → Option Record) (folder : List ℕ) (turns : ℕ) (old new : F) (answer : Answer) : Type 0 where
   pub sites : List Site
   pub mid : F
   pub listed : ListsSites reads folder old mid sites
-  pub told : RunsAll opens closes shown folder sites mid new answer
+  pub told : RunsAll opens closes shown folder sites turns mid new answer

@@ -17,7 +17,7 @@ use event_json::Sites;
 use keeper_core::SiteKeeper;
 use script_core::telling::{ended_word, recall_text};
 use site_core::SiteState;
-use site_threads::{Desk, DeskOut, Gate, GatherCause, GatherFault, Gathered, run_world};
+use site_threads::{DeskOut, Gate, GatherCause, GatherFault, Gathered, run_world};
 use std::alloc::{AllocError, Global};
 use std::sync::Wait;
 use std::thread::Threads;
@@ -26,7 +26,7 @@ use world_core::WorldFault;
 
 /// Runs all sites of a folder, each in a thread of its own, where one can be made, for so many turns: at most 1,000,000.
 ///
-/// Frames go from site to site, and nothing else is done. Then each recall that a site began is told, by site and
+/// Frames go from site to site, and nothing else is done: each step of a site is that of a frame. Then each recall that a site began is told, by site and
 /// number: that it has ended, or that it is open. Where the records don't fit together, there is no run. Each site has a
 /// copy of the gate to its turns.
 ///
@@ -40,7 +40,7 @@ pub fn run_sites<
     R: Threads + Wait + Clock + Sync,
 >(rt: &R, alloc: Global, files: &mut F, gate: G, folder: &str, turns: u64) -> Result<Answer, Fault>
     requires turns { turns ≤ 1000000 }
-    ensures calls { IfOk result (RunsAt F.reads F.opens F.closes K.shown folder.now files.old files.new) }
+    ensures calls { IfOk result (RunsAt F.reads F.opens F.closes K.shown folder.now turns files.old files.new) }
     ensures sound { IfOk result IsAnswer }
 {
     let sites = sites_of(alloc, files, folder)?;
@@ -70,7 +70,7 @@ pub fn run_of<K: SiteKeeper + Send, G: Gate + Copy + Send, R: Threads + Wait + C
 ) -> (Vec<K>, Result<Answer, Fault>)
     requires count { (2 ≤ length keepers.items) × (length keepers.items ≤ 16) }
     requires turns { turns ≤ 1000000 }
-    ensures answered { IfOk result.1 (AnswersRun K.shown sites.now keepers.items result.0.items) }
+    ensures answered { IfOk result.1 (AnswersRun K.shown sites.now turns keepers.items result.0.items) }
     ensures failed { IfErr result.1 (FailsRun K.shown K.may keepers.items result.0.items) }
     ensures sound { IfOk result.1 IsAnswer }
 {
@@ -89,20 +89,20 @@ pub fn run_of<K: SiteKeeper + Send, G: Gate + Copy + Send, R: Threads + Wait + C
     }
 }
 
-/// Ends of as many desks, at which no job is put, and copies of a gate.
+/// Ends of as many desks, at which no job is ever put, and copies of a gate.
 fn unused<G: Gate + Copy>(
     alloc: Global,
     gate: G,
     count: usize,
 ) -> Result<(Vec<DeskOut>, Vec<G>), AllocError>
     ensures desks { IfOk result (λ r. (length r.0.items ≡ count) × All IsUnused r.0.items) }
+    ensures limits { IfOk result (λ r. All (λ d. d.limit ≡ 0) r.0.items) }
     ensures gates { IfOk result (λ r. length r.1.items ≡ count) }
 {
     let mut desks = Vec::new(alloc);
     let mut gates = Vec::new(alloc);
     for _ in 0..count {
-        let (_, out) = Desk::new(alloc, 1)?;
-        desks.push(out)?;
+        desks.push(DeskOut::none(alloc)?)?;
         gates.push(gate)?;
     }
     Ok((desks, gates))

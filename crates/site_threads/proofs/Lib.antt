@@ -4,6 +4,7 @@ mod Ending
 mod Gathering
 mod Handing
 mod Looping
+pub mod NoJobs
 mod Numbers
 mod Offering
 mod OneLog

@@ -1,6 +1,6 @@
 -- Lists that are related place by place.
 use Rattle.std.proofs.Common.{◌≡◌, ℕ, suc, ◌<◌, List, [], ◌∷◌, ◌++◌, All, length, get_or, map, sym, ap, subst, refl, arith}
-use Rattle.std.proofs.lemmas.List.Elements.{All-nil, All-cons}
+use Rattle.std.proofs.lemmas.List.Elements.{All-nil, All-cons, All-head, All-tail}
 use Rattle.std.specs.List.{AllZip}
 
 module _ {A B : Type 0} (R : A → B → Type 0) where
@@ -24,6 +24,13 @@ module _ {A B : Type 0} (R : A → B → Type 0) where
   all_right P [] (y ∷ ys) f z = absurd z
   all_right P (x ∷ xs) [] f z = absurd z
   all_right P (x ∷ xs) (y ∷ ys) f z = All-cons P y ys (f x y z.0) (all_right P xs ys f z.1)
+
+  -- what each of the one list has leads to what each of the other one has
+  pub all_carried : (P : A → Type 0) (Q : B → Type 0) (xs : List A) (ys : List B) → ((x : A) (y : B) → P x → R x y → Q y) → All P xs → AllZip R xs ys → All Q ys
+  all_carried P Q [] [] f all z = All-nil Q
+  all_carried P Q [] (y ∷ ys) f all z = absurd z
+  all_carried P Q (x ∷ xs) [] f all z = absurd z
+  all_carried P Q (x ∷ xs) (y ∷ ys) f all z = All-cons Q y ys (f x y (All-head P x xs all) z.0) (all_carried P Q xs ys f (All-tail P x xs all) z.1)
 
   -- where both lists are of the same list, place by place, they are of each other
   pub zip_through : {C : Type 0} (S : B → C → Type 0) (T : A → C → Type 0) (xs : List A) (ys : List B) (zs : List C) → ((x : A) (y : B) (z : C) → R x y → S y z → T x z) → AllZip R xs ys → AllZip S ys zs → AllZip T xs zs

@@ -9,6 +9,7 @@ use Rattle.site_threads.specs.declared.runs.SiteRun.{SiteRun}
 abbrev pub BeganIn : {K G : Type 0} → (K → Option Record) → K → SiteRun K G → Type 0
 BeganIn shown k run = shown k ≡ Some run.turn.site.start.value
 
--- it has the desk's end
-abbrev pub TookEnd : {K G : Type 0} → DeskOut → SiteRun K G → Type 0
-TookEnd d run = receives_on run.out.from ≡ receives_on d.from
+-- it has the desk's end, and takes no more jobs than that
+pub record TookEnd {K G : Type 0} (d : DeskOut) (run : SiteRun K G) : Type 0 where
+  pub desk : receives_on run.out.from ≡ receives_on d.from
+  pub limit : run.out.limit ≡ d.limit

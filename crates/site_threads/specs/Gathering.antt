@@ -53,9 +53,10 @@ pub record IsKept {K : Type 0} (shown : K → Option Record) (k : K) (l : SiteLi
 abbrev pub Began : {K : Type 0} → (K → Option Record) → K → SiteList → Type 0
 Began shown k l = shown k ≡ Some l.start.value
 
--- the list has the desk's end
-abbrev pub HasEnd : DeskOut → SiteList → Type 0
-HasEnd d l = receives_on l.out.from ≡ receives_on d.from
+-- the list has the desk's end, and takes no more jobs than that
+pub record HasEnd (d : DeskOut) (l : SiteList) : Type 0 where
+  pub desk : receives_on l.out.from ≡ receives_on d.from
+  pub limit : l.out.limit ≡ d.limit
 
 -- The keepers that are handed back, and why the run has no answer.
 

@@ -1,5 +1,5 @@
 -- What a site is asked by a job, what is answered, and what is said of a site's list of steps.
-use Rattle.std.specs.Prelude.{◌≡◌, ◌⊎◌, ℕ, Bool, true, false, IsTrue, IsFalse, if◌then◌else◌, List, [], ◌∷◌, map, flat_map, length, Contains, Option, Some, None, Result, Ok, Err}
+use Rattle.std.specs.Prelude.{◌≡◌, ◌⊎◌, ℕ, Bool, true, false, IsTrue, IsFalse, if◌then◌else◌, List, [], ◌∷◌, All, map, flat_map, length, Contains, Option, Some, None, Result, Ok, Err}
 use Rattle.std.specs.List.{range_with_len}
 use Rattle.keeper_core.specs.declared.faults.KeepFault.{KeepFault}
 use Rattle.keeper_core.specs.declared.faults.KeepFault.TheVariants as faults
@@ -86,6 +86,10 @@ job_of (inputs.Deliver frame) = []
 
 abbrev pub jobs_in : List Entry → List Job
 jobs_in entries = flat_map (λ x. job_of x.input) entries
+
+-- each step is that of a frame
+abbrev pub AreOfFrames : List Entry → Type 0
+AreOfFrames entries = All (λ x. IsTrue (is_delivery x.input)) entries
 
 abbrev pub option_items : {X : Type 0} → Option X → List X
 option_items None = []

@@ -1,11 +1,11 @@
 -- What the frames that a site takes add to its list of steps.
-use Rattle.std.specs.Prelude.{◌≡◌, ℕ, IsTrue, List, ◌++◌, length, All}
-use Rattle.site_threads.specs.Jobs.{is_delivery}
+use Rattle.std.specs.Prelude.{◌≡◌, ℕ, List, ◌++◌, length}
+use Rattle.site_threads.specs.Jobs.{AreOfFrames}
 use Rattle.site_threads.specs.declared.jobs.Entry.{Entry}
 
 -- so many steps came, each by a frame, and before them the list is the same
 pub record TakesFrames (old new : List Entry) (count : ℕ) : Type 0 where
   pub frames : List Entry
   pub all : new ≡ old ++ frames
-  pub each : All (λ x. IsTrue (is_delivery x.input)) frames
+  pub each : AreOfFrames frames
   pub many : length frames ≡ count

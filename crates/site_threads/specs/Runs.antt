@@ -1,5 +1,5 @@
 -- What clauses say of the sites of a run.
-use Rattle.std.specs.Prelude.{◌≡◌, ◌++◌, Bool, true, false, Option, None, IsSome, IfSome}
+use Rattle.std.specs.Prelude.{◌≡◌, ℕ, ◌+◌, ◌≤◌, ◌++◌, Bool, true, false, Option, None, IsSome, IfSome}
 use Rattle.crossbeam_channel.specs.Ends.{receives_on}
 use Rattle.site_core.specs.Records.{Record}
 use Rattle.wire_core.specs.Seats.{Line, IsSeatOf}
@@ -21,11 +21,12 @@ module _ {K G : Type 0} (shown : K → Option Record) (may : K → Record → Ty
     pub out : IsOut r.out
     pub jobs : jobs_in r.turn.site.entries.items ++ option_items r.pending ≡ takes r.out
 
--- the same site of the same run, with the same desk
+-- the same site of the same run, with the same desk, which takes no more jobs than before
 pub record SameRun {K G : Type 0} (old new : SiteRun K G) : Type 0 where
   pub me : new.turn.site.me ≡ old.turn.site.me
   pub start : new.turn.site.start.value ≡ old.turn.site.start.value
   pub desk : receives_on new.out.from ≡ receives_on old.out.from
+  pub limit : new.out.limit ≡ old.out.limit
 
 -- the site goes on after the turn
 abbrev pub goes_on : Turned → Bool
@@ -39,10 +40,12 @@ module _ {K G : Type 0} (shown : K → Option Record) (may : K → Record → Ty
     pub run : IsRun shown may wire r
     pub unmarked : marks_in r.turn.site.seat.logs ≡ 0
     pub going : r.fault ≡ None
+    pub unasked : r.turn.turns ≡ 0
 
-  -- what is known after the turns: a site without a fault is open, and a lost one is closed
-  pub record Ran (old new : SiteRun K G) : Type 0 where
+  -- what is known after at most so many turns: a site without a fault is open, and a lost one is closed
+  pub record Ran (turns : ℕ) (old new : SiteRun K G) : Type 0 where
     pub run : IsRun shown may wire new
     pub same : SameRun old new
+    pub asked : new.turn.turns ≤ old.turn.turns + turns
     pub is_open : new.fault ≡ None → IsSome (shown_in shown new.turn.site.keeper)
     pub lost : IfSome new.fault (λ cause. IfLost cause (shown_in shown new.turn.site.keeper))

@@ -4,7 +4,7 @@ ghost use Rattle.crossbeam_channel.specs.Claims.{view, IsSeatAt};
 ghost use Rattle.crossbeam_channel.specs.Ends.{sends_on, receives_on};
 ghost use Rattle.site_threads.specs.Desks.{is_spent, fault_job};
 ghost use Rattle.site_threads.specs.Jobs.{option_items};
-ghost use Rattle.site_threads.specs.Ends.{puts, takes, IsDesk, IsOut, AreEnds};
+ghost use Rattle.site_threads.specs.Ends.{puts, takes, IsDesk, IsOut, IsUnused, AreEnds};
 
 use crate::jobs::{Job, Receipt};
 use crossbeam_channel::protocol::{Free, Join, Lesson, Outcome, Protocol, Split};
@@ -136,7 +136,8 @@ pub struct DeskOut {
     pub count: u64,
     /// How many there can be.
     pub limit: u64,
-    /// Whether the channel told that the other end was dropped, and no job is left.
+    /// Whether no job can come any more: none was ever to come, or the channel told that the other end was dropped, and
+    /// no job is left.
     pub gone: bool,
 }
 
@@ -211,10 +212,31 @@ impl Desk {
 }
 
 impl DeskOut {
+    /// An end of a desk at which no job is ever put.
+    ///
+    /// # Errors
+    /// Where there is no memory for it.
+    pub fn none(alloc: Global) -> Result<DeskOut, AllocError>
+        ensures { IfOk result (λ o. IsUnused o × (o.limit ≡ 0)) }
+    {
+        let (_, from, pass) = bounded_with::<Job, Hand, InOrder, Global>(alloc, 1)?;
+        let (receipts, _, teller) = bounded_with::<Receipt, (), Free, Global>(alloc, 1)?;
+        Ok(DeskOut {
+            from,
+            pass,
+            receipts,
+            teller,
+            count: 0,
+            limit: 0,
+            gone: true,
+        })
+    }
+
     /// The next job, if one is there.
     pub fn next<R: Wait>(&mut self, rt: &R) -> Option<Job>
         requires { IsOut self.old }
         ensures out { IsOut self.new × (receives_on self.new.from ≡ receives_on self.old.from) }
+        ensures limit { self.new.limit ≡ self.old.limit }
         ensures taken { takes self.new ≡ takes self.old ++ option_items result }
     {
         if self.count == self.limit {
@@ -235,7 +257,8 @@ impl DeskOut {
     /// Sends a receipt back.
     pub fn tell<R: Wait>(&mut self, rt: &R, receipt: Receipt)
         requires { IsOut self.old }
-        ensures { IsOut self.new × (receives_on self.new.from ≡ receives_on self.old.from) × (takes self.new ≡ takes self.old) }
+        ensures out { IsOut self.new × (receives_on self.new.from ≡ receives_on self.old.from) × (self.new.limit ≡ self.old.limit) }
+        ensures taken { takes self.new ≡ takes self.old }
     {
         let _ = self
             .receipts

@@ -87,7 +87,7 @@ fn part<K: SiteKeeper, G: Gate>(
             pending,
             fault,
         } = run;
-        let SiteTurn { site, .. } = turn;
+        let SiteTurn { site, turns, .. } = turn;
         let Site {
             keeper,
             seat: mine,
@@ -106,6 +106,7 @@ fn part<K: SiteKeeper, G: Gate>(
                 start,
                 out,
                 pending,
+                turns,
             },
         );
         cause = cause.or(cause_of(me, fault));

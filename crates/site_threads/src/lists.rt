@@ -17,5 +17,7 @@ pub struct SiteList {
     pub out: DeskOut,
     /// The job that was taken from the desk last, where it wasn't done.
     pub pending: Option<Job>,
+    /// How many turns its gate was asked for.
+    pub turns: u64,
     ghost numbered: { AreNumbered entries.items },
 }

@@ -39,7 +39,7 @@ pub struct SiteRun<K: SiteKeeper, G: Gate> {
 /// The job that was handed back, or the next one.
 fn next_job<R: Wait>(rt: &R, pending: Option<Job>, out: &mut DeskOut) -> Option<Job>
     requires { IsOut out.old }
-    ensures out { IsOut out.new × (receives_on out.new.from ≡ receives_on out.old.from) }
+    ensures out { IsOut out.new × (receives_on out.new.from ≡ receives_on out.old.from) × (out.new.limit ≡ out.old.limit) }
     ensures job { (done : List Job) → done ++ option_items pending ≡ takes out.old → done ++ option_items result ≡ takes out.new }
 {
     match pending {
@@ -109,6 +109,7 @@ impl<K: SiteKeeper, G: Gate> SiteRun<K, G> {
         ensures run { IsRun K.shown K.may wire.now self.new }
         ensures same { SameRun self.old self.new }
         ensures marks { marks_in self.new.turn.site.seat.logs ≤ marks_in self.old.turn.site.seat.logs + 18 }
+        ensures turns { self.new.turn.turns ≤ self.old.turn.turns + 1 }
         ensures going { goes_on result ≡ is_none self.new.fault }
         ensures lost { IfSome self.new.fault (λ cause. IfLost cause (shown_in K.shown self.new.turn.site.keeper)) }
     {
@@ -152,15 +153,15 @@ impl<K: SiteKeeper, G: Gate> SiteRun<K, G> {
         self.out.gone && self.pending.is_none() && state.outbox().is_empty()
     }
 
-    /// The turns of a run, and a last opening. After a turn in which nothing was done the site sleeps, so that a run
-    /// doesn't end while other sites write.
+    /// The turns of a run, so many or fewer, and a last opening. After a turn in which nothing was done the site sleeps, so
+    /// that a run doesn't end while other sites write.
     ///
     /// `open` counts the sites of the run that may have an open recall of their own, or begin one. A site takes itself
     /// off once its desk is gone and its outbox empty; where none is left, no site makes another turn.
     pub fn go<R: Wait + Clock>(&mut self, rt: &R, wire: &Wire, open: &AtomicU64, turns: u64)
         requires ready { IsReady K.shown K.may wire.now self.old }
         requires turns { turns ≤ 1000000 }
-        ensures ran { Ran K.shown K.may wire.now self.old self.new }
+        ensures ran { Ran K.shown K.may wire.now turns self.old self.new }
     {
         let mut micros = 0;
         let mut done = false;
@@ -196,7 +197,7 @@ pub fn run_all<K: SiteKeeper + Send, G: Gate + Send, R: Threads + Wait + Clock +
     requires ready { All (IsReady K.shown K.may wire.now) runs.old }
     requires turns { turns ≤ 1000000 }
     ensures count { length runs.new ≡ length runs.old }
-    ensures each { (i : ℕ) (d : SiteRun K G) → i < length runs.old → Ran K.shown K.may wire.now (slice_index_or runs.old i d) (slice_index_or runs.new i d) }
+    ensures each { (i : ℕ) (d : SiteRun K G) → i < length runs.old → Ran K.shown K.may wire.now turns (slice_index_or runs.old i d) (slice_index_or runs.new i d) }
 {
     let threads = runs.len();
     let open = AtomicU64::new(threads as u64);
@@ -206,7 +207,7 @@ pub fn run_all<K: SiteKeeper + Send, G: Gate + Send, R: Threads + Wait + Clock +
         threads,
         &|_, run: &mut SiteRun<K, G>|
             requires { IsReady K.shown K.may wire.now run.now × (turns ≤ 1000000) }
-            ensures { Ran K.shown K.may wire.entry.now run.entry.now run.exit.now }
+            ensures { Ran K.shown K.may wire.entry.now turns run.entry.now run.exit.now }
         { run.go(rt, wire, &open, turns) },
     );
 }

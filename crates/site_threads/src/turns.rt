@@ -1,5 +1,5 @@
 //! One turn of a site.
-ghost use Rattle.std.specs.Prelude.{◌≡◌, ◌≢◌, ◌+◌, ◌++◌, ◌^◌, ◌<◌, ◌≤◌, [], Some, None, IfOk, IfErr, IfSome, IsSome, map, option_map, vec_len, vec_capacity};
+ghost use Rattle.std.specs.Prelude.{◌≡◌, ◌≢◌, ◌+◌, ◌-◌, ◌++◌, ◌^◌, ◌<◌, ◌≤◌, [], Some, None, IfOk, IfErr, IfSome, IsSome, map, min, option_map, vec_len, vec_capacity};
 ghost use Rattle.site_core.specs.Records.{Record};
 ghost use Rattle.wire_core.specs.Seats.{IsSeatOf};
 ghost use Rattle.site_threads.specs.Jobs.{jobs_in, entry_of, option_items};
@@ -73,6 +73,7 @@ impl<K: SiteKeeper, G: Gate> SiteTurn<K, G> {
         requires start { (r : Record) × (K.shown keeper ≡ Some r) × IsLastMarked seat.logs me r }
         ensures site { IsSite K.shown K.may result.site }
         ensures first { (result.site.me ≡ me) × (result.site.seat ≡ seat) × (result.site.entries.items ≡ []) × (Some result.site.start.value ≡ K.shown keeper) × (result.site.keeper ≡ Some keeper) }
+        ensures turns { result.turns ≡ 0 }
     {
         let Some(state) = keeper.view() else {
             unreachable!()
@@ -112,6 +113,8 @@ impl<K: SiteKeeper, G: Gate> SiteTurn<K, G> {
         requires few { marks_in self.old.site.seat.logs < 2 ^ 61 }
         ensures site { IsSite K.shown K.may self.new.site }
         ensures same { Continues 18 wire.now self.old.site self.new.site }
+        ensures turns { self.new.turns ≤ self.old.turns + 1 }
+        ensures counted { IfOk result (λ _. self.new.turns ≡ min (self.old.turns + 1) (2 ^ 64 - 1)) }
         ensures job { IfOk result (λ report. (option_map (λ x. x.job) report.receipt ≡ job) × IfSome report.receipt (λ x. x.site ≡ self.old.site.me)) }
         ensures entered { IfOk result (λ report. TakesFrames (self.old.site.entries.items ++ map entry_of (option_items report.receipt)) self.new.site.entries.items report.applied) }
         ensures jobs { IfOk result (λ report. jobs_in self.new.site.entries.items ≡ jobs_in self.old.site.entries.items ++ option_items job) }
@@ -151,6 +154,8 @@ impl<K: SiteKeeper, G: Gate> SiteTurn<K, G> {
         requires few { marks_in self.old.site.seat.logs < 2 ^ 62 }
         ensures site { IsSite K.shown K.may self.new.site }
         ensures same { Continues 1 wire.now self.old.site self.new.site }
+        ensures turns { self.new.turns ≤ self.old.turns + 1 }
+        ensures counted { self.new.turns ≡ min (self.old.turns + 1) (2 ^ 64 - 1) }
         ensures entries { self.new.site.entries ≡ self.old.site.entries }
         ensures open { IfOk result (λ _. IsSome (shown_in K.shown self.new.site.keeper)) }
         ensures stays { (r : Record) → shown_in K.shown self.old.site.keeper ≡ Some r → shown_in K.shown self.new.site.keeper ≡ Some r }
@@ -175,6 +180,7 @@ impl<K: SiteKeeper, G: Gate> SiteTurn<K, G> {
         requires room { vec_len self.old.site.entries + (wire.now.sites + 1) ≤ vec_capacity self.old.site.entries }
         ensures site { IsSite K.shown K.may self.new.site }
         ensures same { Continues 17 wire.now self.old.site self.new.site }
+        ensures turns { self.new.turns ≡ self.old.turns }
         ensures job { IfOk result (λ report. (option_map (λ x. x.job) report.receipt ≡ option_map (λ x. x.job) ready) × IfSome report.receipt (λ x. x.site ≡ self.old.site.me)) }
         ensures entered { IfOk result (λ report. TakesFrames (self.old.site.entries.items ++ map entry_of (option_items report.receipt)) self.new.site.entries.items report.applied) }
         ensures posted { IfOk result (λ report. report.posted ≤ wire.now.sites) }

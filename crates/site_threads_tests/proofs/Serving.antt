@@ -16,7 +16,7 @@ use Rattle.site_threads_tests.specs.Serving.{Serves, Settles}
 pub settles_all : {K : Type 0} (shown : K → Option Record) (ds : List Desk) (os : List DeskOut) (ks : List K) (ls : List SiteList) → AllZip Serves ds os → AllZip HasEnd os ls → AllZip (IsKept shown) ks ls → AllZip Settles ds ls
 settles_all shown [] [] ks [] a b c = tt
 settles_all shown (d ∷ ds) (o ∷ os) (k ∷ ks) (l ∷ ls) a b c =
-    (record { desk = a.0.desk; ends = b.0 ∙ a.0.ends; jobs = c.0.jobs }, settles_all shown ds os ks ls a.1 b.1 c.1)
+    (record { desk = a.0.desk; ends = b.0.desk ∙ a.0.ends; jobs = c.0.jobs }, settles_all shown ds os ks ls a.1 b.1 c.1)
 settles_all shown [] [] ks (l ∷ ls) a b c = absurd b
 settles_all shown [] (o ∷ os) ks ls a b c = absurd a
 settles_all shown (d ∷ ds) [] ks ls a b c = absurd a

@@ -20,5 +20,5 @@ returns-clause-answered g c =
     let left = c.in-Err.field-0 in
     let why = c.in-Err.ensures.err in
     ok_so c.tell_cause.result
-    (λ a told. misfit_told g.K.SiteKeeper.shown g.K.SiteKeeper.may c.args.sites.now c.args.keepers.items left.keepers.items left.cause a why.0 why.1 told)
+    (λ a told. misfit_told g.K.SiteKeeper.shown g.K.SiteKeeper.may c.args.sites.now c.args.turns c.args.keepers.items left.keepers.items left.cause a why.0 why.1 told)
     c.tell_cause.ensures.answered

@@ -1,0 +1,5 @@
+use Rattle.site_threads.proofs.Handing.{begins}
+use Rattle.site_threads.proofs.desks.DeskOut.none.Goals as goal
+
+pub bounded_with-requires-clause-rule : goal.bounded_with-requires-clause-rule
+bounded_with-requires-clause-rule c = begins
