@@ -1,5 +1,5 @@
 -- What a search gains from an event, and from all events that name an item.
-use Rattle.std.proofs.Common.{◌≡◌, ◌<◌, ◌≤◌, ◌+◌, ℕ, Bool, true, false, List, [], ◌++◌, Some, length, get_or, slice_get, refl, sym, ap, ◌∙◌, subst, ⊎_elim}
+use Rattle.std.proofs.Common.{◌≡◌, ◌<◌, ◌≤◌, ◌+◌, ℕ, Bool, true, false, List, [], ◌++◌, Option, Some, length, get_or, slice_get, refl, sym, ap, ◌∙◌, subst, ⊎_elim}
 use mathlib.Core.Bool.{false≢true}
 use Rattle.std.specs.BTreeSet.{BTreeSet}
 use Rattle.std.specs.List.{Contains}
@@ -21,7 +21,6 @@ use Rattle.trace_core.specs.Spreads.{items_of}
 use Rattle.trace_core.proofs.GroupSteps.{HasMore, sends, makes, event_new, event_again, event_known, event_ships, SoFar, adds_none, place_added, places_added}
 use Rattle.trace_core.proofs.Members.{contains_none}
 use Rattle.trace_core.proofs.NodeSteps.{had_more, more_nodes, no_nodes}
-use Rattle.trace_core.proofs.NumberLists.{some_is}
 use Rattle.trace_core.proofs.PlaceLists.{place_passes}
 use Rattle.trace_core.proofs.VisitSteps.{sent_stand, some_sent, group_stand, some_in_group}
 
@@ -85,10 +84,18 @@ same_site : (me : ℕ) (events : List Content) (s : SiteEvents) → me ≡ s.me 
 same_site me events s is are = ap (λ (m : ℕ). record { me = m; events = events }) is ∙ ap (λ (es : List Content). record { me = s.me; events = es }) are
 
 -- what visiting an event at a place says
-abbrev pub GainsAt : Bool → ℕ → List Content → ℕ → ℕ → List ℕ → ℕ → BTreeSet Group → BTreeSet Group → List Node → List Node → Type 0
-GainsAt ships me events site item name k seen seen' old new =
-    (sites : List SiteEvents) → slice_get sites site ≡ Some (record { me = me; events = events }) → slice_get (numbered events) item ≡ Some name → at_place (names_item name) (slice_get events k) ≡ true
-    → Gains (Stands sites) (λ groups q. IsGiven (record { me = me; events = events }) site groups q) (λ q. at_place (λ e. sought_by ships me events name e.body q) (slice_get events k) ≡ true) seen seen' old new
+abbrev pub GainsAt : Bool → ℕ → List Content → ℕ → ℕ → ℕ → BTreeSet Group → BTreeSet Group → List Node → List Node → Type 0
+GainsAt ships me events site item k seen seen' old new =
+    (sites : List SiteEvents) (i : List ℕ) → slice_get sites site ≡ Some (record { me = me; events = events }) → slice_get (numbered events) item ≡ Some i → at_place (names_item i) (slice_get events k) ≡ true
+    → Gains (Stands sites) (λ groups q. IsGiven (record { me = me; events = events }) site groups q) (λ q. at_place (λ e. sought_by ships me events i e.body q) (slice_get events k) ≡ true) seen seen' old new
+
+-- what is asked of an event at its place
+pub takes_here : (i : List ℕ) (o : Option Content) (e : Content) {b b' : Bool} → o ≡ Some e → b ≡ at_place (λ f. takes_in i f.body) o → b ≡ b' → takes_in i e.body ≡ b'
+takes_here i o e stands is told = sym (ap (at_place (λ f. takes_in i f.body)) stands) ∙ sym is ∙ told
+
+-- the places are those of the events that name the item, if there is one of the number
+abbrev pub ArePlacesOf : List Content → ℕ → List ℕ → Type 0
+ArePlacesOf events item places = (i : List ℕ) → slice_get (numbered events) item ≡ Some i → places ≡ places_where (names_item i) events
 
 module _ (ships : Bool) (s : SiteEvents) (site item : ℕ) (places : List ℕ) where
   -- the events at the first so many places
@@ -106,32 +113,30 @@ module _ (ships : Bool) (s : SiteEvents) (site item : ℕ) (places : List ℕ) w
   }
 
   -- one place more
-  pub one_place : (n k me : ℕ) (events : List Content) (name : List ℕ) (a b c : BTreeSet Group) (x y z : List Node) → n < length places → k ≡ get_or places n k → me ≡ s.me → events ≡ s.events → Some name ≡ slice_get (numbered events) item
-      → places ≡ places_where (names_item name) events → GainsSoFar n a b x y → GainsAt ships me events site item name k b c y z → GainsSoFar (n + 1) a c x z
-  one_place n k me events name a b c x y z below at is are named those so_far now sites i at_site so =
-      let same : name ≡ i = some_is name i (named ∙ ap (λ (es : List Content). slice_get (numbered es) item) are ∙ so) in
-      let (e, within, stands, passes) = place_passes (names_item name) events k (subst (λ ps. Contains ps k) those (n, below, sym at)) in
+  pub one_place : (n k me : ℕ) (events : List Content) (a b c : BTreeSet Group) (x y z : List Node) → n < length places → k ≡ get_or places n k → me ≡ s.me → events ≡ s.events → ArePlacesOf events item places
+      → GainsSoFar n a b x y → GainsAt ships me events site item k b c y z → GainsSoFar (n + 1) a c x z
+  one_place n k me events a b c x y z below at is are those so_far now sites i at_site so =
+      let here : slice_get (numbered events) item ≡ Some i = ap (λ (es : List Content). slice_get (numbered es) item) are ∙ so in
+      let (e, within, stands, passes) = place_passes (names_item i) events k (subst (λ ps. Contains ps k) (those i here) (n, below, sym at)) in
       let one = so_far sites i at_site so in
-      let two = now sites (at_site ∙ ap Some (sym (same_site me events s is are))) (sym named) (ap (at_place (names_item name)) (slice_get-get_or events k e within ∙ ap Some stands) ∙ passes) in
-      let HereOf : List ℕ → Pair → Type 0 = λ j q. at_place (λ e. sought_by ships me events j e.body q) (slice_get events k) ≡ true in
+      let two = now sites i (at_site ∙ ap Some (sym (same_site me events s is are))) here (ap (at_place (names_item i)) (slice_get-get_or events k e within ∙ ap Some stands) ∙ passes) in
       record {
         nodes = one.nodes ++ two.nodes;
         noted = more_nodes x y z one.nodes two.nodes one.noted two.noted;
         stand = λ m h. ⊎_elim (one.stand m) (two.stand m) (Contains-append_cases one.nodes two.nodes m h);
-        added = place_added ships s i site places n k me events a b c (Had (Stands sites) x) (Had (Stands sites) y) (Had (Stands sites) z) below at is are one.added
-            (subst (λ j. AddsUnseen (λ groups q. IsGiven (record { me = me; events = events }) site groups q) (HereOf j) b c (Had (Stands sites) y) (Had (Stands sites) z)) same two.added);
+        added = place_added ships s i site places n k me events a b c (Had (Stands sites) x) (Had (Stands sites) y) (Had (Stands sites) z) below at is are one.added two.added;
       }
 
   -- all places
-  pub all_places : (n : ℕ) (events : List Content) (name : List ℕ) (a b : BTreeSet Group) (x y : List Node) → length places ≤ n → events ≡ s.events → Some name ≡ slice_get (numbered events) item → places ≡ places_where (names_item name) events → GainsSoFar n a b x y
+  pub all_places : (n : ℕ) (events : List Content) (a b : BTreeSet Group) (x y : List Node) → length places ≤ n → events ≡ s.events → ArePlacesOf events item places → GainsSoFar n a b x y
       → (sites : List SiteEvents) (i : List ℕ) → slice_get sites site ≡ Some s → slice_get (numbered s.events) item ≡ Some i → Gains (Stands sites) (λ groups q. IsGiven s site groups q) (λ q. IsSought ships s i q) a b x y
-  all_places n events name a b x y past are named those so_far sites i at_site so =
-      let same : name ≡ i = some_is name i (named ∙ ap (λ (es : List Content). slice_get (numbered es) item) are ∙ so) in
+  all_places n events a b x y past are those so_far sites i at_site so =
+      let here : slice_get (numbered events) item ≡ Some i = ap (λ (es : List Content). slice_get (numbered es) item) are ∙ so in
       let one = so_far sites i at_site so in
       record {
         nodes = one.nodes;
         noted = one.noted;
         stand = one.stand;
         added = places_added ships s i site places n a b (Had (Stands sites) x) (Had (Stands sites) y) past
-            (those ∙ ap (λ (es : List Content). places_where (names_item name) es) are ∙ ap (λ j. places_where (names_item j) s.events) same) one.added;
+            (those i here ∙ ap (λ (es : List Content). places_where (names_item i) es) are) one.added;
       }

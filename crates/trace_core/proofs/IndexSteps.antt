@@ -7,7 +7,8 @@ use Rattle.std.specs.Cmp.Lexicographic.{slice_cmp}
 use Rattle.std.specs.Ordering.{nat_cmp}
 use Rattle.std.specs.String.{string_bytes}
 use Rattle.std.proofs.lemmas.Bool.{cases_Bool}
-use Rattle.std.proofs.lemmas.List.{take-append-drop, take-append-le, take-map, take_at, length-map}
+use Rattle.std.proofs.lemmas.List.{take-append-drop, take-append-le, take-map, take_at, drop_at, length-map, map-append}
+use Rattle.std.proofs.lemmas.List.Elements.{Contains-append_left, Contains-append_right}
 use Rattle.std.proofs.lemmas.List.Folds.{list_any-append}
 use Rattle.std.proofs.lemmas.Option.{slice_get_within}
 use Rattle.event_json.specs.Events.{Content}
@@ -17,7 +18,7 @@ use Rattle.trace_core.specs.declared.items.Named.{Named}
 use Rattle.trace_core.specs.declared.event_items.Members.{Members}
 use Rattle.trace_core.specs.declared.indexes.Index.{Index}
 use Rattle.trace_core.specs.Indexes.{HasPlaces, NotesItems, ForgetsItems, KeepsItems}
-use Rattle.trace_core.specs.Numbers.{with_names, numbered, names_of, item_places, outs_in, numbers_of, HasMembers}
+use Rattle.trace_core.specs.Numbers.{with_names, numbered, names_of, item_places, ins_in, outs_in, members_in, numbers_of, HasMembers}
 use Rattle.trace_core.specs.PairTests.{lists, same_item}
 use Rattle.trace_core.specs.Places.{kept, places_where, names_item, IsIndex}
 use Rattle.trace_core.specs.Spreads.{items_of}
@@ -42,45 +43,49 @@ module _ (events : List Content) (left new : List Named) (n : ℕ) (more : List 
       (λ away. no_places_of new i away ∙ sym (unnamed events i (ap (λ ns. lists ns i) (sym names_back) ∙ away)))
       (cases_Bool (lists (names_of new) i))
 
-outs_named : (b : Body) (i : List ℕ) → Contains (outs_in b) i → lists (items_of b) i ≡ true
-outs_named (Note items) i h = absurd (contains_none i h)
-outs_named (Ship items sites outside) i h = absurd (contains_none i h)
-outs_named (Make id ins outs) i h = list_any-append (λ j. same_item j i) ins outs ∙ ap (λ b. lists ins i || b) ((lists_decides outs i).1 h) ∙ or_yes (lists ins i)
-  where
-    or_yes : (b : Bool) → (b || true) ≡ true
-    or_yes true = refl
-    or_yes false = refl
+members_named : (b : Body) (i : List ℕ) → Contains (members_in b) i → lists (items_of b) i ≡ true
+members_named (Note items) i h = absurd (contains_none i h)
+members_named (Ship items sites outside) i h = absurd (contains_none i h)
+members_named (Make id ins outs) i h = (lists_decides (ins ++ outs) i).1 h
 
--- the outputs of an event are numbered
-pub outs_numbered : (events : List Content) (k : ℕ) (e : Content) → slice_get events k ≡ Some e → (i : List ℕ) → Contains (outs_in e.body) i → lists (numbered events) i ≡ true
-outs_numbered events k e stands i out =
-    let (below, at) = slice_there events k e stands in
-    numbered_named events i ∙ list_any_member (names_item i) events e (k, below, at) (outs_named e.body i out)
+-- the inputs and outputs of an event are numbered
+module _ (events : List Content) (k : ℕ) (e : Content) (stands : slice_get events k ≡ Some e) where
+  members_numbered : (i : List ℕ) → Contains (members_in e.body) i → lists (numbered events) i ≡ true
+  members_numbered i h =
+      let (below, at) = slice_there events k e stands in
+      numbered_named events i ∙ list_any_member (names_item i) events e (k, below, at) (members_named e.body i h)
+
+  pub ins_numbered : (i : List ℕ) → Contains (ins_in e.body) i → lists (numbered events) i ≡ true
+  ins_numbered i h = members_numbered i (Contains-append_left (ins_in e.body) (outs_in e.body) i h)
+
+  pub outs_numbered : (i : List ℕ) → Contains (outs_in e.body) i → lists (numbered events) i ≡ true
+  outs_numbered i h = members_numbered i (Contains-append_right (ins_in e.body) (outs_in e.body) i h)
 
 -- one event more changes nothing of an earlier one
-numbers_same : (events : List Content) (e f : Content) (k : ℕ) → slice_get events k ≡ Some f → numbers_of (numbered (events ++ e ∷ [])) (outs_in f.body) ≡ numbers_of (numbered events) (outs_in f.body)
+numbers_same : (events : List Content) (e f : Content) (k : ℕ) → slice_get events k ≡ Some f → numbers_of (numbered (events ++ e ∷ [])) (members_in f.body) ≡ numbers_of (numbered events) (members_in f.body)
 numbers_same events e f k stands =
     let (more, is) = with_more (items_of e.body) (numbered events) in
-    ap (λ ns. numbers_of ns (outs_in f.body)) (numbered_more events e ∙ is) ∙ numbers_stay (numbered events) more (outs_in f.body) (outs_numbered events k f stands)
+    ap (λ ns. numbers_of ns (members_in f.body)) (numbered_more events e ∙ is) ∙ numbers_stay (numbered events) more (members_in f.body) (members_numbered events k f stands)
 
 front_same : (events : List Content) (e f : Content) (k : ℕ) → slice_get events k ≡ Some f → length (numbered (take k (events ++ e ∷ []))) ≡ length (numbered (take k events))
 front_same events e f k stands = let below = slice_get_within events k f stands in ap (λ es. length (numbered es)) (take-append-le k events (e ∷ []) (omega (arith, below)))
 
 module _ (events : List Content) (e : Content) (members : List Members) (m : Members) where
   -- an event is noted
-  pub members_more : HasMembers events members → m.known ≡ length (numbered events) → m.outs ≡ numbers_of (numbered (events ++ e ∷ [])) (outs_in e.body) → HasMembers (events ++ e ∷ []) (members ++ m ∷ [])
-  members_more has known outs = record {
+  pub members_more : HasMembers events members → m.known ≡ length (numbered events) → m.ins ≡ length (ins_in e.body) → m.numbers ≡ numbers_of (numbered (events ++ e ∷ [])) (members_in e.body) → HasMembers (events ++ e ∷ []) (members ++ m ∷ [])
+  members_more has known ins numbers = record {
     count = omega (arith, has.count, length-append events (e ∷ []), length-append members (m ∷ []));
     each = λ k f x at_f at_x. ⊎_elim
         (λ before. ⊎_elim
-        (λ own. let is = has.each k f x before own in record { known = is.known ∙ sym (front_same events e f k before); outs = is.outs ∙ sym (numbers_same events e f k before) })
+        (λ own. let is = has.each k f x before own in record { known = is.known ∙ sym (front_same events e f k before); ins = is.ins; numbers = is.numbers ∙ sym (numbers_same events e f k before) })
         (λ (last, same). absurd (omega (arith, last, slice_get_within events k f before, has.count)))
         (slice_pushed members m k x at_x))
         (λ (last, same). ⊎_elim
         (λ own. absurd (omega (arith, last, slice_get_within members k x own, has.count)))
         (λ (end, it). record {
           known = ap (λ (y : Members). y.known) (sym it) ∙ known ∙ ap (λ es. length (numbered es)) (sym (ap (λ n. take n (events ++ e ∷ [])) last ∙ take_at events (e ∷ []) (length events) refl));
-          outs = ap (λ (y : Members). y.outs) (sym it) ∙ outs ∙ ap (λ (g : Content). numbers_of (numbered (events ++ e ∷ [])) (outs_in g.body)) same;
+          ins = ap (λ (y : Members). y.ins) (sym it) ∙ ins ∙ ap (λ (g : Content). length (ins_in g.body)) same;
+          numbers = ap (λ (y : Members). y.numbers) (sym it) ∙ numbers ∙ ap (λ (g : Content). numbers_of (numbered (events ++ e ∷ [])) (members_in g.body)) same;
         })
         (slice_pushed members m k x at_x))
         (slice_pushed events e k f at_f);
@@ -94,7 +99,7 @@ module _ (events : List Content) (e : Content) (members : List Members) (m : Mem
         count = count;
         each = λ k f x at_f at_x.
             let is = has.each k f x (slice_stays events (e ∷ []) k f at_f) (slice_stays members (m ∷ []) k x at_x) in
-            record { known = is.known ∙ front_same events e f k at_f; outs = is.outs ∙ numbers_same events e f k at_f };
+            record { known = is.known ∙ front_same events e f k at_f; ins = is.ins; numbers = is.numbers ∙ numbers_same events e f k at_f };
       }
 
   -- and it had noted how many items there were

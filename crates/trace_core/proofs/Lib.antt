@@ -13,6 +13,7 @@ pub mod Growing
 pub mod HasTargets
 pub mod IndexSteps
 pub mod ItemSteps
+pub mod KeptMembers
 pub mod KeyOrder
 pub mod LookSteps
 pub mod MarkSteps

@@ -66,11 +66,21 @@ changed_at f (suc n) (x ∷ xs) = x ∷ changed_at f n xs
 abbrev pub noted : ℕ → List ℕ → List Named → List Named
 noted place i named = cond (lists (names_of named) i) (changed (with_last place) i named) (named ++ record { name = i; places = place ∷ [] } ∷ [])
 
+-- the inputs of a transformation
+abbrev pub ins_in : Body → List (List ℕ)
+ins_in (Note items) = []
+ins_in (Ship items sites outside) = []
+ins_in (Make id ins outs) = ins
+
 -- the outputs of a transformation
 abbrev pub outs_in : Body → List (List ℕ)
 outs_in (Note items) = []
 outs_in (Ship items sites outside) = []
 outs_in (Make id ins outs) = outs
+
+-- its inputs and then its outputs
+abbrev pub members_in : Body → List (List ℕ)
+members_in b = ins_in b ++ outs_in b
 
 -- the numbers of known items
 abbrev pub numbers_of : List (List ℕ) → List (List ℕ) → List ℕ
@@ -84,7 +94,8 @@ outs_at events (Some e) = numbers_of (numbered events) (outs_in e.body)
 -- what is kept of the event at a place
 pub record IsMembers (events : List Content) (k : ℕ) (e : Content) (m : Members) : Type 0 where
   pub known : m.known ≡ length (numbered (take k events))
-  pub outs : m.outs ≡ numbers_of (numbered events) (outs_in e.body)
+  pub ins : m.ins ≡ length (ins_in e.body)
+  pub numbers : m.numbers ≡ numbers_of (numbered events) (members_in e.body)
 
 pub record HasMembers (events : List Content) (members : List Members) : Type 0 where
   pub count : length members ≡ length events

@@ -4,7 +4,7 @@ ghost use Rattle.event_json.specs.Contents.{same_content};
 ghost use Rattle.trace_core.specs.Adding.{standing_among};
 ghost use Rattle.trace_core.specs.Numbers.{IsNumbered, numbered, number_in, outs_at};
 ghost use Rattle.trace_core.specs.Pairs.{make_id};
-ghost use Rattle.trace_core.specs.PairTests.{same_id};
+ghost use Rattle.trace_core.specs.PairTests.{same_id, takes_in};
 ghost use Rattle.trace_core.specs.Places.{at_place, names_item, places_where};
 
 use crate::adding::Standing;
@@ -141,9 +141,19 @@ impl Book {
     pub fn outs_at(&self, place: usize) -> &[usize]
         ensures { result.now ≡ outs_at self.now (slice_get self.now place) }
     {
-        match self.index.members.get(place) {
-            Some(members) => members.outs.as_slice(),
+        match self.index.members_at(place) {
+            Some(members) => members.outs(),
             None => &[],
+        }
+    }
+
+    /// Whether the event at a place is a transformation with the item of a number among its inputs.
+    pub fn takes_at(&self, place: usize, number: usize) -> bool
+        ensures { (i : List ℕ) → slice_get (numbered self.now) number ≡ Some i → result ≡ at_place (λ e. takes_in i e.body) (slice_get self.now place) }
+    {
+        match self.index.members_at(place) {
+            Some(members) => members.ins().contains(&number),
+            None => false,
         }
     }
 

@@ -1,8 +1,8 @@
-ghost use Rattle.std.specs.Prelude.{◌≡◌, ◌++◌, ◌∷◌, [], List, OnOk, OnErr, length};
+ghost use Rattle.std.specs.Prelude.{◌≡◌, ◌++◌, ◌∷◌, [], List, OnOk, OnErr, length, slice_get, option_map};
 ghost use Rattle.event_json.specs.Events.{Content};
 ghost use Rattle.trace_core.specs.Indexes.{HasIds, HasItems, HasPlaces};
 
-use crate::event_items::{Members, forget_items_of, note_items_of};
+use crate::event_items::{Members, forget_items_of, input_count, note_items_of};
 use crate::gathering::make_id;
 use crate::ids::{forget_id, note_id};
 use crate::items::Items;
@@ -12,8 +12,8 @@ use std::alloc::{AllocError, Global};
 use std::collections::BTreeMap;
 
 /// At which places of a list of events items, eventIDs and the ids of transformations stand, and which
-/// outputs each event has. What is looked up stands in ordered maps, so that no choice of texts makes a
-/// look-up slow.
+/// inputs and outputs each event has. What is looked up stands in ordered maps, so that no choice of texts
+/// makes a look-up slow.
 #[derive(Debug, Drop)]
 pub struct Index {
     /// By item: its number, and the events that name it.
@@ -47,10 +47,15 @@ impl Index {
     {
         let known = self.items.len();
         self.members.reserve(1)?;
-        let outs = note_items_of(alloc, &mut self.items, event.body(), place)?;
+        let numbers = note_items_of(alloc, &mut self.items, event.body(), place)?;
         match note_ids(alloc, &mut self.ids, &mut self.parts, event, place) {
             Ok(()) => {
-                self.members.push_reserved(Members { known, outs });
+                let ins = input_count(event.body());
+                self.members.push_reserved(Members {
+                    known,
+                    ins,
+                    numbers,
+                });
                 Ok(())
             }
             Err(_) => {
@@ -58,6 +63,13 @@ impl Index {
                 Err(AllocError)
             }
         }
+    }
+
+    /// What is kept of the members of the event at a place.
+    pub fn members_at(&self, place: usize) -> Option<&Members>
+        ensures { option_map (λ m. m.now) result ≡ slice_get self.now.members.items place }
+    {
+        self.members.get(place)
     }
 
     /// Takes away the last event, which stood at a place. Takes no memory.

@@ -12,11 +12,11 @@ ghost use Rattle.trace_core.specs.Sites.{SiteEvents};
 
 use crate::books::Book;
 use crate::captured::Captured;
-use crate::gathering::{make_id, takes_in};
+use crate::event_items::input_count;
+use crate::gathering::make_id;
 use crate::groups::first_part;
 use crate::nodes::Nodes;
 use crate::seen::Seen;
-use epc_core::Epc;
 use event_json::{Body, SiteNo};
 use std::alloc::AllocError;
 
@@ -37,21 +37,18 @@ pub fn visit_item(
     ensures looks { OnOk result (LooksAtUnseen number site.now.events seen.old seen.new looks.old looks.new) }
 {
     let book = site.book();
-    if let Some(name) = book.item(item) {
-        for place in book.places_at(item) {
-            visit_event(
-                site.me(),
-                book,
-                number,
-                ships,
-                item,
-                name,
-                *place,
-                seen,
-                nodes,
-                looks,
-            )?;
-        }
+    for place in book.places_at(item) {
+        visit_event(
+            site.me(),
+            book,
+            number,
+            ships,
+            item,
+            *place,
+            seen,
+            nodes,
+            looks,
+        )?;
     }
     Ok(())
 }
@@ -63,14 +60,13 @@ fn visit_event(
     number: usize,
     ships: bool,
     item: usize,
-    name: &Epc,
     place: usize,
     seen: &mut Seen,
     nodes: &mut Nodes,
     looks: &mut u64,
 ) -> Result<(), AllocError>
-    ensures gains { OnOk result ((sites : List SiteEvents) → slice_get sites number ≡ Some (record { me = me; events = book.now }) → slice_get (numbered book.now) item ≡ Some name.now → at_place (names_item name.now) (slice_get book.now place) ≡ true
-        → Gains (Stands sites) (λ groups q. IsGiven (record { me = me; events = book.now }) number groups q) (λ q. at_place (λ e. sought_by ships me book.now name.now e.body q) (slice_get book.now place) ≡ true) seen.old seen.new nodes.old nodes.new) }
+    ensures gains { OnOk result ((sites : List SiteEvents) (i : List ℕ) → slice_get sites number ≡ Some (record { me = me; events = book.now }) → slice_get (numbered book.now) item ≡ Some i → at_place (names_item i) (slice_get book.now place) ≡ true
+        → Gains (Stands sites) (λ groups q. IsGiven (record { me = me; events = book.now }) number groups q) (λ q. at_place (λ e. sought_by ships me book.now i e.body q) (slice_get book.now place) ≡ true) seen.old seen.new nodes.old nodes.new) }
     ensures only { OnOk result (SeesOnly number seen.old seen.new) }
     ensures looks { OnOk result (LooksAtUnseen number book.now seen.old seen.new looks.old looks.new) }
 {
@@ -78,7 +74,7 @@ fn visit_event(
         note_sent(me, book, number, ships, item, event.body(), nodes)?;
         let first = first_part(book, place, event.body());
         let may_add = may_add(seen, number, first, event.body());
-        if may_add && takes_in(name, event.body()) && seen.see(number, first, book.len())? {
+        if may_add && book.takes_at(place, item) && seen.see(number, first, book.len())? {
             note_group(me, book, number, place, event.body(), nodes, looks)?;
         }
     }
@@ -95,10 +91,7 @@ fn may_add(seen: &Seen, site: usize, first: usize, body: &Body) -> bool
 
 /// Whether a transformation has no more inputs than are looked through at once.
 fn has_few_inputs(body: &Body) -> bool {
-    match body {
-        Body::Make { ins, .. } => ins.len() <= 4,
-        _ => true,
-    }
+    input_count(body) <= 4
 }
 
 /// Notes an item at each other site that it was shipped to, where shipments are asked for. The event names

@@ -2,8 +2,8 @@ mod makers;
 
 use makers::Told::*;
 use makers::{
-    adds, answers, captured, chain, comes_back, has_parts, leads, parts, reaches, reaches_so_many,
-    relates, spreads,
+    adds, answers, captured, chain, comes_back, has_parts, leads, parts, reaches, reaches_long,
+    reaches_so_many, relates, spreads,
 };
 use std::test::Fail;
 
@@ -59,6 +59,25 @@ fn follows_a_long_chain_inside_a_site(rt: HostRuntime) -> Result<(), Fail> {
     let alloc = rt.alloc();
     let site = chain(alloc, 1000)?;
     assert!(rt; reaches_so_many(alloc, &site, "0", 1001)?);
+    Ok(())
+}
+
+// Items, eventIDs and transformationIDs differ in their last byte alone; 3 and 4 are parts of one transformation.
+#[test]
+fn tells_long_texts_apart(rt: HostRuntime) -> Result<(), Fail> {
+    let alloc = rt.alloc();
+    let chain = [
+        Long("1", "p", "a", "b"),
+        Long("2", "q", "b", "c"),
+        Long("3", "r", "c", "d"),
+        Long("4", "r", "x", "e"),
+        Long("5", "s", "y", "f"),
+    ];
+    let same = Long("6", "p", "a", "b");
+    let other = Long("1", "p", "a", "c");
+    let wanted = "fresh 5 known 0; fresh 0 known 5; fresh 1 known 0; the eventID of event 1 is taken; 6 events";
+    assert!(rt; answers(alloc, &[&chain, &chain, &[same], &[other]], wanted)?);
+    assert!(rt; reaches_long(alloc, &chain, "a", &["a", "b", "c", "d", "e"])?);
     Ok(())
 }
 

@@ -17,6 +17,9 @@ pub enum Told<'a> {
     Part(&'a str, &'a str),
     /// A note of an item at a second, with the eventID e.
     Seen(&'a str, u64),
+    /// A transformation with an eventID, a transformationID, an input and an output: each is a text as long as
+    /// it may be, told by its last byte.
+    Long(&'a str, &'a str, &'a str, &'a str),
 }
 
 /// The answers to documents of site A, one after another, and how many events it has then.
@@ -152,6 +155,32 @@ pub fn captured(alloc: Global, number: u64, documents: &[&[Told<'_>]]) -> Result
 const BEGINNING: &str =
     "urn:example:one-long-beginning-that-all-items-of-this-chain-share:one-long-beginning-that-all-items-of-this-chain-share:";
 
+/// What long texts begin with: all but the last of 512 bytes.
+const LONG: &str =
+    "urn:example:one-long-beginning-that-these-items-and-ids-share:one-long-beginning-that-these-items-and-ids-share:one-long-beginning-that-these-items-and-ids-share:one-long-beginning-that-these-items-and-ids-share:one-long-beginning-that-these-items-and-ids-share:one-long-beginning-that-these-items-and-ids-share:one-long-beginning-that-these-items-and-ids-share:one-long-beginning-that-these-items-and-ids-share:one-long-beginning-that-these-items-and-ids-share:and-so-it-is-the-last-byte-that-tells-them-apart:";
+
+/// Whether the long item of a last byte, at site A, reaches just the long items of these last bytes.
+pub fn reaches_long(
+    alloc: Global,
+    document: &[Told<'_>],
+    item: &str,
+    wanted: &[&str],
+) -> Result<bool, Fail> {
+    let item = format!(in alloc; "{LONG}{item}")?;
+    let wanted = long_pairs(alloc, wanted)?;
+    reaches(alloc, &[&[document]], 0, &item, &wanted)
+}
+
+/// The pairs of long items at site A, as they are shown.
+fn long_pairs(alloc: Global, items: &[&str]) -> Result<String, AllocError> {
+    let mut pairs = String::new(alloc);
+    for item in items {
+        let pair = format!(in alloc; "0 uri {LONG}{item}; ")?;
+        pairs.push_str(&pair)?;
+    }
+    Ok(pairs)
+}
+
 /// A site with transformations of item 0 into item 1, of item 1 into item 2 and so on.
 pub fn chain(alloc: Global, steps: u64) -> Result<Captured, Fail> {
     let mut site = Captured::new(alloc, site_of(0)?);
@@ -247,6 +276,9 @@ fn json(alloc: Global, event: &Told<'_>) -> Result<String, AllocError> {
         ),
         Told::Part(inputs, outputs) => format!(in alloc;
             r#"{{"type":"TransformationEvent","eventTime":"2024-05-01T08:00:00Z","eventTimeZoneOffset":"+00:00","transformationID":"t","inputEPCList":[{inputs}],"outputEPCList":[{outputs}]}}"#
+        ),
+        Told::Long(event, id, input, output) => format!(in alloc;
+            r#"{{"type":"TransformationEvent","eventTime":"2024-05-01T08:00:00Z","eventTimeZoneOffset":"+00:00","eventID":"{LONG}{event}","transformationID":"{LONG}{id}","inputEPCList":["{LONG}{input}"],"outputEPCList":["{LONG}{output}"]}}"#
         ),
         Told::Seen(item, second) => format!(in alloc;
             r#"{{"type":"ObjectEvent","eventTime":"2024-05-01T08:00:0{second}Z","eventTimeZoneOffset":"+00:00","eventID":"e","action":"OBSERVE","epcList":["{item}"]}}"#

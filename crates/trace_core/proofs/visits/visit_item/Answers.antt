@@ -1,4 +1,4 @@
-use Rattle.std.proofs.Common.{List, sym, subst, arith}
+use Rattle.std.proofs.Common.{List, subst, arith}
 use Rattle.std.proofs.lemmas.List.{get_or_default}
 use Rattle.event_json.specs.Events.{Content}
 use Rattle.trace_core.specs.Groups.{LooksAtUnseen}
@@ -16,16 +16,16 @@ loop-place-init c = record {
 
 pub loop-place-preserved : goal.loop-place-preserved
 loop-place-preserved c = record {
-  gains = one_place c.args.ships c.args.site.now c.args.number c.args.item c.places_at-place-items.result.now c.loop-place.place-index _ c.me.result c.book-book.result.now c.in-Some.name.now
+  gains = one_place c.args.ships c.args.site.now c.args.number c.args.item c.places_at-place-items.result.now c.loop-place.place-index _ c.me.result c.book-book.result.now
       c.args.seen.now c.loop-place.seen c.visit_event.new.seen c.args.nodes.now c.loop-place.nodes c.visit_event.new.nodes (omega (arith, c.loop-place-test.true))
       (get_or_default c.places_at-place-items.result.now c.loop-place.place-index 0 _ (omega (arith, c.loop-place-test.true)))
-      c.me.ensures c.book-book.ensures c.in-Some.ensures (c.places_at-place-items.ensures c.in-Some.name.now (sym c.in-Some.ensures)) c.loop-place.invariant.gains c.in_ok-visit_event.ensures.gains;
+      c.me.ensures c.book-book.ensures c.places_at-place-items.ensures c.loop-place.invariant.gains c.in_ok-visit_event.ensures.gains;
   only = sees_both c.args.number c.args.seen.now c.loop-place.seen c.visit_event.new.seen c.loop-place.invariant.only c.in_ok-visit_event.ensures.only;
   looks = looks_both c.args.number c.args.site.now.events c.args.seen.now c.loop-place.seen c.visit_event.new.seen _ _ _ c.loop-place.invariant.looks
       (subst (λ (es : List Content). LooksAtUnseen c.args.number es c.loop-place.seen c.visit_event.new.seen c.loop-place.looks c.visit_event.new.looks) c.book-book.ensures c.in_ok-visit_event.ensures.looks);
 }
 
-pub returns-after-loop-place-clause-gains : goal.returns-after-loop-place-clause-gains
-returns-after-loop-place-clause-gains c = all_places c.args.ships c.args.site.now c.args.number c.args.item c.places_at-place-items.result.now c.loop-place.place-index c.book-book.result.now c.in-Some.name.now
-    c.args.seen.now c.loop-place.seen c.args.nodes.now c.loop-place.nodes (omega (arith, c.loop-place-test.false)) c.book-book.ensures c.in-Some.ensures
-    (c.places_at-place-items.ensures c.in-Some.name.now (sym c.in-Some.ensures)) c.loop-place.invariant.gains
+pub returns-clause-gains : goal.returns-clause-gains
+returns-clause-gains c = all_places c.args.ships c.args.site.now c.args.number c.args.item c.places_at-place-items.result.now c.loop-place.place-index c.book-book.result.now
+    c.args.seen.now c.loop-place.seen c.args.nodes.now c.loop-place.nodes (omega (arith, c.loop-place-test.false)) c.book-book.ensures
+    c.places_at-place-items.ensures c.loop-place.invariant.gains
