@@ -90,7 +90,7 @@ module _ (sites : List Site) (names : All IsSiteInUtf8 sites) where
       all-append IsPartInUtf8 (part_rows event 0 items ++ part_rows event 1 (map (name_of sites) to)) (part_rows event 2 outside)
       (all-append IsPartInUtf8 (part_rows event 0 items) (part_rows event 1 (map (name_of sites) to)) (list event 0 items utf8.0) of_sites)
       (list event 2 outside utf8.1)
-  body event (Make id ins outs) utf8 = all-append IsPartInUtf8 (part_rows event 3 ins) (part_rows event 4 outs) (list event 3 ins utf8.1.0) (list event 4 outs utf8.1.1)
+  body event (Make id ins outs) utf8 = all-append IsPartInUtf8 (part_rows event 3 ins) (part_rows event 4 outs) (list event 3 ins utf8.1) (list event 4 outs utf8.2)
 
   parts : (n : ℕ) (es : List Content) → AllByRecursion IsEventInUtf8 es → AllByRecursion IsPartInUtf8 (flat_map (parts_of sites) (enumerate_from n es))
   parts n [] all = tt

@@ -77,12 +77,17 @@ IsOpenFault old new name fault =
 abbrev pub own_name : Record → List ℕ
 own_name r = name_of r.sites r.engagement.me
 
--- the tables list the rows of this record, whose texts are UTF-8, and which a site of this name may keep
-pub record ListsSite (r : Record) (name : List ℕ) (s : State) : Type 0 where
-  pub rows : ListsRows r s
+-- a record that an opening finds where the tables list its rows: a site may keep it, and its texts are those of items,
+-- sites and plain destinations, in UTF-8
+pub record MayBeFound (r : Record) : Type 0 where
   pub kept : IsKept r
   pub items : HoldsItems r
   pub texts : TextsAreUtf8 (contents_of (rows_of r))
+
+-- the tables list the rows of such a record, of a site of this name
+pub record ListsSite (r : Record) (name : List ℕ) (s : State) : Type 0 where
+  pub rows : ListsRows r s
+  pub site : MayBeFound r
   pub named : own_name r ≡ name
 
 -- memory ran out, the device failed or was shut, or the limit on the steps of a query was met

@@ -11,7 +11,7 @@ ghost use Rattle.site_tables.specs.Stored.{contents_of};
 
 use crate::faults::{is_of_device, is_of_memory, one_more};
 use crate::kept::Kept;
-use crate::laws::rows_of_a_site_are_utf8;
+use crate::laws::records_of_sites_may_be_found;
 use crate::pairs::Pair;
 use keeper_core::KeepFault;
 use site_core::SiteState;
@@ -115,9 +115,9 @@ impl Kept {
     fn show_texts(&self)
         ensures { (r : Record) → MayIn self.now r → TextsAreUtf8 (contents_of (rows_of r)) }
     {
-        rows_of_a_site_are_utf8(self.pair.state());
+        records_of_sites_may_be_found(self.pair.state());
         if let Some(next) = &self.next {
-            rows_of_a_site_are_utf8(next);
+            records_of_sites_may_be_found(next);
         }
     }
 

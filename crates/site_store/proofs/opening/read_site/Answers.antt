@@ -13,7 +13,7 @@ returns-in-Err-clause-refused g c clean =
 pub returns-in-Err-clause-finds : goal.returns-in-Err-clause-finds
 returns-in-Err-clause-finds g c clean r it =
     subst (IsOfMachine (state g.S.Store c.args.conn.now)) (sym c.unread.ensures)
-    (of_machine r c.in-Err.fault (state g.S.Store c.args.conn.now) (state g.S.Store c.read_rows.new.conn) it.texts it.rows (c.in-Err.ensures.cause clean))
+    (of_machine r c.in-Err.fault (state g.S.Store c.args.conn.now) (state g.S.Store c.read_rows.new.conn) it.site.texts it.rows (c.in-Err.ensures.cause clean))
 
 pub returns-in-Ok-clause-refused : goal.returns-in-Ok-clause-refused
 returns-in-Ok-clause-refused g c clean =
@@ -22,4 +22,4 @@ returns-in-Ok-clause-refused g c clean =
 pub returns-in-Ok-clause-finds : goal.returns-in-Ok-clause-finds
 returns-in-Ok-clause-finds g c clean r it =
     found_site r (state g.S.Store c.args.conn.now) c.record_of.result
-    (c.record_of.ensures.same r it.kept it.items it.named (rows_found r c.in-Ok.rows (state g.S.Store c.args.conn.now) it.texts it.rows (c.in-Ok.ensures.rows clean)))
+    (c.record_of.ensures.same r it.site.kept it.site.items it.named (rows_found r c.in-Ok.rows (state g.S.Store c.args.conn.now) it.site.texts it.rows (c.in-Ok.ensures.rows clean)))
