@@ -54,6 +54,6 @@ returns-in_err-recalls-clause-cause g c clean =
     let left = c.in_ok-messages.ensures.same latest in
     let messages : AreReadable (take 8 tables_in_order) third.now.trees = still second third new left c.read_messages.ensures.crash (AreReadable (take 8 tables_in_order))
     (and_then_read second.now.trees (take 5 tables_in_order) (Quarantine ∷ Outbox ∷ Seen ∷ []) events
-      ((c.in_ok-messages.messages.quarantine, c.in_ok-messages.ensures.quarantine latest), (c.in_ok-messages.messages.outbox, c.in_ok-messages.ensures.outbox latest), (c.in_ok-messages.messages.seen, c.in_ok-messages.ensures.seen latest), tt)) in
+    ((c.in_ok-messages.messages.quarantine, c.in_ok-messages.ensures.quarantine latest), (c.in_ok-messages.messages.outbox, c.in_ok-messages.ensures.outbox latest), (c.in_ok-messages.messages.seen, c.in_ok-messages.ensures.seen latest), tt)) in
     let told : IsUnreadable old new c.in_err-recalls.field-0.0 = met_later old first new same c.read_sites.ensures.crash c.in_err-recalls.field-0.0 (met_later first second new kept c.read_events.ensures.crash c.in_err-recalls.field-0.0 (met_later second third new left c.read_messages.ensures.crash c.in_err-recalls.field-0.0 (c.in_err-recalls.ensures.cause clean messages))) in
     search rules
