@@ -78,13 +78,13 @@ module _ {K : Type 0} (shown : K → Option Record) where
   named_fits may olds ks p (SiteLost site) n fit = fit
   named_fits may olds ks p (GaveUp site) n fit = fit
 
-module _ {K G : Type 0} (shown : K → Option Record) (may : K → Record → Type 0) (wire : Line) (turns : ℕ) where
+module _ {K G : Type 0} (shown : K → Option Record) (may : K → Record → Type 0) (wire : Line) (most : ℕ) where
   -- Where no site ended its run.
 
-  opened : (old run : SiteRun K G) (k : K) → Ran shown may wire turns old run → HasKeeper run k → run.fault ≡ None → (r : Record) × (shown k ≡ Some r)
+  opened : (old run : SiteRun K G) (k : K) → Ran shown may wire most old run → HasKeeper run k → run.fault ≡ None → (r : Record) × (shown k ≡ Some r)
   opened old run k ran is fine = shown_record (shown k) (subst (λ (o : Option K). IsSome (shown_in shown o)) is (ran.is_open fine))
 
-  kept_one : (old run : SiteRun K G) (k : K) (l : SiteList) → Ran shown may wire turns old run → HasKeeper run k → LeavesList run l → run.fault ≡ None → IsKept shown k l
+  kept_one : (old run : SiteRun K G) (k : K) (l : SiteList) → Ran shown may wire most old run → HasKeeper run k → LeavesList run l → run.fault ≡ None → IsKept shown k l
   kept_one old run k l ran is left fine =
       let o = opened old run k ran is fine in
       let h = subst (λ (x : Option Record). Holding x (may_in may run.turn.site.keeper) run.turn.site.start.value run.turn.site.entries.items ran.run.site.runs.log) (ap (shown_in shown) is ∙ o.1) ran.run.site.runs.holding in
@@ -98,7 +98,7 @@ module _ {K G : Type 0} (shown : K → Option Record) (may : K → Record → Ty
         };
       }
 
-  pub kept_all : (olds runs : List (SiteRun K G)) (ks : List K) (ls : List SiteList) → AllZip (Ran shown may wire turns) olds runs → AllZip HasKeeper runs ks → AllZip LeavesList runs ls → first_cause runs ≡ None → AllZip (IsKept shown) ks ls
+  pub kept_all : (olds runs : List (SiteRun K G)) (ks : List K) (ls : List SiteList) → AllZip (Ran shown may wire most) olds runs → AllZip HasKeeper runs ks → AllZip LeavesList runs ls → first_cause runs ≡ None → AllZip (IsKept shown) ks ls
   kept_all [] [] [] [] a b c none = tt
   kept_all (o ∷ os) (r ∷ rs) (k ∷ ks) (l ∷ ls) a b c none =
       let n = neither (cause_of r.turn.site.me r.fault) (first_cause rs) none in
@@ -112,7 +112,7 @@ module _ {K G : Type 0} (shown : K → Option Record) (may : K → Record → Ty
 
   -- Where one did.
 
-  first_hinders : (a : ℕ) (olds runs : List (SiteRun K G)) (ks : List K) (cause : GatherCause) → AllZip (Ran shown may wire turns) olds runs → AllZip HasKeeper runs ks → map (λ (r : SiteRun K G). r.turn.site.me) runs ≡ range_with_len a (length runs) → first_cause runs ≡ Some cause
+  first_hinders : (a : ℕ) (olds runs : List (SiteRun K G)) (ks : List K) (cause : GatherCause) → AllZip (Ran shown may wire most) olds runs → AllZip HasKeeper runs ks → map (λ (r : SiteRun K G). r.turn.site.me) runs ≡ range_with_len a (length runs) → first_cause runs ≡ Some cause
       → (p : ℕ) × Names shown ks a p cause
   unfolding Names
   first_hinders a [] [] [] cause x y order is = let n : None ≡ Some cause = is in cc
@@ -135,29 +135,29 @@ module _ {K G : Type 0} (shown : K → Option Record) (may : K → Record → Ty
   first_hinders a [] [] (k ∷ ks) cause x y order is = absurd y
   first_hinders a (o ∷ os) (r ∷ rs) [] cause x y order is = absurd y
 
-  pub hinders_all : (firsts : List K) (olds runs : List (SiteRun K G)) (ks : List K) (cause : Option GatherCause) → AllZip (Ran shown may wire turns) olds runs → AllZip HasKeeper runs ks → map (λ (r : SiteRun K G). r.turn.site.me) runs ≡ range_with_len 0 (length runs)
+  pub hinders_all : (firsts : List K) (olds runs : List (SiteRun K G)) (ks : List K) (cause : Option GatherCause) → AllZip (Ran shown may wire most) olds runs → AllZip HasKeeper runs ks → map (λ (r : SiteRun K G). r.turn.site.me) runs ≡ range_with_len 0 (length runs)
       → cause ≡ first_cause runs → KeepersFit shown may ks → IfSome cause (λ c. Hinders shown ks c × FitAfter shown may firsts c ks)
   hinders_all firsts olds runs ks None x y order is fit = tt
   hinders_all firsts olds runs ks (Some cause) x y order is fit = let n = first_hinders 0 olds runs ks cause x y order (sym is) in (named_hinders shown ks n.0 cause n.1, named_fits shown may firsts ks n.0 cause n.1 fit)
 
-module _ {K G : Type 0} (shown : K → Option Record) (may : K → Record → Type 0) (wire : Line) (turns : ℕ) (olds runs : List (SiteRun K G)) (ls : List SiteList) (ran : AllZip (Ran shown may wire turns) olds runs) (left : AllZip LeavesList runs ls) where
+module _ {K G : Type 0} (shown : K → Option Record) (may : K → Record → Type 0) (wire : Line) (most : ℕ) (olds runs : List (SiteRun K G)) (ls : List SiteList) (ran : AllZip (Ran shown may wire most) olds runs) (left : AllZip LeavesList runs ls) where
   -- each list is of the site that began so, has its end of the desk, and tells its turns
 
   pub began_all : (ks : List K) → AllZip (BeganIn shown) ks olds → AllZip (Began shown) ks ls
   began_all ks start =
       zip_through (BeganIn {G = G} shown) LeavesList (Began shown) ks runs ls (λ k r l b z. b ∙ ap Some (sym z.start))
-      (zip_through (BeganIn {G = G} shown) (Ran shown may wire turns) (BeganIn shown) ks olds runs (λ k o r b z. b ∙ ap Some (sym z.same.start)) start ran) left
+      (zip_through (BeganIn {G = G} shown) (Ran shown may wire most) (BeganIn shown) ks olds runs (λ k o r b z. b ∙ ap Some (sym z.same.start)) start ran) left
 
   pub ends_all : (ds : List DeskOut) → AllZip (TookEnd {K = K} {G = G}) ds olds → AllZip HasEnd ds ls
   ends_all ds took =
       zip_through (TookEnd {K = K} {G = G}) LeavesList HasEnd ds runs ls (λ d r l t z. record { desk = ap (λ (o : DeskOut). receives_on o.from) z.out ∙ t.desk; limit = ap (λ (o : DeskOut). o.limit) z.out ∙ t.limit })
-      (zip_through (TookEnd {K = K} {G = G}) (Ran shown may wire turns) TookEnd ds olds runs (λ d o r t z. record { desk = z.same.desk ∙ t.desk; limit = z.same.limit ∙ t.limit }) took ran) left
+      (zip_through (TookEnd {K = K} {G = G}) (Ran shown may wire most) TookEnd ds olds runs (λ d o r t z. record { desk = z.same.desk ∙ t.desk; limit = z.same.limit ∙ t.limit }) took ran) left
 
-  pub asked_all : All (IsReady shown may wire) olds → All (λ (l : SiteList). l.turns ≤ turns) ls
+  pub asked_all : All (IsReady shown may wire) olds → All (λ (l : SiteList). l.turns ≤ most) ls
   asked_all ready =
-      let few : SiteRun K G → Type 0 = λ r. r.turn.turns ≤ turns in
-      all_carried LeavesList few (λ (l : SiteList). l.turns ≤ turns) runs ls (λ r l h z. subst (λ (n : ℕ). n ≤ turns) (sym z.turns) h)
-      (all_carried (Ran shown may wire turns) (IsReady shown may wire) few olds runs (λ o r h z. let none = h.unasked in let more = z.asked in omega (arith, none, more)) ready ran) left
+      let few : SiteRun K G → Type 0 = λ r. r.turn.turns ≤ most in
+      all_carried LeavesList few (λ (l : SiteList). l.turns ≤ most) runs ls (λ r l h z. subst (λ (n : ℕ). n ≤ most) (sym z.turns) h)
+      (all_carried (Ran shown may wire most) (IsReady shown may wire) few olds runs (λ o r h z. let none = h.unasked in let more = z.asked in omega (arith, none, more)) ready ran) left
 
 -- before the first turn, where all are open
 only_shown : {K : Type 0} (shown : K → Option Record) (may : K → Record → Type 0) (ks : List K) (rs qs : List Record) → AllZip (λ k r. shown k ≡ Some r) ks rs → AllZip (λ k r. Opens (shown k) (may k) r) ks qs → qs ≡ rs

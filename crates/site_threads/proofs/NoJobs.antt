@@ -19,24 +19,24 @@ use Rattle.site_threads.proofs.Zips.{all_carried, all_right}
 
 neither_has : {A : Type 0} (xs ys : List A) → xs ++ ys ≡ [] → (xs ≡ []) × (ys ≡ [])
 neither_has [] ys none = (refl, none)
-neither_has (x ∷ xs) ys none = let no : x ∷ (xs ++ ys) ≡ [] = none in cc
+neither_has (x ∷ xs) ys none = absurd (let e : x ∷ (xs ++ ys) ≡ [] = none in cc)
 
 nothing_there : {A : Type 0} (o : Option A) → option_items o ≡ [] → o ≡ None
 nothing_there None none = refl
-nothing_there (Some x) none = let no : x ∷ [] ≡ [] = none in cc
+nothing_there (Some x) none = absurd (let e : x ∷ [] ≡ [] = none in cc)
 
 -- neither the list nor the hand has a job
 pub none_taken : (l : SiteList) → HasJobsOfEnd l → l.out.limit ≡ 0 → (jobs_in l.entries.items ≡ []) × (l.pending ≡ None)
-none_taken l has no =
+none_taken l has spent =
     let within = has.out.within in
     let count = has.out.count in
-    let long : length (takes l.out) ≡ 0 = omega (arith, within, count, no) in
+    let long : length (takes l.out) ≡ 0 = omega (arith, within, count, spent) in
     let none = neither_has (jobs_in l.entries.items) (option_items l.pending) (has.jobs ∙ nil_from_length (takes l.out) long) in
     (none.0, nothing_there l.pending none.1)
 
 delivers : (i : SiteInput) → job_of i ≡ [] → IsTrue (is_delivery i)
-delivers (inputs.Capture bytes) none = let no : jobs.Capture bytes ∷ [] ≡ [] = none in cc
-delivers (inputs.Start item) none = let no : jobs.Start item ∷ [] ≡ [] = none in cc
+delivers (inputs.Capture bytes) none = absurd (let e : jobs.Capture bytes ∷ [] ≡ [] = none in cc)
+delivers (inputs.Start item) none = absurd (let e : jobs.Start item ∷ [] ≡ [] = none in cc)
 delivers (inputs.Deliver frame) none = refl
 
 -- steps without a job are those of frames
@@ -49,13 +49,13 @@ frames_alone (x ∷ xs) none =
 each_of_frames : (ls : List SiteList) → All (λ (l : SiteList). l.out.limit ≡ 0) ls → All HasJobsOfEnd ls → All (λ (l : SiteList). AreOfFrames l.entries.items) ls
 each_of_frames [] none has = All-nil (λ (l : SiteList). AreOfFrames l.entries.items)
 each_of_frames (l ∷ ls) none has =
-    let no = none_taken l (All-head HasJobsOfEnd l ls has) (All-head (λ (m : SiteList). m.out.limit ≡ 0) l ls none) in
-    All-cons (λ (m : SiteList). AreOfFrames m.entries.items) l ls (frames_alone l.entries.items no.0)
+    let here = none_taken l (All-head HasJobsOfEnd l ls has) (All-head (λ (m : SiteList). m.out.limit ≡ 0) l ls none) in
+    All-cons (λ (m : SiteList). AreOfFrames m.entries.items) l ls (frames_alone l.entries.items here.0)
     (each_of_frames ls (All-tail (λ (m : SiteList). m.out.limit ≡ 0) l ls none) (All-tail HasJobsOfEnd l ls has))
 
 -- so it is of all sites of a run
 pub all_of_frames : {K : Type 0} (shown : K → Option Record) (ds : List DeskOut) (ks : List K) (ls : List SiteList) → All (λ (d : DeskOut). d.limit ≡ 0) ds → AllZip HasEnd ds ls → AllZip (IsKept shown) ks ls
     → All (λ (l : SiteList). AreOfFrames l.entries.items) ls
 all_of_frames shown ds ks ls none ends kept =
-    each_of_frames ls (all_carried HasEnd (λ (d : DeskOut). d.limit ≡ 0) (λ (l : SiteList). l.out.limit ≡ 0) ds ls (λ d l no h. h.limit ∙ no) none ends)
+    each_of_frames ls (all_carried HasEnd (λ (d : DeskOut). d.limit ≡ 0) (λ (l : SiteList). l.out.limit ≡ 0) ds ls (λ d l spent h. h.limit ∙ spent) none ends)
     (all_right (IsKept shown) HasJobsOfEnd ks ls (λ k l h. h.jobs) kept)

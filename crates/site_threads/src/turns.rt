@@ -1,5 +1,5 @@
 //! One turn of a site.
-ghost use Rattle.std.specs.Prelude.{◌≡◌, ◌≢◌, ◌+◌, ◌-◌, ◌++◌, ◌^◌, ◌<◌, ◌≤◌, [], Some, None, IfOk, IfErr, IfSome, IsSome, map, min, option_map, vec_len, vec_capacity};
+ghost use Rattle.std.specs.Prelude.{◌≡◌, ◌≢◌, ◌+◌, ◌-◌, ◌++◌, ◌^◌, ◌<◌, ◌≤◌, [], Some, None, IfOk, IfErr, IfSome, IsSome, OnOk, map, min, option_map, vec_len, vec_capacity};
 ghost use Rattle.site_core.specs.Records.{Record};
 ghost use Rattle.wire_core.specs.Seats.{IsSeatOf};
 ghost use Rattle.site_threads.specs.Jobs.{jobs_in, entry_of, option_items};
@@ -114,7 +114,7 @@ impl<K: SiteKeeper, G: Gate> SiteTurn<K, G> {
         ensures site { IsSite K.shown K.may self.new.site }
         ensures same { Continues 18 wire.now self.old.site self.new.site }
         ensures turns { self.new.turns ≤ self.old.turns + 1 }
-        ensures counted { IfOk result (λ _. self.new.turns ≡ min (self.old.turns + 1) (2 ^ 64 - 1)) }
+        ensures counted { OnOk result (self.new.turns ≡ min (self.old.turns + 1) (2 ^ 64 - 1)) }
         ensures job { IfOk result (λ report. (option_map (λ x. x.job) report.receipt ≡ job) × IfSome report.receipt (λ x. x.site ≡ self.old.site.me)) }
         ensures entered { IfOk result (λ report. TakesFrames (self.old.site.entries.items ++ map entry_of (option_items report.receipt)) self.new.site.entries.items report.applied) }
         ensures jobs { IfOk result (λ report. jobs_in self.new.site.entries.items ≡ jobs_in self.old.site.entries.items ++ option_items job) }

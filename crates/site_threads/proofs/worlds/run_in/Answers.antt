@@ -32,7 +32,7 @@ pub close_all-requires-clause-runs : goal.close_all-requires-clause-runs
 close_all-requires-clause-runs g c =
     let shown = g.K.SiteKeeper.shown in
     let may = g.K.SiteKeeper.may in
-    all_right (Ran {G = g.row.G.Denot} shown may c.args.room.wire c.args.turns) (IsRun {G = g.row.G.Denot} shown may c.args.room.wire c.args.turns) c.begin_all-runs.result.items c.run_each.new.runs.items (λ x y r. r.run) c.run_each.ensures
+    all_right (Ran {G = g.row.G.Denot} shown may c.args.room.wire c.args.turns) (IsRun {G = g.row.G.Denot} shown may c.args.room.wire) c.begin_all-runs.result.items c.run_each.new.runs.items (λ x y r. r.run) c.run_each.ensures
 
 pub close_all-requires-clause-all : goal.close_all-requires-clause-all
 close_all-requires-clause-all g c =
