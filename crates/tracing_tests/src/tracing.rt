@@ -78,7 +78,7 @@ fn tells_long_texts_apart(rt: HostRuntime) -> Result<(), Fail> {
     let wanted =
         "fresh 5 known 0; fresh 0 known 5; fresh 1 known 0; the eventID of event 1 is taken; 6 events";
     assert!(rt; answers(alloc, &[&chain, &chain, &[same], &[other]], wanted)?);
-    assert!(rt; reaches_long(alloc, &chain, "a", &["a", "b", "c", "d", "e"])?);
+    assert!(rt; reaches_long(alloc, &[&[&chain]], "a", &["a", "b", "c", "d", "e"])?);
     Ok(())
 }
 

@@ -159,16 +159,17 @@ const BEGINNING: &str =
 const LONG: &str =
     "urn:example:one-long-beginning-that-these-items-and-ids-share:one-long-beginning-that-these-items-and-ids-share:one-long-beginning-that-these-items-and-ids-share:one-long-beginning-that-these-items-and-ids-share:one-long-beginning-that-these-items-and-ids-share:one-long-beginning-that-these-items-and-ids-share:one-long-beginning-that-these-items-and-ids-share:one-long-beginning-that-these-items-and-ids-share:one-long-beginning-that-these-items-and-ids-share:and-so-it-is-the-last-byte-that-tells-them-apart:";
 
-/// Whether the long item of a last byte, at site A, reaches just the long items of these last bytes.
+/// Whether the long item of a last byte, at site A, reaches just the long items of these last bytes there, where
+/// site A has the first documents, site B the next, and so on.
 pub fn reaches_long(
     alloc: Global,
-    document: &[Told<'_>],
+    documents: &[&[&[Told<'_>]]],
     item: &str,
     wanted: &[&str],
 ) -> Result<bool, Fail> {
     let item = format!(in alloc; "{LONG}{item}")?;
     let wanted = long_pairs(alloc, wanted)?;
-    reaches(alloc, &[&[document]], 0, &item, &wanted)
+    reaches(alloc, documents, 0, &item, &wanted)
 }
 
 /// The pairs of long items at site A, as they are shown.
