@@ -1,5 +1,5 @@
 -- A site whose end of its desk takes no job: each of its steps is that of a frame.
-use Rattle.std.proofs.Common.{◌≡◌, ℕ, Option, Some, None, List, [], ◌∷◌, ◌++◌, All, length, refl, ◌∙◌, arith}
+use Rattle.std.proofs.Common.{◌≡◌, Option, Some, None, List, [], ◌∷◌, ◌++◌, All, length, refl, ◌∙◌, arith}
 use Rattle.std.specs.List.{AllZip}
 use Rattle.std.specs.Prelude.{IsTrue}
 use Rattle.std.proofs.lemmas.List.{nil_from_length}
@@ -9,7 +9,6 @@ use Rattle.site_core.specs.declared.inputs.SiteInput.{SiteInput}
 use Rattle.site_core.specs.declared.inputs.SiteInput.TheVariants as inputs
 use Rattle.site_threads.specs.declared.desks.DeskOut.{DeskOut}
 use Rattle.site_threads.specs.declared.jobs.Entry.{Entry}
-use Rattle.site_threads.specs.declared.jobs.Job.{Job}
 use Rattle.site_threads.specs.declared.jobs.Job.TheVariants as jobs
 use Rattle.site_threads.specs.declared.lists.SiteList.{SiteList}
 use Rattle.site_threads.specs.Ends.{takes}
