@@ -26,9 +26,9 @@ use world_core::WorldFault;
 
 /// Runs all sites of a folder, each in a thread of its own, where one can be made, for so many turns: at most 1,000,000.
 ///
-/// Frames go from site to site, and nothing else is done: each step of a site is that of a frame. Then each recall that a site began is told, by site and
-/// number: that it has ended, or that it is open. Where the records don't fit together, there is no run. Each site has a
-/// copy of the gate to its turns.
+/// Frames go from site to site, and nothing else is done: each step of a site is that of a frame. Then each recall that a
+/// site began is told, by site and number: that it has ended, or that it is open. Where the records don't fit together,
+/// there is no run. Each site has a copy of the gate to its turns.
 ///
 /// # Errors
 /// In this order: those of the folder's list, those of opening the sites' files, and those of [`run_of`]; after these
