@@ -1,5 +1,5 @@
 -- the texts of refusals: each is empty, or begins with one
-use Rattle.std.proofs.Common.{◌≡◌, ℕ, ◌+◌, Bool, true, false, List, [], ◌∷◌, ◌++◌, codes, length, refl, sym, ap, ◌∙◌, subst, arith, append_assoc, append-nil, Option, Some, None, inl, inr}
+use Rattle.std.proofs.Common.{◌≡◌, ℕ, ◌+◌, Bool, true, false, List, [], ◌∷◌, ◌++◌, codes, length, refl, sym, ap, ◌∙◌, subst, arith, append_assoc, Option, Some, None, inl, inr}
 use Rattle.std.specs.Prelude.{nat_le, if◌then◌else◌, string_bytes}
 use Rattle.event_json.specs.Sites.{Site, sites_fault}
 use Rattle.event_json.specs.declared.site_lists.SitesFault.{SitesFault}

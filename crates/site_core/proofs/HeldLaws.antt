@@ -8,7 +8,7 @@ use Rattle.frame_core.specs.Orders.{recall_total, recall_exact}
 use Rattle.frame_core.proofs.Lookups.{one_key, get_here, get_apart}
 use Rattle.trace_core.proofs.Members.{contains_here, contains_there, contains_cases, contains_none}
 use Rattle.site_core.specs.ItemSets as set
-use Rattle.site_core.specs.ItemSets.{Items, item_cmp}
+use Rattle.site_core.specs.ItemSets.{Items}
 use Rattle.site_core.specs.Quarantines.{Quarantine, items_under, or_none, held, with_item, with_items, HasNoEmptySet}
 use Rattle.site_core.proofs.Held.{under_here, under_apart, no_empty_with}
 use Rattle.site_core.proofs.ItemOrder.{item_total, item_exact}

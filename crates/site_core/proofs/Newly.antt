@@ -1,5 +1,5 @@
 -- The items of a list that aren't held yet.
-use Rattle.std.proofs.Common.{◌≡◌, ◌↔◌, ℕ, Bool, true, false, not, cond, List, [], ◌∷◌, ◌++◌, filter, refl, sym, ap, subst, ◌∙◌, ⊎_elim}
+use Rattle.std.proofs.Common.{◌≡◌, ◌↔◌, ℕ, Bool, true, false, not, cond, List, [], ◌∷◌, filter, refl, sym, subst, ⊎_elim}
 use Rattle.std.specs.List.{Contains}
 use Rattle.std.proofs.lemmas.Bool.Decides.{Decides-not}
 use Rattle.std.proofs.lemmas.List.Kept.{IsStrictlySortedBy-filter}
@@ -9,7 +9,6 @@ use Rattle.trace_core.specs.Spreads.{AreAscendingItems, IsSpread}
 use Rattle.trace_core.proofs.Members.{contains_here, contains_there, contains_cases, contains_none}
 use Rattle.site_core.specs.Quarantines.{Quarantine, item_cmp, held}
 use Rattle.site_core.specs.Spreading.{AreNewlyHeld}
-use Rattle.site_core.proofs.Holders.{append_nil}
 
 module _ {X : Type 0} (p : X → Bool) where
   passing : (xs : List X) (y : X) → Contains (filter p xs) y → Contains xs y × (p y ≡ true)

@@ -1,5 +1,5 @@
 -- A start that was planned, and done or refused.
-use Rattle.std.proofs.Common.{◌≡◌, ◌⊎◌, ◌<◌, ◌≤◌, ◌^◌, ℕ, List, length, refl, sym, ap, subst, ◌∙◌}
+use Rattle.std.proofs.Common.{◌≡◌, ◌⊎◌, ◌<◌, ◌≤◌, ◌^◌, ℕ, List, length, refl, ap, subst, ◌∙◌}
 use Rattle.frame_core.specs.declared.outboxes.NumberFault.{NumberFault}
 use Rattle.frame_core.specs.declared.outboxes.NumberFault.TheVariants.{NoMemory, NumbersSpent}
 use Rattle.frame_core.specs.Numbers.{Recall}

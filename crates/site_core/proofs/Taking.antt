@@ -1,9 +1,8 @@
 -- A message that was taken, and a signal.
-use Rattle.std.proofs.Common.{◌≡◌, ◌≤◌, ℕ, Bool, List, length, None, refl, sym, ap, subst, ◌∙◌}
+use Rattle.std.proofs.Common.{◌≡◌, ℕ, Bool, List, length, None, refl, sym, ap, ◌∙◌}
 use Rattle.std.specs.FinMap.{get}
 use Rattle.frame_core.specs.declared.rows.Row.{Row}
 use Rattle.frame_core.specs.Numbers.{Recall, Message}
-use Rattle.scholten_core.specs.declared.outcomes.Received.{Received}
 use Rattle.scholten_core.specs.declared.outcomes.Signalled.{Signalled}
 use Rattle.scholten_core.specs.Changes.{received, signalled}
 use Rattle.scholten_core.specs.Engagement.{Engagement}
@@ -11,7 +10,7 @@ use Rattle.site_core.specs.Quarantines.{Quarantine, with_items}
 use Rattle.site_core.specs.Records.{Record}
 use Rattle.site_core.specs.Shipments.{AreShipments}
 use Rattle.site_core.specs.Spreading.{AreNewlyHeld}
-use Rattle.site_core.specs.Steps.{HaveNumbers, IsForSite, MayTake, Takes, reply, HasRow, Clears}
+use Rattle.site_core.specs.Steps.{HaveNumbers, IsForSite, Takes, reply, HasRow, Clears}
 
 -- both parts of what a call gives
 parts : {A B : Type 0} (p : A × B) (a : A) (b : B) → a ≡ p.0 → b ≡ p.1 → p ≡ (a, b)

@@ -1,5 +1,5 @@
 -- The frames that a site may send, by what they are of.
-use Rattle.std.specs.Prelude.{◌≡◌, ◌↔◌, ℕ, not, ◌&&◌, if◌then◌else◌, Option, Some, None, option_map, is_some, Contains}
+use Rattle.std.specs.Prelude.{◌≡◌, ◌↔◌, not, ◌&&◌, if◌then◌else◌, Option, Some, None, option_map, is_some, Contains}
 use Rattle.std.specs.FinMap.{get}
 use Rattle.frame_core.specs.declared.frames.Frame.{Frame}
 use Rattle.scholten_core.specs.Engagement.{Engagement}

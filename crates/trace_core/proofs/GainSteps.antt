@@ -10,7 +10,7 @@ use Rattle.event_json.specs.declared.bodies.Body.{Body}
 use Rattle.trace_core.specs.declared.groups.Group.{Group}
 use Rattle.trace_core.specs.declared.nodes.Node.{Node}
 use Rattle.trace_core.specs.declared.pairs.Pair.{Pair}
-use Rattle.trace_core.specs.Groups.{IsSeen, Sees, outs_of, IsGiven, AddsUnseen, sought_by, IsSought}
+use Rattle.trace_core.specs.Groups.{IsSeen, Sees, outs_of, IsGiven, sought_by, IsSought}
 use Rattle.trace_core.specs.Nodes.{Stands, Had, NotesNodes, Gains, sent_nodes, group_nodes}
 use Rattle.trace_core.specs.Numbers.{numbered}
 use Rattle.trace_core.specs.Pairs.{make_id}

@@ -1,5 +1,5 @@
 -- The index of a list of events, as events are noted and taken back.
-use Rattle.std.proofs.Common.{◌≡◌, ℕ, Bool, true, false, ◌||◌, List, [], ◌∷◌, ◌++◌, Some, None, length, take, drop, slice_get, refl, sym, ap, subst, ◌∙◌, ⊎_elim, arith, length-append}
+use Rattle.std.proofs.Common.{◌≡◌, ℕ, Bool, true, false, List, [], ◌∷◌, ◌++◌, Some, None, length, take, drop, slice_get, refl, sym, ap, subst, ◌∙◌, ⊎_elim, arith, length-append}
 use Rattle.std.specs.List.{Contains}
 use Rattle.std.specs.Map.{lookup}
 use Rattle.std.specs.BTreeMap.{is_at}
@@ -7,9 +7,8 @@ use Rattle.std.specs.Cmp.Lexicographic.{slice_cmp}
 use Rattle.std.specs.Ordering.{nat_cmp}
 use Rattle.std.specs.String.{string_bytes}
 use Rattle.std.proofs.lemmas.Bool.{cases_Bool}
-use Rattle.std.proofs.lemmas.List.{take-append-drop, take-append-le, take-map, take_at, drop_at, length-map, map-append}
+use Rattle.std.proofs.lemmas.List.{take-append-drop, take-append-le, take-map, take_at, length-map}
 use Rattle.std.proofs.lemmas.List.Elements.{Contains-append_left, Contains-append_right}
-use Rattle.std.proofs.lemmas.List.Folds.{list_any-append}
 use Rattle.std.proofs.lemmas.Option.{slice_get_within}
 use Rattle.event_json.specs.Events.{Content}
 use Rattle.event_json.specs.declared.bodies.Body.{Body}
@@ -19,7 +18,7 @@ use Rattle.trace_core.specs.declared.event_items.Members.{Members}
 use Rattle.trace_core.specs.declared.indexes.Index.{Index}
 use Rattle.trace_core.specs.Indexes.{HasPlaces, NotesItems, ForgetsItems, KeepsItems}
 use Rattle.trace_core.specs.Numbers.{with_names, numbered, names_of, item_places, ins_in, outs_in, members_in, numbers_of, HasMembers}
-use Rattle.trace_core.specs.PairTests.{lists, same_item}
+use Rattle.trace_core.specs.PairTests.{lists}
 use Rattle.trace_core.specs.Places.{kept, places_where, names_item, IsIndex}
 use Rattle.trace_core.specs.Spreads.{items_of}
 use Rattle.trace_core.proofs.Members.{contains_none, list_any_member}

@@ -1,7 +1,7 @@
-use Rattle.std.proofs.Common.{◌≡◌, sym, ap, subst, ◌∙◌}
+use Rattle.std.proofs.Common.{sym, ap, subst, ◌∙◌}
 use Rattle.std.proofs.lemmas.Result.{on_ok_weaker, on_err_weaker, IfOk-weaker}
 use Rattle.trace_core.specs.Indexes.{NotesItems, NotesSomeItems}
-use Rattle.trace_core.specs.Numbers.{names_of, numbers_of, members_in}
+use Rattle.trace_core.specs.Numbers.{names_of, numbers_of}
 use Rattle.trace_core.proofs.ItemSteps.{made_items, made_members}
 use Rattle.trace_core.proofs.event_items.note_some_of.Goals as goal
 

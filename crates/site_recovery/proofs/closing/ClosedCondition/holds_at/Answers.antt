@@ -3,7 +3,6 @@ use Rattle.std.specs.FinMap.{entries}
 use Rattle.std.specs.Prelude.{IsTrue}
 use Rattle.std.proofs.lemmas.Result.{IfOk-weaker}
 use Rattle.trace_core.specs.Spreads.{Inside}
-use Rattle.site_core.specs.ItemSets.{Items}
 use Rattle.site_core.specs.ItemSets as set
 use Rattle.site_recovery.specs.Checking.{world_at}
 use Rattle.site_recovery.specs.FittingAt.{IsClosedAt}

@@ -3,7 +3,6 @@ use Rattle.std.specs.List.{Contains}
 use Rattle.std.specs.Prelude.{IsTrue}
 use Rattle.std.proofs.lemmas.Result.{IfOk-weaker}
 use Rattle.trace_core.specs.Spreads.{Inside}
-use Rattle.site_core.specs.ItemSets.{Items}
 use Rattle.site_core.specs.ItemSets as set
 use Rattle.site_recovery.proofs.QuarantinedItems.{each_item}
 use Rattle.site_recovery.proofs.closing.ClosedSetEntryTestRecallIdItemSet.passes.Goals as goal

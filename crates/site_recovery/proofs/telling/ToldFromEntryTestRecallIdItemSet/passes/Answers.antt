@@ -2,7 +2,6 @@ use Rattle.std.proofs.Common.{◌⊎◌, ◌↔◌, ℕ, List}
 use Rattle.std.specs.List.{Contains}
 use Rattle.std.specs.Prelude.{IsTrue}
 use Rattle.std.proofs.lemmas.Result.{IfOk-weaker}
-use Rattle.site_core.specs.ItemSets.{Items}
 use Rattle.site_core.specs.ItemSets as set
 use Rattle.site_core.specs.Quarantines.{held}
 use Rattle.site_core.specs.Ways as ways

@@ -1,4 +1,4 @@
-use Rattle.std.proofs.Common.{◌≡◌, List, MatchOption, sym, ap, ◌∙◌, subst}
+use Rattle.std.proofs.Common.{List, sym, ap, ◌∙◌, subst}
 use Rattle.wire_core.specs.declared.views.Log.{Log}
 use Rattle.wire_core.specs.Answers.{MayTake}
 use Rattle.wire_core.specs.Changes.{on, notes}

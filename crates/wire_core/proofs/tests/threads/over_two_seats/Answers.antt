@@ -1,4 +1,4 @@
-use Rattle.std.proofs.Common.{◌≡◌, ◌≢◌, ◌<◌, ℕ, sym, ◌∙◌, subst, arith}
+use Rattle.std.proofs.Common.{◌∙◌, arith}
 use Rattle.wire_core.proofs.Playing.{first_alone, second_alone, both_again, holds_both}
 use Rattle.wire_core.proofs.tests.threads.over_two_seats.Goals as goal
 
