@@ -7,11 +7,7 @@ ghost use Rattle.site_tables.specs.Stored.{IsStored, WritesAll, contents_of};
 ghost use Rattle.site_tables.specs.Tables.{no_schema};
 
 use crate::create::create_tables;
-use crate::in_turn::{
-    insert_each_address, insert_each_event, insert_each_parent, insert_each_part,
-    insert_each_quarantine, insert_each_seen, insert_each_site,
-};
-use crate::in_turn_all::{insert_each_outbox, insert_each_recall, insert_each_store};
+use crate::in_turn::insert_each;
 use site_rows::Rows;
 use sqlite::{Alter, Connection, Error, Transaction};
 
@@ -24,9 +20,9 @@ fn fill_sites<S: Alter>(
     ensures same_reference { tx.new.conn.ghost_name ≡ tx.old.conn.ghost_name }
     ensures wrote { WritesAll (with_sites rows.now) (state S.Store tx.old.conn.now) (state S.Store tx.new.conn.now) result }
 {
-    insert_each_store(tx, rows.store.as_slice(), written)?;
-    insert_each_site(tx, rows.site.as_slice(), written)?;
-    insert_each_address(tx, rows.address.as_slice(), written)
+    insert_each(tx, rows.store.as_slice(), written)?;
+    insert_each(tx, rows.site.as_slice(), written)?;
+    insert_each(tx, rows.address.as_slice(), written)
 }
 
 /// Inserts the rows of the captured events and of their lists.
@@ -38,8 +34,8 @@ fn fill_events<S: Alter>(
     ensures same_reference { tx.new.conn.ghost_name ≡ tx.old.conn.ghost_name }
     ensures wrote { WritesAll (with_events rows.now) (state S.Store tx.old.conn.now) (state S.Store tx.new.conn.now) result }
 {
-    insert_each_event(tx, rows.event.as_slice(), written)?;
-    insert_each_part(tx, rows.part.as_slice(), written)
+    insert_each(tx, rows.event.as_slice(), written)?;
+    insert_each(tx, rows.part.as_slice(), written)
 }
 
 /// Inserts the rows of what is quarantined and of messages.
@@ -51,9 +47,9 @@ fn fill_messages<S: Alter>(
     ensures same_reference { tx.new.conn.ghost_name ≡ tx.old.conn.ghost_name }
     ensures wrote { WritesAll (with_messages rows.now) (state S.Store tx.old.conn.now) (state S.Store tx.new.conn.now) result }
 {
-    insert_each_quarantine(tx, rows.quarantine.as_slice(), written)?;
-    insert_each_outbox(tx, rows.outbox.as_slice(), written)?;
-    insert_each_seen(tx, rows.seen.as_slice(), written)
+    insert_each(tx, rows.quarantine.as_slice(), written)?;
+    insert_each(tx, rows.outbox.as_slice(), written)?;
+    insert_each(tx, rows.seen.as_slice(), written)
 }
 
 /// Inserts the rows of parents and of own recalls.
@@ -65,8 +61,8 @@ fn fill_recalls<S: Alter>(
     ensures same_reference { tx.new.conn.ghost_name ≡ tx.old.conn.ghost_name }
     ensures wrote { WritesAll (with_recalls rows.now) (state S.Store tx.old.conn.now) (state S.Store tx.new.conn.now) result }
 {
-    insert_each_parent(tx, rows.parent.as_slice(), written)?;
-    insert_each_recall(tx, rows.recall.as_slice(), written)
+    insert_each(tx, rows.parent.as_slice(), written)?;
+    insert_each(tx, rows.recall.as_slice(), written)
 }
 
 /// Inserts the rows of all tables.

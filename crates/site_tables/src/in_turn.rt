@@ -1,144 +1,42 @@
-//! One function for each table that is changed by rows in turn.
-ghost use Rattle.std.specs.Prelude.{◌≡◌, ◌+◌, length, map, min, OnOk};
+//! Tables that are changed by rows in turn.
+ghost use Rattle.std.specs.Prelude.{◌≡◌, ◌+◌, [], ◌∷◌, length, map, min, OnOk};
 ghost use Rattle.sqlite.specs.Held.{state};
 ghost use Rattle.site_tables.specs.Changed.{puts_outbox, puts_recall, drops_outbox, drops_parent};
-ghost use Rattle.site_tables.specs.Tables.{site, address, event, part, quarantine, outbox, seen, parent, recall};
+ghost use Rattle.site_tables.specs.Tables.{outbox, parent, recall};
 ghost use Rattle.site_tables.specs.TableRows.{Writes, adds};
-ghost use Rattle.site_tables.specs.Values.{site_values, address_values, event_values, part_values, quarantine_values, seen_values, parent_values};
 
-use crate::inserts::{
-    insert_address, insert_event, insert_parent, insert_part, insert_quarantine, insert_seen,
-    insert_site,
-};
 use crate::replacing::{delete_outbox, delete_parent, upsert_outbox, upsert_recall};
-use site_rows::{
-    AddressRow, EventRow, OutboxRow, ParentRow, PartRow, QuarantineRow, RecallKey, RecallRow,
-    SeenRow, SiteRow,
-};
+use crate::stored::Stored;
+use site_rows::{OutboxRow, RecallKey, RecallRow};
 use sqlite::{Alter, Error, Transaction};
 
-/// Inserts the rows into `site`, in their order.
-pub fn insert_each_site<S: Alter>(
-    tx: &mut Transaction<'_, S>,
-    rows: &[SiteRow],
-    written: &mut u64,
-) -> Result<(), Error>
-    ensures same_reference { tx.new.conn.ghost_name ≡ tx.old.conn.ghost_name }
-    ensures wrote { Writes site (adds (map site_values rows.now)) (state S.Store tx.old.conn.now) (state S.Store tx.new.conn.now) result }
-    ensures counted { OnOk result (written.new ≡ min 18_446_744_073_709_551_615 (written.old + length rows.now)) }
-{
-    // The count fits its type.
-    let _written = *written;
-    for row in rows {
-        insert_site(tx, row, written)?;
-    }
-    Ok(())
+/// A row that is inserted into its table.
+pub trait Inserted: Stored {
+    /// Inserts it, and counts it as written.
+    fn insert<S: Alter>(
+        &self,
+        tx: &mut Transaction<'_, S>,
+        written: &mut u64,
+    ) -> Result<usize, Error>
+        ensures same_reference { tx.new.conn.ghost_name ≡ tx.old.conn.ghost_name }
+        ensures wrote { Writes Self.listed (adds (Self.shown self.now ∷ [])) (state S.Store tx.old.conn.now) (state S.Store tx.new.conn.now) result }
+        ensures counted { written.new ≡ min 18_446_744_073_709_551_615 (written.old + 1) };
 }
 
-/// Inserts the rows into `address`, in their order.
-pub fn insert_each_address<S: Alter>(
+/// Inserts the rows into their table, in their order.
+pub fn insert_each<T: Inserted, S: Alter>(
     tx: &mut Transaction<'_, S>,
-    rows: &[AddressRow],
+    rows: &[T],
     written: &mut u64,
 ) -> Result<(), Error>
     ensures same_reference { tx.new.conn.ghost_name ≡ tx.old.conn.ghost_name }
-    ensures wrote { Writes address (adds (map address_values rows.now)) (state S.Store tx.old.conn.now) (state S.Store tx.new.conn.now) result }
+    ensures wrote { Writes T.Stored.listed (adds (map T.Stored.shown rows.now)) (state S.Store tx.old.conn.now) (state S.Store tx.new.conn.now) result }
     ensures counted { OnOk result (written.new ≡ min 18_446_744_073_709_551_615 (written.old + length rows.now)) }
 {
     // The count fits its type.
     let _written = *written;
     for row in rows {
-        insert_address(tx, row, written)?;
-    }
-    Ok(())
-}
-
-/// Inserts the rows into `event`, in their order.
-pub fn insert_each_event<S: Alter>(
-    tx: &mut Transaction<'_, S>,
-    rows: &[EventRow],
-    written: &mut u64,
-) -> Result<(), Error>
-    ensures same_reference { tx.new.conn.ghost_name ≡ tx.old.conn.ghost_name }
-    ensures wrote { Writes event (adds (map event_values rows.now)) (state S.Store tx.old.conn.now) (state S.Store tx.new.conn.now) result }
-    ensures counted { OnOk result (written.new ≡ min 18_446_744_073_709_551_615 (written.old + length rows.now)) }
-{
-    // The count fits its type.
-    let _written = *written;
-    for row in rows {
-        insert_event(tx, row, written)?;
-    }
-    Ok(())
-}
-
-/// Inserts the rows into `part`, in their order.
-pub fn insert_each_part<S: Alter>(
-    tx: &mut Transaction<'_, S>,
-    rows: &[PartRow],
-    written: &mut u64,
-) -> Result<(), Error>
-    ensures same_reference { tx.new.conn.ghost_name ≡ tx.old.conn.ghost_name }
-    ensures wrote { Writes part (adds (map part_values rows.now)) (state S.Store tx.old.conn.now) (state S.Store tx.new.conn.now) result }
-    ensures counted { OnOk result (written.new ≡ min 18_446_744_073_709_551_615 (written.old + length rows.now)) }
-{
-    // The count fits its type.
-    let _written = *written;
-    for row in rows {
-        insert_part(tx, row, written)?;
-    }
-    Ok(())
-}
-
-/// Inserts the rows into `quarantine`, in their order.
-pub fn insert_each_quarantine<S: Alter>(
-    tx: &mut Transaction<'_, S>,
-    rows: &[QuarantineRow],
-    written: &mut u64,
-) -> Result<(), Error>
-    ensures same_reference { tx.new.conn.ghost_name ≡ tx.old.conn.ghost_name }
-    ensures wrote { Writes quarantine (adds (map quarantine_values rows.now)) (state S.Store tx.old.conn.now) (state S.Store tx.new.conn.now) result }
-    ensures counted { OnOk result (written.new ≡ min 18_446_744_073_709_551_615 (written.old + length rows.now)) }
-{
-    // The count fits its type.
-    let _written = *written;
-    for row in rows {
-        insert_quarantine(tx, row, written)?;
-    }
-    Ok(())
-}
-
-/// Inserts the rows into `seen`, in their order.
-pub fn insert_each_seen<S: Alter>(
-    tx: &mut Transaction<'_, S>,
-    rows: &[SeenRow],
-    written: &mut u64,
-) -> Result<(), Error>
-    ensures same_reference { tx.new.conn.ghost_name ≡ tx.old.conn.ghost_name }
-    ensures wrote { Writes seen (adds (map seen_values rows.now)) (state S.Store tx.old.conn.now) (state S.Store tx.new.conn.now) result }
-    ensures counted { OnOk result (written.new ≡ min 18_446_744_073_709_551_615 (written.old + length rows.now)) }
-{
-    // The count fits its type.
-    let _written = *written;
-    for row in rows {
-        insert_seen(tx, row, written)?;
-    }
-    Ok(())
-}
-
-/// Inserts the rows into `parent`, in their order.
-pub fn insert_each_parent<S: Alter>(
-    tx: &mut Transaction<'_, S>,
-    rows: &[ParentRow],
-    written: &mut u64,
-) -> Result<(), Error>
-    ensures same_reference { tx.new.conn.ghost_name ≡ tx.old.conn.ghost_name }
-    ensures wrote { Writes parent (adds (map parent_values rows.now)) (state S.Store tx.old.conn.now) (state S.Store tx.new.conn.now) result }
-    ensures counted { OnOk result (written.new ≡ min 18_446_744_073_709_551_615 (written.old + length rows.now)) }
-{
-    // The count fits its type.
-    let _written = *written;
-    for row in rows {
-        insert_parent(tx, row, written)?;
+        row.insert(tx, written)?;
     }
     Ok(())
 }

@@ -8,6 +8,7 @@ ghost use Rattle.site_tables.specs.Texts as text;
 ghost use Rattle.site_tables.specs.Values.{store_values, site_values, address_values, event_values, part_values, quarantine_values, outbox_values, seen_values, parent_values, recall_values};
 
 use crate::counting::count_one;
+use crate::in_turn::Inserted;
 use site_rows::{
     AddressRow, EventRow, OutboxRow, ParentRow, PartRow, QuarantineRow, RecallRow, SeenRow,
     SiteRow, StoreRow, Text,
@@ -34,7 +35,7 @@ impl<'a> ToSql<'a> for Maybe<'a> {
 }
 
 /// Inserts the row into `store`.
-pub fn insert_store<S: Alter>(
+fn insert_store<S: Alter>(
     tx: &mut Transaction<'_, S>,
     row: &StoreRow,
     written: &mut u64,
@@ -58,8 +59,18 @@ pub fn insert_store<S: Alter>(
     )
 }
 
+impl Inserted for StoreRow {
+    fn insert<S: Alter>(
+        &self,
+        tx: &mut Transaction<'_, S>,
+        written: &mut u64,
+    ) -> Result<usize, Error> {
+        insert_store(tx, self, written)
+    }
+}
+
 /// Inserts the row into `site`.
-pub fn insert_site<S: Alter>(
+fn insert_site<S: Alter>(
     tx: &mut Transaction<'_, S>,
     row: &SiteRow,
     written: &mut u64,
@@ -77,8 +88,18 @@ pub fn insert_site<S: Alter>(
     )
 }
 
+impl Inserted for SiteRow {
+    fn insert<S: Alter>(
+        &self,
+        tx: &mut Transaction<'_, S>,
+        written: &mut u64,
+    ) -> Result<usize, Error> {
+        insert_site(tx, self, written)
+    }
+}
+
 /// Inserts the row into `address`.
-pub fn insert_address<S: Alter>(
+fn insert_address<S: Alter>(
     tx: &mut Transaction<'_, S>,
     row: &AddressRow,
     written: &mut u64,
@@ -96,8 +117,18 @@ pub fn insert_address<S: Alter>(
     )
 }
 
+impl Inserted for AddressRow {
+    fn insert<S: Alter>(
+        &self,
+        tx: &mut Transaction<'_, S>,
+        written: &mut u64,
+    ) -> Result<usize, Error> {
+        insert_address(tx, self, written)
+    }
+}
+
 /// Inserts the row into `event`.
-pub fn insert_event<S: Alter>(
+fn insert_event<S: Alter>(
     tx: &mut Transaction<'_, S>,
     row: &EventRow,
     written: &mut u64,
@@ -121,8 +152,18 @@ pub fn insert_event<S: Alter>(
     )
 }
 
+impl Inserted for EventRow {
+    fn insert<S: Alter>(
+        &self,
+        tx: &mut Transaction<'_, S>,
+        written: &mut u64,
+    ) -> Result<usize, Error> {
+        insert_event(tx, self, written)
+    }
+}
+
 /// Inserts the row into `part`.
-pub fn insert_part<S: Alter>(
+fn insert_part<S: Alter>(
     tx: &mut Transaction<'_, S>,
     row: &PartRow,
     written: &mut u64,
@@ -140,8 +181,18 @@ pub fn insert_part<S: Alter>(
     )
 }
 
+impl Inserted for PartRow {
+    fn insert<S: Alter>(
+        &self,
+        tx: &mut Transaction<'_, S>,
+        written: &mut u64,
+    ) -> Result<usize, Error> {
+        insert_part(tx, self, written)
+    }
+}
+
 /// Inserts the row into `quarantine`.
-pub fn insert_quarantine<S: Alter>(
+fn insert_quarantine<S: Alter>(
     tx: &mut Transaction<'_, S>,
     row: &QuarantineRow,
     written: &mut u64,
@@ -159,8 +210,18 @@ pub fn insert_quarantine<S: Alter>(
     )
 }
 
+impl Inserted for QuarantineRow {
+    fn insert<S: Alter>(
+        &self,
+        tx: &mut Transaction<'_, S>,
+        written: &mut u64,
+    ) -> Result<usize, Error> {
+        insert_quarantine(tx, self, written)
+    }
+}
+
 /// Inserts the row into `seen`.
-pub fn insert_seen<S: Alter>(
+fn insert_seen<S: Alter>(
     tx: &mut Transaction<'_, S>,
     row: &SeenRow,
     written: &mut u64,
@@ -177,8 +238,18 @@ pub fn insert_seen<S: Alter>(
     )
 }
 
+impl Inserted for SeenRow {
+    fn insert<S: Alter>(
+        &self,
+        tx: &mut Transaction<'_, S>,
+        written: &mut u64,
+    ) -> Result<usize, Error> {
+        insert_seen(tx, self, written)
+    }
+}
+
 /// Inserts the row into `parent`.
-pub fn insert_parent<S: Alter>(
+fn insert_parent<S: Alter>(
     tx: &mut Transaction<'_, S>,
     row: &ParentRow,
     written: &mut u64,
@@ -195,8 +266,18 @@ pub fn insert_parent<S: Alter>(
     )
 }
 
+impl Inserted for ParentRow {
+    fn insert<S: Alter>(
+        &self,
+        tx: &mut Transaction<'_, S>,
+        written: &mut u64,
+    ) -> Result<usize, Error> {
+        insert_parent(tx, self, written)
+    }
+}
+
 /// Inserts the row into `outbox`.
-pub fn insert_outbox<S: Alter>(
+fn insert_outbox<S: Alter>(
     tx: &mut Transaction<'_, S>,
     row: &OutboxRow,
     written: &mut u64,
@@ -220,8 +301,18 @@ pub fn insert_outbox<S: Alter>(
     )
 }
 
+impl Inserted for OutboxRow {
+    fn insert<S: Alter>(
+        &self,
+        tx: &mut Transaction<'_, S>,
+        written: &mut u64,
+    ) -> Result<usize, Error> {
+        insert_outbox(tx, self, written)
+    }
+}
+
 /// Inserts the row into `recall`.
-pub fn insert_recall<S: Alter>(
+fn insert_recall<S: Alter>(
     tx: &mut Transaction<'_, S>,
     row: &RecallRow,
     written: &mut u64,
@@ -237,4 +328,14 @@ pub fn insert_recall<S: Alter>(
         "INSERT INTO recall (number, root, ended) VALUES (?1, ?2, ?3)",
         params![&row.number, root, &row.ended],
     )
+}
+
+impl Inserted for RecallRow {
+    fn insert<S: Alter>(
+        &self,
+        tx: &mut Transaction<'_, S>,
+        written: &mut u64,
+    ) -> Result<usize, Error> {
+        insert_recall(tx, self, written)
+    }
 }

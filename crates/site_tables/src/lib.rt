@@ -8,7 +8,6 @@ mod create;
 mod declarations;
 mod faults;
 mod in_turn;
-mod in_turn_all;
 mod inserts;
 mod known_checks;
 mod known_parts;

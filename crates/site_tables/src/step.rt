@@ -7,9 +7,7 @@ ghost use Rattle.site_tables.specs.Changed.{captured, recalled, signalled, renum
 ghost use Rattle.site_tables.specs.Stored.{Contents, Holds, IsStored, IsStopped, WritesAll};
 
 use crate::in_turn::{
-    delete_each_outbox, delete_each_parent, insert_each_event, insert_each_parent,
-    insert_each_part, insert_each_quarantine, insert_each_seen, upsert_each_outbox,
-    upsert_each_recall,
+    delete_each_outbox, delete_each_parent, insert_each, upsert_each_outbox, upsert_each_recall,
 };
 use crate::replacing::update_store;
 use site_rows::RowChanges;
@@ -25,8 +23,8 @@ fn write_captured<S: Alter>(
     ensures wrote { WritesAll (captured changes.now) (state S.Store tx.old.conn.now) (state S.Store tx.new.conn.now) result }
     ensures counted { OnOk result (written.new ≡ min 18_446_744_073_709_551_615 (written.old + (length changes.now.event + length changes.now.part))) }
 {
-    insert_each_event(tx, changes.event.as_slice(), written)?;
-    insert_each_part(tx, changes.part.as_slice(), written)
+    insert_each(tx, changes.event.as_slice(), written)?;
+    insert_each(tx, changes.part.as_slice(), written)
 }
 
 /// Writes what came under recalls, and the messages and parents that came with it.
@@ -39,10 +37,10 @@ fn write_recalled<S: Alter>(
     ensures wrote { WritesAll (recalled changes.now) (state S.Store tx.old.conn.now) (state S.Store tx.new.conn.now) result }
     ensures counted { OnOk result (written.new ≡ min 18_446_744_073_709_551_615 (written.old + (length changes.now.quarantine + length changes.now.outbox + length changes.now.seen + length changes.now.parent))) }
 {
-    insert_each_quarantine(tx, changes.quarantine.as_slice(), written)?;
+    insert_each(tx, changes.quarantine.as_slice(), written)?;
     upsert_each_outbox(tx, changes.outbox.as_slice(), written)?;
-    insert_each_seen(tx, changes.seen.as_slice(), written)?;
-    insert_each_parent(tx, changes.parent.as_slice(), written)
+    insert_each(tx, changes.seen.as_slice(), written)?;
+    insert_each(tx, changes.parent.as_slice(), written)
 }
 
 /// Takes out what was signalled, and writes the own recalls.

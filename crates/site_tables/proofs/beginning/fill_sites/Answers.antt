@@ -10,11 +10,11 @@ pub returns-clause-wrote : goal.returns-clause-wrote
 returns-clause-wrote g c =
     let it = c.args.rows.now in
     let s0 = state g.S.Store c.args.tx.now.conn.now in
-    let s1 = state g.S.Store c.insert_each_store.new.tx.conn.now in
-    let s2 = state g.S.Store c.insert_each_site.new.tx.conn.now in
-    let s3 = state g.S.Store c.insert_each_address.new.tx.conn.now in
-    let p1 = store_in_all (adds (map store_values it.store)) (λ (rows : List StoreRow). rows ++ it.store) (rows_added it.store) s0 s1 c.insert_each_store.result (rw c.as_slice.ensures at c.insert_each_store.ensures.wrote) in
-    let p2 = site_in_all (adds (map site_values it.site)) s1 s2 c.insert_each_site.result (rw c.as_slice-2.ensures at c.insert_each_site.ensures.wrote) in
-    let p3 = address_in_all (adds (map address_values it.address)) s2 s3 c.insert_each_address.result (rw c.as_slice-3.ensures at c.insert_each_address.ensures.wrote) in
-    let q2 = all_then _ _ s0 s1 s2 c.insert_each_store.result c.in_ok-insert_each_store.field-0 c.insert_each_site.result c.in_ok-insert_each_store.was p1 p2 in
-    all_then _ _ s0 s2 s3 c.insert_each_site.result c.in_ok-insert_each_site.field-0 c.insert_each_address.result c.in_ok-insert_each_site.was q2 p3
+    let s1 = state g.S.Store c.insert_each.new.tx.conn.now in
+    let s2 = state g.S.Store c.insert_each-2.new.tx.conn.now in
+    let s3 = state g.S.Store c.insert_each-3.new.tx.conn.now in
+    let p1 = store_in_all (adds (map store_values it.store)) (λ (rows : List StoreRow). rows ++ it.store) (rows_added it.store) s0 s1 c.insert_each.result (rw c.as_slice.ensures at c.insert_each.ensures.wrote) in
+    let p2 = site_in_all (adds (map site_values it.site)) s1 s2 c.insert_each-2.result (rw c.as_slice-2.ensures at c.insert_each-2.ensures.wrote) in
+    let p3 = address_in_all (adds (map address_values it.address)) s2 s3 c.insert_each-3.result (rw c.as_slice-3.ensures at c.insert_each-3.ensures.wrote) in
+    let q2 = all_then _ _ s0 s1 s2 c.insert_each.result c.in_ok-insert_each.field-0 c.insert_each-2.result c.in_ok-insert_each.was p1 p2 in
+    all_then _ _ s0 s2 s3 c.insert_each-2.result c.in_ok-insert_each-2.field-0 c.insert_each-3.result c.in_ok-insert_each-2.was q2 p3

@@ -10,14 +10,14 @@ pub returns-clause-wrote : goal.returns-clause-wrote
 returns-clause-wrote g c =
     let it = c.args.changes.now in
     let s0 = state g.S.Store c.args.tx.now.conn.now in
-    let s1 = state g.S.Store c.insert_each_quarantine.new.tx.conn.now in
+    let s1 = state g.S.Store c.insert_each.new.tx.conn.now in
     let s2 = state g.S.Store c.upsert_each_outbox.new.tx.conn.now in
-    let s3 = state g.S.Store c.insert_each_seen.new.tx.conn.now in
-    let s4 = state g.S.Store c.insert_each_parent.new.tx.conn.now in
-    let p1 = quarantine_in_all (adds (map quarantine_values it.quarantine)) s0 s1 c.insert_each_quarantine.result (rw c.as_slice.ensures at c.insert_each_quarantine.ensures.wrote) in
+    let s3 = state g.S.Store c.insert_each-2.new.tx.conn.now in
+    let s4 = state g.S.Store c.insert_each-3.new.tx.conn.now in
+    let p1 = quarantine_in_all (adds (map quarantine_values it.quarantine)) s0 s1 c.insert_each.result (rw c.as_slice.ensures at c.insert_each.ensures.wrote) in
     let p2 = outbox_in_all (puts_outbox it.outbox) s1 s2 c.upsert_each_outbox.result (rw c.as_slice-2.ensures at c.upsert_each_outbox.ensures.wrote) in
-    let p3 = seen_in_all (adds (map seen_values it.seen)) s2 s3 c.insert_each_seen.result (rw c.as_slice-3.ensures at c.insert_each_seen.ensures.wrote) in
-    let p4 = parent_in_all (adds (map parent_values it.parent)) s3 s4 c.insert_each_parent.result (rw c.as_slice-4.ensures at c.insert_each_parent.ensures.wrote) in
-    let q2 = all_then _ _ s0 s1 s2 c.insert_each_quarantine.result c.in_ok-insert_each_quarantine.field-0 c.upsert_each_outbox.result c.in_ok-insert_each_quarantine.was p1 p2 in
-    let q3 = all_then _ _ s0 s2 s3 c.upsert_each_outbox.result c.in_ok-upsert_each_outbox.field-0 c.insert_each_seen.result c.in_ok-upsert_each_outbox.was q2 p3 in
-    all_then _ _ s0 s3 s4 c.insert_each_seen.result c.in_ok-insert_each_seen.field-0 c.insert_each_parent.result c.in_ok-insert_each_seen.was q3 p4
+    let p3 = seen_in_all (adds (map seen_values it.seen)) s2 s3 c.insert_each-2.result (rw c.as_slice-3.ensures at c.insert_each-2.ensures.wrote) in
+    let p4 = parent_in_all (adds (map parent_values it.parent)) s3 s4 c.insert_each-3.result (rw c.as_slice-4.ensures at c.insert_each-3.ensures.wrote) in
+    let q2 = all_then _ _ s0 s1 s2 c.insert_each.result c.in_ok-insert_each.field-0 c.upsert_each_outbox.result c.in_ok-insert_each.was p1 p2 in
+    let q3 = all_then _ _ s0 s2 s3 c.upsert_each_outbox.result c.in_ok-upsert_each_outbox.field-0 c.insert_each-2.result c.in_ok-upsert_each_outbox.was q2 p3 in
+    all_then _ _ s0 s3 s4 c.insert_each-2.result c.in_ok-insert_each-2.field-0 c.insert_each-3.result c.in_ok-insert_each-2.was q3 p4

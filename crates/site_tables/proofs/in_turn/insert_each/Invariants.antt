@@ -1,13 +1,11 @@
 use Rattle.std.proofs.Common.{◌≡◌, ◌+◌, min, map, take}
 use Rattle.sqlite.specs.Held.{state}
-use Rattle.site_tables.specs.Values.{part_values}
-use Rattle.site_tables.specs.Tables.{part}
 use Rattle.site_tables.specs.TableRows.{HasWritten, adds}
-use Rattle.site_tables.proofs.in_turn.insert_each_part.Given as goal
+use Rattle.site_tables.proofs.in_turn.insert_each.Given as goal
 
 -- the reference stays, the elements so far are written, and each was counted
 abbrev pub invariant-loop-row : goal.invariant-loop-row
 invariant-loop-row g l =
     (l.tx.conn.ghost_name ≡ l.fn.tx.conn.ghost_name)
-    × HasWritten part (adds (map part_values (take l.row-index l.rows))) (state g.S.Store l.fn.tx.conn.now) (state g.S.Store l.tx.conn.now)
+    × HasWritten g.T.Stored.listed (adds (map g.T.Stored.shown (take l.row-index l.rows))) (state g.S.Store l.fn.tx.conn.now) (state g.S.Store l.tx.conn.now)
     × (l.written ≡ min 18_446_744_073_709_551_615 (l.fn.written + l.row-index))
