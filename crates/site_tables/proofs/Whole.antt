@@ -4,126 +4,71 @@ use Rattle.std.proofs.lemmas.List.{map-append}
 use Rattle.sqlite.specs.Order.{Row}
 use Rattle.sqlite.specs.declared.error.Error.{Error}
 use Rattle.sqlite.specs.State.{State, HasCleanDisk, Survives}
+use Rattle.sqlite.specs.Table.{Table}
+use Rattle.sqlite.specs.Tree.{Trees}
 use Rattle.sqlite.proofs.StateLemmas.{survives_then}
 use Rattle.site_rows.specs.declared.rows.StoreRow.{StoreRow}
-use Rattle.site_tables.specs.Stored.{Contents, WritesAll}
-use Rattle.site_tables.specs.Tables.{store, site, address, event, part, quarantine, outbox, seen, parent, recall}
-use Rattle.site_tables.specs.TableRows.{HasRows, Writes}
+use Rattle.site_tables.specs.Stored.{Contents, Holds, WritesAll}
+use Rattle.site_tables.specs.Tables.{store, site, address, event, part, quarantine, outbox, seen, parent, recall, site_schema}
+use Rattle.site_tables.specs.TableRows.{HasRows, Keeps, Writes}
 use Rattle.site_tables.specs.Values.{store_values}
 use Rattle.site_tables.proofs.Steps.{goes_then, keeps_then, on_ok, on_err}
 
--- one table, with the others as before
-pub site_in_all : {X : Type 0} (f : List Row → List Row) (a b : State) (r : Result X Error) → Writes site f a b r → WritesAll (λ c. record c { site = f c.site }) a b r
-site_in_all f a b r p = record {
+-- a change of one table is one of all tables, by what it makes of their rows
+in_all : {X : Type 0} (table : Table) (f : List Row → List Row) (change : Contents → Contents)
+    → ((old new : Trees) (rows : Contents) → ((one : List Row) → HasRows table one (old table.tree) → HasRows table (f one) (new table.tree)) → Keeps site_schema table.tree old new → Holds rows old → Holds (change rows) new)
+    → (a b : State) (r : Result X Error) → Writes table f a b r → WritesAll change a b r
+in_all table f change holds a b r p = record {
   done = λ clean. on_ok r (λ d. record {
     goes_on = d.goes_on;
-    holds = λ has rows h. let it = d.changes has in let same = λ (t : _) (other : _) (plain : _). it.others t other (rw has plain) in
-        (it.schema ∙ has, record { store = rw (same 0 refl refl) h.store; site = it.rows rows.site h.site; address = rw (same 3 refl refl) h.address; event = rw (same 5 refl refl) h.event; part = rw (same 6 refl refl) h.part; quarantine = rw (same 8 refl refl) h.quarantine; outbox = rw (same 10 refl refl) h.outbox; seen = rw (same 11 refl refl) h.seen; parent = rw (same 13 refl refl) h.parent; recall = rw (same 15 refl refl) h.recall });
+    holds = λ has rows h. let it = d.changes has in (it.schema ∙ has, holds a.now.trees b.now.trees rows it.rows (λ t other plain. it.others t other (rw has plain)) h);
   }) (p.done clean);
   undone = p.undone;
   crash = p.crash;
 }
+
+-- the others are as before
+pub site_in_all : {X : Type 0} (f : List Row → List Row) (a b : State) (r : Result X Error) → Writes site f a b r → WritesAll (λ c. record c { site = f c.site }) a b r
+site_in_all f = in_all site f (λ c. record c { site = f c.site })
+    (λ old new rows put same h. record { store = rw (same 0 refl refl) h.store; site = put rows.site h.site; address = rw (same 3 refl refl) h.address; event = rw (same 5 refl refl) h.event; part = rw (same 6 refl refl) h.part; quarantine = rw (same 8 refl refl) h.quarantine; outbox = rw (same 10 refl refl) h.outbox; seen = rw (same 11 refl refl) h.seen; parent = rw (same 13 refl refl) h.parent; recall = rw (same 15 refl refl) h.recall })
 
 pub address_in_all : {X : Type 0} (f : List Row → List Row) (a b : State) (r : Result X Error) → Writes address f a b r → WritesAll (λ c. record c { address = f c.address }) a b r
-address_in_all f a b r p = record {
-  done = λ clean. on_ok r (λ d. record {
-    goes_on = d.goes_on;
-    holds = λ has rows h. let it = d.changes has in let same = λ (t : _) (other : _) (plain : _). it.others t other (rw has plain) in
-        (it.schema ∙ has, record { store = rw (same 0 refl refl) h.store; site = rw (same 1 refl refl) h.site; address = it.rows rows.address h.address; event = rw (same 5 refl refl) h.event; part = rw (same 6 refl refl) h.part; quarantine = rw (same 8 refl refl) h.quarantine; outbox = rw (same 10 refl refl) h.outbox; seen = rw (same 11 refl refl) h.seen; parent = rw (same 13 refl refl) h.parent; recall = rw (same 15 refl refl) h.recall });
-  }) (p.done clean);
-  undone = p.undone;
-  crash = p.crash;
-}
+address_in_all f = in_all address f (λ c. record c { address = f c.address })
+    (λ old new rows put same h. record { store = rw (same 0 refl refl) h.store; site = rw (same 1 refl refl) h.site; address = put rows.address h.address; event = rw (same 5 refl refl) h.event; part = rw (same 6 refl refl) h.part; quarantine = rw (same 8 refl refl) h.quarantine; outbox = rw (same 10 refl refl) h.outbox; seen = rw (same 11 refl refl) h.seen; parent = rw (same 13 refl refl) h.parent; recall = rw (same 15 refl refl) h.recall })
 
 pub event_in_all : {X : Type 0} (f : List Row → List Row) (a b : State) (r : Result X Error) → Writes event f a b r → WritesAll (λ c. record c { event = f c.event }) a b r
-event_in_all f a b r p = record {
-  done = λ clean. on_ok r (λ d. record {
-    goes_on = d.goes_on;
-    holds = λ has rows h. let it = d.changes has in let same = λ (t : _) (other : _) (plain : _). it.others t other (rw has plain) in
-        (it.schema ∙ has, record { store = rw (same 0 refl refl) h.store; site = rw (same 1 refl refl) h.site; address = rw (same 3 refl refl) h.address; event = it.rows rows.event h.event; part = rw (same 6 refl refl) h.part; quarantine = rw (same 8 refl refl) h.quarantine; outbox = rw (same 10 refl refl) h.outbox; seen = rw (same 11 refl refl) h.seen; parent = rw (same 13 refl refl) h.parent; recall = rw (same 15 refl refl) h.recall });
-  }) (p.done clean);
-  undone = p.undone;
-  crash = p.crash;
-}
+event_in_all f = in_all event f (λ c. record c { event = f c.event })
+    (λ old new rows put same h. record { store = rw (same 0 refl refl) h.store; site = rw (same 1 refl refl) h.site; address = rw (same 3 refl refl) h.address; event = put rows.event h.event; part = rw (same 6 refl refl) h.part; quarantine = rw (same 8 refl refl) h.quarantine; outbox = rw (same 10 refl refl) h.outbox; seen = rw (same 11 refl refl) h.seen; parent = rw (same 13 refl refl) h.parent; recall = rw (same 15 refl refl) h.recall })
 
 pub part_in_all : {X : Type 0} (f : List Row → List Row) (a b : State) (r : Result X Error) → Writes part f a b r → WritesAll (λ c. record c { part = f c.part }) a b r
-part_in_all f a b r p = record {
-  done = λ clean. on_ok r (λ d. record {
-    goes_on = d.goes_on;
-    holds = λ has rows h. let it = d.changes has in let same = λ (t : _) (other : _) (plain : _). it.others t other (rw has plain) in
-        (it.schema ∙ has, record { store = rw (same 0 refl refl) h.store; site = rw (same 1 refl refl) h.site; address = rw (same 3 refl refl) h.address; event = rw (same 5 refl refl) h.event; part = it.rows rows.part h.part; quarantine = rw (same 8 refl refl) h.quarantine; outbox = rw (same 10 refl refl) h.outbox; seen = rw (same 11 refl refl) h.seen; parent = rw (same 13 refl refl) h.parent; recall = rw (same 15 refl refl) h.recall });
-  }) (p.done clean);
-  undone = p.undone;
-  crash = p.crash;
-}
+part_in_all f = in_all part f (λ c. record c { part = f c.part })
+    (λ old new rows put same h. record { store = rw (same 0 refl refl) h.store; site = rw (same 1 refl refl) h.site; address = rw (same 3 refl refl) h.address; event = rw (same 5 refl refl) h.event; part = put rows.part h.part; quarantine = rw (same 8 refl refl) h.quarantine; outbox = rw (same 10 refl refl) h.outbox; seen = rw (same 11 refl refl) h.seen; parent = rw (same 13 refl refl) h.parent; recall = rw (same 15 refl refl) h.recall })
 
 pub quarantine_in_all : {X : Type 0} (f : List Row → List Row) (a b : State) (r : Result X Error) → Writes quarantine f a b r → WritesAll (λ c. record c { quarantine = f c.quarantine }) a b r
-quarantine_in_all f a b r p = record {
-  done = λ clean. on_ok r (λ d. record {
-    goes_on = d.goes_on;
-    holds = λ has rows h. let it = d.changes has in let same = λ (t : _) (other : _) (plain : _). it.others t other (rw has plain) in
-        (it.schema ∙ has, record { store = rw (same 0 refl refl) h.store; site = rw (same 1 refl refl) h.site; address = rw (same 3 refl refl) h.address; event = rw (same 5 refl refl) h.event; part = rw (same 6 refl refl) h.part; quarantine = it.rows rows.quarantine h.quarantine; outbox = rw (same 10 refl refl) h.outbox; seen = rw (same 11 refl refl) h.seen; parent = rw (same 13 refl refl) h.parent; recall = rw (same 15 refl refl) h.recall });
-  }) (p.done clean);
-  undone = p.undone;
-  crash = p.crash;
-}
+quarantine_in_all f = in_all quarantine f (λ c. record c { quarantine = f c.quarantine })
+    (λ old new rows put same h. record { store = rw (same 0 refl refl) h.store; site = rw (same 1 refl refl) h.site; address = rw (same 3 refl refl) h.address; event = rw (same 5 refl refl) h.event; part = rw (same 6 refl refl) h.part; quarantine = put rows.quarantine h.quarantine; outbox = rw (same 10 refl refl) h.outbox; seen = rw (same 11 refl refl) h.seen; parent = rw (same 13 refl refl) h.parent; recall = rw (same 15 refl refl) h.recall })
 
 pub outbox_in_all : {X : Type 0} (f : List Row → List Row) (a b : State) (r : Result X Error) → Writes outbox f a b r → WritesAll (λ c. record c { outbox = f c.outbox }) a b r
-outbox_in_all f a b r p = record {
-  done = λ clean. on_ok r (λ d. record {
-    goes_on = d.goes_on;
-    holds = λ has rows h. let it = d.changes has in let same = λ (t : _) (other : _) (plain : _). it.others t other (rw has plain) in
-        (it.schema ∙ has, record { store = rw (same 0 refl refl) h.store; site = rw (same 1 refl refl) h.site; address = rw (same 3 refl refl) h.address; event = rw (same 5 refl refl) h.event; part = rw (same 6 refl refl) h.part; quarantine = rw (same 8 refl refl) h.quarantine; outbox = it.rows rows.outbox h.outbox; seen = rw (same 11 refl refl) h.seen; parent = rw (same 13 refl refl) h.parent; recall = rw (same 15 refl refl) h.recall });
-  }) (p.done clean);
-  undone = p.undone;
-  crash = p.crash;
-}
+outbox_in_all f = in_all outbox f (λ c. record c { outbox = f c.outbox })
+    (λ old new rows put same h. record { store = rw (same 0 refl refl) h.store; site = rw (same 1 refl refl) h.site; address = rw (same 3 refl refl) h.address; event = rw (same 5 refl refl) h.event; part = rw (same 6 refl refl) h.part; quarantine = rw (same 8 refl refl) h.quarantine; outbox = put rows.outbox h.outbox; seen = rw (same 11 refl refl) h.seen; parent = rw (same 13 refl refl) h.parent; recall = rw (same 15 refl refl) h.recall })
 
 pub seen_in_all : {X : Type 0} (f : List Row → List Row) (a b : State) (r : Result X Error) → Writes seen f a b r → WritesAll (λ c. record c { seen = f c.seen }) a b r
-seen_in_all f a b r p = record {
-  done = λ clean. on_ok r (λ d. record {
-    goes_on = d.goes_on;
-    holds = λ has rows h. let it = d.changes has in let same = λ (t : _) (other : _) (plain : _). it.others t other (rw has plain) in
-        (it.schema ∙ has, record { store = rw (same 0 refl refl) h.store; site = rw (same 1 refl refl) h.site; address = rw (same 3 refl refl) h.address; event = rw (same 5 refl refl) h.event; part = rw (same 6 refl refl) h.part; quarantine = rw (same 8 refl refl) h.quarantine; outbox = rw (same 10 refl refl) h.outbox; seen = it.rows rows.seen h.seen; parent = rw (same 13 refl refl) h.parent; recall = rw (same 15 refl refl) h.recall });
-  }) (p.done clean);
-  undone = p.undone;
-  crash = p.crash;
-}
+seen_in_all f = in_all seen f (λ c. record c { seen = f c.seen })
+    (λ old new rows put same h. record { store = rw (same 0 refl refl) h.store; site = rw (same 1 refl refl) h.site; address = rw (same 3 refl refl) h.address; event = rw (same 5 refl refl) h.event; part = rw (same 6 refl refl) h.part; quarantine = rw (same 8 refl refl) h.quarantine; outbox = rw (same 10 refl refl) h.outbox; seen = put rows.seen h.seen; parent = rw (same 13 refl refl) h.parent; recall = rw (same 15 refl refl) h.recall })
 
 pub parent_in_all : {X : Type 0} (f : List Row → List Row) (a b : State) (r : Result X Error) → Writes parent f a b r → WritesAll (λ c. record c { parent = f c.parent }) a b r
-parent_in_all f a b r p = record {
-  done = λ clean. on_ok r (λ d. record {
-    goes_on = d.goes_on;
-    holds = λ has rows h. let it = d.changes has in let same = λ (t : _) (other : _) (plain : _). it.others t other (rw has plain) in
-        (it.schema ∙ has, record { store = rw (same 0 refl refl) h.store; site = rw (same 1 refl refl) h.site; address = rw (same 3 refl refl) h.address; event = rw (same 5 refl refl) h.event; part = rw (same 6 refl refl) h.part; quarantine = rw (same 8 refl refl) h.quarantine; outbox = rw (same 10 refl refl) h.outbox; seen = rw (same 11 refl refl) h.seen; parent = it.rows rows.parent h.parent; recall = rw (same 15 refl refl) h.recall });
-  }) (p.done clean);
-  undone = p.undone;
-  crash = p.crash;
-}
+parent_in_all f = in_all parent f (λ c. record c { parent = f c.parent })
+    (λ old new rows put same h. record { store = rw (same 0 refl refl) h.store; site = rw (same 1 refl refl) h.site; address = rw (same 3 refl refl) h.address; event = rw (same 5 refl refl) h.event; part = rw (same 6 refl refl) h.part; quarantine = rw (same 8 refl refl) h.quarantine; outbox = rw (same 10 refl refl) h.outbox; seen = rw (same 11 refl refl) h.seen; parent = put rows.parent h.parent; recall = rw (same 15 refl refl) h.recall })
 
 pub recall_in_all : {X : Type 0} (f : List Row → List Row) (a b : State) (r : Result X Error) → Writes recall f a b r → WritesAll (λ c. record c { recall = f c.recall }) a b r
-recall_in_all f a b r p = record {
-  done = λ clean. on_ok r (λ d. record {
-    goes_on = d.goes_on;
-    holds = λ has rows h. let it = d.changes has in let same = λ (t : _) (other : _) (plain : _). it.others t other (rw has plain) in
-        (it.schema ∙ has, record { store = rw (same 0 refl refl) h.store; site = rw (same 1 refl refl) h.site; address = rw (same 3 refl refl) h.address; event = rw (same 5 refl refl) h.event; part = rw (same 6 refl refl) h.part; quarantine = rw (same 8 refl refl) h.quarantine; outbox = rw (same 10 refl refl) h.outbox; seen = rw (same 11 refl refl) h.seen; parent = rw (same 13 refl refl) h.parent; recall = it.rows rows.recall h.recall });
-  }) (p.done clean);
-  undone = p.undone;
-  crash = p.crash;
-}
+recall_in_all f = in_all recall f (λ c. record c { recall = f c.recall })
+    (λ old new rows put same h. record { store = rw (same 0 refl refl) h.store; site = rw (same 1 refl refl) h.site; address = rw (same 3 refl refl) h.address; event = rw (same 5 refl refl) h.event; part = rw (same 6 refl refl) h.part; quarantine = rw (same 8 refl refl) h.quarantine; outbox = rw (same 10 refl refl) h.outbox; seen = rw (same 11 refl refl) h.seen; parent = rw (same 13 refl refl) h.parent; recall = put rows.recall h.recall })
 
 -- the rows of the store stand for values, which the change is said of
 pub store_in_all : {X : Type 0} (f : List Row → List Row) (of : List StoreRow → List StoreRow) → ((rows : List StoreRow) → f (map store_values rows) ≡ map store_values (of rows)) → (a b : State) (r : Result X Error)
     → Writes store f a b r → WritesAll (λ c. record c { store = of c.store }) a b r
-store_in_all f of is a b r p = record {
-  done = λ clean. on_ok r (λ d. record {
-    goes_on = d.goes_on;
-    holds = λ has rows h. let it = d.changes has in let same = λ (t : _) (other : _) (plain : _). it.others t other (rw has plain) in
-        (it.schema ∙ has, record { store = subst (λ x. HasRows store x (b.now.trees 0)) (is rows.store) (it.rows (map store_values rows.store) h.store); site = rw (same 1 refl refl) h.site; address = rw (same 3 refl refl) h.address; event = rw (same 5 refl refl) h.event; part = rw (same 6 refl refl) h.part; quarantine = rw (same 8 refl refl) h.quarantine; outbox = rw (same 10 refl refl) h.outbox; seen = rw (same 11 refl refl) h.seen; parent = rw (same 13 refl refl) h.parent; recall = rw (same 15 refl refl) h.recall });
-  }) (p.done clean);
-  undone = p.undone;
-  crash = p.crash;
-}
+store_in_all f of is = in_all store f (λ c. record c { store = of c.store })
+    (λ old new rows put same h. record { store = subst (λ x. HasRows store x (new 0)) (is rows.store) (put (map store_values rows.store) h.store); site = rw (same 1 refl refl) h.site; address = rw (same 3 refl refl) h.address; event = rw (same 5 refl refl) h.event; part = rw (same 6 refl refl) h.part; quarantine = rw (same 8 refl refl) h.quarantine; outbox = rw (same 10 refl refl) h.outbox; seen = rw (same 11 refl refl) h.seen; parent = rw (same 13 refl refl) h.parent; recall = rw (same 15 refl refl) h.recall })
 
 pub rows_added : (more rows : List StoreRow) → map store_values rows ++ map store_values more ≡ map store_values (rows ++ more)
 rows_added more rows = sym (map-append store_values rows more)
