@@ -8,11 +8,11 @@ use Rattle.sqlite.specs.State.{State, HasCleanDisk}
 use Rattle.sqlite.specs.declared.error.Error.{Error}
 use Rattle.sqlite.proofs.StateLemmas.{survives_then}
 use Rattle.sqlite_catalog.specs.Change.{created, next_tree, KeepsRows}
-use Rattle.site_tables.specs.Made.{with_recall, AreEmpty, MakesTables}
 use Rattle.sqlite.specs.Order.{Row}
-use Rattle.site_tables.specs.Stored.{Holds, no_rows}
+use Rattle.site_tables.specs.Made.{with_recall, AreEmpty, DoesMake, MakesTables}
+use Rattle.site_tables.specs.Stored.{Contents, DoesAll, Holds, no_rows}
 use Rattle.site_tables.specs.TableRows.{HasRows, Creates}
-use Rattle.site_tables.specs.Tables.{store, site, address, event, part, quarantine, outbox, seen, parent, recall}
+use Rattle.site_tables.specs.Tables.{store, site, address, event, part, quarantine, outbox, seen, parent, recall, no_schema, site_schema}
 use Rattle.site_tables.proofs.Steps.{goes_then, keeps_then, on_ok, on_err}
 
 -- tables that stay are as empty as before, and a new one has no row
@@ -62,3 +62,7 @@ none_held trees none = record {
   parent = no_rows_in parent (trees 13) none.1.1.1.1.1.1.1.1.0;
   recall = no_rows_in recall (trees 15) none.1.1.1.1.1.1.1.1.1.0;
 }
+
+-- tables that were made, and then filled, hold the rows
+pub filled_hold : (fills : Contents → Contents) (begun made mid : State) → DoesMake no_schema with_recall begun made → DoesAll fills made mid → begun.now.schema ≡ no_schema → (mid.now.schema ≡ site_schema) × Holds (fills no_rows) mid.now.trees
+filled_hold fills begun made mid one two empty = two.holds (one.schema empty) no_rows (none_held made.now.trees (one.empty empty tt))

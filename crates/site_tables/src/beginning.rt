@@ -1,9 +1,9 @@
 //! A site's tables made, with the rows of the site, in one transaction.
 ghost use Rattle.std.specs.Prelude.{◌≡◌, false, OnOk};
-ghost use Rattle.sqlite.specs.State.{HasCleanDisk};
+ghost use Rattle.sqlite.specs.State.{HasCleanDisk, Survives};
 ghost use Rattle.sqlite.specs.Held.{state};
 ghost use Rattle.site_tables.specs.Filled.{with_sites, with_events, with_messages, with_recalls, with_rows};
-ghost use Rattle.site_tables.specs.Stored.{IsStored, WritesAll, contents_of};
+ghost use Rattle.site_tables.specs.Stored.{Holds, IsStored, WritesAll, contents_of};
 ghost use Rattle.site_tables.specs.Tables.{no_schema};
 
 use crate::create::create_tables;
@@ -76,7 +76,8 @@ fn fill<S: Alter>(tx: &mut Transaction<'_, S>, rows: &Rows, written: &mut u64) -
     fill_recalls(tx, rows, written)
 }
 
-/// Makes the tables with these rows, in one transaction, in an empty database.
+/// Makes the tables with these rows, in one transaction, in an empty database. At any moment a crash leaves none of
+/// them, or all with these rows.
 ///
 /// # Errors
 /// The database's.
@@ -85,6 +86,7 @@ pub fn create_site<S: Alter>(conn: &mut Connection<S>, rows: &Rows) -> Result<()
     ensures mode { conn.new.in_transaction ≡ false }
     ensures stored { HasCleanDisk (state S.Store conn.new) → (state S.Store conn.old).now.schema ≡ no_schema
         → OnOk result (IsStored (contents_of rows.now) (state S.Store conn.new)) }
+    ensures crash { Survives (state S.Store conn.old) (state S.Store conn.new) (λ db. (state S.Store conn.old).now.schema ≡ no_schema → Holds (contents_of rows.now) db) }
 {
     let mut written: u64 = 0;
     let mut tx = conn.transaction();
