@@ -4,9 +4,39 @@ mod faults;
 mod readings;
 mod sites;
 
-use event_json::{Event, ReadFault, Sites, SitesFault, read_document};
+use event_json::{Event, Sites, SitesFault, read_document};
 use std::alloc::{AllocError, Global};
 use std::test::*;
+
+/// What stands before a text of a row, and what behind it.
+type Around = (&'static str, &'static str);
+
+/// A row is a whole text.
+const NOTHING: Around = ("", "");
+
+/// A row is the events of a document, which are parted by commas.
+const EVENTS: Around = (
+    r#"{"type":"EPCISDocument","epcisBody":{"eventList":["#,
+    "]}}",
+);
+
+/// A row is further members of an ObjectEvent, each after a comma; of a repeated one the last counts.
+const OBJECT: Around = (
+    r#"{"type":"ObjectEvent","eventTime":"2024-05-01T08:00:00Z","eventTimeZoneOffset":"+00:00","action":"OBSERVE","epcList":["x"]"#,
+    "}",
+);
+
+/// A row is further members of a TransformationEvent of x into y.
+const TRANSFORMATION: Around = (
+    r#"{"type":"TransformationEvent","eventTime":"2024-05-01T08:00:00Z","eventTimeZoneOffset":"+00:00","inputEPCList":["x"],"outputEPCList":["y"]"#,
+    "}",
+);
+
+/// The text of a row with what stands around it.
+fn within(alloc: Global, around: Around, row: &str) -> Result<String, AllocError> {
+    let (before, behind) = around;
+    format!(in alloc; "{before}{row}{behind}")
+}
 
 /// The sites `A`, with the address `a`, and `B`, with `b` and `c`.
 fn two_sites(alloc: Global) -> Result<Sites, SitesFault> {
@@ -25,55 +55,20 @@ fn outcome(alloc: Global, text: &str) -> Result<String, Fail> {
     }
 }
 
-/// What the text of a row is: a document, or the further members of its one event.
-#[derive(Clone, Copy)]
-enum RowsOf {
-    Documents,
-    Objects,
-    Transformations,
+/// Whether the text of a row with what stands around it has this outcome.
+fn is_outcome(alloc: Global, around: Around, row: &str, want: &str) -> Result<bool, Fail> {
+    let text = within(alloc, around, row)?;
+    Ok(outcome(alloc, text.as_str())?.as_str() == want)
 }
 
 /// Whether each row has the outcome beside its text.
-fn have_outcomes(alloc: Global, rows_of: RowsOf, rows: &[(&str, &str)]) -> Result<bool, Fail> {
+fn have_outcomes(alloc: Global, around: Around, rows: &[(&str, &str)]) -> Result<bool, Fail> {
     for (text, want) in rows {
-        if !has_outcome(alloc, rows_of, text, want)? {
+        if !is_outcome(alloc, around, text, want)? {
             return Ok(false);
         }
     }
     Ok(true)
-}
-
-/// Whether a row has this outcome.
-fn has_outcome(alloc: Global, rows_of: RowsOf, text: &str, want: &str) -> Result<bool, Fail> {
-    match rows_of {
-        RowsOf::Documents => is_outcome(alloc, text, want),
-        RowsOf::Objects => is_outcome(alloc, object(alloc, text)?.as_str(), want),
-        RowsOf::Transformations => is_outcome(alloc, transformation(alloc, text)?.as_str(), want),
-    }
-}
-
-/// Whether a document has this outcome.
-fn is_outcome(alloc: Global, document: &str, want: &str) -> Result<bool, Fail> {
-    Ok(outcome(alloc, document)?.as_str() == want)
-}
-
-/// An ObjectEvent with further members, each after a comma; of a repeated one the last counts.
-fn object(alloc: Global, members: &str) -> Result<String, AllocError> {
-    format!(in alloc;
-        "{{\"type\":\"ObjectEvent\",\"eventTime\":\"2024-05-01T08:00:00Z\",\"eventTimeZoneOffset\":\"+00:00\",\"action\":\"OBSERVE\",\"epcList\":[\"x\"]{members}}}"
-    )
-}
-
-/// A TransformationEvent of x into y with further members, each after a comma.
-fn transformation(alloc: Global, members: &str) -> Result<String, AllocError> {
-    format!(in alloc;
-        "{{\"type\":\"TransformationEvent\",\"eventTime\":\"2024-05-01T08:00:00Z\",\"eventTimeZoneOffset\":\"+00:00\",\"inputEPCList\":[\"x\"],\"outputEPCList\":[\"y\"]{members}}}"
-    )
-}
-
-/// A document of these events, which are parted by commas.
-fn document(alloc: Global, events: &str) -> Result<String, AllocError> {
-    format!(in alloc; "{{\"type\":\"EPCISDocument\",\"epcisBody\":{{\"eventList\":[{events}]}}}}")
 }
 
 /// The one event of a document.

@@ -1,7 +1,6 @@
 //! Expected values are computed by hand, or stand in the GS1 standards.
 use epc_core::{Epc, EpcFault};
 use std::alloc::Global;
-use std::hash::{DefaultHasher, Hash, Hasher};
 use std::test::Fail;
 
 /// Whether each text has the key beside it.
@@ -148,66 +147,5 @@ fn refusals(rt: HostRuntime) -> Result<(), Fail> {
     assert!(rt; is_refused(rt.alloc(), "", EpcFault::Empty));
     assert!(rt; is_refused(rt.alloc(), "a b", EpcFault::BadByte(1)));
     assert!(rt; is_refused(rt.alloc(), "\u{7f}", EpcFault::BadByte(0)));
-    Ok(())
-}
-
-/// Whether the key gives an item that has it, and of which an equal one is made.
-fn is_given_back(alloc: Global, key: &str) -> Result<bool, Fail> {
-    match Epc::from_key(alloc, key)? {
-        Some(item) => has_copy(alloc, &item, key),
-        None => Ok(false),
-    }
-}
-
-/// Whether an equal item is made of an item, with this key.
-fn has_copy(alloc: Global, item: &Epc, key: &str) -> Result<bool, Fail> {
-    let copy = item.copy(alloc)?;
-    Ok(copy.key(alloc)?.as_str() == key && hashed(&copy) == hashed(item))
-}
-
-/// What a hasher makes of an item.
-fn hashed(item: &Epc) -> u64 {
-    let mut state = DefaultHasher::new();
-    item.hash(&mut state);
-    state.finish()
-}
-
-// A key gives its item back.
-#[test]
-fn keys(rt: HostRuntime) -> Result<(), Fail> {
-    assert!(rt; is_given_back(rt.alloc(), "sgtin 10614141123459 50%/?")?);
-    assert!(rt; is_given_back(rt.alloc(), "sscc 106141412345678908")?);
-    assert!(rt; is_given_back(rt.alloc(), "uri urn:epc:id:sgtin:0614141.112345.")?);
-    Ok(())
-}
-
-/// Whether no text is the key of an item.
-fn are_no_keys(alloc: Global, texts: &[&str]) -> Result<bool, Fail> {
-    for text in texts {
-        if is_key(alloc, text)? {
-            return Ok(false);
-        }
-    }
-    Ok(true)
-}
-
-/// Whether a text is the key of an item.
-fn is_key(alloc: Global, text: &str) -> Result<bool, Fail> {
-    Ok(Epc::from_key(alloc, text)?.is_some())
-}
-
-// Of texts that are the key of no item, both spellings of a number among them, none is told as want
-// of memory.
-#[test]
-fn no_keys(rt: HostRuntime) -> Result<(), Fail> {
-    let texts = [
-        "sgtin 10614141123458 400",
-        "sscc 106141412345678907",
-        "uri urn:epc:id:sgtin:0614141.112345.400",
-        "uri https://id.gs1.org/00/106141412345678908",
-        "uri a b",
-        "y",
-    ];
-    assert!(rt; are_no_keys(rt.alloc(), &texts)?);
     Ok(())
 }

@@ -1,6 +1,6 @@
 //! Each kind of fault as it is printed, with its event and field. None is told as want of memory.
 
-use super::{RowsOf, document, have_outcomes, is_outcome, object, transformation};
+use super::{EVENTS, NOTHING, OBJECT, TRANSFORMATION, have_outcomes, is_outcome, within};
 use std::alloc::{AllocError, Global};
 use std::test::*;
 
@@ -35,7 +35,7 @@ fn of_documents(rt: HostRuntime) -> Result<(), Fail> {
             "read 0 skipped 1",
         ),
     ];
-    assert!(rt; have_outcomes(rt.alloc(), RowsOf::Documents, &rows)?);
+    assert!(rt; have_outcomes(rt.alloc(), NOTHING, &rows)?);
     Ok(())
 }
 
@@ -80,7 +80,7 @@ fn of_object_events(rt: HostRuntime) -> Result<(), Fail> {
             "read 1 skipped 0",
         ),
     ];
-    assert!(rt; have_outcomes(rt.alloc(), RowsOf::Objects, &rows)?);
+    assert!(rt; have_outcomes(rt.alloc(), OBJECT, &rows)?);
     Ok(())
 }
 
@@ -108,7 +108,7 @@ fn of_transformations(rt: HostRuntime) -> Result<(), Fail> {
             "read 1 skipped 0",
         ),
     ];
-    assert!(rt; have_outcomes(rt.alloc(), RowsOf::Transformations, &rows)?);
+    assert!(rt; have_outcomes(rt.alloc(), TRANSFORMATION, &rows)?);
     Ok(())
 }
 
@@ -127,7 +127,7 @@ fn push_repeated(all: &mut String, text: &str, count: u32) -> Result<(), AllocEr
 fn events_have(alloc: Global, count: u32, want: &str) -> Result<bool, Fail> {
     let mut events = String::new(alloc);
     push_repeated(&mut events, "{\"type\":\"TransactionEvent\"}", count)?;
-    is_outcome(alloc, document(alloc, events.as_str())?.as_str(), want)
+    is_outcome(alloc, EVENTS, events.as_str(), want)
 }
 
 /// Whether an ObjectEvent of so many members that are no texts has this outcome.
@@ -136,7 +136,7 @@ fn items_have(alloc: Global, count: u32, want: &str) -> Result<bool, Fail> {
     members.push_str(",\"epcList\":[")?;
     push_repeated(&mut members, "5", count)?;
     members.push_str("]")?;
-    is_outcome(alloc, object(alloc, members.as_str())?.as_str(), want)
+    is_outcome(alloc, OBJECT, members.as_str(), want)
 }
 
 // Events that are skipped count too.
@@ -151,10 +151,10 @@ fn of_too_many(rt: HostRuntime) -> Result<(), Fail> {
 
 /// Whether a document of a shipment, an event that is skipped and half a transformation has this outcome.
 fn third_has(alloc: Global, want: &str) -> Result<bool, Fail> {
-    let whole = object(alloc, "")?;
-    let half = transformation(alloc, r#","outputEPCList":[]"#)?;
+    let whole = within(alloc, OBJECT, "")?;
+    let half = within(alloc, TRANSFORMATION, r#","outputEPCList":[]"#)?;
     let events = format!(in alloc; "{whole},{{\"type\":\"TransactionEvent\"}},{half}")?;
-    is_outcome(alloc, document(alloc, events.as_str())?.as_str(), want)
+    is_outcome(alloc, EVENTS, events.as_str(), want)
 }
 
 // A fault behind events that are kept, and one that is skipped.

@@ -1,11 +1,17 @@
 //! What is read of documents.
 
-use super::{RowsOf, document, have_outcomes, object, only_event, transformation, two_sites};
-use event_json::{Body, Doc, Event, SiteNo, read_document};
-use std::alloc::{AllocError, Global};
+use super::{Around, NOTHING, OBJECT, have_outcomes, only_event, within};
+use event_json::{Body, Event, SiteNo};
+use std::alloc::Global;
 use std::test::*;
 
-/// Whether each event time, at an offset that it doesn't depend on, is the instant beside it.
+/// A row is the time of an event, at an offset on which its instant doesn't depend.
+const TIME: Around = (
+    r#"{"type":"ObjectEvent","eventTimeZoneOffset":"-05:00","action":"OBSERVE","epcList":["x"],"eventTime":""#,
+    r#""}"#,
+);
+
+/// Whether each event time is the instant beside it.
 fn are_instants(alloc: Global, rows: &[(&str, i128)]) -> Result<bool, Fail> {
     for (time, want) in rows {
         if instant(alloc, time)? != *want {
@@ -17,10 +23,7 @@ fn are_instants(alloc: Global, rows: &[(&str, i128)]) -> Result<bool, Fail> {
 
 /// The instant of an event time.
 fn instant(alloc: Global, time: &str) -> Result<i128, Fail> {
-    let members = format!(in alloc;
-        ",\"eventTime\":\"{time}\",\"eventTimeZoneOffset\":\"-05:00\""
-    )?;
-    let text = object(alloc, members.as_str())?;
+    let text = within(alloc, TIME, time)?;
     Ok(only_event(alloc, text.as_str())?.instant())
 }
 
@@ -65,70 +68,18 @@ fn ships(event: &Event) -> bool {
     }
 }
 
-/// Whether the one event of a document is such a shipment with the eventID e.
-fn is_shipment(alloc: Global, text: &str) -> Result<bool, Fail> {
-    let event = only_event(alloc, text)?;
+/// Whether an ObjectEvent with these members is such a shipment with the eventID e.
+fn is_shipment(alloc: Global, members: &str) -> Result<bool, Fail> {
+    let text = within(alloc, OBJECT, members)?;
+    let event = only_event(alloc, text.as_str())?;
     Ok(has_id(&event, "e") && ships(&event))
 }
 
 #[test]
 fn shipments(rt: HostRuntime) -> Result<(), Fail> {
-    let text = object(
-        rt.alloc(),
-        ",\"eventID\":\"e\",\"destinationList\":[{\"destination\":\"c\"},{\"destination\":\"B\"},{\"destination\":\"a\"},{\"destination\":\"b\"}]",
-    )?;
-    assert!(rt; is_shipment(rt.alloc(), text.as_str())?);
-    Ok(())
-}
-
-/// Whether an event is equal to its copy.
-fn is_copied(alloc: Global, event: &Event) -> Result<bool, AllocError> {
-    Ok(are_equal(event, &event.copy(alloc)?))
-}
-
-/// Whether two events are equal.
-fn are_equal(one: &Event, two: &Event) -> bool {
-    *one == *two
-}
-
-/// Whether the events of two documents differ, and the first one is equal to its copy.
-fn are_two_events(alloc: Global, first: &str, other: &str) -> Result<bool, Fail> {
-    let one = only_event(alloc, first)?;
-    let two = only_event(alloc, other)?;
-    Ok(!are_equal(&one, &two) && is_copied(alloc, &one)?)
-}
-
-// Another time makes another event.
-#[test]
-fn equal_events(rt: HostRuntime) -> Result<(), Fail> {
-    let first = transformation(rt.alloc(), "")?;
-    let other = transformation(rt.alloc(), ",\"eventTime\":\"2024-05-01T08:00:01Z\"")?;
-    assert!(rt; are_two_events(rt.alloc(), first.as_str(), other.as_str())?);
-    Ok(())
-}
-
-/// Whether a copy of a document has the same events, and as many skipped: one.
-fn doc_is_copied(alloc: Global, doc: &Doc) -> Result<bool, AllocError> {
-    let copy = doc.copy(alloc)?;
-    Ok(copy.skipped == 1 && copy.events == doc.events)
-}
-
-/// So it is of the document that is read of a text.
-fn text_is_copied(alloc: Global, text: &str) -> Result<bool, Fail> {
-    let sites = two_sites(alloc)?;
-    let doc = read_document(alloc, text.as_bytes(), &sites)?;
-    Ok(doc_is_copied(alloc, &doc)?)
-}
-
-#[test]
-fn copies(rt: HostRuntime) -> Result<(), Fail> {
-    let shipment = object(
-        rt.alloc(),
-        ",\"destinationList\":[{\"destination\":\"b\"},{\"destination\":\"z\"}]",
-    )?;
-    let events = format!(in rt.alloc(); "{shipment},{{\"type\":\"TransactionEvent\"}}")?;
-    let text = document(rt.alloc(), events.as_str())?;
-    assert!(rt; text_is_copied(rt.alloc(), text.as_str())?);
+    let members =
+        r#","eventID":"e","destinationList":[{"destination":"c"},{"destination":"B"},{"destination":"a"},{"destination":"b"}]"#;
+    assert!(rt; is_shipment(rt.alloc(), members)?);
     Ok(())
 }
 
@@ -144,6 +95,6 @@ fn as_producers_write_them(rt: HostRuntime) -> Result<(), Fail> {
             "read 1 skipped 2",
         ),
     ];
-    assert!(rt; have_outcomes(rt.alloc(), RowsOf::Documents, &rows)?);
+    assert!(rt; have_outcomes(rt.alloc(), NOTHING, &rows)?);
     Ok(())
 }
