@@ -21,33 +21,47 @@ enum Given {
     /// A recall of the item.
     Recalled(&'static str),
     /// The first message of a site, which tells of the item under the first recall of A.
-    Told(u64, &'static str),
+    Told(At, &'static str),
     /// The signal of a site for the first message.
-    Signalled(u64),
+    Signalled(At),
 }
 
 use Given::{Made, Recalled, Shipped, Signalled, Told};
 
-/// The site of this number.
-fn number(number: u64) -> Result<SiteNo, Fail> {
-    Ok(SiteNo::of(number).ok_or("no such site")?)
+/// One of sites A, B and C.
+#[derive(Clone, Copy)]
+enum At {
+    A,
+    B,
+    C,
+}
+
+use At::{A, B, C};
+
+/// The number of a site.
+fn number(at: At) -> SiteNo {
+    match at {
+        A => SiteNo::of(0).unwrap(),
+        B => SiteNo::of(1).unwrap(),
+        C => SiteNo::of(2).unwrap(),
+    }
 }
 
 /// The first message of a site.
-fn first_of(site: u64) -> Result<MsgId, Fail> {
-    Ok(MsgId {
-        site: number(site)?,
+fn first_of(site: At) -> MsgId {
+    MsgId {
+        site: number(site),
         number: 1,
-    })
+    }
 }
 
-/// One of sites A, B and C, with an address each, which keeps nothing.
-fn empty(alloc: Global, me: u64) -> Result<SiteState, Fail> {
+/// A site with an address, as each of the others, which keeps nothing.
+fn empty(alloc: Global, me: At) -> Result<SiteState, Fail> {
     let mut sites = Sites::new(alloc);
     sites.add("A", &["a"])?;
     sites.add("B", &["b"])?;
     sites.add("C", &["c"])?;
-    let me = number(me)?;
+    let me = number(me);
     if me.number() >= sites.len() {
         return Err(Fail::new("no such site"));
     }
@@ -55,7 +69,7 @@ fn empty(alloc: Global, me: u64) -> Result<SiteState, Fail> {
 }
 
 /// What the site is handed.
-fn input(alloc: Global, me: u64, given: Given) -> Result<SiteInput, Fail> {
+fn input(alloc: Global, me: At, given: Given) -> Result<SiteInput, Fail> {
     let document = match given {
         Made(of, item) => format!(in alloc;
             "{{\"type\":\"TransformationEvent\",{TIMES},\"inputEPCList\":[\"{of}\"],\"outputEPCList\":[\"{item}\"]}}"
@@ -66,10 +80,10 @@ fn input(alloc: Global, me: u64, given: Given) -> Result<SiteInput, Fail> {
         Recalled(root) => return Ok(SiteInput::Start(Epc::read(alloc, root)?)),
         Told(from, item) => {
             return Ok(SiteInput::Deliver(Frame::Recall {
-                id: first_of(from)?,
-                dest: number(me)?,
+                id: first_of(from),
+                dest: number(me),
                 recall: RecallId {
-                    site: number(0)?,
+                    site: number(A),
                     number: 1,
                 },
                 item: Epc::read(alloc, item)?,
@@ -77,16 +91,16 @@ fn input(alloc: Global, me: u64, given: Given) -> Result<SiteInput, Fail> {
         }
         Signalled(by) => {
             return Ok(SiteInput::Deliver(Frame::Signal {
-                id: first_of(me)?,
-                by: number(by)?,
+                id: first_of(me),
+                by: number(by),
             }));
         }
     };
     Ok(SiteInput::Capture(Sequence::from_vec(document.into_bytes())))
 }
 
-/// The site of the number once it was given all this, one after another.
-fn site(alloc: Global, me: u64, given: &[Given]) -> Result<SiteState, Fail> {
+/// A site once it was given all this, one after another.
+fn site(alloc: Global, me: At, given: &[Given]) -> Result<SiteState, Fail> {
     let mut state = empty(alloc, me)?;
     for each in given {
         state.apply(&input(alloc, me, *each)?)?;
@@ -110,32 +124,34 @@ fn says(alloc: Global, sites: &[SiteState]) -> Result<Option<Misfit>, Fail> {
     }
 }
 
-/// Whether the check of these sites names just this condition and site; 0 where they fit together.
-fn names(alloc: Global, sites: &[SiteState], condition: u64, at: u64) -> Result<bool, Fail> {
-    let wanted = match condition {
-        0 => None,
-        condition => Some(Misfit {
-            condition,
-            site: number(at)?,
-        }),
-    };
-    Ok(says(alloc, sites)? == wanted)
+/// The misfit of this condition at this site.
+fn misfit(condition: u64, at: At) -> Option<Misfit> {
+    Some(Misfit {
+        condition,
+        site: number(at),
+    })
 }
 
 /// Sites A, B and C, each of which was given this.
 fn three(alloc: Global, given: [&[Given]; 3]) -> Result<Vec<SiteState>, Fail> {
     let mut sites = Vec::new(alloc);
-    for me in 0..3usize {
-        sites.push(site(alloc, me as u64, given[me])?)?;
-    }
+    let [a, b, c] = given;
+    add(alloc, &mut sites, A, a)?;
+    add(alloc, &mut sites, B, b)?;
+    add(alloc, &mut sites, C, c)?;
     Ok(sites)
 }
 
-/// Whether the check of sites A, B and C, which were given this, names just this condition and site; 0 where they fit
-/// together.
-fn is_charged(alloc: Global, given: [&[Given]; 3], condition: u64, at: u64) -> Result<bool, Fail> {
+/// Adds a site that was given this.
+fn add(alloc: Global, sites: &mut Vec<SiteState>, me: At, given: &[Given]) -> Result<(), Fail> {
+    sites.push(site(alloc, me, given)?)?;
+    Ok(())
+}
+
+/// Whether the check of sites A, B and C, which were given this, says this; None where they fit together.
+fn is_charged(alloc: Global, given: [&[Given]; 3], wanted: Option<Misfit>) -> Result<bool, Fail> {
     let sites = three(alloc, given)?;
-    names(alloc, &sites, condition, at)
+    Ok(says(alloc, &sites)? == wanted)
 }
 
 /// A made y of x and shipped it to B.
@@ -149,15 +165,15 @@ const ENDED: [Given; 4] = [
     Made("x", "y"),
     Shipped("y", "b"),
     Recalled("x"),
-    Signalled(1),
+    Signalled(B),
 ];
 
 #[test]
 fn sites_fit_before_and_after_a_recall(rt: HostRuntime) -> Result<(), Fail> {
     let alloc = rt.alloc();
-    assert!(rt; is_charged(alloc, [&FIRST_RUN, &[], &[]], 0, 0)?);
-    assert!(rt; is_charged(alloc, [&BEGUN, &[], &[]], 0, 0)?);
-    assert!(rt; is_charged(alloc, [&ENDED, &[Told(0, "y")], &[]], 0, 0)?);
+    assert!(rt; is_charged(alloc, [&FIRST_RUN, &[], &[]], None)?);
+    assert!(rt; is_charged(alloc, [&BEGUN, &[], &[]], None)?);
+    assert!(rt; is_charged(alloc, [&ENDED, &[Told(A, "y")], &[]], None)?);
     Ok(())
 }
 
@@ -165,9 +181,9 @@ fn sites_fit_before_and_after_a_recall(rt: HostRuntime) -> Result<(), Fail> {
 fn states_of_different_days_do_not_fit(rt: HostRuntime) -> Result<(), Fail> {
     let alloc = rt.alloc();
     // A knows that the recall has ended, and B was never told.
-    assert!(rt; is_charged(alloc, [&ENDED, &[], &[]], 2, 1)?);
+    assert!(rt; is_charged(alloc, [&ENDED, &[], &[]], misfit(2, B))?);
     // B was told of a recall that A never began.
-    assert!(rt; is_charged(alloc, [&[], &[Told(0, "y")], &[]], 3, 1)?);
+    assert!(rt; is_charged(alloc, [&[], &[Told(A, "y")], &[]], misfit(3, B))?);
     Ok(())
 }
 

@@ -1,16 +1,14 @@
-//! That the calls succeed with memory at hand, on the worked recall of two sites; and records to which no run
-//! leads.
+//! That the calls succeed with memory at hand, on the worked recall of two sites.
 //!
 //! An input is given in short, which holds no memory, so that little has to be dropped where a call fails.
 ghost use Rattle.std.specs.Prelude.{◌<◌};
 
 mod refusals;
-mod restored;
 
 use epc_core::Epc;
 use event_json::{Sequence, SiteNo, Sites};
 use frame_core::{Frame, FrameView, MsgId, RecallId};
-use site_core::{Effects, Quarantine, Refusal, SiteInput, SiteState, Stepped, emittable, step};
+use site_core::{Effects, Refusal, SiteInput, SiteState, Stepped, emittable, step};
 use std::alloc::Global;
 use std::test::Fail;
 
@@ -58,13 +56,13 @@ fn message(number: u64) -> MsgId {
 
 fn input(alloc: Global, short: Short) -> Result<SiteInput, Fail> {
     match short {
-        Short::Made(from, to) => document(format!(in alloc;
+        Short::Made(from, to) => Ok(document(format!(in alloc;
             "{{\"type\":\"TransformationEvent\",{TIMES},\"inputEPCList\":[\"{from}\"],\"outputEPCList\":[\"{to}\"]}}"
-        )?),
-        Short::Shipped(item, to, named) => document(format!(in alloc;
+        )?)),
+        Short::Shipped(item, to, named) => Ok(document(format!(in alloc;
             "{{\"type\":\"ObjectEvent\",{TIMES},{}\"action\":\"OBSERVE\",\"epcList\":[\"{item}\"],\"destinationList\":[{{\"destination\":\"{to}\"}}]}}",
             if named { ID } else { "" }
-        )?),
+        )?)),
         Short::Start(item) => {
             let text = format!(in alloc; "{item}")?;
             Ok(SiteInput::Start(Epc::read(alloc, text.as_str())?))
@@ -79,19 +77,27 @@ fn input(alloc: Global, short: Short) -> Result<SiteInput, Fail> {
     }
 }
 
-fn document(text: String) -> Result<SiteInput, Fail> {
-    Ok(SiteInput::Capture(Sequence::from_vec(text.into_bytes())))
+fn document(text: String) -> SiteInput {
+    SiteInput::Capture(Sequence::from_vec(text.into_bytes()))
 }
 
+/// An input, and what it is answered.
+type Row = (Short, Result<Effects, Refusal>);
+
 /// Whether the site gives this answer.
-fn gives(
-    alloc: Global,
-    state: &mut SiteState,
-    short: Short,
-    wanted: &Result<Effects, Refusal>,
-) -> Result<bool, Fail> {
-    let input = input(alloc, short)?;
-    Ok(state.apply(&input) == *wanted)
+fn gives(alloc: Global, state: &mut SiteState, row: &Row) -> Result<bool, Fail> {
+    let input = input(alloc, row.0)?;
+    Ok(state.apply(&input) == row.1)
+}
+
+/// Whether the site gives these answers, one after another.
+fn give(alloc: Global, state: &mut SiteState, rows: &[Row]) -> Result<bool, Fail> {
+    for row in rows {
+        if !gives(alloc, state, row)? {
+            return Ok(false);
+        }
+    }
+    Ok(true)
 }
 
 /// The sites A, B and C, with the addresses a, b and c.
@@ -114,25 +120,26 @@ fn fresh(alloc: Global, me: SiteNo) -> Result<SiteState, Fail> {
 }
 
 /// What the capture of one fresh event answers.
-const FRESH: Result<Effects, Refusal> = Ok(Effects::Captured {
+const FRESH: Effects = Effects::Captured {
     fresh: 1,
     known: 0,
     skipped: 0,
-});
+};
 
 /// Site A makes y of x, ships y to B, and starts a recall of x.
 fn recalls(alloc: Global, a: &mut SiteState) -> Result<bool, Fail> {
-    let started = Ok(Effects::Started {
+    let started = Effects::Started {
         recall: recall(),
         quarantined: 2,
         numbered: 1,
         ended: false,
-    });
-    Ok(
-        gives(alloc, a, Short::Made('x', 'y'), &FRESH)?
-            && gives(alloc, a, Short::Shipped('y', 'b', false), &FRESH)?
-            && gives(alloc, a, Short::Start('x'), &started)?,
-    )
+    };
+    let rows = [
+        (Short::Made('x', 'y'), Ok(FRESH)),
+        (Short::Shipped('y', 'b', false), Ok(FRESH)),
+        (Short::Start('x'), Ok(started)),
+    ];
+    give(alloc, a, &rows)
 }
 
 /// Whether A may send A.1 for B with y, and nothing else.
@@ -166,17 +173,14 @@ fn owes_signal(b: &SiteState) -> bool {
 
 /// B takes the message once, and may send its signal then.
 fn takes_once(alloc: Global, b: &mut SiteState) -> Result<bool, Fail> {
-    let taken = Ok(Effects::Received {
+    let taken = Effects::Received {
         quarantined: 1,
         numbered: 0,
         owed: false,
-    });
+    };
     let told = Short::Told(message(1), site(1));
-    Ok(
-        gives(alloc, b, told, &taken)?
-            && gives(alloc, b, told, &Ok(Effects::Repeat))?
-            && owes_signal(b),
-    )
+    let rows = [(told, Ok(taken)), (told, Ok(Effects::Repeat))];
+    Ok(give(alloc, b, &rows)? && owes_signal(b))
 }
 
 #[test]
@@ -203,35 +207,17 @@ fn is_stale(alloc: Global, a: &SiteState, unsent: &SiteInput) -> Result<bool, Fa
     Ok(matches!(step(alloc, a, unsent)?, Stepped::Same(Effects::Stale)))
 }
 
-/// A copy is held apart.
-fn is_copied(alloc: Global, a: &SiteState, last: &SiteInput) -> Result<bool, Fail> {
-    let mut copy = a.copy(alloc)?;
-    Ok(copy.apply(last).is_ok() && copy.outbox().is_empty() && a.outbox().len() == 1)
+/// Whether both are so at A.
+fn goes_on(alloc: Global, a: &SiteState) -> Result<bool, Fail> {
+    let last = input(alloc, Short::Signal(message(1), site(1)))?;
+    let unsent = input(alloc, Short::Signal(message(2), site(1)))?;
+    Ok(ends_apart(alloc, a, &last)? && is_stale(alloc, a, &unsent)?)
 }
 
 #[test]
 fn the_last_signal_ends_the_recall(rt: HostRuntime) -> Result<(), Fail> {
-    let last = input(rt.alloc(), Short::Signal(message(1), site(1)))?;
-    let unsent = input(rt.alloc(), Short::Signal(message(2), site(1)))?;
     let mut a = fresh(rt.alloc(), site(0))?;
     assert!(rt; recalls(rt.alloc(), &mut a)?);
-    assert!(rt; ends_apart(rt.alloc(), &a, &last)?);
-    assert!(rt; is_stale(rt.alloc(), &a, &unsent)?);
-    assert!(rt; is_copied(rt.alloc(), &a, &last)?);
-    Ok(())
-}
-
-/// Quarantines y and answers whether it is held then, and whether it was new.
-fn holds(quarantine: &mut Quarantine, y: &[Epc; 1]) -> Result<bool, Fail> {
-    quarantine.hold_all(recall(), y)?;
-    Ok(quarantine.holds(recall(), &y[0]))
-}
-
-#[test]
-fn items_are_held_by_recall(rt: HostRuntime) -> Result<(), Fail> {
-    let y = [Epc::read(rt.alloc(), "y")?];
-    let mut quarantine = Quarantine::new(rt.alloc());
-    let held = holds(&mut quarantine, &y);
-    assert!(rt; held?);
+    assert!(rt; goes_on(rt.alloc(), &a)?);
     Ok(())
 }

@@ -1,10 +1,10 @@
-use epc_core::Epc;
+use epc_core::{Epc, EpcForm};
 use event_json::{Sequence, SiteNo, Sites};
 use frame_core::{Frame, MsgId, RecallId};
 use keeper_core::{Keep, KeepFault, MemoryKeeper, SiteKeeper};
-use site_core::{Effects, SiteState};
+use site_core::{Effects, SiteInput, SiteState};
 use site_recovery::Misfit;
-use std::alloc::Global;
+use std::alloc::{AllocError, Global};
 use std::test::Fail;
 use trace_core::Pair;
 use world_core::{Answer, World, WorldEvent, WorldFault, WorldInput};
@@ -13,16 +13,27 @@ use world_core::{Answer, World, WorldEvent, WorldFault, WorldInput};
 const DOCUMENT: &str =
     "{\"type\":\"EPCISDocument\",\"epcisBody\":{\"eventList\":[{\"type\":\"ObjectEvent\",\"eventTime\":\"2024-05-01T08:00:00Z\",\"eventTimeZoneOffset\":\"+00:00\",\"action\":\"OBSERVE\",\"epcList\":[\"x\"],\"destinationList\":[{\"destination\":\"b\"}]}]}}";
 
-fn site(number: u64) -> Result<SiteNo, Fail> {
-    Ok(SiteNo::of(number).ok_or("no such site")?)
+/// Site A.
+fn a() -> SiteNo {
+    SiteNo::of(0).unwrap()
+}
+
+/// Site B.
+fn b() -> SiteNo {
+    SiteNo::of(1).unwrap()
+}
+
+/// A site that isn't in the world.
+fn c() -> SiteNo {
+    SiteNo::of(2).unwrap()
 }
 
 /// Recall 1 of site A.
-fn recall() -> Result<RecallId, Fail> {
-    Ok(RecallId {
-        site: site(0)?,
+fn recall() -> RecallId {
+    RecallId {
+        site: a(),
         number: 1,
-    })
+    }
 }
 
 /// An open keeper of the first or the second of two sites.
@@ -47,35 +58,36 @@ fn capture(alloc: Global) -> Result<WorldInput, Fail> {
 }
 
 /// Adds a step of a site.
-fn add_step(events: &mut Vec<WorldEvent>, number: u64, input: WorldInput) -> Result<(), Fail> {
-    let site = site(number)?;
+fn add_step(
+    events: &mut Vec<WorldEvent>,
+    site: SiteNo,
+    input: WorldInput,
+) -> Result<(), AllocError> {
     events.push(WorldEvent::Step { site, input })?;
     Ok(())
 }
 
 /// Adds the delivery of a frame at a site.
-fn add_delivery(events: &mut Vec<WorldEvent>, number: u64, frame: u64) -> Result<(), Fail> {
-    add_step(events, number, WorldInput::Deliver(frame))
+fn add_delivery(events: &mut Vec<WorldEvent>, site: SiteNo, frame: u64) -> Result<(), AllocError> {
+    add_step(events, site, WorldInput::Deliver(frame))
 }
 
 /// Adds that a site sends the first of its frames.
-fn add_send(events: &mut Vec<WorldEvent>, number: u64) -> Result<(), Fail> {
-    let site = site(number)?;
+fn add_send(events: &mut Vec<WorldEvent>, site: SiteNo) -> Result<(), AllocError> {
     events.push(WorldEvent::Send { site, place: 1 })?;
     Ok(())
 }
 
 /// Adds that a site is opened again.
-fn add_opening(events: &mut Vec<WorldEvent>, number: u64) -> Result<(), Fail> {
-    let site = site(number)?;
+fn add_opening(events: &mut Vec<WorldEvent>, site: SiteNo) -> Result<(), AllocError> {
     events.push(WorldEvent::Reopen { site })?;
     Ok(())
 }
 
 /// Adds that site B stops once it has written what the first frame brings.
-fn add_stop(events: &mut Vec<WorldEvent>) -> Result<(), Fail> {
+fn add_stop(events: &mut Vec<WorldEvent>) -> Result<(), AllocError> {
     events.push(WorldEvent::Stop {
-        site: site(1)?,
+        site: b(),
         input: WorldInput::Deliver(1),
         keep: Keep::New,
     })?;
@@ -84,18 +96,23 @@ fn add_stop(events: &mut Vec<WorldEvent>) -> Result<(), Fail> {
 
 /// Adds a recall of x from A to B and back, where B stops as it takes the message.
 fn add_recall(alloc: Global, events: &mut Vec<WorldEvent>) -> Result<(), Fail> {
-    add_step(events, 0, capture(alloc)?)?;
-    add_step(events, 0, WorldInput::Start(Epc::read(alloc, "x")?))?;
-    add_delivery(events, 1, 1)?;
-    add_send(events, 0)?;
+    add_step(events, a(), capture(alloc)?)?;
+    add_step(events, a(), WorldInput::Start(Epc::read(alloc, "x")?))?;
+    Ok(add_frames(events)?)
+}
+
+/// Adds the way of its frames.
+fn add_frames(events: &mut Vec<WorldEvent>) -> Result<(), AllocError> {
+    add_delivery(events, b(), 1)?;
+    add_send(events, a())?;
     add_stop(events)?;
-    add_delivery(events, 1, 1)?;
-    add_opening(events, 1)?;
-    add_opening(events, 1)?;
-    add_delivery(events, 1, 1)?;
-    add_send(events, 1)?;
-    add_delivery(events, 0, 2)?;
-    add_delivery(events, 2, 2)
+    add_delivery(events, b(), 1)?;
+    add_opening(events, b())?;
+    add_opening(events, b())?;
+    add_delivery(events, b(), 1)?;
+    add_send(events, b())?;
+    add_delivery(events, a(), 2)?;
+    add_delivery(events, c(), 2)
 }
 
 /// What the world answers to that recall.
@@ -105,64 +122,53 @@ fn spread(alloc: Global, world: &mut World<MemoryKeeper>) -> Result<Vec<Answer>,
     Ok(world.run(events)?)
 }
 
-/// Adds what the events of a recall are answered.
-fn add_answers(answers: &mut Vec<Answer>) -> Result<(), Fail> {
-    answers.push(Answer::Done(Effects::Captured {
-        fresh: 1,
-        known: 0,
-        skipped: 0,
-    }))?;
-    answers.push(Answer::Done(Effects::Started {
-        recall: recall()?,
-        quarantined: 1,
-        numbered: 1,
-        ended: false,
-    }))?;
-    answers.push(Answer::NoFrame)?;
-    answers.push(Answer::Sent(1))?;
-    answers.push(Answer::Stopped)?;
-    answers.push(Answer::Fault(KeepFault::Closed))?;
-    answers.push(Answer::Reopened)?;
-    answers.push(Answer::NotClosed)?;
-    answers.push(Answer::Done(Effects::Repeat))?;
-    answers.push(Answer::Sent(2))?;
-    answers.push(Answer::Done(Effects::Ended(recall()?)))?;
-    answers.push(Answer::NoSite)?;
-    Ok(())
-}
-
 /// Whether the answers are those of a recall.
-fn are_answers(alloc: Global, answers: &Vec<Answer>) -> Result<bool, Fail> {
-    let mut wanted = Vec::new(alloc);
-    add_answers(&mut wanted)?;
-    Ok(*answers == wanted)
+fn are_answers(answers: &[Answer]) -> bool {
+    let wanted = [
+        Answer::Done(Effects::Captured {
+            fresh: 1,
+            known: 0,
+            skipped: 0,
+        }),
+        Answer::Done(Effects::Started {
+            recall: recall(),
+            quarantined: 1,
+            numbered: 1,
+            ended: false,
+        }),
+        Answer::NoFrame,
+        Answer::Sent(1),
+        Answer::Stopped,
+        Answer::Fault(KeepFault::Closed),
+        Answer::Reopened,
+        Answer::NotClosed,
+        Answer::Done(Effects::Repeat),
+        Answer::Sent(2),
+        Answer::Done(Effects::Ended(recall())),
+        Answer::NoSite,
+    ];
+    answers == wanted.as_slice()
 }
 
-/// Adds the pair of x at a site.
-fn add_pair(alloc: Global, pairs: &mut Vec<Pair>, number: u64) -> Result<(), Fail> {
-    let site = site(number)?;
-    let item = Epc::read(alloc, "x")?;
-    pairs.push(Pair { site, item })?;
-    Ok(())
+/// Whether this is the pair of x at a site.
+fn is_x_at(pair: &Pair, site: SiteNo) -> bool {
+    match pair.item.form() {
+        EpcForm::Other(text) => pair.site == site && text.as_str() == "x",
+        _ => false,
+    }
 }
 
 /// Whether x is quarantined at both sites, and nothing else.
-fn is_quarantined(alloc: Global, world: &World<MemoryKeeper>) -> Result<bool, Fail> {
-    let mut pairs = Vec::new(alloc);
-    add_pair(alloc, &mut pairs, 0)?;
-    add_pair(alloc, &mut pairs, 1)?;
-    Ok(world.quarantined(recall()?)? == pairs)
+fn are_x_at_both(pairs: &[Pair]) -> bool {
+    pairs.len() == 2 && is_x_at(&pairs[0], a()) && is_x_at(&pairs[1], b())
 }
 
 /// Whether the recall has ended, and two frames were sent.
-fn has_ended(world: &World<MemoryKeeper>) -> Result<bool, Fail> {
-    let (recall, second) = (recall()?, site(1)?);
-    Ok(
-        world.ended(recall) == Some(true)
-            && world.frame(2).is_some()
-            && world.frame(3).is_none()
-            && world.view(second).is_some(),
-    )
+fn has_ended(world: &World<MemoryKeeper>) -> bool {
+    world.ended(recall()) == Some(true)
+        && world.frame(2).is_some()
+        && world.frame(3).is_none()
+        && world.view(b()).is_some()
 }
 
 /// Whether the answers are those wanted, and the world tells what is quarantined, that the recall has ended, and
@@ -170,8 +176,8 @@ fn has_ended(world: &World<MemoryKeeper>) -> Result<bool, Fail> {
 fn spreads(alloc: Global) -> Result<bool, Fail> {
     let mut world = two_sites(alloc)?;
     let answers = spread(alloc, &mut world)?;
-    let told = are_answers(alloc, &answers)? && is_quarantined(alloc, &world)?;
-    Ok(told && has_ended(&world)? && world.into_keepers().len() == 2)
+    let told = are_answers(&answers) && has_ended(&world);
+    Ok(told && are_x_at_both(&world.quarantined(recall())?))
 }
 
 #[test]
@@ -180,64 +186,65 @@ fn a_recall_spreads_and_ends(rt: HostRuntime) -> Result<(), Fail> {
     Ok(())
 }
 
-/// Why two keepers of these sites make no world, once the first one captured the document where it is to.
-fn refused(
+/// Whether two keepers make no world for this reason, and are handed back.
+fn are_refused(
     alloc: Global,
-    first: bool,
-    second: bool,
-    captures: bool,
-) -> Result<Option<WorldFault>, Fail> {
-    let mut one = keeper(alloc, first)?;
-    if captures {
-        let bytes = DOCUMENT.as_bytes().to_vec(alloc)?;
-        one.apply(site_core::SiteInput::Capture(Sequence::from_vec(bytes)))?;
-    }
+    first: MemoryKeeper,
+    second: MemoryKeeper,
+    wanted: WorldFault,
+) -> Result<bool, AllocError> {
     let mut keepers = Vec::new(alloc);
-    keepers.push(one)?;
-    keepers.push(keeper(alloc, second)?)?;
+    keepers.push(first)?;
+    keepers.push(second)?;
     match World::new(alloc, keepers) {
-        Ok(_) => Ok(None),
-        Err(refused) => Ok(Some(refused.fault)),
+        Ok(_) => Ok(false),
+        Err(refused) => Ok(refused.fault == wanted && refused.keepers.len() == 2),
     }
+}
+
+/// Whether keepers of one site, or of sites out of order, make no world.
+fn sees_places(alloc: Global) -> Result<bool, Fail> {
+    let twice = WorldFault::OtherSites(1);
+    let swapped = WorldFault::OtherSites(0);
+    Ok(
+        are_refused(alloc, keeper(alloc, false)?, keeper(alloc, false)?, twice)?
+            && are_refused(alloc, keeper(alloc, true)?, keeper(alloc, false)?, swapped)?,
+    )
 }
 
 #[test]
 fn a_world_is_of_all_sites_in_order(rt: HostRuntime) -> Result<(), Fail> {
-    let alloc = rt.alloc();
-    assert!(rt; refused(alloc, false, false, false)? == Some(WorldFault::OtherSites(1)));
-    assert!(rt; refused(alloc, true, true, true)? == Some(WorldFault::OtherSites(0)));
-    assert!(rt; refused(alloc, false, true, true)? == None);
+    assert!(rt; sees_places(rt.alloc())?);
     Ok(())
 }
 
-/// Whether site B, which was told of a recall that A never began, makes no world with A: the check names what doesn't
-/// fit, and the keepers are handed back.
-fn hands_back(alloc: Global) -> Result<bool, Fail> {
+/// Site B, which was told of a recall that A never began.
+fn told_of_nothing(alloc: Global) -> Result<MemoryKeeper, Fail> {
     let mut told = keeper(alloc, true)?;
-    told.apply(site_core::SiteInput::Deliver(Frame::Recall {
+    told.apply(SiteInput::Deliver(Frame::Recall {
         id: MsgId {
-            site: site(0)?,
+            site: a(),
             number: 1,
         },
-        dest: site(1)?,
-        recall: recall()?,
+        dest: b(),
+        recall: recall(),
         item: Epc::read(alloc, "x")?,
     }))?;
-    let mut keepers = Vec::new(alloc);
-    keepers.push(keeper(alloc, false)?)?;
-    keepers.push(told)?;
+    Ok(told)
+}
+
+/// Whether it makes no world with A: the check names what doesn't fit.
+fn sees_misfit(alloc: Global) -> Result<bool, Fail> {
     let misfit = WorldFault::Misfit(Misfit {
         condition: 3,
-        site: site(1)?,
+        site: b(),
     });
-    match World::new(alloc, keepers) {
-        Ok(_) => Ok(false),
-        Err(refused) => Ok(refused.fault == misfit && refused.keepers.len() == 2),
-    }
+    let told = told_of_nothing(alloc)?;
+    Ok(are_refused(alloc, keeper(alloc, false)?, told, misfit)?)
 }
 
 #[test]
 fn keepers_that_do_not_fit_are_handed_back(rt: HostRuntime) -> Result<(), Fail> {
-    assert!(rt; hands_back(rt.alloc())?);
+    assert!(rt; sees_misfit(rt.alloc())?);
     Ok(())
 }

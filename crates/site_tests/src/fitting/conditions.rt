@@ -2,8 +2,9 @@
 //! fourth or the sixth is, so the check never names it; 7 and 8 are of frames.
 ghost use Rattle.std.specs.Prelude.{◌≡◌, length};
 
+use super::At::{A, B, C};
 use super::Given::{Made, Recalled, Shipped, Signalled, Told};
-use super::{BEGUN, ENDED, Given, empty, is_charged, names, site};
+use super::{BEGUN, ENDED, Given, add, is_charged, misfit, says, site};
 use frame_core::tables;
 use scholten_core::Diffusion;
 use site_core::SiteState;
@@ -44,36 +45,37 @@ fn b_of(alloc: Global, one: &SiteState, other: &SiteState) -> Result<SiteState, 
 
 /// Site B, which captured this, and quarantined and sent what it would after these steps.
 fn b_after(alloc: Global, captured: &[Given], steps: &[Given]) -> Result<SiteState, Fail> {
-    let one = site(alloc, 1, captured)?;
-    let other = site(alloc, 1, steps)?;
+    let one = site(alloc, B, captured)?;
+    let other = site(alloc, B, steps)?;
     b_of(alloc, &one, &other)
 }
 
 /// A, which was given this, such a site B, and an empty C.
 fn with_joined(alloc: Global, given: [&[Given]; 3]) -> Result<Vec<SiteState>, Fail> {
     let mut sites = Vec::new(alloc);
-    sites.push(site(alloc, 0, given[0])?)?;
-    sites.push(b_after(alloc, given[1], given[2])?)?;
-    sites.push(empty(alloc, 2)?)?;
+    let [a, captured, steps] = given;
+    add(alloc, &mut sites, A, a)?;
+    sites.push(b_after(alloc, captured, steps)?)?;
+    add(alloc, &mut sites, C, &[])?;
     Ok(sites)
 }
 
 /// Whether just this condition is charged to such a site B, beside A, which was given this, and an empty C.
 fn charges_joined(alloc: Global, given: [&[Given]; 3], condition: u64) -> Result<bool, Fail> {
     let sites = with_joined(alloc, given)?;
-    names(alloc, &sites, condition, 1)
+    Ok(says(alloc, &sites)? == misfit(condition, B))
 }
 
 #[test]
 fn what_is_made_of_a_quarantined_item_is_missed(rt: HostRuntime) -> Result<(), Fail> {
-    assert!(rt; charges_joined(rt.alloc(), [&ENDED, &[Made("y", "z")], &[Told(0, "y")]], 1)?);
+    assert!(rt; charges_joined(rt.alloc(), [&ENDED, &[Made("y", "z")], &[Told(A, "y")]], 1)?);
     Ok(())
 }
 
 #[test]
 fn a_message_that_waits_at_a_neutral_site_is_seen(rt: HostRuntime) -> Result<(), Fail> {
     let shipped = [Shipped("y", "a")];
-    let steps = [Shipped("y", "a"), Told(0, "y")];
+    let steps = [Shipped("y", "a"), Told(A, "y")];
     assert!(rt; charges_joined(rt.alloc(), [&BEGUN, &shipped, &steps], 4)?);
     Ok(())
 }
@@ -82,30 +84,35 @@ fn a_message_that_waits_at_a_neutral_site_is_seen(rt: HostRuntime) -> Result<(),
 fn each_condition_is_charged_alone(rt: HostRuntime) -> Result<(), Fail> {
     let alloc = rt.alloc();
     // B was told of nothing, though A shipped y to it.
-    assert!(rt; is_charged(alloc, [&ENDED, &[], &[]], 2, 1)?);
+    assert!(rt; is_charged(alloc, [&ENDED, &[], &[]], misfit(2, B))?);
     // B holds y, which w doesn't lead to.
-    let root = [Shipped("w", "c"), Recalled("w"), Signalled(2)];
-    assert!(rt; is_charged(alloc, [&root, &[Told(0, "y")], &[Told(0, "w")]], 3, 1)?);
+    let root = [Shipped("w", "c"), Recalled("w"), Signalled(C)];
+    assert!(rt;
+        is_charged(
+            alloc,
+            [&root, &[Told(A, "y")], &[Told(A, "w")]],
+            misfit(3, B)
+        )?
+    );
     // A's message to B is gone, though it is B's parent.
     assert!(rt;
         is_charged(
             alloc,
-            [&ENDED, &[Shipped("y", "a"), Told(0, "y")], &[]],
-            5,
-            1
+            [&ENDED, &[Shipped("y", "a"), Told(A, "y")], &[]],
+            misfit(5, B)
         )?
     );
     // B and C are each other's parents.
-    let b = [Shipped("y", "c"), Told(2, "y")];
-    let c = [Shipped("y", "b"), Told(1, "y")];
-    assert!(rt; is_charged(alloc, [&BEGUN, &b, &c], 6, 1)?);
+    let b = [Shipped("y", "c"), Told(C, "y")];
+    let c = [Shipped("y", "b"), Told(B, "y")];
+    assert!(rt; is_charged(alloc, [&BEGUN, &b, &c], misfit(6, B))?);
     // A has seen a message that B hasn't numbered.
     let a = [
         Made("x", "y"),
         Shipped("y", "b"),
         Recalled("x"),
-        Told(1, "y"),
+        Told(B, "y"),
     ];
-    assert!(rt; is_charged(alloc, [&a, &[Shipped("y", "a")], &[]], 10, 1)?);
+    assert!(rt; is_charged(alloc, [&a, &[Shipped("y", "a")], &[]], misfit(10, B))?);
     Ok(())
 }
