@@ -12,9 +12,10 @@ use std::test::Fail;
 use std::thread::Threads;
 use std::time::Clock;
 
-fn words_of(alloc: Global, words: &[&str]) -> Result<Vec<String>, Fail> {
+/// The words of a line, which are parted by blanks.
+fn words_of(alloc: Global, line: &str) -> Result<Vec<String>, Fail> {
     let mut all = Vec::new(alloc);
-    for word in words {
+    for word in line.split(' ') {
         all.push(String::from_str(alloc, word)?)?;
     }
     Ok(all)
@@ -67,18 +68,15 @@ impl Files<MemoryKeeper> for OneFile {
     }
 }
 
-/// Whether a command line ends with this status on this input, and what it writes to its output and
-/// to the error stream begins so. Where nothing is wanted there, nothing is written.
-fn ends<R: Threads + Wait + Clock + Sync>(
-    rt: &R,
-    alloc: Global,
-    words: &[&str],
-    mut input: &[u8],
-    status: u8,
-    output: &str,
-    errors: &str,
-) -> Result<bool, Fail> {
-    let words = words_of(alloc, words)?;
+/// A command line with its input and its status, and what its output and the error stream begin with.
+/// Where nothing stands there, nothing is written.
+type Row = (&'static str, &'static str, u8, &'static str, &'static str);
+
+/// Whether a command line ends so.
+fn ends<R: Threads + Wait + Clock + Sync>(rt: &R, alloc: Global, row: &Row) -> Result<bool, Fail> {
+    let (line, input, status, output, errors) = *row;
+    let words = words_of(alloc, line)?;
+    let mut input = input.as_bytes();
     let mut written = Vec::new(alloc);
     let mut told = Vec::new(alloc);
     let ended = run_command(
@@ -98,128 +96,88 @@ fn begins(bytes: &[u8], text: &str) -> bool {
     bytes.starts_with(text.as_bytes()) && bytes.is_empty() == text.is_empty()
 }
 
+/// The place of the first row that ends otherwise, from 0.
+fn first_other<R: Threads + Wait + Clock + Sync>(
+    rt: &R,
+    alloc: Global,
+    rows: &[Row],
+) -> Result<Option<usize>, Fail> {
+    for place in 0..rows.len() {
+        if !ends(rt, alloc, &rows[place])? {
+            return Ok(Some(place));
+        }
+    }
+    Ok(None)
+}
+
 #[test]
 fn a_script_ends_with_0_or_1(rt: HostRuntime) -> Result<(), Fail> {
-    let sim = ["recall", "sim"];
-    let done = b"site A a\nsite B b\nreach A x\n".as_slice();
-    assert!(rt;
-        ends(
-            &rt,
-            rt.alloc(),
-            sim.as_slice(),
-            done,
+    let rows = [
+        (
+            "recall sim",
+            "site A a\nsite B b\nreach A x\n",
             0,
             "pair A uri x\npairs 1\n",
-            ""
-        )?
-    );
-    let refused = b"site A a\nreach A x".as_slice();
-    assert!(rt;
-        ends(
-            &rt,
-            rt.alloc(),
-            sim.as_slice(),
-            refused,
+            "",
+        ),
+        (
+            "recall sim",
+            "site A a\nreach A x",
             1,
             "refused NoWorld\n",
-            ""
-        )?
-    );
+            "",
+        ),
+    ];
+    assert!(rt; first_other(&rt, rt.alloc(), &rows)? == None);
     Ok(())
 }
 
 #[test]
 fn a_bad_command_line_ends_with_2(rt: HostRuntime) -> Result<(), Fail> {
-    let bogus = ["recall", "bogus"];
-    assert!(rt; ends(&rt, rt.alloc(), bogus.as_slice(), b"", 2, "", "error:")?);
-    let none = ["recall"];
-    assert!(rt; ends(&rt, rt.alloc(), none.as_slice(), b"", 2, "", "error:")?);
-    let joined = ["recall", "-xh"];
-    assert!(rt; ends(&rt, rt.alloc(), joined.as_slice(), b"", 2, "", "error:")?);
+    let rows = [
+        ("recall bogus", "", 2, "", "error:"),
+        ("recall", "", 2, "", "error:"),
+        ("recall -xh", "", 2, "", "error:"),
+        ("recall start d A", "", 2, "", "error:"),
+        ("recall run d --turns 0", "", 2, "", "error: invalid value"),
+        (
+            "recall run d --turns 1000001",
+            "",
+            2,
+            "",
+            "error: invalid value",
+        ),
+        ("recall run d --turns x", "", 2, "", "error: invalid value"),
+    ];
+    assert!(rt; first_other(&rt, rt.alloc(), &rows)? == None);
     Ok(())
 }
 
 #[test]
 fn commands_on_files_are_told(rt: HostRuntime) -> Result<(), Fail> {
-    let init = ["recall", "init", "d", "list"];
-    let refused = "refused BadLine\nrefused NoWorld\n";
-    assert!(rt; ends(&rt, rt.alloc(), init.as_slice(), b"", 1, refused, "")?);
-    let audit = ["recall", "audit", "d"];
-    assert!(rt;
-        ends(
-            &rt,
-            rt.alloc(),
-            audit.as_slice(),
-            b"",
-            3,
+    let rows = [
+        (
+            "recall init d list",
             "",
-            "fault Read\n"
-        )?
-    );
-    let short = ["recall", "start", "d", "A"];
-    assert!(rt; ends(&rt, rt.alloc(), short.as_slice(), b"", 2, "", "error:")?);
-    Ok(())
-}
-
-/// Whether a run of so many turns is a bad command line.
-fn refuses_turns<R: Threads + Wait + Clock + Sync>(
-    rt: &R,
-    alloc: Global,
-    turns: &str,
-) -> Result<bool, Fail> {
-    let bad = ["recall", "run", "d", "--turns", turns];
-    let wanted = "error: invalid value";
-    ends(rt, alloc, bad.as_slice(), b"", 2, "", wanted)
-}
-
-#[test]
-fn a_run_takes_1_to_1000000_turns(rt: HostRuntime) -> Result<(), Fail> {
-    let default = ["recall", "run", "d"];
-    assert!(rt;
-        ends(
-            &rt,
-            rt.alloc(),
-            default.as_slice(),
-            b"",
-            3,
+            1,
+            "refused BadLine\nrefused NoWorld\n",
             "",
-            "fault Read\n"
-        )?
-    );
-    let most = ["recall", "run", "d", "--turns", "1000000"];
-    assert!(rt; ends(&rt, rt.alloc(), most.as_slice(), b"", 3, "", "fault Read\n")?);
-    assert!(rt; refuses_turns(&rt, rt.alloc(), "0")?);
-    assert!(rt; refuses_turns(&rt, rt.alloc(), "1000001")?);
-    assert!(rt; refuses_turns(&rt, rt.alloc(), "x")?);
+        ),
+        ("recall audit d", "", 3, "", "fault Read\n"),
+        ("recall run d", "", 3, "", "fault Read\n"),
+        ("recall run d --turns 1000000", "", 3, "", "fault Read\n"),
+    ];
+    assert!(rt; first_other(&rt, rt.alloc(), &rows)? == None);
     Ok(())
 }
 
 #[test]
 fn help_is_an_answer(rt: HostRuntime) -> Result<(), Fail> {
-    let of_sim = ["recall", "sim", "--help"];
-    assert!(rt;
-        ends(
-            &rt,
-            rt.alloc(),
-            of_sim.as_slice(),
-            b"",
-            0,
-            "Runs a script",
-            ""
-        )?
-    );
-    let joined = ["recall", "-hx"];
-    assert!(rt;
-        ends(
-            &rt,
-            rt.alloc(),
-            joined.as_slice(),
-            b"",
-            0,
-            "Traces recalled",
-            ""
-        )?
-    );
+    let rows = [
+        ("recall sim --help", "", 0, "Runs a script", ""),
+        ("recall -hx", "", 0, "Traces recalled", ""),
+    ];
+    assert!(rt; first_other(&rt, rt.alloc(), &rows)? == None);
     Ok(())
 }
 
@@ -247,10 +205,11 @@ impl Write for Broken {
 fn fails<R: Threads + Wait + Clock + Sync>(
     rt: &R,
     alloc: Global,
-    words: &[&str],
-    mut input: &[u8],
+    line: &str,
+    input: &str,
 ) -> Result<bool, Fail> {
-    let words = words_of(alloc, words)?;
+    let words = words_of(alloc, line)?;
+    let mut input = input.as_bytes();
     let mut told = Vec::new(alloc);
     let ended = run_command(
         rt,
@@ -265,24 +224,24 @@ fn fails<R: Threads + Wait + Clock + Sync>(
     Ok(ended == 3 && told.as_slice() == b"fault Write\n".as_slice())
 }
 
-#[test]
-fn an_output_that_fails_ends_with_3(rt: HostRuntime) -> Result<(), Fail> {
-    let sim = ["recall", "sim"];
-    assert!(rt; fails(&rt, rt.alloc(), sim.as_slice(), b"reach A x\n")?);
-    let help = ["recall", "--help"];
-    assert!(rt; fails(&rt, rt.alloc(), help.as_slice(), b"")?);
-    Ok(())
+/// Whether a script and help end with status 3 where the output fails.
+fn outputs_fail<R: Threads + Wait + Clock + Sync>(rt: &R, alloc: Global) -> Result<bool, Fail> {
+    Ok(fails(rt, alloc, "recall sim", "reach A x\n")? && fails(rt, alloc, "recall --help", "")?)
 }
 
 #[test]
-fn an_input_that_fails_ends_with_3(rt: HostRuntime) -> Result<(), Fail> {
-    let alloc = rt.alloc();
-    let sim = ["recall", "sim"];
-    let words = words_of(alloc, sim.as_slice())?;
+fn an_output_that_fails_ends_with_3(rt: HostRuntime) -> Result<(), Fail> {
+    assert!(rt; outputs_fail(&rt, rt.alloc())?);
+    Ok(())
+}
+
+/// Whether a script ends with status 3 where its input fails, and tells that.
+fn input_fails<R: Threads + Wait + Clock + Sync>(rt: &R, alloc: Global) -> Result<bool, Fail> {
+    let words = words_of(alloc, "recall sim")?;
     let mut written = Vec::new(alloc);
     let mut told = Vec::new(alloc);
     let ended = run_command(
-        &rt,
+        rt,
         alloc,
         &mut OneFile,
         FreeGate,
@@ -291,7 +250,11 @@ fn an_input_that_fails_ends_with_3(rt: HostRuntime) -> Result<(), Fail> {
         &mut written,
         &mut told,
     );
-    assert!(rt; ended == 3 && written.is_empty());
-    assert!(rt; told.as_slice() == b"fault Read\n".as_slice());
+    Ok(ended == 3 && written.is_empty() && told.as_slice() == b"fault Read\n".as_slice())
+}
+
+#[test]
+fn an_input_that_fails_ends_with_3(rt: HostRuntime) -> Result<(), Fail> {
+    assert!(rt; input_fails(&rt, rt.alloc())?);
     Ok(())
 }
