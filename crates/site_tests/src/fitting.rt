@@ -1,5 +1,7 @@
 mod conditions;
 
+ghost use Rattle.std.specs.Prelude.{◌<◌};
+
 use epc_core::Epc;
 use event_json::{Sequence, SiteNo, Sites};
 use frame_core::{Frame, MsgId, RecallId};
@@ -38,13 +40,20 @@ enum At {
 
 use At::{A, B, C};
 
+/// The place of a site.
+fn place(at: At) -> u64
+    ensures { result < 3 }
+{
+    match at {
+        A => 0,
+        B => 1,
+        C => 2,
+    }
+}
+
 /// The number of a site.
 fn number(at: At) -> SiteNo {
-    match at {
-        A => SiteNo::of(0).unwrap(),
-        B => SiteNo::of(1).unwrap(),
-        C => SiteNo::of(2).unwrap(),
-    }
+    SiteNo::of(place(at)).unwrap()
 }
 
 /// The first message of a site.
@@ -135,11 +144,16 @@ fn misfit(condition: u64, at: At) -> Option<Misfit> {
 /// Sites A, B and C, each of which was given this.
 fn three(alloc: Global, given: [&[Given]; 3]) -> Result<Vec<SiteState>, Fail> {
     let mut sites = Vec::new(alloc);
-    let [a, b, c] = given;
-    add(alloc, &mut sites, A, a)?;
-    add(alloc, &mut sites, B, b)?;
-    add(alloc, &mut sites, C, c)?;
+    add_all(alloc, &mut sites, given)?;
     Ok(sites)
+}
+
+/// Adds the three sites.
+fn add_all(alloc: Global, sites: &mut Vec<SiteState>, given: [&[Given]; 3]) -> Result<(), Fail> {
+    let [a, b, c] = given;
+    add(alloc, sites, A, a)?;
+    add(alloc, sites, B, b)?;
+    add(alloc, sites, C, c)
 }
 
 /// Adds a site that was given this.

@@ -1,12 +1,10 @@
-//! A site's engagement, steps, rows and keepers, and sites that fit together, by examples.
+//! A site's engagement, steps and rows, worlds of sites, and sites that fit together, by examples.
 #![tactic(auto)]
 
 #[cfg(test)]
 mod engagements;
 #[cfg(test)]
 mod fitting;
-#[cfg(test)]
-mod keepers;
 #[cfg(test)]
 mod read_records;
 #[cfg(test)]

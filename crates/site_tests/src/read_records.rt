@@ -3,7 +3,7 @@ use event_json::Sequence;
 use site_rows::{
     AddressRow, EventRow, PartRow, Rows, SiteRow, StateFault, StoreRow, Table, Text, state_of,
 };
-use std::alloc::Global;
+use std::alloc::{AllocError, Global};
 use std::test::Fail;
 
 /// One text that is changed in the rows of a shipment from site A to site B and outside.
@@ -67,17 +67,32 @@ fn parts(alloc: Global, changed: Changed) -> Result<Sequence<PartRow>, Fail> {
     Ok(Sequence::from_vec(parts))
 }
 
-/// Adds a site.
-fn add_site(alloc: Global, sites: &mut Vec<SiteRow>, no: i64, name: &str) -> Result<(), Fail> {
+/// A site.
+fn site(alloc: Global, no: i64, name: &str) -> Result<SiteRow, AllocError> {
     let name = Text::of(alloc, name)?;
-    sites.push(SiteRow { no, name })?;
+    Ok(SiteRow { no, name })
+}
+
+/// Adds a site.
+fn add_site(
+    alloc: Global,
+    sites: &mut Vec<SiteRow>,
+    no: i64,
+    name: &str,
+) -> Result<(), AllocError> {
+    sites.push(site(alloc, no, name)?)?;
     Ok(())
 }
 
-fn sites(alloc: Global) -> Result<Sequence<SiteRow>, Fail> {
+/// Adds both sites.
+fn add_sites(alloc: Global, sites: &mut Vec<SiteRow>) -> Result<(), AllocError> {
+    add_site(alloc, sites, 0, "A")?;
+    add_site(alloc, sites, 1, "B")
+}
+
+fn sites(alloc: Global) -> Result<Sequence<SiteRow>, AllocError> {
     let mut sites = Vec::new(alloc);
-    add_site(alloc, &mut sites, 0, "A")?;
-    add_site(alloc, &mut sites, 1, "B")?;
+    add_sites(alloc, &mut sites)?;
     Ok(Sequence::from_vec(sites))
 }
 

@@ -5,7 +5,7 @@ ghost use Rattle.std.specs.Prelude.{◌<◌};
 
 mod refusals;
 
-use epc_core::Epc;
+use epc_core::{Epc, EpcForm};
 use event_json::{Sequence, SiteNo, Sites};
 use frame_core::{Frame, FrameView, MsgId, RecallId};
 use site_core::{Effects, Refusal, SiteInput, SiteState, Stepped, emittable, step};
@@ -81,19 +81,67 @@ fn document(text: String) -> SiteInput {
     SiteInput::Capture(Sequence::from_vec(text.into_bytes()))
 }
 
+/// What an input is answered.
+#[derive(Clone, Copy)]
+enum Want {
+    Done(Effects),
+    /// The first event would lead out of the quarantine of A#1, from y.
+    Blocked,
+    /// The eventID of the first event is taken.
+    IdTaken,
+    UnknownItem,
+    NotMine,
+}
+
+use Want::{Blocked, Done, IdTaken, NotMine, UnknownItem};
+
+/// Whether the item is y.
+fn is_y(item: &Epc) -> bool {
+    match item.form() {
+        EpcForm::Other(text) => text.as_str() == "y",
+        _ => false,
+    }
+}
+
+/// Whether this is the refusal that is wanted.
+fn is_refusal(refusal: &Refusal, want: Want) -> bool {
+    match (refusal, want) {
+        (
+            Refusal::Blocked {
+                recall: by,
+                item,
+                event,
+            },
+            Blocked,
+        ) => *by == recall() && is_y(item) && *event == 1,
+        (Refusal::IdTaken { event }, IdTaken) => *event == 1,
+        (Refusal::UnknownItem, UnknownItem) => true,
+        (Refusal::NotMine, NotMine) => true,
+        _ => false,
+    }
+}
+
+/// Whether this is the answer that is wanted.
+fn is_answer(answer: &Result<Effects, Refusal>, want: Want) -> bool {
+    match answer {
+        Ok(effects) => matches!(want, Done(wanted) if wanted == *effects),
+        Err(refusal) => is_refusal(refusal, want),
+    }
+}
+
 /// An input, and what it is answered.
-type Row = (Short, Result<Effects, Refusal>);
+type Row = (Short, Want);
 
 /// Whether the site gives this answer.
-fn gives(alloc: Global, state: &mut SiteState, row: &Row) -> Result<bool, Fail> {
+fn gives(alloc: Global, state: &mut SiteState, row: Row) -> Result<bool, Fail> {
     let input = input(alloc, row.0)?;
-    Ok(state.apply(&input) == row.1)
+    Ok(is_answer(&state.apply(&input), row.1))
 }
 
 /// Whether the site gives these answers, one after another.
 fn give(alloc: Global, state: &mut SiteState, rows: &[Row]) -> Result<bool, Fail> {
     for row in rows {
-        if !gives(alloc, state, row)? {
+        if !gives(alloc, state, *row)? {
             return Ok(false);
         }
     }
@@ -135,9 +183,9 @@ fn recalls(alloc: Global, a: &mut SiteState) -> Result<bool, Fail> {
         ended: false,
     };
     let rows = [
-        (Short::Made('x', 'y'), Ok(FRESH)),
-        (Short::Shipped('y', 'b', false), Ok(FRESH)),
-        (Short::Start('x'), Ok(started)),
+        (Short::Made('x', 'y'), Done(FRESH)),
+        (Short::Shipped('y', 'b', false), Done(FRESH)),
+        (Short::Start('x'), Done(started)),
     ];
     give(alloc, a, &rows)
 }
@@ -179,7 +227,7 @@ fn takes_once(alloc: Global, b: &mut SiteState) -> Result<bool, Fail> {
         owed: false,
     };
     let told = Short::Told(message(1), site(1));
-    let rows = [(told, Ok(taken)), (told, Ok(Effects::Repeat))];
+    let rows = [(told, Done(taken)), (told, Done(Effects::Repeat))];
     Ok(give(alloc, b, &rows)? && owes_signal(b))
 }
 

@@ -1,14 +1,16 @@
-ghost use Rattle.std.specs.Prelude.{◌≡◌, ◌↔◌, ◌⊎◌, IfOk, OnOk, Contains};
+ghost use Rattle.std.specs.Prelude.{◌≡◌, ◌⊎◌, ◌↔◌, List, ℕ, Some, IfOk, OnOk, Contains, slice_get};
 ghost use Rattle.trace_core.specs.declared.nodes.Node.{Node};
 ghost use Rattle.trace_core.specs.declared.pairs.Pair.{Pair};
 ghost use Rattle.trace_core.specs.Chains.{sites_at};
-ghost use Rattle.trace_core.specs.Found.{IsInBatch, Gives, IsPairOf};
-ghost use Rattle.trace_core.specs.Nodes.{Stands};
+ghost use Rattle.trace_core.specs.Found.{IsInBatch, Gives, IsPairOf, items_at};
+ghost use Rattle.trace_core.specs.Nodes.{Stands, HasItem};
+ghost use Rattle.trace_core.specs.Numbers.{numbered};
 
+use crate::books::Book;
 use crate::captured::Captured;
-use crate::event_items::Numbers;
 use crate::found_items::items_of_numbers;
-use crate::nodes::{Batch, Node};
+use crate::marks::Marks;
+use crate::nodes::{Batch, Nodes};
 use crate::pairs::Pair;
 use epc_core::Epc;
 use event_json::SiteNo;
@@ -16,56 +18,25 @@ use std::alloc::{AllocError, Global};
 use std::collections::BTreeMap;
 
 /// The pairs that nodes stand for. Those of a batch ascend where they are many.
-pub fn pairs_of(alloc: Global, sites: &[&Captured], nodes: &[Node]) -> Result<Vec<Pair>, AllocError>
+pub fn pairs_of(alloc: Global, sites: &[&Captured], nodes: &Nodes) -> Result<Vec<Pair>, AllocError>
     ensures { IfOk result (λ pairs. (p : Pair) → Contains pairs.items p ↔ ((n : Node) × Contains nodes.now n × Stands (sites_at sites.now) n p)) }
 {
-    let batches = batches_of(alloc, nodes)?;
-    pairs_in(alloc, sites, &batches)
+    pairs_in(alloc, sites, nodes.batches())
 }
 
 /// The pairs of batches.
 fn pairs_in(
     alloc: Global,
     sites: &[&Captured],
-    batches: &BTreeMap<Batch, Numbers>,
+    batches: &BTreeMap<Batch, Marks>,
 ) -> Result<Vec<Pair>, AllocError>
     ensures { IfOk result (λ pairs. (p : Pair) → Contains pairs.items p ↔ ((n : Node) × IsInBatch batches.now n × Stands (sites_at sites.now) n p)) }
 {
     let mut pairs = Vec::new(alloc);
     for (batch, numbers) in batches {
-        push_batch(alloc, sites, *batch, numbers.as_slice(), &mut pairs)?;
+        push_batch(alloc, sites, *batch, numbers, &mut pairs)?;
     }
     Ok(pairs)
-}
-
-/// The numbers of nodes, by batch.
-fn batches_of(alloc: Global, nodes: &[Node]) -> Result<BTreeMap<Batch, Numbers>, AllocError>
-    ensures { IfOk result (λ batches. (n : Node) → IsInBatch batches n ↔ Contains nodes.now n) }
-{
-    let mut batches = BTreeMap::new(alloc);
-    for node in nodes {
-        note_in_batch(alloc, &mut batches, node)?;
-    }
-    Ok(batches)
-}
-
-/// Adds a node to its batch.
-fn note_in_batch(
-    alloc: Global,
-    batches: &mut BTreeMap<Batch, Numbers>,
-    node: &Node,
-) -> Result<(), AllocError>
-    ensures { OnOk result ((n : Node) → IsInBatch batches.new n ↔ (IsInBatch batches.old n ⊎ (node.now ≡ n))) }
-{
-    let batch = Batch {
-        at: node.at,
-        site: node.site,
-    };
-    if let Some(numbers) = batches.get_mut(&batch) {
-        return numbers.push(node.item);
-    }
-    batches.insert(batch, Numbers::one(alloc, node.item)?)?;
-    Ok(())
 }
 
 /// Adds the pairs of a batch.
@@ -73,7 +44,7 @@ fn push_batch(
     alloc: Global,
     sites: &[&Captured],
     batch: Batch,
-    numbers: &[usize],
+    numbers: &Marks,
     pairs: &mut Vec<Pair>,
 ) -> Result<(), AllocError>
     ensures { OnOk result ((p : Pair) → Contains pairs.new.items p ↔ (Contains pairs.old.items p ⊎ Gives (sites_at sites.now) (batch, numbers.now) p)) }
@@ -82,16 +53,63 @@ fn push_batch(
         return Ok(());
     }
     let items = items_of_numbers(alloc, sites[batch.site].book(), numbers)?;
-    push_pairs(batch.at, items, pairs)
+    push_pairs(alloc, batch.at, &items, pairs)
 }
 
 /// Adds the pairs of items at a site.
-fn push_pairs(at: SiteNo, items: Vec<Epc>, pairs: &mut Vec<Pair>) -> Result<(), AllocError>
-    ensures { OnOk result ((p : Pair) → Contains pairs.new.items p ↔ (Contains pairs.old.items p ⊎ IsPairOf at items.items p)) }
+fn push_pairs(
+    alloc: Global,
+    at: SiteNo,
+    items: &[&Epc],
+    pairs: &mut Vec<Pair>,
+) -> Result<(), AllocError>
+    ensures { OnOk result ((p : Pair) → Contains pairs.new.items p ↔ (Contains pairs.old.items p ⊎ IsPairOf at (items_at items.now) p)) }
 {
     pairs.reserve(items.len())?;
     for item in items {
-        pairs.push(Pair { site: at, item })?;
+        pairs.push(Pair {
+            site: at,
+            item: item.copy(alloc)?,
+        })?;
+    }
+    Ok(())
+}
+
+/// Adds the items that nodes stand for by the numbers of a book. Those of a batch ascend where they are many.
+pub fn push_items(
+    alloc: Global,
+    book: &Book,
+    nodes: &Nodes,
+    found: &mut Vec<Epc>,
+) -> Result<(), AllocError>
+    ensures { OnOk result ((i : List ℕ) → Contains found.new.items i ↔ (Contains found.old.items i ⊎ HasItem book.now nodes.now i)) }
+{
+    push_items_in(alloc, book, nodes.batches(), found)
+}
+
+/// Adds the items of batches by the numbers of a book.
+fn push_items_in(
+    alloc: Global,
+    book: &Book,
+    batches: &BTreeMap<Batch, Marks>,
+    found: &mut Vec<Epc>,
+) -> Result<(), AllocError>
+    ensures { OnOk result ((i : List ℕ) → Contains found.new.items i ↔ (Contains found.old.items i ⊎ ((n : Node) × IsInBatch batches.now n × (slice_get (numbered book.now) n.item ≡ Some i)))) }
+{
+    for (_, numbers) in batches {
+        let items = items_of_numbers(alloc, book, numbers)?;
+        push_copies(alloc, &items, found)?;
+    }
+    Ok(())
+}
+
+/// Adds copies of items.
+fn push_copies(alloc: Global, items: &[&Epc], found: &mut Vec<Epc>) -> Result<(), AllocError>
+    ensures { OnOk result ((i : List ℕ) → Contains found.new.items i ↔ (Contains found.old.items i ⊎ Contains (items_at items.now) i)) }
+{
+    found.reserve(items.len())?;
+    for item in items {
+        found.push(item.copy(alloc)?)?;
     }
     Ok(())
 }

@@ -119,7 +119,7 @@ pub fn reach(alloc: Global, sites: &[&Captured], root: &Pair) -> Result<Vec<Pair
     let mut looks = 0;
     let starts = nodes_of(alloc, sites, root)?;
     let nodes = closure(alloc, &RelatedPairs { sites }, &starts, &mut looks)?;
-    let mut pairs = pairs_of(alloc, sites, nodes.as_slice())?;
+    let mut pairs = pairs_of(alloc, sites, &nodes)?;
     if starts.is_empty() {
         pairs.push(root.copy(alloc)?)?;
     }

@@ -1,83 +1,83 @@
-ghost use Rattle.std.specs.Prelude.{◌≡◌, ◌⊎◌, ◌↔◌, ℕ, List, true, IfOk, OnOk, Contains};
-ghost use Rattle.trace_core.specs.Found.{HasMark, HasNumber};
-ghost use Rattle.trace_core.specs.Marks.{is_set};
+ghost use Rattle.std.specs.Prelude.{◌≡◌, ◌⊎◌, ◌↔◌, ℕ, List, Some, IfOk, OnOk, Contains, slice_get};
+ghost use Rattle.trace_core.specs.Found.{HasMark, HasNumber, items_at};
+ghost use Rattle.trace_core.specs.Numbers.{numbered};
 
 use crate::books::Book;
-use crate::marks::{is_marked, marks_of};
+use crate::marks::Marks;
 use epc_core::Epc;
 use std::alloc::{AllocError, Global};
-use std::collections::BTreeMap;
+use std::collections::{BTreeMap, BTreeSet};
 
 /// The items of these numbers. Where they are many of a book's, they ascend: all its items are gone through
 /// in order then, which costs less than sorting those of the numbers.
-pub fn items_of_numbers(
+pub fn items_of_numbers<'a>(
     alloc: Global,
-    book: &Book,
-    numbers: &[usize],
-) -> Result<Vec<Epc>, AllocError>
-    ensures { IfOk result (λ items. (i : List ℕ) → Contains items.items i ↔ HasNumber book.now numbers.now i) }
+    book: &'a Book,
+    numbers: &Marks,
+) -> Result<Vec<&'a Epc>, AllocError>
+    ensures { IfOk result (λ items. (i : List ℕ) → Contains (items_at items.items) i ↔ HasNumber book.now numbers.now i) }
 {
-    if are_many(numbers.len(), book.item_count()) {
-        items_in_order(alloc, book, numbers)
-    } else {
-        items_in_turn(alloc, book, numbers)
+    match numbers.few() {
+        Some(few) => items_in_turn(alloc, book, few),
+        None => items_in_order(alloc, book.numbers(), numbers),
     }
 }
 
-/// Whether so many numbers are at least a sixteenth of all.
-fn are_many(numbers: usize, all: usize) -> bool {
-    all / 16 <= numbers
-}
-
-/// The items of these numbers, ascending. It costs all items of the book.
-fn items_in_order(alloc: Global, book: &Book, numbers: &[usize]) -> Result<Vec<Epc>, AllocError>
-    ensures { IfOk result (λ items. (i : List ℕ) → Contains items.items i ↔ HasNumber book.now numbers.now i) }
-{
-    let marks = marks_of(alloc, book.item_count(), numbers)?;
-    marked_items(alloc, book.numbers(), &marks, numbers.len())
-}
-
-/// The items whose numbers are marked, ascending. Room is made for so many at once.
-fn marked_items(
+/// The items whose numbers are marked, ascending. It costs all that are known.
+fn items_in_order<'a>(
     alloc: Global,
-    known: &BTreeMap<Epc, usize>,
-    marks: &[bool],
-    count: usize,
-) -> Result<Vec<Epc>, AllocError>
-    ensures { IfOk result (λ items. (i : List ℕ) → Contains items.items i ↔ HasMark known.now marks.now i) }
+    known: &'a BTreeMap<Epc, usize>,
+    numbers: &Marks,
+) -> Result<Vec<&'a Epc>, AllocError>
+    ensures { IfOk result (λ items. (i : List ℕ) → Contains (items_at items.items) i ↔ HasMark known.now numbers.now i) }
 {
-    let mut items = Vec::with_capacity(alloc, count)?;
+    let mut items = Vec::new(alloc);
     for (name, number) in known {
-        push_if_marked(alloc, name, *number, marks, &mut items)?;
+        push_if_marked(name, *number, numbers, &mut items)?;
     }
     Ok(items)
 }
 
 /// Adds an item, if its number is marked.
-fn push_if_marked(
-    alloc: Global,
-    name: &Epc,
+fn push_if_marked<'a>(
+    name: &'a Epc,
     number: usize,
-    marks: &[bool],
-    items: &mut Vec<Epc>,
+    numbers: &Marks,
+    items: &mut Vec<&'a Epc>,
 ) -> Result<(), AllocError>
-    ensures { OnOk result ((i : List ℕ) → Contains items.new.items i ↔ (Contains items.old.items i ⊎ ((is_set marks.now number ≡ true) × (name.now ≡ i)))) }
+    ensures { OnOk result ((i : List ℕ) → Contains (items_at items.new.items) i ↔ (Contains (items_at items.old.items) i ⊎ (Contains numbers.now number × (name.now ≡ i)))) }
 {
-    if is_marked(marks, number) {
-        items.push(name.copy(alloc)?)?;
+    if numbers.has(number) {
+        items.push(name)?;
     }
     Ok(())
 }
 
 /// The items of these numbers, in their order.
-fn items_in_turn(alloc: Global, book: &Book, numbers: &[usize]) -> Result<Vec<Epc>, AllocError>
-    ensures { IfOk result (λ items. (i : List ℕ) → Contains items.items i ↔ HasNumber book.now numbers.now i) }
+fn items_in_turn<'a>(
+    alloc: Global,
+    book: &'a Book,
+    numbers: &BTreeSet<usize>,
+) -> Result<Vec<&'a Epc>, AllocError>
+    ensures { IfOk result (λ items. (i : List ℕ) → Contains (items_at items.items) i ↔ HasNumber book.now numbers.now.keys i) }
 {
     let mut items = Vec::new(alloc);
     for number in numbers {
-        if let Some(item) = book.item(*number) {
-            items.push(item.copy(alloc)?)?;
-        }
+        push_numbered(book, *number, &mut items)?;
     }
     Ok(items)
+}
+
+/// Adds the item of a number, if there is one.
+fn push_numbered<'a>(
+    book: &'a Book,
+    number: usize,
+    items: &mut Vec<&'a Epc>,
+) -> Result<(), AllocError>
+    ensures { OnOk result ((i : List ℕ) → Contains (items_at items.new.items) i ↔ (Contains (items_at items.old.items) i ⊎ (slice_get (numbered book.now) number ≡ Some i))) }
+{
+    if let Some(item) = book.item(number) {
+        items.push(item)?;
+    }
+    Ok(())
 }

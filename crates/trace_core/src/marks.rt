@@ -1,4 +1,4 @@
-ghost use Rattle.std.specs.Prelude.{◌≡◌, ◌<◌, ◌⊎◌, ◌↔◌, ℕ, true, false, [], IfOk, OnOk, OnErr, IsTrue, Contains, length};
+ghost use Rattle.std.specs.Prelude.{◌≡◌, ◌<◌, ◌⊎◌, ◌↔◌, ℕ, true, false, [], IfOk, IfSome, OnOk, OnErr, IsTrue, Contains, length};
 ghost use Rattle.trace_core.specs.Marks.{is_set};
 
 use std::alloc::{AllocError, Global};
@@ -46,6 +46,17 @@ impl Marks {
         self.few.contains(&number)
     }
 
+    /// The numbers, where they are few.
+    pub fn few(&self) -> Option<&BTreeSet<usize>>
+        ensures { IfSome result (λ few. (n : ℕ) → Contains few.now.keys n ↔ Contains self.now n) }
+    {
+        if self.many.is_empty() {
+            Some(&self.few)
+        } else {
+            None
+        }
+    }
+
     /// Marks a number, where there are so many in all. Tells whether it is new. An `Err` changes nothing.
     pub fn mark(&mut self, alloc: Global, number: usize, all: usize) -> Result<bool, AllocError>
         ensures marked { OnOk result ((n : ℕ) → Contains self.new n ↔ (Contains self.old n ⊎ (number ≡ n))) }
@@ -86,17 +97,6 @@ impl Marks {
     }
 }
 
-/// So many marks, of which those at the numbers are set.
-pub fn marks_of(alloc: Global, len: usize, numbers: &[usize]) -> Result<Vec<bool>, AllocError>
-    ensures { IfOk result (λ marks. (n : ℕ) → is_set marks.items n ≡ true ↔ ((n < len) × Contains numbers.now n)) }
-{
-    let mut marks = vec![in alloc; false; len]?;
-    for number in numbers {
-        set_mark(&mut marks, *number);
-    }
-    Ok(marks)
-}
-
 /// So many marks, of which those at the numbers of a set are set.
 fn marks_of_set(
     alloc: Global,
@@ -121,11 +121,4 @@ fn set_mark(marks: &mut [bool], number: usize)
     if number < marks.len() {
         marks[number] = true;
     }
-}
-
-/// Whether the mark at a number is set.
-pub fn is_marked(marks: &[bool], number: usize) -> bool
-    ensures { result ≡ is_set marks.now number }
-{
-    marks.get(number).copied().unwrap_or(false)
 }

@@ -1,4 +1,4 @@
-ghost use Rattle.std.specs.Prelude.{◌≡◌, ◌∷◌, ◌⊎◌, ◌↔◌, [], false, IfOk, OnOk, OnErr, length};
+ghost use Rattle.std.specs.Prelude.{◌≡◌, ◌∷◌, ◌⊎◌, ◌↔◌, [], false, IfOk, OnOk, OnErr, Contains, length};
 ghost use Rattle.trace_core.specs.declared.nodes.Node.{Node};
 ghost use Rattle.trace_core.specs.Found.{IsInBatch};
 ghost use Rattle.trace_core.specs.Looks.{LooksAtMost};
@@ -74,6 +74,13 @@ impl Nodes {
         ensures { result.now ≡ self.now }
     {
         self.list.as_slice()
+    }
+
+    /// The numbers of the nodes' items, by batch.
+    pub fn batches(&self) -> &BTreeMap<Batch, Marks>
+        ensures { (n : Node) → IsInBatch result.now n ↔ Contains self.now n }
+    {
+        &self.marks
     }
 
     /// Notes a node as found, where the site that numbered its item has so many.

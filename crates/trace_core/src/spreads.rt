@@ -1,18 +1,18 @@
-ghost use Rattle.std.specs.Prelude.{◌≡◌, ◌≤◌, ◌+◌, ◌-◌, ◌^◌, ◌⊎◌, ◌↔◌, ◌||◌, IfOk, OnOk, ℕ, List, None, Contains, length, map, slice_get};
+ghost use Rattle.std.specs.Prelude.{◌≡◌, ◌≤◌, ◌+◌, ◌-◌, ◌^◌, ◌⊎◌, ◌↔◌, ◌||◌, IfOk, OnOk, ℕ, List, None, Contains, length, slice_get};
 ghost use Rattle.std.specs.List.{list_any};
 ghost use Rattle.trace_core.specs.declared.nodes.Node.{Node};
 ghost use Rattle.trace_core.specs.declared.pairs.Pair.{Pair};
 ghost use Rattle.trace_core.specs.Gathering.{is_in, added_by, joins};
-ghost use Rattle.trace_core.specs.Nodes.{HasItem, IsKnownNode};
+ghost use Rattle.trace_core.specs.Nodes.{IsKnownNode};
 ghost use Rattle.trace_core.specs.Numbers.{number_in, numbered};
 ghost use Rattle.trace_core.specs.Pairs.{IsStrictlyAscending};
 ghost use Rattle.trace_core.specs.PairTests.{takes_in};
 ghost use Rattle.trace_core.specs.Places.{at_place};
 ghost use Rattle.trace_core.specs.Spreads.{AreAscendingItems, IsSpread, AreLooks, IsNewTarget};
 
+use crate::batches::push_items;
 use crate::books::Book;
 use crate::captured::Captured;
-use crate::found_items::items_of_numbers;
 use crate::gathering::{gather, gather_outputs, make_id, takes_in};
 use crate::looks::count_look;
 use crate::nodes::{Node, Nodes};
@@ -50,7 +50,7 @@ impl Captured {
         let starts = nodes_of(alloc, self, items)?;
         let nodes = closure(alloc, &SitePairs { site: self }, &starts, &mut looks)?;
         let mut found = unknown_items(alloc, self.book(), items, &mut looks)?;
-        push_items(alloc, self.book(), nodes.as_slice(), &mut found)?;
+        push_items(alloc, self.book(), &nodes, &mut found)?;
         let items = in_order(found)?;
         Ok((items, looks))
     }
@@ -159,27 +159,6 @@ fn unknown_items(
         }
     }
     Ok(found)
-}
-
-/// Adds the items that nodes stand for. They ascend where they are many of the site's.
-fn push_items(
-    alloc: Global,
-    book: &Book,
-    nodes: &[Node],
-    found: &mut Vec<Epc>,
-) -> Result<(), AllocError>
-    ensures { OnOk result ((i : List ℕ) → Contains found.new.items i ↔ (Contains found.old.items i ⊎ HasItem book.now nodes.now i)) }
-{
-    let numbers = numbers_of(alloc, nodes)?;
-    let mut items = items_of_numbers(alloc, book, &numbers)?;
-    found.append(&mut items)
-}
-
-/// The numbers of nodes.
-fn numbers_of(alloc: Global, nodes: &[Node]) -> Result<Vec<usize>, AllocError>
-    ensures { IfOk result (λ numbers. numbers.items ≡ map (λ n. n.item) nodes.now) }
-{
-    nodes.iter().map(|node| node.item).collect(alloc)
 }
 
 /// Adds the pairs that an item would be related to by one event more: those of the event, and its

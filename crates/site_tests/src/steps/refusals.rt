@@ -1,29 +1,20 @@
 //! Each refusal, and which comes first.
-use super::{FRESH, Short, fresh, give, message, recall, recalls, site};
-use epc_core::Epc;
+use super::Want::{Blocked, Done, IdTaken, NotMine, UnknownItem};
+use super::{FRESH, Short, fresh, give, message, recalls, site};
 use event_json::{DocFaultKind, Sequence};
 use frame_core::MsgId;
 use site_core::{Effects, Refusal, SiteInput, SiteState};
 use std::alloc::Global;
 use std::test::Fail;
 
-/// That y is quarantined under the recall, and the first event would lead on from it.
-fn blocked(alloc: Global) -> Result<Refusal, Fail> {
-    Ok(Refusal::Blocked {
-        recall: recall(),
-        item: Epc::read(alloc, "y")?,
-        event: 1,
-    })
-}
-
 // A shipment of y to C leads out, and to B it doesn't, for that pair is there. What is made of y leads out,
 // unless it is quarantined too.
 fn leads_out(alloc: Global, a: &mut SiteState) -> Result<bool, Fail> {
     let rows = [
-        (Short::Shipped('y', 'c', false), Err(blocked(alloc)?)),
-        (Short::Made('y', 'w'), Err(blocked(alloc)?)),
-        (Short::Shipped('y', 'b', false), Ok(FRESH)),
-        (Short::Made('y', 'x'), Ok(FRESH)),
+        (Short::Shipped('y', 'c', false), Blocked),
+        (Short::Made('y', 'w'), Blocked),
+        (Short::Shipped('y', 'b', false), Done(FRESH)),
+        (Short::Made('y', 'x'), Done(FRESH)),
     ];
     Ok(give(alloc, a, &rows)? && a.captured().len() == 4)
 }
@@ -49,17 +40,14 @@ fn refuses(alloc: Global, a: &mut SiteState) -> Result<bool, Fail> {
         number: u64::MAX,
     };
     let rows = [
-        (Short::Shipped('z', 'b', true), Ok(FRESH)),
-        (Short::Shipped('z', 'b', true), Ok(known)),
-        (
-            Short::Shipped('y', 'c', true),
-            Err(Refusal::IdTaken { event: 1 }),
-        ),
-        (Short::Start('v'), Err(Refusal::UnknownItem)),
-        (Short::Told(message(1), site(1)), Err(Refusal::NotMine)),
-        (Short::Signal(message(1), site(0)), Err(Refusal::NotMine)),
-        (Short::Told(past, site(0)), Err(Refusal::NotMine)),
-        (Short::Signal(message(2), site(0)), Ok(Effects::Stale)),
+        (Short::Shipped('z', 'b', true), Done(FRESH)),
+        (Short::Shipped('z', 'b', true), Done(known)),
+        (Short::Shipped('y', 'c', true), IdTaken),
+        (Short::Start('v'), UnknownItem),
+        (Short::Told(message(1), site(1)), NotMine),
+        (Short::Signal(message(1), site(0)), NotMine),
+        (Short::Told(past, site(0)), NotMine),
+        (Short::Signal(message(2), site(0)), Done(Effects::Stale)),
     ];
     give(alloc, a, &rows)
 }

@@ -1,9 +1,7 @@
-use Rattle.std.proofs.Common.{List, ℕ, ◌↔◌, subst}
-use mathlib.Core.Logic.{◌⊎◌}
 use Rattle.std.specs.List.{Contains}
-use Rattle.trace_core.specs.declared.pairs.Pair.{Pair}
 use Rattle.trace_core.specs.Chains.{sites_at}
 use Rattle.trace_core.specs.Found.{Gives}
+use Rattle.trace_core.specs.Nodes.{Stands}
 use Rattle.trace_core.proofs.FoundSteps.{batches_give, nothing_has, all_given}
 use Rattle.trace_core.proofs.Gathered.{gathering_begins, gathering_goes_on, gathering_ends}
 use Rattle.trace_core.proofs.batches.pairs_in.Goals as goal
@@ -14,10 +12,9 @@ loop-batch-init c = gathering_begins (Gives (sites_at c.args.sites.now)) c.args.
 
 pub loop-batch-preserved : goal.loop-batch-preserved
 loop-batch-preserved c = gathering_goes_on (Gives (sites_at c.args.sites.now)) c.args.batches.now.entries (λ p. ⊥) c.loop-batch.batch-iterator c.next.new.self _ (Contains c.loop-batch.pairs.items) (Contains c.push_batch.new.pairs.items) c.in-Some.ensures.steps
-    (subst (λ (ns : List ℕ). (p : Pair) → Contains c.push_batch.new.pairs.items p ↔ (Contains c.loop-batch.pairs.items p ⊎ Gives (sites_at c.args.sites.now) (c.in-Some.batch.now, ns) p)) c.as_slice.ensures c.in_ok-push_batch.ensures)
-    c.loop-batch.invariant
+    c.in_ok-push_batch.ensures c.loop-batch.invariant
 
 pub returns : goal.returns
 returns c p = all_given
     (gathering_ends (Gives (sites_at c.args.sites.now)) c.args.batches.now.entries (λ p. ⊥) c.loop-batch.batch-iterator (Contains c.loop-batch.pairs.items) c.in-None.ensures.steps.0 c.loop-batch.invariant p)
-    (batches_give (sites_at c.args.sites.now) c.args.batches.now c.into_iter-batch-iterator.ensures.into_iter_gives.5 p)
+    (batches_give (Stands (sites_at c.args.sites.now)) c.args.batches.now c.into_iter-batch-iterator.ensures.into_iter_gives.5 p)

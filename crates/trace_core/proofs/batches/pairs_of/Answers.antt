@@ -11,7 +11,7 @@ use Rattle.trace_core.proofs.batches.pairs_of.Goals as goal
 
 pub returns : goal.returns
 returns c = IfOk-weaker c.pairs_in.result
-    (λ pairs. (p : Pair) → Contains pairs.items p ↔ ((n : Node) × IsInBatch c.in_ok-batches.batches n × Stands (sites_at c.args.sites.now) n p))
+    (λ pairs. (p : Pair) → Contains pairs.items p ↔ ((n : Node) × IsInBatch c.batches.result.now n × Stands (sites_at c.args.sites.now) n p))
     (λ pairs. (p : Pair) → Contains pairs.items p ↔ ((n : Node) × Contains c.args.nodes.now n × Stands (sites_at c.args.sites.now) n p))
-    (λ pairs are p. iff_then (are p) (all_in_batches (sites_at c.args.sites.now) c.in_ok-batches.batches c.args.nodes.now c.in_ok-batches.ensures p))
+    (λ pairs are p. iff_then (are p) (all_in_batches (Stands (sites_at c.args.sites.now)) c.batches.result.now c.args.nodes.now c.batches.ensures p))
     c.pairs_in.ensures

@@ -1,4 +1,4 @@
-use Rattle.std.proofs.Common.{List, ◌↔◌, sym, subst, ◌∙◌, arith}
+use Rattle.std.proofs.Common.{List, ◌↔◌, refl, sym, subst, ◌∙◌, arith}
 use mathlib.Core.Bool.{false≢true}
 use Rattle.std.specs.List.{Contains}
 use Rattle.std.proofs.lemmas.Bool.{eq-eqb}
@@ -24,17 +24,17 @@ pub returns-clause-reached : goal.returns-clause-reached
 returns-clause-reached c =
     let sites = sites_at c.args.sites.now in
     let starts = c.in_ok-starts.starts.items in
-    let list = c.as_slice.result.now in
+    let list = c.in_ok-nodes.nodes in
     let reached : (q : Pair) → Had (Stands sites) c.in_ok-nodes.nodes q ↔ ReachedFromNodes (Stands sites) (Related sites) starts q =
     subst (λ (ns : List Node). (q : Pair) → Had (Stands sites) c.in_ok-nodes.nodes q ↔ ReachedFromNodes (Stands sites) (Related sites) ns q) c.deref.ensures.value c.in_ok-nodes.ensures.reached in
     let has_root : HasRoot sites c.args.root.now c.if-is_empty.pairs.items list = elim c.if-is_empty.branch [
       | then-is_empty+in_ok-copy+in_ok-push w ↦ λ p. rw w.pairs-is (root_added sites c.args.root.now c.in_ok-pairs.pairs.items w.push.new.self.items list w.in_ok-copy.field-0 c.in_ok-pairs.ensures w.in_ok-push.ensures.items w.in_ok-copy.ensures p)
-      | else-is_empty w ↦ λ p. rw w.pairs-is (root_there sites c.args.root.now c.in_ok-pairs.pairs.items starts list c.in_ok-nodes.nodes c.in_ok-pairs.ensures c.in_ok-starts.ensures reached c.as_slice.ensures
+      | else-is_empty w ↦ λ p. rw w.pairs-is (root_there sites c.args.root.now c.in_ok-pairs.pairs.items starts list c.in_ok-nodes.nodes c.in_ok-pairs.ensures c.in_ok-starts.ensures reached refl
           (λ none. false≢true (sym w.if-is_empty.false ∙ c.is_empty.ensures ∙ eq-eqb c.in_ok-starts.starts.len 0 (omega (arith, none, c.in_ok-starts.starts.ok)))) p)
     ] in
     IfOk-weaker c.in_order.result
     (λ ordered. CmpEqualImpliesEq pair_cmp → (p : Pair) → Contains ordered.items p ↔ Contains c.if-is_empty.pairs.items p)
     (λ ordered. (p : Pair) → Contains ordered.items p ↔ Reaches (Related sites) c.args.root.now p)
     (λ ordered same p. iff_then (same pairs_exact p)
-    (reach_exact sites c.args.root.now starts list c.in_ok-nodes.nodes c.if-is_empty.pairs.items c.in_ok-starts.ensures reached c.as_slice.ensures has_root p))
+    (reach_exact sites c.args.root.now starts list c.in_ok-nodes.nodes c.if-is_empty.pairs.items c.in_ok-starts.ensures reached refl has_root p))
     c.in_order.ensures.same

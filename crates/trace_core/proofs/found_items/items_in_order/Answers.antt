@@ -1,14 +1,19 @@
-use Rattle.std.proofs.Common.{Bool, List, ℕ, ◌↔◌, subst}
+use Rattle.std.proofs.Common.{ap}
 use Rattle.std.specs.List.{Contains}
-use Rattle.std.proofs.lemmas.Result.{IfOk-weaker}
-use Rattle.trace_core.specs.Found.{HasMark, HasNumber}
-use Rattle.trace_core.proofs.FoundSteps.{marked_items, iff_then}
+use Rattle.trace_core.specs.Found.{items_at}
+use Rattle.trace_core.proofs.FoundSteps.{IsMarked, marked_found, nothing_has, all_given}
+use Rattle.trace_core.proofs.Gathered.{gathering_begins, gathering_goes_on, gathering_ends}
 use Rattle.trace_core.proofs.found_items.items_in_order.Goals as goal
 
+pub loop-name-init : goal.loop-name-init
+loop-name-init c = gathering_begins (IsMarked c.args.numbers.now) c.args.known.now.entries (λ i. ⊥) c.into_iter-name-iterator.result (Contains (items_at c.new-items.result.items))
+    c.into_iter-name-iterator.ensures.into_iter_gives.0 (nothing_has (items_at c.new-items.result.items) (ap items_at c.new-items.ensures.items))
+
+pub loop-name-preserved : goal.loop-name-preserved
+loop-name-preserved c = gathering_goes_on (IsMarked c.args.numbers.now) c.args.known.now.entries (λ i. ⊥) c.loop-name.name-iterator c.next.new.self _ (Contains (items_at c.loop-name.items.items)) (Contains (items_at c.push_if_marked.new.items.items))
+    c.in-Some.ensures.steps c.in_ok-push_if_marked.ensures c.loop-name.invariant
+
 pub returns : goal.returns
-returns c = IfOk-weaker c.marked_items.result
-    (λ items. (i : List ℕ) → Contains items.items i ↔ HasMark c.numbers.result.now c.deref.result.now i)
-    (λ items. (i : List ℕ) → Contains items.items i ↔ HasNumber c.args.book.now c.args.numbers.now i)
-    (λ items are i. iff_then (subst (λ (ms : List Bool). Contains items.items i ↔ HasMark c.numbers.result.now ms i) c.deref.ensures.value (are i))
-    (marked_items c.args.book.now c.numbers.result.now c.in_ok-marks.marks.items c.args.numbers.now c.item_count.result c.numbers.ensures c.item_count.ensures c.in_ok-marks.ensures i))
-    c.marked_items.ensures
+returns c i = all_given
+    (gathering_ends (IsMarked c.args.numbers.now) c.args.known.now.entries (λ i. ⊥) c.loop-name.name-iterator (Contains (items_at c.loop-name.items.items)) c.in-None.ensures.steps.0 c.loop-name.invariant i)
+    (marked_found c.args.known.now c.args.numbers.now c.into_iter-name-iterator.ensures.into_iter_gives.5 i)
