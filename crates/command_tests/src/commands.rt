@@ -1,6 +1,6 @@
 //! The commands on files and sites in memory.
 
-use event_json::SiteNo;
+use crate::numbers::site;
 use frame_core::{Frame, MsgId};
 use keeper_core::{MemoryKeeper, SiteKeeper};
 use site_commands::{
@@ -234,22 +234,31 @@ const STARTED: [(Asked, u8, &str); 3] = [
     ),
 ];
 
-/// The signal that B has quarantined y comes to A.
-fn signal(files: &mut MemoryFiles) -> Result<(), Fail> {
-    let kept = files.sites.get_mut(0).ok_or("a site")?;
-    let keeper = kept.keeper.as_mut().ok_or("a keeper")?;
-    let a = SiteNo::of(0).ok_or("a site")?;
-    let b = SiteNo::of(1).ok_or("a site")?;
-    let id = MsgId { site: a, number: 1 };
-    keeper.apply(SiteInput::Deliver(Frame::Signal { id, by: b }))?;
-    Ok(())
+/// The signal that B has quarantined y.
+fn signal() -> SiteInput {
+    let id = MsgId {
+        site: site(0),
+        number: 1,
+    };
+    SiteInput::Deliver(Frame::Signal { id, by: site(1) })
+}
+
+/// Hands an input to the first site. Whether it was taken.
+fn takes(files: &mut MemoryFiles, input: SiteInput) -> bool {
+    let Some(kept) = files.sites.get_mut(0) else {
+        return false;
+    };
+    match &mut kept.keeper {
+        Some(keeper) => keeper.apply(input).is_ok(),
+        None => false,
+    }
 }
 
 #[test]
 fn a_record_from_before_is_found(rt: HostRuntime) -> Result<(), Fail> {
     let mut files = files(rt.alloc())?;
     assert!(rt; first_other(rt.alloc(), &mut files, STARTED.as_slice()).is_none());
-    signal(&mut files)?;
+    assert!(rt; takes(&mut files, signal()));
     let after = [(Asked::Audit("d"), 4, "misfit 2 B\n")];
     assert!(rt; first_other(rt.alloc(), &mut files, after.as_slice()).is_none());
     Ok(())

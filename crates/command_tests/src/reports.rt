@@ -2,8 +2,7 @@
 //!
 //! What a site went through is given in short, which holds no memory, and an answer is looked at by functions that
 //! take none, so that little has to be dropped where a call fails.
-ghost use Rattle.std.specs.Prelude.{◌<◌};
-
+use crate::numbers::site;
 use epc_core::{Epc, EpcForm};
 use event_json::{Sequence, SiteNo, Sites};
 use frame_core::{Frame, MsgId, RecallId};
@@ -28,13 +27,6 @@ enum Short {
     Told,
     /// B's signal for that message.
     Signal,
-}
-
-/// The site of a number, 0 for A.
-fn site(number: u64) -> SiteNo
-    requires { number < 16 }
-{
-    SiteNo::of(number).unwrap()
 }
 
 /// The recall A#1.

@@ -1,4 +1,6 @@
 //! That sites kept in files answer as sites in memory do, also where they stop, and write the rows of what they show.
+ghost use Rattle.std.specs.Prelude.{◌<◌};
+
 use crate::keepers::{fresh, keeps_its_rows, stored};
 use epc_core::Epc;
 use event_json::{Sequence, SiteNo};
@@ -39,14 +41,20 @@ enum Turn {
     Returns(u64),
 }
 
+/// The site of a number, 0 for A.
+fn site(number: u64) -> SiteNo
+    requires { number < 16 }
+{
+    SiteNo::of(number).unwrap()
+}
+
 fn step(site: SiteNo, input: WorldInput) -> WorldEvent {
     WorldEvent::Step { site, input }
 }
 
 /// The event of a turn.
 fn event_of(alloc: Global, turn: Turn) -> Result<WorldEvent, Fail> {
-    let a = SiteNo::of(0).ok_or("no such site")?;
-    let b = SiteNo::of(1).ok_or("no such site")?;
+    let (a, b) = (site(0), site(1));
     Ok(match turn {
         Turn::Captures => step(a, document(alloc)?),
         Turn::Begins => step(a, WorldInput::Start(Epc::read(alloc, "x")?)),

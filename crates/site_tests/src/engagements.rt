@@ -1,5 +1,6 @@
 ghost use Rattle.std.specs.Prelude.{◌<◌};
 
+use crate::numbers::site;
 use epc_core::Epc;
 use event_json::SiteNo;
 use frame_core::{LAST_NUMBER, MsgId, NumberFault, RecallId};
@@ -7,13 +8,6 @@ use scholten_core::{Diffusion, Received, Signalled};
 use std::alloc::{AllocError, Global};
 use std::collections::BTreeMap;
 use std::test::Fail;
-
-/// The site of a number, 0 for A.
-fn site(number: u64) -> SiteNo
-    requires { number < 16 }
-{
-    SiteNo::of(number).unwrap()
-}
 
 /// The message of this number that a site sends.
 fn message(sender: u64, number: u64) -> MsgId

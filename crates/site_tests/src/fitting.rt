@@ -2,6 +2,7 @@ mod conditions;
 
 ghost use Rattle.std.specs.Prelude.{◌<◌};
 
+use crate::numbers::site as site_of;
 use epc_core::Epc;
 use event_json::{Sequence, SiteNo, Sites};
 use frame_core::{Frame, MsgId, RecallId};
@@ -53,7 +54,7 @@ fn place(at: At) -> u64
 
 /// The number of a site.
 fn number(at: At) -> SiteNo {
-    SiteNo::of(place(at)).unwrap()
+    site_of(place(at))
 }
 
 /// The first message of a site.

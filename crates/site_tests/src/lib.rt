@@ -6,6 +6,8 @@ mod engagements;
 #[cfg(test)]
 mod fitting;
 #[cfg(test)]
+mod numbers;
+#[cfg(test)]
 mod read_records;
 #[cfg(test)]
 mod steps;

@@ -1,10 +1,9 @@
 //! That the calls succeed with memory at hand, on the worked recall of two sites.
 //!
 //! An input is given in short, which holds no memory, so that little has to be dropped where a call fails.
-ghost use Rattle.std.specs.Prelude.{◌<◌};
-
 mod refusals;
 
+use crate::numbers::site;
 use epc_core::{Epc, EpcForm};
 use event_json::{Sequence, SiteNo, Sites};
 use frame_core::{Frame, FrameView, MsgId, RecallId};
@@ -29,13 +28,6 @@ enum Short {
     /// A message for a site, of the recall A#1, with the item y.
     Told(MsgId, SiteNo),
     Signal(MsgId, SiteNo),
-}
-
-/// The site of a number, 0 for A.
-fn site(number: u64) -> SiteNo
-    requires { number < 16 }
-{
-    SiteNo::of(number).unwrap()
 }
 
 /// The recall A#1.

@@ -1,3 +1,4 @@
+use crate::numbers::site;
 use epc_core::{Epc, EpcForm};
 use event_json::{Sequence, SiteNo, Sites};
 use frame_core::{Frame, MsgId, RecallId};
@@ -15,17 +16,17 @@ const DOCUMENT: &str =
 
 /// Site A.
 fn a() -> SiteNo {
-    SiteNo::of(0).unwrap()
+    site(0)
 }
 
 /// Site B.
 fn b() -> SiteNo {
-    SiteNo::of(1).unwrap()
+    site(1)
 }
 
 /// A site that isn't in the world.
 fn c() -> SiteNo {
-    SiteNo::of(2).unwrap()
+    site(2)
 }
 
 /// Recall 1 of site A.

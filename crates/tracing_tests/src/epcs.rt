@@ -13,10 +13,15 @@ fn have_keys(alloc: Global, rows: &[(&str, &str)]) -> Result<bool, Fail> {
     Ok(true)
 }
 
+/// The key of the item that a text is read as.
+fn key_of(alloc: Global, text: &str) -> Result<String, Fail> {
+    let item = Epc::read(alloc, text)?;
+    Ok(item.key(alloc)?)
+}
+
 /// Whether a text is read as the item of a key.
 fn has_key(alloc: Global, text: &str, key: &str) -> Result<bool, Fail> {
-    let item = Epc::read(alloc, text)?;
-    Ok(item.key(alloc)?.as_str() == key)
+    Ok(key_of(alloc, text)?.as_str() == key)
 }
 
 /// Whether each text is an opaque item.
@@ -31,8 +36,7 @@ fn are_opaque(alloc: Global, texts: &[&str]) -> Result<bool, Fail> {
 
 /// Whether a text is read as an opaque item.
 fn is_opaque(alloc: Global, text: &str) -> Result<bool, Fail> {
-    let item = Epc::read(alloc, text)?;
-    Ok(item.key(alloc)?.as_str().strip_prefix("uri ") == Some(text))
+    Ok(key_of(alloc, text)?.as_str().strip_prefix("uri ") == Some(text))
 }
 
 // Numbers from the EPC Tag Data Standard, EPCIS, the Digital Link standard and the check digit's

@@ -1,6 +1,7 @@
 //! Each refusal, and which comes first.
 use super::Want::{Blocked, Done, IdTaken, NotMine, UnknownItem};
-use super::{FRESH, Short, fresh, give, message, recalls, site};
+use super::{FRESH, Short, fresh, give, message, recalls};
+use crate::numbers::site;
 use event_json::{DocFaultKind, Sequence};
 use frame_core::MsgId;
 use site_core::{Effects, Refusal, SiteInput, SiteState};
