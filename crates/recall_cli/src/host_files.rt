@@ -85,7 +85,7 @@ impl<'a> HostFiles<'a> {
                 close(site);
                 Ok(())
             }
-            Err(fault) => Err(unmade(fault)),
+            Err(left) => Err(unmade(left.fault)),
         }
     }
 

@@ -1,13 +1,14 @@
 -- What the tables hold once a step was written, or wasn't, and how many rows that took.
-use Rattle.std.specs.Prelude.{◌≡◌, ◌⊎◌, ◌+◌, ℕ, length, min, if◌then◌else◌}
+use Rattle.std.specs.Prelude.{◌≡◌, ◌≢◌, ◌⊎◌, ◌+◌, ℕ, length, min, if◌then◌else◌, IsTrue}
 use Rattle.sqlite.specs.Tree.{Trees}
-use Rattle.sqlite.specs.State.{State}
+use Rattle.sqlite.specs.State.{State, Survives}
 use Rattle.sqlite.specs.declared.error.Error.{Error}
 use Rattle.site_core.specs.Records.{Record}
 use Rattle.site_core.specs.declared.outcomes.Effects.{Effects}
 use Rattle.site_rows.specs.RecordRows.{rows_of}
 use Rattle.site_rows.specs.StepRows.{Counts, counts_told}
 use Rattle.site_tables.specs.Stored.{Holds, IsStored, contents_of}
+use Rattle.site_tables.specs.Tables.{no_schema}
 use Rattle.site_store.specs.Faults.{is_of_memory}
 use Rattle.site_store.specs.declared.writing.Unwritten.{Unwritten}
 use Rattle.site_store.specs.declared.writing.Unwritten.TheVariants.{NoMemory, Failed}
@@ -23,6 +24,15 @@ Keeps r s = IsStored (contents_of (rows_of r)) s
 -- a crash leaves the rows of the one record or of the other, and no third
 abbrev pub LeavesOneOf : Record → Record → State → Type 0
 LeavesOneOf old new s = (db : Trees) → s.may_leave db → HoldsRecord old db ⊎ HoldsRecord new db
+
+-- it is in a transaction, or has tables
+abbrev pub IsInUse : State → Type 0
+IsInUse s = IsTrue s.in_transaction ⊎ (s.now.schema ≢ no_schema)
+
+-- where the tables are being made, and where that failed, a crash leaves what it would have left before, or, in a database
+-- that was empty, the rows of the record and no others
+abbrev pub BeginsAs : Record → State → State → Type 0
+BeginsAs r old new = Survives old new (λ db. old.now.schema ≡ no_schema → HoldsRecord r db)
 
 -- what the database keeps of a step that failed: without memory the old rows, and after a failure of its own the old
 -- rows or the new

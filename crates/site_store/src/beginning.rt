@@ -1,10 +1,10 @@
 //! The tables of a site made, with all rows of its record.
-ghost use Rattle.std.specs.Prelude.{◌≡◌, ◌↔◌, IsTrue, IfErr, OnOk};
+ghost use Rattle.std.specs.Prelude.{◌≡◌, ◌↔◌, Err, IsTrue, IfErr, OnOk};
 ghost use Rattle.sqlite.specs.State.{HasCleanDisk};
 ghost use Rattle.sqlite.specs.Held.{state};
 ghost use Rattle.keeper_core.specs.Keeping.{HindersOpening};
 ghost use Rattle.site_tables.specs.Tables.{no_schema};
-ghost use Rattle.site_store.specs.StepWritten.{Keeps};
+ghost use Rattle.site_store.specs.StepWritten.{Keeps, IsInUse, BeginsAs};
 
 use crate::finding::opening_fault;
 use keeper_core::KeepFault;
@@ -17,7 +17,7 @@ use std::alloc::Global;
 
 /// Whether a database has no table, no index and no view.
 fn is_empty(schema: &Schema) -> bool
-    ensures { IsTrue result → schema.now ≡ no_schema }
+    ensures { IsTrue result ↔ (schema.now ≡ no_schema) }
 {
     schema.tables.is_empty() && schema.indexes.is_empty() && schema.views.is_empty()
 }
@@ -25,7 +25,8 @@ fn is_empty(schema: &Schema) -> bool
 /// Makes the tables with the rows of a record in an empty database, in one transaction.
 ///
 /// # Errors
-/// `NoMemory`, `Device` or `Store`, the last also where the database isn't empty.
+/// `NoMemory`, `Device` or `Store`, the last also where the database isn't empty, which then is as it was. A crash then
+/// leaves what it would have left before, or all tables with these rows.
 pub fn begin_tables<S: Alter>(
     alloc: Global,
     conn: &mut Connection<S>,
@@ -33,6 +34,8 @@ pub fn begin_tables<S: Alter>(
 ) -> Result<(), KeepFault>
     ensures stored { HasCleanDisk (state S.Store conn.new) → OnOk result (Keeps site.now (state S.Store conn.new)) }
     ensures kind { IfErr result HindersOpening }
+    ensures crash { BeginsAs site.now (state S.Store conn.old) (state S.Store conn.new) }
+    ensures in_use { IsInUse (state S.Store conn.old) → (result ≡ Err KeepFault.Store) × (conn.new ≡ conn.old) }
 {
     if !conn.is_autocommit() || !is_empty(conn.schema()) {
         return Err(KeepFault::Store);

@@ -13,5 +13,5 @@ mod sites;
 mod writing;
 
 pub use opening::{OpenFault, open_site};
-pub use sites::{Link, StoredSite};
+pub use sites::{Link, StoredSite, Unmade};
 pub use writing::{Unwritten, write_step};

@@ -1,9 +1,11 @@
 //! A site kept in the tables of a file.
 ghost use Rattle.std.specs.Prelude.{◌≡◌, ◌≤◌, false, Some, None, Ok, Err, IfOk, IfErr, MatchResult, is_ok};
+ghost use Rattle.sqlite.specs.Files.{file_state};
 ghost use Rattle.site_core.specs.Records.{Record};
 ghost use Rattle.site_core.specs.Steps.{CopiesRecord};
 ghost use Rattle.keeper_core.specs.Keeping.{Applies, Stops, StaysClosed, HindersOpening, Rises};
 ghost use Rattle.site_store.specs.Sites.{shown_by, MayBy, failed_by, statements_by, link_of, IsKeptOver, IsKeptBy, StoresListed, OpensIn, StaysShut, NoneListed, AppliesBy, StopsBy, ReopensBy};
+ghost use Rattle.site_store.specs.StepWritten.{IsInUse, BeginsAs};
 
 use crate::beginning::begin_tables;
 use crate::kept::Kept;
@@ -22,6 +24,13 @@ pub enum Link<D: Disk> {
     Connected(Connection<FileStore<D>>),
     /// The files, where no connection could be made to them.
     Unconnected(Files<D>),
+}
+
+/// Why no site was made, and the connection, whose tables are as [`StoredSite::create`] says.
+#[derive(Drop)]
+pub struct Unmade<D: Disk> {
+    pub conn: Connection<FileStore<D>>,
+    pub fault: KeepFault,
 }
 
 /// A site kept in the tables of a file, on any disk.
@@ -66,22 +75,26 @@ impl<D: Disk + Drop> StoredSite<D> {
     /// transaction.
     ///
     /// # Errors
-    /// `NoMemory`, `Device` or `Store`, the last also where the database isn't empty. The connection is given up.
+    /// `NoMemory`, `Device` or `Store`, the last also where the database isn't empty or in a transaction, which then is as
+    /// it was. The connection is handed back: while the tables are made, and after an error, a crash leaves what it would
+    /// have left before, or all tables with the rows of the record and no others.
     pub fn create(
         alloc: Global,
         conn: Connection<FileStore<D>>,
         options: Options,
         state: SiteState,
-    ) -> Result<StoredSite<D>, KeepFault>
+    ) -> Result<StoredSite<D>, Unmade<D>>
         ensures shown { IfOk result (λ site. shown_by site ≡ Some state) }
         ensures fresh { IfOk result (λ site. (failed_by site ≡ 0) × (statements_by site ≡ 0)) }
         ensures stored { IfOk result (λ site. IsKeptBy site state) }
-        ensures kind { IfErr result HindersOpening }
+        ensures kind { IfErr result (λ left. HindersOpening left.fault) }
+        ensures crash { IfErr result (λ left. BeginsAs state (file_state conn) (file_state left.conn)) }
+        ensures in_use { IsInUse (file_state conn) → result ≡ Err (record { conn = conn; fault = KeepFault.Store }) }
     {
         let mut conn = conn;
         match begin_tables(alloc, &mut conn, &state) {
             Ok(()) => Ok(StoredSite::adopt(alloc, conn, options, state)),
-            Err(fault) => Err(fault),
+            Err(fault) => Err(Unmade { conn, fault }),
         }
     }
 

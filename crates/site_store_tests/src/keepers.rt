@@ -34,7 +34,7 @@ pub fn stored(alloc: Global, is_second: bool) -> Result<StoredSite<Memory>, Fail
     let state = fresh(alloc, is_second)?;
     match StoredSite::create(alloc, connected(alloc)?, Options::new(1), state) {
         Ok(site) => Ok(site),
-        Err(fault) => Err(fault.into()),
+        Err(left) => Err(left.fault.into()),
     }
 }
 
