@@ -7,13 +7,20 @@ ghost use Rattle.trace_core.specs.Spreads.{items_of};
 use crate::items::Items;
 use epc_core::Epc;
 use event_json::Body;
+use smallvec::SmallVec;
 use std::alloc::{AllocError, Global};
 use std::marker::Model;
 
-/// Numbers of items.
-#[derive(Debug, Drop)]
+/// Numbers of items. Four lie in the value itself: most transformations have no more inputs and outputs.
+#[derive(Debug)]
 pub struct Numbers {
-    numbers: Vec<usize>,
+    numbers: SmallVec<usize, 4>,
+}
+
+impl Drop for Numbers {
+    fn drop(self) {
+        let Numbers { numbers: _ } = self;
+    }
 }
 
 impl Model for Numbers {
@@ -30,17 +37,8 @@ impl Numbers {
         ensures { result ≡ [] }
     {
         Numbers {
-            numbers: Vec::new(alloc),
+            numbers: SmallVec::new(alloc),
         }
-    }
-
-    /// One number.
-    pub fn one(alloc: Global, number: usize) -> Result<Numbers, AllocError>
-        ensures { IfOk result (λ numbers. numbers ≡ number ∷ []) }
-    {
-        let mut numbers = Vec::new(alloc);
-        numbers.push(number)?;
-        Ok(Numbers { numbers })
     }
 
     /// Adds a number at the end. An `Err` changes nothing.

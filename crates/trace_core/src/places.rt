@@ -1,13 +1,21 @@
 ghost use Rattle.std.specs.Prelude.{◌≡◌, ◌==◌, ◌∷◌, [], IfOk, OnOk, OnErr, length};
 ghost use Rattle.trace_core.specs.Places.{ends_with, with_last, without_last};
 
+use smallvec::SmallVec;
 use std::alloc::{AllocError, Global};
 use std::marker::Model;
 
-/// Places of events.
-#[derive(Debug, Drop)]
+/// Places of events. Four lie in the value itself, as most items are named by no more events than that: a look at
+/// them is a look at the item.
+#[derive(Debug)]
 pub struct Places {
-    places: Vec<usize>,
+    places: SmallVec<usize, 4>,
+}
+
+impl Drop for Places {
+    fn drop(self) {
+        let Places { places: _ } = self;
+    }
 }
 
 impl Model for Places {
@@ -23,7 +31,7 @@ impl Places {
     pub fn one(alloc: Global, place: usize) -> Result<Places, AllocError>
         ensures { IfOk result (λ places. places ≡ place ∷ []) }
     {
-        let mut places = Vec::new(alloc);
+        let mut places = SmallVec::new(alloc);
         places.push(place)?;
         Ok(Places { places })
     }
