@@ -1,11 +1,11 @@
 -- what the keepers show after a run
-use Rattle.std.proofs.Common.{◌≡◌, ◌≤◌, ℕ, Option, IsSome, List, [], ◌∷◌, All, refl, sym, subst}
+use Rattle.std.proofs.Common.{◌≡◌, ℕ, Option, IsSome, List, [], ◌∷◌, All, refl, sym, subst}
 use Rattle.std.proofs.lemmas.List.Elements.{All-cons, All-nil}
 use Rattle.std.specs.List.{AllZip}
 use Rattle.event_json.specs.Sites.{Site}
 use Rattle.site_core.specs.Records.{Record}
 use Rattle.site_threads.proofs.NoJobs.{all_of_frames}
-use Rattle.site_threads.specs.Gathering.{Began, FitAfter, HasEnd, Hinders, IsKept, KeepersFit, Opens, StandTogether}
+use Rattle.site_threads.specs.Gathering.{Began, FitAfter, HasEnd, HasTurned, Hinders, IsKept, KeepersFit, Opens, StandTogether}
 use Rattle.site_threads.specs.declared.desks.DeskOut.{DeskOut}
 use Rattle.site_threads.specs.declared.gather.GatherCause.{GatherCause}
 use Rattle.site_threads.specs.declared.gather.GatherCause.TheVariants.{NotAWorld, NoMemory, SiteLost, GaveUp}
@@ -35,9 +35,9 @@ module _ {K : Type 0} (shown : K → Option Record) where
 
   -- what is told after a run of sites whose desks take no jobs
   pub came_to_its_end : (sites : List Site) (turns : ℕ) (old new : List K) (ds : List DeskOut) (lists : List SiteList) (text : List ℕ) → AllZip (Began shown) old lists → AllZip (IsKept shown) new lists
-      → All (λ (d : DeskOut). d.limit ≡ 0) ds → AllZip HasEnd ds lists → All (λ (l : SiteList). l.turns ≤ turns) lists → TellsRecalls shown sites new text → CameToItsEnd shown sites turns old new text
-  came_to_its_end sites turns old new ds lists text began kept none ends asked told =
-      record { lists = lists; began = began; kept = kept; frames = all_of_frames shown ds new lists none ends kept; asked = asked; told = told }
+      → All (λ (d : DeskOut). d.limit ≡ 0) ds → AllZip HasEnd ds lists → AllZip (HasTurned shown turns) new lists → TellsRecalls shown sites new text → CameToItsEnd shown sites turns old new text
+  came_to_its_end sites turns old new ds lists text began kept none ends turned told =
+      record { lists = lists; began = began; kept = kept; frames = all_of_frames shown ds new lists none ends kept; turned = turned; told = told }
 
   module _ (may : K → Record → Type 0) where
     all_open_in : (keepers : List K) (rs : List Record) → AllShow shown keepers rs → AllZip (λ k r. Opens (shown k) (may k) r) keepers rs

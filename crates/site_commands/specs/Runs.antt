@@ -7,7 +7,7 @@ use Rattle.site_core.specs.Records.{Record}
 use Rattle.site_recovery.specs.Looks.{world_of}
 use Rattle.site_recovery.specs.Misfits.{IsMisfit}
 use Rattle.site_recovery.specs.declared.checking.Misfit.{Misfit}
-use Rattle.site_threads.specs.Gathering.{Began, FitAfter, Hinders, IsKept, StandTogether}
+use Rattle.site_threads.specs.Gathering.{Began, FitAfter, HasTurned, Hinders, IsKept, StandTogether}
 use Rattle.site_threads.specs.Jobs.{AreOfFrames}
 use Rattle.site_threads.specs.declared.gather.GatherCause.{GatherCause}
 use Rattle.site_threads.specs.declared.gather.GatherCause.TheVariants.{NotAWorld}
@@ -47,13 +47,13 @@ pub record TellsTheMisfit {K : Type 0} (shown : K → Option Record) (sites : Li
 
 module _ {K : Type 0} (shown : K → Option Record) (sites : List Site) (turns : ℕ) where
   -- each keeper is open in the record to which its steps lead from the one that it began with, and these are told; each
-  -- step is that of a frame, and no site's gate was asked for more turns than these
+  -- step is that of a frame, and each site's gate was asked for just these turns, or for fewer where the site is done
   pub record CameToItsEnd (old new : List K) (text : List ℕ) : Type 0 where
     pub lists : List SiteList
     pub began : AllZip (Began shown) old lists
     pub kept : AllZip (IsKept shown) new lists
     pub frames : All (λ l. AreOfFrames l.entries.items) lists
-    pub asked : All (λ l. l.turns ≤ turns) lists
+    pub turned : AllZip (HasTurned shown turns) new lists
     pub told : TellsRecalls shown sites new text
 
   -- the run came to its end; or there was none, since the records don't fit together, and the keepers are as they were

@@ -1,5 +1,6 @@
 -- What is known of each site after its run.
-use Rattle.std.proofs.Common.{◌≡◌, ℕ, zero, suc, ◌+◌, ◌≤◌, Option, Some, None, IsSome, IfSome, true≢false, List, [], ◌∷◌, ◌++◌, All, map, drop, length, get_or, refl, sym, ap, ◌∙◌, subst, arith}
+use Rattle.std.proofs.Common.{◌≡◌, inl, inr, ℕ, zero, suc, ◌+◌, ◌≤◌, Option, Some, None, IsSome, IfSome, true≢false, List, [], ◌∷◌, ◌++◌, All, map, drop, length, get_or, refl, sym, ap, ◌∙◌, subst, arith}
+use Rattle.std.proofs.lemmas.List.Elements.{All-head, All-tail}
 use Rattle.std.specs.List.{AllZip, range_with_len}
 use Rattle.std.specs.Option.{option_or}
 use Rattle.site_core.specs.Records.{Record}
@@ -18,7 +19,7 @@ use Rattle.site_threads.specs.declared.turns.TurnCause.{TurnCause}
 use Rattle.site_threads.specs.declared.turns.TurnCause.TheVariants as turns
 use Rattle.site_threads.specs.Beginning.{BeganIn, TookEnd}
 use Rattle.site_threads.specs.Ends.{takes, IsOut}
-use Rattle.site_threads.specs.Gathering.{Opens, KeepersFit, Began, HasEnd, IsKept, AreOpenBefore, FitAfter, Hinders}
+use Rattle.site_threads.specs.Gathering.{Opens, KeepersFit, Began, HasEnd, HasTurned, IsKept, AreOpenBefore, FitAfter, Hinders}
 use Rattle.site_threads.specs.Jobs.{Kept, jobs_in, option_items}
 use Rattle.site_threads.specs.Keepers.{shown_in, may_in}
 use Rattle.site_threads.specs.Parting.{HasKeeper, LeavesList, cause_of, first_cause}
@@ -26,7 +27,7 @@ use Rattle.site_threads.specs.Running.{Holding}
 use Rattle.site_threads.specs.Runs.{IsReady, Ran}
 use Rattle.site_threads.specs.Turns.{IfLost}
 use Rattle.site_threads.proofs.Gathering.{exact_when_fit}
-use Rattle.site_threads.proofs.Zips.{all_carried, zip_through}
+use Rattle.site_threads.proofs.Zips.{zip_through}
 
 shown_record : (o : Option Record) → IsSome o → (r : Record) × (o ≡ Some r)
 shown_record (Some r) h = (r, refl)
@@ -110,6 +111,35 @@ module _ {K G : Type 0} (shown : K → Option Record) (may : K → Record → Ty
   kept_all (o ∷ os) (r ∷ rs) [] ls a b c none = absurd b
   kept_all (o ∷ os) (r ∷ rs) (k ∷ ks) [] a b c none = absurd c
 
+  turned_one : (old run : SiteRun K G) (k : K) (l : SiteList) → IsReady shown may wire old → Ran shown may wire most old run → HasKeeper run k → LeavesList run l → run.fault ≡ None → HasTurned shown most k l
+  turned_one old run k l ready ran is left fine = record {
+    asked = let few : run.turn.turns ≤ most = let none = ready.unasked in let more = ran.asked in omega (arith, none, more) in subst (λ (n : ℕ). n ≤ most) (sym left.turns) few;
+    all = elim (ran.all fine) [
+      | inl all ↦ inl (left.turns ∙ all)
+      | inr done ↦ inr (record {
+        gone = ap (λ (o : DeskOut). o.gone) left.out ∙ done.gone;
+        none = left.pending ∙ done.none;
+        record_is = done.record_is;
+        stands = ap (shown_in shown) (sym is) ∙ done.stands;
+        rests = done.rests;
+      })
+    ];
+  }
+
+  pub turned_all : (olds runs : List (SiteRun K G)) (ks : List K) (ls : List SiteList) → All (IsReady shown may wire) olds → AllZip (Ran shown may wire most) olds runs → AllZip HasKeeper runs ks → AllZip LeavesList runs ls → first_cause runs ≡ None → AllZip (HasTurned shown most) ks ls
+  turned_all [] [] [] [] ready a b c none = tt
+  turned_all (o ∷ os) (r ∷ rs) (k ∷ ks) (l ∷ ls) ready a b c none =
+      let n = neither (cause_of r.turn.site.me r.fault) (first_cause rs) none in (
+        turned_one o r k l (All-head (IsReady shown may wire) o os ready) a.0 b.0 c.0 (no_fault r.turn.site.me r.fault n.0),
+        turned_all os rs ks ls (All-tail (IsReady shown may wire) o os ready) a.1 b.1 c.1 n.1,
+      )
+  turned_all [] (r ∷ rs) ks ls ready a b c none = absurd a
+  turned_all (o ∷ os) [] ks ls ready a b c none = absurd a
+  turned_all [] [] (k ∷ ks) ls ready a b c none = absurd b
+  turned_all [] [] [] (l ∷ ls) ready a b c none = absurd c
+  turned_all (o ∷ os) (r ∷ rs) [] ls ready a b c none = absurd b
+  turned_all (o ∷ os) (r ∷ rs) (k ∷ ks) [] ready a b c none = absurd c
+
   -- Where one did.
 
   first_hinders : (a : ℕ) (olds runs : List (SiteRun K G)) (ks : List K) (cause : GatherCause) → AllZip (Ran shown may wire most) olds runs → AllZip HasKeeper runs ks → map (λ (r : SiteRun K G). r.turn.site.me) runs ≡ range_with_len a (length runs) → first_cause runs ≡ Some cause
@@ -141,7 +171,7 @@ module _ {K G : Type 0} (shown : K → Option Record) (may : K → Record → Ty
   hinders_all firsts olds runs ks (Some cause) x y order is fit = let n = first_hinders 0 olds runs ks cause x y order (sym is) in (named_hinders shown ks n.0 cause n.1, named_fits shown may firsts ks n.0 cause n.1 fit)
 
 module _ {K G : Type 0} (shown : K → Option Record) (may : K → Record → Type 0) (wire : Line) (most : ℕ) (olds runs : List (SiteRun K G)) (ls : List SiteList) (ran : AllZip (Ran shown may wire most) olds runs) (left : AllZip LeavesList runs ls) where
-  -- each list is of the site that began so, has its end of the desk, and tells its turns
+  -- each list is of the site that began so, and has its end of the desk
 
   pub began_all : (ks : List K) → AllZip (BeganIn shown) ks olds → AllZip (Began shown) ks ls
   began_all ks start =
@@ -152,12 +182,6 @@ module _ {K G : Type 0} (shown : K → Option Record) (may : K → Record → Ty
   ends_all ds took =
       zip_through (TookEnd {K = K} {G = G}) LeavesList HasEnd ds runs ls (λ d r l t z. record { desk = ap (λ (o : DeskOut). receives_on o.from) z.out ∙ t.desk; limit = ap (λ (o : DeskOut). o.limit) z.out ∙ t.limit })
       (zip_through (TookEnd {K = K} {G = G}) (Ran shown may wire most) TookEnd ds olds runs (λ d o r t z. record { desk = z.same.desk ∙ t.desk; limit = z.same.limit ∙ t.limit }) took ran) left
-
-  pub asked_all : All (IsReady shown may wire) olds → All (λ (l : SiteList). l.turns ≤ most) ls
-  asked_all ready =
-      let few : SiteRun K G → Type 0 = λ r. r.turn.turns ≤ most in
-      all_carried LeavesList few (λ (l : SiteList). l.turns ≤ most) runs ls (λ r l h z. subst (λ (n : ℕ). n ≤ most) (sym z.turns) h)
-      (all_carried (Ran shown may wire most) (IsReady shown may wire) few olds runs (λ o r h z. let none = h.unasked in let more = z.asked in omega (arith, none, more)) ready ran) left
 
 -- before the first turn, where all are open
 only_shown : {K : Type 0} (shown : K → Option Record) (may : K → Record → Type 0) (ks : List K) (rs qs : List Record) → AllZip (λ k r. shown k ≡ Some r) ks rs → AllZip (λ k r. Opens (shown k) (may k) r) ks qs → qs ≡ rs

@@ -1,5 +1,5 @@
 -- What is said of the sites once their run has ended.
-use Rattle.std.specs.Prelude.{◌≡◌, ⊤, ◌<◌, ℕ, ◌++◌, List, [], Option, Some, None, Result, Ok, Err, slice_get}
+use Rattle.std.specs.Prelude.{◌≡◌, ⊤, ◌⊎◌, ◌<◌, ◌≤◌, ℕ, ◌++◌, List, [], Option, Some, None, Result, Ok, Err, slice_get}
 use Rattle.std.specs.List.{AllZip}
 use Rattle.crossbeam_channel.specs.Ends.{receives_on}
 use Rattle.frame_core.specs.Numbers.{Recall}
@@ -17,6 +17,7 @@ use Rattle.site_threads.specs.declared.lists.SiteList.{SiteList}
 use Rattle.site_threads.specs.declared.jobs.Receipt.{Receipt}
 use Rattle.site_threads.specs.Ends.{takes, IsOut}
 use Rattle.site_threads.specs.Jobs.{IsEntered, jobs_in, option_items, Kept}
+use Rattle.site_threads.specs.Resting.{IsDone}
 
 -- the site is open in this record, or closed and may be opened in it
 abbrev pub Opens : Option Record → (Record → Type 0) → Record → Type 0
@@ -48,6 +49,11 @@ pub record IsKept {K : Type 0} (shown : K → Option Record) (k : K) (l : SiteLi
   pub stands : shown k ≡ Some last
   pub steps : Kept l.start.value l.entries.items last
   pub jobs : HasJobsOfEnd l
+
+-- The gate of the keeper's site was asked for all these turns; or for fewer, and the site is done.
+pub record HasTurned {K : Type 0} (shown : K → Option Record) (turns : ℕ) (k : K) (l : SiteList) : Type 0 where
+  pub asked : l.turns ≤ turns
+  pub all : (l.turns ≡ turns) ⊎ IsDone shown (Some k) l.out l.pending
 
 -- the list is of a site that began in the record that the keeper showed
 abbrev pub Began : {K : Type 0} → (K → Option Record) → K → SiteList → Type 0

@@ -7,6 +7,7 @@ pub mod Keepers
 pub mod Offers
 pub mod Parting
 pub mod Passing
+pub mod Resting
 pub mod Running
 pub mod Runs
 pub mod Sites

@@ -1,5 +1,5 @@
 -- What clauses say of the sites of a run.
-use Rattle.std.specs.Prelude.{◌≡◌, ℕ, ◌+◌, ◌≤◌, ◌++◌, Bool, true, false, Option, None, IsSome, IfSome}
+use Rattle.std.specs.Prelude.{◌≡◌, ◌⊎◌, ℕ, ◌+◌, ◌≤◌, ◌++◌, Bool, true, false, Option, None, IsSome, IfSome}
 use Rattle.crossbeam_channel.specs.Ends.{receives_on}
 use Rattle.site_core.specs.Records.{Record}
 use Rattle.wire_core.specs.Seats.{Line, IsSeatOf}
@@ -9,6 +9,7 @@ use Rattle.site_threads.specs.declared.runs.Turned.TheVariants.{Changed, Idle, E
 use Rattle.site_threads.specs.Ends.{takes, IsOut}
 use Rattle.site_threads.specs.Jobs.{jobs_in, option_items}
 use Rattle.site_threads.specs.Keepers.{shown_in}
+use Rattle.site_threads.specs.Resting.{IsDone}
 use Rattle.site_threads.specs.Running.{marks_in}
 use Rattle.site_threads.specs.Sites.{IsSite}
 use Rattle.site_threads.specs.Turns.{IfLost}
@@ -42,10 +43,12 @@ module _ {K G : Type 0} (shown : K → Option Record) (may : K → Record → Ty
     pub going : r.fault ≡ None
     pub unasked : r.turn.turns ≡ 0
 
-  -- what is known after at most so many turns: a site without a fault is open, and a lost one is closed
+  -- what is known after at most so many turns: a site without a fault is open, and made all of them unless it is done; a
+  -- lost one is closed
   pub record Ran (turns : ℕ) (old new : SiteRun K G) : Type 0 where
     pub run : IsRun shown may wire new
     pub same : SameRun old new
     pub asked : new.turn.turns ≤ old.turn.turns + turns
+    pub all : new.fault ≡ None → (new.turn.turns ≡ turns) ⊎ IsDone shown new.turn.site.keeper new.out new.pending
     pub is_open : new.fault ≡ None → IsSome (shown_in shown new.turn.site.keeper)
     pub lost : IfSome new.fault (λ cause. IfLost cause (shown_in shown new.turn.site.keeper))

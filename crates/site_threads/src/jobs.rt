@@ -131,19 +131,6 @@ impl Ready {
             receipt,
         }))
     }
-
-    /// The job alone.
-    pub fn back(ready: Option<Ready>) -> Option<Job>
-        ensures { result ≡ option_map (λ x. x.job) ready }
-    {
-        match ready {
-            None => None,
-            Some(ready) => {
-                let Ready { job, .. } = ready;
-                Some(job)
-            }
-        }
-    }
 }
 
 /// Whether the input delivers a frame.

@@ -1,9 +1,10 @@
 //! The sites of a run, each in a thread of its own.
-ghost use Rattle.std.specs.Prelude.{◌≡◌, ◌+◌, ◌++◌, ◌^◌, ◌<◌, ◌≤◌, ℕ, List, None, true, All, IfSome, IsSome, is_none, length, slice_index_or};
+ghost use Rattle.std.specs.Prelude.{◌≡◌, ◌↔◌, ◌+◌, ◌-◌, ◌++◌, ◌^◌, ◌<◌, ◌≤◌, ℕ, List, None, true, All, IfSome, IsSome, IsTrue, is_none, length, min, slice_index_or};
 ghost use Rattle.crossbeam_channel.specs.Ends.{receives_on};
 ghost use Rattle.site_threads.specs.Ends.{takes, IsOut};
 ghost use Rattle.site_threads.specs.Jobs.{option_items};
 ghost use Rattle.site_threads.specs.Keepers.{shown_in};
+ghost use Rattle.site_threads.specs.Resting.{HaveEnded, IsAtRest, IsDone};
 ghost use Rattle.site_threads.specs.Runs.{IsRun, IsReady, SameRun, Ran, goes_on};
 ghost use Rattle.site_threads.specs.Running.{marks_in};
 ghost use Rattle.site_threads.specs.Turns.{IfLost};
@@ -18,6 +19,7 @@ use crate::stamps::Stamp;
 use crate::turns::{SiteTurn, TurnCause, TurnFault, TurnReport, lost};
 use event_json::SiteNo;
 use keeper_core::SiteKeeper;
+use site_core::SiteState;
 use std::sync::Wait;
 use std::sync::atomic::{AtomicU64, Ordering};
 use std::thread;
@@ -78,6 +80,25 @@ fn longer(micros: u64) -> u64 {
     micros.min(900) + 100
 }
 
+/// Whether each recall that a site began has ended.
+fn have_ended(state: &SiteState) -> bool
+    ensures { IsTrue result ↔ HaveEnded state.now }
+{
+    for (_, own) in state.own_recalls() {
+        if !own.ended {
+            return false;
+        }
+    }
+    true
+}
+
+/// Whether no message of a site waits for a signal, and each recall that it began has ended.
+fn is_at_rest(state: &SiteState) -> bool
+    ensures { IsTrue result → IsAtRest state.now }
+{
+    state.outbox().is_empty() && have_ended(state)
+}
+
 /// What was done in a turn.
 #[derive(Clone, Copy)]
 enum Turned {
@@ -109,7 +130,7 @@ impl<K: SiteKeeper, G: Gate> SiteRun<K, G> {
         ensures run { IsRun K.shown K.may wire.now self.new }
         ensures same { SameRun self.old self.new }
         ensures marks { marks_in self.new.turn.site.seat.logs ≤ marks_in self.old.turn.site.seat.logs + 18 }
-        ensures turns { self.new.turn.turns ≤ self.old.turn.turns + 1 }
+        ensures turns { self.new.turn.turns ≡ min (self.old.turn.turns + 1) (2 ^ 64 - 1) }
         ensures going { goes_on result ≡ is_none self.new.fault }
         ensures lost { IfSome self.new.fault (λ cause. IfLost cause (shown_in K.shown self.new.turn.site.keeper)) }
     {
@@ -144,20 +165,25 @@ impl<K: SiteKeeper, G: Gate> SiteRun<K, G> {
         }
     }
 
-    /// Whether no recall of the site's own is open, and none can begin: its desk is gone, no job is in hand, and no
-    /// message waits for a signal.
-    fn is_done(&self) -> bool {
-        let Some(state) = view_of(&self.turn.site.keeper) else {
+    /// Whether no recall of the site's own is open, and none can begin: its desk is gone, no job is in hand, no message
+    /// waits for a signal, and each recall that it began has ended.
+    fn is_done(&self) -> bool
+        ensures { IsTrue result → IsDone K.shown self.now.turn.site.keeper self.now.out self.now.pending }
+    {
+        if !self.out.gone || self.pending.is_some() {
             return false;
-        };
-        self.out.gone && self.pending.is_none() && state.outbox().is_empty()
+        }
+        match view_of(&self.turn.site.keeper) {
+            Some(state) => is_at_rest(state),
+            None => false,
+        }
     }
 
-    /// The turns of a run, so many or fewer, and a last opening. After a turn in which nothing was done the site sleeps, so
-    /// that a run doesn't end while other sites write.
+    /// The turns of a run, and a last opening. After a turn in which nothing was done the site sleeps, so that a run doesn't
+    /// end while other sites write.
     ///
     /// `open` counts the sites of the run that may have an open recall of their own, or begin one. A site takes itself
-    /// off once its desk is gone and its outbox empty; where none is left, no site makes another turn.
+    /// off once it is done; where none is left, a site that is done makes no further turn.
     pub fn go<R: Wait + Clock>(&mut self, rt: &R, wire: &Wire, open: &AtomicU64, turns: u64)
         requires ready { IsReady K.shown K.may wire.now self.old }
         requires turns { turns ≤ 1000000 }
@@ -167,7 +193,7 @@ impl<K: SiteKeeper, G: Gate> SiteRun<K, G> {
         let mut done = false;
         for _ in 0..turns {
             pause(rt, micros);
-            if open.load(Ordering::SeqCst) == 0 {
+            if open.load(Ordering::SeqCst) == 0 && self.is_done() {
                 break;
             }
             match self.one_turn(rt, wire) {

@@ -113,8 +113,7 @@ impl<K: SiteKeeper, G: Gate> SiteTurn<K, G> {
         requires few { marks_in self.old.site.seat.logs < 2 ^ 61 }
         ensures site { IsSite K.shown K.may self.new.site }
         ensures same { Continues 18 wire.now self.old.site self.new.site }
-        ensures turns { self.new.turns ≤ self.old.turns + 1 }
-        ensures counted { OnOk result (self.new.turns ≡ min (self.old.turns + 1) (2 ^ 64 - 1)) }
+        ensures turns { self.new.turns ≡ min (self.old.turns + 1) (2 ^ 64 - 1) }
         ensures job { IfOk result (λ report. (option_map (λ x. x.job) report.receipt ≡ job) × IfSome report.receipt (λ x. x.site ≡ self.old.site.me)) }
         ensures entered { IfOk result (λ report. TakesFrames (self.old.site.entries.items ++ map entry_of (option_items report.receipt)) self.new.site.entries.items report.applied) }
         ensures jobs { IfOk result (λ report. jobs_in self.new.site.entries.items ≡ jobs_in self.old.site.entries.items ++ option_items job) }
@@ -123,6 +122,9 @@ impl<K: SiteKeeper, G: Gate> SiteTurn<K, G> {
         ensures unchanged { IfErr result (λ fault. (r : Record) → shown_in K.shown self.old.site.keeper ≡ Some r → shown_in K.shown self.new.site.keeper ≡ Some r) }
         ensures lost { IfErr result (λ fault. IfLost fault.cause (shown_in K.shown self.new.site.keeper)) }
     {
+        if let Err(cause) = self.begin(wire) {
+            return Err(TurnFault { cause, job });
+        }
         let room = wire.sites() + 1;
         if self.site.entries.reserve(room).is_err() {
             return Err(TurnFault {
@@ -135,15 +137,7 @@ impl<K: SiteKeeper, G: Gate> SiteTurn<K, G> {
                 cause: TurnCause::NoMemory,
                 job,
             }),
-            Ok(ready) => {
-                if let Err(cause) = self.begin(wire) {
-                    return Err(TurnFault {
-                        cause,
-                        job: Ready::back(ready),
-                    });
-                }
-                self.go_on(wire, ready)
-            }
+            Ok(ready) => self.go_on(wire, ready),
         }
     }
 
@@ -154,8 +148,7 @@ impl<K: SiteKeeper, G: Gate> SiteTurn<K, G> {
         requires few { marks_in self.old.site.seat.logs < 2 ^ 62 }
         ensures site { IsSite K.shown K.may self.new.site }
         ensures same { Continues 1 wire.now self.old.site self.new.site }
-        ensures turns { self.new.turns ≤ self.old.turns + 1 }
-        ensures counted { self.new.turns ≡ min (self.old.turns + 1) (2 ^ 64 - 1) }
+        ensures turns { self.new.turns ≡ min (self.old.turns + 1) (2 ^ 64 - 1) }
         ensures entries { self.new.site.entries ≡ self.old.site.entries }
         ensures open { IfOk result (λ _. IsSome (shown_in K.shown self.new.site.keeper)) }
         ensures stays { (r : Record) → shown_in K.shown self.old.site.keeper ≡ Some r → shown_in K.shown self.new.site.keeper ≡ Some r }

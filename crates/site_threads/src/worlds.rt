@@ -8,7 +8,7 @@ ghost use Rattle.wire_core.specs.Fitting.{SitesFit};
 ghost use Rattle.wire_core.specs.Rule.{logs_from};
 ghost use Rattle.wire_core.specs.Seats.{IsSeatOf};
 ghost use Rattle.site_threads.specs.Ends.{IsUnused};
-ghost use Rattle.site_threads.specs.Gathering.{Began, FitAfter, HasEnd, Hinders, IsKept, KeepersFit, keepers_of};
+ghost use Rattle.site_threads.specs.Gathering.{Began, FitAfter, HasEnd, HasTurned, Hinders, IsKept, KeepersFit, keepers_of};
 ghost use Rattle.site_threads.specs.Parting.{IsRoomFor};
 ghost use Rattle.site_threads.specs.Runs.{IsReady, Ran};
 
@@ -121,7 +121,7 @@ fn run_in<K: SiteKeeper + Send, G: Gate + Send, R: Threads + Wait + Clock + Sync
     ensures kept { result.cause ≡ None → AllZip (IsKept K.shown) result.keepers.items result.lists.items }
     ensures began { AllZip (Began K.shown) keepers.items result.lists.items }
     ensures ends { AllZip HasEnd desks.items result.lists.items }
-    ensures turns { All (λ l. l.turns ≤ turns) result.lists.items }
+    ensures turns { result.cause ≡ None → AllZip (HasTurned K.shown turns) result.keepers.items result.lists.items }
     ensures fit { KeepersFit K.shown K.may result.keepers.items }
     ensures back { length result.keepers.items ≡ length keepers.items }
     ensures cause { IfSome result.cause (λ cause. Hinders K.shown result.keepers.items cause × FitAfter K.shown K.may keepers.items cause result.keepers.items) }
@@ -175,7 +175,7 @@ fn run_sites<K: SiteKeeper + Send, G: Gate + Send, R: Threads + Wait + Clock + S
     ensures kept { IfOk result (λ g. AllZip (IsKept K.shown) g.keepers.items g.lists.items) }
     ensures began { IfOk result (λ g. AllZip (Began K.shown) keepers.items g.lists.items) }
     ensures ends { IfOk result (λ g. AllZip HasEnd desks.items g.lists.items) }
-    ensures turns { IfOk result (λ g. All (λ l. l.turns ≤ turns) g.lists.items) }
+    ensures turns { IfOk result (λ g. AllZip (HasTurned K.shown turns) g.keepers.items g.lists.items) }
     ensures fit { IfOk result (λ g. KeepersFit K.shown K.may g.keepers.items) }
     ensures back { length (keepers_of result) ≡ length keepers.items }
     ensures err { IfErr result (λ e. Hinders K.shown e.keepers.items e.cause × FitAfter K.shown K.may keepers.items e.cause e.keepers.items) }
@@ -195,14 +195,15 @@ fn run_sites<K: SiteKeeper + Send, G: Gate + Send, R: Threads + Wait + Clock + S
 /// After a turn in which a site did no job and its record didn't change it sleeps, 100 microseconds for each such turn
 /// one after another and at most 1,000, so that a run lasts while other sites begin or write. A run ends before its turns
 /// are made once nothing is left to do: each site has found its desk without a job, and the other end dropped, and each
-/// recall that a site began has ended. So a gate that waits for other sites wants the other end of a desk to be kept. A
+/// recall that a site began has ended. A site that isn't done makes all turns. So a gate that waits for other sites wants the other end of a desk to be kept. A
 /// desk that has taken as many jobs as it may isn't asked any more, and counts as kept; an end at which no job is ever
 /// put counts as dropped.
 ///
 /// The keepers are of one list of sites, in the order of their numbers, open, and their records fit together; no job was
 /// taken from the desks. Afterwards each keeper is open in the record to which its list of steps leads from the one that
-/// it began with, and the jobs of the list are the first ones that were put at its desk; its gate was asked for no more
-/// turns than these. Whether the run has an answer or not, in whichever records the keepers are open, or may be opened,
+/// it began with, and the jobs of the list are the first ones that were put at its desk; its gate was asked for just these
+/// turns, or for fewer where the site is done: no job can come or is in hand, no message waits for a signal, and each
+/// recall that it began has ended. Whether the run has an answer or not, in whichever records the keepers are open, or may be opened,
 /// they fit together, and what is quarantined under each recall that has ended is just what its root reaches.
 ///
 /// # Errors
@@ -225,7 +226,7 @@ pub fn run_world<K: SiteKeeper + Send, G: Gate + Send, R: Threads + Wait + Clock
     ensures kept { IfOk result (λ g. AllZip (IsKept K.shown) g.keepers.items g.lists.items) }
     ensures began { IfOk result (λ g. AllZip (Began K.shown) keepers.items g.lists.items) }
     ensures ends { IfOk result (λ g. AllZip HasEnd desks.items g.lists.items) }
-    ensures turns { IfOk result (λ g. All (λ l. l.turns ≤ turns) g.lists.items) }
+    ensures turns { IfOk result (λ g. AllZip (HasTurned K.shown turns) g.keepers.items g.lists.items) }
     ensures fit { IfOk result (λ g. KeepersFit K.shown K.may g.keepers.items) }
     ensures back { length (keepers_of result) ≡ length keepers.items }
     ensures err { IfErr result (λ e. Hinders K.shown e.keepers.items e.cause × FitAfter K.shown K.may keepers.items e.cause e.keepers.items) }

@@ -5,7 +5,7 @@ use Rattle.site_threads.specs.declared.runs.SiteRun.{SiteRun}
 use Rattle.site_threads.specs.Beginning.{BeganIn}
 use Rattle.site_threads.specs.Parting.{HasKeeper, IsRoomFor}
 use Rattle.site_threads.specs.Runs.{IsRun, Ran}
-use Rattle.site_threads.proofs.Ending.{kept_all, began_all, ends_all, asked_all, hinders_all}
+use Rattle.site_threads.proofs.Ending.{kept_all, began_all, ends_all, turned_all, hinders_all}
 use Rattle.site_threads.proofs.Starting.{none_apart}
 use Rattle.site_threads.proofs.Zips.{all_right, as_long, same_map}
 use Rattle.site_threads.proofs.worlds.run_in.Goals as goal
@@ -64,8 +64,9 @@ returns-clause-ends g c =
     ends_all g.K.SiteKeeper.shown g.K.SiteKeeper.may c.args.room.wire c.args.turns c.begin_all-runs.result.items c.run_each.new.runs.items c.close_all.result.lists.items c.run_each.ensures c.close_all.ensures.lists c.args.desks.items c.begin_all-runs.ensures.desks
 
 pub returns-clause-turns : goal.returns-clause-turns
-returns-clause-turns g c =
-    asked_all g.K.SiteKeeper.shown g.K.SiteKeeper.may c.args.room.wire c.args.turns c.begin_all-runs.result.items c.run_each.new.runs.items c.close_all.result.lists.items c.run_each.ensures c.close_all.ensures.lists c.begin_all-runs.ensures.ready
+returns-clause-turns g c none =
+    let e = c.close_all.ensures in
+    turned_all g.K.SiteKeeper.shown g.K.SiteKeeper.may c.args.room.wire c.args.turns c.begin_all-runs.result.items c.run_each.new.runs.items c.close_all.result.keepers.items c.close_all.result.lists.items c.begin_all-runs.ensures.ready c.run_each.ensures e.keepers e.lists (sym e.cause ∙ none)
 
 pub returns-clause-back : goal.returns-clause-back
 returns-clause-back g c =

@@ -9,6 +9,6 @@ invariant-loop g l = record {
   same : SameRun l.fn.self l.self;
   few : marks_in l.self.turn.site.seat.logs ≤ 18 * l.counter;
   going : l.self.fault ≡ None;
-  asked : l.self.turn.turns ≤ l.counter;
+  asked : l.self.turn.turns ≡ l.counter;
   within : l.counter ≤ l.turns;
 }
