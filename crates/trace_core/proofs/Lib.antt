@@ -25,6 +25,7 @@ pub mod NoteSteps
 pub mod NumberLists
 pub mod PairLaws
 pub mod PairOrder
+pub mod PairSources
 pub mod PairTestsDecide
 pub mod PlaceLists
 pub mod PlaceSteps

@@ -1,5 +1,5 @@
 -- Laws of related pairs, of reach and of adding events.
-use Rattle.std.specs.Prelude.{◌≡◌, ◌≢◌, ℕ, ◌↔◌, Bool, true, IsTrue, List, [], ◌∷◌, ◌++◌, Option, Some, None, Ok, Any, AllPairs, Contains}
+use Rattle.std.specs.Prelude.{◌≡◌, ◌≢◌, ℕ, ◌↔◌, Bool, true, IsTrue, List, [], ◌∷◌, ◌++◌, Option, Some, None, Ok, Any, AllPairs, Contains, ◌⊎◌}
 use Rattle.std.specs.List.{AllZip}
 use Rattle.event_json.specs.Events.{Content}
 use Rattle.event_json.specs.declared.bodies.Body.{Body}
@@ -87,6 +87,52 @@ JoinedMakesRelate =
     (s : SiteEvents) (e f : Content) (id : List ℕ) (ins outs ins' outs' : List (List ℕ)) (i j : List ℕ)
     → Contains s.events e → Contains s.events f → e.body ≡ Make (Some id) ins outs → f.body ≡ Make (Some id) ins' outs' → Contains ins i → Contains outs' j
     → IsRelated s i (record { site = s.me; item = j })
+
+-- a shipment of the site's events lists the item and has the site of the pair among its destinations, another one; the item is the same
+pub record IsOfShipment (s : SiteEvents) (item : List ℕ) (q : Pair) : Type 0 where
+  pub event : Content
+  pub items : List (List ℕ)
+  pub sites : List ℕ
+  pub outside : List (List ℕ)
+  pub there : Contains s.events event
+  pub says : event.body ≡ Ship items sites outside
+  pub listed : Contains items item
+  pub goes : Contains sites q.site
+  pub elsewhere : q.site ≢ s.me
+  pub same : q.item ≡ item
+
+-- a transformation of the site's events lists the item as an input and the pair's item as an output; the site is the same
+pub record IsOfOneMake (s : SiteEvents) (item : List ℕ) (q : Pair) : Type 0 where
+  pub event : Content
+  pub id : Option (List ℕ)
+  pub ins : List (List ℕ)
+  pub outs : List (List ℕ)
+  pub there : Contains s.events event
+  pub says : event.body ≡ Make id ins outs
+  pub taken : Contains ins item
+  pub given : Contains outs q.item
+  pub here : q.site ≡ s.me
+
+-- of two transformations with one transformationID one lists the item as an input, and the other the pair's item as an output
+pub record IsOfTwoMakes (s : SiteEvents) (item : List ℕ) (q : Pair) : Type 0 where
+  pub taking : Content
+  pub giving : Content
+  pub id : List ℕ
+  pub ins : List (List ℕ)
+  pub outs : List (List ℕ)
+  pub ins' : List (List ℕ)
+  pub outs' : List (List ℕ)
+  pub takes_there : Contains s.events taking
+  pub gives_there : Contains s.events giving
+  pub takes_says : taking.body ≡ Make (Some id) ins outs
+  pub gives_says : giving.body ≡ Make (Some id) ins' outs'
+  pub taken : Contains ins item
+  pub given : Contains outs' q.item
+  pub here : q.site ≡ s.me
+
+-- there are no related pairs but these: with the three laws above it is exact
+abbrev pub RelatedPairsComeFromEvents : Type 0
+RelatedPairsComeFromEvents = (s : SiteEvents) (item : List ℕ) (q : Pair) → IsRelated s item q → IsOfShipment s item q ⊎ (IsOfOneMake s item q ⊎ IsOfTwoMakes s item q)
 
 -- the event adds no pair to any site's
 abbrev pub AddsNothing : ℕ → Body → Type 0

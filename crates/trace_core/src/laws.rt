@@ -1,7 +1,7 @@
 //! Laws of related pairs, of reach and of adding events, for proofs of the crates above. Each is a function with an
 //! empty body whose contract is the law.
 
-ghost use Rattle.trace_core.specs.Laws.{ReachHasItsRoot, ReachIsClosed, ReachIsLeast, ReachIsInClosedList, ChainFormsAgree, AddingAppends, AddingKeepsAll, StandingIsRight, StandingByMembers, ShipRelates, MakeRelates, JoinedMakesRelate, OthersAddNothing, PairTestsAgree, RelatedStays, ReachGrows, AscendingListsAgree, RelatedPairsAreOfTheirSite};
+ghost use Rattle.trace_core.specs.Laws.{ReachHasItsRoot, ReachIsClosed, ReachIsLeast, ReachIsInClosedList, ChainFormsAgree, AddingAppends, AddingKeepsAll, StandingIsRight, StandingByMembers, ShipRelates, MakeRelates, JoinedMakesRelate, RelatedPairsComeFromEvents, OthersAddNothing, PairTestsAgree, RelatedStays, ReachGrows, AscendingListsAgree, RelatedPairsAreOfTheirSite};
 
 /// A pair reaches itself.
 pub fn reach_has_its_root()
@@ -61,6 +61,12 @@ pub fn make_relates()
 /// An input of a transformation is related to the outputs of each one with the same id.
 pub fn joined_makes_relate()
     ensures { JoinedMakesRelate }
+{}
+
+/// Whatever an item is related to comes from a shipment of it, from a transformation that takes it in, or from two
+/// transformations with one id, of which the first takes it in.
+pub fn related_pairs_come_from_events()
+    ensures { RelatedPairsComeFromEvents }
 {}
 
 /// What adds no pair: a note, a shipment to the own site or out of the traced sites, and a

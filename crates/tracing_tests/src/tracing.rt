@@ -1,13 +1,23 @@
-//! Chains and transformations that are long or told in many parts, and texts that are told apart at their ends.
+//! What is made of several items; chains and transformations that are long or told in many parts; and texts that are told
+//! apart at their ends.
 
 mod makers;
 
-use makers::{long_texts_are_told_apart, parts_are_looked_at_once, reaches_so_many};
+use makers::{
+    long_texts_are_told_apart, parts_are_looked_at_once, reaches_so_many,
+    reaches_what_was_made_alone,
+};
 use std::test::Fail;
 
 #[test]
 fn follows_a_long_chain_inside_a_site(rt: HostRuntime) -> Result<(), Fail> {
     assert!(rt; reaches_so_many(rt.alloc(), 1000)?);
+    Ok(())
+}
+
+#[test]
+fn reaches_no_other_input(rt: HostRuntime) -> Result<(), Fail> {
+    assert!(rt; reaches_what_was_made_alone(rt.alloc())?);
     Ok(())
 }
 

@@ -65,6 +65,16 @@ pub fn reaches_so_many(alloc: Global, steps: u64) -> Result<bool, Fail> {
     Ok(reached(alloc, &site, first.as_str())? as u64 == steps.saturating_add(1))
 }
 
+/// Whether a, of which c was made together with b, reaches itself and c alone.
+pub fn reaches_what_was_made_alone(alloc: Global) -> Result<bool, Fail> {
+    let mut site = fresh(alloc);
+    let event = format!(in alloc;
+        r#"{{"type":"TransformationEvent",{TIMES},"inputEPCList":["a","b"],"outputEPCList":["c"]}}"#
+    )?;
+    capture(alloc, &mut site, event.as_str())?;
+    Ok(reached(alloc, &site, "a")? == 2)
+}
+
 /// What long texts begin with: all but the last of 512 bytes.
 const LONG: &str =
     "urn:example:one-long-beginning-that-these-items-and-ids-share:one-long-beginning-that-these-items-and-ids-share:one-long-beginning-that-these-items-and-ids-share:one-long-beginning-that-these-items-and-ids-share:one-long-beginning-that-these-items-and-ids-share:one-long-beginning-that-these-items-and-ids-share:one-long-beginning-that-these-items-and-ids-share:one-long-beginning-that-these-items-and-ids-share:one-long-beginning-that-these-items-and-ids-share:and-so-it-is-the-last-byte-that-tells-them-apart:";
