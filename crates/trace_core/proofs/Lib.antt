@@ -1,4 +1,5 @@
 pub mod AddedPairs
+pub mod AddingLaws
 pub mod AddingSteps
 pub mod BatchOrder
 pub mod Booleans

@@ -1,5 +1,5 @@
 -- Laws of related pairs, of reach and of adding events.
-use Rattle.std.specs.Prelude.{◌≡◌, ◌≢◌, ℕ, ◌↔◌, Bool, true, IsTrue, List, [], ◌∷◌, ◌++◌, Option, Some, None, Ok, Any, AllPairs, Contains, ◌⊎◌}
+use Rattle.std.specs.Prelude.{◌≡◌, ◌≢◌, ℕ, ◌+◌, ◌<◌, ◌↔◌, Bool, true, IsTrue, List, [], ◌∷◌, ◌++◌, length, Option, Some, None, Ok, Err, Any, AllPairs, Contains, ◌⊎◌}
 use Rattle.std.specs.List.{AllZip}
 use Rattle.event_json.specs.Events.{Content}
 use Rattle.event_json.specs.declared.bodies.Body.{Body}
@@ -53,6 +53,38 @@ AddingAppends = (before given : List Content) (a : Addition) → adding before g
 -- what a site has after a document is what it had and what it was given, each event once or more
 abbrev pub AddingKeepsAll : Type 0
 AddingKeepsAll = (before given : List Content) (a : Addition) → adding before given ≡ Ok a → (e : Content) → Contains a.events e ↔ Contains (before ++ given) e
+
+-- the event given at this place, from 0, has the eventID of an event that stands before it, before the document or in it, and isn't one of those
+pub record IsTakenAt (before given : List Content) (place : ℕ) : Type 0 where
+  pub front : List Content
+  pub event : Content
+  pub behind : List Content
+  pub split : given ≡ front ++ event ∷ behind
+  pub counted : length front ≡ place
+  pub used : Any (λ f. HaveOneId f.id event.id) (before ++ front)
+  pub other : Contains (before ++ front) event → ⊥
+
+-- n is the first such place, told from 1
+abbrev pub IsFirstTaken : List Content → List Content → ℕ → Type 0
+IsFirstTaken before given n = (place : ℕ) × (n ≡ place + 1) × IsTakenAt before given place × ((earlier : ℕ) → earlier < place → IsTakenAt before given earlier → ⊥)
+
+-- a document is refused exactly where there is such an event, at the first one
+abbrev pub FirstTakenIsTold : Type 0
+FirstTakenIsTold = (before given : List Content) (n : ℕ) → (adding before given ≡ Err n) ↔ IsFirstTaken before given n
+
+-- of the events given, after those that were seen, each either has no eventID that one of the events before it has, and is kept, or is one of these,
+-- with its eventID, and isn't kept again; those that are kept stand in order
+abbrev pub Keeps : List Content → List Content → List Content → Type 0
+Keeps seen [] more = more ≡ []
+Keeps seen (e ∷ es) more =
+    ((rest : List Content) × (Any (λ f. HaveOneId f.id e.id) seen → ⊥) × (more ≡ e ∷ rest) × Keeps (seen ++ e ∷ []) es rest)
+    ⊎ (Contains seen e × Any (λ f. HaveOneId f.id e.id) seen × Keeps (seen ++ e ∷ []) es more)
+
+-- of a document that isn't refused the fresh events are kept, behind those before it, and as many are told as fresh; all others are known
+abbrev pub AddingKeepsFresh : Type 0
+AddingKeepsFresh =
+    (before given : List Content) (a : Addition) → adding before given ≡ Ok a
+    → (more : List Content) × (a.events ≡ before ++ more) × Keeps before given more × (a.fresh ≡ length more) × (a.fresh + a.known ≡ length given)
 
 -- a fresh event has no eventID that another one has; a known one is among them, by its eventID; of a taken one the eventID is there, and it isn't
 abbrev pub StandingSays : List Content → Content → Standing → Type 0

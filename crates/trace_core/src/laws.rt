@@ -1,7 +1,7 @@
 //! Laws of related pairs, of reach and of adding events, for proofs of the crates above. Each is a function with an
 //! empty body whose contract is the law.
 
-ghost use Rattle.trace_core.specs.Laws.{ReachHasItsRoot, ReachIsClosed, ReachIsLeast, ReachIsInClosedList, ChainFormsAgree, AddingAppends, AddingKeepsAll, StandingIsRight, StandingByMembers, ShipRelates, MakeRelates, JoinedMakesRelate, RelatedPairsComeFromEvents, OthersAddNothing, PairTestsAgree, RelatedStays, ReachGrows, AscendingListsAgree, RelatedPairsAreOfTheirSite};
+ghost use Rattle.trace_core.specs.Laws.{ReachHasItsRoot, ReachIsClosed, ReachIsLeast, ReachIsInClosedList, ChainFormsAgree, AddingAppends, AddingKeepsAll, FirstTakenIsTold, AddingKeepsFresh, StandingIsRight, StandingByMembers, ShipRelates, MakeRelates, JoinedMakesRelate, RelatedPairsComeFromEvents, OthersAddNothing, PairTestsAgree, RelatedStays, ReachGrows, AscendingListsAgree, RelatedPairsAreOfTheirSite};
 
 /// A pair reaches itself.
 pub fn reach_has_its_root()
@@ -36,6 +36,17 @@ pub fn adding_appends()
 /// After adding a document's events the events are those that stood before and those given.
 pub fn adding_keeps_all()
     ensures { AddingKeepsAll }
+{}
+
+/// A document is refused exactly where one of its events has an eventID that is taken, at the first such event.
+pub fn first_taken_is_told()
+    ensures { FirstTakenIsTold }
+{}
+
+/// What is kept of a document that isn't refused: its fresh events, in order. As many are told as fresh, and all others
+/// as known.
+pub fn adding_keeps_fresh()
+    ensures { AddingKeepsFresh }
 {}
 
 /// What the standings of an event say of its eventID and of equal events.
