@@ -1,11 +1,13 @@
 -- A text is plain just where there is no fault in it.
-use Rattle.std.proofs.Common.{◌≡◌, ◌≢◌, ℕ, ◌+◌, Bool, true, false, not, ◌&&◌, List, [], ◌∷◌, length, Option, Some, None, option_map, Ok, Err, refl, sym, ◌∙◌, cond, eqb, ltb, position, arith}
+use Rattle.std.proofs.Common.{◌≡◌, ◌≢◌, ℕ, ◌+◌, Bool, true, false, not, ◌&&◌, List, [], ◌∷◌, length, Option, Some, None, option_map, Ok, Err, refl, sym, ◌∙◌, cond, eqb, leb, ltb, position, inl, inr, ◌≤◌, arith}
+use mathlib.Core.Logic.{◌⊎◌}
 use Rattle.std.specs.List.{list_all, position_from}
-use Rattle.std.proofs.lemmas.Bool.{eqb-false, ltb-false, ne_eqb, le-ltb}
+use Rattle.std.proofs.lemmas.Bool.{eqb-true, eqb-false, ltb-false, leb-false, lt-leb, ne_eqb, le-ltb}
 use Rattle.std.proofs.lemmas.Iterator.Adapters.{position_from-zero}
 use Rattle.epc_core.specs.declared.items.EpcFault.{EpcFault}
 use Rattle.epc_core.specs.declared.items.EpcFault.TheVariants.{NoMemory, Empty, TooLong, BadByte}
 use Rattle.epc_core.specs.Items.{is_plain_byte, key_of}
+use Rattle.epc_core.specs.Laws.{BadBytesAreThese}
 use Rattle.epc_core.specs.Reading.{fault_of, reading, Gives}
 use Rattle.epc_core.specs.Spellings.{IsPlain}
 
@@ -72,3 +74,16 @@ fault_given text (BadByte place) h = rw h refl
 pub reading_plain : (text : List ℕ) → fault_of text ≡ None → reading text ≡ Ok (key_of text)
 unfolding reading
 reading_plain text h = rw h refl
+
+-- a byte is bad by its number
+pub bad_by_number : BadBytesAreThese
+bad_by_number b = (from (leb 33 b) refl (eqb b 127) refl, to)
+  where
+    from : (t : Bool) → leb 33 b ≡ t → (u : Bool) → eqb b 127 ≡ u → (t && not u) ≡ false → (b ≤ 32) ⊎ (b ≡ 127)
+    from true least true is h = inr (eqb-true b 127 is)
+    from true least false other h = absurd (let no : ⊥ = cc in no)
+    from false below u is h = let under = leb-false 33 b below in inl (omega (arith, under))
+
+    to : (b ≤ 32) ⊎ (b ≡ 127) → is_plain_byte b ≡ false
+    to (inl few) = let below : leb 33 b ≡ false = lt-leb 33 b (omega (arith, few)) in rw below refl
+    to (inr is) = rw is refl

@@ -1,4 +1,4 @@
-use Rattle.std.specs.Prelude.{◌≡◌, ◌↔◌, ℕ, ◌<◌, ◌≤◌, IsTrue, IsFalse, List, length, Err, slice_index, take}
+use Rattle.std.specs.Prelude.{◌≡◌, ◌↔◌, ℕ, ◌<◌, ◌≤◌, IsTrue, IsFalse, ◌⊎◌, List, length, Err, slice_index, take}
 use Rattle.std.specs.List.{list_all}
 use Rattle.percent_encoding.specs.Percent.{percent_decode}
 use Rattle.epc_core.specs.declared.items.EpcFault.TheVariants.{BadByte}
@@ -33,3 +33,7 @@ pub record IsFirstBad (text : List ℕ) (place : ℕ) : Type 0 where
 -- a text that is neither empty nor too long is refused at its first bad byte
 abbrev pub BadBytesAreRefused : Type 0
 BadBytesAreRefused = (text : List ℕ) (place : ℕ) → (reading text ≡ Err (BadByte place)) ↔ ((1 ≤ length text) × (length text ≤ 512) × IsFirstBad text place)
+
+-- the bytes that no plain text has, by their numbers: control bytes and the space, up to 32, and DEL, 127; it may have all others
+abbrev pub BadBytesAreThese : Type 0
+BadBytesAreThese = (b : ℕ) → IsFalse (is_plain_byte b) ↔ ((b ≤ 32) ⊎ (b ≡ 127))

@@ -4,7 +4,7 @@ ghost use Rattle.epc_core.specs.Items.{key_of};
 ghost use Rattle.epc_core.specs.Spellings.{IsPlain, Spells, IsKey};
 ghost use Rattle.epc_core.specs.Reading.{reading};
 ghost use Rattle.epc_core.specs.Forms.{key_of_form, IsForm, SameForm};
-ghost use Rattle.epc_core.specs.Laws.{GtinsAreSpelledTwice, SsccsAreSpelledTwice, BadBytesAreRefused};
+ghost use Rattle.epc_core.specs.Laws.{GtinsAreSpelledTwice, SsccsAreSpelledTwice, BadBytesAreRefused, BadBytesAreThese};
 ghost use Rattle.epc_core.specs.declared.items.EpcForm.{EpcForm};
 
 use crate::items::EpcFault;
@@ -43,4 +43,9 @@ pub fn refusals()
     ensures empty { (text : List ℕ) → (reading text ≡ Err EpcFault.Empty) ↔ (length text ≡ 0) }
     ensures too_long { (text : List ℕ) → (reading text ≡ Err EpcFault.TooLong) ↔ (512 < length text) }
     ensures bad_byte { BadBytesAreRefused }
+{}
+
+/// Which bytes no plain text has, by their numbers: those up to 32, and 127.
+pub fn bad_bytes()
+    ensures { BadBytesAreThese }
 {}

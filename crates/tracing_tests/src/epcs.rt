@@ -41,7 +41,8 @@ fn is_opaque(alloc: Global, text: &str) -> Result<bool, Fail> {
 
 // Numbers from the EPC Tag Data Standard, EPCIS, the Digital Link standard and the check digit's
 // worked examples of the General Specifications; both spellings of one item; the shortest and the
-// longest company prefix; an escaped serial number.
+// longest company prefix; escaped serial numbers, with those of the 82 characters that stand apart; letters that aren't
+// ASCII.
 #[test]
 fn examples_of_the_standards(rt: HostRuntime) -> Result<(), Fail> {
     let rows = [
@@ -105,7 +106,16 @@ fn examples_of_the_standards(rt: HostRuntime) -> Result<(), Fail> {
             "urn:epc:id:sgtin:0614141.112345.%2541",
             "sgtin 10614141123459 %41",
         ),
+        (
+            "urn:epc:id:sgtin:0614141.112345.A_z!%22",
+            "sgtin 10614141123459 A_z!\"",
+        ),
+        (
+            "https://id.gs1.org/01/10614141123459/21/A_z!%22",
+            "sgtin 10614141123459 A_z!\"",
+        ),
         ("y", "uri y"),
+        ("é", "uri é"),
     ];
     assert!(rt; have_keys(rt.alloc(), &rows)?);
     Ok(())
