@@ -1,4 +1,6 @@
--- Laws of a document's reading: what any right definition of it meets, and together only this one.
+-- Laws of a document's reading, which any right definition of it meets. They fix what a list of events gives (`events_of`), and what a
+-- document's value gives by its list (`document_of`). They leave open which list a value has (`event_list`), what one event says
+-- (`event_of`), and which value is read of the bytes (`text_document`): these stand by their cases, and by rows of examples in tests.
 use Rattle.std.specs.Prelude.{All, ◌≡◌, ◌↔◌, ℕ, zero, suc, ◌+◌, ◌<◌, ◌≤◌, ◌⊎◌, IsTrue, IsOk, List, [], ◌∷◌, length, slice_get, filter, filter_map, is_none, Option, Some, None, Ok, Err}
 use Rattle.std.specs.Cmp.Lexicographic.{pointwise}
 use Rattle.serde_json.specs.Data.{Data, Items, no_items, item}

@@ -27,6 +27,10 @@ fn of_documents(rt: HostRuntime) -> Result<(), Fail> {
             "NoType event 1 field type",
         ),
         (
+            r#"{"type":"EPCISDocument","epcisBody":{"eventList":[{"type":"X"}]}}"#,
+            "NoType event 1 field type",
+        ),
+        (
             r#"{"type":"TransactionEvent","type":"X"}"#,
             "NotDocument event 0 field document",
         ),
@@ -76,6 +80,46 @@ fn of_object_events(rt: HostRuntime) -> Result<(), Fail> {
             "Missing event 1 field destinationList",
         ),
         (
+            r#","quantityList":5"#,
+            "WrongShape event 1 field quantityList",
+        ),
+        (r#","eventTime":5"#, "WrongShape event 1 field eventTime"),
+        (
+            r#","eventTimeZoneOffset":null"#,
+            "Missing event 1 field eventTimeZoneOffset",
+        ),
+        (
+            r#","eventTimeZoneOffset":5"#,
+            "WrongShape event 1 field eventTimeZoneOffset",
+        ),
+        (
+            r#","eventTimeZoneOffset":"+15:00""#,
+            "Offset event 1 field eventTimeZoneOffset",
+        ),
+        (r#","action":null"#, "Missing event 1 field action"),
+        (r#","epcList":{}"#, "WrongShape event 1 field epcList"),
+        (r#","epcList":[5]"#, "WrongShape event 1 field epcList"),
+        (
+            r#","destinationList":{}"#,
+            "WrongShape event 1 field destinationList",
+        ),
+        (
+            r#","destinationList":["b"]"#,
+            "WrongShape event 1 field destinationList",
+        ),
+        (
+            r#","destinationList":[{"destination":"a b"}]"#,
+            "WrongShape event 1 field destinationList",
+        ),
+        (
+            r#","quantityList":[],"eventTimeZoneOffset":"+14:00","action":"DELETE""#,
+            "read 1 skipped 0",
+        ),
+        (
+            r#","eventTimeZoneOffset":"-00:59","action":"ADD""#,
+            "read 1 skipped 0",
+        ),
+        (
             r#","eventID":null,"epcList":null,"errorDeclaration":null"#,
             "read 1 skipped 0",
         ),
@@ -88,12 +132,36 @@ fn of_object_events(rt: HostRuntime) -> Result<(), Fail> {
 fn of_transformations(rt: HostRuntime) -> Result<(), Fail> {
     let rows = [
         (
+            r#","errorDeclaration":{},"inputQuantityList":[1]"#,
+            "ErrorDeclared event 1 field errorDeclaration",
+        ),
+        (
+            r#","inputQuantityList":[1],"outputQuantityList":[1]"#,
+            "Quantities event 1 field inputQuantityList",
+        ),
+        (
+            r#","inputQuantityList":{},"outputQuantityList":[1]"#,
+            "WrongShape event 1 field inputQuantityList",
+        ),
+        (
             r#","outputQuantityList":[1]"#,
             "Quantities event 1 field outputQuantityList",
         ),
         (
+            r#","outputQuantityList":5"#,
+            "WrongShape event 1 field outputQuantityList",
+        ),
+        (
+            r#","eventTime":"noon","inputEPCList":5"#,
+            "Time event 1 field eventTime",
+        ),
+        (
             r#","inputEPCList":[""],"outputEPCList":5"#,
             "BadEpc event 1 field inputEPCList",
+        ),
+        (
+            r#","outputEPCList":["a b"]"#,
+            "BadEpc event 1 field outputEPCList",
         ),
         (
             r#","outputEPCList":null"#,
@@ -130,10 +198,10 @@ fn events_have(alloc: Global, count: u32, want: &str) -> Result<bool, Fail> {
     is_outcome(alloc, EVENTS, events.as_str(), want)
 }
 
-/// Whether an ObjectEvent of so many members that are no texts has this outcome.
-fn items_have(alloc: Global, count: u32, want: &str) -> Result<bool, Fail> {
+/// Whether an ObjectEvent with a list of so many numbers, which begins so, has this outcome.
+fn numbers_have(alloc: Global, list: &str, count: u32, want: &str) -> Result<bool, Fail> {
     let mut members = String::new(alloc);
-    members.push_str(",\"epcList\":[")?;
+    members.push_str(list)?;
     push_repeated(&mut members, "5", count)?;
     members.push_str("]")?;
     is_outcome(alloc, OBJECT, members.as_str(), want)
@@ -145,7 +213,9 @@ fn of_too_many(rt: HostRuntime) -> Result<(), Fail> {
     let events = "TooManyEvents event 0 field eventList";
     assert!(rt; events_have(rt.alloc(), 1001, events)?);
     let items = "TooManyEpcs event 1 field epcList";
-    assert!(rt; items_have(rt.alloc(), 1001, items)?);
+    assert!(rt; numbers_have(rt.alloc(), ",\"epcList\":[", 1001, items)?);
+    let destinations = "TooManyEpcs event 1 field destinationList";
+    assert!(rt; numbers_have(rt.alloc(), ",\"destinationList\":[", 1001, destinations)?);
     Ok(())
 }
 
