@@ -4,7 +4,7 @@ mod faults;
 mod readings;
 mod sites;
 
-use event_json::{Event, Sites, SitesFault, read_document};
+use event_json::{Doc, Event, Sites, SitesFault, read_document};
 use std::alloc::{AllocError, Global};
 use std::test::*;
 
@@ -46,13 +46,18 @@ fn two_sites(alloc: Global) -> Result<Sites, SitesFault> {
     Ok(sites)
 }
 
-/// What is printed of a document: its counts, or its fault.
+/// What is printed of a document: the counts of its copy, which is equal to it, or its fault.
 fn outcome(alloc: Global, text: &str) -> Result<String, Fail> {
     let sites = two_sites(alloc)?;
     match read_document(alloc, text.as_bytes(), &sites) {
-        Ok(doc) => Ok(format!(in alloc; "read {} skipped {}", doc.events.len(), doc.skipped)?),
+        Ok(doc) => counts(alloc, &doc.copy(alloc)?),
         Err(fault) => Ok(format!(in alloc; "{fault}")?),
     }
+}
+
+/// How many events of a document were read, and how many skipped.
+fn counts(alloc: Global, doc: &Doc) -> Result<String, Fail> {
+    Ok(format!(in alloc; "read {} skipped {}", doc.events.len(), doc.skipped)?)
 }
 
 /// Whether the text of a row with what stands around it has this outcome.

@@ -1,10 +1,10 @@
-//! What is made of several items; chains and transformations that are long or told in many parts; and texts that are told
+//! What is told of events that are added; what is made of several items; chains and transformations that are long or told in many parts; and texts that are told
 //! apart at their ends.
 
 mod makers;
 
 use makers::{
-    long_texts_are_told_apart, parts_are_looked_at_once, reaches_so_many,
+    are_told, long_texts_are_told_apart, parts_are_looked_at_once, reaches_so_many,
     reaches_what_was_made_alone,
 };
 use std::test::Fail;
@@ -12,6 +12,12 @@ use std::test::Fail;
 #[test]
 fn follows_a_long_chain_inside_a_site(rt: HostRuntime) -> Result<(), Fail> {
     assert!(rt; reaches_so_many(rt.alloc(), 1000)?);
+    Ok(())
+}
+
+#[test]
+fn tells_what_was_added(rt: HostRuntime) -> Result<(), Fail> {
+    assert!(rt; are_told(rt.alloc())?);
     Ok(())
 }
 

@@ -33,6 +33,45 @@ fn capture(alloc: Global, site: &mut Captured, events: &str) -> Result<(), Fail>
     Ok(())
 }
 
+/// An ObjectEvent with these members.
+fn note(alloc: Global, members: &str) -> Result<String, AllocError> {
+    format!(in alloc; r#"{{"type":"ObjectEvent",{TIMES},"action":"OBSERVE",{members}}}"#)
+}
+
+/// What is told of two ObjectEvents with these members, which are added together.
+fn told(alloc: Global, site: &mut Captured, members: (&str, &str)) -> Result<String, Fail> {
+    let first = note(alloc, members.0)?;
+    let second = note(alloc, members.1)?;
+    let events = format!(in alloc; "{first},{second}")?;
+    match site.add(read(alloc, events.as_str())?.events) {
+        Ok(added) => Ok(format!(in alloc; "fresh {} known {}", added.fresh, added.known)?),
+        Err(fault) => Ok(format!(in alloc; "{fault}")?),
+    }
+}
+
+/// Whether each two events have the answer beside them.
+pub fn are_told(alloc: Global) -> Result<bool, Fail> {
+    let (x, y, without) = (
+        r#""eventID":"e","epcList":["x"]"#,
+        r#""eventID":"e","epcList":["y"]"#,
+        r#""epcList":["x"]"#,
+    );
+    let rows = [
+        ((x, without), "fresh 2 known 0"),
+        ((without, x), "fresh 1 known 1"),
+        ((x, x), "fresh 0 known 2"),
+        ((without, y), "the eventID of event 2 is taken"),
+        ((y, y), "the eventID of event 1 is taken"),
+    ];
+    let mut site = fresh(alloc);
+    for (members, want) in rows {
+        if told(alloc, &mut site, members)?.as_str() != want {
+            return Ok(false);
+        }
+    }
+    Ok(site.len() == 3)
+}
+
 /// What the items of a long chain begin with.
 const BEGINNING: &str =
     "urn:example:one-long-beginning-that-all-items-of-this-chain-share:one-long-beginning-that-all-items-of-this-chain-share:";
