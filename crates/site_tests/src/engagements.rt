@@ -3,7 +3,7 @@ ghost use Rattle.std.specs.Prelude.{◌<◌};
 use crate::numbers::site;
 use epc_core::Epc;
 use event_json::SiteNo;
-use frame_core::{LAST_NUMBER, MsgId, NumberFault, RecallId};
+use frame_core::{LAST_NUMBER, MsgId, NumberFault, Outbox, RecallId};
 use scholten_core::{Diffusion, Received, Signalled};
 use std::alloc::{AllocError, Global};
 use std::collections::BTreeMap;
@@ -73,5 +73,13 @@ fn spent_numbers_change_nothing(rt: HostRuntime) -> Result<(), Fail> {
     let two = [(site(4), x), (site(5), y)];
     let mut d = nearly_spent(rt.alloc())?;
     assert!(rt; gives_last_number(&mut d, &one, &two));
+    Ok(())
+}
+
+#[test]
+fn messages_are_numbered_from_1(rt: HostRuntime) -> Result<(), Fail> {
+    let x = Epc::read(rt.alloc(), "x")?;
+    let mut outbox = Outbox::new(rt.alloc());
+    assert!(rt; outbox.number(site(4), first_recall(), x) == Ok(1));
     Ok(())
 }

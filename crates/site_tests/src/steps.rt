@@ -1,7 +1,9 @@
 //! That the calls succeed with memory at hand, on the worked recall of two sites.
 //!
 //! An input is given in short, which holds no memory, so that little has to be dropped where a call fails.
+mod parts;
 mod refusals;
+mod restored;
 
 use crate::numbers::site;
 use epc_core::{Epc, EpcForm};
@@ -83,9 +85,10 @@ enum Want {
     IdTaken,
     UnknownItem,
     NotMine,
+    NumbersSpent,
 }
 
-use Want::{Blocked, Done, IdTaken, NotMine, UnknownItem};
+use Want::{Blocked, Done, IdTaken, NotMine, NumbersSpent, UnknownItem};
 
 /// Whether the item is y.
 fn is_y(item: &Epc) -> bool {
@@ -109,6 +112,7 @@ fn is_refusal(refusal: &Refusal, want: Want) -> bool {
         (Refusal::IdTaken { event }, IdTaken) => *event == 1,
         (Refusal::UnknownItem, UnknownItem) => true,
         (Refusal::NotMine, NotMine) => true,
+        (Refusal::NumbersSpent, NumbersSpent) => true,
         _ => false,
     }
 }
@@ -124,9 +128,9 @@ fn is_answer(answer: &Result<Effects, Refusal>, want: Want) -> bool {
 /// An input, and what it is answered.
 type Row = (Short, Want);
 
-/// Whether the site gives this answer.
+/// Whether the site gives this answer to a copy of the input.
 fn gives(alloc: Global, state: &mut SiteState, row: Row) -> Result<bool, Fail> {
-    let input = input(alloc, row.0)?;
+    let input = input(alloc, row.0)?.copy(alloc)?;
     Ok(is_answer(&state.apply(&input), row.1))
 }
 
