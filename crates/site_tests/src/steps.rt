@@ -215,15 +215,17 @@ fn owes_signal(b: &SiteState) -> bool {
     emittable(b, 1) == Some(due)
 }
 
+/// What a message answers that brings one item, which went nowhere.
+const TAKEN: Effects = Effects::Received {
+    quarantined: 1,
+    numbered: 0,
+    owed: false,
+};
+
 /// B takes the message once, and may send its signal then.
 fn takes_once(alloc: Global, b: &mut SiteState) -> Result<bool, Fail> {
-    let taken = Effects::Received {
-        quarantined: 1,
-        numbered: 0,
-        owed: false,
-    };
     let told = Short::Told(message(1), site(1));
-    let rows = [(told, Done(taken)), (told, Done(Effects::Repeat))];
+    let rows = [(told, Done(TAKEN)), (told, Done(Effects::Repeat))];
     Ok(give(alloc, b, &rows)? && owes_signal(b))
 }
 
@@ -263,5 +265,32 @@ fn the_last_signal_ends_the_recall(rt: HostRuntime) -> Result<(), Fail> {
     let mut a = fresh(rt.alloc(), site(0))?;
     assert!(rt; recalls(rt.alloc(), &mut a)?);
     assert!(rt; goes_on(rt.alloc(), &a)?);
+    Ok(())
+}
+
+/// B has captured nothing, and knows y since it is quarantined: it may recall it, and has nobody to tell. It doesn't
+/// know x.
+fn recalls_what_is_held(alloc: Global, b: &mut SiteState) -> Result<bool, Fail> {
+    let started = Effects::Started {
+        recall: RecallId {
+            site: site(1),
+            number: 1,
+        },
+        quarantined: 1,
+        numbered: 0,
+        ended: true,
+    };
+    let rows = [
+        (Short::Told(message(1), site(1)), Done(TAKEN)),
+        (Short::Start('y'), Done(started)),
+        (Short::Start('x'), UnknownItem),
+    ];
+    give(alloc, b, &rows)
+}
+
+#[test]
+fn what_is_quarantined_may_be_recalled(rt: HostRuntime) -> Result<(), Fail> {
+    let mut b = fresh(rt.alloc(), site(1))?;
+    assert!(rt; recalls_what_is_held(rt.alloc(), &mut b)?);
     Ok(())
 }
