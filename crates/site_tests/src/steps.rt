@@ -1,6 +1,7 @@
 //! That the calls succeed with memory at hand, on the worked recall of two sites.
 //!
 //! An input is given in short, which holds no memory, so that little has to be dropped where a call fails.
+mod orders;
 mod parts;
 mod refusals;
 mod restored;
