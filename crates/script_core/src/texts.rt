@@ -1,6 +1,6 @@
 //! Texts of recalls, messages, effects and refusals.
 
-ghost use Rattle.std.specs.Prelude.{◌≡◌, ◌++◌, ◌∷◌, [], codes, IfOk, OnOk, string_bytes, unwrap_or};
+ghost use Rattle.std.specs.Prelude.{◌≡◌, ◌++◌, ◌∷◌, [], codes, IfOk, OnOk, OnErr, string_bytes, unwrap_or};
 ghost use Rattle.std.specs.Fmt.{decimal};
 ghost use Rattle.script_core.specs.Pumping.{pump_text};
 ghost use Rattle.script_core.specs.Words.{name_at, recall_text, message_text, ended_word, owed_word, captured_text, started_text, received_text, signalled_text, effects_text, doc_fault_text, blocked_text, refusal_text, stopped_text, ended_text, pair_text, each_pair, quarantined_text};
@@ -292,14 +292,15 @@ pub(crate) fn pair_lines(alloc: Global, sites: &Sites, pairs: &[Pair]) -> Result
     Ok(text)
 }
 
-/// Adds the line of a pair to a text. Where memory runs out, nothing is said of the text.
+/// Adds the line of a pair to a text. An `Err` leaves the text as it was.
 pub fn push_pair(
     alloc: Global,
     text: &mut String,
     sites: &Sites,
     pair: &Pair,
 ) -> Result<(), AllocError>
-    ensures { OnOk result (string_bytes text.new ≡ string_bytes text.old ++ pair_text sites.now pair.now) }
+    ensures ok { OnOk result (string_bytes text.new ≡ string_bytes text.old ++ pair_text sites.now pair.now) }
+    ensures err { OnErr result (string_bytes text.new ≡ string_bytes text.old) }
 {
     let name = name_of(sites, pair.site);
     let key = pair.item.key(alloc)?;
