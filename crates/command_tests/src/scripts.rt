@@ -4,3 +4,4 @@ mod answers;
 mod faults;
 mod recalls;
 mod stops;
+mod timing;
