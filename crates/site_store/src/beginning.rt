@@ -43,7 +43,7 @@ pub fn begin_tables<S: Alter>(
     let Ok(rows) = rows_of(alloc, site) else {
         return Err(KeepFault::NoMemory);
     };
-    match create_site(conn, &rows) {
+    match create_site(alloc, conn, &rows) {
         Ok(()) => Ok(()),
         Err(error) => Err(opening_fault(&error)),
     }

@@ -47,7 +47,7 @@ pub fn write_step<S: Alter>(
         return Err(Unwritten::NoMemory);
     };
     let mut written: u64 = 0;
-    match try_changes(conn, &changes, &mut written) {
+    match try_changes(alloc, conn, &changes, &mut written) {
         Ok(()) => Ok(written),
         Err(Left::Kept(error)) => Err(cause_of(error)),
         Err(Left::Shut(error)) => Err(Unwritten::Failed(error)),

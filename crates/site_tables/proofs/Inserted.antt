@@ -1,5 +1,6 @@
--- What the text of an insert of one row does to the trees.
-use Rattle.std.proofs.Common.{◌≡◌, ◌⊎◌, inl, inr, ℕ, ℤ, ◌+◌, ◌/◌, List, [], ◌∷◌, length, slice_get, false, Option, None, Some, Ok, Err, Result, refl, sym, ap, subst, subst₂, ◌∙◌, append-nil}
+-- What a text that inserts rows does to the trees.
+use Rattle.std.proofs.Common.{◌≡◌, ◌⊎◌, inl, inr, ℕ, ℤ, ◌+◌, ◌/◌, List, [], ◌∷◌, length, map, slice_get, false, Option, None, Some, Ok, Err, Result, refl, sym, ap, subst, subst₂, ◌∙◌, append-nil, arith}
+use Rattle.std.specs.List.{flat_map}
 use Rattle.sqlite.specs.Order.{Row}
 use Rattle.sqlite.specs.Term.{Term, eval_all}
 use Rattle.sqlite.specs.Table.{Table}
@@ -15,22 +16,23 @@ use Rattle.sqlite_rules.specs.Cast.{cast_row}
 use Rattle.sqlite_rules.specs.Action.{works, Writes}
 use Rattle.sqlite.specs.Effect.{Database, value_rows}
 use Rattle.sqlite.specs.Does.{Tally, AtPlace, OnRows, OnTable, WritesRows, Concludes}
-use Rattle.sqlite.specs.Rows.{Written, Task, Inserts, stamped, Counts, rowids_for}
-use Rattle.sqlite.specs.State.{State, mode_of, Executes}
+use Rattle.sqlite.specs.Rows.{Written, Task, Inserts as PutsIn, stamped, Counts, rowids_for}
 use Rattle.sqlite.specs.declared.run.Mode.{Mode}
 use Rattle.sqlite.specs.Command.{Command}
 use Rattle.sqlite.specs.Listing.{understood}
-use Rattle.sqlite.proofs.Callers.{IsPlain, command_of, runs_as, one_step}
-use Rattle.site_tables.specs.TableRows.{visible, Changes, adds}
-use Rattle.site_tables.specs.Commands.{row_terms, inserts_row}
+use Rattle.sqlite.proofs.Callers.{IsPlain, command_of, one_step}
+use Rattle.site_tables.specs.Commands.{row_terms, rows_terms, width_of, inserts_rows}
+use Rattle.site_tables.specs.Inserting.{Inserts}
+use Rattle.site_tables.specs.TableRows.{visible}
+use Rattle.site_tables.specs.Tables.{site_schema}
 use Rattle.site_tables.proofs.Applied.{has_inserted, keeps_others}
 
--- nothing is computed as a row is inserted
+-- nothing is computed as rows are inserted
 pub record IsSimple (schema : Schema) (at : ℕ) (table : Table) : Type 0 where
   pub listed : slice_get schema.tables at ≡ Some table
   pub uncounted : table.is_counted ≡ false
   pub unstamped : table.stamps.terms ≡ []
-  pub adds : (new : Row) → works schema Enforced 0 table.tree [] (new ∷ []) ≡ []
+  pub adds : (news : List Row) → works schema Enforced 0 table.tree [] news ≡ []
   pub removes : (gone : List Row) → works schema Enforced 0 table.tree gone [] ≡ []
 
 -- a part that gave a value did not stop on the way
@@ -61,46 +63,72 @@ counts_none task mid next counter top uncounted h = same_value (rw uncounted at 
 pub chosen : (table : Table) (top : ℤ) → table.is_counted ≡ false → rowids_for table top ≡ Chosen
 chosen table top uncounted = rw uncounted refl
 
--- an insert of one row, for a table that counts nothing
-one_row : (limit : Option ℕ) (schema : Schema) (table : Table) (params : Row) (db : Trees) (terms : List Term) (width : ℕ) (source : Row) (w : Written) → table.is_counted ≡ false
-    → stamped table params ≡ params → value_rows params width (length terms / width) terms ≡ source ∷ [] → ((new : Row) → works schema Enforced 0 table.tree [] (new ∷ []) ≡ [])
-    → Inserts (record { limit = limit; keys = Enforced; schema = schema; table = table; params = params }) (Values terms width) db (Ok w)
-    → Applies schema Enforced db (edit_of db table [] Chosen 0 (source ∷ [])) w.trees
-one_row limit schema table params db terms width source w uncounted unstamped one adds h =
+-- an insert of rows, for a table that counts nothing
+some_rows : (limit : Option ℕ) (schema : Schema) (table : Table) (params : Row) (db : Trees) (terms : List Term) (width : ℕ) (sources : List Row) (w : Written) → table.is_counted ≡ false
+    → stamped table params ≡ params → value_rows params width (length terms / width) terms ≡ sources → ((news : List Row) → works schema Enforced 0 table.tree [] news ≡ [])
+    → PutsIn (record { limit = limit; keys = Enforced; schema = schema; table = table; params = params }) (Values terms width) db (Ok w)
+    → Applies schema Enforced db (edit_of db table [] Chosen 0 sources) w.trees
+some_rows limit schema table params db terms width sources w uncounted unstamped are adds h =
     let task : Task = record { limit = limit; keys = Enforced; schema = schema; table = table; params = params } in
     let given = went h in
     let counter = went given.2 in
     let edit = went counter.2 in
     let counted = went edit.2 in
-    let rows : given.0 ≡ source ∷ [] = given.1.1 ∙ ap (λ p. value_rows p width (length terms / width) terms) unstamped ∙ one in
+    let rows : given.0 ≡ sources = given.1.1 ∙ ap (λ p. value_rows p width (length terms / width) terms) unstamped ∙ are in
     let same : w.trees ≡ edit.0 = ap (λ (it : Written). it.trees) (same_value counted.2) ∙ counts_none task edit.0 counted.0 counter.0 _ uncounted counted.1 in
-    let wrote = subst₂ (λ how sources. Writes schema Enforced db (edit_of db table [] how 0 sources) (Ok edit.0)) (chosen table _ uncounted) rows edit.1 in
-    let new = with_rowid Chosen (db table.tree) (cast_row table source) in
-    subst (Applies schema Enforced db (edit_of db table [] Chosen 0 (source ∷ []))) (sym same) (one_step schema Enforced db edit.0 (edit_of db table [] Chosen 0 (source ∷ [])) (adds new) wrote)
-
-pub inserted : (sql : List ℕ) (schema : Schema) (at : ℕ) (table : Table) (terms : List Term) (width : ℕ) (source params : Row) (old new : State) (count : ℕ) → IsSimple schema at table
-    → (command_of (understood schema sql) ≡ Insert at (Values terms width)) × IsPlain (understood schema sql) → value_rows params width (length terms / width) terms ≡ source ∷ []
-    → old.now.schema ≡ schema → Executes sql params old new (Ok count)
-    → (new.now.schema ≡ schema) × Applies schema Enforced old.now.trees (edit_of old.now.trees table [] Chosen 0 (source ∷ [])) new.now.trees
-inserted sql schema at table terms width source params old new count simple is one has h =
-    let w = runs_as sql params old new schema has (Insert at (Values terms width)) is.0 is.1 count h in
-    let ran = on_table old.step_limit (mode_of old) params old.now new.now schema at table (Insert at (Values terms width)) w.tally has simple.listed w.changed in
-    let applied = one_row old.step_limit schema table params old.now.trees terms width source ran.0 simple.uncounted (rw (simple.unstamped, append-nil params) refl) one simple.adds ran.1 in
-    (ap (λ (d : Database). d.schema) ran.2, subst (Applies schema Enforced old.now.trees (edit_of old.now.trees table [] Chosen 0 (source ∷ []))) (sym (ap (λ (d : Database). d.trees) ran.2)) applied)
+    let wrote = subst₂ (λ how all. Writes schema Enforced db (edit_of db table [] how 0 all) (Ok edit.0)) (chosen table _ uncounted) rows edit.1 in
+    let one = edit_of db table [] Chosen 0 sources in
+    subst (Applies schema Enforced db one) (sym same) (one_step schema Enforced db edit.0 one (adds one.news) wrote)
 
 abbrev pub source_of : Table → Row → Row
 source_of table params = eval_all (row_terms table) (params ∷ [])
 
--- a text that inserts its parameters as one row
-pub inserts_one : (sql : List ℕ) (schema : Schema) (at : ℕ) (table : Table) (params : Row) (old new : State) (count : ℕ) → IsSimple schema at table
-    → (command_of (understood schema sql) ≡ inserts_row at table) × IsPlain (understood schema sql)
-    → value_rows params (length table.columns + 1) (length (row_terms table) / (length table.columns + 1)) (row_terms table) ≡ source_of table params ∷ []
-    → ((tree : List Row) → visible table (with_rowid Chosen tree (cast_row table (source_of table params))) ≡ params)
-    → old.now.schema ≡ schema → Executes sql params old new (Ok count) → Changes table (adds (params ∷ [])) old.now new.now
-inserts_one sql schema at table params old new count simple is one shows has h =
-    let done = inserted sql schema at table (row_terms table) (length table.columns + 1) (source_of table params) params old new count simple is one has h in
-    record {
-      schema = done.0 ∙ sym has;
-      rows = λ rows there. has_inserted schema table old.now.trees new.now.trees (source_of table params) params rows (shows (old.now.trees table.tree)) done.1 there;
-      others = rw has (keeps_others schema old.now.trees new.now.trees _ done.1);
-    }
+-- each row is put in under a number of its own, and shown as it was given
+pub record IsShown {X : Type 0} (table : Table) (row_of : X → Row) : Type 0 where
+  pub shows : (x : X) (tree : List Row) → visible table (with_rowid Chosen tree (cast_row table (source_of table (row_of x)))) ≡ row_of x
+
+-- of the parameters one row is made of each part of them
+abbrev pub Reads : {X : Type 0} → Table → (X → Row) → ℕ → List X → Type 0
+Reads table row_of count xs =
+    value_rows (flat_map row_of xs) (width_of table) (length (rows_terms count 0 table) / width_of table) (rows_terms count 0 table) ≡ map (λ x. source_of table (row_of x)) xs
+
+-- a text that inserts its parameters as so many rows
+pub inserts_all : {X : Type 0} (row_of : X → Row) (count : ℕ) (sql : List ℕ) (at : ℕ) (table : Table) → IsSimple site_schema at table
+    → (command_of (understood site_schema sql) ≡ inserts_rows count at table) × IsPlain (understood site_schema sql)
+    → ((xs : List X) → length xs ≡ count → Reads table row_of count xs)
+    → IsShown table row_of → Inserts table row_of count sql
+inserts_all row_of count sql at table simple is reads shown = record {
+  at = at;
+  from = Values (rows_terms count 0 table) (width_of table);
+  command = is.0;
+  plain = is.1;
+  adds = λ xs many limit db after tally text has h.
+      let terms = rows_terms count 0 table in
+      let params = flat_map row_of xs in
+      let sources = map (λ x. source_of table (row_of x)) xs in
+      let ran = on_table limit (record { keys = Enforced; in_doubt = false; may_wait = false }) params db after site_schema at table (Insert at (Values terms (width_of table))) tally has simple.listed h in
+      let applied = some_rows limit site_schema table params db.trees terms (width_of table) sources ran.0 simple.uncounted (rw (simple.unstamped, append-nil params) refl) (reads xs many) simple.adds ran.1 in
+      let trees : after.trees ≡ ran.0.trees = ap (λ (d : Database). d.trees) ran.2 in
+      let done = subst (Applies site_schema Enforced db.trees (edit_of db.trees table [] Chosen 0 sources)) (sym trees) applied in
+      record {
+        schema = ap (λ (d : Database). d.schema) ran.2 ∙ sym has;
+        rows = λ rows there. has_inserted table (λ x. source_of table (row_of x)) row_of shown.shows site_schema xs db.trees after.trees rows done there;
+        others = rw has (keeps_others site_schema db.trees after.trees _ done);
+      };
+}
+
+-- ---- lists of one element and of eight
+
+pub of_one : {X : Type 0} (P : List X → Type 0) → ((x : X) → P (x ∷ [])) → (xs : List X) → length xs ≡ 1 → P xs
+of_one P holds (x ∷ []) many = holds x
+of_one P holds [] many = absurd (omega (arith, many))
+of_one P holds (x ∷ y ∷ xs) many = absurd (omega (arith, many))
+
+pub of_more : {X : Type 0} (n : ℕ) (P : List X → Type 0) → ((x : X) (xs : List X) → length xs ≡ n → P (x ∷ xs)) → (xs : List X) → length xs ≡ n + 1 → P xs
+of_more n P holds (x ∷ xs) many = holds x xs (omega (arith, many))
+of_more n P holds [] many = absurd (omega (arith, many))
+
+pub of_eight : {X : Type 0} (P : List X → Type 0) → ((a b c d e f g h : X) → P (a ∷ b ∷ c ∷ d ∷ e ∷ f ∷ g ∷ h ∷ [])) → (xs : List X) → length xs ≡ 8 → P xs
+of_eight P holds =
+    of_more 7 P (λ a. of_more 6 (λ xs. P (a ∷ xs)) (λ b. of_more 5 (λ xs. P (a ∷ b ∷ xs)) (λ c. of_more 4 (λ xs. P (a ∷ b ∷ c ∷ xs)) (λ d. of_more 3 (λ xs. P (a ∷ b ∷ c ∷ d ∷ xs))
+    (λ e. of_more 2 (λ xs. P (a ∷ b ∷ c ∷ d ∷ e ∷ xs)) (λ f. of_more 1 (λ xs. P (a ∷ b ∷ c ∷ d ∷ e ∷ f ∷ xs)) (λ g. of_one (λ xs. P (a ∷ b ∷ c ∷ d ∷ e ∷ f ∷ g ∷ xs)) (λ h. holds a b c d e f g h))))))))

@@ -8,6 +8,7 @@ pub mod Declared
 pub mod Failing
 pub mod Folded
 pub mod Inserted
+pub mod InsertTexts
 pub mod Leading
 pub mod Listed
 pub mod MadeTables

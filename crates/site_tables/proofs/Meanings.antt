@@ -10,7 +10,7 @@ use Rattle.sqlite.proofs.Callers.{IsPlain, command_of}
 use Rattle.site_tables.specs.Made.{with_store, with_site, with_address, with_event, with_part, with_quarantine, with_outbox, with_seen, with_parent, with_recall}
 use Rattle.site_tables.specs.Tables.{store, site, address, event, part, quarantine, outbox, seen, parent, recall, no_schema, site_schema}
 use Rattle.site_tables.specs.Texts as text
-use Rattle.site_tables.specs.Commands.{by_key, inserts_row, deletes_key, upserts_row, updates_each}
+use Rattle.site_tables.specs.Commands.{by_key, inserts_rows, deletes_key, upserts_row, updates_each}
 use Rattle.site_tables.specs.Reads.{Selects}
 use Rattle.site_tables.proofs.Created.{IsMade}
 
@@ -67,35 +67,35 @@ create_recall_is = record { command = refl; plain = (refl, refl); whole = refl; 
 pub all_created : with_recall ≡ site_schema
 all_created = refl
 
-pub insert_store_is : (command_of (understood site_schema text.insert_store) ≡ inserts_row 0 store) × IsPlain (understood site_schema text.insert_store)
+pub insert_store_is : (command_of (understood site_schema text.insert_store) ≡ inserts_rows 1 0 store) × IsPlain (understood site_schema text.insert_store)
 unfolding understood everything
 insert_store_is = (refl, (refl, refl))
 
-pub insert_site_is : (command_of (understood site_schema text.insert_site) ≡ inserts_row 1 site) × IsPlain (understood site_schema text.insert_site)
+pub insert_site_is : (command_of (understood site_schema text.insert_site) ≡ inserts_rows 1 1 site) × IsPlain (understood site_schema text.insert_site)
 unfolding understood everything
 insert_site_is = (refl, (refl, refl))
 
-pub insert_address_is : (command_of (understood site_schema text.insert_address) ≡ inserts_row 2 address) × IsPlain (understood site_schema text.insert_address)
+pub insert_address_is : (command_of (understood site_schema text.insert_address) ≡ inserts_rows 1 2 address) × IsPlain (understood site_schema text.insert_address)
 unfolding understood everything
 insert_address_is = (refl, (refl, refl))
 
-pub insert_event_is : (command_of (understood site_schema text.insert_event) ≡ inserts_row 3 event) × IsPlain (understood site_schema text.insert_event)
+pub insert_event_is : (command_of (understood site_schema text.insert_event) ≡ inserts_rows 1 3 event) × IsPlain (understood site_schema text.insert_event)
 unfolding understood everything
 insert_event_is = (refl, (refl, refl))
 
-pub insert_part_is : (command_of (understood site_schema text.insert_part) ≡ inserts_row 4 part) × IsPlain (understood site_schema text.insert_part)
+pub insert_part_is : (command_of (understood site_schema text.insert_part) ≡ inserts_rows 1 4 part) × IsPlain (understood site_schema text.insert_part)
 unfolding understood everything
 insert_part_is = (refl, (refl, refl))
 
-pub insert_quarantine_is : (command_of (understood site_schema text.insert_quarantine) ≡ inserts_row 5 quarantine) × IsPlain (understood site_schema text.insert_quarantine)
+pub insert_quarantine_is : (command_of (understood site_schema text.insert_quarantine) ≡ inserts_rows 1 5 quarantine) × IsPlain (understood site_schema text.insert_quarantine)
 unfolding understood everything
 insert_quarantine_is = (refl, (refl, refl))
 
-pub insert_seen_is : (command_of (understood site_schema text.insert_seen) ≡ inserts_row 7 seen) × IsPlain (understood site_schema text.insert_seen)
+pub insert_seen_is : (command_of (understood site_schema text.insert_seen) ≡ inserts_rows 1 7 seen) × IsPlain (understood site_schema text.insert_seen)
 unfolding understood everything
 insert_seen_is = (refl, (refl, refl))
 
-pub insert_parent_is : (command_of (understood site_schema text.insert_parent) ≡ inserts_row 8 parent) × IsPlain (understood site_schema text.insert_parent)
+pub insert_parent_is : (command_of (understood site_schema text.insert_parent) ≡ inserts_rows 1 8 parent) × IsPlain (understood site_schema text.insert_parent)
 unfolding understood everything
 insert_parent_is = (refl, (refl, refl))
 
@@ -159,10 +159,22 @@ pub select_recall_is : Selects recall text.select_recall
 unfolding understood everything
 select_recall_is = record { command = refl; plain = (refl, refl); alone = (_, refl, refl, refl); listing = refl; accepted = λ limit trees e. only_third true≢false (sums_nothing recall trees); keyed = λ _. refl }
 
-pub insert_outbox_is : (command_of (understood site_schema text.insert_outbox) ≡ inserts_row 6 outbox) × IsPlain (understood site_schema text.insert_outbox)
+pub insert_outbox_is : (command_of (understood site_schema text.insert_outbox) ≡ inserts_rows 1 6 outbox) × IsPlain (understood site_schema text.insert_outbox)
 unfolding understood everything
 insert_outbox_is = (refl, (refl, refl))
 
-pub insert_recall_is : (command_of (understood site_schema text.insert_recall) ≡ inserts_row 9 recall) × IsPlain (understood site_schema text.insert_recall)
+pub insert_recall_is : (command_of (understood site_schema text.insert_recall) ≡ inserts_rows 1 9 recall) × IsPlain (understood site_schema text.insert_recall)
 unfolding understood everything
 insert_recall_is = (refl, (refl, refl))
+
+pub insert_eight_event_is : (command_of (understood site_schema text.insert_eight_event) ≡ inserts_rows 8 3 event) × IsPlain (understood site_schema text.insert_eight_event)
+unfolding understood everything
+insert_eight_event_is = (refl, (refl, refl))
+
+pub insert_eight_part_is : (command_of (understood site_schema text.insert_eight_part) ≡ inserts_rows 8 4 part) × IsPlain (understood site_schema text.insert_eight_part)
+unfolding understood everything
+insert_eight_part_is = (refl, (refl, refl))
+
+pub insert_eight_quarantine_is : (command_of (understood site_schema text.insert_eight_quarantine) ≡ inserts_rows 8 5 quarantine) × IsPlain (understood site_schema text.insert_eight_quarantine)
+unfolding understood everything
+insert_eight_quarantine_is = (refl, (refl, refl))

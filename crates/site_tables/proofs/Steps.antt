@@ -1,28 +1,28 @@
 -- What a call inside a transaction does, by its text.
-use Rattle.std.proofs.Common.{◌≡◌, inl, inr, ℕ, ◌+◌, ◌/◌, ◌<◌, List, [], ◌∷◌, ◌++◌, length, map, take, get_or, false, Ok, Err, Result, OnOk, OnErr, IfErr, IsTrue, refl, sym, ap, subst, ◌∙◌, append-nil, append_assoc, arith}
+use Rattle.std.proofs.Common.{◌≡◌, inl, inr, ℕ, ◌+◌, ◌-◌, ◌≤◌, List, [], ◌++◌, length, map, take, slice_range, false, Ok, Err, Result, OnOk, OnErr, IfErr, IsTrue, refl, sym, ap, subst, ◌∙◌, append-nil, append_assoc, take-add, arith}
 use Rattle.std.proofs.lemmas.Bool.{cases_Bool}
 use Rattle.std.specs.Result.{IsErr}
-use Rattle.std.proofs.lemmas.List.{take_more, map-append}
+use Rattle.std.proofs.lemmas.List.{map-append}
 use Rattle.sqlite.specs.Order.{Row}
 use Rattle.sqlite.specs.Table.{Table}
 use Rattle.sqlite.specs.declared.error.Error.{Error}
+use Rattle.std.specs.List.{flat_map}
 use Rattle.sqlite.specs.Command.{Command}
-use Rattle.sqlite.specs.Effect.{Database, value_rows}
+use Rattle.sqlite.specs.Command.TheVariants.{Insert}
+use Rattle.sqlite.specs.Effect.{Database}
 use Rattle.sqlite.proofs.StateLemmas.{survives_then}
 use Rattle.sqlite.specs.State.{State, Executes, ExecutesInside, IsUnchanged, IsRolledBack, KeepsCommit, HasCleanDisk, Survives}
 use Rattle.sqlite_trees.specs.declared.store.Store.{Ghosts}
 use Rattle.sqlite.specs.Held.{Held, state}
 use Rattle.sqlite.specs.Listing.{understood}
-use Rattle.sqlite.proofs.Callers.{IsPlain, command_of}
-use Rattle.sqlite_rules.specs.Cast.{cast_row}
-use Rattle.sqlite_rules.specs.Edit.{with_rowid}
-use Rattle.sqlite_rules.specs.declared.error.Rowids.TheVariants.{Chosen}
+use Rattle.sqlite.proofs.Callers.{IsPlain, command_of, statement_of, runs_as}
 use Rattle.site_tables.proofs.Removed.{deletes_one_key}
 use Rattle.site_tables.proofs.Answered.{passes_all}
 use Rattle.site_tables.specs.Tables.{site_schema}
 use Rattle.site_tables.specs.TableRows.{visible, HasRows, Changes, GoesOn, Does, Writes, HasWritten, adds, has_key, without_key, FailsInside}
-use Rattle.site_tables.specs.Commands.{row_terms, inserts_row, key_filter, deletes_key}
-use Rattle.site_tables.proofs.Inserted.{IsSimple, source_of, inserts_one}
+use Rattle.site_tables.specs.Commands.{key_filter, deletes_key}
+use Rattle.site_tables.specs.Inserting.{Inserts}
+use Rattle.site_tables.proofs.Inserted.{IsSimple}
 
 -- the text means this command, and shows no rows
 abbrev pub Means : List ℕ → Command → Type 0
@@ -82,16 +82,6 @@ pub fails_inside : {S : Type 0} (g : Ghosts S) (sql : List ℕ) (params : Row) (
 fails_inside g sql params old mid new goes (Ok n) runs = tt {0}
 fails_inside g sql params old mid new goes (Err e) runs = (mid, params, goes, runs)
 
-pub inserts : (at : ℕ) (table : Table) → IsSimple site_schema at table → (sql : List ℕ) → Means sql (inserts_row at table) → (params : Row)
-    → value_rows params (length table.columns + 1) (length (row_terms table) / (length table.columns + 1)) (row_terms table) ≡ source_of table params ∷ []
-    → ((tree : List Row) → visible table (with_rowid Chosen tree (cast_row table (source_of table params))) ≡ params) → (old new : State) (r : Result ℕ Error)
-    → Ran sql params old new r → Writes table (adds (params ∷ [])) old new r
-inserts at table simple sql is params one shows old new r ran = record {
-  done = λ clean. does table (adds (params ∷ [])) sql params old new r ran.late ran.ended (ran.runs clean) (λ count has h. inserts_one sql site_schema at table params old new count simple is one shows has h);
-  undone = λ clean. keeps sql params old new r ran.same (ran.runs clean);
-  crash = ran.survives;
-}
-
 pub deletes_of_key : (at : ℕ) (table : Table) → IsSimple site_schema at table → (sql : List ℕ) → Means sql (deletes_key at table) → (params : Row)
     → ((r : Row) → passes_all (key_filter 0 table.primary) params r ≡ has_key table params (visible table r)) → (old new : State) (r : Result ℕ Error)
     → Ran sql params old new r → Writes table (without_key table params) old new r
@@ -109,6 +99,13 @@ writes_by table change sql params old new r ran changes = record {
   undone = λ clean. keeps sql params old new r ran.same (ran.runs clean);
   crash = ran.survives;
 }
+
+-- a text that inserts its parameters as rows
+pub inserts : {X : Type 0} (table : Table) (row_of : X → Row) (xs : List X) (sql : List ℕ) → Inserts table row_of (length xs) sql → (old new : State) (r : Result ℕ Error)
+    → Ran sql (flat_map row_of xs) old new r → Writes table (adds (map row_of xs)) old new r
+inserts table row_of xs sql is old new r ran =
+    writes_by table (adds (map row_of xs)) sql (flat_map row_of xs) old new r ran
+    (λ count has h. let w = runs_as sql (flat_map row_of xs) old new site_schema has (Insert is.at is.from) is.command is.plain count h in is.adds xs refl old.step_limit old.now new.now w.tally (statement_of sql (understood site_schema sql)) has w.changed)
 
 pub on_ok : {Y : Type 0} {P Q : Type 0} (r : Result Y Error) → (P → Q) → OnOk r P → OnOk r Q
 on_ok (Ok y) f h = f h
@@ -162,9 +159,9 @@ module _ (table : Table) where
         crash = survives_then a b c _ _ (λ _. ⊥) (λ _ db none. none) (λ _ db none. none) p.crash q.crash;
       }
 
-  -- one row more
-  pub adds_one : {Y : Type 0} (rows : List Row) (row : Row) (a b c : State) (r : Result Y Error) → HasWritten table (adds rows) a b → Writes table (adds (row ∷ [])) b c r → Writes table (adds (rows ++ row ∷ [])) a c r
-  adds_one rows row a b c r p q = writes_then (adds rows) (adds (row ∷ [])) (adds (rows ++ row ∷ [])) (λ before. append_assoc before rows (row ∷ [])) a b c (tt {0}) r p q
+  -- more rows
+  adds_some : {Y : Type 0} (rows more : List Row) (a b c : State) (r : Result Y Error) → HasWritten table (adds rows) a b → Writes table (adds more) b c r → Writes table (adds (rows ++ more)) a c r
+  adds_some rows more a b c r p q = writes_then (adds rows) (adds more) (adds (rows ++ more)) (λ before. append_assoc before rows more) a b c (tt {0}) r p q
 
   -- what a failed call would have changed is not asked
   pub fails : {X Y : Type 0} (change other : List Row → List Row) (a b : State) (r : Result X Error) (out : Result Y Error) → IsErr r → IsErr out → Writes table change a b r → Writes table other a b out
@@ -176,14 +173,20 @@ module _ (table : Table) where
   succeeds change a b (Ok x') x y ok p = record { done = p.done; undone = λ _. tt {0}; crash = p.crash }
   succeeds change a b (Err e) x y ok p = absurd cc
 
-  -- a loop that adds a row for each element
-  module _ {X : Type 0} (row_of : X → Row) (xs : List X) (i : ℕ) (x : X) (a b c : State) (r : Result ℕ Error) where
-    pub row_added : i < length xs → x ≡ get_or xs i x → (n : ℕ) → r ≡ Ok n → HasWritten table (adds (map row_of (take i xs))) a b → Writes table (adds (row_of x ∷ [])) b c r
-        → HasWritten table (adds (map row_of (take (i + 1) xs))) a c
-    row_added low at n ok p q =
-        subst (λ rows. HasWritten table (adds rows) a c) (sym (ap (map row_of) (take_more xs i x low) ∙ map-append row_of (take i xs) (get_or xs i x ∷ []) ∙ ap (λ y. map row_of (take i xs) ++ row_of y ∷ []) (sym at)))
-        (succeeds (adds (map row_of (take i xs) ++ row_of x ∷ [])) a c r n (tt {0}) ok (adds_one (map row_of (take i xs)) (row_of x) a b c r p q))
+  -- a loop that adds the rows of a part of the elements at each turn
+  module _ {X : Type 0} (row_of : X → Row) (xs : List X) (i j : ℕ) (a b c : State) (r : Result (Unit {0}) Error) where
+    split : i ≤ j → map row_of (take j xs) ≡ map row_of (take i xs) ++ map row_of (slice_range xs i j)
+    split low =
+        let whole : j ≡ i + (j - i) = omega arith in
+        ap (λ n. map row_of (take n xs)) whole ∙ ap (map row_of) (take-add i (j - i) xs) ∙ map-append row_of (take i xs) (slice_range xs i j)
 
-    pub row_failed : (out : Result (Unit {0}) Error) (other : List Row → List Row) → IsErr r → IsErr out → HasWritten table (adds (map row_of (take i xs))) a b → Writes table (adds (row_of x ∷ [])) b c r
-        → Writes table other a c out
-    row_failed out other bad end p q = fails (adds (map row_of (take i xs) ++ row_of x ∷ [])) other a c r out bad end (adds_one (map row_of (take i xs)) (row_of x) a b c r p q)
+    pub part_added : i ≤ j → (n : Unit {0}) → r ≡ Ok n → HasWritten table (adds (map row_of (take i xs))) a b → Writes table (adds (map row_of (slice_range xs i j))) b c r
+        → HasWritten table (adds (map row_of (take j xs))) a c
+    part_added low n ok p q =
+        subst (λ rows. HasWritten table (adds rows) a c) (sym (split low))
+        (succeeds (adds (map row_of (take i xs) ++ map row_of (slice_range xs i j))) a c r n (tt {0}) ok (adds_some (map row_of (take i xs)) (map row_of (slice_range xs i j)) a b c r p q))
+
+    pub part_failed : (out : Result (Unit {0}) Error) (other : List Row → List Row) → IsErr r → IsErr out → HasWritten table (adds (map row_of (take i xs))) a b
+        → Writes table (adds (map row_of (slice_range xs i j))) b c r → Writes table other a c out
+    part_failed out other bad end p q =
+        fails (adds (map row_of (take i xs) ++ map row_of (slice_range xs i j))) other a c r out bad end (adds_some (map row_of (take i xs)) (map row_of (slice_range xs i j)) a b c r p q)

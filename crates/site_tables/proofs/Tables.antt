@@ -49,35 +49,42 @@ pub bound_text : (o : Option (List ℕ)) → bound_value (or_null Text o) ≡ or
 bound_text None = refl
 bound_text (Some t) = refl
 
+-- no reference asks for anything when a row goes or changes
+pub quiet : (tree : ℕ) (gone news : List Row) → works site_schema Enforced 0 tree gone news ≡ []
+quiet tree gone news = elim (length news == 0) as (λ b. flat_map (λ child. filter_map (λ ref. work_by 0 tree (pairs gone news) child ref (deed_for Enforced b ref) (parent_key site_schema.tables ref)) child.references) site_schema.tables ≡ []) [
+  | true ↦ refl
+  | false ↦ refl
+]
+
 pub store_simple : IsSimple site_schema 0 store
-store_simple = record { listed = refl; uncounted = refl; unstamped = refl; adds = λ _. refl; removes = λ _. refl }
+store_simple = record { listed = refl; uncounted = refl; unstamped = refl; adds = quiet 0 []; removes = λ gone. quiet 0 gone [] }
 
 pub site_simple : IsSimple site_schema 1 site
-site_simple = record { listed = refl; uncounted = refl; unstamped = refl; adds = λ _. refl; removes = λ _. refl }
+site_simple = record { listed = refl; uncounted = refl; unstamped = refl; adds = quiet 1 []; removes = λ gone. quiet 1 gone [] }
 
 pub address_simple : IsSimple site_schema 2 address
-address_simple = record { listed = refl; uncounted = refl; unstamped = refl; adds = λ _. refl; removes = λ _. refl }
+address_simple = record { listed = refl; uncounted = refl; unstamped = refl; adds = quiet 3 []; removes = λ gone. quiet 3 gone [] }
 
 pub event_simple : IsSimple site_schema 3 event
-event_simple = record { listed = refl; uncounted = refl; unstamped = refl; adds = λ _. refl; removes = λ _. refl }
+event_simple = record { listed = refl; uncounted = refl; unstamped = refl; adds = quiet 5 []; removes = λ gone. quiet 5 gone [] }
 
 pub part_simple : IsSimple site_schema 4 part
-part_simple = record { listed = refl; uncounted = refl; unstamped = refl; adds = λ _. refl; removes = λ _. refl }
+part_simple = record { listed = refl; uncounted = refl; unstamped = refl; adds = quiet 6 []; removes = λ gone. quiet 6 gone [] }
 
 pub quarantine_simple : IsSimple site_schema 5 quarantine
-quarantine_simple = record { listed = refl; uncounted = refl; unstamped = refl; adds = λ _. refl; removes = λ _. refl }
+quarantine_simple = record { listed = refl; uncounted = refl; unstamped = refl; adds = quiet 8 []; removes = λ gone. quiet 8 gone [] }
 
 pub outbox_simple : IsSimple site_schema 6 outbox
-outbox_simple = record { listed = refl; uncounted = refl; unstamped = refl; adds = λ _. refl; removes = λ _. refl }
+outbox_simple = record { listed = refl; uncounted = refl; unstamped = refl; adds = quiet 10 []; removes = λ gone. quiet 10 gone [] }
 
 pub seen_simple : IsSimple site_schema 7 seen
-seen_simple = record { listed = refl; uncounted = refl; unstamped = refl; adds = λ _. refl; removes = λ _. refl }
+seen_simple = record { listed = refl; uncounted = refl; unstamped = refl; adds = quiet 11 []; removes = λ gone. quiet 11 gone [] }
 
 pub parent_simple : IsSimple site_schema 8 parent
-parent_simple = record { listed = refl; uncounted = refl; unstamped = refl; adds = λ _. refl; removes = λ _. refl }
+parent_simple = record { listed = refl; uncounted = refl; unstamped = refl; adds = quiet 13 []; removes = λ gone. quiet 13 gone [] }
 
 pub recall_simple : IsSimple site_schema 9 recall
-recall_simple = record { listed = refl; uncounted = refl; unstamped = refl; adds = λ _. refl; removes = λ _. refl }
+recall_simple = record { listed = refl; uncounted = refl; unstamped = refl; adds = quiet 15 []; removes = λ gone. quiet 15 gone [] }
 
 pub store_shows : (a : ℤ) (b : ℤ) (c : ℤ) (d : ℤ) (e : ℤ) (tree : List Row) → let row = Int a ∷ Int b ∷ Int c ∷ Int d ∷ Int e ∷ [] in visible store (with_rowid Chosen tree (cast_row store (source_of store row))) ≡ row
 store_shows a b c d e tree = rw (cast_int a, cast_int b, cast_int c, cast_int d, cast_int e) refl
@@ -117,13 +124,6 @@ alone false = refl
 and_true : (b : Bool) → b ≡ (b && true)
 and_true true = refl
 and_true false = refl
-
--- no reference asks for anything when a row goes or changes
-pub quiet : (tree : ℕ) (gone news : List Row) → works site_schema Enforced 0 tree gone news ≡ []
-quiet tree gone news = elim (length news == 0) as (λ b. flat_map (λ child. filter_map (λ ref. work_by 0 tree (pairs gone news) child ref (deed_for Enforced b ref) (parent_key site_schema.tables ref)) child.references) site_schema.tables ≡ []) [
-  | true ↦ refl
-  | false ↦ refl
-]
 
 pub outbox_numbered : (a : ℤ) (b : ℤ) (c : ℤ) (d : ℤ) (e : List ℕ) → IsNumbered site_schema outbox (Int a ∷ Int b ∷ Int c ∷ Int d ∷ Text e ∷ []) (Int a ∷ Null ∷ Int b ∷ Int c ∷ Int d ∷ Text e ∷ []) a
 unfolding first_key

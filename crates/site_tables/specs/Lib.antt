@@ -2,6 +2,7 @@ pub mod AllReads
 pub mod Changed
 pub mod Commands
 pub mod Filled
+pub mod Inserting
 pub mod Known
 pub mod Made
 pub mod Reads

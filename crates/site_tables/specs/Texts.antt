@@ -105,3 +105,12 @@ insert_outbox = codes "INSERT INTO outbox (number, dest, recall_site, recall_no,
 
 abbrev pub insert_recall : List ℕ
 insert_recall = codes "INSERT INTO recall (number, root, ended) VALUES (?1, ?2, ?3)"
+
+abbrev pub insert_eight_event : List ℕ
+insert_eight_event = codes "INSERT INTO event (no, id, seconds, nanos, kind, make_id) VALUES (?1, ?2, ?3, ?4, ?5, ?6), (?7, ?8, ?9, ?10, ?11, ?12), (?13, ?14, ?15, ?16, ?17, ?18), (?19, ?20, ?21, ?22, ?23, ?24), (?25, ?26, ?27, ?28, ?29, ?30), (?31, ?32, ?33, ?34, ?35, ?36), (?37, ?38, ?39, ?40, ?41, ?42), (?43, ?44, ?45, ?46, ?47, ?48)"
+
+abbrev pub insert_eight_part : List ℕ
+insert_eight_part = codes "INSERT INTO part (event, role, place, text) VALUES (?1, ?2, ?3, ?4), (?5, ?6, ?7, ?8), (?9, ?10, ?11, ?12), (?13, ?14, ?15, ?16), (?17, ?18, ?19, ?20), (?21, ?22, ?23, ?24), (?25, ?26, ?27, ?28), (?29, ?30, ?31, ?32)"
+
+abbrev pub insert_eight_quarantine : List ℕ
+insert_eight_quarantine = codes "INSERT INTO quarantine (recall_site, recall_no, item) VALUES (?1, ?2, ?3), (?4, ?5, ?6), (?7, ?8, ?9), (?10, ?11, ?12), (?13, ?14, ?15), (?16, ?17, ?18), (?19, ?20, ?21), (?22, ?23, ?24)"

@@ -7,12 +7,14 @@ ghost use Rattle.site_tables.specs.Stored.{Holds, IsStored, WritesAll, contents_
 ghost use Rattle.site_tables.specs.Tables.{no_schema};
 
 use crate::create::create_tables;
-use crate::in_turn::insert_each;
+use crate::inserting::insert_each;
 use site_rows::Rows;
 use sqlite::{Alter, Connection, Error, Transaction};
+use std::alloc::Global;
 
 /// Inserts the rows of the site itself, of all sites and of their addresses.
 fn fill_sites<S: Alter>(
+    alloc: Global,
     tx: &mut Transaction<'_, S>,
     rows: &Rows,
     written: &mut u64,
@@ -20,13 +22,14 @@ fn fill_sites<S: Alter>(
     ensures same_reference { tx.new.conn.ghost_name ≡ tx.old.conn.ghost_name }
     ensures wrote { WritesAll (with_sites rows.now) (state S.Store tx.old.conn.now) (state S.Store tx.new.conn.now) result }
 {
-    insert_each(tx, rows.store.as_slice(), written)?;
-    insert_each(tx, rows.site.as_slice(), written)?;
-    insert_each(tx, rows.address.as_slice(), written)
+    insert_each(alloc, tx, rows.store.as_slice(), written)?;
+    insert_each(alloc, tx, rows.site.as_slice(), written)?;
+    insert_each(alloc, tx, rows.address.as_slice(), written)
 }
 
 /// Inserts the rows of the captured events and of their lists.
 fn fill_events<S: Alter>(
+    alloc: Global,
     tx: &mut Transaction<'_, S>,
     rows: &Rows,
     written: &mut u64,
@@ -34,12 +37,13 @@ fn fill_events<S: Alter>(
     ensures same_reference { tx.new.conn.ghost_name ≡ tx.old.conn.ghost_name }
     ensures wrote { WritesAll (with_events rows.now) (state S.Store tx.old.conn.now) (state S.Store tx.new.conn.now) result }
 {
-    insert_each(tx, rows.event.as_slice(), written)?;
-    insert_each(tx, rows.part.as_slice(), written)
+    insert_each(alloc, tx, rows.event.as_slice(), written)?;
+    insert_each(alloc, tx, rows.part.as_slice(), written)
 }
 
 /// Inserts the rows of what is quarantined and of messages.
 fn fill_messages<S: Alter>(
+    alloc: Global,
     tx: &mut Transaction<'_, S>,
     rows: &Rows,
     written: &mut u64,
@@ -47,13 +51,14 @@ fn fill_messages<S: Alter>(
     ensures same_reference { tx.new.conn.ghost_name ≡ tx.old.conn.ghost_name }
     ensures wrote { WritesAll (with_messages rows.now) (state S.Store tx.old.conn.now) (state S.Store tx.new.conn.now) result }
 {
-    insert_each(tx, rows.quarantine.as_slice(), written)?;
-    insert_each(tx, rows.outbox.as_slice(), written)?;
-    insert_each(tx, rows.seen.as_slice(), written)
+    insert_each(alloc, tx, rows.quarantine.as_slice(), written)?;
+    insert_each(alloc, tx, rows.outbox.as_slice(), written)?;
+    insert_each(alloc, tx, rows.seen.as_slice(), written)
 }
 
 /// Inserts the rows of parents and of own recalls.
 fn fill_recalls<S: Alter>(
+    alloc: Global,
     tx: &mut Transaction<'_, S>,
     rows: &Rows,
     written: &mut u64,
@@ -61,19 +66,24 @@ fn fill_recalls<S: Alter>(
     ensures same_reference { tx.new.conn.ghost_name ≡ tx.old.conn.ghost_name }
     ensures wrote { WritesAll (with_recalls rows.now) (state S.Store tx.old.conn.now) (state S.Store tx.new.conn.now) result }
 {
-    insert_each(tx, rows.parent.as_slice(), written)?;
-    insert_each(tx, rows.recall.as_slice(), written)
+    insert_each(alloc, tx, rows.parent.as_slice(), written)?;
+    insert_each(alloc, tx, rows.recall.as_slice(), written)
 }
 
 /// Inserts the rows of all tables.
-fn fill<S: Alter>(tx: &mut Transaction<'_, S>, rows: &Rows, written: &mut u64) -> Result<(), Error>
+fn fill<S: Alter>(
+    alloc: Global,
+    tx: &mut Transaction<'_, S>,
+    rows: &Rows,
+    written: &mut u64,
+) -> Result<(), Error>
     ensures same_reference { tx.new.conn.ghost_name ≡ tx.old.conn.ghost_name }
     ensures wrote { WritesAll (with_rows rows.now) (state S.Store tx.old.conn.now) (state S.Store tx.new.conn.now) result }
 {
-    fill_sites(tx, rows, written)?;
-    fill_events(tx, rows, written)?;
-    fill_messages(tx, rows, written)?;
-    fill_recalls(tx, rows, written)
+    fill_sites(alloc, tx, rows, written)?;
+    fill_events(alloc, tx, rows, written)?;
+    fill_messages(alloc, tx, rows, written)?;
+    fill_recalls(alloc, tx, rows, written)
 }
 
 /// Makes the tables with these rows, in one transaction, in an empty database. At any moment a crash leaves none of
@@ -81,7 +91,11 @@ fn fill<S: Alter>(tx: &mut Transaction<'_, S>, rows: &Rows, written: &mut u64) -
 ///
 /// # Errors
 /// The database's.
-pub fn create_site<S: Alter>(conn: &mut Connection<S>, rows: &Rows) -> Result<(), Error>
+pub fn create_site<S: Alter>(
+    alloc: Global,
+    conn: &mut Connection<S>,
+    rows: &Rows,
+) -> Result<(), Error>
     requires outside { conn.old.in_transaction ≡ false }
     ensures mode { conn.new.in_transaction ≡ false }
     ensures stored { HasCleanDisk (state S.Store conn.new) → (state S.Store conn.old).now.schema ≡ no_schema
@@ -91,6 +105,6 @@ pub fn create_site<S: Alter>(conn: &mut Connection<S>, rows: &Rows) -> Result<()
     let mut written: u64 = 0;
     let mut tx = conn.transaction();
     create_tables(&mut tx)?;
-    fill(&mut tx, rows, &mut written)?;
+    fill(alloc, &mut tx, rows, &mut written)?;
     tx.commit()
 }

@@ -1,45 +1,13 @@
 //! Tables that are changed by rows in turn.
-ghost use Rattle.std.specs.Prelude.{◌≡◌, ◌+◌, [], ◌∷◌, length, map, min, OnOk};
+ghost use Rattle.std.specs.Prelude.{◌≡◌, ◌+◌, length, min, OnOk};
 ghost use Rattle.sqlite.specs.Held.{state};
 ghost use Rattle.site_tables.specs.Changed.{puts_outbox, puts_recall, drops_outbox, drops_parent};
 ghost use Rattle.site_tables.specs.Tables.{outbox, parent, recall};
-ghost use Rattle.site_tables.specs.TableRows.{Writes, adds};
+ghost use Rattle.site_tables.specs.TableRows.{Writes};
 
 use crate::replacing::{delete_outbox, delete_parent, upsert_outbox, upsert_recall};
-use crate::stored::Stored;
 use site_rows::{OutboxRow, RecallKey, RecallRow};
 use sqlite::{Alter, Error, Transaction};
-
-/// A row that is inserted into its table.
-pub trait Inserted: Stored {
-    /// Inserts it, and counts it as written.
-    fn insert<S: Alter>(
-        &self,
-        tx: &mut Transaction<'_, S>,
-        written: &mut u64,
-    ) -> Result<usize, Error>
-        ensures same_reference { tx.new.conn.ghost_name ≡ tx.old.conn.ghost_name }
-        ensures wrote { Writes Self.listed (adds (Self.shown self.now ∷ [])) (state S.Store tx.old.conn.now) (state S.Store tx.new.conn.now) result }
-        ensures counted { written.new ≡ min 18_446_744_073_709_551_615 (written.old + 1) };
-}
-
-/// Inserts the rows into their table, in their order.
-pub fn insert_each<T: Inserted, S: Alter>(
-    tx: &mut Transaction<'_, S>,
-    rows: &[T],
-    written: &mut u64,
-) -> Result<(), Error>
-    ensures same_reference { tx.new.conn.ghost_name ≡ tx.old.conn.ghost_name }
-    ensures wrote { Writes T.Stored.listed (adds (map T.Stored.shown rows.now)) (state S.Store tx.old.conn.now) (state S.Store tx.new.conn.now) result }
-    ensures counted { OnOk result (written.new ≡ min 18_446_744_073_709_551_615 (written.old + length rows.now)) }
-{
-    // The count fits its type.
-    let _written = *written;
-    for row in rows {
-        row.insert(tx, written)?;
-    }
-    Ok(())
-}
 
 /// Puts the rows into `outbox`, each in place of the one of its number if there is one.
 pub fn upsert_each_outbox<S: Alter>(

@@ -8,6 +8,7 @@ mod create;
 mod declarations;
 mod faults;
 mod in_turn;
+mod inserting;
 mod inserts;
 mod known_checks;
 mod known_parts;

@@ -7,14 +7,17 @@ ghost use Rattle.site_tables.specs.Changed.{captured, recalled, signalled, renum
 ghost use Rattle.site_tables.specs.Stored.{Contents, Holds, IsStored, IsStopped, WritesAll};
 
 use crate::in_turn::{
-    delete_each_outbox, delete_each_parent, insert_each, upsert_each_outbox, upsert_each_recall,
+    delete_each_outbox, delete_each_parent, upsert_each_outbox, upsert_each_recall,
 };
+use crate::inserting::insert_each;
 use crate::replacing::update_store;
 use site_rows::RowChanges;
 use sqlite::{Alter, Connection, Error, Transaction};
+use std::alloc::Global;
 
 /// Writes the events and the members of their lists.
 fn write_captured<S: Alter>(
+    alloc: Global,
     tx: &mut Transaction<'_, S>,
     changes: &RowChanges,
     written: &mut u64,
@@ -23,12 +26,13 @@ fn write_captured<S: Alter>(
     ensures wrote { WritesAll (captured changes.now) (state S.Store tx.old.conn.now) (state S.Store tx.new.conn.now) result }
     ensures counted { OnOk result (written.new ≡ min 18_446_744_073_709_551_615 (written.old + (length changes.now.event + length changes.now.part))) }
 {
-    insert_each(tx, changes.event.as_slice(), written)?;
-    insert_each(tx, changes.part.as_slice(), written)
+    insert_each(alloc, tx, changes.event.as_slice(), written)?;
+    insert_each(alloc, tx, changes.part.as_slice(), written)
 }
 
 /// Writes what came under recalls, and the messages and parents that came with it.
 fn write_recalled<S: Alter>(
+    alloc: Global,
     tx: &mut Transaction<'_, S>,
     changes: &RowChanges,
     written: &mut u64,
@@ -37,10 +41,10 @@ fn write_recalled<S: Alter>(
     ensures wrote { WritesAll (recalled changes.now) (state S.Store tx.old.conn.now) (state S.Store tx.new.conn.now) result }
     ensures counted { OnOk result (written.new ≡ min 18_446_744_073_709_551_615 (written.old + (length changes.now.quarantine + length changes.now.outbox + length changes.now.seen + length changes.now.parent))) }
 {
-    insert_each(tx, changes.quarantine.as_slice(), written)?;
+    insert_each(alloc, tx, changes.quarantine.as_slice(), written)?;
     upsert_each_outbox(tx, changes.outbox.as_slice(), written)?;
-    insert_each(tx, changes.seen.as_slice(), written)?;
-    insert_each(tx, changes.parent.as_slice(), written)
+    insert_each(alloc, tx, changes.seen.as_slice(), written)?;
+    insert_each(alloc, tx, changes.parent.as_slice(), written)
 }
 
 /// Takes out what was signalled, and writes the own recalls.
@@ -79,6 +83,7 @@ fn write_numbers<S: Alter>(
 
 /// Writes the changed rows, and no others.
 fn write_changes<S: Alter>(
+    alloc: Global,
     tx: &mut Transaction<'_, S>,
     changes: &RowChanges,
     written: &mut u64,
@@ -87,8 +92,8 @@ fn write_changes<S: Alter>(
     ensures wrote { WritesAll (changed changes.now) (state S.Store tx.old.conn.now) (state S.Store tx.new.conn.now) result }
     ensures counted { OnOk result (written.new ≡ min 18_446_744_073_709_551_615 (written.old + rows_written changes.now)) }
 {
-    write_captured(tx, changes, written)?;
-    write_recalled(tx, changes, written)?;
+    write_captured(alloc, tx, changes, written)?;
+    write_recalled(alloc, tx, changes, written)?;
     write_signalled(tx, changes, written)?;
     write_numbers(tx, changes, written)
 }
@@ -100,6 +105,7 @@ fn write_changes<S: Alter>(
 /// The database's. While the connection is open a crash then leaves the rows of before; once it is shut, those or
 /// the changed ones, and no others.
 pub fn store_changes<S: Alter>(
+    alloc: Global,
     conn: &mut Connection<S>,
     changes: &RowChanges,
     written: &mut u64,
@@ -114,6 +120,6 @@ pub fn store_changes<S: Alter>(
     ensures counted { OnOk result (written.new ≡ min 18_446_744_073_709_551_615 (written.old + rows_written changes.now)) }
 {
     let mut tx = conn.transaction();
-    write_changes(&mut tx, changes, written)?;
+    write_changes(alloc, &mut tx, changes, written)?;
     tx.commit()
 }

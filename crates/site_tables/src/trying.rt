@@ -9,6 +9,7 @@ ghost use Rattle.site_tables.specs.Stored.{Contents, Holds, IsStored, IsStopped}
 use crate::step::store_changes;
 use site_rows::RowChanges;
 use sqlite::{Alter, Connection, Error};
+use std::alloc::Global;
 
 /// What a step that failed leaves of the connection.
 #[derive(Debug, Drop)]
@@ -38,6 +39,7 @@ pub fn settled<S: Alter>(conn: &Connection<S>)
 /// # Errors
 /// The database's, with what it leaves: the connection open, with the rows of before and no others, or perhaps shut.
 pub fn try_changes<S: Alter>(
+    alloc: Global,
     conn: &mut Connection<S>,
     changes: &RowChanges,
     written: &mut u64,
@@ -50,7 +52,7 @@ pub fn try_changes<S: Alter>(
     ensures crash { Survives (state S.Store conn.old) (state S.Store conn.new) (λ db. (before : Contents) → IsStored before (state S.Store conn.old) → Holds (changed changes.now before) db) }
     ensures counted { OnOk result (written.new ≡ min 18_446_744_073_709_551_615 (written.old + rows_written changes.now)) }
 {
-    match store_changes(conn, changes, written) {
+    match store_changes(alloc, conn, changes, written) {
         Ok(()) => Ok(()),
         Err(error) => {
             if is_still_open(conn) {

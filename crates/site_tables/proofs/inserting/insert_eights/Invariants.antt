@@ -1,0 +1,11 @@
+use Rattle.std.proofs.Common.{◌≡◌, ◌+◌, ◌*◌, map, min, take}
+use Rattle.sqlite.specs.Held.{state}
+use Rattle.site_tables.specs.TableRows.{HasWritten, adds}
+use Rattle.site_tables.proofs.inserting.insert_eights.Given as goal
+
+-- the reference stays, the groups so far are written, and each row was counted
+abbrev pub invariant-loop-group : goal.invariant-loop-group
+invariant-loop-group g l =
+    (l.tx.conn.ghost_name ≡ l.fn.tx.conn.ghost_name)
+    × HasWritten g.T.Stored.listed (adds (map g.T.Stored.shown (take (l.group * 8) l.rows))) (state g.S.Store l.fn.tx.conn.now) (state g.S.Store l.tx.conn.now)
+    × (l.written ≡ min 18_446_744_073_709_551_615 (l.fn.written + l.group * 8))
