@@ -11,6 +11,8 @@ use Rattle.std.specs.Result.{IsErr, IfErr}
 use Rattle.sqlite_trees.specs.declared.store.Store.{Ghosts}
 use Rattle.sqlite.specs.Held.{Held, state}
 use Rattle.sqlite.proofs.Callers.{survives_begin}
+use Rattle.site_tables.specs.Causes.{HasReason}
+use Rattle.site_tables.proofs.Causes.{reason_within}
 use Rattle.site_tables.proofs.Steps.{on_ok}
 use Rattle.sqlite.specs.Steps.{FailsToCommit}
 use Rattle.sqlite.proofs.StateLemmas.{survives_then}
@@ -29,8 +31,9 @@ pub record Begins (old now : State) : Type 0 where
   pub is_open : now.is_open ≡ old.is_open
   pub sees : now.now ≡ old.now
   pub committed : now.committed ≡ old.committed
+  pub faults : now.faults ≡ old.faults
 
-stored_schema : (rows : Contents) (s : State) → IsStored rows s → s.now.schema ≡ site_schema
+pub stored_schema : (rows : Contents) (s : State) → IsStored rows s → s.now.schema ≡ site_schema
 stored_schema rows s it = ap (λ (d : Database). d.schema) it.settled ∙ it.schema
 
 stored_rows : (rows : Contents) (s : State) → IsStored rows s → Holds rows s.now.trees
@@ -51,7 +54,9 @@ stored_at_commit after mid end schema held shows settles =
 
 module _ (before : Contents) (change : Contents → Contents) (old begun : State) (starts : Begins old begun) where
   done : (mid : State) → IsStored before old → DoesAll change begun mid → (mid.now.schema ≡ site_schema) × Holds (change before) mid.now.trees
-  done mid it all = all.holds (ap (λ (d : Database). d.schema) starts.sees ∙ stored_schema before old it) before (subst (λ (d : Database). Holds before d.trees) (sym starts.sees) (stored_rows before old it))
+  done mid it all =
+      let has = ap (λ (d : Database). d.schema) starts.sees ∙ stored_schema before old it in
+      (all.schema has, all.holds has before (subst (λ (d : Database). Holds before d.trees) (sym starts.sees) (stored_rows before old it)))
 
   pub committed : (mid end : State) → IsStored before old → DoesAll change begun mid → Shows mid end mid.now mid.now false → Settles end → IsStored (change before) end
   committed mid end it all shows settles = let now = done mid it all in stored_at_commit (change before) mid end now.0 now.1 shows settles
@@ -87,8 +92,8 @@ module _ (before : Contents) (change : Contents → Contents) (old begun : State
 
 module _ {S : Type 0} (g : Ghosts S) (settled : (s : S) (db : Trees) → IsTrue (g.view s).is_open → g.recovers s db → db ≡ (g.view s).committed) (change : Contents → Contents) (old begun mid end : Held S)
     (was : old.in_transaction ≡ false) (is : begun ≡ record old { in_transaction = true }) where
-  starts : Begins (state g old) (state g begun)
-  starts = rw is (record { was = was; is = refl; is_open = refl; sees = refl; committed = refl })
+  pub starts : Begins (state g old) (state g begun)
+  starts = rw is (record { was = was; is = refl; is_open = refl; sees = refl; committed = refl; faults = refl })
 
   module _ {X : Type 0} (r : Result X Error) (x : X) (ok : r ≡ Ok x) (wrote : WritesAll change (state g begun) (state g mid) r)
       (survives : Survives (state g mid) (state g end) (λ db. db ≡ (state g mid).now.trees)) where
@@ -125,6 +130,16 @@ module _ {S : Type 0} (g : Ghosts S) (settled : (s : S) (db : Trees) → IsTrue 
     where
       crash : (db : Trees) → (state g end).may_leave db → (state g old).may_leave db ⊎ Holds (change before) db
       crash db may = elim (survives.crash clean db may) [ inl mid_may ↦ elim (wrote.crash.crash (omega (arith, survives.clean)) db mid_may) [ inl was_may ↦ inl (subst (λ (h : Held S). (state g h).may_leave db) is was_may) | inr none ↦ absurd none ] | inr none ↦ absurd none ]
+
+  -- why a write of the transaction failed
+  pub where_failed : {X Y : Type 0} (r : Result X Error) (e : Error) (out : Result Y Error) → r ≡ Err e → out ≡ Err e → WritesAll change (state g begun) (state g mid) r → Survives (state g mid) (state g end) (λ _. ⊥)
+      → HasCleanDisk (state g end) → (state g old).now.schema ≡ site_schema → IfErr out (HasReason (state g old) (state g end))
+  where_failed (Ok x) e out bad told wrote survives clean has = absurd cc
+  where_failed (Err d) e (Ok y) bad told wrote survives clean has = absurd cc
+  where_failed (Err d) e (Err f) bad told wrote survives clean has =
+      let same : d ≡ f = cc in
+      let why = wrote.cause (omega (arith, survives.clean)) starts.is (ap (λ (d : Database). d.schema) starts.sees ∙ has) in
+      rw same at (reason_within (state g old) (state g begun) (state g mid) (state g end) d starts.is_open (omega (arith, starts.faults)) survives.counts why)
 
 -- an open that finds the trees of the last commit finds the same rows
 pub reopened : (rows : Contents) (old again : State) → IsStored rows old → IsLive old → Opens again → IsLive again → again.committed.trees ≡ old.committed.trees → Settles again → IsStored rows again

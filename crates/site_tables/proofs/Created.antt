@@ -1,5 +1,5 @@
 -- What a text that makes a table does.
-use Rattle.std.proofs.Common.{◌≡◌, inl, inr, ℕ, List, [], false, None, Ok, Err, Result, OnOk, IsTrue, sym, ap, subst, ◌∙◌}
+use Rattle.std.proofs.Common.{◌≡◌, inl, inr, ℕ, List, [], false, None, Ok, Err, Result, OnOk, IsTrue, refl, sym, ap, subst, ◌∙◌}
 use Rattle.std.proofs.lemmas.Bool.{cases_Bool}
 use Rattle.sqlite.specs.Table.{Table}
 use Rattle.sqlite.specs.Schema.{Schema}
@@ -14,6 +14,8 @@ use Rattle.sqlite.specs.Listing.{understood}
 use Rattle.sqlite.specs.State.{State, Writes, Executes, ExecutesInside}
 use Rattle.sqlite.proofs.Callers.{IsPlain, command_of, statement_of, runs_as}
 use Rattle.site_tables.specs.TableRows.{Makes, Creates}
+use Rattle.site_tables.specs.Causes.{IsAlone}
+use Rattle.site_tables.proofs.Causes.{fails_for}
 use Rattle.site_tables.proofs.Inserted.{went, same_value}
 use Rattle.site_tables.proofs.Steps.{Ran, keeps}
 
@@ -21,6 +23,7 @@ use Rattle.site_tables.proofs.Steps.{Ran, keeps}
 pub record IsMade (text : List ℕ) (schema : Schema) (table : Table) : Type 0 where
   pub command : command_of (understood schema text) ≡ CreateTable
   pub plain : IsPlain (understood schema text)
+  pub alone : IsAlone schema text 0
   pub whole : statement_of text (understood schema text) ≡ text
   pub defined : table_defined_by text ≡ Ok table
   pub counts : lacks_sequence (created schema table) ≡ false
@@ -59,5 +62,6 @@ pub creates : (text : List ℕ) (schema : Schema) (table : Table) → IsMade tex
 creates text schema table is old new r ran = record {
   done = λ clean. makes text schema table is old new r ran.late ran.ended (ran.runs clean);
   undone = λ clean. keeps text [] old new r ran.same (ran.runs clean);
+  cause = λ clean inside has. fails_for schema text [] CreateTable is.command is.plain is.alone refl old new has r (ran.runs clean inside);
   crash = ran.survives;
 }

@@ -1,6 +1,5 @@
 -- A loop that changes a table for each element.
-use Rattle.std.proofs.Common.{◌≡◌, ℕ, ◌+◌, ◌<◌, List, [], length, take, get_or, Ok, Result, refl, sym, ap, ◌∙◌}
-use Rattle.std.specs.Result.{IsErr}
+use Rattle.std.proofs.Common.{◌≡◌, ℕ, ◌+◌, ◌<◌, List, [], length, take, get_or, Ok, Err, Result, refl, sym, ap, ◌∙◌}
 use Rattle.std.specs.Prelude.{fold}
 use Rattle.std.proofs.lemmas.List.{take_more}
 use Rattle.std.proofs.lemmas.List.Sums.{fold_push}
@@ -16,6 +15,7 @@ pub none_yet : (table : Table) {X : Type 0} (change : X → List Row → List Ro
 none_yet table change s quiet = record {
   done = λ _. record { goes_on = record { is_open = refl; committed = refl; mode = refl }; changes = λ _. record { schema = refl; rows = λ rows has. has; others = λ _ _ _. refl } };
   undone = λ _. tt {0};
+  cause = λ _ _ _. tt {0};
   crash = quiet;
 }
 
@@ -30,7 +30,7 @@ module _ (table : Table) {X : Type 0} (change : X → List Row → List Row) (xs
       let all = changes_each change (take (i + 1) xs) in
       succeeds table all a c r n (tt {0}) ok (writes_then table (changes_each change (take i xs)) (change x) all (λ before. one_more before low at) a b c (tt {0}) r p q)
 
-  pub each_failed : {Y : Type 0} (out : Result Y Error) (other : List Row → List Row) → IsErr r → IsErr out → HasWritten table (changes_each change (take i xs)) a b → Writes table (change x) b c r → Writes table other a c out
-  each_failed out other bad end p q =
+  pub each_failed : {Y : Type 0} (e : Error) (out : Result Y Error) (other : List Row → List Row) → r ≡ Err e → out ≡ Err e → HasWritten table (changes_each change (take i xs)) a b → Writes table (change x) b c r → Writes table other a c out
+  each_failed e out other bad end p q =
       let both = λ (before : List Row). change x (changes_each change (take i xs) before) in
-      fails table both other a c r out bad end (writes_then table (changes_each change (take i xs)) (change x) both (λ _. refl) a b c (tt {0}) r p q)
+      fails table both other a c r e out bad end (writes_then table (changes_each change (take i xs)) (change x) both (λ _. refl) a b c (tt {0}) r p q)

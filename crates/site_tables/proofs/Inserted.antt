@@ -19,13 +19,14 @@ use Rattle.sqlite.specs.Does.{Tally, AtPlace, OnRows, OnTable, WritesRows, Concl
 use Rattle.sqlite.specs.Rows.{Written, Task, Inserts as PutsIn, stamped, Counts, rowids_for}
 use Rattle.sqlite.specs.declared.run.Mode.{Mode}
 use Rattle.sqlite.specs.Command.{Command}
-use Rattle.sqlite.specs.Listing.{understood}
-use Rattle.sqlite.proofs.Callers.{IsPlain, command_of, one_step}
+use Rattle.sqlite.proofs.Callers.{one_step}
 use Rattle.site_tables.specs.Commands.{row_terms, rows_terms, width_of, inserts_rows}
+use Rattle.site_tables.specs.Causes.{IsAlone}
 use Rattle.site_tables.specs.Inserting.{Inserts}
 use Rattle.site_tables.specs.TableRows.{visible}
 use Rattle.site_tables.specs.Tables.{site_schema}
 use Rattle.site_tables.proofs.Applied.{has_inserted, keeps_others}
+use Rattle.site_tables.proofs.Causes.{Says}
 
 -- nothing is computed as rows are inserted
 pub record IsSimple (schema : Schema) (at : ℕ) (table : Table) : Type 0 where
@@ -87,27 +88,32 @@ source_of table params = eval_all (row_terms table) (params ∷ [])
 pub record IsShown {X : Type 0} (table : Table) (row_of : X → Row) : Type 0 where
   pub shows : (x : X) (tree : List Row) → visible table (with_rowid Chosen tree (cast_row table (source_of table (row_of x)))) ≡ row_of x
 
--- of the parameters one row is made of each part of them
-abbrev pub Reads : {X : Type 0} → Table → (X → Row) → ℕ → List X → Type 0
+-- one row is made of each part of the parameters
+abbrev Reads : {X : Type 0} → Table → (X → Row) → ℕ → List X → Type 0
 Reads table row_of count xs =
     value_rows (flat_map row_of xs) (width_of table) (length (rows_terms count 0 table) / width_of table) (rows_terms count 0 table) ≡ map (λ x. source_of table (row_of x)) xs
 
+-- and there are so many parameters
+abbrev pub Fits : {X : Type 0} → Table → (X → Row) → ℕ → ℕ → List X → Type 0
+Fits table row_of count values xs = Reads table row_of count xs × (length (flat_map row_of xs) ≡ values)
+
 -- a text that inserts its parameters as so many rows
 pub inserts_all : {X : Type 0} (row_of : X → Row) (count : ℕ) (sql : List ℕ) (at : ℕ) (table : Table) → IsSimple site_schema at table
-    → (command_of (understood site_schema sql) ≡ inserts_rows count at table) × IsPlain (understood site_schema sql)
-    → ((xs : List X) → length xs ≡ count → Reads table row_of count xs)
+    → (values : ℕ) → Says site_schema sql (inserts_rows count at table) values
+    → ((xs : List X) → length xs ≡ count → Fits table row_of count values xs)
     → IsShown table row_of → Inserts table row_of count sql
-inserts_all row_of count sql at table simple is reads shown = record {
+inserts_all row_of count sql at table simple values is reads shown = record {
   at = at;
   from = Values (rows_terms count 0 table) (width_of table);
-  command = is.0;
-  plain = is.1;
+  command = is.command;
+  plain = is.plain;
+  alone = λ xs many. subst (IsAlone site_schema sql) (sym (reads xs many).1) is.alone;
   adds = λ xs many limit db after tally text has h.
       let terms = rows_terms count 0 table in
       let params = flat_map row_of xs in
       let sources = map (λ x. source_of table (row_of x)) xs in
       let ran = on_table limit (record { keys = Enforced; in_doubt = false; may_wait = false }) params db after site_schema at table (Insert at (Values terms (width_of table))) tally has simple.listed h in
-      let applied = some_rows limit site_schema table params db.trees terms (width_of table) sources ran.0 simple.uncounted (rw (simple.unstamped, append-nil params) refl) (reads xs many) simple.adds ran.1 in
+      let applied = some_rows limit site_schema table params db.trees terms (width_of table) sources ran.0 simple.uncounted (rw (simple.unstamped, append-nil params) refl) (reads xs many).0 simple.adds ran.1 in
       let trees : after.trees ≡ ran.0.trees = ap (λ (d : Database). d.trees) ran.2 in
       let done = subst (Applies site_schema Enforced db.trees (edit_of db.trees table [] Chosen 0 sources)) (sym trees) applied in
       record {

@@ -1,6 +1,7 @@
 pub mod Answered
 pub mod Applied
 pub mod BadReads
+pub mod Causes
 pub mod Columns
 pub mod Committed
 pub mod Created

@@ -13,7 +13,7 @@ use Rattle.site_tables.specs.Made.{with_recall, AreEmpty, DoesMake, MakesTables}
 use Rattle.site_tables.specs.Stored.{Contents, DoesAll, Holds, no_rows}
 use Rattle.site_tables.specs.TableRows.{HasRows, Creates}
 use Rattle.site_tables.specs.Tables.{store, site, address, event, part, quarantine, outbox, seen, parent, recall, no_schema, site_schema}
-use Rattle.site_tables.proofs.Steps.{goes_then, keeps_then, on_ok, on_err}
+use Rattle.site_tables.proofs.Steps.{goes_then, keeps_then, reason_then, on_ok, on_err}
 
 -- tables that stay are as empty as before, and a new one has no row
 still_empty : (tables : List Table) (last : Table) (old new : Trees) → AreEmpty tables old → KeepsRows tables old new → new last.tree ≡ [] → AreEmpty (tables ++ last ∷ []) new
@@ -28,6 +28,7 @@ made_one table schema old new r it = record {
     empty = λ has none. still_empty schema.tables (record table { tree = next_tree schema }) old.now.trees new.now.trees none (made.others has) (made.empty has);
   }) (it.done clean);
   undone = it.undone;
+  cause = it.cause;
   crash = it.crash;
 }
 
@@ -42,6 +43,7 @@ made_then from mid to a b c (Ok y) x r ok p q =
         empty = λ has none. d.empty ((early clean).schema has) ((early clean).empty has none);
       }) (q.done clean);
       undone = λ clean. on_err r (λ kept. keeps_then a b c (early clean).goes_on kept) (q.undone clean);
+      cause = λ clean inside has. let one = early clean in reason_then a b c r one.goes_on p.crash.counts (q.cause clean (rw one.goes_on.mode inside) (one.schema has));
       crash = survives_then a b c _ _ (λ _. ⊥) (λ _ db none. none) (λ _ db none. none) p.crash q.crash;
     }
 
@@ -65,4 +67,4 @@ none_held trees none = record {
 
 -- tables that were made, and then filled, hold the rows
 pub filled_hold : (fills : Contents → Contents) (begun made mid : State) → DoesMake no_schema with_recall begun made → DoesAll fills made mid → begun.now.schema ≡ no_schema → (mid.now.schema ≡ site_schema) × Holds (fills no_rows) mid.now.trees
-filled_hold fills begun made mid one two empty = two.holds (one.schema empty) no_rows (none_held made.now.trees (one.empty empty tt))
+filled_hold fills begun made mid one two empty = (two.schema (one.schema empty), two.holds (one.schema empty) no_rows (none_held made.now.trees (one.empty empty tt)))

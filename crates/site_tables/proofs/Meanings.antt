@@ -6,12 +6,12 @@ use Rattle.sqlite_sql.specs.Program.{overlay, QueryOverflows}
 use Rattle.sqlite.specs.Term.{col}
 use Rattle.sqlite_tied.specs.Compute.{everything}
 use Rattle.sqlite.specs.Listing.{understood}
-use Rattle.sqlite.proofs.Callers.{IsPlain, command_of}
 use Rattle.site_tables.specs.Made.{with_store, with_site, with_address, with_event, with_part, with_quarantine, with_outbox, with_seen, with_parent, with_recall}
 use Rattle.site_tables.specs.Tables.{store, site, address, event, part, quarantine, outbox, seen, parent, recall, no_schema, site_schema}
 use Rattle.site_tables.specs.Texts as text
 use Rattle.site_tables.specs.Commands.{by_key, inserts_rows, deletes_key, upserts_row, updates_each}
 use Rattle.site_tables.specs.Reads.{Selects}
+use Rattle.site_tables.proofs.Causes.{Says}
 use Rattle.site_tables.proofs.Created.{IsMade}
 
 only_third : {A B C D E : Type 0} → (B → ⊥) → (D → ⊥) → (A × B) ⊎ ((C × D) ⊎ E) → E
@@ -26,98 +26,98 @@ sums_nothing table db (inr any) = any.4
 
 pub create_store_is : IsMade text.create_store no_schema (record store { tree = 0 })
 unfolding understood everything
-create_store_is = record { command = refl; plain = (refl, refl); whole = refl; defined = refl; counts = refl }
+create_store_is = record { command = refl; plain = (refl, refl); alone = (_, refl, refl, refl); whole = refl; defined = refl; counts = refl }
 
 pub create_site_is : IsMade text.create_site with_store (record site { tree = 0 })
 unfolding understood everything
-create_site_is = record { command = refl; plain = (refl, refl); whole = refl; defined = refl; counts = refl }
+create_site_is = record { command = refl; plain = (refl, refl); alone = (_, refl, refl, refl); whole = refl; defined = refl; counts = refl }
 
 pub create_address_is : IsMade text.create_address with_site (record address { tree = 0 })
 unfolding understood everything
-create_address_is = record { command = refl; plain = (refl, refl); whole = refl; defined = refl; counts = refl }
+create_address_is = record { command = refl; plain = (refl, refl); alone = (_, refl, refl, refl); whole = refl; defined = refl; counts = refl }
 
 pub create_event_is : IsMade text.create_event with_address (record event { tree = 0 })
 unfolding understood everything
-create_event_is = record { command = refl; plain = (refl, refl); whole = refl; defined = refl; counts = refl }
+create_event_is = record { command = refl; plain = (refl, refl); alone = (_, refl, refl, refl); whole = refl; defined = refl; counts = refl }
 
 pub create_part_is : IsMade text.create_part with_event (record part { tree = 0 })
 unfolding understood everything
-create_part_is = record { command = refl; plain = (refl, refl); whole = refl; defined = refl; counts = refl }
+create_part_is = record { command = refl; plain = (refl, refl); alone = (_, refl, refl, refl); whole = refl; defined = refl; counts = refl }
 
 pub create_quarantine_is : IsMade text.create_quarantine with_part (record quarantine { tree = 0 })
 unfolding understood everything
-create_quarantine_is = record { command = refl; plain = (refl, refl); whole = refl; defined = refl; counts = refl }
+create_quarantine_is = record { command = refl; plain = (refl, refl); alone = (_, refl, refl, refl); whole = refl; defined = refl; counts = refl }
 
 pub create_outbox_is : IsMade text.create_outbox with_quarantine (record outbox { tree = 0 })
 unfolding understood everything
-create_outbox_is = record { command = refl; plain = (refl, refl); whole = refl; defined = refl; counts = refl }
+create_outbox_is = record { command = refl; plain = (refl, refl); alone = (_, refl, refl, refl); whole = refl; defined = refl; counts = refl }
 
 pub create_seen_is : IsMade text.create_seen with_outbox (record seen { tree = 0 })
 unfolding understood everything
-create_seen_is = record { command = refl; plain = (refl, refl); whole = refl; defined = refl; counts = refl }
+create_seen_is = record { command = refl; plain = (refl, refl); alone = (_, refl, refl, refl); whole = refl; defined = refl; counts = refl }
 
 pub create_parent_is : IsMade text.create_parent with_seen (record parent { tree = 0 })
 unfolding understood everything
-create_parent_is = record { command = refl; plain = (refl, refl); whole = refl; defined = refl; counts = refl }
+create_parent_is = record { command = refl; plain = (refl, refl); alone = (_, refl, refl, refl); whole = refl; defined = refl; counts = refl }
 
 pub create_recall_is : IsMade text.create_recall with_parent (record recall { tree = 0 })
 unfolding understood everything
-create_recall_is = record { command = refl; plain = (refl, refl); whole = refl; defined = refl; counts = refl }
+create_recall_is = record { command = refl; plain = (refl, refl); alone = (_, refl, refl, refl); whole = refl; defined = refl; counts = refl }
 
 pub all_created : with_recall ≡ site_schema
 all_created = refl
 
-pub insert_store_is : (command_of (understood site_schema text.insert_store) ≡ inserts_rows 1 0 store) × IsPlain (understood site_schema text.insert_store)
+pub insert_store_is : Says site_schema text.insert_store (inserts_rows 1 0 store) 5
 unfolding understood everything
-insert_store_is = (refl, (refl, refl))
+insert_store_is = record { command = refl; plain = (refl, refl); alone = (_, refl, refl, refl); writes = refl }
 
-pub insert_site_is : (command_of (understood site_schema text.insert_site) ≡ inserts_rows 1 1 site) × IsPlain (understood site_schema text.insert_site)
+pub insert_site_is : Says site_schema text.insert_site (inserts_rows 1 1 site) 2
 unfolding understood everything
-insert_site_is = (refl, (refl, refl))
+insert_site_is = record { command = refl; plain = (refl, refl); alone = (_, refl, refl, refl); writes = refl }
 
-pub insert_address_is : (command_of (understood site_schema text.insert_address) ≡ inserts_rows 1 2 address) × IsPlain (understood site_schema text.insert_address)
+pub insert_address_is : Says site_schema text.insert_address (inserts_rows 1 2 address) 3
 unfolding understood everything
-insert_address_is = (refl, (refl, refl))
+insert_address_is = record { command = refl; plain = (refl, refl); alone = (_, refl, refl, refl); writes = refl }
 
-pub insert_event_is : (command_of (understood site_schema text.insert_event) ≡ inserts_rows 1 3 event) × IsPlain (understood site_schema text.insert_event)
+pub insert_event_is : Says site_schema text.insert_event (inserts_rows 1 3 event) 6
 unfolding understood everything
-insert_event_is = (refl, (refl, refl))
+insert_event_is = record { command = refl; plain = (refl, refl); alone = (_, refl, refl, refl); writes = refl }
 
-pub insert_part_is : (command_of (understood site_schema text.insert_part) ≡ inserts_rows 1 4 part) × IsPlain (understood site_schema text.insert_part)
+pub insert_part_is : Says site_schema text.insert_part (inserts_rows 1 4 part) 4
 unfolding understood everything
-insert_part_is = (refl, (refl, refl))
+insert_part_is = record { command = refl; plain = (refl, refl); alone = (_, refl, refl, refl); writes = refl }
 
-pub insert_quarantine_is : (command_of (understood site_schema text.insert_quarantine) ≡ inserts_rows 1 5 quarantine) × IsPlain (understood site_schema text.insert_quarantine)
+pub insert_quarantine_is : Says site_schema text.insert_quarantine (inserts_rows 1 5 quarantine) 3
 unfolding understood everything
-insert_quarantine_is = (refl, (refl, refl))
+insert_quarantine_is = record { command = refl; plain = (refl, refl); alone = (_, refl, refl, refl); writes = refl }
 
-pub insert_seen_is : (command_of (understood site_schema text.insert_seen) ≡ inserts_rows 1 7 seen) × IsPlain (understood site_schema text.insert_seen)
+pub insert_seen_is : Says site_schema text.insert_seen (inserts_rows 1 7 seen) 4
 unfolding understood everything
-insert_seen_is = (refl, (refl, refl))
+insert_seen_is = record { command = refl; plain = (refl, refl); alone = (_, refl, refl, refl); writes = refl }
 
-pub insert_parent_is : (command_of (understood site_schema text.insert_parent) ≡ inserts_rows 1 8 parent) × IsPlain (understood site_schema text.insert_parent)
+pub insert_parent_is : Says site_schema text.insert_parent (inserts_rows 1 8 parent) 4
 unfolding understood everything
-insert_parent_is = (refl, (refl, refl))
+insert_parent_is = record { command = refl; plain = (refl, refl); alone = (_, refl, refl, refl); writes = refl }
 
-pub upsert_outbox_is : (command_of (understood site_schema text.upsert_outbox) ≡ upserts_row 6 outbox) × IsPlain (understood site_schema text.upsert_outbox)
+pub upsert_outbox_is : Says site_schema text.upsert_outbox (upserts_row 6 outbox) 5
 unfolding understood everything
-upsert_outbox_is = (refl, (refl, refl))
+upsert_outbox_is = record { command = refl; plain = (refl, refl); alone = (_, refl, refl, refl); writes = refl }
 
-pub upsert_recall_is : (command_of (understood site_schema text.upsert_recall) ≡ upserts_row 9 recall) × IsPlain (understood site_schema text.upsert_recall)
+pub upsert_recall_is : Says site_schema text.upsert_recall (upserts_row 9 recall) 3
 unfolding understood everything
-upsert_recall_is = (refl, (refl, refl))
+upsert_recall_is = record { command = refl; plain = (refl, refl); alone = (_, refl, refl, refl); writes = refl }
 
-pub delete_outbox_is : (command_of (understood site_schema text.delete_outbox) ≡ deletes_key 6 outbox) × IsPlain (understood site_schema text.delete_outbox)
+pub delete_outbox_is : Says site_schema text.delete_outbox (deletes_key 6 outbox) 1
 unfolding understood everything
-delete_outbox_is = (refl, (refl, refl))
+delete_outbox_is = record { command = refl; plain = (refl, refl); alone = (_, refl, refl, refl); writes = refl }
 
-pub delete_parent_is : (command_of (understood site_schema text.delete_parent) ≡ deletes_key 8 parent) × IsPlain (understood site_schema text.delete_parent)
+pub delete_parent_is : Says site_schema text.delete_parent (deletes_key 8 parent) 2
 unfolding understood everything
-delete_parent_is = (refl, (refl, refl))
+delete_parent_is = record { command = refl; plain = (refl, refl); alone = (_, refl, refl, refl); writes = refl }
 
-pub update_store_is : (command_of (understood site_schema text.update_store) ≡ updates_each 0 store (col 1 2 ∷ col 1 3 ∷ col 0 0 ∷ col 0 1 ∷ [])) × IsPlain (understood site_schema text.update_store)
+pub update_store_is : Says site_schema text.update_store (updates_each 0 store (col 1 2 ∷ col 1 3 ∷ col 0 0 ∷ col 0 1 ∷ [])) 2
 unfolding understood everything
-update_store_is = (refl, (refl, refl))
+update_store_is = record { command = refl; plain = (refl, refl); alone = (_, refl, refl, refl); writes = refl }
 
 pub select_store_is : Selects store text.select_store
 unfolding understood everything
@@ -159,22 +159,22 @@ pub select_recall_is : Selects recall text.select_recall
 unfolding understood everything
 select_recall_is = record { command = refl; plain = (refl, refl); alone = (_, refl, refl, refl); listing = refl; accepted = λ limit trees e. only_third true≢false (sums_nothing recall trees); keyed = λ _. refl }
 
-pub insert_outbox_is : (command_of (understood site_schema text.insert_outbox) ≡ inserts_rows 1 6 outbox) × IsPlain (understood site_schema text.insert_outbox)
+pub insert_outbox_is : Says site_schema text.insert_outbox (inserts_rows 1 6 outbox) 5
 unfolding understood everything
-insert_outbox_is = (refl, (refl, refl))
+insert_outbox_is = record { command = refl; plain = (refl, refl); alone = (_, refl, refl, refl); writes = refl }
 
-pub insert_recall_is : (command_of (understood site_schema text.insert_recall) ≡ inserts_rows 1 9 recall) × IsPlain (understood site_schema text.insert_recall)
+pub insert_recall_is : Says site_schema text.insert_recall (inserts_rows 1 9 recall) 3
 unfolding understood everything
-insert_recall_is = (refl, (refl, refl))
+insert_recall_is = record { command = refl; plain = (refl, refl); alone = (_, refl, refl, refl); writes = refl }
 
-pub insert_eight_event_is : (command_of (understood site_schema text.insert_eight_event) ≡ inserts_rows 8 3 event) × IsPlain (understood site_schema text.insert_eight_event)
+pub insert_eight_event_is : Says site_schema text.insert_eight_event (inserts_rows 8 3 event) 48
 unfolding understood everything
-insert_eight_event_is = (refl, (refl, refl))
+insert_eight_event_is = record { command = refl; plain = (refl, refl); alone = (_, refl, refl, refl); writes = refl }
 
-pub insert_eight_part_is : (command_of (understood site_schema text.insert_eight_part) ≡ inserts_rows 8 4 part) × IsPlain (understood site_schema text.insert_eight_part)
+pub insert_eight_part_is : Says site_schema text.insert_eight_part (inserts_rows 8 4 part) 32
 unfolding understood everything
-insert_eight_part_is = (refl, (refl, refl))
+insert_eight_part_is = record { command = refl; plain = (refl, refl); alone = (_, refl, refl, refl); writes = refl }
 
-pub insert_eight_quarantine_is : (command_of (understood site_schema text.insert_eight_quarantine) ≡ inserts_rows 8 5 quarantine) × IsPlain (understood site_schema text.insert_eight_quarantine)
+pub insert_eight_quarantine_is : Says site_schema text.insert_eight_quarantine (inserts_rows 8 5 quarantine) 24
 unfolding understood everything
-insert_eight_quarantine_is = (refl, (refl, refl))
+insert_eight_quarantine_is = record { command = refl; plain = (refl, refl); alone = (_, refl, refl, refl); writes = refl }

@@ -13,20 +13,18 @@ use Rattle.sqlite.specs.Effect.{Database}
 use Rattle.sqlite.proofs.StateLemmas.{survives_then}
 use Rattle.sqlite.specs.State.{State, Executes, ExecutesInside, IsUnchanged, IsRolledBack, KeepsCommit, HasCleanDisk, Survives}
 use Rattle.sqlite_trees.specs.declared.store.Store.{Ghosts}
+use Rattle.site_tables.specs.Causes.{HasReason}
+use Rattle.site_tables.proofs.Causes.{Says, says_why, if_err, reason_within}
 use Rattle.sqlite.specs.Held.{Held, state}
 use Rattle.sqlite.specs.Listing.{understood}
-use Rattle.sqlite.proofs.Callers.{IsPlain, command_of, statement_of, runs_as}
+use Rattle.sqlite.proofs.Callers.{statement_of, runs_as}
 use Rattle.site_tables.proofs.Removed.{deletes_one_key}
 use Rattle.site_tables.proofs.Answered.{passes_all}
 use Rattle.site_tables.specs.Tables.{site_schema}
-use Rattle.site_tables.specs.TableRows.{visible, HasRows, Changes, GoesOn, Does, Writes, HasWritten, adds, has_key, without_key, FailsInside}
+use Rattle.site_tables.specs.TableRows.{visible, HasRows, Changes, GoesOn, Does, Writes, HasWritten, adds, has_key, without_key}
 use Rattle.site_tables.specs.Commands.{key_filter, deletes_key}
 use Rattle.site_tables.specs.Inserting.{Inserts}
 use Rattle.site_tables.proofs.Inserted.{IsSimple}
-
--- the text means this command, and shows no rows
-abbrev pub Means : List ℕ → Command → Type 0
-Means sql command = (command_of (understood site_schema sql) ≡ command) × IsPlain (understood site_schema sql)
 
 module _ (table : Table) (change : List Row → List Row) (sql : List ℕ) (params : Row) (old new : State) where
   does : (r : Result ℕ Error) (late : Error) → (old.in_transaction ≡ false → r ≡ Err late) → (IsTrue old.in_transaction → ExecutesInside 0 sql params old new r)
@@ -76,35 +74,27 @@ pub ran : {S : Type 0} (g : Ghosts S) (sql : List ℕ) (params : Row) (old new :
 ran g sql params old new r late ended runs survives =
     record { late = late; ended = λ out. (ended out).0; same = λ out. same_keeps (state g old) (state g new) (ap (state g) (ended out).1); runs = runs; survives = survives }
 
--- an error of the text, after calls that went on
-pub fails_inside : {S : Type 0} (g : Ghosts S) (sql : List ℕ) (params : Row) (old mid new : Held S) → GoesOn (state g old) (state g mid) → (r : Result ℕ Error)
-    → (IsTrue mid.in_transaction → ExecutesInside 0 sql params (state g mid) (state g new) r) → IfErr r (FailsInside g sql old new)
-fails_inside g sql params old mid new goes (Ok n) runs = tt {0}
-fails_inside g sql params old mid new goes (Err e) runs = (mid, params, goes, runs)
-
-pub deletes_of_key : (at : ℕ) (table : Table) → IsSimple site_schema at table → (sql : List ℕ) → Means sql (deletes_key at table) → (params : Row)
-    → ((r : Row) → passes_all (key_filter 0 table.primary) params r ≡ has_key table params (visible table r)) → (old new : State) (r : Result ℕ Error)
-    → Ran sql params old new r → Writes table (without_key table params) old new r
-deletes_of_key at table simple sql is params reads old new r ran = record {
-  done = λ clean. does table (without_key table params) sql params old new r ran.late ran.ended (ran.runs clean) (λ count has h. deletes_one_key sql site_schema at table params old new count simple is reads has h);
-  undone = λ clean. keeps sql params old new r ran.same (ran.runs clean);
-  crash = ran.survives;
-}
-
--- by what a text that is Ok makes of the rows of its table
-pub writes_by : (table : Table) (change : List Row → List Row) (sql : List ℕ) (params : Row) (old new : State) (r : Result ℕ Error) → Ran sql params old new r
+-- a text by what it makes of the rows of its table where it is Ok, and why it fails
+pub writes_by : (table : Table) (change : List Row → List Row) (sql : List ℕ) (params : Row) (command : Command) → Says site_schema sql command (length params) → (old new : State) (r : Result ℕ Error) → Ran sql params old new r
     → ((count : ℕ) → old.now.schema ≡ site_schema → Executes sql params old new (Ok count) → Changes table change old.now new.now) → Writes table change old new r
-writes_by table change sql params old new r ran changes = record {
+writes_by table change sql params command is old new r ran changes = record {
   done = λ clean. does table change sql params old new r ran.late ran.ended (ran.runs clean) changes;
   undone = λ clean. keeps sql params old new r ran.same (ran.runs clean);
+  cause = λ clean inside has. says_why site_schema sql params command is old new has r (ran.runs clean inside);
   crash = ran.survives;
 }
+
+pub deletes_of_key : (at : ℕ) (table : Table) → IsSimple site_schema at table → (sql : List ℕ) (params : Row) → Says site_schema sql (deletes_key at table) (length params)
+    → ((r : Row) → passes_all (key_filter 0 table.primary) params r ≡ has_key table params (visible table r)) → (old new : State) (r : Result ℕ Error)
+    → Ran sql params old new r → Writes table (without_key table params) old new r
+deletes_of_key at table simple sql params is reads old new r ran =
+    writes_by table (without_key table params) sql params (deletes_key at table) is old new r ran (λ count has h. deletes_one_key sql site_schema at table params old new count simple (is.command, is.plain) reads has h)
 
 -- a text that inserts its parameters as rows
 pub inserts : {X : Type 0} (table : Table) (row_of : X → Row) (xs : List X) (sql : List ℕ) → Inserts table row_of (length xs) sql → (old new : State) (r : Result ℕ Error)
     → Ran sql (flat_map row_of xs) old new r → Writes table (adds (map row_of xs)) old new r
 inserts table row_of xs sql is old new r ran =
-    writes_by table (adds (map row_of xs)) sql (flat_map row_of xs) old new r ran
+    writes_by table (adds (map row_of xs)) sql (flat_map row_of xs) (Insert is.at is.from) (record { command = is.command; plain = is.plain; alone = is.alone xs refl; writes = refl }) old new r ran
     (λ count has h. let w = runs_as sql (flat_map row_of xs) old new site_schema has (Insert is.at is.from) is.command is.plain count h in is.adds xs refl old.step_limit old.now new.now w.tally (statement_of sql (understood site_schema sql)) has w.changed)
 
 pub on_ok : {Y : Type 0} {P Q : Type 0} (r : Result Y Error) → (P → Q) → OnOk r P → OnOk r Q
@@ -127,6 +117,10 @@ goes_then a b c p q = record { is_open = q.is_open ∙ p.is_open; committed = q.
 pub keeps_then : (a b c : State) → GoesOn a b → KeepsCommit b c → KeepsCommit a c
 keeps_then a b c p q = record { was_open = λ up. sym p.is_open ∙ q.was_open up; committed = λ up. q.committed up ∙ p.committed }
 
+-- what failed after calls that went on, failed for a reason since the first
+pub reason_then : {X : Type 0} (a b c : State) (r : Result X Error) → GoesOn a b → a.faults ≤ b.faults → IfErr r (HasReason b c) → IfErr r (HasReason a c)
+reason_then a b c r goes before h = if_err r (λ e. reason_within a b c c e goes.is_open before (omega arith)) h
+
 module _ (table : Table) where
   changes_then : (first next both : List Row → List Row) → ((rows : List Row) → next (first rows) ≡ both rows) → (a b c : Database) → Changes table first a b → Changes table next b c → Changes table both a c
   changes_then first next both is a b c p q = record {
@@ -146,6 +140,7 @@ module _ (table : Table) where
   nothing s quiet = record {
     done = λ _. record { goes_on = record { is_open = refl; committed = refl; mode = refl }; changes = λ _. record { schema = refl; rows = λ rows has. rw (append-nil rows) has; others = λ _ _ _. refl } };
     undone = λ _. tt {0};
+    cause = λ _ _ _. tt {0};
     crash = quiet;
   }
 
@@ -156,6 +151,7 @@ module _ (table : Table) where
       record {
         done = λ clean. on_ok r (λ second. does_then first next both is a b c (early clean) second) (q.done clean);
         undone = λ clean. on_err r (λ kept. keeps_then a b c (early clean).goes_on kept) (q.undone clean);
+        cause = λ clean inside has. let one = early clean in reason_then a b c r one.goes_on p.crash.counts (q.cause clean (rw one.goes_on.mode inside) ((one.changes has).schema ∙ has));
         crash = survives_then a b c _ _ (λ _. ⊥) (λ _ db none. none) (λ _ db none. none) p.crash q.crash;
       }
 
@@ -164,13 +160,13 @@ module _ (table : Table) where
   adds_some rows more a b c r p q = writes_then (adds rows) (adds more) (adds (rows ++ more)) (λ before. append_assoc before rows more) a b c (tt {0}) r p q
 
   -- what a failed call would have changed is not asked
-  pub fails : {X Y : Type 0} (change other : List Row → List Row) (a b : State) (r : Result X Error) (out : Result Y Error) → IsErr r → IsErr out → Writes table change a b r → Writes table other a b out
-  fails change other a b (Ok x) out bad end p = absurd cc
-  fails change other a b (Err e') (Ok y) bad end p = absurd cc
-  fails change other a b (Err e') (Err f') bad end p = record { done = λ _. tt {0}; undone = p.undone; crash = p.crash }
+  pub fails : {X Y : Type 0} (change other : List Row → List Row) (a b : State) (r : Result X Error) (e : Error) (out : Result Y Error) → r ≡ Err e → out ≡ Err e → Writes table change a b r → Writes table other a b out
+  fails change other a b (Ok x) e out bad end p = absurd cc
+  fails change other a b (Err e') e (Ok y) bad end p = absurd cc
+  fails change other a b (Err e') e (Err f') bad end p = let same : e' ≡ f' = cc in record { done = λ _. tt {0}; undone = p.undone; cause = λ clean inside has. rw same at (p.cause clean inside has); crash = p.crash }
 
   pub succeeds : {X Y : Type 0} (change : List Row → List Row) (a b : State) (r : Result X Error) (x : X) (y : Y) → r ≡ Ok x → Writes table change a b r → Writes table change a b (Ok y)
-  succeeds change a b (Ok x') x y ok p = record { done = p.done; undone = λ _. tt {0}; crash = p.crash }
+  succeeds change a b (Ok x') x y ok p = record { done = p.done; undone = λ _. tt {0}; cause = λ _ _ _. tt {0}; crash = p.crash }
   succeeds change a b (Err e) x y ok p = absurd cc
 
   -- a loop that adds the rows of a part of the elements at each turn
@@ -186,7 +182,7 @@ module _ (table : Table) where
         subst (λ rows. HasWritten table (adds rows) a c) (sym (split low))
         (succeeds (adds (map row_of (take i xs) ++ map row_of (slice_range xs i j))) a c r n (tt {0}) ok (adds_some (map row_of (take i xs)) (map row_of (slice_range xs i j)) a b c r p q))
 
-    pub part_failed : (out : Result (Unit {0}) Error) (other : List Row → List Row) → IsErr r → IsErr out → HasWritten table (adds (map row_of (take i xs))) a b
+    pub part_failed : (e : Error) (out : Result (Unit {0}) Error) (other : List Row → List Row) → r ≡ Err e → out ≡ Err e → HasWritten table (adds (map row_of (take i xs))) a b
         → Writes table (adds (map row_of (slice_range xs i j))) b c r → Writes table other a c out
-    part_failed out other bad end p q =
-        fails (adds (map row_of (take i xs) ++ map row_of (slice_range xs i j))) other a c r out bad end (adds_some (map row_of (take i xs)) (map row_of (slice_range xs i j)) a b c r p q)
+    part_failed e out other bad end p q =
+        fails (adds (map row_of (take i xs) ++ map row_of (slice_range xs i j))) other a c r e out bad end (adds_some (map row_of (take i xs)) (map row_of (slice_range xs i j)) a b c r p q)

@@ -12,7 +12,7 @@ use Rattle.site_tables.specs.Stored.{Contents, Holds, WritesAll}
 use Rattle.site_tables.specs.Tables.{store, site, address, event, part, quarantine, outbox, seen, parent, recall, site_schema}
 use Rattle.site_tables.specs.TableRows.{HasRows, Keeps, Writes}
 use Rattle.site_tables.specs.Values.{store_values}
-use Rattle.site_tables.proofs.Steps.{goes_then, keeps_then, on_ok, on_err}
+use Rattle.site_tables.proofs.Steps.{goes_then, keeps_then, reason_then, on_ok, on_err}
 
 -- a change of one table is one of all tables, by what it makes of their rows
 in_all : {X : Type 0} (table : Table) (f : List Row → List Row) (change : Contents → Contents)
@@ -21,9 +21,11 @@ in_all : {X : Type 0} (table : Table) (f : List Row → List Row) (change : Cont
 in_all table f change holds a b r p = record {
   done = λ clean. on_ok r (λ d. record {
     goes_on = d.goes_on;
-    holds = λ has rows h. let it = d.changes has in (it.schema ∙ has, holds a.now.trees b.now.trees rows it.rows (λ t other plain. it.others t other (rw has plain)) h);
+    schema = λ has. (d.changes has).schema ∙ has;
+    holds = λ has rows h. let it = d.changes has in holds a.now.trees b.now.trees rows it.rows (λ t other plain. it.others t other (rw has plain)) h;
   }) (p.done clean);
   undone = p.undone;
+  cause = p.cause;
   crash = p.crash;
 }
 
@@ -80,9 +82,11 @@ all_then f h a b c (Ok y) x r ok p q =
     record {
       done = λ clean. on_ok r (λ d. record {
         goes_on = goes_then a b c (early clean).goes_on d.goes_on;
-        holds = λ has rows held. let one = (early clean).holds has rows held in d.holds one.0 (f rows) one.1;
+        schema = λ has. d.schema ((early clean).schema has);
+        holds = λ has rows held. d.holds ((early clean).schema has) (f rows) ((early clean).holds has rows held);
       }) (q.done clean);
       undone = λ clean. on_err r (λ kept. keeps_then a b c (early clean).goes_on kept) (q.undone clean);
+      cause = λ clean inside has. let one = early clean in reason_then a b c r one.goes_on p.crash.counts (q.cause clean (rw one.goes_on.mode inside) (one.schema has));
       crash = survives_then a b c _ _ (λ _. ⊥) (λ _ db none. none) (λ _ db none. none) p.crash q.crash;
     }
 
@@ -90,15 +94,20 @@ all_then f h a b c (Ok y) x r ok p q =
 pub all_fail : {X Y : Type 0} (f h : Contents → Contents) (a b : State) (q : Result X Error) (e : Error) (r : Result Y Error) → q ≡ Err e → r ≡ Err e → WritesAll f a b q → WritesAll h a b r
 all_fail f h a b (Ok x) e r bad end p = absurd cc
 all_fail f h a b (Err d) e (Ok y) bad end p = absurd cc
-all_fail f h a b (Err d) e (Err c) bad end p = record { done = λ _. tt {0}; undone = p.undone; crash = p.crash }
+all_fail f h a b (Err d) e (Err c) bad end p = let same : d ≡ c = cc in record { done = λ _. tt {0}; undone = p.undone; cause = λ clean inside has. rw same at (p.cause clean inside has); crash = p.crash }
+
+pub then_fails : {X Y Z : Type 0} (f h other : Contents → Contents) (a b c : State) (q : Result X Error) (x : X) (r : Result Y Error) (e : Error) (out : Result Z Error) → q ≡ Ok x → r ≡ Err e → out ≡ Err e → WritesAll f a b q → WritesAll h b c r
+    → WritesAll other a c out
+then_fails f h other a b c q x r e out went bad end p t = all_fail (λ rows. h (f rows)) other a c r e out bad end (all_then f h a b c q x r went p t)
 
 pub all_succeed : {X Y : Type 0} (f : Contents → Contents) (a b : State) (q : Result X Error) (x : X) (y : Y) → q ≡ Ok x → WritesAll f a b q → WritesAll f a b (Ok y)
-all_succeed f a b (Ok z) x y ok p = record { done = p.done; undone = λ _. tt {0}; crash = p.crash }
+all_succeed f a b (Ok z) x y ok p = record { done = p.done; undone = λ _. tt {0}; cause = λ _ _ _. tt {0}; crash = p.crash }
 all_succeed f a b (Err e) x y ok p = absurd cc
 
 pub nothing_in_all : (s : State) → Survives s s (λ _. ⊥) → WritesAll (λ c. c) s s (Ok (tt {0}))
 nothing_in_all s quiet = record {
-  done = λ _. record { goes_on = record { is_open = refl; committed = refl; mode = refl }; holds = λ has rows h. (has, h) };
+  done = λ _. record { goes_on = record { is_open = refl; committed = refl; mode = refl }; schema = λ has. has; holds = λ has rows h. h };
   undone = λ _. tt {0};
+  cause = λ _ _ _. tt {0};
   crash = quiet;
 }

@@ -11,6 +11,7 @@ use Rattle.sqlite.specs.Given.{IsPlain}
 use Rattle.sqlite.specs.Listing.{understood}
 use Rattle.sqlite.proofs.Callers.{command_of}
 use Rattle.sqlite_schema.specs.declared.schema.Keys.TheVariants.{Enforced}
+use Rattle.site_tables.specs.Causes.{IsAlone}
 use Rattle.site_tables.specs.TableRows.{Changes, adds}
 use Rattle.site_tables.specs.Tables.{site_schema}
 
@@ -20,5 +21,6 @@ pub record Inserts {X : Type 0} (table : Table) (row_of : X → Row) (count : �
   pub from : Source
   pub command : command_of (understood site_schema sql) ≡ Insert at from
   pub plain : IsPlain (understood site_schema sql)
+  pub alone : (xs : List X) → length xs ≡ count → IsAlone site_schema sql (length (flat_map row_of xs))
   pub adds : (xs : List X) → length xs ≡ count → (limit : Option ℕ) (db after : Database) (tally : Tally) (text : List ℕ) → db.schema ≡ site_schema
       → Does limit (record { keys = Enforced; in_doubt = false; may_wait = false }) (flat_map row_of xs) db text None (Insert at from) (Ok (tally, after)) → Changes table (adds (map row_of xs)) db after

@@ -1,4 +1,5 @@
 pub mod AllReads
+pub mod Causes
 pub mod Changed
 pub mod Commands
 pub mod Filled
@@ -10,5 +11,6 @@ pub mod Stored
 pub mod TableRows
 pub mod Tables
 pub mod Texts
+pub mod Trying
 pub mod Unreadable
 pub mod Values

@@ -1,11 +1,12 @@
 -- The tables, made in their order.
-use Rattle.std.specs.Prelude.{◌≡◌, List, [], ◌∷◌, Result, OnOk, OnErr}
+use Rattle.std.specs.Prelude.{◌≡◌, List, [], ◌∷◌, Result, IsTrue, OnOk, OnErr, IfErr}
 use Rattle.sqlite.specs.State.{State, HasCleanDisk, KeepsCommit, Survives}
 use Rattle.sqlite.specs.Table.{Table}
 use Rattle.sqlite.specs.Tree.{Trees}
 use Rattle.sqlite.specs.Schema.{Schema}
 use Rattle.sqlite.specs.declared.error.Error.{Error}
 use Rattle.sqlite_catalog.specs.Change.{created}
+use Rattle.site_tables.specs.Causes.{HasReason}
 use Rattle.site_tables.specs.Tables.{store, site, address, event, part, quarantine, outbox, seen, parent, recall, no_schema}
 use Rattle.site_tables.specs.TableRows.{GoesOn}
 
@@ -53,4 +54,5 @@ pub record DoesMake (from to : Schema) (old new : State) : Type 0 where
 pub record MakesTables {X : Type 0} (from to : Schema) (old new : State) (result : Result X Error) : Type 0 where
   pub done : HasCleanDisk new → OnOk result (DoesMake from to old new)
   pub undone : HasCleanDisk new → OnErr result (KeepsCommit old new)
+  pub cause : HasCleanDisk new → IsTrue old.in_transaction → old.now.schema ≡ from → IfErr result (HasReason old new)
   pub crash : Survives old new (λ _. ⊥)

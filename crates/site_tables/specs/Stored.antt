@@ -1,9 +1,10 @@
 -- The rows of all tables, and a connection that keeps them.
-use Rattle.std.specs.Prelude.{◌≡◌, ◌⊎◌, false, List, [], map, IsTrue, Result, OnOk, OnErr}
+use Rattle.std.specs.Prelude.{◌≡◌, ◌⊎◌, false, List, [], map, IsTrue, Result, OnOk, OnErr, IfErr}
 use Rattle.sqlite.specs.Order.{Row}
 use Rattle.sqlite.specs.Tree.{Trees}
 use Rattle.sqlite.specs.State.{State, HasCleanDisk, KeepsCommit, Survives}
 use Rattle.sqlite.specs.declared.error.Error.{Error}
+use Rattle.site_tables.specs.Causes.{HasReason}
 use Rattle.site_rows.specs.declared.rows.Rows.{Rows}
 use Rattle.site_rows.specs.declared.rows.StoreRow.{StoreRow}
 use Rattle.site_tables.specs.Tables.{store, site, address, event, part, quarantine, outbox, seen, parent, recall, site_schema}
@@ -69,11 +70,13 @@ pub record IsStopped (before after : Contents) (s : State) : Type 0 where
 -- the rows are changed so, and the transaction goes on
 pub record DoesAll (change : Contents → Contents) (old new : State) : Type 0 where
   pub goes_on : GoesOn old new
-  pub holds : old.now.schema ≡ site_schema → (rows : Contents) → Holds rows old.now.trees → (new.now.schema ≡ site_schema) × Holds (change rows) new.now.trees
+  pub schema : old.now.schema ≡ site_schema → new.now.schema ≡ site_schema
+  pub holds : old.now.schema ≡ site_schema → (rows : Contents) → Holds rows old.now.trees → Holds (change rows) new.now.trees
 
 pub record WritesAll {X : Type 0} (change : Contents → Contents) (old new : State) (result : Result X Error) : Type 0 where
   pub done : HasCleanDisk new → OnOk result (DoesAll change old new)
   pub undone : HasCleanDisk new → OnErr result (KeepsCommit old new)
+  pub cause : HasCleanDisk new → IsTrue old.in_transaction → old.now.schema ≡ site_schema → IfErr result (HasReason old new)
   pub crash : Survives old new (λ _. ⊥)
 
 abbrev pub no_rows : Contents

@@ -1,5 +1,5 @@
 -- What a database holds, as rows without hidden rowids.
-use Rattle.std.specs.Prelude.{◌≡◌, ◌∷◌, ℕ, Bool, true, false, ◌==◌, List, [], ◌++◌, map, length, IsPermutation, Option, unwrap_or, zero, suc, Result, OnOk, OnErr, Ok, Err, IsTrue, not, ◌&&◌, ◌+◌, filter, fold}
+use Rattle.std.specs.Prelude.{◌≡◌, ◌∷◌, ℕ, Bool, true, false, ◌==◌, List, [], ◌++◌, map, length, IsPermutation, Option, unwrap_or, zero, suc, Result, OnOk, OnErr, IfErr, Ok, IsTrue, not, ◌&&◌, ◌+◌, filter, fold}
 use Rattle.std.specs.List.{range_with_len, list_any}
 use Rattle.sqlite.specs.Collation.TheVariants.{Binary}
 use Rattle.sqlite_trees.specs.Tree.{IsTable}
@@ -8,11 +8,10 @@ use Rattle.sqlite.specs.Table.{Table}
 use Rattle.sqlite.specs.Schema.{Schema}
 use Rattle.sqlite.specs.Tree.{Trees}
 use Rattle.sqlite.specs.Effect.{Database}
-use Rattle.sqlite.specs.State.{State, HasCleanDisk, KeepsCommit, Survives, ExecutesInside}
-use Rattle.sqlite_trees.specs.declared.store.Store.{Ghosts}
-use Rattle.sqlite.specs.Held.{Held, state}
+use Rattle.sqlite.specs.State.{State, HasCleanDisk, KeepsCommit, Survives}
 use Rattle.sqlite.specs.declared.error.Error.{Error}
 use Rattle.sqlite_catalog.specs.Change.{created, next_tree, KeepsRows}
+use Rattle.site_tables.specs.Causes.{HasReason}
 use Rattle.site_tables.specs.Tables.{site_schema}
 use Rattle.sqlite_value.specs.Order.{column}
 use Rattle.sqlite_schema.specs.Rules.{equal}
@@ -56,19 +55,16 @@ pub record Does (table : Table) (change : List Row → List Row) (old new : Stat
   pub goes_on : GoesOn old new
   pub changes : old.now.schema ≡ site_schema → Changes table change old.now new.now
 
--- a call inside a transaction changes one table so if it is Ok, and commits nothing, so that a crash leaves the old rows
+-- a call inside a transaction changes one table so if it is Ok, fails only for a reason, and commits nothing, so that a crash leaves the old rows
 pub record Writes {X : Type 0} (table : Table) (change : List Row → List Row) (old new : State) (result : Result X Error) : Type 0 where
   pub done : HasCleanDisk new → OnOk result (Does table change old new)
   pub undone : HasCleanDisk new → OnErr result (KeepsCommit old new)
+  pub cause : HasCleanDisk new → IsTrue old.in_transaction → old.now.schema ≡ site_schema → IfErr result (HasReason old new)
   pub crash : Survives old new (λ _. ⊥)
 
 -- so far all calls were Ok
 abbrev pub HasWritten : Table → (List Row → List Row) → State → State → Type 0
 HasWritten table change old new = Writes table change old new (Ok (tt {0}))
-
--- the error is that of the text, run after other calls that went on
-abbrev pub FailsInside : {S : Type 0} → Ghosts S → List ℕ → Held S → Held S → Error → Type 0
-FailsInside {S} g sql old new e = (mid : Held S) × (params : Row) × GoesOn (state g old) (state g mid) × (IsTrue mid.in_transaction → ExecutesInside 0 sql params (state g mid) (state g new) (Err e))
 
 -- the column of a place of a key, where place 0 is the rowid
 abbrev pub column_at : Option ℕ → ℕ → ℕ
@@ -100,6 +96,7 @@ pub record Makes (table : Table) (schema : Schema) (old new : State) : Type 0 wh
 pub record Creates {X : Type 0} (table : Table) (schema : Schema) (old new : State) (result : Result X Error) : Type 0 where
   pub done : HasCleanDisk new → OnOk result (Makes table schema old new)
   pub undone : HasCleanDisk new → OnErr result (KeepsCommit old new)
+  pub cause : HasCleanDisk new → IsTrue old.in_transaction → old.now.schema ≡ schema → IfErr result (HasReason old new)
   pub crash : Survives old new (λ _. ⊥)
 
 -- the row in place of those of its key, or besides the others

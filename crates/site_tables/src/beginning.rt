@@ -1,7 +1,8 @@
 //! A site's tables made, with the rows of the site, in one transaction.
-ghost use Rattle.std.specs.Prelude.{◌≡◌, false, OnOk};
+ghost use Rattle.std.specs.Prelude.{◌≡◌, false, IfErr, OnOk};
 ghost use Rattle.sqlite.specs.State.{HasCleanDisk, Survives};
 ghost use Rattle.sqlite.specs.Held.{state};
+ghost use Rattle.site_tables.specs.Causes.{HasReason};
 ghost use Rattle.site_tables.specs.Filled.{with_sites, with_events, with_messages, with_recalls, with_rows};
 ghost use Rattle.site_tables.specs.Stored.{Holds, IsStored, WritesAll, contents_of};
 ghost use Rattle.site_tables.specs.Tables.{no_schema};
@@ -90,7 +91,7 @@ fn fill<S: Alter>(
 /// them, or all with these rows.
 ///
 /// # Errors
-/// The database's.
+/// The database's: its store failed, for a cause that shows, or it refused a statement.
 pub fn create_site<S: Alter>(
     alloc: Global,
     conn: &mut Connection<S>,
@@ -100,6 +101,8 @@ pub fn create_site<S: Alter>(
     ensures mode { conn.new.in_transaction ≡ false }
     ensures stored { HasCleanDisk (state S.Store conn.new) → (state S.Store conn.old).now.schema ≡ no_schema
         → OnOk result (IsStored (contents_of rows.now) (state S.Store conn.new)) }
+    ensures cause { HasCleanDisk (state S.Store conn.new) → (state S.Store conn.old).now.schema ≡ no_schema
+        → IfErr result (HasReason (state S.Store conn.old) (state S.Store conn.new)) }
     ensures crash { Survives (state S.Store conn.old) (state S.Store conn.new) (λ db. (state S.Store conn.old).now.schema ≡ no_schema → Holds (contents_of rows.now) db) }
 {
     let mut written: u64 = 0;

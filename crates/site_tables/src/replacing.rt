@@ -1,11 +1,9 @@
 //! One function for each text that replaces rows or takes them out. Each counts the row that it writes.
-ghost use Rattle.std.specs.Prelude.{◌≡◌, ◌+◌, [], ◌∷◌, map, min, IfErr};
+ghost use Rattle.std.specs.Prelude.{◌≡◌, ◌+◌, [], ◌∷◌, map, min};
 ghost use Rattle.sqlite.specs.declared.types.Value.TheVariants.{Int};
-ghost use Rattle.sqlite.specs.State.{HasCleanDisk};
 ghost use Rattle.sqlite.specs.Held.{state};
 ghost use Rattle.site_tables.specs.Tables.{outbox, recall, parent, store};
-ghost use Rattle.site_tables.specs.TableRows.{Writes, without_key, puts, FailsInside};
-ghost use Rattle.site_tables.specs.Texts as text;
+ghost use Rattle.site_tables.specs.TableRows.{Writes, without_key, puts};
 ghost use Rattle.site_tables.specs.Values.{outbox_values, recall_values, recall_key, sets_numbers};
 
 use crate::counting::count_one;
@@ -20,7 +18,6 @@ pub fn upsert_outbox<S: Alter>(
 ) -> Result<usize, Error>
     ensures same_reference { tx.new.conn.ghost_name ≡ tx.old.conn.ghost_name }
     ensures wrote { Writes outbox (puts outbox (outbox_values row.now)) (state S.Store tx.old.conn.now) (state S.Store tx.new.conn.now) result }
-    ensures cause { HasCleanDisk (state S.Store tx.new.conn.now) → IfErr result (FailsInside S.Store text.upsert_outbox tx.old.conn.now tx.new.conn.now) }
     ensures counted { written.new ≡ min 18_446_744_073_709_551_615 (written.old + 1) }
 {
     count_one(written);
@@ -45,7 +42,6 @@ pub fn upsert_recall<S: Alter>(
 ) -> Result<usize, Error>
     ensures same_reference { tx.new.conn.ghost_name ≡ tx.old.conn.ghost_name }
     ensures wrote { Writes recall (puts recall (recall_values row.now)) (state S.Store tx.old.conn.now) (state S.Store tx.new.conn.now) result }
-    ensures cause { HasCleanDisk (state S.Store tx.new.conn.now) → IfErr result (FailsInside S.Store text.upsert_recall tx.old.conn.now tx.new.conn.now) }
     ensures counted { written.new ≡ min 18_446_744_073_709_551_615 (written.old + 1) }
 {
     count_one(written);
@@ -64,7 +60,6 @@ pub fn delete_outbox<S: Alter>(
 ) -> Result<usize, Error>
     ensures same_reference { tx.new.conn.ghost_name ≡ tx.old.conn.ghost_name }
     ensures wrote { Writes outbox (without_key outbox (Int number.now ∷ [])) (state S.Store tx.old.conn.now) (state S.Store tx.new.conn.now) result }
-    ensures cause { HasCleanDisk (state S.Store tx.new.conn.now) → IfErr result (FailsInside S.Store text.delete_outbox tx.old.conn.now tx.new.conn.now) }
     ensures counted { written.new ≡ min 18_446_744_073_709_551_615 (written.old + 1) }
 {
     count_one(written);
@@ -79,7 +74,6 @@ pub fn delete_parent<S: Alter>(
 ) -> Result<usize, Error>
     ensures same_reference { tx.new.conn.ghost_name ≡ tx.old.conn.ghost_name }
     ensures wrote { Writes parent (without_key parent (recall_key key.now)) (state S.Store tx.old.conn.now) (state S.Store tx.new.conn.now) result }
-    ensures cause { HasCleanDisk (state S.Store tx.new.conn.now) → IfErr result (FailsInside S.Store text.delete_parent tx.old.conn.now tx.new.conn.now) }
     ensures counted { written.new ≡ min 18_446_744_073_709_551_615 (written.old + 1) }
 {
     count_one(written);
@@ -97,7 +91,6 @@ pub fn update_store<S: Alter>(
 ) -> Result<usize, Error>
     ensures same_reference { tx.new.conn.ghost_name ≡ tx.old.conn.ghost_name }
     ensures wrote { Writes store (map (sets_numbers numbers.now)) (state S.Store tx.old.conn.now) (state S.Store tx.new.conn.now) result }
-    ensures cause { HasCleanDisk (state S.Store tx.new.conn.now) → IfErr result (FailsInside S.Store text.update_store tx.old.conn.now tx.new.conn.now) }
     ensures counted { written.new ≡ min 18_446_744_073_709_551_615 (written.old + 1) }
 {
     count_one(written);

@@ -3,6 +3,7 @@ ghost use Rattle.std.specs.Prelude.{◌≡◌, ◌+◌, false, length, min, IsTr
 ghost use Rattle.sqlite.specs.Tree.{Trees};
 ghost use Rattle.sqlite.specs.State.{HasCleanDisk, IsUnchanged, Survives};
 ghost use Rattle.sqlite.specs.Held.{state};
+ghost use Rattle.site_tables.specs.Causes.{HasReason};
 ghost use Rattle.site_tables.specs.Changed.{captured, recalled, signalled, renumbered, changed, rows_written, numbers_written};
 ghost use Rattle.site_tables.specs.Stored.{Contents, Holds, IsStored, IsStopped, WritesAll};
 
@@ -102,8 +103,8 @@ fn write_changes<S: Alter>(
 /// database.
 ///
 /// # Errors
-/// The database's. While the connection is open a crash then leaves the rows of before; once it is shut, those or
-/// the changed ones, and no others.
+/// The database's: its store failed, for a cause that shows, or it refused a statement. While the connection is open a
+/// crash then leaves the rows of before; once it is shut, those or the changed ones, and no others.
 pub fn store_changes<S: Alter>(
     alloc: Global,
     conn: &mut Connection<S>,
@@ -117,6 +118,8 @@ pub fn store_changes<S: Alter>(
     ensures stopped { HasCleanDisk (state S.Store conn.new) → (before : Contents) → IsStored before (state S.Store conn.old)
         → OnErr result (IsStopped before (changed changes.now before) (state S.Store conn.new)) }
     ensures crash { Survives (state S.Store conn.old) (state S.Store conn.new) (λ db. (before : Contents) → IsStored before (state S.Store conn.old) → Holds (changed changes.now before) db) }
+    ensures cause { HasCleanDisk (state S.Store conn.new) → (before : Contents) → IsStored before (state S.Store conn.old)
+        → IfErr result (HasReason (state S.Store conn.old) (state S.Store conn.new)) }
     ensures counted { OnOk result (written.new ≡ min 18_446_744_073_709_551_615 (written.old + rows_written changes.now)) }
 {
     let mut tx = conn.transaction();

@@ -3,6 +3,8 @@ ghost use Rattle.std.specs.Prelude.{◌≡◌, ◌+◌, false, min, IsTrue, IfEr
 ghost use Rattle.sqlite.specs.Tree.{Trees};
 ghost use Rattle.sqlite.specs.State.{HasCleanDisk, IsUnchanged, Survives};
 ghost use Rattle.sqlite.specs.Held.{state};
+ghost use Rattle.site_tables.specs.Causes.{HasReason};
+ghost use Rattle.site_tables.specs.Trying.{error_in};
 ghost use Rattle.site_tables.specs.Changed.{changed, rows_written};
 ghost use Rattle.site_tables.specs.Stored.{Contents, Holds, IsStored, IsStopped};
 
@@ -37,7 +39,7 @@ pub fn settled<S: Alter>(conn: &Connection<S>)
 /// Makes these changes, in one transaction, and counts the rows that it writes, as [`store_changes`].
 ///
 /// # Errors
-/// The database's, with what it leaves: the connection open, with the rows of before and no others, or perhaps shut.
+/// The database's, as [`store_changes`], with what it leaves: the connection open, with the rows of before and no others, or perhaps shut.
 pub fn try_changes<S: Alter>(
     alloc: Global,
     conn: &mut Connection<S>,
@@ -49,6 +51,8 @@ pub fn try_changes<S: Alter>(
         → OnOk result (IsStored (changed changes.now before) (state S.Store conn.new)) }
     ensures kept { HasCleanDisk (state S.Store conn.new) → (before : Contents) → IsStored before (state S.Store conn.old)
         → IfErr result (λ left. (e : _) → left ≡ Left.Kept e → IsStored before (state S.Store conn.new)) }
+    ensures cause { HasCleanDisk (state S.Store conn.new) → (before : Contents) → IsStored before (state S.Store conn.old)
+        → IfErr result (λ left. HasReason (state S.Store conn.old) (state S.Store conn.new) (error_in left)) }
     ensures crash { Survives (state S.Store conn.old) (state S.Store conn.new) (λ db. (before : Contents) → IsStored before (state S.Store conn.old) → Holds (changed changes.now before) db) }
     ensures counted { OnOk result (written.new ≡ min 18_446_744_073_709_551_615 (written.old + rows_written changes.now)) }
 {

@@ -1,4 +1,4 @@
-use Rattle.std.proofs.Common.{rules, arith, refl, pos, get_or, [], ◌∷◌}
+use Rattle.std.proofs.Common.{rules, arith, pos, get_or, [], ◌∷◌}
 use Rattle.std.proofs.lemmas.List.{get_or_default}
 use Rattle.sqlite.specs.Held.{state}
 use Rattle.sqlite.specs.declared.types.Value.TheVariants.{Int}
@@ -21,4 +21,4 @@ loop-number-preserved g c =
 pub returns-in_err-delete_outbox-clause-wrote : goal.returns-in_err-delete_outbox-clause-wrote
 returns-in_err-delete_outbox-clause-wrote g c =
     each_failed outbox (λ number. without_key outbox (Int number ∷ [])) c.args.numbers.now c.loop-number.number-index (get_or c.args.numbers.now c.loop-number.number-index (pos 0)) (state g.S.Store c.args.tx.now.conn.now) (state g.S.Store c.loop-number.tx.conn.now) (state g.S.Store c.delete_outbox.new.tx.conn.now) c.delete_outbox.result
-    c.from_residual.result _ (rw c.in_err-delete_outbox.was refl) c.from_residual.ensures.0 c.loop-number.invariant.1 c.delete_outbox.ensures.wrote
+    _ c.from_residual.result _ c.in_err-delete_outbox.was (search rules) c.loop-number.invariant.1 c.delete_outbox.ensures.wrote

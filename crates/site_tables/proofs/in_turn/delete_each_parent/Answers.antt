@@ -1,4 +1,4 @@
-use Rattle.std.proofs.Common.{rules, arith, refl, pos, get_or}
+use Rattle.std.proofs.Common.{rules, arith, pos, get_or}
 use Rattle.std.proofs.lemmas.List.{get_or_default}
 use Rattle.sqlite.specs.Held.{state}
 use Rattle.site_rows.specs.declared.changes.RecallKey.{RecallKey}
@@ -25,4 +25,4 @@ loop-key-preserved g c =
 pub returns-in_err-delete_parent-clause-wrote : goal.returns-in_err-delete_parent-clause-wrote
 returns-in_err-delete_parent-clause-wrote g c =
     each_failed parent (λ key. without_key parent (recall_key key)) c.args.keys.now c.loop-key.key-index (get_or c.args.keys.now c.loop-key.key-index no_key) (state g.S.Store c.args.tx.now.conn.now) (state g.S.Store c.loop-key.tx.conn.now) (state g.S.Store c.delete_parent.new.tx.conn.now) c.delete_parent.result
-    c.from_residual.result _ (rw c.in_err-delete_parent.was refl) c.from_residual.ensures.0 c.loop-key.invariant.1 c.delete_parent.ensures.wrote
+    _ c.from_residual.result _ c.in_err-delete_parent.was (search rules) c.loop-key.invariant.1 c.delete_parent.ensures.wrote

@@ -1,4 +1,4 @@
-use Rattle.std.proofs.Common.{rules, arith, refl}
+use Rattle.std.proofs.Common.{rules, arith}
 use Rattle.sqlite.specs.Held.{state}
 use Rattle.site_tables.specs.TableRows.{puts}
 use Rattle.site_tables.specs.Values.{recall_values}
@@ -20,4 +20,4 @@ loop-row-preserved g c =
 pub returns-in_err-upsert_recall-clause-wrote : goal.returns-in_err-upsert_recall-clause-wrote
 returns-in_err-upsert_recall-clause-wrote g c =
     each_failed recall (λ row. puts recall (recall_values row)) c.args.rows.now c.loop-row.row-index (c.row-item.result) (state g.S.Store c.args.tx.now.conn.now) (state g.S.Store c.loop-row.tx.conn.now) (state g.S.Store c.upsert_recall.new.tx.conn.now) c.upsert_recall.result
-    c.from_residual.result _ (rw c.in_err-upsert_recall.was refl) c.from_residual.ensures.0 c.loop-row.invariant.1 c.upsert_recall.ensures.wrote
+    _ c.from_residual.result _ c.in_err-upsert_recall.was (search rules) c.loop-row.invariant.1 c.upsert_recall.ensures.wrote

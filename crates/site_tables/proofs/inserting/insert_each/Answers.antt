@@ -1,4 +1,4 @@
-use Rattle.std.proofs.Common.{◌+◌, refl, rules, arith}
+use Rattle.std.proofs.Common.{◌+◌, rules, arith}
 use Rattle.sqlite.specs.Held.{state}
 use Rattle.site_tables.proofs.Steps.{part_added, part_failed}
 use Rattle.site_tables.proofs.inserting.insert_each.Goals as goal
@@ -18,4 +18,4 @@ pub returns-in_err-insert_together-clause-wrote : goal.returns-in_err-insert_tog
 returns-in_err-insert_together-clause-wrote g c =
     let at = c.loop-at.at in
     part_failed g.T.Stored.listed g.T.Stored.shown c.args.rows.now at (at + 1) (state g.S.Store c.args.tx.now.conn.now) (state g.S.Store c.loop-at.tx.conn.now) (state g.S.Store c.insert_together.new.tx.conn.now) c.insert_together.result
-    c.from_residual-in_err-insert_together.result _ (rw c.in_err-insert_together.was refl) c.from_residual-in_err-insert_together.ensures.0 c.loop-at.invariant.1 c.insert_together.ensures.wrote
+    _ c.from_residual-in_err-insert_together.result _ c.in_err-insert_together.was (search rules) c.loop-at.invariant.1 c.insert_together.ensures.wrote

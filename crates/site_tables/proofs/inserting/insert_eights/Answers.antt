@@ -1,4 +1,4 @@
-use Rattle.std.proofs.Common.{◌≡◌, ◌+◌, ◌*◌, take, map, subst, refl, rules, arith}
+use Rattle.std.proofs.Common.{◌≡◌, ◌+◌, ◌*◌, take, map, subst, rules, arith}
 use Rattle.sqlite.specs.Held.{state}
 use Rattle.site_tables.specs.TableRows.{HasWritten, adds}
 use Rattle.site_tables.proofs.Steps.{part_added, part_failed}
@@ -21,4 +21,4 @@ pub returns-in_err-insert_together-clause-wrote : goal.returns-in_err-insert_tog
 returns-in_err-insert_together-clause-wrote g c =
     let from = c.loop-group.group * 8 in
     part_failed g.T.Stored.listed g.T.Stored.shown c.args.rows.now from (from + 8) (state g.S.Store c.args.tx.now.conn.now) (state g.S.Store c.loop-group.tx.conn.now) (state g.S.Store c.insert_together.new.tx.conn.now) c.insert_together.result
-    c.from_residual.result _ (rw c.in_err-insert_together.was refl) c.from_residual.ensures.0 c.loop-group.invariant.1 c.insert_together.ensures.wrote
+    _ c.from_residual.result _ c.in_err-insert_together.was (search rules) c.loop-group.invariant.1 c.insert_together.ensures.wrote

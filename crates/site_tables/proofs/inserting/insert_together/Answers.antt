@@ -1,4 +1,4 @@
-use Rattle.std.proofs.Common.{◌≡◌, map, refl, ap, ◌∙◌, arith}
+use Rattle.std.proofs.Common.{rules, ◌≡◌, map, ap, ◌∙◌, arith}
 use Rattle.std.specs.List.{flat_map}
 use Rattle.std.proofs.lemmas.List.{take_all}
 use Rattle.sqlite.specs.State.{HasCleanDisk}
@@ -30,6 +30,6 @@ returns-in_err-execute-clause-wrote g c =
     let listed = g.T.Stored.listed in
     let shown = g.T.Stored.shown in
     let values : bound c.as_slice.result.now ≡ flat_map shown rows = ap bound c.as_slice.ensures.value ∙ c.loop-row.invariant.0 ∙ ap (flat_map shown) (take_all c.loop-row.row-index rows (omega (arith, c.loop-row-test.false, c.loop-row.auto.row-index-end))) in
-    fails listed (adds (map shown rows)) (adds (map shown rows)) (state g.S.Store old) (state g.S.Store new) c.execute.result c.from_residual.result (rw c.in_err-execute.was refl) c.from_residual.ensures.0
+    fails listed (adds (map shown rows)) (adds (map shown rows)) (state g.S.Store old) (state g.S.Store new) c.execute.result _ c.from_residual.result c.in_err-execute.was (search rules)
     (inserts listed shown rows c.args.text.now c.requires (state g.S.Store old) (state g.S.Store new) c.execute.result
     (ran g.S.Store c.args.text.now (flat_map shown rows) old new c.execute.result _ it.ended (λ (clean : HasCleanDisk (state g.S.Store new)). rw values at (it.runs clean)) it.survives))

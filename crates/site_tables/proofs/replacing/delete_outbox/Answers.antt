@@ -6,7 +6,7 @@ use Rattle.site_tables.specs.Tables.{outbox}
 use Rattle.site_tables.specs.Texts.{delete_outbox}
 use Rattle.site_tables.proofs.Meanings.{delete_outbox_is}
 use Rattle.site_tables.proofs.Tables.{outbox_simple}
-use Rattle.site_tables.proofs.Steps.{ran, deletes_of_key, fails_inside}
+use Rattle.site_tables.proofs.Steps.{ran, deletes_of_key}
 use Rattle.site_tables.proofs.replacing.delete_outbox.Goals as goal
 
 pub returns-clause-wrote : goal.returns-clause-wrote
@@ -16,10 +16,5 @@ returns-clause-wrote g c =
     let new = c.execute.new.self.conn.now in
     let params = Int c.args.number.now ∷ [] in
     let runs = λ (clean : HasCleanDisk (state g.S.Store new)). rw c.params-to_sql.ensures at (it.runs clean) in
-    deletes_of_key 6 outbox outbox_simple delete_outbox delete_outbox_is params (λ _. refl) (state g.S.Store old) (state g.S.Store new) c.execute.result
+    deletes_of_key 6 outbox outbox_simple delete_outbox params delete_outbox_is (λ _. refl) (state g.S.Store old) (state g.S.Store new) c.execute.result
     (ran g.S.Store delete_outbox params old new c.execute.result _ it.ended runs it.survives)
-
-pub returns-clause-cause : goal.returns-clause-cause
-returns-clause-cause g c clean =
-    let old = c.args.tx.now.conn.now in
-    fails_inside g.S.Store delete_outbox _ old old c.execute.new.self.conn.now (record { is_open = refl; committed = refl; mode = refl }) c.execute.result (c.execute.ensures.runs clean)

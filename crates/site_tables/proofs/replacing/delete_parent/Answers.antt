@@ -6,7 +6,7 @@ use Rattle.site_tables.specs.Texts.{delete_parent}
 use Rattle.site_tables.specs.Values.{recall_key}
 use Rattle.site_tables.proofs.Meanings.{delete_parent_is}
 use Rattle.site_tables.proofs.Tables.{parent_simple}
-use Rattle.site_tables.proofs.Steps.{ran, deletes_of_key, fails_inside}
+use Rattle.site_tables.proofs.Steps.{ran, deletes_of_key}
 use Rattle.site_tables.proofs.replacing.delete_parent.Goals as goal
 
 pub returns-clause-wrote : goal.returns-clause-wrote
@@ -16,10 +16,5 @@ returns-clause-wrote g c =
     let new = c.execute.new.self.conn.now in
     let params = recall_key c.args.key.now in
     let runs = λ (clean : HasCleanDisk (state g.S.Store new)). rw (c.params-to_sql.ensures, c.params-to_sql-2.ensures) at (it.runs clean) in
-    deletes_of_key 8 parent parent_simple delete_parent delete_parent_is params (λ _. refl) (state g.S.Store old) (state g.S.Store new) c.execute.result
+    deletes_of_key 8 parent parent_simple delete_parent params delete_parent_is (λ _. refl) (state g.S.Store old) (state g.S.Store new) c.execute.result
     (ran g.S.Store delete_parent params old new c.execute.result _ it.ended runs it.survives)
-
-pub returns-clause-cause : goal.returns-clause-cause
-returns-clause-cause g c clean =
-    let old = c.args.tx.now.conn.now in
-    fails_inside g.S.Store delete_parent _ old old c.execute.new.self.conn.now (record { is_open = refl; committed = refl; mode = refl }) c.execute.result (c.execute.ensures.runs clean)

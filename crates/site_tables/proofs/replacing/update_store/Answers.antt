@@ -1,10 +1,10 @@
-use Rattle.std.proofs.Common.{[], ◌∷◌, refl}
+use Rattle.std.proofs.Common.{[], ◌∷◌}
 use Rattle.sqlite.specs.State.{HasCleanDisk}
 use Rattle.sqlite.specs.Held.{state}
 use Rattle.sqlite.specs.declared.types.Value.TheVariants.{Int}
 use Rattle.site_tables.specs.Texts.{update_store}
 use Rattle.site_tables.proofs.Puts.{updates_numbers}
-use Rattle.site_tables.proofs.Steps.{ran, fails_inside}
+use Rattle.site_tables.proofs.Steps.{ran}
 use Rattle.site_tables.proofs.replacing.update_store.Goals as goal
 
 pub returns-clause-wrote : goal.returns-clause-wrote
@@ -16,8 +16,3 @@ returns-clause-wrote g c =
     let runs = λ (clean : HasCleanDisk (state g.S.Store new)). rw (c.params-to_sql.ensures, c.params-to_sql-2.ensures) at (it.runs clean) in
     updates_numbers c.args.numbers.now (state g.S.Store old) (state g.S.Store new) c.execute.result
     (ran g.S.Store update_store params old new c.execute.result _ it.ended runs it.survives)
-
-pub returns-clause-cause : goal.returns-clause-cause
-returns-clause-cause g c clean =
-    let old = c.args.tx.now.conn.now in
-    fails_inside g.S.Store update_store _ old old c.execute.new.self.conn.now (record { is_open = refl; committed = refl; mode = refl }) c.execute.result (c.execute.ensures.runs clean)

@@ -1,10 +1,9 @@
-use Rattle.std.proofs.Common.{refl}
 use Rattle.sqlite.specs.State.{HasCleanDisk}
 use Rattle.sqlite.specs.Held.{state}
 use Rattle.site_tables.specs.Texts.{upsert_outbox}
 use Rattle.site_tables.specs.Values.{outbox_values}
 use Rattle.site_tables.proofs.Puts.{upserts_outbox}
-use Rattle.site_tables.proofs.Steps.{ran, fails_inside}
+use Rattle.site_tables.proofs.Steps.{ran}
 use Rattle.site_tables.proofs.replacing.upsert_outbox.Goals as goal
 
 pub returns-clause-wrote : goal.returns-clause-wrote
@@ -16,8 +15,3 @@ returns-clause-wrote g c =
     let runs = λ (clean : HasCleanDisk (state g.S.Store new)). rw (c.params-to_sql.ensures, c.params-to_sql-2.ensures, c.params-to_sql-3.ensures, c.params-to_sql-4.ensures, c.params-to_sql-5.ensures, c.as_str-item.ensures) at (it.runs clean) in
     upserts_outbox c.args.row.now (state g.S.Store old) (state g.S.Store new) c.execute.result
     (ran g.S.Store upsert_outbox params old new c.execute.result _ it.ended runs it.survives)
-
-pub returns-clause-cause : goal.returns-clause-cause
-returns-clause-cause g c clean =
-    let old = c.args.tx.now.conn.now in
-    fails_inside g.S.Store upsert_outbox _ old old c.execute.new.self.conn.now (record { is_open = refl; committed = refl; mode = refl }) c.execute.result (c.execute.ensures.runs clean)

@@ -1,6 +1,7 @@
+use Rattle.std.proofs.Common.{rules}
 use Rattle.sqlite.specs.Held.{state}
-use Rattle.site_tables.specs.Changed.{puts_recall, drops_outbox, drops_parent}
-use Rattle.site_tables.proofs.Whole.{outbox_in_all, parent_in_all, recall_in_all, all_then}
+use Rattle.site_tables.specs.Changed.{signalled, puts_recall, drops_outbox, drops_parent}
+use Rattle.site_tables.proofs.Whole.{outbox_in_all, parent_in_all, recall_in_all, all_then, then_fails}
 use Rattle.site_tables.proofs.step.write_signalled.Goals as goal
 
 pub returns-clause-wrote : goal.returns-clause-wrote
@@ -15,3 +16,13 @@ returns-clause-wrote g c =
     let p3 = recall_in_all (puts_recall it.recall) s2 s3 c.upsert_each_recall.result (rw c.as_slice-3.ensures at c.upsert_each_recall.ensures.wrote) in
     let q2 = all_then _ _ s0 s1 s2 c.delete_each_outbox.result c.in_ok-delete_each_outbox.field-0 c.delete_each_parent.result c.in_ok-delete_each_outbox.was p1 p2 in
     all_then _ _ s0 s2 s3 c.delete_each_parent.result c.in_ok-delete_each_parent.field-0 c.upsert_each_recall.result c.in_ok-delete_each_parent.was q2 p3
+
+pub returns-in_err-delete_each_parent-clause-wrote : goal.returns-in_err-delete_each_parent-clause-wrote
+returns-in_err-delete_each_parent-clause-wrote g c =
+    let it = c.args.changes.now in
+    let s0 = state g.S.Store c.args.tx.now.conn.now in
+    let s1 = state g.S.Store c.delete_each_outbox.new.tx.conn.now in
+    let s2 = state g.S.Store c.delete_each_parent.new.tx.conn.now in
+    let p1 = outbox_in_all (drops_outbox it.signalled) s0 s1 c.delete_each_outbox.result (rw c.as_slice.ensures at c.delete_each_outbox.ensures.wrote) in
+    let p2 = parent_in_all (drops_parent it.left) s1 s2 c.delete_each_parent.result (rw c.as_slice-2.ensures at c.delete_each_parent.ensures.wrote) in
+    then_fails _ _ (signalled c.args.changes.now) s0 s1 s2 c.delete_each_outbox.result c.in_ok-delete_each_outbox.field-0 c.delete_each_parent.result _ c.from_residual-in_err-delete_each_parent.result c.in_ok-delete_each_outbox.was c.in_err-delete_each_parent.was (search rules) p1 p2
