@@ -11,11 +11,12 @@ use Rattle.site_rows.specs.RecordRows.{rows_of}
 use Rattle.site_rows.specs.StepRows.{LeadsTo, counts_of, counts_told}
 use Rattle.site_rows.specs.declared.changes.Numbers.{Numbers}
 use Rattle.site_rows.specs.declared.changes.RowChanges.{RowChanges}
+use Rattle.site_tables.specs.Causes.{HasReason}
 use Rattle.site_tables.specs.Changed.{changed, rows_written, numbers_written}
 use Rattle.site_tables.specs.Stored.{Contents, Holds, IsStored, contents_of}
 use Rattle.site_store.specs.Faults.{is_of_memory}
 use Rattle.site_store.specs.declared.writing.Unwritten.TheVariants.{NoMemory, Failed}
-use Rattle.site_store.specs.StepWritten.{Keeps, KeepsWhereFailed, LeavesOneOf, cause_of, total, IsCounted}
+use Rattle.site_store.specs.StepWritten.{Keeps, KeepsWhereFailed, FailsToWrite, LeavesOneOf, cause_of, total, IsCounted}
 use Rattle.site_tables.proofs.Leading.{holds_after}
 
 -- a crash leaves what it left before, or what the changes made
@@ -57,3 +58,11 @@ is_counted changes old new told written leads counts is = (
   record { parts = length changes.part; more = ap length leads.part ∙ length-append (rows_of old).part changes.part; all = rows_are changes ∙ ap (λ c. total c + length changes.part) counts },
   is ∙ ap (min 18_446_744_073_709_551_615) (zero-add (rows_written changes)),
 )
+
+-- the reason of an error after which the old rows stand
+pub fails_cause : (error : Error) (old new : State) → HasReason old new error → FailsToWrite old new (cause_of error)
+fails_cause error old new why = by (is_of_memory error)
+  where
+    by : (b : Bool) → FailsToWrite old new (if b then NoMemory else Failed error)
+    by true = tt
+    by false = why

@@ -1,5 +1,5 @@
 -- What hinders an opening, and what an opening finds.
-use Rattle.std.specs.Prelude.{◌≡◌, if◌then◌else◌, false, map}
+use Rattle.std.specs.Prelude.{◌≡◌, ◌⊎◌, if◌then◌else◌, false, map}
 use Rattle.std.specs.List.{AllByRecursion}
 use Rattle.sqlite.specs.State.{State, IsUnchanged}
 use Rattle.sqlite.specs.declared.error.Error.{Error}
@@ -8,6 +8,7 @@ use Rattle.keeper_core.specs.declared.faults.KeepFault.{KeepFault}
 use Rattle.keeper_core.specs.declared.faults.KeepFault.TheVariants.{NoMemory, Device, Store}
 use Rattle.site_rows.specs.RecordRows.{rows_of}
 use Rattle.site_tables.specs.AllReads.{AreListed}
+use Rattle.site_tables.specs.Causes.{HasReason}
 use Rattle.site_tables.specs.Reads.{AreTexts, IsStrict}
 use Rattle.site_tables.specs.Stored.{Contents, contents_of}
 use Rattle.site_tables.specs.Tables.{store, site, address, event, part, quarantine, outbox, seen, parent, recall, site_schema}
@@ -19,6 +20,10 @@ use Rattle.site_store.specs.Kept.{failures_after}
 -- what an error of the database is to a keeper that isn't open
 abbrev pub opening_fault : Error → KeepFault
 opening_fault error = if is_of_device error then Device else if is_of_memory error then NoMemory else Store
+
+-- why the tables of a site weren't made in an empty database: memory ran out, or the database failed, for a reason
+abbrev pub FailsToBegin : State → State → KeepFault → Type 0
+FailsToBegin old new fault = (fault ≡ NoMemory) ⊎ ((error : Error) × (fault ≡ opening_fault error) × HasReason old new error)
 
 -- the rows of each table rise by its key, so that no two have one key
 pub record RowsRise (rows : Contents) : Type 0 where

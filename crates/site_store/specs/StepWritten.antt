@@ -1,5 +1,5 @@
 -- What the tables hold once a step was written, or wasn't, and how many rows that took.
-use Rattle.std.specs.Prelude.{◌≡◌, ◌≢◌, ◌⊎◌, ◌+◌, ℕ, length, min, if◌then◌else◌, IsTrue}
+use Rattle.std.specs.Prelude.{◌≡◌, ◌≢◌, ◌⊎◌, ◌+◌, ℕ, length, min, if◌then◌else◌, IsTrue, ⊤}
 use Rattle.sqlite.specs.Tree.{Trees}
 use Rattle.sqlite.specs.State.{State, Survives}
 use Rattle.sqlite.specs.declared.error.Error.{Error}
@@ -7,6 +7,7 @@ use Rattle.site_core.specs.Records.{Record}
 use Rattle.site_core.specs.declared.outcomes.Effects.{Effects}
 use Rattle.site_rows.specs.RecordRows.{rows_of}
 use Rattle.site_rows.specs.StepRows.{Counts, counts_told}
+use Rattle.site_tables.specs.Causes.{HasReason}
 use Rattle.site_tables.specs.Stored.{Holds, IsStored, contents_of}
 use Rattle.site_tables.specs.Tables.{no_schema}
 use Rattle.site_store.specs.Faults.{is_of_memory}
@@ -39,6 +40,11 @@ BeginsAs r old new = Survives old new (λ db. old.now.schema ≡ no_schema → H
 abbrev pub KeepsWhereFailed : Record → Record → State → Unwritten → Type 0
 KeepsWhereFailed old new s NoMemory = Keeps old s
 KeepsWhereFailed old new s (Failed error) = LeavesOneOf old new s
+
+-- why a step wasn't written: memory ran out, or the database failed, for a reason
+abbrev pub FailsToWrite : State → State → Unwritten → Type 0
+FailsToWrite old new NoMemory = ⊤
+FailsToWrite old new (Failed error) = HasReason old new error
 
 -- what an error is after which the old rows stand
 abbrev pub cause_of : Error → Unwritten

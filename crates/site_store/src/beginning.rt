@@ -1,9 +1,10 @@
 //! The tables of a site made, with all rows of its record.
-ghost use Rattle.std.specs.Prelude.{◌≡◌, ◌↔◌, Err, IsTrue, IfErr, OnOk};
+ghost use Rattle.std.specs.Prelude.{◌≡◌, ◌↔◌, false, Err, IsTrue, IfErr, OnOk};
 ghost use Rattle.sqlite.specs.State.{HasCleanDisk};
 ghost use Rattle.sqlite.specs.Held.{state};
 ghost use Rattle.keeper_core.specs.Keeping.{HindersOpening};
 ghost use Rattle.site_tables.specs.Tables.{no_schema};
+ghost use Rattle.site_store.specs.Openings.{FailsToBegin};
 ghost use Rattle.site_store.specs.StepWritten.{Keeps, IsInUse, BeginsAs};
 
 use crate::finding::opening_fault;
@@ -34,6 +35,8 @@ pub fn begin_tables<S: Alter>(
 ) -> Result<(), KeepFault>
     ensures stored { HasCleanDisk (state S.Store conn.new) → OnOk result (Keeps site.now (state S.Store conn.new)) }
     ensures kind { IfErr result HindersOpening }
+    ensures cause { HasCleanDisk (state S.Store conn.new) → (state S.Store conn.old).in_transaction ≡ false → (state S.Store conn.old).now.schema ≡ no_schema
+        → IfErr result (FailsToBegin (state S.Store conn.old) (state S.Store conn.new)) }
     ensures crash { BeginsAs site.now (state S.Store conn.old) (state S.Store conn.new) }
     ensures in_use { IsInUse (state S.Store conn.old) → (result ≡ Err KeepFault.Store) × (conn.new ≡ conn.old) }
 {

@@ -1,11 +1,14 @@
 //! A site kept in the tables of a file.
 ghost use Rattle.std.specs.Prelude.{◌≡◌, ◌≤◌, false, Some, None, Ok, Err, IfOk, IfErr, MatchResult, is_ok};
 ghost use Rattle.sqlite.specs.Files.{file_state};
+ghost use Rattle.sqlite.specs.State.{HasCleanDisk};
 ghost use Rattle.site_core.specs.Records.{Record};
 ghost use Rattle.site_core.specs.Steps.{CopiesRecord};
 ghost use Rattle.keeper_core.specs.Keeping.{Applies, Stops, StaysClosed, HindersOpening, Rises};
 ghost use Rattle.site_store.specs.Sites.{shown_by, MayBy, failed_by, statements_by, link_of, IsKeptOver, IsKeptBy, StoresListed, OpensIn, StaysShut, NoneListed, AppliesBy, StopsBy, ReopensBy};
+ghost use Rattle.site_store.specs.Openings.{FailsToBegin};
 ghost use Rattle.site_store.specs.StepWritten.{IsInUse, BeginsAs};
+ghost use Rattle.site_tables.specs.Tables.{no_schema};
 
 use crate::beginning::begin_tables;
 use crate::kept::Kept;
@@ -75,7 +78,8 @@ impl<D: Disk + Drop> StoredSite<D> {
     /// transaction.
     ///
     /// # Errors
-    /// `NoMemory`, `Device` or `Store`, the last also where the database isn't empty or in a transaction, which then is as
+    /// `NoMemory`, `Device` or `Store`, as the store of the database failed, for a cause that shows, or it refused a
+    /// statement; the last also where the database isn't empty or in a transaction, which then is as
     /// it was. The connection is handed back: while the tables are made, and after an error, a crash leaves what it would
     /// have left before, or all tables with the rows of the record and no others.
     pub fn create(
@@ -88,6 +92,8 @@ impl<D: Disk + Drop> StoredSite<D> {
         ensures fresh { IfOk result (λ site. (failed_by site ≡ 0) × (statements_by site ≡ 0)) }
         ensures stored { IfOk result (λ site. IsKeptBy site state) }
         ensures kind { IfErr result (λ left. HindersOpening left.fault) }
+        ensures cause { (file_state conn).in_transaction ≡ false → (file_state conn).now.schema ≡ no_schema
+            → IfErr result (λ left. HasCleanDisk (file_state left.conn) → FailsToBegin (file_state conn) (file_state left.conn) left.fault) }
         ensures crash { IfErr result (λ left. BeginsAs state (file_state conn) (file_state left.conn)) }
         ensures in_use { IsInUse (file_state conn) → result ≡ Err (record { conn = conn; fault = KeepFault.Store }) }
     {
@@ -110,8 +116,7 @@ impl<D: Disk + Drop> StoredSite<D> {
         link
     }
 
-    /// How many statements the last step ran that had effects: one for each row that it wrote, and the two that begin and
-    /// commit. 0 for a step that changed nothing, and before the first.
+    /// How many rows the last step wrote that had effects, and the two statements that begin and commit. 0 for a step that changed nothing, and before the first.
     pub fn statements(&self) -> u64
         ensures { result ≡ statements_by self.now }
     {

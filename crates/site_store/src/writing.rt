@@ -3,7 +3,7 @@ ghost use Rattle.std.specs.Prelude.{◌≡◌, IfOk, IfErr, OnOk};
 ghost use Rattle.sqlite.specs.State.{HasCleanDisk};
 ghost use Rattle.sqlite.specs.Held.{state};
 ghost use Rattle.site_core.specs.Steps.{Does};
-ghost use Rattle.site_store.specs.StepWritten.{Keeps, KeepsWhereFailed, IsCounted, cause_of};
+ghost use Rattle.site_store.specs.StepWritten.{Keeps, KeepsWhereFailed, FailsToWrite, IsCounted, cause_of};
 
 use crate::faults::is_of_memory;
 use site_core::{Effects, SiteInput, SiteState};
@@ -24,7 +24,7 @@ pub enum Unwritten {
 /// Writes the rows that a step changes, in one transaction, and answers how many these are, at most 2^64 - 1.
 ///
 /// # Errors
-/// As [`Unwritten`] says. A crash leaves the rows of the record before the step or of the one after it, and no others.
+/// As [`Unwritten`] says; the database's store failed for a cause that shows, or it refused a statement. A crash leaves the rows of the record before the step or of the one after it, and no others.
 pub fn write_step<S: Alter>(
     alloc: Global,
     conn: &mut Connection<S>,
@@ -36,6 +36,7 @@ pub fn write_step<S: Alter>(
     requires step { Does old.now input.now effects.now new.now }
     ensures done { HasCleanDisk (state S.Store conn.new) → Keeps old.now (state S.Store conn.old) → OnOk result (Keeps new.now (state S.Store conn.new)) }
     ensures failed { HasCleanDisk (state S.Store conn.new) → Keeps old.now (state S.Store conn.old) → IfErr result (KeepsWhereFailed old.now new.now (state S.Store conn.new)) }
+    ensures cause { HasCleanDisk (state S.Store conn.new) → Keeps old.now (state S.Store conn.old) → IfErr result (FailsToWrite (state S.Store conn.old) (state S.Store conn.new)) }
     ensures counted { IfOk result (IsCounted old.now effects.now new.now) }
     ensures clean { HasCleanDisk (state S.Store conn.new) → HasCleanDisk (state S.Store conn.old) }
 {

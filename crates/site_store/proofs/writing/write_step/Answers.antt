@@ -1,10 +1,11 @@
 use Rattle.std.proofs.Common.{sym, subst}
 use Rattle.sqlite.specs.Held.{state}
 use Rattle.site_rows.specs.RecordRows.{rows_of}
+use Rattle.site_tables.specs.Causes.{HasReason}
 use Rattle.site_tables.specs.Stored.{contents_of}
-use Rattle.site_store.specs.StepWritten.{KeepsWhereFailed}
+use Rattle.site_store.specs.StepWritten.{KeepsWhereFailed, FailsToWrite}
 use Rattle.site_tables.proofs.Leading.{stored_after}
-use Rattle.site_store.proofs.StepWrites.{crash_leaves, is_counted, keeps_cause}
+use Rattle.site_store.proofs.StepWrites.{crash_leaves, is_counted, keeps_cause, fails_cause}
 use Rattle.site_store.proofs.writing.write_step.Goals as goal
 
 pub returns-in-Ok-try_changes-clause-done : goal.returns-in-Ok-try_changes-clause-done
@@ -25,3 +26,13 @@ returns-in-Err-Kept-clause-failed g c clean it =
 pub returns-clause-failed : goal.returns-clause-failed
 returns-clause-failed g c clean it =
     crash_leaves c.in-Ok.changes c.args.old.now c.args.new.now (state g.S.Store c.args.conn.now) (state g.S.Store c.try_changes.new.conn) c.in-Ok.ensures.rows c.try_changes.ensures.crash clean it
+
+pub returns-in-Err-Kept-clause-cause : goal.returns-in-Err-Kept-clause-cause
+returns-in-Err-Kept-clause-cause g c clean it =
+    let old = state g.S.Store c.args.conn.now in
+    let new = state g.S.Store c.try_changes.new.conn in
+    let why : HasReason old new c.in-Err-Kept.error = rw c.in-Err-Kept.field-0-is at (c.in-Err-Kept.ensures.cause clean (contents_of (rows_of c.args.old.now)) it) in
+    subst (FailsToWrite old new) (sym c.cause_of.ensures) (fails_cause c.in-Err-Kept.error old new why)
+
+pub returns-clause-cause : goal.returns-clause-cause
+returns-clause-cause g c clean it = rw c.in-Err-Shut.field-0-is at (c.in-Err-Shut.ensures.cause clean (contents_of (rows_of c.args.old.now)) it)

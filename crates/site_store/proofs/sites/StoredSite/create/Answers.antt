@@ -14,3 +14,6 @@ returns-in-Err-clause-in_use g c used =
     let told = both.0 in
     let fault : c.in-Err.fault ≡ Store = cc in
     λ i. Err (record { conn = both.1 i; fault = fault i })
+
+pub returns-in-Err-clause-cause : goal.returns-in-Err-clause-cause
+returns-in-Err-clause-cause g c out empty clean = rw c.in-Err.is at (c.begin_tables.ensures.cause clean out empty)
