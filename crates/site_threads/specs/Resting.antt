@@ -16,7 +16,7 @@ pub record IsAtRest (r : Record) : Type 0 where
   pub signalled : map.entries r.engagement.outbox ≡ []
   pub ended : HaveEnded r
 
--- no job can come any more, none is in hand, and the keeper shows a record at rest
+-- the site's end counts its desk as gone, no job is in hand, and the keeper shows a record at rest
 pub record IsDone {K : Type 0} (shown : K → Option Record) (keeper : Option K) (out : DeskOut) (pending : Option Job) : Type 0 where
   pub gone : IsTrue out.gone
   pub none : pending ≡ None

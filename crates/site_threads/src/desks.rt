@@ -1,5 +1,5 @@
 //! Jobs for a site from another thread, and their receipts back.
-ghost use Rattle.std.specs.Prelude.{◌≡◌, ◌<◌, ◌≤◌, true, [], ◌∷◌, ◌++◌, length, take, IfOk, IsTrue, ◌↔◌, MatchResult};
+ghost use Rattle.std.specs.Prelude.{◌≡◌, ◌<◌, ◌≤◌, true, false, [], ◌∷◌, ◌++◌, length, take, IfOk, IfSome, IsTrue, ◌↔◌, MatchResult};
 ghost use Rattle.crossbeam_channel.specs.Claims.{view, IsSeatAt};
 ghost use Rattle.crossbeam_channel.specs.Ends.{sends_on, receives_on};
 ghost use Rattle.site_threads.specs.Desks.{is_spent, fault_job};
@@ -136,8 +136,8 @@ pub struct DeskOut {
     pub count: u64,
     /// How many there can be.
     pub limit: u64,
-    /// Whether no job can come any more: none was ever to come, or the channel told that the other end was dropped, and
-    /// no job is left.
+    /// Whether this end counts the desk as gone: no job was ever to come, or the channel told that the other end was
+    /// dropped, and that no job is left.
     pub gone: bool,
 }
 
@@ -150,6 +150,7 @@ impl Desk {
         requires { (1 ≤ limit) × (limit ≤ 1000) }
         ensures ends { IfOk result (λ r. IsDesk r.0 × IsOut r.1 × AreEnds r.0 r.1) }
         ensures start { IfOk result (λ r. (puts r.0 ≡ []) × (takes r.1 ≡ []) × (r.0.limit ≡ limit)) }
+        ensures held { IfOk result (λ r. r.1.gone ≡ false) }
     {
         let room = limit as usize;
         let (to, from, mut pass) = bounded_with::<Job, Hand, InOrder, Global>(alloc, room)?;
@@ -217,7 +218,7 @@ impl DeskOut {
     /// # Errors
     /// Where there is no memory for it.
     pub fn none(alloc: Global) -> Result<DeskOut, AllocError>
-        ensures { IfOk result (λ o. IsUnused o × (o.limit ≡ 0)) }
+        ensures { IfOk result (λ o. IsUnused o × (o.limit ≡ 0) × (o.gone ≡ true)) }
     {
         let (_, from, pass) = bounded_with::<Job, Hand, InOrder, Global>(alloc, 1)?;
         let (receipts, _, teller) = bounded_with::<Receipt, (), Free, Global>(alloc, 1)?;
@@ -232,12 +233,14 @@ impl DeskOut {
         })
     }
 
-    /// The next job, if one is there.
+    /// The next job, if one is there. Where none is, the desk may count as gone from then on.
     pub fn next<R: Wait>(&mut self, rt: &R) -> Option<Job>
         requires { IsOut self.old }
         ensures out { IsOut self.new × (receives_on self.new.from ≡ receives_on self.old.from) }
         ensures limit { self.new.limit ≡ self.old.limit }
         ensures taken { takes self.new ≡ takes self.old ++ option_items result }
+        ensures held { IfSome result (λ _. self.new.gone ≡ self.old.gone) }
+        ensures gone { IsTrue self.old.gone → IsTrue self.new.gone }
     {
         if self.count == self.limit {
             return None;
@@ -248,7 +251,7 @@ impl DeskOut {
                 Some(job)
             }
             Err(why) => {
-                self.gone = matches!(why, TryRecvError::Disconnected);
+                self.gone = self.gone || matches!(why, TryRecvError::Disconnected);
                 None
             }
         }
@@ -258,7 +261,7 @@ impl DeskOut {
     pub fn tell<R: Wait>(&mut self, rt: &R, receipt: Receipt)
         requires { IsOut self.old }
         ensures out { IsOut self.new × (receives_on self.new.from ≡ receives_on self.old.from) × (self.new.limit ≡ self.old.limit) }
-        ensures taken { takes self.new ≡ takes self.old }
+        ensures taken { (takes self.new ≡ takes self.old) × (self.new.gone ≡ self.old.gone) }
     {
         let _ = self
             .receipts

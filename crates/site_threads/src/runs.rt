@@ -165,8 +165,8 @@ impl<K: SiteKeeper, G: Gate> SiteRun<K, G> {
         }
     }
 
-    /// Whether no recall of the site's own is open, and none can begin: its desk is gone, no job is in hand, no message
-    /// waits for a signal, and each recall that it began has ended.
+    /// Whether no recall of the site's own is open, and none is to begin: its end counts the desk as gone, no job is in
+    /// hand, no message waits for a signal, and each recall that it began has ended.
     fn is_done(&self) -> bool
         ensures { IsTrue result → IsDone K.shown self.now.turn.site.keeper self.now.out self.now.pending }
     {

@@ -202,8 +202,8 @@ fn run_sites<K: SiteKeeper + Send, G: Gate + Send, R: Threads + Wait + Clock + S
 /// The keepers are of one list of sites, in the order of their numbers, open, and their records fit together; no job was
 /// taken from the desks. Afterwards each keeper is open in the record to which its list of steps leads from the one that
 /// it began with, and the jobs of the list are the first ones that were put at its desk; its gate was asked for just these
-/// turns, or for fewer where the site is done: no job can come or is in hand, no message waits for a signal, and each
-/// recall that it began has ended. Whether the run has an answer or not, in whichever records the keepers are open, or may be opened,
+/// turns, or for fewer where the site is done: its end counts the desk as gone, no job is in hand, no message waits for a
+/// signal, and each recall that it began has ended. Whether the run has an answer or not, in whichever records the keepers are open, or may be opened,
 /// they fit together, and what is quarantined under each recall that has ended is just what its root reaches.
 ///
 /// # Errors

@@ -105,7 +105,12 @@ fn are_settled(desks: Vec<Desk>, lists: Vec<SiteList>, counts: &[u64]) -> bool
     same && counts.next().is_none()
 }
 
-/// What is wrong with a run that has an answer.
+/// Whether each site made so many turns.
+fn made(lists: &[SiteList], turns: u64) -> bool {
+    lists.iter().all(|list| list.turns == turns)
+}
+
+/// What is wrong with a run that has an answer, of 2,000 turns while all desks are held.
 fn wrong_in(
     rt: &impl Wait,
     alloc: Global,
@@ -117,11 +122,14 @@ fn wrong_in(
     let receipt = receipt_of_b(rt, &mut desks);
     let confirmed = is_confirmed(&gathered, receipt);
     let Gathered { keepers, lists } = gathered;
+    let made = made(lists.as_slice(), 2_000);
     let settled = are_settled(desks, lists, &[2, 1, 1, 2]);
     if !are_ended(alloc, &keepers) {
         Some("the recalls")
     } else if !confirmed {
         Some("the receipt of B's capture")
+    } else if !made {
+        Some("the turns")
     } else if !settled {
         Some("the jobs in the lists")
     } else {

@@ -6,14 +6,14 @@ ghost use Rattle.wire_core.specs.Rule.{logs_from};
 ghost use Rattle.wire_core.specs.Seats.{IsSeatOf};
 ghost use Rattle.site_threads.specs.Running.{marks_in};
 ghost use Rattle.site_threads.specs.Starting.{IsLastMarked};
-ghost use Rattle.site_threads.specs.Ends.{IsDesk};
+ghost use Rattle.site_threads.specs.Ends.{IsDesk, IsOut};
 ghost use Rattle.site_threads_tests.specs.Playing.{MayTurn};
 
 use crate::turns::fixtures::{capture, fresh, start};
 use keeper_core::{MemoryKeeper, SiteKeeper};
 use site_core::SiteState;
 use site_recovery::{are_all_sites, check_world};
-use site_threads::{Desk, DeskFault, FreeGate, Gate, Job, Reply, SiteTurn, TurnReport};
+use site_threads::{Desk, DeskFault, DeskOut, FreeGate, Gate, Job, Reply, SiteTurn, TurnReport};
 use std::alloc::Global;
 use std::sync::Wait;
 use std::test::Fail;
@@ -127,6 +127,25 @@ fn takes_one(rt: &impl Wait, desk: &mut Desk, one: Option<Job>, two: Option<Job>
     let first = matches!(desk.put(rt, one), Ok(1));
     let second = matches!(desk.put(rt, two), Err(DeskFault::Spent(_)));
     first && second
+}
+
+/// Whether an end that has no job yet doesn't count its desk as gone, and gives the job that comes late.
+fn gives_late(rt: &impl Wait, desk: &mut Desk, out: &mut DeskOut, job: Option<Job>) -> bool
+    requires { IsDesk desk.old × IsOut out.old }
+{
+    let early = out.next(rt).is_none() && !out.gone;
+    let put = match job {
+        Some(job) => desk.put(rt, job).is_ok(),
+        None => false,
+    };
+    early && put && out.next(rt).is_some()
+}
+
+#[test]
+fn a_job_may_come_late(rt: HostRuntime) -> Result<(), Fail> {
+    let (mut desk, mut out) = Desk::new(rt.alloc(), 1)?;
+    assert!(rt; gives_late(&rt, &mut desk, &mut out, start(rt.alloc())));
+    Ok(())
 }
 
 #[test]

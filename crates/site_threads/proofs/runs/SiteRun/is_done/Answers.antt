@@ -1,5 +1,5 @@
-use Rattle.std.proofs.Common.{◌∙◌, ◌≡◌, Bool, false, true, Option, Some, None, is_some, true≢false, refl, sym, ap}
-use Rattle.std.specs.Prelude.{IsTrue, option_map}
+use Rattle.std.proofs.Common.{◌∙◌, ◌≡◌, Bool, false, Option, Some, None, is_some, true≢false, refl, sym, ap}
+use Rattle.std.specs.Prelude.{option_map}
 use Rattle.site_threads.proofs.runs.SiteRun.is_done.Goals as goal
 
 nothing : {X : Type 0} (o : Option X) (b : Bool) → b ≡ is_some o → b ≡ false → o ≡ None
