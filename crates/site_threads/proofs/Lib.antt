@@ -1,3 +1,4 @@
+mod Answered
 mod Beginning
 mod Confirming
 mod Ending

@@ -24,10 +24,10 @@ use Rattle.site_threads.proofs.Steps.{Kept_push, few_in, log_own, next_me}
 abbrev pub Answer : Type 0
 Answer = Result Effects KeepFault
 
-none≢some : {p : Reply} → None ≢ Some p
+pub none≢some : {p : Reply} → None ≢ Some p
 none≢some e = true≢false (ap (λ (o : Option Reply). is_none o) e)
 
-abbrev the : Reply → Option Reply → Reply
+abbrev pub the : Reply → Option Reply → Reply
 the d (Some p) = p
 the d None = d
 
@@ -78,7 +78,7 @@ next_of (Err faults.Device) old input new may s = absurd s
 next_of (Err faults.Store) old input new may s = absurd s
 next_of (Err faults.Closed) old input new may s = absurd s
 
-shown_up : (shown : Option Record) → IsSome shown → (r : Record) × (shown ≡ Some r)
+pub shown_up : (shown : Option Record) → IsSome shown → (r : Record) × (shown ≡ Some r)
 shown_up None up = absurd (true≢false (sym up))
 shown_up (Some r) up = (r, refl)
 

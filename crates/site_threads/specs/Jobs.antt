@@ -1,5 +1,5 @@
 -- What a site is asked by a job, what is answered, and what is said of a site's list of steps.
-use Rattle.std.specs.Prelude.{◌≡◌, ◌⊎◌, ℕ, Bool, true, false, IsTrue, IsFalse, if◌then◌else◌, List, [], ◌∷◌, All, map, flat_map, length, Contains, Option, Some, None, Result, Ok, Err}
+use Rattle.std.specs.Prelude.{◌≡◌, ◌⊎◌, ℕ, Bool, true, false, IsTrue, IsFalse, if◌then◌else◌, not, List, [], ◌∷◌, All, map, flat_map, length, Contains, Option, Some, None, Result, Ok, Err}
 use Rattle.std.specs.List.{range_with_len}
 use Rattle.keeper_core.specs.declared.faults.KeepFault.{KeepFault}
 use Rattle.keeper_core.specs.declared.faults.KeepFault.TheVariants as faults
@@ -54,6 +54,11 @@ reply_to frame (Err faults.NoMemory) = None
 reply_to frame (Err (faults.Refused why)) = if frame then Some Frame else Some (Refused (refusal_number why))
 reply_to frame (Err other) = Some Stopped
 
+-- the site stopped in the step
+abbrev pub is_stop : Reply → Bool
+is_stop Stopped = true
+is_stop other = false
+
 -- What a reply tells of the record after the step.
 
 -- it is the one after the input, or the old one where the input is refused
@@ -87,6 +92,12 @@ job_of (inputs.Deliver frame) = []
 abbrev pub jobs_in : List Entry → List Job
 jobs_in entries = flat_map (λ x. job_of x.input) entries
 
+-- A site that is open or not comes, by these steps, to be open or not: only an open site makes a step, and it is open
+-- afterwards unless it stopped in it.
+abbrev pub ComesTo : Bool → List Entry → Bool → Type 0
+ComesTo before [] after = after ≡ before
+ComesTo before (x ∷ xs) after = IsTrue before × ComesTo (not (is_stop x.reply)) xs after
+
 -- each step is that of a frame
 abbrev pub AreOfFrames : List Entry → Type 0
 AreOfFrames entries = All (λ x. IsTrue (is_delivery x.input)) entries
@@ -98,6 +109,11 @@ option_items (Some x) = x ∷ []
 -- the step that a receipt tells of
 abbrev pub entry_of : Receipt → Entry
 entry_of x = record { number = x.number; input = input_of x.job; reply = x.reply }
+
+-- the site is open after the step that a receipt tells of, and where there was no job
+abbrev pub open_after : Option Receipt → Bool
+open_after None = true
+open_after (Some x) = not (is_stop x.reply)
 
 -- the list has the job of the receipt with its reply at its number
 abbrev pub IsEntered : List Entry → Receipt → Type 0

@@ -1,3 +1,4 @@
+pub mod Answering
 pub mod Beginning
 pub mod Desks
 pub mod Ends

@@ -1,5 +1,5 @@
 //! The frames that a site takes and posts in a turn.
-ghost use Rattle.std.specs.Prelude.{◌≡◌, ◌≢◌, ◌+◌, ◌^◌, ◌<◌, ◌≤◌, IfSome, IsSome, IsTrue, cond, is_ok, vec_len, vec_capacity};
+ghost use Rattle.std.specs.Prelude.{◌≡◌, ◌≢◌, ◌+◌, ◌^◌, ◌<◌, ◌≤◌, IfSome, IsSome, IsTrue, is_some, cond, is_ok, vec_len, vec_capacity};
 ghost use Rattle.wire_core.specs.Seats.{IsSeatOf};
 ghost use Rattle.site_threads.specs.Jobs.{is_delivery};
 ghost use Rattle.site_threads.specs.Keepers.{shown_in};
@@ -31,7 +31,7 @@ impl<K: SiteKeeper> Site<K> {
         requires room { vec_len self.old.entries < vec_capacity self.old.entries }
         ensures site { IsSite K.shown K.may self.new }
         ensures same { Continues 1 wire.now self.old self.new }
-        ensures frames { TakesFrames self.old.entries.items self.new.entries.items result }
+        ensures frames { TakesFrames (is_some (shown_in K.shown self.old.keeper)) (is_some (shown_in K.shown self.new.keeper)) self.old.entries.items self.new.entries.items result }
         ensures room { (vec_capacity self.old.entries ≤ vec_capacity self.new.entries) × (vec_len self.new.entries ≤ vec_len self.old.entries + 1) }
         ensures count { result ≤ 1 }
     {
@@ -60,7 +60,7 @@ impl<K: SiteKeeper> Site<K> {
         requires room { vec_len self.old.entries < vec_capacity self.old.entries }
         ensures site { IsSite K.shown K.may self.new }
         ensures same { Continues 1 wire.now self.old self.new }
-        ensures frames { TakesFrames self.old.entries.items self.new.entries.items result }
+        ensures frames { TakesFrames (is_some (shown_in K.shown self.old.keeper)) (is_some (shown_in K.shown self.new.keeper)) self.old.entries.items self.new.entries.items result }
         ensures room { (vec_capacity self.old.entries ≤ vec_capacity self.new.entries) × (vec_len self.new.entries ≤ vec_len self.old.entries + 1) }
         ensures count { result ≤ 1 }
     {
@@ -75,7 +75,7 @@ impl<K: SiteKeeper> Site<K> {
         requires other { (to ≢ self.old.me) × (to < wire.now.sites) }
         ensures site { IsSite K.shown K.may self.new }
         ensures same { Continues 0 wire.now self.old self.new }
-        ensures entries { self.new.entries ≡ self.old.entries }
+        ensures entries { (self.new.entries ≡ self.old.entries) × (self.new.keeper ≡ self.old.keeper) }
         ensures count { result ≤ 1 }
     {
         let place = to.number() as usize;
@@ -104,7 +104,7 @@ impl<K: SiteKeeper> Site<K> {
         requires room { vec_len self.old.entries < vec_capacity self.old.entries }
         ensures site { IsSite K.shown K.may self.new }
         ensures same { Continues 1 wire.now self.old self.new }
-        ensures frames { TakesFrames self.old.entries.items self.new.entries.items result }
+        ensures frames { TakesFrames (is_some (shown_in K.shown self.old.keeper)) (is_some (shown_in K.shown self.new.keeper)) self.old.entries.items self.new.entries.items result }
         ensures room { (vec_capacity self.old.entries ≤ vec_capacity self.new.entries) × (vec_len self.new.entries ≤ vec_len self.old.entries + 1) }
         ensures count { result ≤ 1 }
     {
@@ -127,7 +127,7 @@ impl<K: SiteKeeper> Site<K> {
         requires there { number < wire.now.sites }
         ensures site { IsSite K.shown K.may self.new }
         ensures same { Continues 0 wire.now self.old self.new }
-        ensures entries { self.new.entries ≡ self.old.entries }
+        ensures entries { (self.new.entries ≡ self.old.entries) × (self.new.keeper ≡ self.old.keeper) }
         ensures count { result ≤ 1 }
     {
         match SiteNo::of(number) {
@@ -151,7 +151,7 @@ impl<K: SiteKeeper> Site<K> {
         requires room { vec_len self.old.entries + wire.now.sites ≤ vec_capacity self.old.entries }
         ensures site { IsSite K.shown K.may self.new }
         ensures same { Continues 16 wire.now self.old self.new }
-        ensures frames { TakesFrames self.old.entries.items self.new.entries.items result }
+        ensures frames { TakesFrames (is_some (shown_in K.shown self.old.keeper)) (is_some (shown_in K.shown self.new.keeper)) self.old.entries.items self.new.entries.items result }
     {
         self.owed = nothing_owed();
         let mut entered = 0;
@@ -167,7 +167,7 @@ impl<K: SiteKeeper> Site<K> {
         requires site { IsSite K.shown K.may self.old }
         ensures site { IsSite K.shown K.may self.new }
         ensures same { Continues 0 wire.now self.old self.new }
-        ensures entries { self.new.entries ≡ self.old.entries }
+        ensures entries { (self.new.entries ≡ self.old.entries) × (self.new.keeper ≡ self.old.keeper) }
         ensures count { result ≤ wire.now.sites }
     {
         let mut posted = 0;

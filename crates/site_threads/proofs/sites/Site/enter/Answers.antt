@@ -1,9 +1,12 @@
-use Rattle.std.proofs.Common.{sym, subst}
+use Rattle.std.proofs.Common.{is_some, sym, subst}
+use Rattle.site_threads.specs.Keepers.{shown_in}
 use Rattle.site_threads.specs.Passing.{TakesFrames}
-use Rattle.site_threads.proofs.Passed.{took, second}
+use Rattle.site_threads.proofs.Passed.{took, kept_back}
 use Rattle.site_threads.proofs.sites.Site.enter.Goals as goal
 
 pub returns-clause-frames : goal.returns-clause-frames
 returns-clause-frames g c =
-    subst (TakesFrames c.args.self.now.entries.items c.take_in-taken.new.self.entries.items) (sym c.count_entered.ensures)
-    (took (λ v. v.items) c.args.self.now.entries c.take_in-taken.new.self.entries _ c.args.copy c.take_in-taken.result c.take_in-taken.ensures.entered (second _ _ _ c.take_in-taken.result c.take_in-taken.ensures.back) c.requires.frame)
+    let t = c.take_in-taken in
+    let shown = g.K.SiteKeeper.shown in
+    subst (TakesFrames (is_some (shown_in shown c.args.self.now.keeper)) (is_some (shown_in shown t.new.self.keeper)) c.args.self.now.entries.items t.new.self.entries.items) (sym c.count_entered.ensures)
+    (took (λ v. v.items) c.args.self.now.entries t.new.self.entries (is_some (shown_in shown c.args.self.now.keeper)) (is_some (shown_in shown t.new.self.keeper)) c.requires.open _ c.args.copy t.result t.ensures.entered t.ensures.stopped (kept_back _ _ _ _ _ t.result t.ensures.back) c.requires.frame)

@@ -7,5 +7,6 @@ invariant-loop-number g l = record {
   site : IsSite g.K.SiteKeeper.shown g.K.SiteKeeper.may l.self;
   same : Continues 0 l.wire l.fn.self l.self;
   entries : l.self.entries ≡ l.fn.self.entries;
+  keeper : l.self.keeper ≡ l.fn.self.keeper;
   count : l.posted ≤ l.number;
 }

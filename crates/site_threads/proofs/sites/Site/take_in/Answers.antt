@@ -1,9 +1,10 @@
-use Rattle.std.proofs.Common.{◌≡◌, ◌+◌, ◌∷◌, ◌++◌, [], Some, refl, sym, ◌∙◌, subst, arith, rules}
+use Rattle.std.proofs.Common.{◌≡◌, ◌+◌, ◌∷◌, ◌++◌, [], Some, refl, sym, ap, ◌∙◌, subst, arith, rules}
 use Rattle.std.specs.Prelude.{vec_len}
 use Rattle.keeper_core.specs.Keeping.{Applies}
-use Rattle.site_threads.specs.Jobs.{reply_to}
+use Rattle.site_threads.specs.Jobs.{is_delivery, reply_to}
 use Rattle.site_threads.specs.Keepers.{shown_in, may_in}
 use Rattle.site_threads.specs.Running.{MayDeliver}
+use Rattle.site_threads.proofs.Answered.{told_so, stays_open}
 use Rattle.site_threads.proofs.Taking.{no_memory, may_follow, took_in}
 use Rattle.site_threads.proofs.sites.Site.take_in.Goals as goal
 
@@ -36,3 +37,12 @@ returns-clause-site g c =
           (λ old is. subst (λ i. Applies old i c.apply_to.result (shown_in g.K.SiteKeeper.shown c.apply_to.new.keeper) (may_in g.K.SiteKeeper.may c.apply_to.new.keeper)) same (c.apply_to.ensures.step old is))
           p _ _ _ _ c.is_delivery-frame.ensures e (subst (λ i. MayDeliver i c.args.self.now.seat.logs) same c.requires.noted) c.follow_shown-self.ensures.follows (let l = c.args.self.now.entries.ok.0 in omega arith) items;
     }
+
+pub returns-clause-told : goal.returns-clause-told
+returns-clause-told g c =
+    told_so g.K.SiteKeeper.shown g.K.SiteKeeper.may g.K.SiteKeeper.applies c.args.self.now.keeper c.apply_to.new.keeper c.args.input c.apply_to.result c.is_delivery-frame.result c.in-Some.reply c.requires.open c.apply_to.ensures.asked c.apply_to.ensures.step
+    (c.is_delivery-frame.ensures ∙ ap is_delivery c.requires.copy) (sym c.in-Some.is ∙ c.answered.ensures)
+
+pub returns-clause-stopped : goal.returns-clause-stopped
+returns-clause-stopped g c =
+    stays_open (shown_in g.K.SiteKeeper.shown c.args.self.now.keeper) _ (may_in g.K.SiteKeeper.may c.apply_to.new.keeper) c.args.input c.apply_to.result c.is_delivery-frame.result c.in-Some.reply c.requires.open c.apply_to.ensures.step (sym c.in-Some.is ∙ c.answered.ensures)

@@ -12,4 +12,4 @@ pub returns-in-Err-of-clause-site : goal.returns-in-Err-of-clause-site
 returns-in-Err-of-clause-site g c = record { there = c.begin.ensures.site.there; runs = other_entries _ _ _ _ _ _ _ c.begin.ensures.site.runs _ c.reserve.ensures.items }
 
 pub returns-in-Ok-clause-jobs : goal.returns-in-Ok-clause-jobs
-returns-in-Ok-clause-jobs g c = jobs_done _ c.go_on.result _ _ _ _ _ (c.reserve.ensures.items ∙ ap (λ v. v.items) c.begin.ensures.entries) c.in-Ok.ensures.ok c.go_on.ensures.job c.go_on.ensures.entered
+returns-in-Ok-clause-jobs g c = jobs_done _ _ c.go_on.result _ _ _ _ _ (c.reserve.ensures.items ∙ ap (λ v. v.items) c.begin.ensures.entries) c.in-Ok.ensures.ok c.go_on.ensures.job c.go_on.ensures.entered
