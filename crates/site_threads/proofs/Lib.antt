@@ -17,4 +17,5 @@ mod Stamping
 mod Starting
 mod Steps
 mod Taking
+mod Wired
 mod Zips

@@ -1,8 +1,7 @@
 -- Frames that a site takes and posts, from its log to its list of steps.
-use Rattle.std.proofs.Common.{◌≡◌, ◌≢◌, ℕ, ◌+◌, ◌<◌, Bool, true, true≢false, not, is_some, cond, map, Option, Some, None, Result, Ok, Err, List, [], ◌∷◌, ◌++◌, All, Contains, refl, sym, ap, ap₂, ◌∙◌, subst, arith, append_assoc, append-nil}
-use Rattle.std.specs.Prelude.{IfOk, IfErr, IsTrue, is_ok, option_map}
-use Rattle.std.proofs.lemmas.List.{length-append}
-use Rattle.std.proofs.lemmas.List.Elements.{All-nil, All-cons, All-head, All-tail, All-append, Contains-append_left, Contains-append_right}
+use Rattle.std.proofs.Common.{◌≡◌, ◌≢◌, ℕ, ◌<◌, Bool, true, true≢false, map, Option, Some, None, Result, Ok, Err, List, [], ◌∷◌, ◌++◌, All, Contains, refl, sym, ap, ap₂, ◌∙◌, subst, arith, append_assoc, append-nil}
+use Rattle.std.specs.Prelude.{IfOk, IsTrue, option_map}
+use Rattle.std.proofs.lemmas.List.Elements.{All-head, All-tail, Contains-append_left, Contains-append_right}
 use Rattle.frame_core.specs.declared.frames.Frame.{Frame}
 use Rattle.site_core.specs.Emitting.{emittable}
 use Rattle.site_core.specs.Records.{Record}
@@ -14,15 +13,14 @@ use Rattle.wire_core.specs.declared.calls.Post.TheVariants.{Posted, Full}
 use Rattle.wire_core.specs.Changes.{on, posts, notes}
 use Rattle.wire_core.specs.Frames.{sender}
 use Rattle.wire_core.specs.declared.views.Log.{Log}
-use Rattle.site_threads.specs.Jobs.{ComesTo, entry_of, input_of, is_delivery, is_stop, job_of, jobs_in, open_after, option_items}
+use Rattle.site_threads.specs.Jobs.{entry_of, input_of, is_delivery, job_of, jobs_in, open_after, option_items}
 use Rattle.site_threads.specs.Offers.{IsFor}
-use Rattle.site_threads.specs.Passing.{TakesFrames}
+use Rattle.site_threads.specs.Passing.{EntersFrames, TakesFrames}
 use Rattle.site_threads.specs.Running.{Holding, StandsOpen, Runs, MayDeliver}
 use Rattle.site_threads.specs.declared.jobs.Entry.{Entry}
 use Rattle.site_threads.specs.declared.jobs.Job.{Job}
 use Rattle.site_threads.specs.declared.jobs.Job.TheVariants as jobs
 use Rattle.site_threads.specs.declared.jobs.Receipt.{Receipt}
-use Rattle.site_threads.specs.declared.jobs.Reply.{Reply}
 use Rattle.site_threads.specs.declared.stamps.Stamp.{Stamp}
 use Rattle.site_threads.specs.declared.turns.TurnReport.{TurnReport}
 use Rattle.site_threads.proofs.OneLog.{only, on_one}
@@ -117,37 +115,6 @@ module _ (shown : Option Record) (may : Record → Type 0) (logs : List Log) (me
       there = subst (λ k. k < count) (sym fits.there) there;
     }
 
--- What the frames add to the list.
-
-comes_more : (before between after : Bool) (xs ys : List Entry) → ComesTo before xs between → ComesTo between ys after → ComesTo before (xs ++ ys) after
-comes_more before between after [] ys s t = subst (λ b. ComesTo b ys after) s t
-comes_more before between after (x ∷ xs) ys s t = (s.0, comes_more (not (is_stop x.reply)) between after xs ys s.1 t)
-
-pub frames_none : (before : Bool) (xs : List Entry) → TakesFrames before before xs xs 0
-frames_none before xs = record { frames = []; all = sym (append-nil xs); each = All-nil (λ x. IsTrue (is_delivery x.input)); many = refl; comes = refl }
-
-pub frames_more : (before between after : Bool) (xs ys zs : List Entry) (n m : ℕ) → TakesFrames before between xs ys n → TakesFrames between after ys zs m → TakesFrames before after xs zs (n + m)
-frames_more before between after xs ys zs n m s t = record {
-  frames = s.frames ++ t.frames;
-  all = t.all ∙ ap (λ l. l ++ t.frames) s.all ∙ append_assoc xs s.frames t.frames;
-  each = All-append (λ x. IsTrue (is_delivery x.input)) s.frames t.frames s.each t.each;
-  many = length-append s.frames t.frames ∙ (λ i. s.many i + t.many i);
-  comes = comes_more before between after s.frames t.frames s.comes t.comes;
-}
-
-one_frame : (before after : Bool) (xs : List Entry) (x : Entry) → is_delivery x.input ≡ true → before ≡ true → after ≡ not (is_stop x.reply) → TakesFrames before after xs (xs ++ x ∷ []) 1
-one_frame before after xs x is up stays = record { frames = x ∷ []; all = refl; each = All-cons (λ y. IsTrue (is_delivery y.input)) x [] is (All-nil (λ y. IsTrue (is_delivery y.input))); many = refl; comes = (up, stays) }
-
-module _ {E L : Type 0} (items : L → List Entry) (old new : L) (before after : Bool) (up : before ≡ true) (n : ℕ) (copy : SiteInput) where
-  pub took : (r : Result Reply E) → IfOk r (λ p. items new ≡ items old ++ (record { number = n; input = copy; reply = p }) ∷ []) → IfOk r (λ p. after ≡ not (is_stop p)) → IfErr r (λ e. (new ≡ old) × (after ≡ before)) → is_delivery copy ≡ true
-      → TakesFrames before after (items old) (items new) (cond (is_ok r) 1 0)
-  took (Ok p) h stays back is = subst (λ l. TakesFrames before after (items old) l 1) (sym h) (one_frame before after (items old) (record { number = n; input = copy; reply = p }) is up stays)
-  took (Err e) h stays back is = subst (λ (b : Bool). TakesFrames before b (items old) (items new) 0) (sym back.1) (subst (λ l. TakesFrames before before (items old) (items l) 0) (sym back.0) (frames_none before (items old)))
-
-pub kept_back : {A E L : Type 0} (B : E → Type 0) (new old : L) (now was : Option Record) (r : Result A E) → IfErr r (λ e. B e × (new ≡ old) × (now ≡ was)) → IfErr r (λ e. (new ≡ old) × (is_some now ≡ is_some was))
-kept_back B new old now was (Ok a) h = tt
-kept_back B new old now was (Err e) h = (h.1, ap is_some h.2)
-
 -- The jobs of a turn.
 
 frames_have_no_jobs : (xs : List Entry) → All (λ x. IsTrue (is_delivery x.input)) xs → jobs_in xs ≡ []
@@ -171,12 +138,13 @@ jobs_append : (xs ys : List Entry) → jobs_in (xs ++ ys) ≡ jobs_in xs ++ jobs
 jobs_append [] ys = refl
 jobs_append (x ∷ xs) ys = ap (λ l. job_of x.input ++ l) (jobs_append xs ys) ∙ sym (append_assoc (job_of x.input) (jobs_in xs) (jobs_in ys))
 
-jobs_added : (before after : Bool) (old new : List Entry) (receipt : Option Receipt) (n : ℕ) → TakesFrames before after (old ++ map entry_of (option_items receipt)) new n → jobs_in new ≡ jobs_in old ++ option_items (option_map (λ x. x.job) receipt)
-jobs_added before after old new receipt n t =
+jobs_added : (before after : Bool) (took : List Frame) (old new : List Entry) (receipt : Option Receipt) (n : ℕ) → EntersFrames before after took (old ++ map entry_of (option_items receipt)) new n → jobs_in new ≡ jobs_in old ++ option_items (option_map (λ x. x.job) receipt)
+jobs_added before after took old new receipt n t =
     ap jobs_in t.all ∙ jobs_append (old ++ map entry_of (option_items receipt)) t.frames ∙ ap (λ l. jobs_in (old ++ map entry_of (option_items receipt)) ++ l) (frames_have_no_jobs t.frames t.each) ∙ append-nil _
     ∙ jobs_append old (map entry_of (option_items receipt)) ∙ ap (λ l. jobs_in old ++ l) (receipt_jobs receipt)
 
-pub jobs_done : {E : Type 0} (S : TurnReport → Type 0) (after : Bool) (r : Result TurnReport E) (old begun new : List Entry) (ready job : Option Job) → begun ≡ old → ready ≡ job → IfOk r (λ report. (option_map (λ x. x.job) report.receipt ≡ ready) × S report)
-    → IfOk r (λ report. TakesFrames (open_after report.receipt) after (begun ++ map entry_of (option_items report.receipt)) new report.applied) → IfOk r (λ report. jobs_in new ≡ jobs_in old ++ option_items job)
-jobs_done S after (Ok report) old begun new ready job same is done entered = jobs_added (open_after report.receipt) after begun new report.receipt report.applied entered ∙ (λ i. jobs_in (same i) ++ option_items ((done.0 ∙ is) i))
-jobs_done S after (Err e) old begun new ready job same is done entered = tt
+pub jobs_done : {E : Type 0} (S : TurnReport → Type 0) (me low high : ℕ) (noted noted' : List Frame) (after : Bool) (r : Result TurnReport E) (old begun new : List Entry) (ready job : Option Job) → begun ≡ old → ready ≡ job → IfOk r (λ report. (option_map (λ x. x.job) report.receipt ≡ ready) × S report)
+    → IfOk r (λ report. TakesFrames me low high noted noted' (open_after report.receipt) after (begun ++ map entry_of (option_items report.receipt)) new report.applied) → IfOk r (λ report. jobs_in new ≡ jobs_in old ++ option_items job)
+jobs_done S me low high noted noted' after (Ok report) old begun new ready job same is done entered =
+    jobs_added (open_after report.receipt) after entered.took begun new report.receipt report.applied entered.enters ∙ (λ i. jobs_in (same i) ++ option_items ((done.0 ∙ is) i))
+jobs_done S me low high noted noted' after (Err e) old begun new ready job same is done entered = tt

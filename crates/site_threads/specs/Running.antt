@@ -65,6 +65,7 @@ pub record Followed (e f : Log) (r : Record) : Type 0 where
   pub site : f.site ≡ e.site
   pub last : f.last ≡ r
   pub noted : f.noted ≡ e.noted
+  pub sent : f.sent ≡ e.sent
   pub marks : length f.inputs ≤ length e.inputs + 1
 
 abbrev pub Follows : List Log → Record → List Log → Type 0

@@ -1,10 +1,11 @@
 //! The frames that a site takes and posts in a turn.
-ghost use Rattle.std.specs.Prelude.{◌≡◌, ◌≢◌, ◌+◌, ◌^◌, ◌<◌, ◌≤◌, IfSome, IsSome, IsTrue, is_some, cond, is_ok, vec_len, vec_capacity};
+ghost use Rattle.std.specs.Prelude.{◌≡◌, ◌≢◌, ◌+◌, ◌^◌, ◌<◌, ◌≤◌, [], ◌∷◌, IfSome, IsSome, is_some, cond, is_ok, vec_len, vec_capacity};
+ghost use Rattle.site_core.specs.declared.inputs.SiteInput.TheVariants.{Deliver};
+ghost use Rattle.wire_core.specs.Answers.{MatchPost};
 ghost use Rattle.wire_core.specs.Seats.{IsSeatOf};
-ghost use Rattle.site_threads.specs.Jobs.{is_delivery};
 ghost use Rattle.site_threads.specs.Keepers.{shown_in};
 ghost use Rattle.site_threads.specs.Offers.{IsFor};
-ghost use Rattle.site_threads.specs.Passing.{TakesFrames};
+ghost use Rattle.site_threads.specs.Passing.{noted_by, sent_by, EntersFrames, PassNothing, PostsToEach, TakesOfEach};
 ghost use Rattle.site_threads.specs.Running.{marks_in, MayDeliver};
 ghost use Rattle.site_threads.specs.Sites.{IsSite, Continues};
 
@@ -31,7 +32,8 @@ impl<K: SiteKeeper> Site<K> {
         requires room { vec_len self.old.entries < vec_capacity self.old.entries }
         ensures site { IsSite K.shown K.may self.new }
         ensures same { Continues 1 wire.now self.old self.new }
-        ensures frames { TakesFrames (is_some (shown_in K.shown self.old.keeper)) (is_some (shown_in K.shown self.new.keeper)) self.old.entries.items self.new.entries.items result }
+        ensures frames { TakesOfEach K.shown other (other + 1) self.old self.new result }
+        ensures sent { sent_by self.new.seat.logs ≡ sent_by self.old.seat.logs }
         ensures room { (vec_capacity self.old.entries ≤ vec_capacity self.new.entries) × (vec_len self.new.entries ≤ vec_len self.old.entries + 1) }
         ensures count { result ≤ 1 }
     {
@@ -45,26 +47,26 @@ impl<K: SiteKeeper> Site<K> {
         let Ok(copy) = frame.copy(alloc) else {
             return 0;
         };
-        self.enter(wire, SiteInput::Deliver(frame), SiteInput::Deliver(copy))
+        self.enter(wire, frame, copy)
     }
 
-    /// Applies the input that delivers a frame, and enters it. How many steps were entered.
-    fn enter(&mut self, wire: &Wire, input: SiteInput, copy: SiteInput) -> u64
+    /// Applies a frame that was taken, and enters it. How many steps were entered.
+    fn enter(&mut self, wire: &Wire, frame: Frame, copy: Frame) -> u64
         requires seat { IsSeatOf wire.now self.old.seat }
         requires site { IsSite K.shown K.may self.old }
         requires few { marks_in self.old.seat.logs < 2 ^ 62 }
         requires open { IsSome (shown_in K.shown self.old.keeper) }
-        requires copy { copy ≡ input }
-        requires frame { IsTrue (is_delivery copy) }
-        requires noted { MayDeliver input self.old.seat.logs }
+        requires copy { copy ≡ frame }
+        requires noted { MayDeliver (Deliver frame) self.old.seat.logs }
         requires room { vec_len self.old.entries < vec_capacity self.old.entries }
         ensures site { IsSite K.shown K.may self.new }
         ensures same { Continues 1 wire.now self.old self.new }
-        ensures frames { TakesFrames (is_some (shown_in K.shown self.old.keeper)) (is_some (shown_in K.shown self.new.keeper)) self.old.entries.items self.new.entries.items result }
+        ensures frames { EntersFrames (is_some (shown_in K.shown self.old.keeper)) (is_some (shown_in K.shown self.new.keeper)) (frame ∷ []) self.old.entries.items self.new.entries.items result }
+        ensures passes { PassNothing self.old.seat.logs self.new.seat.logs }
         ensures room { (vec_capacity self.old.entries ≤ vec_capacity self.new.entries) × (vec_len self.new.entries ≤ vec_len self.old.entries + 1) }
         ensures count { result ≤ 1 }
     {
-        let taken = self.take_in(wire, input, copy);
+        let taken = self.take_in(wire, SiteInput::Deliver(frame), SiteInput::Deliver(copy));
         count_entered(taken)
     }
 
@@ -76,6 +78,8 @@ impl<K: SiteKeeper> Site<K> {
         ensures site { IsSite K.shown K.may self.new }
         ensures same { Continues 0 wire.now self.old self.new }
         ensures entries { (self.new.entries ≡ self.old.entries) × (self.new.keeper ≡ self.old.keeper) }
+        ensures posted { PostsToEach K.shown to (to + 1) self.old self.new result }
+        ensures noted { noted_by self.new.seat.logs ≡ noted_by self.old.seat.logs }
         ensures count { result ≤ 1 }
     {
         let place = to.number() as usize;
@@ -95,7 +99,6 @@ impl<K: SiteKeeper> Site<K> {
     }
 
     /// The same for the site of this number, if it is another.
-    #[tactic(auto, using(crate::proofs::Passed::frames_none))]
     fn receive_from(&mut self, wire: &Wire, alloc: Global, number: u64) -> u64
         requires seat { IsSeatOf wire.now self.old.seat }
         requires site { IsSite K.shown K.may self.old }
@@ -104,7 +107,8 @@ impl<K: SiteKeeper> Site<K> {
         requires room { vec_len self.old.entries < vec_capacity self.old.entries }
         ensures site { IsSite K.shown K.may self.new }
         ensures same { Continues 1 wire.now self.old self.new }
-        ensures frames { TakesFrames (is_some (shown_in K.shown self.old.keeper)) (is_some (shown_in K.shown self.new.keeper)) self.old.entries.items self.new.entries.items result }
+        ensures frames { TakesOfEach K.shown number (number + 1) self.old self.new result }
+        ensures sent { sent_by self.new.seat.logs ≡ sent_by self.old.seat.logs }
         ensures room { (vec_capacity self.old.entries ≤ vec_capacity self.new.entries) × (vec_len self.new.entries ≤ vec_len self.old.entries + 1) }
         ensures count { result ≤ 1 }
     {
@@ -128,6 +132,8 @@ impl<K: SiteKeeper> Site<K> {
         ensures site { IsSite K.shown K.may self.new }
         ensures same { Continues 0 wire.now self.old self.new }
         ensures entries { (self.new.entries ≡ self.old.entries) × (self.new.keeper ≡ self.old.keeper) }
+        ensures posted { PostsToEach K.shown number (number + 1) self.old self.new result }
+        ensures noted { noted_by self.new.seat.logs ≡ noted_by self.old.seat.logs }
         ensures count { result ≤ 1 }
     {
         match SiteNo::of(number) {
@@ -143,7 +149,6 @@ impl<K: SiteKeeper> Site<K> {
     }
 
     /// Takes and applies at most one frame from each other site. How many were entered.
-    #[tactic(auto, using(crate::proofs::Passed::frames_none, crate::proofs::Passed::frames_more))]
     pub fn receive_all(&mut self, wire: &Wire, alloc: Global) -> u64
         requires seat { IsSeatOf wire.now self.old.seat }
         requires site { IsSite K.shown K.may self.old }
@@ -151,7 +156,8 @@ impl<K: SiteKeeper> Site<K> {
         requires room { vec_len self.old.entries + wire.now.sites ≤ vec_capacity self.old.entries }
         ensures site { IsSite K.shown K.may self.new }
         ensures same { Continues 16 wire.now self.old self.new }
-        ensures frames { TakesFrames (is_some (shown_in K.shown self.old.keeper)) (is_some (shown_in K.shown self.new.keeper)) self.old.entries.items self.new.entries.items result }
+        ensures frames { TakesOfEach K.shown 0 wire.now.sites self.old self.new result }
+        ensures sent { sent_by self.new.seat.logs ≡ sent_by self.old.seat.logs }
     {
         self.owed = nothing_owed();
         let mut entered = 0;
@@ -168,6 +174,8 @@ impl<K: SiteKeeper> Site<K> {
         ensures site { IsSite K.shown K.may self.new }
         ensures same { Continues 0 wire.now self.old self.new }
         ensures entries { (self.new.entries ≡ self.old.entries) × (self.new.keeper ≡ self.old.keeper) }
+        ensures posted { PostsToEach K.shown 0 wire.now.sites self.old self.new result }
+        ensures noted { noted_by self.new.seat.logs ≡ noted_by self.old.seat.logs }
         ensures count { result ≤ wire.now.sites }
     {
         let mut posted = 0;
@@ -217,7 +225,8 @@ fn count_entered(taken: Result<Reply, SiteInput>) -> u64
 
 /// How many frames were posted.
 fn count_posted(answer: Post) -> u64
-    ensures { result ≤ 1 }
+    ensures count { result ≤ 1 }
+    ensures posted { MatchPost answer (result ≡ 1) (λ f. result ≡ 0) }
 {
     match answer {
         Post::Posted => 1,

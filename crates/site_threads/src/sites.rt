@@ -6,6 +6,7 @@ ghost use Rattle.wire_core.specs.Seats.{IsSeatOf};
 ghost use Rattle.site_threads.specs.Answering.{Opened, Told};
 ghost use Rattle.site_threads.specs.Jobs.{entry_of, input_of, is_stop, open_after, option_items};
 ghost use Rattle.site_threads.specs.Keepers.{shown_in, may_in};
+ghost use Rattle.site_threads.specs.Passing.{PassNothing};
 ghost use Rattle.site_threads.specs.Running.{MayDeliver, marks_in};
 ghost use Rattle.site_threads.specs.Sites.{IsSite, Continues};
 
@@ -53,6 +54,7 @@ impl<K: SiteKeeper> Site<K> {
         ensures site { IsSite K.shown K.may self.new }
         ensures same { Continues 1 wire.now self.old self.new }
         ensures entries { self.new.entries ≡ self.old.entries }
+        ensures passes { PassNothing self.old.seat.logs self.new.seat.logs }
         ensures open { IfOk result (λ _. IsSome (shown_in K.shown self.new.keeper)) }
         ensures opened { IfOk result (λ _. Opened K.shown K.reopens self.old.keeper self.new.keeper) }
         ensures stays { (r : Record) → shown_in K.shown self.old.keeper ≡ Some r → shown_in K.shown self.new.keeper ≡ Some r }
@@ -105,6 +107,7 @@ impl<K: SiteKeeper> Site<K> {
         ensures entered { IfOk result (λ reply. self.new.entries.items ≡ self.old.entries.items ++ (record { number = vec_len self.old.entries + 1; input = copy; reply = reply }) ∷ []) }
         ensures told { IfOk result (λ reply. Told K.shown K.may K.applies self.old.keeper input reply self.new.keeper) }
         ensures stopped { IfOk result (λ reply. is_some (shown_in K.shown self.new.keeper) ≡ not (is_stop reply)) }
+        ensures passes { PassNothing self.old.seat.logs self.new.seat.logs }
         ensures room { (vec_capacity self.old.entries ≤ vec_capacity self.new.entries) × (vec_len self.new.entries ≤ vec_len self.old.entries + 1) }
         ensures back { IfErr result (λ back. (back ≡ copy) × (self.new.entries ≡ self.old.entries) × (shown_in K.shown self.new.keeper ≡ shown_in K.shown self.old.keeper)) }
     {
@@ -140,6 +143,7 @@ impl<K: SiteKeeper> Site<K> {
         ensures entered { IfOk result (λ receipt. self.new.entries.items ≡ self.old.entries.items ++ map entry_of (option_items receipt)) }
         ensures told { IfOk result (λ receipt. IfSome receipt (λ x. Told K.shown K.may K.applies self.old.keeper (input_of x.job) x.reply self.new.keeper)) }
         ensures stopped { IfOk result (λ receipt. is_some (shown_in K.shown self.new.keeper) ≡ open_after receipt) }
+        ensures passes { PassNothing self.old.seat.logs self.new.seat.logs }
         ensures room { (vec_capacity self.old.entries ≤ vec_capacity self.new.entries) × (vec_len self.new.entries ≤ vec_len self.old.entries + 1) }
         ensures back { IfErr result (λ job. (Some job ≡ option_map (λ x. x.job) ready) × (self.new.entries ≡ self.old.entries) × (shown_in K.shown self.new.keeper ≡ shown_in K.shown self.old.keeper)) }
     {
@@ -165,6 +169,7 @@ impl<K: SiteKeeper> Site<K> {
         ensures entered { IfOk result (λ receipt. self.new.entries.items ≡ self.old.entries.items ++ entry_of receipt ∷ []) }
         ensures told { IfOk result (λ receipt. Told K.shown K.may K.applies self.old.keeper (input_of receipt.job) receipt.reply self.new.keeper) }
         ensures stopped { IfOk result (λ receipt. is_some (shown_in K.shown self.new.keeper) ≡ not (is_stop receipt.reply)) }
+        ensures passes { PassNothing self.old.seat.logs self.new.seat.logs }
         ensures room { (vec_capacity self.old.entries ≤ vec_capacity self.new.entries) × (vec_len self.new.entries ≤ vec_len self.old.entries + 1) }
         ensures back { IfErr result (λ job. (job ≡ ready.job) × (self.new.entries ≡ self.old.entries) × (shown_in K.shown self.new.keeper ≡ shown_in K.shown self.old.keeper)) }
     {

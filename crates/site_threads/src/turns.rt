@@ -1,11 +1,11 @@
 //! One turn of a site.
-ghost use Rattle.std.specs.Prelude.{◌≡◌, ◌≢◌, ◌+◌, ◌-◌, ◌++◌, ◌^◌, ◌<◌, ◌≤◌, [], Some, None, IfOk, IfErr, IfSome, IsSome, is_some, Option, OnOk, map, min, option_map, vec_len, vec_capacity};
+ghost use Rattle.std.specs.Prelude.{◌≡◌, ◌≢◌, ◌+◌, ◌-◌, ◌++◌, ◌^◌, ◌<◌, ◌≤◌, [], Some, None, IfOk, IfErr, IfSome, IsSome, Option, OnOk, min, option_map, vec_len, vec_capacity};
 ghost use Rattle.site_core.specs.Records.{Record};
 ghost use Rattle.wire_core.specs.Seats.{IsSeatOf};
 ghost use Rattle.site_threads.specs.Answering.{DidJob, Opened, Told};
-ghost use Rattle.site_threads.specs.Jobs.{jobs_in, entry_of, input_of, open_after, option_items};
+ghost use Rattle.site_threads.specs.Jobs.{jobs_in, input_of, option_items};
 ghost use Rattle.site_threads.specs.Keepers.{shown_in};
-ghost use Rattle.site_threads.specs.Passing.{TakesFrames};
+ghost use Rattle.site_threads.specs.Passing.{PassNothing, PostsToEach, TakesAfterJob};
 ghost use Rattle.site_threads.specs.Running.{marks_in};
 ghost use Rattle.site_threads.specs.Sites.{IsSite, Continues};
 ghost use Rattle.site_threads.specs.Starting.{IsLastMarked};
@@ -116,11 +116,12 @@ impl<K: SiteKeeper, G: Gate> SiteTurn<K, G> {
         ensures same { Continues 18 wire.now self.old.site self.new.site }
         ensures turns { self.new.turns ≡ min (self.old.turns + 1) (2 ^ 64 - 1) }
         ensures job { IfOk result (λ report. (option_map (λ x. x.job) report.receipt ≡ job) × IfSome report.receipt (λ x. x.site ≡ self.old.site.me)) }
-        ensures entered { IfOk result (λ report. TakesFrames (open_after report.receipt) (is_some (shown_in K.shown self.new.site.keeper)) (self.old.site.entries.items ++ map entry_of (option_items report.receipt)) self.new.site.entries.items report.applied) }
+        ensures entered { IfOk result (TakesAfterJob K.shown wire.now.sites self.old.site self.new.site) }
+        ensures sent { IfOk result (λ report. PostsToEach K.shown 0 wire.now.sites self.old.site self.new.site report.posted) }
         ensures did { IfOk result (λ report. IfSome report.receipt (DidJob K.shown K.may K.applies K.reopens self.old.site.keeper)) }
         ensures jobs { IfOk result (λ report. jobs_in self.new.site.entries.items ≡ jobs_in self.old.site.entries.items ++ option_items job) }
         ensures posted { IfOk result (λ report. report.posted ≤ wire.now.sites) }
-        ensures back { IfErr result (λ fault. (fault.job ≡ job) × (self.new.site.entries.items ≡ self.old.site.entries.items)) }
+        ensures back { IfErr result (λ fault. (fault.job ≡ job) × (self.new.site.entries.items ≡ self.old.site.entries.items) × PassNothing self.old.site.seat.logs self.new.site.seat.logs) }
         ensures unchanged { IfErr result (λ fault. (r : Record) → shown_in K.shown self.old.site.keeper ≡ Some r → shown_in K.shown self.new.site.keeper ≡ Some r) }
         ensures lost { IfErr result (λ fault. IfLost fault.cause (shown_in K.shown self.new.site.keeper)) }
     {
@@ -152,6 +153,7 @@ impl<K: SiteKeeper, G: Gate> SiteTurn<K, G> {
         ensures same { Continues 1 wire.now self.old.site self.new.site }
         ensures turns { self.new.turns ≡ min (self.old.turns + 1) (2 ^ 64 - 1) }
         ensures entries { self.new.site.entries ≡ self.old.site.entries }
+        ensures passes { PassNothing self.old.site.seat.logs self.new.site.seat.logs }
         ensures open { IfOk result (λ _. IsSome (shown_in K.shown self.new.site.keeper)) }
         ensures opened { IfOk result (λ _. Opened K.shown K.reopens self.old.site.keeper self.new.site.keeper) }
         ensures stays { (r : Record) → shown_in K.shown self.old.site.keeper ≡ Some r → shown_in K.shown self.new.site.keeper ≡ Some r }
@@ -178,10 +180,11 @@ impl<K: SiteKeeper, G: Gate> SiteTurn<K, G> {
         ensures same { Continues 17 wire.now self.old.site self.new.site }
         ensures turns { self.new.turns ≡ self.old.turns }
         ensures job { IfOk result (λ report. (option_map (λ x. x.job) report.receipt ≡ option_map (λ x. x.job) ready) × IfSome report.receipt (λ x. x.site ≡ self.old.site.me)) }
-        ensures entered { IfOk result (λ report. TakesFrames (open_after report.receipt) (is_some (shown_in K.shown self.new.site.keeper)) (self.old.site.entries.items ++ map entry_of (option_items report.receipt)) self.new.site.entries.items report.applied) }
+        ensures entered { IfOk result (TakesAfterJob K.shown wire.now.sites self.old.site self.new.site) }
+        ensures sent { IfOk result (λ report. PostsToEach K.shown 0 wire.now.sites self.old.site self.new.site report.posted) }
         ensures did { IfOk result (λ report. IfSome report.receipt (λ x. (left : Option K) × Told K.shown K.may K.applies self.old.site.keeper (input_of x.job) x.reply left)) }
         ensures posted { IfOk result (λ report. report.posted ≤ wire.now.sites) }
-        ensures back { IfErr result (λ fault. (fault.job ≡ option_map (λ x. x.job) ready) × (self.new.site.entries ≡ self.old.site.entries) × (fault.cause ≡ TurnCause.NoMemory) × (shown_in K.shown self.new.site.keeper ≡ shown_in K.shown self.old.site.keeper)) }
+        ensures back { IfErr result (λ fault. (fault.job ≡ option_map (λ x. x.job) ready) × (self.new.site.entries ≡ self.old.site.entries) × PassNothing self.old.site.seat.logs self.new.site.seat.logs × (fault.cause ≡ TurnCause.NoMemory) × (shown_in K.shown self.new.site.keeper ≡ shown_in K.shown self.old.site.keeper)) }
     {
         match self.site.do_job(wire, ready) {
             Err(job) => Err(TurnFault {

@@ -4,6 +4,7 @@ use Rattle.keeper_core.specs.Keeping.{StaysClosed}
 use Rattle.site_threads.specs.Keepers.{shown_in, may_in}
 use Rattle.site_threads.specs.Running.{Follows}
 use Rattle.site_threads.specs.Stamps.{stamp}
+use Rattle.site_threads.proofs.Wired.{follows_pass}
 use Rattle.site_threads.proofs.Steps.{opened_follows, opened_runs, unopened_runs}
 use Rattle.site_threads.proofs.sites.Site.open_again.Goals as goal
 
@@ -41,3 +42,6 @@ returns-in-Some-last-clause-site g c =
       there = refl;
       runs = opened_runs _ _ _ _ _ _ _ c.requires.site.runs _ _ m.0 _ _ closed m.2 kept (subst (λ r. Follows s.seat.logs r c.follow-self.new.seat.logs) same f.follows) (f.stamped ∙ ap stamp same);
     }
+
+pub returns-in-Some-last-clause-passes : goal.returns-in-Some-last-clause-passes
+returns-in-Some-last-clause-passes g c = let h = c.requires.site.runs in follows_pass h.log c.args.self.now.seat.logs c.follow-self.new.seat.logs c.in-Some-view.record.now h.alone c.follow-self.ensures.follows

@@ -5,6 +5,7 @@ use Rattle.site_threads.specs.Jobs.{is_delivery, reply_to}
 use Rattle.site_threads.specs.Keepers.{shown_in, may_in}
 use Rattle.site_threads.specs.Running.{MayDeliver}
 use Rattle.site_threads.proofs.Answered.{told_so, stays_open}
+use Rattle.site_threads.proofs.Wired.{may_follow_pass}
 use Rattle.site_threads.proofs.Taking.{no_memory, may_follow, took_in}
 use Rattle.site_threads.proofs.sites.Site.take_in.Goals as goal
 
@@ -46,3 +47,6 @@ returns-clause-told g c =
 pub returns-clause-stopped : goal.returns-clause-stopped
 returns-clause-stopped g c =
     stays_open (shown_in g.K.SiteKeeper.shown c.args.self.now.keeper) _ (may_in g.K.SiteKeeper.may c.apply_to.new.keeper) c.args.input c.apply_to.result c.is_delivery-frame.result c.in-Some.reply c.requires.open c.apply_to.ensures.step (sym c.in-Some.is ∙ c.answered.ensures)
+
+pub returns-clause-passes : goal.returns-clause-passes
+returns-clause-passes g c = let h = c.requires.site.runs in may_follow_pass _ h.log c.args.self.now.seat.logs c.follow_shown-self.new.seat.logs _ _ h.alone c.follow_shown-self.ensures.follows

@@ -1,5 +1,6 @@
 use Rattle.std.proofs.Common.{ap, ◌∙◌}
 use Rattle.site_threads.proofs.Passed.{other_entries, jobs_done}
+use Rattle.site_threads.proofs.Wired.{turn_takes, turn_posts}
 use Rattle.site_threads.proofs.turns.SiteTurn.turn.Goals as goal
 
 pub returns-then-is_err-clause-site : goal.returns-then-is_err-clause-site
@@ -12,4 +13,11 @@ pub returns-in-Err-of-clause-site : goal.returns-in-Err-of-clause-site
 returns-in-Err-of-clause-site g c = record { there = c.begin.ensures.site.there; runs = other_entries _ _ _ _ _ _ _ c.begin.ensures.site.runs _ c.reserve.ensures.items }
 
 pub returns-in-Ok-clause-jobs : goal.returns-in-Ok-clause-jobs
-returns-in-Ok-clause-jobs g c = jobs_done _ _ c.go_on.result _ _ _ _ _ (c.reserve.ensures.items ∙ ap (λ v. v.items) c.begin.ensures.entries) c.in-Ok.ensures.ok c.go_on.ensures.job c.go_on.ensures.entered
+returns-in-Ok-clause-jobs g c = jobs_done _ _ _ _ _ _ _ c.go_on.result _ _ _ _ _ (c.reserve.ensures.items ∙ ap (λ v. v.items) c.begin.ensures.entries) c.in-Ok.ensures.ok c.go_on.ensures.job c.go_on.ensures.entered
+
+pub returns-in-Ok-clause-entered : goal.returns-in-Ok-clause-entered
+returns-in-Ok-clause-entered g c =
+    turn_takes c.go_on.result _ _ _ _ _ _ _ _ _ _ c.begin.ensures.same.me c.begin.ensures.passes.0 (c.reserve.ensures.items ∙ ap (λ v. v.items) c.begin.ensures.entries) c.go_on.ensures.entered
+
+pub returns-in-Ok-clause-sent : goal.returns-in-Ok-clause-sent
+returns-in-Ok-clause-sent g c = turn_posts c.go_on.result _ _ _ _ _ _ _ c.begin.ensures.same.me c.begin.ensures.passes.1 c.go_on.ensures.sent
