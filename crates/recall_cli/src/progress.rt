@@ -74,6 +74,8 @@ impl<'a> TellingGate<'a> {
 }
 
 impl Gate for TellingGate<'_> {
+    ghost gives_up = { λ gate site turn. ⊥ };
+
     fn enter(&mut self, _site: SiteNo, _turn: u64) -> Pass {
         if let Some(progress) = self.progress {
             progress.turns.fetch_add(1, Ordering::SeqCst);

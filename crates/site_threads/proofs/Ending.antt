@@ -1,5 +1,7 @@
 -- What is known of each site after its run.
-use Rattle.std.proofs.Common.{◌≡◌, inl, inr, ℕ, zero, suc, ◌+◌, ◌≤◌, Option, Some, None, IsSome, IfSome, true≢false, List, [], ◌∷◌, ◌++◌, All, map, drop, length, get_or, refl, sym, ap, ◌∙◌, subst, arith}
+use Rattle.std.proofs.Common.{◌≡◌, inl, inr, ℕ, zero, suc, ◌+◌, ◌≤◌, Option, Some, None, IsSome, IfSome, true≢false, List, [], ◌∷◌, ◌++◌, All, map, drop, length, slice_get, get_or, Result, refl, sym, ap, ◌∙◌, subst, arith}
+use Rattle.std.proofs.lemmas.Option.{same_Some}
+use Rattle.keeper_core.specs.declared.faults.Unopened.{Unopened}
 use Rattle.std.proofs.lemmas.List.Elements.{All-head, All-tail}
 use Rattle.std.specs.List.{AllZip, range_with_len}
 use Rattle.std.specs.Option.{option_or}
@@ -19,13 +21,12 @@ use Rattle.site_threads.specs.declared.turns.TurnCause.{TurnCause}
 use Rattle.site_threads.specs.declared.turns.TurnCause.TheVariants as turns
 use Rattle.site_threads.specs.Beginning.{BeganIn, TookEnd}
 use Rattle.site_threads.specs.Ends.{takes, IsOut}
-use Rattle.site_threads.specs.Gathering.{Opens, KeepersFit, Began, HasEnd, HasTurned, IsKept, AreOpenBefore, FitAfter, Hinders}
+use Rattle.site_threads.specs.Gathering.{Opens, KeepersFit, Began, HasEnd, HasTurned, IsKept, AreOpenBefore, Explains, FitAfter, Hinders, WasRefused}
 use Rattle.site_threads.specs.Jobs.{Kept, jobs_in, option_items}
 use Rattle.site_threads.specs.Keepers.{shown_in, may_in}
 use Rattle.site_threads.specs.Parting.{HasKeeper, LeavesList, cause_of, first_cause}
 use Rattle.site_threads.specs.Running.{Holding}
-use Rattle.site_threads.specs.Runs.{IsReady, Ran}
-use Rattle.site_threads.specs.Turns.{IfLost}
+use Rattle.site_threads.specs.Runs.{EndedBy, IsReady, Ran}
 use Rattle.site_threads.proofs.Gathering.{exact_when_fit}
 use Rattle.site_threads.proofs.Zips.{zip_through}
 
@@ -79,13 +80,13 @@ module _ {K : Type 0} (shown : K → Option Record) where
   named_fits may olds ks p (SiteLost site) n fit = fit
   named_fits may olds ks p (GaveUp site) n fit = fit
 
-module _ {K G : Type 0} (shown : K → Option Record) (may : K → Record → Type 0) (wire : Line) (most : ℕ) where
+module _ {K G : Type 0} (shown : K → Option Record) (may : K → Record → Type 0) (reopens : K → Result K (Unopened K) → Type 0) (gives_up : G → ℕ → ℕ → Type 0) (wire : Line) (most : ℕ) where
   -- Where no site ended its run.
 
-  opened : (old run : SiteRun K G) (k : K) → Ran shown may wire most old run → HasKeeper run k → run.fault ≡ None → (r : Record) × (shown k ≡ Some r)
+  opened : (old run : SiteRun K G) (k : K) → Ran shown may reopens gives_up wire most old run → HasKeeper run k → run.fault ≡ None → (r : Record) × (shown k ≡ Some r)
   opened old run k ran is fine = shown_record (shown k) (subst (λ (o : Option K). IsSome (shown_in shown o)) is (ran.is_open fine))
 
-  kept_one : (old run : SiteRun K G) (k : K) (l : SiteList) → Ran shown may wire most old run → HasKeeper run k → LeavesList run l → run.fault ≡ None → IsKept shown k l
+  kept_one : (old run : SiteRun K G) (k : K) (l : SiteList) → Ran shown may reopens gives_up wire most old run → HasKeeper run k → LeavesList run l → run.fault ≡ None → IsKept shown k l
   kept_one old run k l ran is left fine =
       let o = opened old run k ran is fine in
       let h = subst (λ (x : Option Record). Holding x (may_in may run.turn.site.keeper) run.turn.site.start.value run.turn.site.entries.items ran.run.site.runs.log) (ap (shown_in shown) is ∙ o.1) ran.run.site.runs.holding in
@@ -99,7 +100,7 @@ module _ {K G : Type 0} (shown : K → Option Record) (may : K → Record → Ty
         };
       }
 
-  pub kept_all : (olds runs : List (SiteRun K G)) (ks : List K) (ls : List SiteList) → AllZip (Ran shown may wire most) olds runs → AllZip HasKeeper runs ks → AllZip LeavesList runs ls → first_cause runs ≡ None → AllZip (IsKept shown) ks ls
+  pub kept_all : (olds runs : List (SiteRun K G)) (ks : List K) (ls : List SiteList) → AllZip (Ran shown may reopens gives_up wire most) olds runs → AllZip HasKeeper runs ks → AllZip LeavesList runs ls → first_cause runs ≡ None → AllZip (IsKept shown) ks ls
   kept_all [] [] [] [] a b c none = tt
   kept_all (o ∷ os) (r ∷ rs) (k ∷ ks) (l ∷ ls) a b c none =
       let n = neither (cause_of r.turn.site.me r.fault) (first_cause rs) none in
@@ -111,7 +112,7 @@ module _ {K G : Type 0} (shown : K → Option Record) (may : K → Record → Ty
   kept_all (o ∷ os) (r ∷ rs) [] ls a b c none = absurd b
   kept_all (o ∷ os) (r ∷ rs) (k ∷ ks) [] a b c none = absurd c
 
-  turned_one : (old run : SiteRun K G) (k : K) (l : SiteList) → IsReady shown may wire old → Ran shown may wire most old run → HasKeeper run k → LeavesList run l → run.fault ≡ None → HasTurned shown most k l
+  turned_one : (old run : SiteRun K G) (k : K) (l : SiteList) → IsReady shown may wire old → Ran shown may reopens gives_up wire most old run → HasKeeper run k → LeavesList run l → run.fault ≡ None → HasTurned shown most k l
   turned_one old run k l ready ran is left fine = record {
     asked = let few : run.turn.turns ≤ most = let none = ready.unasked in let more = ran.asked in omega (arith, none, more) in subst (λ (n : ℕ). n ≤ most) (sym left.turns) few;
     all = elim (ran.all fine) [
@@ -126,7 +127,7 @@ module _ {K G : Type 0} (shown : K → Option Record) (may : K → Record → Ty
     ];
   }
 
-  pub turned_all : (olds runs : List (SiteRun K G)) (ks : List K) (ls : List SiteList) → All (IsReady shown may wire) olds → AllZip (Ran shown may wire most) olds runs → AllZip HasKeeper runs ks → AllZip LeavesList runs ls → first_cause runs ≡ None → AllZip (HasTurned shown most) ks ls
+  pub turned_all : (olds runs : List (SiteRun K G)) (ks : List K) (ls : List SiteList) → All (IsReady shown may wire) olds → AllZip (Ran shown may reopens gives_up wire most) olds runs → AllZip HasKeeper runs ks → AllZip LeavesList runs ls → first_cause runs ≡ None → AllZip (HasTurned shown most) ks ls
   turned_all [] [] [] [] ready a b c none = tt
   turned_all (o ∷ os) (r ∷ rs) (k ∷ ks) (l ∷ ls) ready a b c none =
       let n = neither (cause_of r.turn.site.me r.fault) (first_cause rs) none in (
@@ -142,7 +143,7 @@ module _ {K G : Type 0} (shown : K → Option Record) (may : K → Record → Ty
 
   -- Where one did.
 
-  first_hinders : (a : ℕ) (olds runs : List (SiteRun K G)) (ks : List K) (cause : GatherCause) → AllZip (Ran shown may wire most) olds runs → AllZip HasKeeper runs ks → map (λ (r : SiteRun K G). r.turn.site.me) runs ≡ range_with_len a (length runs) → first_cause runs ≡ Some cause
+  first_hinders : (a : ℕ) (olds runs : List (SiteRun K G)) (ks : List K) (cause : GatherCause) → AllZip (Ran shown may reopens gives_up wire most) olds runs → AllZip HasKeeper runs ks → map (λ (r : SiteRun K G). r.turn.site.me) runs ≡ range_with_len a (length runs) → first_cause runs ≡ Some cause
       → (p : ℕ) × Names shown ks a p cause
   unfolding Names
   first_hinders a [] [] [] cause x y order is = let n : None ≡ Some cause = is in cc
@@ -153,10 +154,10 @@ module _ {K G : Type 0} (shown : K → Option Record) (may : K → Record → Ty
         | Some turns.NoMemory ↦ λ f h. (0, subst (Names shown (k ∷ ks) a 0) (let e : Some NoMemory ≡ Some cause = h in let q : NoMemory ≡ cause = cc in q) tt)
         | Some turns.GaveUp ↦ λ f h. (0, subst (Names shown (k ∷ ks) a 0) (let e : Some (GaveUp r.turn.site.me) ≡ Some cause = h in let q : GaveUp r.turn.site.me ≡ cause = cc in q) (me ∙ (let z : a ≡ a + 0 = omega arith in z), none_before shown (k ∷ ks)))
         | Some (turns.Lost why) ↦ λ f h.
-            let lost : IfSome (Some (turns.Lost why)) (λ c. IfLost c (shown_in shown r.turn.site.keeper)) = subst (λ z. IfSome z (λ c. IfLost c (shown_in shown r.turn.site.keeper))) f x.0.lost in (
+            let lost : EndedBy shown reopens gives_up r (turns.Lost why) = subst (λ z. IfSome z (EndedBy shown reopens gives_up r)) f x.0.why in (
               0,
               subst (Names shown (k ∷ ks) a 0) (let e : Some (SiteLost r.turn.site.me) ≡ Some cause = h in let q : SiteLost r.turn.site.me ≡ cause = cc in q)
-                  (me ∙ (let z : a ≡ a + 0 = omega arith in z), ((k, refl, ap (shown_in shown) (sym y.0) ∙ lost.closed), none_before shown (k ∷ ks))),
+                  (me ∙ (let z : a ≡ a + 0 = omega arith in z), ((k, refl, ap (shown_in shown) (sym y.0) ∙ lost.hinders.refused.stays), none_before shown (k ∷ ks))),
             )
       ]
       refl is
@@ -165,23 +166,77 @@ module _ {K G : Type 0} (shown : K → Option Record) (may : K → Record → Ty
   first_hinders a [] [] (k ∷ ks) cause x y order is = absurd y
   first_hinders a (o ∷ os) (r ∷ rs) [] cause x y order is = absurd y
 
-  pub hinders_all : (firsts : List K) (olds runs : List (SiteRun K G)) (ks : List K) (cause : Option GatherCause) → AllZip (Ran shown may wire most) olds runs → AllZip HasKeeper runs ks → map (λ (r : SiteRun K G). r.turn.site.me) runs ≡ range_with_len 0 (length runs)
+  -- what stands behind it, of the sites from a on
+  ExplainsFrom : ℕ → List K → GatherCause → Type 0
+  ExplainsFrom a ks (NotAWorld fault) = ⊥
+  ExplainsFrom a ks NoMemory = Unit {0}
+  ExplainsFrom a ks (SiteLost site) = (p : ℕ) × (site ≡ a + p) × (k : K) × (slice_get ks p ≡ Some k) × WasRefused shown reopens k
+  ExplainsFrom a ks (GaveUp site) = (gate : G) × (turn : ℕ) × (turn ≤ most) × gives_up gate site turn
+
+  explains_more : (a : ℕ) (k : K) (ks : List K) (cause : GatherCause) → ExplainsFrom (a + 1) ks cause → ExplainsFrom a (k ∷ ks) cause
+  unfolding ExplainsFrom
+  explains_more a k ks (NotAWorld fault) e = absurd e
+  explains_more a k ks NoMemory e = tt
+  explains_more a k ks (SiteLost site) e = (suc e.0, e.1 ∙ (let z : a + 1 + e.0 ≡ a + suc e.0 = omega arith in z), e.2, e.3, e.4)
+  explains_more a k ks (GaveUp site) e = e
+
+  explained : (a : ℕ) (olds runs : List (SiteRun K G)) (ks : List K) (cause : GatherCause) → All (IsReady shown may wire) olds → AllZip (Ran shown may reopens gives_up wire most) olds runs → AllZip HasKeeper runs ks
+      → map (λ (r : SiteRun K G). r.turn.site.me) runs ≡ range_with_len a (length runs) → first_cause runs ≡ Some cause → ExplainsFrom a ks cause
+  unfolding ExplainsFrom
+  explained a [] [] [] cause ready x y order is = let n : None ≡ Some cause = is in cc
+  explained a (o ∷ os) (r ∷ rs) (k ∷ ks) cause ready x y order is =
+      let unasked = (All-head (IsReady shown may wire) o os ready).unasked in
+      let asked = x.0.asked in
+      let why = EndedBy shown reopens gives_up r in
+      elim r.fault as (λ f. r.fault ≡ f → option_or (cause_of r.turn.site.me f) (first_cause rs) ≡ Some cause → ExplainsFrom a (k ∷ ks) cause) [
+        | None ↦ λ f h. explains_more a k ks cause (explained (a + 1) os rs ks cause (All-tail (IsReady shown may wire) o os ready) x.1 y.1 (ap (drop 1) order) h)
+        | Some turns.NoMemory ↦ λ f h. subst (ExplainsFrom a (k ∷ ks)) (let e : Some NoMemory ≡ Some cause = h in let q : NoMemory ≡ cause = cc in q) tt
+        | Some turns.GaveUp ↦ λ f h.
+            let e : why turns.GaveUp = subst (λ z. IfSome z why) f x.0.why in
+            let few : e.turn ≤ most = let last = e.asked in omega (arith, unasked, asked, last) in
+            subst (ExplainsFrom a (k ∷ ks)) (let n : Some (GaveUp r.turn.site.me) ≡ Some cause = h in let q : GaveUp r.turn.site.me ≡ cause = cc in q) (e.gate, e.turn, few, e.hinders)
+        | Some (turns.Lost fault) ↦ λ f h.
+            let e : why (turns.Lost fault) = subst (λ z. IfSome z why) f x.0.why in
+            let no = e.hinders.refused in
+            let me : r.turn.site.me ≡ a = ap (λ (l : List ℕ). get_or l 0 0) order in
+            subst (ExplainsFrom a (k ∷ ks)) (let n : Some (SiteLost r.turn.site.me) ≡ Some cause = h in let q : SiteLost r.turn.site.me ≡ cause = cc in q)
+            (0, me ∙ (let z : a ≡ a + 0 = omega arith in z), k, refl, record { was = no.was; left = no.left; closed = no.closed; refused = no.refused; is = same_Some k no.left.keeper (sym y.0 ∙ no.new_is) })
+      ]
+      refl is
+  explained a [] (r ∷ rs) ks cause ready x y order is = absurd x
+  explained a (o ∷ os) [] ks cause ready x y order is = absurd x
+  explained a [] [] (k ∷ ks) cause ready x y order is = absurd y
+  explained a (o ∷ os) (r ∷ rs) [] cause ready x y order is = absurd y
+
+  explains : (ks : List K) (cause : GatherCause) → ExplainsFrom 0 ks cause → Explains shown reopens gives_up most ks cause
+  unfolding ExplainsFrom
+  explains ks (NotAWorld fault) e = absurd e
+  explains ks NoMemory e = tt
+  explains ks (SiteLost site) e = (e.2, ap (slice_get ks) (e.1 ∙ (let z : 0 + e.0 ≡ e.0 = omega arith in z)) ∙ e.3, e.4)
+  explains ks (GaveUp site) e = e
+
+  pub explains_all : (olds runs : List (SiteRun K G)) (ks : List K) (cause : Option GatherCause) → All (IsReady shown may wire) olds → AllZip (Ran shown may reopens gives_up wire most) olds runs → AllZip HasKeeper runs ks
+      → map (λ (r : SiteRun K G). r.turn.site.me) runs ≡ range_with_len 0 (length runs) → cause ≡ first_cause runs → IfSome cause (Explains shown reopens gives_up most ks)
+  explains_all olds runs ks None ready x y order is = tt
+  explains_all olds runs ks (Some cause) ready x y order is = explains ks cause (explained 0 olds runs ks cause ready x y order (sym is))
+
+  pub hinders_all : (firsts : List K) (olds runs : List (SiteRun K G)) (ks : List K) (cause : Option GatherCause) → AllZip (Ran shown may reopens gives_up wire most) olds runs → AllZip HasKeeper runs ks → map (λ (r : SiteRun K G). r.turn.site.me) runs ≡ range_with_len 0 (length runs)
       → cause ≡ first_cause runs → KeepersFit shown may ks → IfSome cause (λ c. Hinders shown ks c × FitAfter shown may firsts c ks)
   hinders_all firsts olds runs ks None x y order is fit = tt
   hinders_all firsts olds runs ks (Some cause) x y order is fit = let n = first_hinders 0 olds runs ks cause x y order (sym is) in (named_hinders shown ks n.0 cause n.1, named_fits shown may firsts ks n.0 cause n.1 fit)
 
-module _ {K G : Type 0} (shown : K → Option Record) (may : K → Record → Type 0) (wire : Line) (most : ℕ) (olds runs : List (SiteRun K G)) (ls : List SiteList) (ran : AllZip (Ran shown may wire most) olds runs) (left : AllZip LeavesList runs ls) where
+module _ {K G : Type 0} (shown : K → Option Record) (may : K → Record → Type 0) (reopens : K → Result K (Unopened K) → Type 0) (gives_up : G → ℕ → ℕ → Type 0) (wire : Line) (most : ℕ) (olds runs : List (SiteRun K G)) (ls : List SiteList) (ran : AllZip (Ran shown may reopens gives_up wire most) olds runs) (left : AllZip LeavesList runs ls) where
   -- each list is of the site that began so, and has its end of the desk
 
   pub began_all : (ks : List K) → AllZip (BeganIn shown) ks olds → AllZip (Began shown) ks ls
   began_all ks start =
       zip_through (BeganIn {G = G} shown) LeavesList (Began shown) ks runs ls (λ k r l b z. b ∙ ap Some (sym z.start))
-      (zip_through (BeganIn {G = G} shown) (Ran shown may wire most) (BeganIn shown) ks olds runs (λ k o r b z. b ∙ ap Some (sym z.same.start)) start ran) left
+      (zip_through (BeganIn {G = G} shown) (Ran shown may reopens gives_up wire most) (BeganIn shown) ks olds runs (λ k o r b z. b ∙ ap Some (sym z.same.start)) start ran) left
 
   pub ends_all : (ds : List DeskOut) → AllZip (TookEnd {K = K} {G = G}) ds olds → AllZip HasEnd ds ls
   ends_all ds took =
       zip_through (TookEnd {K = K} {G = G}) LeavesList HasEnd ds runs ls (λ d r l t z. record { desk = ap (λ (o : DeskOut). receives_on o.from) z.out ∙ t.desk; limit = ap (λ (o : DeskOut). o.limit) z.out ∙ t.limit })
-      (zip_through (TookEnd {K = K} {G = G}) (Ran shown may wire most) TookEnd ds olds runs (λ d o r t z. record { desk = z.same.desk ∙ t.desk; limit = z.same.limit ∙ t.limit }) took ran) left
+      (zip_through (TookEnd {K = K} {G = G}) (Ran shown may reopens gives_up wire most) TookEnd ds olds runs (λ d o r t z. record { desk = z.same.desk ∙ t.desk; limit = z.same.limit ∙ t.limit }) took ran) left
 
 -- before the first turn, where all are open
 only_shown : {K : Type 0} (shown : K → Option Record) (may : K → Record → Type 0) (ks : List K) (rs qs : List Record) → AllZip (λ k r. shown k ≡ Some r) ks rs → AllZip (λ k r. Opens (shown k) (may k) r) ks qs → qs ≡ rs

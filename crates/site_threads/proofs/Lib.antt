@@ -11,6 +11,7 @@ mod Offering
 mod OneLog
 mod Parting
 pub mod Passed
+mod Refusing
 mod Sending
 mod Settling
 mod Stamping

@@ -3,6 +3,7 @@ use Rattle.std.specs.Prelude.{◌≡◌, ⊤, ◌⊎◌, ◌<◌, ◌≤◌, ℕ
 use Rattle.std.specs.List.{AllZip}
 use Rattle.crossbeam_channel.specs.Ends.{receives_on}
 use Rattle.frame_core.specs.Numbers.{Recall}
+use Rattle.keeper_core.specs.declared.faults.Unopened.{Unopened}
 use Rattle.site_core.specs.Records.{Record}
 use Rattle.world_core.specs.Faults.{HindersKeepers}
 use Rattle.world_core.specs.Keepers.{IsFirstClosed}
@@ -84,6 +85,21 @@ Hinders shown keepers (GaveUp site) = AreOpenBefore shown keepers site
 abbrev pub FitAfter : {K : Type 0} → (K → Option Record) → (K → Record → Type 0) → List K → GatherCause → List K → Type 0
 FitAfter shown may old (NotAWorld fault) new = new ≡ old
 FitAfter shown may old cause new = KeepersFit shown may new
+
+-- an opening of this keeper, which was closed, was refused
+pub record WasRefused {K : Type 0} (shown : K → Option Record) (reopens : K → Result K (Unopened K) → Type 0) (k : K) : Type 0 where
+  pub was : K
+  pub left : Unopened K
+  pub closed : shown was ≡ None
+  pub refused : reopens was (Err left)
+  pub is : k ≡ left.keeper
+
+-- what stands behind the cause: the site's gate, asked for one of so many turns, gave up, or the opening was refused
+abbrev pub Explains : {K G : Type 0} → (K → Option Record) → (K → Result K (Unopened K) → Type 0) → (G → ℕ → ℕ → Type 0) → ℕ → List K → GatherCause → Type 0
+Explains shown reopens gives_up turns keepers (NotAWorld fault) = ⊤
+Explains shown reopens gives_up turns keepers NoMemory = ⊤
+Explains {K} shown reopens gives_up turns keepers (SiteLost site) = (k : K) × (slice_get keepers site ≡ Some k) × WasRefused shown reopens k
+Explains {K} {G} shown reopens gives_up turns keepers (GaveUp site) = (gate : G) × (turn : ℕ) × (turn ≤ turns) × gives_up gate site turn
 
 -- the receipt's step stands in its site's list
 abbrev pub IsConfirmed : List SiteList → Receipt → Type 0

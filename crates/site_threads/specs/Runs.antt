@@ -1,5 +1,5 @@
 -- What clauses say of the sites of a run.
-use Rattle.std.specs.Prelude.{◌≡◌, ◌⊎◌, ℕ, ◌+◌, ◌≤◌, ◌++◌, Bool, true, false, Option, None, IsSome, IfSome}
+use Rattle.std.specs.Prelude.{◌≡◌, ◌⊎◌, ℕ, ◌+◌, ◌≤◌, ◌++◌, Bool, true, false, Option, None, Result, IsSome, IfSome}
 use Rattle.crossbeam_channel.specs.Ends.{receives_on}
 use Rattle.site_core.specs.Records.{Record}
 use Rattle.wire_core.specs.Seats.{Line, IsSeatOf}
@@ -12,7 +12,9 @@ use Rattle.site_threads.specs.Keepers.{shown_in}
 use Rattle.site_threads.specs.Resting.{IsDone}
 use Rattle.site_threads.specs.Running.{marks_in}
 use Rattle.site_threads.specs.Sites.{IsSite}
-use Rattle.site_threads.specs.Turns.{IfLost}
+use Rattle.site_threads.specs.Turns.{HindersTurn}
+use Rattle.site_threads.specs.declared.turns.TurnCause.{TurnCause}
+use Rattle.keeper_core.specs.declared.faults.Unopened.{Unopened}
 
 module _ {K G : Type 0} (shown : K → Option Record) (may : K → Record → Type 0) where
   -- the jobs of its list, and the one in hand, are those that it took from its desk, in order
@@ -43,12 +45,20 @@ module _ {K G : Type 0} (shown : K → Option Record) (may : K → Record → Ty
     pub going : r.fault ≡ None
     pub unasked : r.turn.turns ≡ 0
 
-  -- what is known after at most so many turns: a site without a fault is open, and made all of them unless it is done; a
-  -- lost one is closed
+-- why the site ended its run: what kept it from a turn that its gate was asked for, or from being open at the end
+pub record EndedBy {K G : Type 0} (shown : K → Option Record) (reopens : K → Result K (Unopened K) → Type 0) (gives_up : G → ℕ → ℕ → Type 0) (r : SiteRun K G) (cause : TurnCause) : Type 0 where
+  pub gate : G
+  pub turn : ℕ
+  pub before : Option K
+  pub asked : turn ≤ r.turn.turns
+  pub hinders : HindersTurn shown reopens gives_up cause gate r.turn.site.me turn before r.turn.site.keeper
+
+module _ {K G : Type 0} (shown : K → Option Record) (may : K → Record → Type 0) (reopens : K → Result K (Unopened K) → Type 0) (gives_up : G → ℕ → ℕ → Type 0) (wire : Line) where
+  -- what is known after at most so many turns: a site without a fault is open, and made all of them unless it is done
   pub record Ran (turns : ℕ) (old new : SiteRun K G) : Type 0 where
     pub run : IsRun shown may wire new
     pub same : SameRun old new
     pub asked : new.turn.turns ≤ old.turn.turns + turns
     pub all : new.fault ≡ None → (new.turn.turns ≡ turns) ⊎ IsDone shown new.turn.site.keeper new.out new.pending
     pub is_open : new.fault ≡ None → IsSome (shown_in shown new.turn.site.keeper)
-    pub lost : IfSome new.fault (λ cause. IfLost cause (shown_in shown new.turn.site.keeper))
+    pub why : IfSome new.fault (EndedBy shown reopens gives_up new)

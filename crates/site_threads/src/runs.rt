@@ -3,11 +3,9 @@ ghost use Rattle.std.specs.Prelude.{◌≡◌, ◌↔◌, ◌+◌, ◌-◌, ◌+
 ghost use Rattle.crossbeam_channel.specs.Ends.{receives_on};
 ghost use Rattle.site_threads.specs.Ends.{takes, IsOut};
 ghost use Rattle.site_threads.specs.Jobs.{option_items};
-ghost use Rattle.site_threads.specs.Keepers.{shown_in};
 ghost use Rattle.site_threads.specs.Resting.{HaveEnded, IsAtRest, IsDone};
-ghost use Rattle.site_threads.specs.Runs.{IsRun, IsReady, SameRun, Ran, goes_on};
+ghost use Rattle.site_threads.specs.Runs.{IsRun, IsReady, SameRun, EndedBy, Ran, goes_on};
 ghost use Rattle.site_threads.specs.Running.{marks_in};
-ghost use Rattle.site_threads.specs.Turns.{IfLost};
 ghost use Rattle.site_threads.specs.declared.jobs.Job.{Job};
 ghost use Rattle.site_threads.specs.declared.runs.SiteRun.{SiteRun};
 
@@ -132,7 +130,7 @@ impl<K: SiteKeeper, G: Gate> SiteRun<K, G> {
         ensures marks { marks_in self.new.turn.site.seat.logs ≤ marks_in self.old.turn.site.seat.logs + 18 }
         ensures turns { self.new.turn.turns ≡ min (self.old.turn.turns + 1) (2 ^ 64 - 1) }
         ensures going { goes_on result ≡ is_none self.new.fault }
-        ensures lost { IfSome self.new.fault (λ cause. IfLost cause (shown_in K.shown self.new.turn.site.keeper)) }
+        ensures why { IfSome self.new.fault (EndedBy K.shown K.reopens G.gives_up self.new) }
     {
         tell_open(
             &mut self.turn.gate,
@@ -187,7 +185,7 @@ impl<K: SiteKeeper, G: Gate> SiteRun<K, G> {
     pub fn go<R: Wait + Clock>(&mut self, rt: &R, wire: &Wire, open: &AtomicU64, turns: u64)
         requires ready { IsReady K.shown K.may wire.now self.old }
         requires turns { turns ≤ 1000000 }
-        ensures ran { Ran K.shown K.may wire.now turns self.old self.new }
+        ensures ran { Ran K.shown K.may K.reopens G.gives_up wire.now turns self.old self.new }
     {
         let mut micros = 0;
         let mut done = false;
@@ -223,7 +221,7 @@ pub fn run_all<K: SiteKeeper + Send, G: Gate + Send, R: Threads + Wait + Clock +
     requires ready { All (IsReady K.shown K.may wire.now) runs.old }
     requires turns { turns ≤ 1000000 }
     ensures count { length runs.new ≡ length runs.old }
-    ensures each { (i : ℕ) (d : SiteRun K G) → i < length runs.old → Ran K.shown K.may wire.now turns (slice_index_or runs.old i d) (slice_index_or runs.new i d) }
+    ensures each { (i : ℕ) (d : SiteRun K G) → i < length runs.old → Ran K.shown K.may K.reopens G.gives_up wire.now turns (slice_index_or runs.old i d) (slice_index_or runs.new i d) }
 {
     let threads = runs.len();
     let open = AtomicU64::new(threads as u64);
@@ -233,7 +231,7 @@ pub fn run_all<K: SiteKeeper + Send, G: Gate + Send, R: Threads + Wait + Clock +
         threads,
         &|_, run: &mut SiteRun<K, G>|
             requires { IsReady K.shown K.may wire.now run.now × (turns ≤ 1000000) }
-            ensures { Ran K.shown K.may wire.entry.now turns run.entry.now run.exit.now }
+            ensures { Ran K.shown K.may K.reopens G.gives_up wire.entry.now turns run.entry.now run.exit.now }
         { run.go(rt, wire, &open, turns) },
     );
 }

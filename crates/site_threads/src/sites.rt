@@ -9,6 +9,7 @@ ghost use Rattle.site_threads.specs.Keepers.{shown_in, may_in};
 ghost use Rattle.site_threads.specs.Passing.{PassNothing};
 ghost use Rattle.site_threads.specs.Running.{MayDeliver, marks_in};
 ghost use Rattle.site_threads.specs.Sites.{IsSite, Continues};
+ghost use Rattle.site_threads.specs.Turns.{IsRefused};
 
 use crate::following::{follow, follow_shown, view_of};
 use crate::jobs::{Entry, Job, Ready, Receipt, Reply, answered, is_delivery};
@@ -58,7 +59,7 @@ impl<K: SiteKeeper> Site<K> {
         ensures open { IfOk result (λ _. IsSome (shown_in K.shown self.new.keeper)) }
         ensures opened { IfOk result (λ _. Opened K.shown K.reopens self.old.keeper self.new.keeper) }
         ensures stays { (r : Record) → shown_in K.shown self.old.keeper ≡ Some r → shown_in K.shown self.new.keeper ≡ Some r }
-        ensures closed { IfErr result (λ fault. HindersOpening fault × (shown_in K.shown self.new.keeper ≡ None)) }
+        ensures closed { IfErr result (λ fault. HindersOpening fault × IsRefused K.shown K.reopens fault self.old.keeper self.new.keeper) }
     {
         if view_of(&self.keeper).is_some() {
             return Ok(());

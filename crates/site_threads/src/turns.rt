@@ -9,7 +9,7 @@ ghost use Rattle.site_threads.specs.Passing.{PassNothing, PostsToEach, TakesAfte
 ghost use Rattle.site_threads.specs.Running.{marks_in};
 ghost use Rattle.site_threads.specs.Sites.{IsSite, Continues};
 ghost use Rattle.site_threads.specs.Starting.{IsLastMarked};
-ghost use Rattle.site_threads.specs.Turns.{IfLost, lost};
+ghost use Rattle.site_threads.specs.Turns.{HindersTurn, lost};
 
 use crate::gates::{Gate, Pass};
 use crate::jobs::{Entry, Job, Ready, Receipt};
@@ -106,8 +106,8 @@ impl<K: SiteKeeper, G: Gate> SiteTurn<K, G> {
     /// shows, or, while it is closed, the one before the step in which it stopped. The site is marked at most 18 times.
     ///
     /// # Errors
-    /// `NoMemory`, `GaveUp`, or `Lost` where the keeper stays closed; each hands the job back, and nothing was done but
-    /// the opening, and the mark that belongs to it.
+    /// `NoMemory`, `GaveUp` where the gate gave up, or `Lost` where the keeper was closed and an opening of it was refused;
+    /// each hands the job back, and nothing was done but the opening, and the mark that belongs to it.
     pub fn turn(&mut self, wire: &Wire, job: Option<Job>) -> Result<TurnReport, TurnFault>
         requires seat { IsSeatOf wire.now self.old.site.seat }
         requires site { IsSite K.shown K.may self.old.site }
@@ -123,7 +123,7 @@ impl<K: SiteKeeper, G: Gate> SiteTurn<K, G> {
         ensures posted { IfOk result (λ report. report.posted ≤ wire.now.sites) }
         ensures back { IfErr result (λ fault. (fault.job ≡ job) × (self.new.site.entries.items ≡ self.old.site.entries.items) × PassNothing self.old.site.seat.logs self.new.site.seat.logs) }
         ensures unchanged { IfErr result (λ fault. (r : Record) → shown_in K.shown self.old.site.keeper ≡ Some r → shown_in K.shown self.new.site.keeper ≡ Some r) }
-        ensures lost { IfErr result (λ fault. IfLost fault.cause (shown_in K.shown self.new.site.keeper)) }
+        ensures why { IfErr result (λ fault. HindersTurn K.shown K.reopens G.gives_up fault.cause self.old.gate self.new.site.me self.new.turns self.old.site.keeper self.new.site.keeper) }
     {
         if let Err(cause) = self.begin(wire) {
             return Err(TurnFault { cause, job });
@@ -157,7 +157,7 @@ impl<K: SiteKeeper, G: Gate> SiteTurn<K, G> {
         ensures open { IfOk result (λ _. IsSome (shown_in K.shown self.new.site.keeper)) }
         ensures opened { IfOk result (λ _. Opened K.shown K.reopens self.old.site.keeper self.new.site.keeper) }
         ensures stays { (r : Record) → shown_in K.shown self.old.site.keeper ≡ Some r → shown_in K.shown self.new.site.keeper ≡ Some r }
-        ensures lost { IfErr result (λ cause. IfLost cause (shown_in K.shown self.new.site.keeper)) }
+        ensures why { IfErr result (λ cause. HindersTurn K.shown K.reopens G.gives_up cause self.old.gate self.new.site.me self.new.turns self.old.site.keeper self.new.site.keeper) }
     {
         self.turns = self.turns.saturating_add(1);
         match self.gate.enter(self.site.me, self.turns) {

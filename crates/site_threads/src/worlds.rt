@@ -8,7 +8,7 @@ ghost use Rattle.wire_core.specs.Fitting.{SitesFit};
 ghost use Rattle.wire_core.specs.Rule.{logs_from};
 ghost use Rattle.wire_core.specs.Seats.{IsSeatOf};
 ghost use Rattle.site_threads.specs.Ends.{IsUnused};
-ghost use Rattle.site_threads.specs.Gathering.{Began, FitAfter, HasEnd, HasTurned, Hinders, IsKept, KeepersFit, keepers_of};
+ghost use Rattle.site_threads.specs.Gathering.{Began, Explains, FitAfter, HasEnd, HasTurned, Hinders, IsKept, KeepersFit, keepers_of};
 ghost use Rattle.site_threads.specs.Parting.{IsRoomFor};
 ghost use Rattle.site_threads.specs.Runs.{IsReady, Ran};
 
@@ -95,7 +95,7 @@ fn run_each<K: SiteKeeper + Send, G: Gate + Send, R: Threads + Wait + Clock + Sy
     requires count { 0 < length runs.old.items }
     requires ready { All (IsReady K.shown K.may wire.now) runs.old.items }
     requires turns { turns ≤ 1000000 }
-    ensures { AllZip (Ran K.shown K.may wire.now turns) runs.old.items runs.new.items }
+    ensures { AllZip (Ran K.shown K.may K.reopens G.gives_up wire.now turns) runs.old.items runs.new.items }
 {
     run_all(rt, wire, runs.as_mut_slice(), turns);
 }
@@ -125,6 +125,7 @@ fn run_in<K: SiteKeeper + Send, G: Gate + Send, R: Threads + Wait + Clock + Sync
     ensures fit { KeepersFit K.shown K.may result.keepers.items }
     ensures back { length result.keepers.items ≡ length keepers.items }
     ensures cause { IfSome result.cause (λ cause. Hinders K.shown result.keepers.items cause × FitAfter K.shown K.may keepers.items cause result.keepers.items) }
+    ensures why { IfSome result.cause (Explains K.shown K.reopens G.gives_up turns result.keepers.items) }
 {
     let Room {
         wire,
@@ -179,6 +180,7 @@ fn run_sites<K: SiteKeeper + Send, G: Gate + Send, R: Threads + Wait + Clock + S
     ensures fit { IfOk result (λ g. KeepersFit K.shown K.may g.keepers.items) }
     ensures back { length (keepers_of result) ≡ length keepers.items }
     ensures err { IfErr result (λ e. Hinders K.shown e.keepers.items e.cause × FitAfter K.shown K.may keepers.items e.cause e.keepers.items) }
+    ensures why { IfErr result (λ e. Explains K.shown K.reopens G.gives_up turns e.keepers.items e.cause) }
 {
     let Ok(room) = room_for::<K, G>(alloc, &keepers) else {
         return Err(GatherFault {
@@ -208,9 +210,9 @@ fn run_sites<K: SiteKeeper + Send, G: Gate + Send, R: Threads + Wait + Clock + S
 ///
 /// # Errors
 /// All with the keepers. `NotAWorld`, with the keepers as they were. `NoMemory`: before the first turn, when nothing has
-/// changed, or where a keeper couldn't be opened at the end. `SiteLost` where a keeper is closed and couldn't be opened
-/// again, and `GaveUp` where a gate gave up: the other sites went on. Of several sites that ended their runs the least is
-/// named; the keepers before it are open.
+/// changed, or where a keeper couldn't be opened at the end. `SiteLost` where a keeper is closed and an opening of it was
+/// refused, and `GaveUp` where a gate, asked for one of these turns, gave up: the other sites went on. Of several sites
+/// that ended their runs the least is named; the keepers before it are open.
 pub fn run_world<K: SiteKeeper + Send, G: Gate + Send, R: Threads + Wait + Clock + Sync>(
     rt: &R,
     alloc: Global,
@@ -230,6 +232,7 @@ pub fn run_world<K: SiteKeeper + Send, G: Gate + Send, R: Threads + Wait + Clock
     ensures fit { IfOk result (λ g. KeepersFit K.shown K.may g.keepers.items) }
     ensures back { length (keepers_of result) ≡ length keepers.items }
     ensures err { IfErr result (λ e. Hinders K.shown e.keepers.items e.cause × FitAfter K.shown K.may keepers.items e.cause e.keepers.items) }
+    ensures why { IfErr result (λ e. Explains K.shown K.reopens G.gives_up turns e.keepers.items e.cause) }
 {
     match World::new(alloc, keepers) {
         Ok(world) => run_sites(rt, alloc, world.into_keepers(), desks, gates, turns),

@@ -1,4 +1,5 @@
 //! Gates of four sites.
+ghost use Rattle.std.specs.Prelude.{◌<◌, ⊤};
 
 use event_json::SiteNo;
 use site_threads::{Gate, Pass};
@@ -28,6 +29,9 @@ fn all_came(turns: &[AtomicU64], turn: u64) -> bool {
 }
 
 impl Gate for Lockstep<'_> {
+    // It gives up where the others don't come.
+    ghost gives_up = { λ gate site turn. ⊤ };
+
     fn enter(&mut self, site: SiteNo, turn: u64) -> Pass {
         if let Some(mine) = self.turns.get(site.number() as usize) {
             mine.store(turn, Ordering::SeqCst);
@@ -55,6 +59,8 @@ pub struct First {
 }
 
 impl Gate for First {
+    ghost gives_up = { λ gate site turn. gate.turns < turn };
+
     fn enter(&mut self, _: SiteNo, turn: u64) -> Pass {
         if turn <= self.turns {
             Pass::Go

@@ -20,7 +20,7 @@ for_each_mut-requires-clause-accepts g c κs within i p h is =
 pub returns-clause-each : goal.returns-clause-each
 returns-clause-each g c i d h =
     let r = (c.for_each_mut.ensures i d h).1 in
-    let ran = Ran g.K.SiteKeeper.shown g.K.SiteKeeper.may c.args.wire.now c.args.turns in
+    let ran = Ran g.K.SiteKeeper.shown g.K.SiteKeeper.may g.K.SiteKeeper.reopens g.G.Gate.gives_up c.args.wire.now c.args.turns in
     let old = slice_index_or c.args.runs.now i d in
     let new = slice_index_or c.for_each_mut.new.s i d in
     subst (λ (o : SiteRun g.row.K.Denot g.row.G.Denot). ran o new) r.argument_is (subst (λ (n : SiteRun g.row.K.Denot g.row.G.Denot). ran r.argument.now n) r.left r.call)

@@ -45,3 +45,10 @@ returns-in-Some-last-clause-site g c =
 
 pub returns-in-Some-last-clause-passes : goal.returns-in-Some-last-clause-passes
 returns-in-Some-last-clause-passes g c = let h = c.requires.site.runs in follows_pass h.log c.args.self.now.seat.logs c.follow-self.new.seat.logs c.in-Some-view.record.now h.alone c.follow-self.ensures.follows
+
+pub returns-in-Err-clause-closed : goal.returns-in-Err-clause-closed
+returns-in-Err-clause-closed g c =
+    let closed : shown_in g.K.SiteKeeper.shown c.args.self.now.keeper ≡ None = search rules in
+    let here : g.K.SiteKeeper.shown c.in-Some.keeper ≡ None = ap (shown_in g.K.SiteKeeper.shown) c.in-Some.ensures.value ∙ closed in
+    let e = c.in-Err.ensures in
+    (e.unopened.0, record { was = c.in-Some.keeper; left = c.in-Err.unopened; old_is = sym c.in-Some.ensures.value; closed = here; refused = e.kind; fault_is = refl; new_is = refl; stays = e.unopened.1.0 })
