@@ -1,13 +1,14 @@
 -- What a run of all sites answers.
-use Rattle.std.specs.Prelude.{◌≡◌, ◌≤◌, ℕ, List, [], ◌∷◌, ◌++◌, All, length, Option, string_bytes}
+use Rattle.std.specs.Prelude.{◌≡◌, ◌≤◌, ℕ, List, [], ◌∷◌, ◌++◌, All, length, Option, Result, string_bytes}
 use Rattle.std.specs.List.{flat_map, AllZip}
 use Rattle.event_json.specs.Sites.{Site}
+use Rattle.keeper_core.specs.declared.faults.Unopened.{Unopened}
 use Rattle.script_core.specs.Words.{ended_word, recall_text}
 use Rattle.site_core.specs.Records.{Record}
 use Rattle.site_recovery.specs.Looks.{world_of}
 use Rattle.site_recovery.specs.Misfits.{IsMisfit}
 use Rattle.site_recovery.specs.declared.checking.Misfit.{Misfit}
-use Rattle.site_threads.specs.Gathering.{Began, FitAfter, HasTurned, Hinders, IsKept, StandTogether}
+use Rattle.site_threads.specs.Gathering.{Began, Explains, FitAfter, HasTurned, Hinders, IsKept, StandTogether}
 use Rattle.site_threads.specs.Jobs.{AreOfFrames}
 use Rattle.site_threads.specs.declared.gather.GatherCause.{GatherCause}
 use Rattle.site_threads.specs.declared.gather.GatherCause.TheVariants.{NotAWorld}
@@ -71,12 +72,14 @@ abbrev pub TellsCause : List Site → GatherCause → Answer → Type 0
 TellsCause sites (NotAWorld fault) answer = TellsWorldFault sites fault answer
 TellsCause sites cause answer = ⊥
 
--- The run has no answer: the fault is that of a cause which hinders it. The keepers are as they were where they make no
--- world, and else the sites stand together in whichever records they are open, or may be opened.
-pub record FailsRun {K : Type 0} (shown : K → Option Record) (may : K → Record → Type 0) (old new : List K) (fault : Fault) : Type 0 where
+-- The run has no answer: the fault is that of a cause which hinders it, and a gate that is named gave up, a keeper that is
+-- named was refused. The keepers are as they were where they make no world, and else the sites stand together in
+-- whichever records they are open, or may be opened.
+pub record FailsRun {K G : Type 0} (shown : K → Option Record) (may : K → Record → Type 0) (reopens : K → Result K (Unopened K) → Type 0) (gives_up : G → ℕ → ℕ → Type 0) (turns : ℕ) (old new : List K) (fault : Fault) : Type 0 where
   pub cause : GatherCause
   pub hinders : Hinders shown new cause
   pub fit : FitAfter shown may old cause new
+  pub explained : Explains shown reopens gives_up turns new cause
   pub fault_is : fault ≡ gather_fault cause
 
 -- the files of all sites were opened, the sites ran for at most so many turns, and the files were closed

@@ -58,8 +58,8 @@ pub fn run_sites<
 ///
 /// # Errors
 /// `OtherSites` where the keepers aren't of one list of sites, in order, and `Closed` where one is closed: they are as
-/// they were. `NoMemory`, `SiteLost` where a keeper was closed and couldn't be opened again, and `GaveUp`: in whichever
-/// records the keepers are open, or may be opened, they fit together, or nothing has changed.
+/// they were. `NoMemory`, `SiteLost` where a keeper was closed and an opening of it was refused, and `GaveUp` where a gate
+/// gave up: in whichever records the keepers are open, or may be opened, they fit together, or nothing has changed.
 pub fn run_of<K: SiteKeeper + Send, G: Gate + Copy + Send, R: Threads + Wait + Clock + Sync>(
     rt: &R,
     alloc: Global,
@@ -71,7 +71,7 @@ pub fn run_of<K: SiteKeeper + Send, G: Gate + Copy + Send, R: Threads + Wait + C
     requires count { (2 ≤ length keepers.items) × (length keepers.items ≤ 16) }
     requires turns { turns ≤ 1000000 }
     ensures answered { IfOk result.1 (AnswersRun K.shown sites.now turns keepers.items result.0.items) }
-    ensures failed { IfErr result.1 (FailsRun K.shown K.may keepers.items result.0.items) }
+    ensures failed { IfErr result.1 (FailsRun K.shown K.may K.reopens G.gives_up turns keepers.items result.0.items) }
     ensures sound { IfOk result.1 IsAnswer }
 {
     let Ok((desks, gates)) = unused(alloc, gate, keepers.len()) else {

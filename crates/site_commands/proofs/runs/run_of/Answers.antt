@@ -8,7 +8,7 @@ use Rattle.site_commands.proofs.runs.run_of.Goals as goal
 use Rattle.site_commands.proofs.runs.run_of.Goals.{in-Ok-tell_recalls, in-Err-tell_recalls}
 
 pub returns-in_default-clause-failed : goal.returns-in_default-clause-failed
-returns-in_default-clause-failed g c = record { cause = NotAWorld worlds.NoMemory; hinders = tt; fit = refl; fault_is = refl }
+returns-in_default-clause-failed g c = record { cause = NotAWorld worlds.NoMemory; hinders = tt; fit = refl; explained = tt; fault_is = refl }
 
 pub tell_recalls-requires-clause-open : goal.tell_recalls-requires-clause-open
 tell_recalls-requires-clause-open g c =
