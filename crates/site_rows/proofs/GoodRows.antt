@@ -27,14 +27,14 @@ use Rattle.trace_core.proofs.Members.{contains_here, contains_there}
 use Rattle.site_core.proofs.Entries.{entry_found}
 use Rattle.site_core.proofs.Places.{some_stands, stands_within}
 use Rattle.site_core.specs.ItemSets as set
-use Rattle.site_core.specs.Quarantines.{Items}
+use Rattle.site_core.specs.Quarantines.{Items, Quarantine}
 use Rattle.site_core.specs.Records.{IsRecallAmong, Record}
 use Rattle.site_rows.specs.BadAddresses.{IsAddressTable}
 use Rattle.site_rows.specs.BadEvents.{IsBelow, IsEvent, IsEventTable}
 use Rattle.site_rows.specs.BadParts.{AreBodies, IsPartTable, site_of_row}
 use Rattle.site_rows.specs.BadRows.{AreOfMap, IsFirstBad, IsHeldEntry, IsOutboxEntry, IsOwnEntry, IsParentEntry, IsQuarantineTable, IsSeenEntry, IsSiteTable, IsStoreTable, Match}
 use Rattle.site_rows.specs.HeldItems.{all_held, held_cmp, held_of, held_under}
-use Rattle.site_rows.specs.Laws.{HoldsItems, IsEventAmong, IsKept, RowsOfRecordsAreGood}
+use Rattle.site_rows.specs.Laws.{HoldsItems, HoldsKeys, IsEventAmong, IsKept, RowsOfRecordsAreGood}
 use Rattle.site_rows.specs.ReadRows.{IsBadRow}
 use Rattle.site_rows.specs.RecordRows.{SECOND, event_row, outbox_row, parent_row, parts_of, quarantine_row, quarantine_rows, recall_row, rows_of, seen_row, site_row, store_row}
 use Rattle.site_rows.specs.declared.rows.SiteRow.{SiteRow}
@@ -46,7 +46,7 @@ use Rattle.site_rows.proofs.PartTables.{rows_of_events}
 use Rattle.site_rows.proofs.ReadFaults.{names_of_rows, sites_of_rows, sizes, table_alike}
 
 -- a table that stands has no first bad row
-none_bad : {R : Type 0} (Stand : List R → Type 0) (rows : List R) (place : ℕ) → Stand rows → IsFirstBad Stand rows place → ⊥
+pub none_bad : {R : Type 0} (Stand : List R → Type 0) (rows : List R) (place : ℕ) → Stand rows → IsFirstBad Stand rows place → ⊥
 none_bad Stand rows place stand bad = elim (cases_lt bad.before (length rows)) [
   | inl low ↦ bad.bad low (record { more = drop (bad.before + 1) rows; stand = subst Stand (sym (take-append-drop (bad.before + 1) rows)) stand })
   | inr past ↦ (bad.wanting past).1 stand
@@ -123,7 +123,7 @@ bodies_of sites n (e ∷ es) all =
     let good = All-head (IsEventAmong sites) e es all in
     (record { of_kind = refl; of_id = refl; limits = good.limits; members = good.members }, bodies_of sites (n + 1) es (All-tail (IsEventAmong sites) e es all))
 
-parts_stand : (sites : List Site) (es : List Content) → All (IsEventAmong (length sites)) es
+pub parts_stand : (sites : List Site) (es : List Content) → All (IsEventAmong (length sites)) es
     → IsPartTable (map site_of_row (map site_row (enumerate_from 0 sites))) (map event_row (enumerate_from 1 es)) (flat_map (parts_of sites) (enumerate_from 1 es))
 parts_stand sites es all =
     let events = map event_row (enumerate_from 1 es) in
@@ -137,7 +137,7 @@ module _ {R K V : Type 0} (Is : R → K → V → Type 0) where
   matched row [] good = tt
   matched row (e ∷ es) good = (good e (contains_here e es), matched row es (λ d there. good d (contains_there e d es there)))
 
-  map_stands : {cmp : K → K → Ordering} (o : IsTotalOrder cmp) (row : K × V → R) (m : FinMap cmp V) → ((k : K) (v : V) → get m k ≡ Some v → Is (row (k, v)) k v) → AreOfMap cmp Is (map row (entries m))
+  pub map_stands : {cmp : K → K → Ordering} (o : IsTotalOrder cmp) (row : K × V → R) (m : FinMap cmp V) → ((k : K) (v : V) → get m k ≡ Some v → Is (row (k, v)) k v) → AreOfMap cmp Is (map row (entries m))
   map_stands o row m good = record { kept = m; match = matched row (entries m) (λ e there. good e.0 e.1 (entry_found o m e.0 e.1 there)) }
 
   match_joined : (rs qs : List R) (es ds : List (K × V)) → Match Is rs es → Match Is qs ds → Match Is (rs ++ qs) (es ++ ds)
@@ -162,13 +162,11 @@ held_matched sites (e ∷ es) good =
 found : {V : Type 0} (o : Option V) (v : V) → o ≡ Some v → IsSome o
 found o v is = ap is_some is
 
-quarantine_stands : (s : Record) → IsKept s → HoldsItems s → IsQuarantineTable (length s.sites) (flat_map quarantine_rows (entries s.quarantine))
-quarantine_stands s kept holds =
-    let q = s.quarantine in
-    let sites = length s.sites in
+pub quarantine_stands : (sites : ℕ) (q : Quarantine) → ((r : Recall) → IsSome (get q r) → IsRecallAmong sites r) → HoldsKeys q → IsQuarantineTable sites (flat_map quarantine_rows (entries q))
+quarantine_stands sites q among holds =
     let match = held_matched sites (entries q) (λ e there.
     let is = entry_found recall_total q e.0 e.1 there in
-    (kept.sound.quarantine e.0 (found (get q e.0) e.1 is), holds.quarantine e.0 e.1 is)) in
+    (among e.0 (found (get q e.0) e.1 is), holds e.0 e.1 is)) in
     record {
       kept = from_sorted (all_held q);
       match = subst (Match (IsHeldEntry sites) (flat_map quarantine_rows (entries q))) (sym (entries-from_sorted held_cmp (all_held q) (all_ascend q))) match;
@@ -182,7 +180,7 @@ good_rows s kept holds Address place bad = bad.bad (subst (λ m. IsAddressTable 
 good_rows s kept holds Event place bad = bad.bad (events_stand (length s.sites) s.captured.events holds.events bad.before bad.row bad.there)
 good_rows s kept holds Part place bad = none_bad (IsPartTable (map site_of_row (rows_of s).site) (rows_of s).event) (rows_of s).part place (parts_stand s.sites s.captured.events holds.events) bad
 good_rows s kept holds QuarantineTable place bad =
-    none_bad (IsQuarantineTable (length (rows_of s).site)) (rows_of s).quarantine place (subst (λ m. IsQuarantineTable m (rows_of s).quarantine) (sym (sizes 0 s.sites)) (quarantine_stands s kept holds)) bad
+    none_bad (IsQuarantineTable (length (rows_of s).site)) (rows_of s).quarantine place (subst (λ m. IsQuarantineTable m (rows_of s).quarantine) (sym (sizes 0 s.sites)) (quarantine_stands (length s.sites) s.quarantine kept.sound.quarantine holds.quarantine)) bad
 good_rows s kept holds Outbox place bad =
     let stand = map_stands (IsOutboxEntry (length s.sites)) Cmp.nat_cmp_total outbox_row s.engagement.outbox (λ k v is. record { same = refl; among = kept.sound.rows k v is; item = holds.engagement.outbox k v is }) in
     none_bad (AreOfMap nat_cmp (IsOutboxEntry (length (rows_of s).site))) (rows_of s).outbox place (subst (λ m. AreOfMap nat_cmp (IsOutboxEntry m) (rows_of s).outbox) (sym (sizes 0 s.sites)) stand) bad

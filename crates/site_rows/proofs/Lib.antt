@@ -9,6 +9,7 @@ pub mod EachShown
 pub mod FreeAddresses
 pub mod GoodAddresses
 pub mod GoodRows
+pub mod GoodTables
 pub mod HeldInTurn
 pub mod InTurn
 pub mod KeyTests

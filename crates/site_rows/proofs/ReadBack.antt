@@ -70,4 +70,4 @@ pub read_back : (rows : Rows) (result : Result Record StateFault) → IfOk resul
     → (s : Record) → IsKept s → HoldsItems s → rows_of s ≡ rows → MatchResult result (λ state. state ≡ s) (λ fault. fault ≡ NoMemory)
 read_back rows (Ok state) read kept bad s is_kept holds same = same_record state s kept is_kept (read ∙ sym same)
 read_back rows (Err NoMemory) read kept bad s is_kept holds same = refl
-read_back rows (Err (BadRow b)) read kept bad s is_kept holds same = absurd (rows_are_good s is_kept holds b.table b.row (subst (λ r. IsBadRow r b.table b.row) (sym same) bad))
+read_back rows (Err (BadRow b)) read kept bad s is_kept holds same = absurd (rows_are_good s is_kept holds b.table b.row (subst (λ r. IsBadRow r b.table b.row) (sym same) bad.1))

@@ -5,12 +5,14 @@ use Rattle.event_json.specs.Sites.{Site}
 use Rattle.event_json.specs.declared.bodies.Body.{Body}
 use Rattle.event_json.specs.declared.bodies.Body.TheVariants.{Note, Ship, Make}
 use Rattle.site_rows.specs.BadAddresses.{IsAddressFault, IsFirstBadAddress}
+use Rattle.site_rows.specs.BadEvents.{IsEventFault, IsFirstBadEvent}
 use Rattle.site_rows.specs.BadParts.{AreBodies, IsPartTable, all_body_rows, site_of_row}
 use Rattle.site_rows.specs.BadRows.{IsFaultOf, IsFirstBad, IsQuarantineTable}
-use Rattle.site_rows.specs.ReadRows.{IsStateFault, IsFaultIn}
+use Rattle.site_rows.specs.ReadRows.{AreGoodBefore, IsBadRow, IsStateFault, IsFaultIn}
 use Rattle.site_rows.specs.RecordRows.{body_rows, name_of, part_rows, site_row}
 use Rattle.site_rows.specs.declared.reading.StateFault.{StateFault}
-use Rattle.site_rows.specs.declared.tables.Table.TheVariants.{Address, Part, Quarantine}
+use Rattle.site_rows.specs.declared.tables.Table.{Table}
+use Rattle.site_rows.specs.declared.tables.Table.TheVariants.{Address, Event, Part, Quarantine}
 use Rattle.site_rows.specs.declared.reading_entries.TableFault.{TableFault}
 use Rattle.site_rows.specs.declared.reading_entries.TableFault.TheVariants.{NoMemory, BadRow}
 use Rattle.site_rows.specs.declared.rows.AddressRow.{AddressRow}
@@ -28,19 +30,29 @@ sizes n (s ∷ sites) = ap suc (sizes (n + 1) sites)
 pub as_many_sites : (sites : List Site) (rows : List SiteRow) → rows ≡ map site_row (enumerate_from 0 sites) → length sites ≡ length rows
 as_many_sites sites rows is = sym (sizes 0 sites) ∙ ap length (sym is)
 
+-- a table's fault, where no table before it has a bad row
+pub table_fault : {R : Type 0} (rows : Rows) (table : Table) (Stand : List R → Type 0) (xs ys : List R) (f : TableFault) (r : StateFault) → xs ≡ ys
+    → ((place : ℕ) → IsFirstBad Stand ys place → IsBadRow rows table place) → AreGoodBefore rows table → IsFaultOf Stand xs f → IsFaultIn table f r → IsStateFault rows r
+table_fault rows table Stand xs ys NoMemory r same here good bad is = subst (IsStateFault rows) (sym is) tt
+table_fault rows table Stand xs ys (BadRow place) r same here good bad is = subst (IsStateFault rows) (sym is) (good, here place (subst (λ t. IsFirstBad Stand t place) same bad))
+
+pub event_fault : (rows : Rows) (table : List EventRow) (f : TableFault) (r : StateFault) → table ≡ rows.event → AreGoodBefore rows Event → IsEventFault table f → IsFaultIn Event f r → IsStateFault rows r
+event_fault rows table NoMemory r same good bad is = subst (IsStateFault rows) (sym is) tt
+event_fault rows table (BadRow place) r same good bad is = subst (IsStateFault rows) (sym is) (good, subst (λ t. IsFirstBadEvent t place) same bad)
+
 pub address_fault : (rows : Rows) (n : ℕ) (table : List AddressRow) (f : TableFault) (r : StateFault) → n ≡ length rows.site → table ≡ rows.address
-    → IsAddressFault n table f → IsFaultIn Address f r → IsStateFault rows r
-address_fault rows n table NoMemory r size same bad is = subst (IsStateFault rows) (sym is) tt
-address_fault rows n table (BadRow place) r size same bad is =
+    → AreGoodBefore rows Address → IsAddressFault n table f → IsFaultIn Address f r → IsStateFault rows r
+address_fault rows n table NoMemory r size same good bad is = subst (IsStateFault rows) (sym is) tt
+address_fault rows n table (BadRow place) r size same good bad is =
     let here = subst (λ k. IsFirstBadAddress k table place) size bad in
-    subst (IsStateFault rows) (sym is) (subst (λ t. IsFirstBadAddress (length rows.site) t place) same here)
+    subst (IsStateFault rows) (sym is) (good, subst (λ t. IsFirstBadAddress (length rows.site) t place) same here)
 
 pub quarantine_fault : (rows : Rows) (n : ℕ) (table : List QuarantineRow) (f : TableFault) (r : StateFault) → n ≡ length rows.site → table ≡ rows.quarantine
-    → IsFaultOf (IsQuarantineTable n) table f → IsFaultIn Quarantine f r → IsStateFault rows r
-quarantine_fault rows n table NoMemory r size same bad is = subst (IsStateFault rows) (sym is) tt
-quarantine_fault rows n table (BadRow place) r size same bad is =
+    → AreGoodBefore rows Quarantine → IsFaultOf (IsQuarantineTable n) table f → IsFaultIn Quarantine f r → IsStateFault rows r
+quarantine_fault rows n table NoMemory r size same good bad is = subst (IsStateFault rows) (sym is) tt
+quarantine_fault rows n table (BadRow place) r size same good bad is =
     let here = subst (λ k. IsFirstBad (IsQuarantineTable k) table place) size bad in
-    subst (IsStateFault rows) (sym is) (subst (λ t. IsFirstBad (IsQuarantineTable (length rows.site)) t place) same here)
+    subst (IsStateFault rows) (sym is) (good, subst (λ t. IsFirstBad (IsQuarantineTable (length rows.site)) t place) same here)
 
 -- the rows of sites have their names
 pub names_of_rows : (n : ℕ) (sites : List Site) (t : ℕ) → name_of (map site_of_row (map site_row (enumerate_from n sites))) t ≡ name_of sites t
@@ -85,13 +97,13 @@ first_bad_alike One Two rows place to from bad = record {
 }
 
 pub part_fault : (rows : Rows) (sites : List Site) (events : List EventRow) (table : List PartRow) (f : TableFault) (r : StateFault) → rows.site ≡ map site_row (enumerate_from 0 sites)
-    → events ≡ rows.event → table ≡ rows.part → IsFaultOf (IsPartTable sites events) table f → IsFaultIn Part f r → IsStateFault rows r
-part_fault rows sites events table NoMemory r named same here bad is = subst (IsStateFault rows) (sym is) tt
-part_fault rows sites events table (BadRow place) r named same here bad is =
+    → events ≡ rows.event → table ≡ rows.part → AreGoodBefore rows Part → IsFaultOf (IsPartTable sites events) table f → IsFaultIn Part f r → IsStateFault rows r
+part_fault rows sites events table NoMemory r named same here good bad is = subst (IsStateFault rows) (sym is) tt
+part_fault rows sites events table (BadRow place) r named same here good bad is =
     let read : List Site = map site_of_row (map site_row (enumerate_from 0 sites)) in
     let names = names_of_rows 0 sites in
     let size = sites_of_rows 0 sites in
     let of_rows : IsFirstBad (IsPartTable read events) table place =
     first_bad_alike (IsPartTable sites events) (IsPartTable read events) table place (table_alike sites read (λ t. sym (names t)) (sym size) events) (table_alike read sites names size events) bad in
     let there : IsFirstBad (IsPartTable (map site_of_row rows.site) events) table place = subst (λ xs. IsFirstBad (IsPartTable (map site_of_row xs) events) table place) (sym named) of_rows in
-    subst (IsStateFault rows) (sym is) (subst (λ xs. IsFirstBad (IsPartTable (map site_of_row rows.site) rows.event) xs place) here (subst (λ xs. IsFirstBad (IsPartTable (map site_of_row rows.site) xs) table place) same there))
+    subst (IsStateFault rows) (sym is) (good, subst (λ xs. IsFirstBad (IsPartTable (map site_of_row rows.site) rows.event) xs place) here (subst (λ xs. IsFirstBad (IsPartTable (map site_of_row rows.site) xs) table place) same there))

@@ -1,5 +1,6 @@
 -- Why no record is read from the rows of all tables.
-use Rattle.std.specs.Prelude.{◌≡◌, ℕ, ⊤, length, map}
+use Rattle.std.specs.Prelude.{◌≡◌, ℕ, ⊤, List, [], ◌∷◌, ◌++◌, length, map}
+use Rattle.std.specs.List.{AllByRecursion}
 use Rattle.site_rows.specs.BadAddresses.{IsFirstBadAddress}
 use Rattle.site_rows.specs.BadEvents.{IsFirstBadEvent}
 use Rattle.site_rows.specs.BadParts.{IsPartTable, site_of_row}
@@ -25,10 +26,26 @@ IsBadRow rows Seen place = IsFirstBad (IsSeenTable (length rows.site)) rows.seen
 IsBadRow rows Parent place = IsFirstBad (IsParentTable (length rows.site)) rows.parent place
 IsBadRow rows Recall place = IsFirstBad IsRecallTable rows.recall place
 
--- a bad row is the first one of its table, and memory may always run out
+-- the table has no bad row, and none is wanting
+abbrev pub HasNoBadRow : Rows → Table → Type 0
+HasNoBadRow rows table = (place : ℕ) → IsBadRow rows table place → ⊥
+
+-- so it is with each of these tables
+abbrev pub HaveNoBadRow : Rows → List Table → Type 0
+HaveNoBadRow rows tables = AllByRecursion (HasNoBadRow rows) tables
+
+-- the tables in the order in which they are read
+abbrev pub tables_in_order : List Table
+tables_in_order = Store ∷ Site ∷ Address ∷ Event ∷ Part ∷ Quarantine ∷ Outbox ∷ Seen ∷ Parent ∷ Recall ∷ []
+
+-- the tables in their order are some without a bad row, then this one, and others
+abbrev pub AreGoodBefore : Rows → Table → Type 0
+AreGoodBefore rows table = (good others : List Table) × (tables_in_order ≡ good ++ table ∷ others) × HaveNoBadRow rows good
+
+-- a bad row is the first one of the first table that has one, and memory may always run out
 abbrev pub IsStateFault : Rows → StateFault → Type 0
 IsStateFault rows fault.NoMemory = ⊤
-IsStateFault rows (fault.BadRow bad) = IsBadRow rows bad.table bad.row
+IsStateFault rows (fault.BadRow bad) = AreGoodBefore rows bad.table × IsBadRow rows bad.table bad.row
 
 -- the fault of a table, with the table
 abbrev pub IsFaultIn : Table → TableFault → StateFault → Type 0

@@ -1,12 +1,12 @@
 //! The record of a site, read back from the rows of its tables.
-ghost use Rattle.std.specs.Prelude.{◌≡◌, ◌≤◌, flat_map, length, map, All, IfOk, IfErr, MatchResult};
+ghost use Rattle.std.specs.Prelude.{◌≡◌, ◌≤◌, ◌∷◌, [], flat_map, length, map, All, IfOk, IfErr, MatchResult};
 ghost use Rattle.std.specs.FinMap.{entries};
 ghost use Rattle.std.specs.List.{enumerate_from};
 ghost use Rattle.frame_core.specs.Unsignalled.{IsNextNumber};
 ghost use Rattle.site_core.specs.Records.{IsEngagementAmong, Record};
 ghost use Rattle.site_rows.specs.Laws.{HoldsItems, IsEventAmong, IsKept, NamesItems};
 ghost use Rattle.site_rows.specs.RecordRows.{rows_of, addresses_of, parts_of, address_row, event_row, outbox_row, parent_row, recall_row, seen_row, site_row};
-ghost use Rattle.site_rows.specs.ReadRows.{IsStateFault, IsFaultIn};
+ghost use Rattle.site_rows.specs.ReadRows.{HasNoBadRow, HaveNoBadRow, IsStateFault, IsFaultIn};
 ghost use Rattle.site_rows.specs.declared.reading.StateFault.TheVariants.{NoMemory};
 
 use crate::reading_addressed::addressed;
@@ -55,8 +55,9 @@ impl From<AllocError> for StateFault {
 /// The record whose rows these are.
 ///
 /// # Errors
-/// A bad row of the first table that has one: the first bad one of that table. A row that is wanting is named by the
-/// place where it would stand. And want of memory, which alone comes where the rows are those of a record.
+/// A bad row of the first table that has one, in the order of [`Table`]: the first bad one of that table. A row that is
+/// wanting is named by the place where it would stand. And want of memory, which alone comes where the rows are those of
+/// a record.
 pub fn state_of(alloc: Global, rows: &Rows) -> Result<SiteState, StateFault>
     ensures read { IfOk result (λ state. rows_of state ≡ rows.now) }
     ensures bad { IfErr result (λ fault. IsStateFault rows.now fault) }
@@ -100,14 +101,18 @@ fn in_table(table: Table, fault: TableFault) -> StateFault
 
 /// The sites, with their addresses.
 fn sites_of(alloc: Global, rows: &Rows) -> Result<Sites, StateFault>
+    requires good { HaveNoBadRow rows.now (Table.Store ∷ []) }
     ensures site { IfOk result (λ sites. rows.now.site ≡ map site_row (enumerate_from 0 sites)) }
     ensures address { IfOk result (λ sites. rows.now.address ≡ map address_row (entries (addresses_of sites))) }
+    ensures good { IfOk result (λ _. HasNoBadRow rows.now Table.Site × HasNoBadRow rows.now Table.Address) }
     ensures bad { IfErr result (λ fault. IsStateFault rows.now fault) }
 {
     let names = match names_of(alloc, rows.site.as_slice()) {
         Ok(names) => names,
         Err(fault) => return Err(in_table(Table::Site, fault)),
     };
+    // The count tells the proof that the names are those of sites.
+    let _count = names.len();
     match addressed(alloc, &names, rows.address.as_slice()) {
         Ok(sites) => Ok(sites),
         Err(fault) => Err(in_table(Table::Address, fault)),
@@ -116,11 +121,13 @@ fn sites_of(alloc: Global, rows: &Rows) -> Result<Sites, StateFault>
 
 /// The captured events.
 fn events_of(alloc: Global, me: SiteNo, sites: &Sites, rows: &Rows) -> Result<Captured, StateFault>
-    requires { rows.now.site ≡ map site_row (enumerate_from 0 sites.now) }
+    requires read { rows.now.site ≡ map site_row (enumerate_from 0 sites.now) }
+    requires good { HaveNoBadRow rows.now (Table.Store ∷ Table.Site ∷ Table.Address ∷ []) }
     ensures me { IfOk result (λ c. c.me ≡ me) }
     ensures event { IfOk result (λ c. rows.now.event ≡ map event_row (enumerate_from 1 c.events)) }
     ensures part { IfOk result (λ c. rows.now.part ≡ flat_map (parts_of sites.now) (enumerate_from 1 c.events)) }
     ensures among { IfOk result (λ c. All (IsEventAmong (length sites.now)) c.events) }
+    ensures good { IfOk result (λ _. HasNoBadRow rows.now Table.Event × HasNoBadRow rows.now Table.Part) }
     ensures bad { IfErr result (λ fault. IsStateFault rows.now fault) }
 {
     if let Err(fault) = check_events(rows.event.as_slice()) {
@@ -149,6 +156,7 @@ fn diffusion_of(
     requires count { sites ≡ length rows.now.site }
     requires next_message { IsNextNumber numbers.next_message }
     requires next_recall { IsNextNumber numbers.next_recall }
+    requires good { HaveNoBadRow rows.now (Table.Store ∷ Table.Site ∷ Table.Address ∷ Table.Event ∷ Table.Part ∷ Table.Quarantine ∷ []) }
     ensures numbers { IfOk result (λ d. (d.me ≡ numbers.me) × (d.next_message ≡ numbers.next_message) × (d.next_recall ≡ numbers.next_recall)) }
     ensures outbox { IfOk result (λ d. rows.now.outbox ≡ map outbox_row (entries d.outbox)) }
     ensures seen { IfOk result (λ d. rows.now.seen ≡ map seen_row (entries d.seen)) }

@@ -29,6 +29,7 @@ pub(crate) fn addressed(
 ) -> Result<Sites, TableFault>
     ensures names { IfOk result (λ sites. map (λ s. s.name) sites ≡ map (λ s. s.name) names.now) }
     ensures addresses { IfOk result (λ sites. rows.now ≡ map address_row (entries (addresses_of sites))) }
+    ensures in_order { IfOk result AreSites }
     ensures bad { IfErr result (λ fault. IsAddressFault (length names.now) rows.now fault) }
 {
     check_addresses(names.len(), rows)?;

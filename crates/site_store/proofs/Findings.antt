@@ -83,7 +83,7 @@ not_refused r name (BadRow bad) kept items named (inl h) =
     let same : h.0.row ≡ store_row r = first_is r h.0.row h.0.rest h.0.first in
     let none : name_at (map site_row (enumerate_from 0 r.sites)) (pos me) ≡ None = subst (λ (x : StoreRow). name_at (map site_row (enumerate_from 0 r.sites)) x.me ≡ None) same h.0.name_is in
     absurd (unnamed r.sites me kept.sound.me none)
-not_refused r name (BadRow bad) kept items named (inr h) = absurd (rows_are_good r kept items bad.table bad.row h.1)
+not_refused r name (BadRow bad) kept items named (inr h) = absurd (rows_are_good r kept items bad.table bad.row h.1.1)
 not_refused r name Device kept items named h = absurd h
 not_refused r name Store kept items named h = absurd h
 
