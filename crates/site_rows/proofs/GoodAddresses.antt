@@ -97,15 +97,20 @@ module _ (sites : List Site) (are : AreSites sites) where
   rows = map address_row listed
 
   -- each address of each site has a row
-  has_row : (number place : ℕ) (site : Site) (text : List ℕ) → slice_get sites number ≡ Some site → slice_get site.addresses place ≡ Some text → Stands rows (pos number) (pos place)
-  has_row number place site text at there =
+  pub row_there : (number place : ℕ) (site : Site) (text : List ℕ) → slice_get sites number ≡ Some site → slice_get site.addresses place ≡ Some text → Contains rows (address_row (text, at_place number place))
+  row_there number place site text at there =
       let all = flat_map addresses_at (enumerate_from 0 sites) in
       let once : repeats (map (λ (e : List ℕ × Address). e.0) all) ≡ false = ap repeats (all_texts 0 sites) ∙ are.addresses_differ in
       let address = at_place number place in
       let found : get (addresses_of sites) text ≡ Some address = all_found finite.empty all text address once (stands sites number place site text at there) in
       let k = place_of listed (text, address) (entry_there item_total item_exact (addresses_of sites) text address found) in
       let row : slice_get rows k.0 ≡ Some (address_row (text, address)) = slice_get-map address_row listed k.0 ∙ ap (λ (o : Option (List ℕ × Address)). option_map address_row o) k.1 in
-      (k.0, address_row (text, address), stands_within rows k.0 (address_row (text, address)) row, get_or_from_slice_get rows k.0 (address_row (text, address)) (address_row (text, address)) row, (refl, refl))
+      (k.0, stands_within rows k.0 (address_row (text, address)) row, get_or_from_slice_get rows k.0 (address_row (text, address)) (address_row (text, address)) row)
+
+  has_row : (number place : ℕ) (site : Site) (text : List ℕ) → slice_get sites number ≡ Some site → slice_get site.addresses place ≡ Some text → Stands rows (pos number) (pos place)
+  has_row number place site text at there =
+      let there = row_there number place site text at there in
+      (there.0, address_row (text, at_place number place), there.1, there.2, (refl, refl))
 
   -- no two rows are of one place
   same_place : (d e : List ℕ × Address) → Contains listed d → Contains listed e → d.1.site ≡ e.1.site → d.1.place ≡ e.1.place → d.0 ≡ e.0

@@ -77,7 +77,7 @@ store_stands s kept =
     )
 
 -- ---- events
-rest_below : (t : ℤ) → (n : ℕ) × IsBelow 1_000_000_000 (int_rem_euclid t SECOND) n
+pub rest_below : (t : ℤ) → (n : ℕ) × IsBelow 1_000_000_000 (int_rem_euclid t SECOND) n
 rest_below (pos a) =
     let positive : 0 < 1_000_000_000 = omega arith in
     (a % 1_000_000_000, record { number = refl; below = mod-lt a positive })

@@ -34,4 +34,5 @@ pub mod SameRecords
 pub mod SameSites
 pub mod StartsLead
 pub mod StepsLead
+pub mod TablesOfRecords
 pub mod TakesLead

@@ -58,7 +58,15 @@ held_of_row q r i at =
     let found : get q r ≡ Some is.items = ap (get q) (sym recall) ∙ entry_found recall_total q is.recall is.items is.entry in
     ap (λ (o : Option Items). set.contains (or_none o) i) found ∙ subst (λ j. IsTrue (set.contains is.items j)) item (in_set is.items is.item is.there)
 
-row_of_held : (q : Quarantine) (r : Recall) (i : List ℕ) → IsTrue (held q r i) → Contains (flat_map quarantine_rows (entries q)) (quarantine_row r i)
+-- a row is that of an item that is held
+pub held_in_rows : (q : Quarantine) (row : QuarantineRow) → Contains (flat_map quarantine_rows (entries q)) row
+    → (r : Recall) × (i : List ℕ) × IsTrue (held q r i) × (row ≡ quarantine_row r i)
+held_in_rows q row at =
+    let is = row_in (entries q) row at in
+    let there = subst (Contains (flat_map quarantine_rows (entries q))) (sym is.at) at in
+    (is.recall, is.item, held_of_row q is.recall is.item there, sym is.at)
+
+pub row_of_held : (q : Quarantine) (r : Recall) (i : List ℕ) → IsTrue (held q r i) → Contains (flat_map quarantine_rows (entries q)) (quarantine_row r i)
 row_of_held q r i h = elim (get q r) as (λ o. get q r ≡ o → Contains (flat_map quarantine_rows (entries q)) (quarantine_row r i)) [
   | None ↦ λ none. absurd (false≢true (sym (none_held q r i none) ∙ h))
   | Some items ↦ λ is.

@@ -95,7 +95,7 @@ all_found m (e ∷ es) q a once at =
     ]
 
 -- the addresses of sites, each where it stands
-numbered : {X : Type 0} (n : ℕ) (xs : List X) (j : ℕ) (x : X) → slice_get xs j ≡ Some x → Contains (enumerate_from n xs) (n + j, x)
+pub numbered : {X : Type 0} (n : ℕ) (xs : List X) (j : ℕ) (x : X) → slice_get xs j ≡ Some x → Contains (enumerate_from n xs) (n + j, x)
 numbered n [] j x is = cc
 numbered n (y ∷ ys) zero x is =
     let same : y ≡ x = cc in

@@ -11,4 +11,5 @@ pub mod ReadRows
 pub mod RecordRows
 pub mod Shown
 pub mod StepRows
+pub mod TableLaws
 pub mod Texts
