@@ -30,7 +30,7 @@ use Rattle.site_store.specs.declared.sites.Link.{Link}
 use Rattle.site_store.specs.declared.sites.Link.TheVariants.{Connected, Unconnected}
 use Rattle.site_store.specs.declared.sites.StoredSite.{StoredSite}
 use Rattle.site_store.specs.Openings.{ListsRecord, ListsRows, TextsAreUtf8}
-use Rattle.site_store.specs.Sites.{shown_by, link_of, IsKeptBy}
+use Rattle.site_store.specs.Sites.{shown_by, failed_by, statements_by, link_of, IsKeptBy}
 
 -- the name in the row of `site` with this number
 abbrev pub name_at : List SiteRow → ℤ → Option (List ℕ)
@@ -113,11 +113,13 @@ module _ {D : Type 0} {g : disk.Ghosts D} where
   IsCleanAt (Unconnected files) = ⊥
 
   -- it shows the record whose rows the tables list, which is that of a site of this name; over a connection just made the
-  -- tables hold its rows after a crash, too. Where the tables list the rows of such a site, it is that.
+  -- tables hold its rows after a crash, too. Where the tables list the rows of such a site, it is that. No failure and no
+  -- statement is counted yet.
   pub record IsOpenedAs (conn : Held (FileStore D g)) (name : List ℕ) (site : StoredSite D g) : Type 0 where
     pub shown : Record
     pub shows : shown_by site ≡ Some shown
     pub named : own_name shown ≡ name
+    pub fresh : (failed_by site ≡ 0) × (statements_by site ≡ 0)
     pub reads : ReadsAt conn shown (link_of site)
     pub finds : IsCleanAt (link_of site) → (r : Record) → ListsSite r name (file_state conn) → shown ≡ r
     pub kept : IsFound conn → IsKeptBy site shown

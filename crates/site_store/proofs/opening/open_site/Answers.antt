@@ -11,6 +11,7 @@ returns-in-Ok-clause-opened g c =
       shown = c.in-Ok.state;
       shows = c.adopt.ensures.shown;
       named = it.named;
+      fresh = c.adopt.ensures.fresh;
       reads = subst (λ l. ReadsAt c.args.conn c.in-Ok.state l) (sym c.adopt.ensures.over) (it.crash, it.read);
       finds = λ clean r lists. it.finds (subst IsCleanAt c.adopt.ensures.over clean) r lists;
       kept = λ found. c.adopt.ensures.stored (found_kept c.in-Ok.state c.args.conn c.read_site.new.conn (found_stores c.args.conn found c.schema-schema.ensures.live c.settled.ensures) it.crash it.read c.settled-in-Ok.ensures);
