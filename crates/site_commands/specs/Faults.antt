@@ -1,7 +1,5 @@
 -- How the faults of the commands on the sites' files are told.
 use Rattle.std.specs.Prelude.{ℕ, List, [], ◌∷◌, ◌++◌, codes}
-use Rattle.keeper_core.specs.declared.faults.KeepFault.{KeepFault}
-use Rattle.keeper_core.specs.declared.faults.KeepFault.TheVariants as keeping
 use Rattle.site_threads.specs.declared.gather.GatherCause.{GatherCause}
 use Rattle.site_threads.specs.declared.gather.GatherCause.TheVariants as gathering
 use Rattle.world_core.specs.declared.faults.WorldFault.{WorldFault}
@@ -28,14 +26,6 @@ fault_name faults.GaveUp = codes "GaveUp"
 -- the line that tells a fault
 abbrev pub fault_line : Fault → List ℕ
 fault_line fault = codes "fault " ++ fault_name fault ++ 10 ∷ []
-
--- the fault of a keeper
-abbrev pub keeper_fault : KeepFault → Fault
-keeper_fault keeping.NoMemory = faults.NoMemory
-keeper_fault (keeping.Refused why) = faults.Closed
-keeper_fault keeping.Device = faults.Device
-keeper_fault keeping.Closed = faults.Closed
-keeper_fault keeping.Store = faults.Store
 
 -- the fault of a run of all sites; a misfit is none, but memory may run out for its text
 abbrev pub world_fault : WorldFault → Fault

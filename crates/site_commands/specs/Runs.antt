@@ -1,5 +1,5 @@
 -- What a run of all sites answers.
-use Rattle.std.specs.Prelude.{◌≡◌, ◌≤◌, ℕ, List, [], ◌∷◌, ◌++◌, All, length, Option, Result, string_bytes}
+use Rattle.std.specs.Prelude.{◌≡◌, ℕ, List, [], ◌∷◌, ◌++◌, All, length, Option, Result, string_bytes}
 use Rattle.std.specs.List.{flat_map, AllZip}
 use Rattle.event_json.specs.Sites.{Site}
 use Rattle.keeper_core.specs.declared.faults.Unopened.{Unopened}

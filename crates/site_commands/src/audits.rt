@@ -1,6 +1,6 @@
 //! `audit`: whether the records of the sites fit together, and whether each ended recall quarantined what it is to.
 
-ghost use Rattle.std.specs.Prelude.{◌≡◌, ◌++◌, List, IfOk, OnOk, string_bytes};
+ghost use Rattle.std.specs.Prelude.{◌≡◌, ◌++◌, List, IfOk, IfErr, OnOk, string_bytes};
 ghost use Rattle.site_core.specs.Records.{Record};
 ghost use Rattle.site_recovery.specs.Checking.{records_at};
 ghost use Rattle.site_recovery.specs.FittingAt.{AreAllSites};
@@ -55,10 +55,11 @@ fn audit_at<K: SiteKeeper>(alloc: Global, sites: &Sites, keepers: &[K]) -> Resul
 /// Audits the records of all sites, in the order of their numbers.
 ///
 /// # Errors
-/// `NoMemory`.
+/// `NoMemory` alone.
 pub fn audit_of(alloc: Global, sites: &Sites, records: &[&SiteState]) -> Result<Answer, Fault>
     requires all { AreAllSites (records_at records.now) }
     ensures answered { IfOk result (AnswersAudit sites.now (records_at records.now)) }
+    ensures failed { IfErr result (λ fault. fault ≡ Fault.NoMemory) }
     ensures sound { IfOk result IsAnswer }
 {
     match check_world(alloc, records) {
@@ -85,6 +86,7 @@ pub(crate) fn misfit_text(
 fn audit_recalls(alloc: Global, sites: &Sites, records: &[&SiteState]) -> Result<Answer, Fault>
     requires all { AreAllSites (records_at records.now) }
     ensures answered { IfOk result (AuditsRecalls sites.now (records_at records.now)) }
+    ensures failed { IfErr result (λ fault. fault ≡ Fault.NoMemory) }
     ensures sound { IfOk result IsAnswer }
 {
     let mut text = String::new(alloc);
@@ -145,7 +147,8 @@ fn audit_recall(
     begun: &StartedRecall,
 ) -> Result<(String, bool), Fault>
     requires all { AreAllSites (records_at records.now) }
-    ensures { IfOk result (λ told. AuditsRecall sites.now (records_at records.now) begun.now (string_bytes told.0, told.1)) }
+    ensures told { IfOk result (λ told. AuditsRecall sites.now (records_at records.now) begun.now (string_bytes told.0, told.1)) }
+    ensures failed { IfErr result (λ fault. fault ≡ Fault.NoMemory) }
 {
     if !begun.ended {
         return Ok((open_text(alloc, sites, begun.recall)?, false));

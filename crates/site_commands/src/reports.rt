@@ -1,6 +1,6 @@
 //! `report`: what is quarantined under a recall, how it came there, and what left the traced sites.
 
-ghost use Rattle.std.specs.Prelude.{◌≡◌, ◌++◌, List, IfOk, OnOk, string_bytes};
+ghost use Rattle.std.specs.Prelude.{◌≡◌, ◌++◌, List, IfOk, IfErr, OnOk, string_bytes};
 ghost use Rattle.site_core.specs.Records.{Record};
 ghost use Rattle.site_recovery.specs.Checking.{records_at};
 ghost use Rattle.site_recovery.specs.FittingAt.{AreAllSites};
@@ -68,7 +68,7 @@ fn report_at<K: SiteKeeper>(
 /// Reports a recall from the records of all sites, in the order of their numbers.
 ///
 /// # Errors
-/// `NoMemory`.
+/// `NoMemory` alone.
 pub fn report_of(
     alloc: Global,
     sites: &Sites,
@@ -77,6 +77,7 @@ pub fn report_of(
 ) -> Result<Answer, Fault>
     requires all { AreAllSites (records_at records.now) }
     ensures answered { IfOk result (AnswersReport sites.now (records_at records.now) recall) }
+    ensures failed { IfErr result (λ fault. fault ≡ Fault.NoMemory) }
     ensures sound { IfOk result IsAnswer }
 {
     match report(alloc, records, recall) {

@@ -1,11 +1,12 @@
 //! `capture` and `start`: a step of one site.
 
-ghost use Rattle.std.specs.Prelude.{◌≡◌, Some, IfOk};
+ghost use Rattle.std.specs.Prelude.{◌≡◌, Some, None, Result, Err, IfOk, IfErr};
+ghost use Rattle.keeper_core.specs.Keeping.{Rises};
 ghost use Rattle.site_core.specs.Records.{Record};
+ghost use Rattle.site_core.specs.declared.outcomes.Effects.{Effects};
 ghost use Rattle.site_commands.specs.Answers.{IsAnswer};
 ghost use Rattle.site_commands.specs.Calls.{CapturesAt, StartsAt, StepsAt};
-ghost use Rattle.site_commands.specs.Faults.{keeper_fault};
-ghost use Rattle.site_commands.specs.Steps.{AnswersStep};
+ghost use Rattle.site_commands.specs.Steps.{AnswersStep, FailsStep, TellsAnswer};
 
 use crate::answers::Answer;
 use crate::faults::Fault;
@@ -87,8 +88,9 @@ fn step_at<K: SiteKeeper, F: Files<K>>(
 /// A step of a site, and its answer.
 ///
 /// # Errors
-/// `Closed` where the keeper is closed, and `Device` and `Store`, which close it. After `NoMemory` the step may be done
-/// and not told.
+/// `Closed` exactly while the keeper is closed, and nothing changes. `Device`, which comes only where
+/// [`SiteKeeper::failures`] rose, and `Store`, which close it, with the record before the step or the one after it. After
+/// `NoMemory` it is open, and the step may be done and not told.
 pub fn step<K: SiteKeeper>(
     alloc: Global,
     sites: &Sites,
@@ -96,6 +98,10 @@ pub fn step<K: SiteKeeper>(
     input: SiteInput,
 ) -> Result<Answer, Fault>
     ensures answered { (old : Record) → K.shown keeper.old ≡ Some old → IfOk result (AnswersStep sites.now old input (K.shown keeper.new)) }
+    ensures failed { (old : Record) → K.shown keeper.old ≡ Some old → IfErr result (FailsStep old input (K.shown keeper.new) (K.may keeper.new)) }
+    ensures closed { K.shown keeper.old ≡ None → (result ≡ Err Fault.Closed) × (keeper.new ≡ keeper.old) }
+    ensures cause { result ≡ Err Fault.Device → Rises (K.failed keeper.old) (K.failed keeper.new) }
+    ensures kind { (answer : Result Effects KeepFault) × K.applies keeper.old input answer keeper.new × TellsAnswer sites.now answer result }
     ensures sound { IfOk result IsAnswer }
 {
     match keeper.apply(input) {
@@ -104,18 +110,9 @@ pub fn step<K: SiteKeeper>(
             let what = refusal_text(alloc, sites, &why)?;
             Ok(Answer::refusal(alloc, what.as_str())?)
         }
-        Err(fault) => Err(fault_of(&fault)),
-    }
-}
-
-/// The fault of a keeper, as the program tells it.
-fn fault_of(fault: &KeepFault) -> Fault
-    ensures { result ≡ keeper_fault fault.now }
-{
-    match fault {
-        KeepFault::NoMemory => Fault::NoMemory,
-        KeepFault::Device => Fault::Device,
-        KeepFault::Store => Fault::Store,
-        KeepFault::Closed | KeepFault::Refused(_) => Fault::Closed,
+        Err(KeepFault::NoMemory) => Err(Fault::NoMemory),
+        Err(KeepFault::Device) => Err(Fault::Device),
+        Err(KeepFault::Store) => Err(Fault::Store),
+        Err(KeepFault::Closed) => Err(Fault::Closed),
     }
 }
