@@ -1,5 +1,6 @@
 #!/usr/bin/env bash
-# Drives the program on a folder of files as a person would: each command, each refusal and fault once, and stops by
+# Drives the program on a folder of files as a person would: each command but `run`, most refusals and faults once (the
+# README lists the others; another version, a bad row and a locked file only where `sqlite3` is installed), and stops by
 # `kill -9` at moments of a capture and a start, after each of which an audit finds the record before or after it.
 # Run by hand, and by the gate on the program that it built. RECALL names another program, STOPS how often it is
 # stopped. It ends with status 0 where all is as it should be, and takes less than two minutes.
