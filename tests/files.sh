@@ -1,7 +1,7 @@
 #!/usr/bin/env bash
-# Drives the program on a folder of files as a person would: each command but `run`, most refusals and faults once (the
-# README lists the others; another version, a bad row and a locked file only where `sqlite3` is installed), and stops by
-# `kill -9` at moments of a capture and a start, after each of which an audit finds the record before or after it.
+# Drives the program on a folder of files as a person would: each command, most refusals and faults (the README lists the
+# others; another version, a bad row and a locked file only where `sqlite3` is installed), and stops by `kill -9` at moments
+# of a capture and a start, after each of which an audit finds the record before or after it.
 # Run by hand, and by the gate on the program that it built. RECALL names another program, STOPS how often it is
 # stopped. It ends with status 0 where all is as it should be, and takes less than two minutes.
 set -u
@@ -76,6 +76,17 @@ echo '{' >bad.json
 wants 1 'refused Doc Syntax event 0 field document' '' capture chain dairy bad.json
 printf 'site A a\nreach A x\n' >bad.sites
 wants 1 "$(printf 'refused %s\n' BadLine NoWorld)" '' init other bad.sites
+printf 'site A a\nsite B b\nsite A c\n' >bad.sites
+wants 1 'refused BadSite NameTaken' '' init other bad.sites
+mkdir listed
+cp "$chain/sites" listed
+wants 1 'refused Exists sites' '' init listed "$chain/sites"
+sed 's/T05:40/T05:41/' "$chain/dairy.json" >other.json
+wants 1 'refused IdTaken event 1' '' capture chain dairy other.json
+printf '{"type":"ObjectEvent","eventTime":"2024-05-02T08:00:00Z","eventTimeZoneOffset":"+00:00","action":"OBSERVE","epcList":["%s"],"destinationList":[{"type":"location","destination":"outside"}]}' "$tank" >led.json
+wants 0 'captured 1 known 0 skipped 0' '' capture chain plant led.json
+sed 's,"outside","https://id.gs1.org/414/9521321000032",' led.json >blocked.json
+wants 1 'refused Blocked plant#1 sgtin 09521321000117 tank-7 event 1' '' capture chain plant blocked.json
 
 echo "faults"
 faults Read none capture chain dairy none
@@ -128,6 +139,12 @@ echo 'site late z' >>damaged/sites
 wants 3 '' 'fault OtherSites' start damaged dairy "$tank"
 echo 'reach dairy x' >>damaged/sites
 wants 3 '' 'fault BadSites' audit damaged
+damaged
+wants 0 "$(printf '%s ended\n' 'dairy#1' 'plant#1')" '' run damaged
+wants 0 "$(printf '%s\n' 'equal dairy#1 pairs 8' 'equal plant#1 pairs 7')" '' audit damaged
+cp chain/shop-1.db chain/shop-1.db-wal damaged
+wants 4 'misfit 2 shop-1' '' audit damaged
+wants 4 'misfit 2 shop-1' '' run damaged
 damaged
 "$recall" report damaged 'dairy#1' >/dev/full 2>err
 [ $? = 3 ] && [ "$(cat err)" = 'fault Write' ] || { echo "a full output: $(cat err)" >&2; failed=1; }
