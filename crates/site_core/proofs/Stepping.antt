@@ -2,7 +2,6 @@
 use Rattle.std.proofs.Common.{◌≡◌, true, false, cond, refl, sym, subst}
 use Rattle.site_core.specs.declared.inputs.SiteInput.{SiteInput}
 use Rattle.site_core.specs.declared.outcomes.Effects.{Effects}
-use Rattle.site_core.specs.declared.steps.Stepped.{Stepped}
 use Rattle.site_core.specs.declared.steps.Stepped.TheVariants.{Same, Next}
 use Rattle.site_core.specs.Records.{Record}
 use Rattle.site_core.specs.Stepping.{IsStepped, stepped_to}

@@ -1,4 +1,4 @@
-use Rattle.std.proofs.Common.{ap, subst}
+use Rattle.std.proofs.Common.{subst}
 use Rattle.site_core.specs.Shipments.{AreShipments}
 use Rattle.site_core.proofs.Newly.{newly}
 use Rattle.site_core.proofs.plans.plan_start.Goals as goal

@@ -1,4 +1,4 @@
-use Rattle.std.proofs.Common.{ap, subst}
+use Rattle.std.proofs.Common.{subst}
 use Rattle.std.specs.Prelude.{Ok}
 use Rattle.site_core.specs.declared.inputs.SiteInput.TheVariants.{Capture}
 use Rattle.site_core.specs.Records.{Record}
