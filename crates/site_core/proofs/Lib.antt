@@ -5,6 +5,7 @@ pub mod Changes
 pub mod ChangesTold
 pub mod Clearings
 pub mod Closures
+pub mod CopiedRest
 pub mod Deliveries
 pub mod Documents
 pub mod Entries

@@ -3,6 +3,7 @@ pub mod Capturing
 pub mod CapturingLaws
 pub mod Codes
 pub mod Emitting
+pub mod Following
 pub mod Holding
 pub mod ItemSets
 pub mod Laws

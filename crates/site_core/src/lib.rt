@@ -5,6 +5,7 @@ mod capturing;
 pub mod capturing_laws;
 mod emitting;
 mod every;
+mod following;
 mod holding;
 mod inputs;
 mod item_sets;

@@ -3,7 +3,6 @@ ghost use Rattle.std.specs.Prelude.{◌≡◌, IfOk, IfErr};
 ghost use Rattle.site_core.specs.Steps.{Does, Refuses};
 ghost use Rattle.site_core.specs.declared.outcomes.Effects.{Effects as Told};
 
-use site_core::step_laws::an_input_has_one_outcome;
 use site_core::{Effects, Refusal, SiteInput, SiteState};
 use std::alloc::{AllocError, Global};
 use std::marker::Model;
@@ -79,14 +78,12 @@ impl Pair {
         ensures same { self.new ≡ self.old }
         ensures equal { IfOk result (λ state. state ≡ self.old) }
     {
-        // A record before an input has one record after it.
-        an_input_has_one_outcome();
         let mut state = before;
-        match state.apply(&input) {
-            Ok(_) => Ok(state),
-            Err(_) => {
+        match state.follow(&input, &self.state) {
+            Ok(()) => Ok(state),
+            Err(error) => {
                 self.other = Other::Before(state, input);
-                Err(AllocError)
+                Err(error)
             }
         }
     }

@@ -237,6 +237,31 @@ fn a_message_is_taken_once(rt: HostRuntime) -> Result<(), Fail> {
     Ok(())
 }
 
+/// Whether a record follows the step that a copy of it has made.
+fn follows(alloc: Global, a: &mut SiteState, short: Short) -> Result<bool, Fail> {
+    let input = input(alloc, short)?;
+    let mut after = a.copy(alloc)?;
+    if after.apply(&input).is_err() {
+        return Ok(false);
+    }
+    a.follow(&input, &after)?;
+    Ok(true)
+}
+
+/// Whether A follows a capture, and the start of a recall.
+fn follows_steps(alloc: Global, a: &mut SiteState) -> Result<bool, Fail> {
+    let captured = follows(alloc, a, Short::Made('x', 'y'))?;
+    let started = follows(alloc, a, Short::Start('x'))?;
+    Ok(captured && started && a.captured().len() == 1 && a.own_recalls().len() == 1)
+}
+
+#[test]
+fn a_record_follows_the_one_after_it(rt: HostRuntime) -> Result<(), Fail> {
+    let mut a = fresh(rt.alloc(), site(0))?;
+    assert!(rt; follows_steps(rt.alloc(), &mut a)?);
+    Ok(())
+}
+
 /// The last signal ends the recall in a record of its own, and is stale where it comes again.
 fn ends_apart(alloc: Global, a: &SiteState, last: &SiteInput) -> Result<bool, Fail> {
     match step(alloc, a, last)? {
