@@ -1,23 +1,14 @@
 -- A loop that changes a table for each element.
-use Rattle.std.proofs.Common.{◌≡◌, ℕ, ◌+◌, ◌<◌, List, [], length, take, get_or, Ok, Err, Result, refl, sym, ap, ◌∙◌}
+use Rattle.std.proofs.Common.{◌≡◌, ℕ, ◌+◌, ◌<◌, List, length, take, get_or, Ok, Err, Result, refl, sym, ap, ◌∙◌}
 use Rattle.std.specs.Prelude.{fold}
 use Rattle.std.proofs.lemmas.List.{take_more}
 use Rattle.std.proofs.lemmas.List.Sums.{fold_push}
 use Rattle.sqlite.specs.Order.{Row}
 use Rattle.sqlite.specs.Table.{Table}
 use Rattle.sqlite.specs.declared.error.Error.{Error}
-use Rattle.sqlite.specs.State.{State, Survives}
+use Rattle.sqlite.specs.State.{State}
 use Rattle.site_tables.specs.TableRows.{Writes, HasWritten, changes_each}
 use Rattle.site_tables.proofs.Steps.{writes_then, fails, succeeds}
-
--- nothing was changed yet
-pub none_yet : (table : Table) {X : Type 0} (change : X → List Row → List Row) (s : State) → Survives s s (λ _. ⊥) → HasWritten table (changes_each change []) s s
-none_yet table change s quiet = record {
-  done = λ _. record { goes_on = record { is_open = refl; committed = refl; mode = refl }; changes = λ _. record { schema = refl; rows = λ rows has. has; others = λ _ _ _. refl } };
-  undone = λ _. tt {0};
-  cause = λ _ _ _. tt {0};
-  crash = quiet;
-}
 
 module _ (table : Table) {X : Type 0} (change : X → List Row → List Row) (xs : List X) (i : ℕ) (x : X) (a b c : State) (r : Result ℕ Error) where
   one_more : (before : List Row) → i < length xs → x ≡ get_or xs i x → change x (changes_each change (take i xs) before) ≡ changes_each change (take (i + 1) xs) before

@@ -1,5 +1,5 @@
 -- What a call inside a transaction does, by its text.
-use Rattle.std.proofs.Common.{◌≡◌, inl, inr, ℕ, ◌+◌, ◌-◌, ◌≤◌, List, [], ◌++◌, length, map, take, slice_range, false, Ok, Err, Result, OnOk, OnErr, IfErr, IsTrue, refl, sym, ap, subst, ◌∙◌, append-nil, append_assoc, take-add, arith}
+use Rattle.std.proofs.Common.{◌≡◌, inl, inr, ℕ, ◌+◌, ◌-◌, ◌≤◌, List, ◌++◌, length, map, take, slice_range, false, Ok, Err, Result, OnOk, OnErr, IfErr, IsTrue, refl, sym, ap, subst, ◌∙◌, append_assoc, take-add, arith}
 use Rattle.std.proofs.lemmas.Bool.{cases_Bool}
 use Rattle.std.specs.Result.{IsErr}
 use Rattle.std.proofs.lemmas.List.{map-append}
@@ -133,15 +133,6 @@ module _ (table : Table) where
   does_then first next both is a b c p q = record {
     goes_on = goes_then a b c p.goes_on q.goes_on;
     changes = λ has. let one = p.changes has in changes_then first next both is a.now b.now c.now one (q.changes (one.schema ∙ has));
-  }
-
-  -- nothing was written yet
-  pub nothing : (s : State) → Survives s s (λ _. ⊥) → HasWritten table (adds []) s s
-  nothing s quiet = record {
-    done = λ _. record { goes_on = record { is_open = refl; committed = refl; mode = refl }; changes = λ _. record { schema = refl; rows = λ rows has. rw (append-nil rows) has; others = λ _ _ _. refl } };
-    undone = λ _. tt {0};
-    cause = λ _ _ _. tt {0};
-    crash = quiet;
   }
 
   pub writes_then : {X Y : Type 0} (first next both : List Row → List Row) → ((rows : List Row) → next (first rows) ≡ both rows) → (a b c : State) (x : X) (r : Result Y Error)

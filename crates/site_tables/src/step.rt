@@ -7,11 +7,9 @@ ghost use Rattle.site_tables.specs.Causes.{HasReason};
 ghost use Rattle.site_tables.specs.Changed.{captured, recalled, signalled, renumbered, changed, rows_written, numbers_written};
 ghost use Rattle.site_tables.specs.Stored.{Contents, Holds, IsStored, IsStopped, WritesAll};
 
-use crate::in_turn::{
-    delete_each_outbox, delete_each_parent, upsert_each_outbox, upsert_each_recall,
-};
+use crate::in_turn::write_each;
 use crate::inserting::insert_each;
-use crate::replacing::update_store;
+use crate::replacing::{DropsOutbox, DropsParent, PutsOutbox, PutsRecall, update_store};
 use site_rows::RowChanges;
 use sqlite::{Alter, Connection, Error, Transaction};
 use std::alloc::Global;
@@ -43,7 +41,7 @@ fn write_recalled<S: Alter>(
     ensures counted { OnOk result (written.new ≡ min 18_446_744_073_709_551_615 (written.old + (length changes.now.quarantine + length changes.now.outbox + length changes.now.seen + length changes.now.parent))) }
 {
     insert_each(alloc, tx, changes.quarantine.as_slice(), written)?;
-    upsert_each_outbox(tx, changes.outbox.as_slice(), written)?;
+    write_each::<PutsOutbox, _>(tx, changes.outbox.as_slice(), written)?;
     insert_each(alloc, tx, changes.seen.as_slice(), written)?;
     insert_each(alloc, tx, changes.parent.as_slice(), written)
 }
@@ -58,9 +56,9 @@ fn write_signalled<S: Alter>(
     ensures wrote { WritesAll (signalled changes.now) (state S.Store tx.old.conn.now) (state S.Store tx.new.conn.now) result }
     ensures counted { OnOk result (written.new ≡ min 18_446_744_073_709_551_615 (written.old + (length changes.now.signalled + length changes.now.left + length changes.now.recall))) }
 {
-    delete_each_outbox(tx, changes.signalled.as_slice(), written)?;
-    delete_each_parent(tx, changes.left.as_slice(), written)?;
-    upsert_each_recall(tx, changes.recall.as_slice(), written)
+    write_each::<DropsOutbox, _>(tx, changes.signalled.as_slice(), written)?;
+    write_each::<DropsParent, _>(tx, changes.left.as_slice(), written)?;
+    write_each::<PutsRecall, _>(tx, changes.recall.as_slice(), written)
 }
 
 /// Writes the next numbers, where they changed.

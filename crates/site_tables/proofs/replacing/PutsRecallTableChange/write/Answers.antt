@@ -4,7 +4,7 @@ use Rattle.site_tables.specs.Texts.{upsert_recall}
 use Rattle.site_tables.specs.Values.{recall_values}
 use Rattle.site_tables.proofs.Puts.{upserts_recall}
 use Rattle.site_tables.proofs.Steps.{ran}
-use Rattle.site_tables.proofs.replacing.upsert_recall.Goals as goal
+use Rattle.site_tables.proofs.replacing.PutsRecallTableChange.write.Goals as goal
 
 pub returns-clause-wrote : goal.returns-clause-wrote
 returns-clause-wrote g c =

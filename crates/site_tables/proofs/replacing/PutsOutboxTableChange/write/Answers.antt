@@ -4,7 +4,7 @@ use Rattle.site_tables.specs.Texts.{upsert_outbox}
 use Rattle.site_tables.specs.Values.{outbox_values}
 use Rattle.site_tables.proofs.Puts.{upserts_outbox}
 use Rattle.site_tables.proofs.Steps.{ran}
-use Rattle.site_tables.proofs.replacing.upsert_outbox.Goals as goal
+use Rattle.site_tables.proofs.replacing.PutsOutboxTableChange.write.Goals as goal
 
 pub returns-clause-wrote : goal.returns-clause-wrote
 returns-clause-wrote g c =

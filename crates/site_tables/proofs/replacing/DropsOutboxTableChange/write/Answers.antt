@@ -7,7 +7,7 @@ use Rattle.site_tables.specs.Texts.{delete_outbox}
 use Rattle.site_tables.proofs.Meanings.{delete_outbox_is}
 use Rattle.site_tables.proofs.Tables.{outbox_simple}
 use Rattle.site_tables.proofs.Steps.{ran, deletes_of_key}
-use Rattle.site_tables.proofs.replacing.delete_outbox.Goals as goal
+use Rattle.site_tables.proofs.replacing.DropsOutboxTableChange.write.Goals as goal
 
 pub returns-clause-wrote : goal.returns-clause-wrote
 returns-clause-wrote g c =

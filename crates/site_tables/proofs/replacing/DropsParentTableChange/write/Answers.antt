@@ -7,7 +7,7 @@ use Rattle.site_tables.specs.Values.{recall_key}
 use Rattle.site_tables.proofs.Meanings.{delete_parent_is}
 use Rattle.site_tables.proofs.Tables.{parent_simple}
 use Rattle.site_tables.proofs.Steps.{ran, deletes_of_key}
-use Rattle.site_tables.proofs.replacing.delete_parent.Goals as goal
+use Rattle.site_tables.proofs.replacing.DropsParentTableChange.write.Goals as goal
 
 pub returns-clause-wrote : goal.returns-clause-wrote
 returns-clause-wrote g c =
