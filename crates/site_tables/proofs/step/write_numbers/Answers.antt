@@ -3,7 +3,7 @@ use Rattle.sqlite.specs.Held.{state}
 use Rattle.site_rows.specs.declared.changes.Numbers.{Numbers}
 use Rattle.site_tables.specs.Changed.{renumbers}
 use Rattle.site_tables.specs.Stored.{WritesAll}
-use Rattle.site_tables.specs.Values.{sets_numbers, with_numbers}
+use Rattle.site_tables.specs.Values.{with_numbers}
 use Rattle.site_tables.proofs.Tables.{numbers_set}
 use Rattle.site_tables.proofs.Whole.{store_in_all, all_succeed}
 use Rattle.site_tables.proofs.step.write_numbers.Goals as goal
@@ -16,6 +16,6 @@ returns-clause-wrote g c =
     let numbers = c.in-Some.numbers in
     let s0 = state g.S.Store c.args.tx.now.conn.now in
     let s1 = state g.S.Store c.update_store.new.tx.conn.now in
-    let p = store_in_all (map (sets_numbers numbers)) (map (with_numbers numbers)) (numbers_set numbers) s0 s1 c.update_store.result c.update_store.ensures.wrote in
+    let p = store_in_all (map (with_numbers numbers)) (numbers_set numbers) c.update_store.ensures.wrote in
     subst (λ (o : Option Numbers). WritesAll (λ rows. record rows { store = renumbers o rows.store }) s0 s1 (Ok (tt {0}))) (sym c.in-Some.is)
-    (all_succeed _ s0 s1 c.update_store.result c.in_ok-update_store.field-0 (tt {0}) c.in_ok-update_store.was p)
+    (all_succeed c.update_store.result c.in_ok-update_store.was p)
