@@ -25,13 +25,13 @@ use Rattle.site_rows.specs.declared.tables.Table.TheVariants.{Store, Site, Addre
 use Rattle.site_tables.specs.AllReads.{AreListed}
 use Rattle.site_tables.specs.Reads.{key_order, AreTexts, IsStrict, IsListed, HasBadRow}
 use Rattle.site_tables.specs.Stored.{contents_of}
-use Rattle.site_tables.specs.Tables.{store, site, address, event, part, quarantine, outbox, seen, parent, recall}
 use Rattle.site_tables.specs.TableRows.{visible, key_of}
 use Rattle.site_tables.specs.Unreadable.{IsBadAt}
 use Rattle.site_tables.specs.Values.{store_values, site_values, address_values, event_values, part_values, quarantine_values, outbox_values, seen_values, parent_values, recall_values}
 use Rattle.site_tables.proofs.Order.{sorted_is}
 use Rattle.site_tables.proofs.Readable.{AreInOrder, MayBeRead}
 
+-- a table's rows by strict keys are the only ones that are listed
 only_list : (table : Table) (tree xs ys : List Row) → IsStrict table xs → IsListed table tree xs → IsListed table tree ys → ys ≡ xs
 only_list table tree xs ys strict listed also =
     let shown = map (visible table) tree in
@@ -50,23 +50,23 @@ among row_of (x ∷ xs) [] row others e texts =
     (subst AreTexts (sym it.0) texts.0, x, it.0)
 among row_of (x ∷ xs) (r ∷ front) row others e texts = among row_of xs front row others (both_same r (row_of x) (front ++ row ∷ others) (map row_of xs) e).1 texts.1
 
-none_bad : {X : Type 0} (table : Table) (row_of : X → Row) (tree : List Row) (xs : List X) (place : ℕ) → AreInOrder table (map row_of xs) → IsListed table tree (map row_of xs) → HasBadRow table row_of place tree → ⊥
-none_bad table row_of tree xs place order listed bad =
+none_bad : {X : Type 0} {table : Table} {row_of : X → Row} {tree : List Row} {place : ℕ} (xs : List X) → AreInOrder table (map row_of xs) → IsListed table tree (map row_of xs) → HasBadRow table row_of place tree → ⊥
+none_bad {table = table} {row_of = row_of} {tree = tree} xs order listed bad =
     let front = map row_of bad.0 in
     let it = among row_of xs front bad.1 bad.2 (only_list table tree (map row_of xs) (front ++ bad.1 ∷ bad.2) order.strict listed bad.3) order.texts in
     bad.5 it.0 it.1 it.2
 
 pub no_bad_row : (named : SiteTable) (place : ℕ) (held : Rows) (db : Trees) → MayBeRead (contents_of held) → AreListed (contents_of held) db → IsBadAt named place db → ⊥
-no_bad_row Store place held db order listed bad = none_bad store store_values (db store.tree) held.store place order.store listed.store bad
-no_bad_row Site place held db order listed bad = none_bad site site_values (db site.tree) held.site place order.site listed.site bad
-no_bad_row Address place held db order listed bad = none_bad address address_values (db address.tree) held.address place order.address listed.address bad
-no_bad_row Event place held db order listed bad = none_bad event event_values (db event.tree) held.event place order.event listed.event bad
-no_bad_row Part place held db order listed bad = none_bad part part_values (db part.tree) held.part place order.part listed.part bad
-no_bad_row Quarantine place held db order listed bad = none_bad quarantine quarantine_values (db quarantine.tree) held.quarantine place order.quarantine listed.quarantine bad
-no_bad_row Outbox place held db order listed bad = none_bad outbox outbox_values (db outbox.tree) held.outbox place order.outbox listed.outbox bad
-no_bad_row Seen place held db order listed bad = none_bad seen seen_values (db seen.tree) held.seen place order.seen listed.seen bad
-no_bad_row Parent place held db order listed bad = none_bad parent parent_values (db parent.tree) held.parent place order.parent listed.parent bad
-no_bad_row Recall place held db order listed bad = none_bad recall recall_values (db recall.tree) held.recall place order.recall listed.recall bad
+no_bad_row Store place held db order listed bad = none_bad held.store order.store listed.store bad
+no_bad_row Site place held db order listed bad = none_bad held.site order.site listed.site bad
+no_bad_row Address place held db order listed bad = none_bad held.address order.address listed.address bad
+no_bad_row Event place held db order listed bad = none_bad held.event order.event listed.event bad
+no_bad_row Part place held db order listed bad = none_bad held.part order.part listed.part bad
+no_bad_row Quarantine place held db order listed bad = none_bad held.quarantine order.quarantine listed.quarantine bad
+no_bad_row Outbox place held db order listed bad = none_bad held.outbox order.outbox listed.outbox bad
+no_bad_row Seen place held db order listed bad = none_bad held.seen order.seen listed.seen bad
+no_bad_row Parent place held db order listed bad = none_bad held.parent order.parent listed.parent bad
+no_bad_row Recall place held db order listed bad = none_bad held.recall order.recall listed.recall bad
 
 -- ---- they are the only ones
 
@@ -77,6 +77,10 @@ same_rows row_of one (x ∷ xs) [] e = absurd (let y : row_of x ∷ map row_of x
 same_rows row_of one (x ∷ xs) (y ∷ ys) e =
     let it = both_same (row_of x) (row_of y) (map row_of xs) (map row_of ys) e in
     ap₂ ◌∷◌ (one x y it.0) (same_rows row_of one xs ys it.1)
+
+-- values that stand for the rows of one table, of which no two stand for one row
+only_values : {X : Type 0} {table : Table} {row_of : X → Row} {tree : List Row} {xs ys : List X} → ((a b : X) → row_of a ≡ row_of b → a ≡ b) → AreInOrder table (map row_of xs) → IsListed table tree (map row_of xs) → IsListed table tree (map row_of ys) → ys ≡ xs
+only_values {table = table} {row_of = row_of} {tree = tree} {xs = xs} {ys = ys} one order listed also = same_rows row_of one ys xs (only_list table tree (map row_of xs) (map row_of ys) order.strict listed also)
 
 text_or_null : (a b : Option (List ℕ)) → or_null Text a ≡ or_null Text b → a ≡ b
 text_or_null None None e = refl
@@ -166,14 +170,14 @@ recall_is a b e =
 
 pub only_rows : (held rows : Rows) (db : Trees) → MayBeRead (contents_of held) → AreListed (contents_of held) db → AreListed (contents_of rows) db → rows ≡ held
 only_rows held rows db order listed also =
-    let store_same = same_rows store_values store_is rows.store held.store (only_list store (db store.tree) (map store_values held.store) (map store_values rows.store) order.store.strict listed.store also.store) in
-    let site_same = same_rows site_values site_is rows.site held.site (only_list site (db site.tree) (map site_values held.site) (map site_values rows.site) order.site.strict listed.site also.site) in
-    let address_same = same_rows address_values address_is rows.address held.address (only_list address (db address.tree) (map address_values held.address) (map address_values rows.address) order.address.strict listed.address also.address) in
-    let event_same = same_rows event_values event_is rows.event held.event (only_list event (db event.tree) (map event_values held.event) (map event_values rows.event) order.event.strict listed.event also.event) in
-    let part_same = same_rows part_values part_is rows.part held.part (only_list part (db part.tree) (map part_values held.part) (map part_values rows.part) order.part.strict listed.part also.part) in
-    let quarantine_same = same_rows quarantine_values quarantine_is rows.quarantine held.quarantine (only_list quarantine (db quarantine.tree) (map quarantine_values held.quarantine) (map quarantine_values rows.quarantine) order.quarantine.strict listed.quarantine also.quarantine) in
-    let outbox_same = same_rows outbox_values outbox_is rows.outbox held.outbox (only_list outbox (db outbox.tree) (map outbox_values held.outbox) (map outbox_values rows.outbox) order.outbox.strict listed.outbox also.outbox) in
-    let seen_same = same_rows seen_values seen_is rows.seen held.seen (only_list seen (db seen.tree) (map seen_values held.seen) (map seen_values rows.seen) order.seen.strict listed.seen also.seen) in
-    let parent_same = same_rows parent_values parent_is rows.parent held.parent (only_list parent (db parent.tree) (map parent_values held.parent) (map parent_values rows.parent) order.parent.strict listed.parent also.parent) in
-    let recall_same = same_rows recall_values recall_is rows.recall held.recall (only_list recall (db recall.tree) (map recall_values held.recall) (map recall_values rows.recall) order.recall.strict listed.recall also.recall) in
+    let store_same = only_values store_is order.store listed.store also.store in
+    let site_same = only_values site_is order.site listed.site also.site in
+    let address_same = only_values address_is order.address listed.address also.address in
+    let event_same = only_values event_is order.event listed.event also.event in
+    let part_same = only_values part_is order.part listed.part also.part in
+    let quarantine_same = only_values quarantine_is order.quarantine listed.quarantine also.quarantine in
+    let outbox_same = only_values outbox_is order.outbox listed.outbox also.outbox in
+    let seen_same = only_values seen_is order.seen listed.seen also.seen in
+    let parent_same = only_values parent_is order.parent listed.parent also.parent in
+    let recall_same = only_values recall_is order.recall listed.recall also.recall in
     λ i. record { store = store_same i; site = site_same i; address = address_same i; event = event_same i; part = part_same i; quarantine = quarantine_same i; outbox = outbox_same i; seen = seen_same i; parent = parent_same i; recall = recall_same i }

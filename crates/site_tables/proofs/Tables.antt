@@ -1,9 +1,10 @@
 -- What each table makes of its rows.
-use Rattle.std.proofs.Common.{◌≡◌, ℕ, ℤ, List, [], ◌∷◌, Bool, true, false, cond, Option, None, Some, ◌&&◌, ◌||◌, drop, map, refl, sym, pos}
+use Rattle.std.proofs.Common.{◌≡◌, ℕ, ℤ, List, [], ◌∷◌, Bool, true, false, cond, Option, None, Some, ◌&&◌, ◌||◌, drop, map, slice_get, refl, sym, pos}
 use Rattle.sqlite.specs.declared.types.Value.{Value}
 use Rattle.sqlite.specs.declared.types.Value.TheVariants.{Null, Int, Text}
 use Rattle.sqlite.specs.Values.{bound_value, or_null}
 use Rattle.sqlite.specs.Order.{Row}
+use Rattle.sqlite.specs.Table.{Table}
 use Rattle.sqlite.specs.Ops.{unary}
 use Rattle.sqlite.specs.Kind.TheVariants as kind
 use Rattle.sqlite.specs.Term.{col, eval_all}
@@ -56,35 +57,39 @@ quiet tree gone news = elim (length news == 0) as (λ b. flat_map (λ child. fil
   | false ↦ refl
 ]
 
+-- a table at its place in the schema, which counts and stamps no row, is changed by its own statements alone
+simple : (at : ℕ) (table : Table) → slice_get site_schema.tables at ≡ Some table → table.is_counted ≡ false → table.stamps.terms ≡ [] → IsSimple site_schema at table
+simple at table listed uncounted unstamped = record { listed = listed; uncounted = uncounted; unstamped = unstamped; adds = quiet table.tree []; removes = λ gone. quiet table.tree gone [] }
+
 pub store_simple : IsSimple site_schema 0 store
-store_simple = record { listed = refl; uncounted = refl; unstamped = refl; adds = quiet 0 []; removes = λ gone. quiet 0 gone [] }
+store_simple = simple 0 store refl refl refl
 
 pub site_simple : IsSimple site_schema 1 site
-site_simple = record { listed = refl; uncounted = refl; unstamped = refl; adds = quiet 1 []; removes = λ gone. quiet 1 gone [] }
+site_simple = simple 1 site refl refl refl
 
 pub address_simple : IsSimple site_schema 2 address
-address_simple = record { listed = refl; uncounted = refl; unstamped = refl; adds = quiet 3 []; removes = λ gone. quiet 3 gone [] }
+address_simple = simple 2 address refl refl refl
 
 pub event_simple : IsSimple site_schema 3 event
-event_simple = record { listed = refl; uncounted = refl; unstamped = refl; adds = quiet 5 []; removes = λ gone. quiet 5 gone [] }
+event_simple = simple 3 event refl refl refl
 
 pub part_simple : IsSimple site_schema 4 part
-part_simple = record { listed = refl; uncounted = refl; unstamped = refl; adds = quiet 6 []; removes = λ gone. quiet 6 gone [] }
+part_simple = simple 4 part refl refl refl
 
 pub quarantine_simple : IsSimple site_schema 5 quarantine
-quarantine_simple = record { listed = refl; uncounted = refl; unstamped = refl; adds = quiet 8 []; removes = λ gone. quiet 8 gone [] }
+quarantine_simple = simple 5 quarantine refl refl refl
 
 pub outbox_simple : IsSimple site_schema 6 outbox
-outbox_simple = record { listed = refl; uncounted = refl; unstamped = refl; adds = quiet 10 []; removes = λ gone. quiet 10 gone [] }
+outbox_simple = simple 6 outbox refl refl refl
 
 pub seen_simple : IsSimple site_schema 7 seen
-seen_simple = record { listed = refl; uncounted = refl; unstamped = refl; adds = quiet 11 []; removes = λ gone. quiet 11 gone [] }
+seen_simple = simple 7 seen refl refl refl
 
 pub parent_simple : IsSimple site_schema 8 parent
-parent_simple = record { listed = refl; uncounted = refl; unstamped = refl; adds = quiet 13 []; removes = λ gone. quiet 13 gone [] }
+parent_simple = simple 8 parent refl refl refl
 
 pub recall_simple : IsSimple site_schema 9 recall
-recall_simple = record { listed = refl; uncounted = refl; unstamped = refl; adds = quiet 15 []; removes = λ gone. quiet 15 gone [] }
+recall_simple = simple 9 recall refl refl refl
 
 pub store_shows : (a : ℤ) (b : ℤ) (c : ℤ) (d : ℤ) (e : ℤ) (tree : List Row) → let row = Int a ∷ Int b ∷ Int c ∷ Int d ∷ Int e ∷ [] in visible store (with_rowid Chosen tree (cast_row store (source_of store row))) ≡ row
 store_shows a b c d e tree = rw (cast_int a, cast_int b, cast_int c, cast_int d, cast_int e) refl
