@@ -58,8 +58,8 @@ makes text schema table is old new (Ok count) late ended runs = elim (cases_Bool
   | inr outside ↦ absurd (let e = ended outside in cc)
 ]
 
-pub creates : (text : List ℕ) (schema : Schema) (table : Table) → IsMade text schema table → (old new : State) (r : Result ℕ Error) → Ran text [] old new r → Creates table schema old new r
-creates text schema table is old new r ran = record {
+pub creates : {text : List ℕ} {schema : Schema} {table : Table} → IsMade text schema table → {old new : State} {r : Result ℕ Error} → Ran text [] old new r → Creates table schema old new r
+creates {text} {schema} {table} is {old} {new} {r} ran = record {
   done = λ clean. makes text schema table is old new r ran.late ran.ended (ran.runs clean);
   undone = λ clean. keeps text [] old new r ran.same (ran.runs clean);
   cause = λ clean inside has. fails_for schema text [] CreateTable is.command is.plain is.alone refl old new has r (ran.runs clean inside);

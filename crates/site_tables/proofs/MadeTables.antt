@@ -20,8 +20,9 @@ still_empty : (tables : List Table) (last : Table) (old new : Trees) → AreEmpt
 still_empty [] last old new none keeps new_one = (new_one, tt)
 still_empty (t ∷ tables) last old new none keeps new_one = (keeps.0 ∙ none.0, still_empty tables last old new none.1 keeps.1 new_one)
 
-pub made_one : {X : Type 0} (table : Table) (schema : Schema) (old new : State) (r : Result X Error) → Creates table schema old new r → MakesTables schema (created schema table) old new r
-made_one table schema old new r it = record {
+-- a table that is made is a schema that becomes the next
+pub made_one : {X : Type 0} {table : Table} {schema : Schema} {old new : State} {r : Result X Error} → Creates table schema old new r → MakesTables schema (created schema table) old new r
+made_one {table = table} {schema = schema} {old = old} {new = new} {r = r} it = record {
   done = λ clean. on_ok r (λ made. record {
     goes_on = made.goes_on;
     schema = made.schema_is;
@@ -32,18 +33,19 @@ made_one table schema old new r it = record {
   crash = it.crash;
 }
 
-pub made_then : {X Y : Type 0} (from mid to : Schema) (a b c : State) (q : Result X Error) (x : X) (r : Result Y Error) → q ≡ Ok x → MakesTables from mid a b q → MakesTables mid to b c r → MakesTables from to a c r
-made_then from mid to a b c (Err e) x r ok p q = absurd cc
-made_then from mid to a b c (Ok y) x r ok p q =
+-- what is made after tables that were made
+pub made_then : {X Y : Type 0} {from mid to : Schema} {a b c : State} {first : Result X Error} {x : X} {second : Result Y Error} → first ≡ Ok x → MakesTables from mid a b first → MakesTables mid to b c second → MakesTables from to a c second
+made_then {first = Err e} ok p q = absurd cc
+made_then {a = a} {b = b} {c = c} {first = Ok y} {second = second} ok p q =
     let early = λ (clean : HasCleanDisk c). p.done (omega (arith, q.crash.clean)) in
     record {
-      done = λ clean. on_ok r (λ d. record {
+      done = λ clean. on_ok second (λ d. record {
         goes_on = goes_then a b c (early clean).goes_on d.goes_on;
         schema = λ has. d.schema ((early clean).schema has);
         empty = λ has none. d.empty ((early clean).schema has) ((early clean).empty has none);
       }) (q.done clean);
-      undone = λ clean. on_err r (λ kept. keeps_then a b c (early clean).goes_on kept) (q.undone clean);
-      cause = λ clean inside has. let one = early clean in reason_then a b c r one.goes_on p.crash.counts (q.cause clean (rw one.goes_on.mode inside) (one.schema has));
+      undone = λ clean. on_err second (λ kept. keeps_then a b c (early clean).goes_on kept) (q.undone clean);
+      cause = λ clean inside has. let one = early clean in reason_then a b c second one.goes_on p.crash.counts (q.cause clean (rw one.goes_on.mode inside) (one.schema has));
       crash = survives_then a b c _ _ (λ _. ⊥) (λ _ db none. none) (λ _ db none. none) p.crash q.crash;
     }
 

@@ -68,10 +68,10 @@ pub record Ran (sql : List ℕ) (params : Row) (old new : State) (r : Result ℕ
   pub survives : Survives old new (λ _. ⊥)
 
 -- the clauses of `execute` at a transaction, in this order
-pub ran : {S : Type 0} (g : Ghosts S) (sql : List ℕ) (params : Row) (old new : Held S) (r : Result ℕ Error) (late : Error) → (old.in_transaction ≡ false → (r ≡ Err late) × (new ≡ old))
+pub ran : {S : Type 0} (g : Ghosts S) {sql : List ℕ} {params : Row} {old new : Held S} {r : Result ℕ Error} {late : Error} → (old.in_transaction ≡ false → (r ≡ Err late) × (new ≡ old))
     → (HasCleanDisk (state g new) → IsTrue old.in_transaction → ExecutesInside 0 sql params (state g old) (state g new) r) → Survives (state g old) (state g new) (λ _. ⊥)
     → Ran sql params (state g old) (state g new) r
-ran g sql params old new r late ended runs survives =
+ran g {old = old} {new = new} {late = late} ended runs survives =
     record { late = late; ended = λ out. (ended out).0; same = λ out. same_keeps (state g old) (state g new) (ap (state g) (ended out).1); runs = runs; survives = survives }
 
 -- a text by what it makes of the rows of its table where it is Ok, and why it fails
@@ -85,15 +85,15 @@ writes_by table change sql params command is old new r ran changes = record {
 }
 
 pub deletes_of_key : (at : ℕ) (table : Table) → IsSimple site_schema at table → (sql : List ℕ) (params : Row) → Says site_schema sql (deletes_key at table) (length params)
-    → ((r : Row) → passes_all (key_filter 0 table.primary) params r ≡ has_key table params (visible table r)) → (old new : State) (r : Result ℕ Error)
+    → ((r : Row) → passes_all (key_filter 0 table.primary) params r ≡ has_key table params (visible table r)) → {old new : State} {r : Result ℕ Error}
     → Ran sql params old new r → Writes table (without_key table params) old new r
-deletes_of_key at table simple sql params is reads old new r ran =
+deletes_of_key at table simple sql params is reads {old} {new} {r} ran =
     writes_by table (without_key table params) sql params (deletes_key at table) is old new r ran (λ count has h. deletes_one_key sql site_schema at table params old new count simple (is.command, is.plain) reads has h)
 
 -- a text that inserts its parameters as rows
-pub inserts : {X : Type 0} (table : Table) (row_of : X → Row) (xs : List X) (sql : List ℕ) → Inserts table row_of (length xs) sql → (old new : State) (r : Result ℕ Error)
+pub inserts : {X : Type 0} (table : Table) (row_of : X → Row) (xs : List X) (sql : List ℕ) → Inserts table row_of (length xs) sql → {old new : State} {r : Result ℕ Error}
     → Ran sql (flat_map row_of xs) old new r → Writes table (adds (map row_of xs)) old new r
-inserts table row_of xs sql is old new r ran =
+inserts table row_of xs sql is {old} {new} {r} ran =
     writes_by table (adds (map row_of xs)) sql (flat_map row_of xs) (Insert is.at is.from) (record { command = is.command; plain = is.plain; alone = is.alone xs refl; writes = refl }) old new r ran
     (λ count has h. let w = runs_as sql (flat_map row_of xs) old new site_schema has (Insert is.at is.from) is.command is.plain count h in is.adds xs refl old.step_limit old.now new.now w.tally (statement_of sql (understood site_schema sql)) has w.changed)
 
@@ -161,19 +161,19 @@ module _ (table : Table) where
   succeeds change a b (Err e) x y ok p = absurd cc
 
   -- a loop that adds the rows of a part of the elements at each turn
-  module _ {X : Type 0} (row_of : X → Row) (xs : List X) (i j : ℕ) (a b c : State) (r : Result (Unit {0}) Error) where
+  module _ {X : Type 0} (row_of : X → Row) (xs : List X) (i j : ℕ) where
     split : i ≤ j → map row_of (take j xs) ≡ map row_of (take i xs) ++ map row_of (slice_range xs i j)
     split low =
         let whole : j ≡ i + (j - i) = omega arith in
         ap (λ n. map row_of (take n xs)) whole ∙ ap (map row_of) (take-add i (j - i) xs) ∙ map-append row_of (take i xs) (slice_range xs i j)
 
-    pub part_added : i ≤ j → (n : Unit {0}) → r ≡ Ok n → HasWritten table (adds (map row_of (take i xs))) a b → Writes table (adds (map row_of (slice_range xs i j))) b c r
+    pub part_added : {a b c : State} {r : Result (Unit {0}) Error} {n : Unit {0}} → i ≤ j → r ≡ Ok n → HasWritten table (adds (map row_of (take i xs))) a b → Writes table (adds (map row_of (slice_range xs i j))) b c r
         → HasWritten table (adds (map row_of (take j xs))) a c
-    part_added low n ok p q =
+    part_added {a} {b} {c} {r} {n} low ok p q =
         subst (λ rows. HasWritten table (adds rows) a c) (sym (split low))
         (succeeds (adds (map row_of (take i xs) ++ map row_of (slice_range xs i j))) a c r n (tt {0}) ok (adds_some (map row_of (take i xs)) (map row_of (slice_range xs i j)) a b c r p q))
 
-    pub part_failed : (e : Error) (out : Result (Unit {0}) Error) (other : List Row → List Row) → r ≡ Err e → out ≡ Err e → HasWritten table (adds (map row_of (take i xs))) a b
+    pub part_failed : {a b c : State} {r : Result (Unit {0}) Error} {e : Error} {out : Result (Unit {0}) Error} {other : List Row → List Row} → r ≡ Err e → out ≡ Err e → HasWritten table (adds (map row_of (take i xs))) a b
         → Writes table (adds (map row_of (slice_range xs i j))) b c r → Writes table other a c out
-    part_failed e out other bad end p q =
+    part_failed {a} {b} {c} {r} {e} {out} {other} bad end p q =
         fails (adds (map row_of (take i xs) ++ map row_of (slice_range xs i j))) other a c r e out bad end (adds_some (map row_of (take i xs)) (map row_of (slice_range xs i j)) a b c r p q)

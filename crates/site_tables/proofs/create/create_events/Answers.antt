@@ -1,10 +1,5 @@
-use Rattle.sqlite.specs.Held.{state}
 use Rattle.site_tables.proofs.MadeTables.{made_then}
 use Rattle.site_tables.proofs.create.create_events.Goals as goal
 
 pub returns-clause-made : goal.returns-clause-made
-returns-clause-made g c =
-    let s0 = state g.S.Store c.args.tx.now.conn.now in
-    let s1 = state g.S.Store c.create_event.new.tx.conn.now in
-    let s2 = state g.S.Store c.create_part.new.tx.conn.now in
-    made_then _ _ _ s0 s1 s2 c.create_event.result c.in_ok-create_event.field-0 c.create_part.result c.in_ok-create_event.was c.create_event.ensures.made c.create_part.ensures.made
+returns-clause-made g c = made_then c.in_ok-create_event.was c.create_event.ensures.made c.create_part.ensures.made

@@ -1,5 +1,3 @@
-use Rattle.sqlite.specs.Held.{state}
-use Rattle.site_tables.specs.Texts.{create_store}
 use Rattle.site_tables.proofs.MadeTables.{made_one}
 use Rattle.site_tables.proofs.Meanings.{create_store_is}
 use Rattle.site_tables.proofs.Created.{creates}
@@ -7,7 +5,4 @@ use Rattle.site_tables.proofs.Steps.{ran}
 use Rattle.site_tables.proofs.create.create_store.Goals as goal
 
 pub returns-clause-made : goal.returns-clause-made
-returns-clause-made g c =
-    let it = c.execute.ensures in
-    made_one _ _ _ _ c.execute.result (creates create_store _ _ create_store_is (state g.S.Store c.args.tx.now.conn.now) (state g.S.Store c.execute.new.self.conn.now) c.execute.result
-    (ran g.S.Store create_store _ c.args.tx.now.conn.now c.execute.new.self.conn.now c.execute.result _ it.ended it.runs it.survives))
+returns-clause-made g c = let it = c.execute.ensures in made_one (creates create_store_is (ran g.S.Store it.ended it.runs it.survives))

@@ -1,20 +1,16 @@
 use Rattle.std.proofs.Common.{rules, arith}
-use Rattle.sqlite.specs.Held.{state}
 use Rattle.site_tables.proofs.Folded.{each_changed, each_failed}
 use Rattle.site_tables.proofs.in_turn.write_each.Goals as goal
 
 pub loop-element-preserved : goal.loop-element-preserved
 loop-element-preserved g c =
     let inv = c.loop-element.invariant in
-    let item = c.element-item.result in
     let it = c.write.ensures in (
       search rules,
-      each_changed g.C.TableChange.changed g.C.TableChange.change c.args.elements.now c.loop-element.element-index item (state g.S.Store c.args.tx.now.conn.now) (state g.S.Store c.loop-element.tx.conn.now) (state g.S.Store c.write.new.tx.conn.now) c.write.result
-          c.loop-element-test.true c.element-item.is c.in_ok-write.field-0 c.in_ok-write.was inv.1 it.wrote,
+      each_changed g.C.TableChange.change c.args.elements.now c.loop-element.element-index c.loop-element-test.true c.element-item.is c.in_ok-write.was inv.1 it.wrote,
       omega (arith, it.counted, inv.2),
     )
 
 pub returns-in_err-write-clause-wrote : goal.returns-in_err-write-clause-wrote
 returns-in_err-write-clause-wrote g c =
-    each_failed g.C.TableChange.changed g.C.TableChange.change c.args.elements.now c.loop-element.element-index (c.element-item.result) (state g.S.Store c.args.tx.now.conn.now) (state g.S.Store c.loop-element.tx.conn.now) (state g.S.Store c.write.new.tx.conn.now) c.write.result
-    _ c.from_residual.result _ c.in_err-write.was (search rules) c.loop-element.invariant.1 c.write.ensures.wrote
+    each_failed g.C.TableChange.change c.args.elements.now c.loop-element.element-index c.in_err-write.was (search rules) c.loop-element.invariant.1 c.write.ensures.wrote

@@ -7,18 +7,15 @@ use Rattle.site_tables.proofs.inserting.insert_eights.Goals as goal
 pub loop-group-preserved : goal.loop-group-preserved
 loop-group-preserved g c =
     let inv = c.loop-group.invariant in
-    let it = c.insert_together.ensures in
     let from = c.loop-group.group * 8 in
     let next : from + 8 ≡ (c.loop-group.group + 1) * 8 = omega arith in (
       search rules,
       subst (λ n. HasWritten g.T.Stored.listed (adds (map g.T.Stored.shown (take n c.args.rows.now))) (state g.S.Store c.args.tx.now.conn.now) (state g.S.Store c.insert_together.new.tx.conn.now)) next
-          (part_added g.T.Stored.listed g.T.Stored.shown c.args.rows.now from (from + 8) (state g.S.Store c.args.tx.now.conn.now) (state g.S.Store c.loop-group.tx.conn.now) (state g.S.Store c.insert_together.new.tx.conn.now) c.insert_together.result
-          (omega arith) c.in_ok-insert_together.field-0 c.in_ok-insert_together.was inv.1 it.wrote),
+          (part_added g.T.Stored.listed g.T.Stored.shown c.args.rows.now from (from + 8) (omega arith) c.in_ok-insert_together.was inv.1 c.insert_together.ensures.wrote),
       search rules,
     )
 
 pub returns-in_err-insert_together-clause-wrote : goal.returns-in_err-insert_together-clause-wrote
 returns-in_err-insert_together-clause-wrote g c =
     let from = c.loop-group.group * 8 in
-    part_failed g.T.Stored.listed g.T.Stored.shown c.args.rows.now from (from + 8) (state g.S.Store c.args.tx.now.conn.now) (state g.S.Store c.loop-group.tx.conn.now) (state g.S.Store c.insert_together.new.tx.conn.now) c.insert_together.result
-    _ c.from_residual.result _ c.in_err-insert_together.was (search rules) c.loop-group.invariant.1 c.insert_together.ensures.wrote
+    part_failed g.T.Stored.listed g.T.Stored.shown c.args.rows.now from (from + 8) c.in_err-insert_together.was (search rules) c.loop-group.invariant.1 c.insert_together.ensures.wrote

@@ -18,8 +18,8 @@ returns-clause-wrote g c =
     let shown = g.T.Stored.shown in
     let values : bound c.as_slice.result.now ≡ flat_map shown rows = ap bound c.as_slice.ensures.value ∙ c.loop-row.invariant.0 ∙ ap (flat_map shown) (take_all c.loop-row.row-index rows (omega (arith, c.loop-row-test.false, c.loop-row.auto.row-index-end))) in
     succeeds listed (adds (map shown rows)) (state g.S.Store old) (state g.S.Store new) c.execute.result _ _ c.in_ok-execute.was
-    (inserts listed shown rows c.args.text.now c.requires (state g.S.Store old) (state g.S.Store new) c.execute.result
-    (ran g.S.Store c.args.text.now (flat_map shown rows) old new c.execute.result _ it.ended (λ (clean : HasCleanDisk (state g.S.Store new)). rw values at (it.runs clean)) it.survives))
+    (inserts listed shown rows c.args.text.now c.requires
+    (ran g.S.Store it.ended (λ (clean : HasCleanDisk (state g.S.Store new)). rw values at (it.runs clean)) it.survives))
 
 pub returns-in_err-execute-clause-wrote : goal.returns-in_err-execute-clause-wrote
 returns-in_err-execute-clause-wrote g c =
@@ -31,5 +31,5 @@ returns-in_err-execute-clause-wrote g c =
     let shown = g.T.Stored.shown in
     let values : bound c.as_slice.result.now ≡ flat_map shown rows = ap bound c.as_slice.ensures.value ∙ c.loop-row.invariant.0 ∙ ap (flat_map shown) (take_all c.loop-row.row-index rows (omega (arith, c.loop-row-test.false, c.loop-row.auto.row-index-end))) in
     fails listed (adds (map shown rows)) (adds (map shown rows)) (state g.S.Store old) (state g.S.Store new) c.execute.result _ c.from_residual.result c.in_err-execute.was (search rules)
-    (inserts listed shown rows c.args.text.now c.requires (state g.S.Store old) (state g.S.Store new) c.execute.result
-    (ran g.S.Store c.args.text.now (flat_map shown rows) old new c.execute.result _ it.ended (λ (clean : HasCleanDisk (state g.S.Store new)). rw values at (it.runs clean)) it.survives))
+    (inserts listed shown rows c.args.text.now c.requires
+    (ran g.S.Store it.ended (λ (clean : HasCleanDisk (state g.S.Store new)). rw values at (it.runs clean)) it.survives))

@@ -12,9 +12,5 @@ use Rattle.site_tables.proofs.replacing.DropsParentTableChange.write.Goals as go
 pub returns-clause-wrote : goal.returns-clause-wrote
 returns-clause-wrote g c =
     let it = c.execute.ensures in
-    let old = c.args.tx.now.conn.now in
-    let new = c.execute.new.self.conn.now in
-    let params = recall_key c.args.key.now in
-    let runs = λ (clean : HasCleanDisk (state g.S.Store new)). rw (c.params-to_sql.ensures, c.params-to_sql-2.ensures) at (it.runs clean) in
-    deletes_of_key 8 parent parent_simple delete_parent params delete_parent_is (λ _. refl) (state g.S.Store old) (state g.S.Store new) c.execute.result
-    (ran g.S.Store delete_parent params old new c.execute.result _ it.ended runs it.survives)
+    let runs = λ (clean : HasCleanDisk (state g.S.Store c.execute.new.self.conn.now)). rw (c.params-to_sql.ensures, c.params-to_sql-2.ensures) at (it.runs clean) in
+    deletes_of_key 8 parent parent_simple delete_parent (recall_key c.args.key.now) delete_parent_is (λ _. refl) (ran g.S.Store it.ended runs it.survives)

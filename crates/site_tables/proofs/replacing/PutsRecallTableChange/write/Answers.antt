@@ -1,7 +1,5 @@
 use Rattle.sqlite.specs.State.{HasCleanDisk}
 use Rattle.sqlite.specs.Held.{state}
-use Rattle.site_tables.specs.Texts.{upsert_recall}
-use Rattle.site_tables.specs.Values.{recall_values}
 use Rattle.site_tables.proofs.Puts.{upserts_recall}
 use Rattle.site_tables.proofs.Steps.{ran}
 use Rattle.site_tables.proofs.replacing.PutsRecallTableChange.write.Goals as goal
@@ -9,9 +7,5 @@ use Rattle.site_tables.proofs.replacing.PutsRecallTableChange.write.Goals as goa
 pub returns-clause-wrote : goal.returns-clause-wrote
 returns-clause-wrote g c =
     let it = c.execute.ensures in
-    let old = c.args.tx.now.conn.now in
-    let new = c.execute.new.self.conn.now in
-    let params = recall_values c.args.row.now in
-    let runs = λ (clean : HasCleanDisk (state g.S.Store new)). rw (c.params-to_sql.ensures, c.params-to_sql-2.ensures, c.params-to_sql-3.ensures, c.as_str-root.ensures) at (it.runs clean) in
-    upserts_recall c.args.row.now (state g.S.Store old) (state g.S.Store new) c.execute.result
-    (ran g.S.Store upsert_recall params old new c.execute.result _ it.ended runs it.survives)
+    let runs = λ (clean : HasCleanDisk (state g.S.Store c.execute.new.self.conn.now)). rw (c.params-to_sql.ensures, c.params-to_sql-2.ensures, c.params-to_sql-3.ensures, c.as_str-root.ensures) at (it.runs clean) in
+    upserts_recall c.args.row.now (ran g.S.Store it.ended runs it.survives)
