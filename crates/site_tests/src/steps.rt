@@ -237,15 +237,16 @@ fn a_message_is_taken_once(rt: HostRuntime) -> Result<(), Fail> {
     Ok(())
 }
 
-/// Whether a record follows the step that a copy of it has made.
+/// Whether a record follows its step, which was made beside it.
 fn follows(alloc: Global, a: &mut SiteState, short: Short) -> Result<bool, Fail> {
     let input = input(alloc, short)?;
-    let mut after = a.copy(alloc)?;
-    if after.apply(&input).is_err() {
-        return Ok(false);
+    match step(alloc, a, &input)? {
+        Stepped::Next(after, _) => {
+            a.follow(&input, &after)?;
+            Ok(true)
+        }
+        Stepped::Same(_) => Ok(false),
     }
-    a.follow(&input, &after)?;
-    Ok(true)
 }
 
 /// Whether A follows a capture, and the start of a recall.
