@@ -33,7 +33,7 @@ behind_some (x ∷ p) (b ∷ bs) rest h =
     by true e q tail = let same = eqb-true b x e in let behind_it = tail q in cc
     by false e q tail = cc
 
--- what `strip_prefix` answered
+-- what `strip_prefix` returned
 pub strips_some : (p s : List ℕ) (r : Option (Bor (List ℕ))) (x : Bor (List ℕ)) → r ≡ Some x
     → MatchOption r (FindsTextPrefix p s None) (λ y. StripsPrefix (FindsTextPrefix p) s y.now) → behind p s ≡ Some x.now
 strips_some p s r x e h =
@@ -82,7 +82,7 @@ parted_some byte (b ∷ bs) xs ys h =
     by false e q o is tail =
         later o (λ us vs g. tail us vs (is ∙ g)) (ap (option_map (with_first b)) (sym is) ∙ q)
 
--- what `split_once` answered
+-- what `split_once` returned
 pub splits_some : (byte : ℕ) (s : List ℕ) (r : Option (Bor (List ℕ) × Bor (List ℕ))) (x y : Bor (List ℕ)) → r ≡ Some (x, y)
     → byte < 128 → IsSplitOnceResult byte s r → parted byte s ≡ Some (x.now, y.now)
 splits_some byte s r x y e small h =
@@ -92,8 +92,3 @@ splits_some byte s r x y e small h =
 pub splits_none : (byte : ℕ) (s : List ℕ) (r : Option (Bor (List ℕ) × Bor (List ℕ))) → r ≡ None
     → byte < 128 → IsSplitOnceResult byte s r → parted byte s ≡ None
 splits_none byte s r e small h = parted_lacks byte s (MatchOption-at_none _ _ e (split_parts byte s r h small))
-
--- the same, as the text that it cut
-pub strips_whole : (p s : List ℕ) (r : Option (Bor (List ℕ))) (x : Bor (List ℕ)) → r ≡ Some x
-    → MatchOption r (FindsTextPrefix p s None) (λ y. StripsPrefix (FindsTextPrefix p) s y.now) → s ≡ p ++ x.now
-strips_whole p s r x e h = behind_some p s x.now (strips_some p s r x e h)

@@ -1,8 +1,6 @@
 -- What `form_of` finds in a text has the text's key, and is an item's form.
-use Rattle.std.proofs.Common.{◌≡◌, inl, inr, ℕ, ◌<◌, true, List, Option, Some, None, option_map, Result, Ok, Err, refl, sym, ap, ◌∙◌, string_bytes, String, Global, Vec, IsOk, IfOk, arith}
+use Rattle.std.proofs.Common.{◌≡◌, inl, inr, ℕ, ◌<◌, true, List, Option, Some, None, option_map, refl, sym, ap, ◌∙◌, arith}
 use Rattle.std.specs.Option.{option_or}
-use Rattle.std.specs.Result.{result_ok}
-use Rattle.std.specs.String.{string_vec}
 use Rattle.std.specs.Str.{IsUtf8}
 use Rattle.std.proofs.lemmas.Bool.Decides.{nat_tests}
 use Rattle.std.proofs.lemmas.List.Sums.{AllPass-from_list_all}
@@ -11,7 +9,7 @@ use Rattle.std.proofs.lemmas.Str.Ascii.{IsAscii-from_all}
 use Rattle.percent_encoding.specs.Percent.{percent_decode}
 use Rattle.epc_core.specs.Numbers.{IsChecked}
 use Rattle.epc_core.specs.Serials.{IsSerial, is_serial_byte, serial_of}
-use Rattle.epc_core.specs.Items.{gtin_of_uri, gtin_of_link, sscc_of_uri, sscc_of_link, sgtin_key, sscc_key, uri_key, sgtin_key_of, key_of}
+use Rattle.epc_core.specs.Items.{gtin_of_uri, gtin_of_link, sscc_of_uri, sscc_of_link, sgtin_key, sscc_key, uri_key, sgtin_key_of, number_key_of, key_of}
 use Rattle.epc_core.specs.Spellings.{SpellsNumber, IsPlain, Spells}
 use Rattle.epc_core.proofs.Spelled.{either_some, not_number, serial_of_some, sgtin_uri_found, sgtin_link_found, sscc_uri_found, sscc_link_found}
 
@@ -31,8 +29,7 @@ found_number text gtin escaped h serial =
     ]
 
 pub found_gtin : (text gtin escaped serial : List ℕ) → option_or (gtin_of_uri text) (gtin_of_link text) ≡ Some (gtin, escaped) → serial_of escaped ≡ Some serial
-    → (key_of text ≡ sgtin_key gtin serial) × (IsChecked 14 gtin × IsSerial serial)
-unfolding key_of
+    → (number_key_of text ≡ Some (sgtin_key gtin serial)) × (IsChecked 14 gtin × IsSerial serial)
 found_gtin text gtin escaped serial h k =
     let of = serial_of_some escaped serial k in
     let known : IsSerial (percent_decode escaped) = (serial_of_some escaped (percent_decode escaped) (k ∙ ap Some of.1)).0 in
@@ -45,8 +42,7 @@ pub no_serial : (text gtin escaped : List ℕ) → option_or (gtin_of_uri text) 
 no_serial text gtin escaped h k = rw (h, k) refl
 
 pub found_sscc : (text sscc : List ℕ) → sgtin_key_of text ≡ None → option_or (sscc_of_uri text) (sscc_of_link text) ≡ Some sscc
-    → (key_of text ≡ sscc_key sscc) × IsChecked 18 sscc
-unfolding key_of
+    → (number_key_of text ≡ Some (sscc_key sscc)) × IsChecked 18 sscc
 found_sscc text sscc none h = (
   rw (none, h) refl,
   elim (either_some (sscc_of_uri text) (sscc_of_link text) sscc h) [
@@ -55,16 +51,13 @@ found_sscc text sscc none h = (
   ],
 )
 
-pub found_other : (text : List ℕ) → sgtin_key_of text ≡ None → option_or (sscc_of_uri text) (sscc_of_link text) ≡ None
-    → (key_of text ≡ uri_key text) × (IsPlain text → Spells text (uri_key text))
+pub found_key : (text key : List ℕ) → number_key_of text ≡ Some key → key_of text ≡ key
 unfolding key_of
-found_other text none h = (
-  rw (none, h) refl,
-  λ plain. record {
-    plain = plain;
-    item = inr (record { other = not_number text (rw (none, h) refl); names = refl });
-  },
-)
+found_key text key h = rw h refl
+
+pub found_other : (text : List ℕ) → number_key_of text ≡ None → (key_of text ≡ uri_key text) × (IsPlain text → Spells text (uri_key text))
+unfolding key_of
+found_other text none = (rw none refl, λ plain. record { plain = plain; item = inr (record { other = not_number text none; names = refl }) })
 
 -- ---- a serial number is text
 
@@ -74,8 +67,3 @@ serial_byte_small b h = grind (arith, nat_tests)
 pub IsUtf8-from_serial : (serial : List ℕ) → IsSerial serial → IsUtf8 serial
 IsUtf8-from_serial serial p =
     IsUtf8-from_ascii serial (IsAscii-from_all serial (λ k d l. serial_byte_small _ (AllPass-from_list_all is_serial_byte serial p.allowed k d l)))
-
-pub read_back : {E : Type 0} (r : Result (String Global) E) (v : Vec ℕ Global) (bytes : List ℕ) → IsOk r → IfOk r (λ t. string_vec t ≡ v) → v.items ≡ bytes
-    → option_map (λ s. string_bytes s) (result_ok r) ≡ Some bytes
-read_back (Ok t) v bytes is same items = ap Some (ap (λ w. w.items) same ∙ items)
-read_back (Err e) v bytes is same items = absurd (let no : ⊥ = cc in no)

@@ -1,10 +1,14 @@
+pub mod BlocksCompared
 pub mod CheckDigits
 pub mod Compared
 pub mod Cuts
 pub mod Digits
 pub mod Found
+pub mod Held
+pub mod KeysInUtf8
 pub mod Plain
 pub mod Refused
+pub mod SerialCharacters
 pub mod Spelled
 pub mod Told
 pub mod Words

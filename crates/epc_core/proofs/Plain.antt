@@ -2,10 +2,12 @@
 use Rattle.std.proofs.Common.{◌≡◌, ◌≢◌, ℕ, ◌+◌, Bool, true, false, not, ◌&&◌, List, [], ◌∷◌, length, Option, Some, None, option_map, Ok, Err, refl, sym, ◌∙◌, cond, eqb, leb, ltb, position, inl, inr, ◌≤◌, arith}
 use mathlib.Core.Logic.{◌⊎◌}
 use Rattle.std.specs.List.{list_all, position_from}
-use Rattle.std.proofs.lemmas.Bool.{eqb-true, eqb-false, ltb-false, leb-false, lt-leb, ne_eqb, le-ltb}
+use Rattle.std.proofs.lemmas.Bool.{and_parts, and_from, eqb-true, eqb-false, ltb-false, leb-false, lt-leb, ne_eqb, le-ltb}
+use Rattle.std.proofs.lemmas.Bool.Decides.{nat_tests}
 use Rattle.std.proofs.lemmas.Iterator.Adapters.{position_from-zero}
 use Rattle.epc_core.specs.declared.items.EpcFault.{EpcFault}
 use Rattle.epc_core.specs.declared.items.EpcFault.TheVariants.{NoMemory, Empty, TooLong, BadByte}
+use Rattle.epc_core.specs.Serials.{is_serial_byte}
 use Rattle.epc_core.specs.Items.{is_plain_byte, key_of}
 use Rattle.epc_core.specs.Laws.{BadBytesAreThese}
 use Rattle.epc_core.specs.Reading.{fault_of, reading, Gives}
@@ -87,3 +89,11 @@ bad_by_number b = (from (leb 33 b) refl (eqb b 127) refl, to)
     to : (b ≤ 32) ⊎ (b ≡ 127) → is_plain_byte b ≡ false
     to (inl few) = let below : leb 33 b ≡ false = lt-leb 33 b (omega (arith, few)) in rw below refl
     to (inr is) = rw is refl
+
+-- a character of a serial number is plain
+pub serial_is_plain : (b : ℕ) → is_serial_byte b ≡ true → is_plain_byte b ≡ true
+serial_is_plain b h = grind (arith, nat_tests)
+
+pub serial_plain : (serial : List ℕ) → list_all is_serial_byte serial ≡ true → list_all is_plain_byte serial ≡ true
+serial_plain [] h = refl
+serial_plain (b ∷ bs) h = let parts = and_parts (is_serial_byte b) (list_all is_serial_byte bs) h in and_from _ _ (serial_is_plain b parts.0) (serial_plain bs parts.1)

@@ -1,5 +1,5 @@
 -- The key that `key_of` computes is the one that the text spells, and the only one.
-use Rattle.std.proofs.Common.{◌≡◌, ◌≢◌, ℕ, ◌+◌, ◌<◌, ◌≤◌, ◌⊎◌, inl, inr, true, false, ◌&&◌, List, [], ◌∷◌, ◌++◌, length, get_or, codes, Option, Some, None, option_map, unwrap_or, refl, sym, ap, ◌∙◌, subst, arith}
+use Rattle.std.proofs.Common.{◌≡◌, ◌≢◌, ℕ, ◌+◌, ◌<◌, ◌≤◌, ◌⊎◌, inl, inr, Bool, true, false, cond, ◌&&◌, List, [], ◌∷◌, ◌++◌, length, get_or, codes, Option, Some, None, option_map, unwrap_or, refl, sym, ap, ◌∙◌, subst, arith}
 use Rattle.std.specs.List.{list_all}
 use Rattle.std.specs.Option.{option_or}
 use Rattle.std.proofs.lemmas.Bool.{and_parts, and_from, leb-true, le-leb, eqb-true, eq-eqb, cond-true, both_ways}
@@ -40,6 +40,20 @@ serial_of_some escaped serial h =
 
 pub serial_of_is : (escaped : List ℕ) → IsSerial (percent_decode escaped) → serial_of escaped ≡ Some (percent_decode escaped)
 serial_of_is escaped p = cond-true _ _ _ (serial_to _ p)
+
+-- what it says that a serial number was made of bytes, or none
+pub kept_serial : (made : Option (List ℕ)) (bytes text : List ℕ) (serial : List ℕ) → made ≡ Some serial → made ≡ cond (is_serial bytes) (Some bytes) None → bytes ≡ text
+    → (is_serial text ≡ true) × (serial ≡ text)
+kept_serial made bytes text serial some is same =
+    let parts = cond_some (is_serial bytes) bytes serial (sym is ∙ some) in
+    (ap is_serial (sym same) ∙ parts.0, sym parts.1 ∙ same)
+
+pub no_kept_serial : (made : Option (List ℕ)) (bytes text : List ℕ) → made ≡ None → made ≡ cond (is_serial bytes) (Some bytes) None → bytes ≡ text → is_serial text ≡ false
+no_kept_serial made bytes text none is same = ap is_serial (sym same) ∙ by (is_serial bytes) (sym is ∙ none)
+  where
+    by : (t : Bool) → cond t (Some bytes) None ≡ None → t ≡ false
+    by true h = absurd (let no : ⊥ = cc in no)
+    by false h = refl
 
 pub not_digit : (xs : List ℕ) (byte : ℕ) → is_digit byte ≡ false → list_all is_digit xs ≡ true → (i : ℕ) → i < length xs → get_or xs i 0 ≢ byte
 not_digit xs byte other h i l e = both_ways _ other (ap is_digit (sym e) ∙ AllPass-from_list_all is_digit xs h i 0 l)

@@ -1,5 +1,5 @@
 -- The laws of the definition.
-use Rattle.std.proofs.Common.{◌≡◌, ◌↔◌, inl, inr, ℕ, ◌+◌, ◌*◌, Bool, true, false, ◌&&◌, List, [], ◌∷◌, ◌++◌, codes, Option, Some, None, Ok, Err, refl, sym, ap, ◌∙◌, subst, cond, eqb, arith, length-append, string_bytes}
+use Rattle.std.proofs.Common.{◌≡◌, ◌↔◌, inl, inr, ℕ, ◌+◌, ◌*◌, Bool, true, false, ◌&&◌, List, [], ◌∷◌, ◌++◌, codes, Option, Some, None, Ok, Err, refl, sym, ap, ◌∙◌, subst, cond, eqb, arith, length-append}
 use Rattle.std.specs.List.{list_all, list_all}
 use Rattle.std.specs.Char.{is_digit as is_hex_digit, digit_value}
 use Rattle.std.proofs.lemmas.Bool.{and_parts, and_from, eqb-true}
@@ -19,7 +19,7 @@ use Rattle.epc_core.specs.declared.items.EpcForm.{EpcForm}
 use Rattle.epc_core.specs.declared.items.EpcForm.TheVariants.{Item, Sscc, Other}
 use Rattle.epc_core.specs.Forms.{key_of_form, IsForm, SameForm}
 use Rattle.epc_core.proofs.Digits.{all_append, all_parts}
-use Rattle.epc_core.proofs.Plain.{plain_from, plain_to, reading_plain}
+use Rattle.epc_core.proofs.Plain.{plain_from, plain_to, reading_plain, serial_is_plain}
 use Rattle.epc_core.proofs.Spelled.{spells_key, key_from, not_digit}
 use Rattle.epc_core.proofs.Words.{digits_plain, digit_is_plain, apart}
 use Rattle.epc_core.proofs.Cuts.{parted-append}
@@ -52,9 +52,6 @@ equal_keys text other plain also = (
 
 hex_is_plain : (b : ℕ) → is_hex_digit b 16 ≡ true → is_plain_byte b ≡ true
 hex_is_plain b h = grind (arith, nat_tests)
-
-serial_is_plain : (b : ℕ) → is_serial_byte b ≡ true → is_plain_byte b ≡ true
-serial_is_plain b h = grind (arith, nat_tests)
 
 pub escaped_plain : (bs : List ℕ) → list_all is_serial_byte (percent_decode bs) ≡ true → list_all is_plain_byte bs ≡ true
 unfolding percent_decode
@@ -137,14 +134,14 @@ ssccs company reference extension check least most checked =
       },
     )
 
--- ---- a key tells its form
+-- ---- a key determines its form
 
 pub same_form : (form other : EpcForm) → IsForm form → IsForm other → key_of_form form ≡ key_of_form other → SameForm form other
 same_form (Item gtin serial) (Item other_gtin other_serial) h k e =
-    let rest = append_cancel_left (codes "sgtin ") (gtin ++ 32 ∷ string_bytes serial) (other_gtin ++ 32 ∷ string_bytes other_serial) e in
-    let one = parted-append 32 gtin (string_bytes serial) (not_digit gtin 32 refl h.0.are_digits) in
-    let two = parted-append 32 other_gtin (string_bytes other_serial) (not_digit other_gtin 32 refl k.0.are_digits) in
-    some_pair_parts gtin other_gtin (string_bytes serial) (string_bytes other_serial) (sym one ∙ (ap (parted 32) rest ∙ two))
+    let rest = append_cancel_left (codes "sgtin ") (gtin ++ 32 ∷ serial) (other_gtin ++ 32 ∷ other_serial) e in
+    let one = parted-append 32 gtin serial (not_digit gtin 32 refl h.0.are_digits) in
+    let two = parted-append 32 other_gtin other_serial (not_digit other_gtin 32 refl k.0.are_digits) in
+    some_pair_parts gtin other_gtin serial other_serial (sym one ∙ (ap (parted 32) rest ∙ two))
 same_form (Item gtin serial) (Sscc other) h k e = apart _ _ 1 refl e
 same_form (Item gtin serial) (Other other) h k e = apart _ _ 0 refl e
 same_form (Sscc digits) (Item gtin serial) h k e = apart _ _ 1 refl e
@@ -152,4 +149,4 @@ same_form (Sscc digits) (Sscc other) h k e = append_cancel_left (codes "sscc ") 
 same_form (Sscc digits) (Other other) h k e = apart _ _ 0 refl e
 same_form (Other text) (Item gtin serial) h k e = apart _ _ 0 refl e
 same_form (Other text) (Sscc other) h k e = apart _ _ 0 refl e
-same_form (Other text) (Other other) h k e = append_cancel_left (codes "uri ") (string_bytes text) (string_bytes other) e
+same_form (Other text) (Other other) h k e = append_cancel_left (codes "uri ") text other e

@@ -1,5 +1,5 @@
 -- Which keys there are: each has its first word and the parts of that form, and each such key has a text.
-use Rattle.std.proofs.Common.{◌≡◌, ◌⊎◌, inl, inr, ℕ, ◌*◌, Bool, true, false, ◌&&◌, List, [], ◌∷◌, ◌++◌, length, get_or, codes, Option, Some, None, is_some, Result, Ok, Err, refl, sym, ap, ◌∙◌, subst, eqb, arith, length-append, string_bytes}
+use Rattle.std.proofs.Common.{◌≡◌, ◌⊎◌, inl, inr, ℕ, ◌*◌, Bool, true, false, ◌&&◌, List, [], ◌∷◌, ◌++◌, length, get_or, codes, Option, Some, None, is_some, Result, Ok, Err, refl, sym, ap, ◌∙◌, subst, eqb, arith, length-append}
 use Rattle.std.specs.List.{list_all, flat_map}
 use Rattle.std.specs.Result.{IfErr}
 use Rattle.std.proofs.lemmas.Bool.{true≢false, both_ways, and_parts, and_from}
@@ -157,9 +157,9 @@ key_of_sscc digits checked =
     )
 
 pub key_of_form_is_key : (form : EpcForm) → IsForm form → IsKey (key_of_form form)
-key_of_form_is_key (Item gtin serial) h = key_of_item gtin (string_bytes serial) h.0 h.1
+key_of_form_is_key (Item gtin serial) h = key_of_item gtin serial h.0 h.1
 key_of_form_is_key (Sscc digits) h = key_of_sscc digits h
-key_of_form_is_key (Other text) h = (string_bytes text, h)
+key_of_form_is_key (Other text) h = (text, h.0)
 
 -- ---- what the code reads of a key
 
@@ -181,11 +181,6 @@ item_found rest digits serial gtin kept cut checked allowed same also = (
   (λ i. sgtin_key (same i) (also i)) ∙ ap (λ t. codes "sgtin " ++ t) (sym (parted_some 32 rest digits serial cut)),
   (subst (IsChecked 14) (sym same) (checked_from 14 digits checked), subst IsSerial (sym also) (serial_from serial allowed)),
 )
-
-pub parts_are_key : (rest digits serial : List ℕ) → parted 32 rest ≡ Some (digits, serial) → is_checked 14 digits ≡ true → is_serial serial ≡ true → IsKey (codes "sgtin " ++ rest)
-parts_are_key rest digits serial cut checked allowed =
-    let found = item_found rest digits serial digits serial cut checked allowed refl refl in
-    subst IsKey found.0 (key_of_item digits serial found.1.0 found.1.1)
 
 pub no_sscc : (digits : List ℕ) → is_checked 18 digits ≡ false → IsKey (codes "sscc " ++ digits) → ⊥
 no_sscc digits test found = both_ways _ test (checked_to 18 digits (sscc_from_key found.0 digits found.1))

@@ -1,5 +1,5 @@
-use Rattle.std.specs.Prelude.{◌≡◌, ◌↔◌, ℕ, ◌<◌, ◌≤◌, IsTrue, IsFalse, ◌⊎◌, List, length, Err, slice_index, take}
-use Rattle.std.specs.List.{list_all}
+use Rattle.std.specs.Prelude.{◌≡◌, ◌↔◌, ℕ, ◌<◌, ◌≤◌, IsTrue, IsFalse, ◌⊎◌, List, length, Err, slice_index, take, codes}
+use Rattle.std.specs.List.{list_all, All, Contains}
 use Rattle.percent_encoding.specs.Percent.{percent_decode}
 use Rattle.epc_core.specs.declared.items.EpcFault.TheVariants.{BadByte}
 use Rattle.epc_core.specs.Numbers.{IsChecked}
@@ -37,3 +37,11 @@ BadBytesAreRefused = (text : List ℕ) (place : ℕ) → (reading text ≡ Err (
 -- the bytes that no plain text has, by their numbers: control bytes and the space, up to 32, and DEL, 127; it may have all others
 abbrev pub BadBytesAreThese : Type 0
 BadBytesAreThese = (b : ℕ) → IsFalse (is_plain_byte b) ↔ ((b ≤ 32) ⊎ (b ≡ 127))
+
+-- the 82 characters that a serial number may have
+abbrev pub serial_characters : List ℕ
+serial_characters = codes "!\"%&'()*+,-./0123456789:;<=>?ABCDEFGHIJKLMNOPQRSTUVWXYZ_abcdefghijklmnopqrstuvwxyz"
+
+-- a serial number is 1 to 20 of these characters, and each such text is one
+abbrev pub SerialNumbersAreThese : Type 0
+SerialNumbersAreThese = (serial : List ℕ) → IsSerial serial ↔ ((1 ≤ length serial) × (length serial ≤ 20) × All (Contains serial_characters) serial)

@@ -1,7 +1,9 @@
+pub mod Blocks
 pub mod Numbers
 pub mod Serials
 pub mod Items
 pub mod Spellings
+pub mod KeptTexts
 pub mod Forms
 pub mod Reading
 pub mod Laws

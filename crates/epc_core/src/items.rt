@@ -1,19 +1,23 @@
 //! The item of an EPC text.
-ghost use Rattle.std.specs.Prelude.{◌≡◌, ◌↔◌, ℕ, List, IfOk, IfErr, IsSome, IfSome, string_bytes, Err, Some, refl, nat_eq, flat_map, fold};
+ghost use Rattle.std.specs.Prelude.{◌≡◌, ◌↔◌, ℕ, IsUtf8, List, IfOk, IfErr, MatchResult, IsSome, IfSome, string_bytes, Err, Some, refl, nat_eq, flat_map, fold};
 ghost use Rattle.std.specs.Cmp as Cmp;
 ghost use Rattle.std.specs.Cmp.Lexicographic.{slice_cmp, pointwise, nat_list_cmp_total, nat_list_eq_equiv, texts_ties, texts_po, bytes_decides};
 ghost use Rattle.std.specs.Ordering.{nat_cmp};
 ghost use Rattle.std.specs.Hash as fed;
-ghost use Rattle.epc_core.specs.Forms.{SameForm, HasText};
+ghost use Rattle.epc_core.specs.Forms.{SameForm, TakesMemory, key_of_form};
 
+use crate::blocks::compare_blocks;
+use crate::item_texts::ItemText;
 use crate::keys::form_of_key;
 use crate::plain_texts::fault_of;
+use crate::serials::Serial;
 use crate::spellings::form_of;
 use crate::texts::push_digits;
 use std::alloc::{AllocError, Global};
 use std::cmp::Ordering;
 use std::hash::{Hash, Hasher};
 use std::marker::Model;
+use std::mem::size_of;
 use thiserror::Error;
 
 /// Why a text is no EPC text.
@@ -37,27 +41,27 @@ pub enum EpcFault {
 #[derive(Debug, Drop)]
 pub enum EpcForm {
     /// A trade item: the 14 digits of its GTIN in ASCII, and its serial number, 1 to 20 characters.
-    Item { gtin: [u8; 14], serial: String },
+    Item { gtin: [u8; 14], serial: Serial },
     /// A logistic unit: the 18 digits of its SSCC in ASCII.
     Sscc([u8; 18]),
     /// Any other item: its text, as it was read.
-    Other(String),
+    Other(ItemText),
 }
 
 impl EpcForm {
-    /// The same form, with the same digits and characters. It fails only where memory runs out, and
-    /// of a logistic unit never.
+    /// A copy with the same digits and characters. It fails only where memory runs out, and
+    /// of an opaque text of more than 30 bytes alone.
     pub fn copy(&self, alloc: Global) -> Result<EpcForm, AllocError>
         ensures same { IfOk result (λ form. SameForm form self.now) }
-        ensures memory { IfErr result (λ _. HasText self.now) }
+        ensures memory { IfErr result (λ _. TakesMemory (key_of_form self.now)) }
     {
         match self {
             EpcForm::Item { gtin, serial } => Ok(EpcForm::Item {
                 gtin: *gtin,
-                serial: String::from_str(alloc, serial.as_str())?,
+                serial: serial.copy(),
             }),
             EpcForm::Sscc(digits) => Ok(EpcForm::Sscc(*digits)),
-            EpcForm::Other(text) => Ok(EpcForm::Other(String::from_str(alloc, text.as_str())?)),
+            EpcForm::Other(text) => Ok(EpcForm::Other(text.copy(alloc)?)),
         }
     }
 }
@@ -71,6 +75,9 @@ impl EpcForm {
 pub struct Epc {
     form: EpcForm,
 }
+
+// Maps keep items by value, so an item has to stay small.
+const _: () = prove!(size_of::<Epc>() == 40);
 
 impl Model for Epc {
     ghost use Rattle.std.specs.Prelude.{List, ℕ};
@@ -87,17 +94,19 @@ impl Model for Epc {
 impl Epc {
     ghost use Rattle.epc_core.specs.Reading.{reading, Gives};
     ghost use Rattle.epc_core.specs.Spellings.{IsPlain, Spells, IsKey};
-    ghost use Rattle.epc_core.specs.Forms.{key_of_form, IsForm};
+    ghost use Rattle.epc_core.specs.Items.{key_of};
+    ghost use Rattle.epc_core.specs.Forms.{IsForm};
 
     /// Reads an EPC text: an SGTIN or SSCC as an EPC URI (EPC Tag Data Standard, sections 6.3.1 and
     /// 6.3.2) or as a Digital Link on `id.gs1.org`, or any other plain text as an opaque item.
     ///
-    /// The faults are those of a text that isn't plain, the first that applies, or want of memory,
-    /// which comes for plain texts alone.
+    /// The faults are those of a text that isn't plain, the first that applies, or `NoMemory`, which
+    /// comes only of a plain text that names an opaque item and has more than 30 bytes.
     pub fn read(alloc: Global, text: &str) -> Result<Epc, EpcFault>
         ensures gives { Gives result (reading text.now) }
         ensures spells { IfOk result (λ e. Spells text.now e) }
         ensures memory { result ≡ Err EpcFault.NoMemory → IsPlain text.now }
+        ensures long { result ≡ Err EpcFault.NoMemory → TakesMemory (key_of text.now) }
     {
         if let Some(fault) = fault_of(text.as_bytes()) {
             return Err(fault);
@@ -133,11 +142,13 @@ impl Epc {
     }
 
     /// The item with this key, or `None` where no text spells an item of this key, which is found
-    /// without taking memory. It fails only where memory runs out, so for the key of an item alone.
+    /// without allocating. It fails only where memory runs out, so for the key of an item alone,
+    /// and there only of an opaque one with a text of more than 30 bytes.
     pub fn from_key(alloc: Global, key: &str) -> Result<Option<Epc>, AllocError>
         ensures found { IfOk result (λ item. IsSome item ↔ IsKey key.now) }
         ensures same { IfOk result (λ item. IfSome item (λ e. e ≡ key.now)) }
         ensures memory { IfErr result (λ _. IsKey key.now) }
+        ensures long { IfErr result (λ _. TakesMemory key.now) }
     {
         match form_of_key(alloc, key)? {
             Some(form) => Ok(Some(Epc { form })),
@@ -145,18 +156,20 @@ impl Epc {
         }
     }
 
-    /// The form of the item, which its key tells.
+    /// The form of the item, which its key determines.
     pub fn form(&self) -> &EpcForm
         ensures key { key_of_form result.now ≡ self.now }
         ensures form { IsForm result.now }
         ensures is_key { IsKey self.now }
+        ensures text { IsUtf8 self.now }
     {
         &self.form
     }
 
-    /// An equal item. It fails only where memory runs out.
+    /// An equal item. It fails only where memory runs out, and of an opaque item with a text of more
+    /// than 30 bytes alone.
     pub fn copy(&self, alloc: Global) -> Result<Epc, AllocError>
-        ensures { IfOk result (λ e. e ≡ self.now) }
+        ensures { MatchResult result (λ e. e ≡ self.now) (λ _. TakesMemory self.now) }
     {
         let form = self.form.copy(alloc)?;
         Ok(Epc { form })
@@ -168,19 +181,9 @@ impl PartialEq for Epc {
 
     ghost laws = { Cmp.partial_equiv_from_equiv nat_list_eq_equiv };
 
+    #[inline]
     fn eq(&self, other: &Epc) -> bool {
-        match (&self.form, &other.form) {
-            (
-                EpcForm::Item { gtin, serial },
-                EpcForm::Item {
-                    gtin: other_gtin,
-                    serial: other_serial,
-                },
-            ) => gtin == other_gtin && serial.as_str() == other_serial.as_str(),
-            (EpcForm::Sscc(digits), EpcForm::Sscc(others)) => digits == others,
-            (EpcForm::Other(text), EpcForm::Other(other)) => text.as_str() == other.as_str(),
-            _ => false,
-        }
+        self.cmp(other).is_eq()
     }
 }
 
@@ -215,12 +218,12 @@ impl Ord for Epc {
                     gtin: other_gtin,
                     serial: other_serial,
                 },
-            ) => match gtin.cmp(other_gtin) {
-                Ordering::Equal => serial.as_str().cmp(other_serial.as_str()),
+            ) => match compare_blocks(gtin, other_gtin) {
+                Ordering::Equal => serial.compare(other_serial),
                 decided => decided,
             },
-            (EpcForm::Sscc(digits), EpcForm::Sscc(others)) => digits.cmp(others),
-            (EpcForm::Other(text), EpcForm::Other(other)) => text.as_str().cmp(other.as_str()),
+            (EpcForm::Sscc(digits), EpcForm::Sscc(others)) => compare_blocks(digits, others),
+            (EpcForm::Other(text), EpcForm::Other(other)) => text.compare(other),
             (EpcForm::Item { .. }, _) => Ordering::Less,
             (_, EpcForm::Item { .. }) => Ordering::Greater,
             (EpcForm::Sscc(_), _) => Ordering::Less,

@@ -1,21 +1,24 @@
 //! Items from their keys.
 ghost use Rattle.std.specs.Prelude.{◌≡◌, ℕ, ◌++◌, List, codes, IfOk, IfErr};
-ghost use Rattle.epc_core.specs.Forms.{IsFormOfKey};
+ghost use Rattle.epc_core.specs.Forms.{IsFormOfKey, TakesMemory};
 ghost use Rattle.epc_core.specs.Spellings.{IsKey};
 
+use crate::item_texts::ItemText;
 use crate::items::EpcForm;
 use crate::numbers::is_checked;
 use crate::plain_texts::is_plain;
-use crate::spellings::{is_serial, spells_number};
+use crate::serials::Serial;
+use crate::spellings::spells_number;
 use std::alloc::{AllocError, Global};
 
 /// The form of the item with this key, if there is one.
 pub(crate) fn form_of_key(alloc: Global, key: &str) -> Result<Option<EpcForm>, AllocError>
     ensures form { IfOk result (λ form. IsFormOfKey key.now form) }
     ensures memory { IfErr result (λ _. IsKey key.now) }
+    ensures long { IfErr result (λ _. TakesMemory key.now) }
 {
     if let Some(rest) = key.strip_prefix("sgtin ") {
-        return item_of_key(alloc, rest);
+        return Ok(item_of_key(rest));
     }
     if let Some(digits) = key.strip_prefix("sscc ") {
         return Ok(sscc_of_key(digits));
@@ -27,20 +30,17 @@ pub(crate) fn form_of_key(alloc: Global, key: &str) -> Result<Option<EpcForm>, A
 }
 
 /// The form of a trade item, from its key behind the first word.
-fn item_of_key(alloc: Global, rest: &str) -> Result<Option<EpcForm>, AllocError>
-    ensures form { IfOk result (λ form. IsFormOfKey (codes "sgtin " ++ rest.now) form) }
-    ensures memory { IfErr result (λ _. IsKey (codes "sgtin " ++ rest.now)) }
+fn item_of_key(rest: &str) -> Option<EpcForm>
+    ensures { IsFormOfKey (codes "sgtin " ++ rest.now) result }
 {
-    let Some((digits, serial)) = rest.split_once(' ') else {
-        return Ok(None);
-    };
-    if !is_checked(digits.as_bytes(), 14) || !is_serial(serial.as_bytes()) {
-        return Ok(None);
+    let (digits, serial) = rest.split_once(' ')?;
+    if !is_checked(digits.as_bytes(), 14) {
+        return None;
     }
+    let serial = Serial::of_bytes(serial.as_bytes())?;
     let mut gtin = [b'0'; 14];
     gtin.copy_from_slice(digits.as_bytes());
-    let serial = String::from_str(alloc, serial)?;
-    Ok(Some(EpcForm::Item { gtin, serial }))
+    Some(EpcForm::Item { gtin, serial })
 }
 
 /// The form of a logistic unit, from its key behind the first word.
@@ -59,10 +59,11 @@ fn sscc_of_key(digits: &str) -> Option<EpcForm>
 fn other_of_key(alloc: Global, text: &str) -> Result<Option<EpcForm>, AllocError>
     ensures form { IfOk result (λ form. IsFormOfKey (codes "uri " ++ text.now) form) }
     ensures memory { IfErr result (λ _. IsKey (codes "uri " ++ text.now)) }
+    ensures long { IfErr result (λ _. TakesMemory (codes "uri " ++ text.now)) }
 {
     if !is_plain(text) || spells_number(text) {
         return Ok(None);
     }
-    let text = String::from_str(alloc, text)?;
+    let text = ItemText::new(alloc, text)?;
     Ok(Some(EpcForm::Other(text)))
 }

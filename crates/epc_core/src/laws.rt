@@ -1,10 +1,10 @@
 //! Laws of the definitions, each of which a call ensures.
 ghost use Rattle.std.specs.Prelude.{◌≡◌, ◌↔◌, ℕ, ◌<◌, List, length, Ok, Err};
-ghost use Rattle.epc_core.specs.Items.{key_of};
+ghost use Rattle.epc_core.specs.Items.{key_of, sgtin_key, sscc_key, uri_key};
 ghost use Rattle.epc_core.specs.Spellings.{IsPlain, Spells, IsKey};
 ghost use Rattle.epc_core.specs.Reading.{reading};
-ghost use Rattle.epc_core.specs.Forms.{key_of_form, IsForm, SameForm};
-ghost use Rattle.epc_core.specs.Laws.{GtinsAreSpelledTwice, SsccsAreSpelledTwice, BadBytesAreRefused, BadBytesAreThese};
+ghost use Rattle.epc_core.specs.Forms.{key_of_form, IsForm, SameForm, TakesMemory};
+ghost use Rattle.epc_core.specs.Laws.{GtinsAreSpelledTwice, SsccsAreSpelledTwice, BadBytesAreRefused, BadBytesAreThese, serial_characters, SerialNumbersAreThese};
 ghost use Rattle.epc_core.specs.declared.items.EpcForm.{EpcForm};
 
 use crate::items::EpcFault;
@@ -32,7 +32,7 @@ pub fn equal_keys_one_item()
     ensures { (text other : List ℕ) → IsPlain text → IsPlain other → (key_of text ≡ key_of other) ↔ ((key : List ℕ) × Spells text key × Spells other key) }
 {}
 
-/// The key of an item's form is an item's key, and tells the form.
+/// The key of an item's form is an item's key, and determines the form.
 pub fn one_key_one_form()
     ensures is_key { (form : EpcForm) → IsForm form → IsKey (key_of_form form) }
     ensures same { (form other : EpcForm) → IsForm form → IsForm other → key_of_form form ≡ key_of_form other → SameForm form other }
@@ -48,4 +48,17 @@ pub fn refusals()
 /// Which bytes no plain text has, by their numbers: those up to 32, and 127.
 pub fn bad_bytes()
     ensures { BadBytesAreThese }
+{}
+
+/// A serial number is 1 to 20 of 82 characters, by their letters and signs.
+pub fn serial_numbers()
+    ensures counted { length serial_characters ≡ 82 }
+    ensures serials { SerialNumbersAreThese }
+{}
+
+/// Which items allocate: opaque ones whose text has more than 30 bytes, and no others.
+pub fn items_that_take_memory()
+    ensures gtin { (gtin serial : List ℕ) → ¬ TakesMemory (sgtin_key gtin serial) }
+    ensures sscc { (digits : List ℕ) → ¬ TakesMemory (sscc_key digits) }
+    ensures other { (text : List ℕ) → TakesMemory (uri_key text) ↔ (30 < length text) }
 {}

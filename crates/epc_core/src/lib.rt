@@ -4,13 +4,18 @@
 //! key's bytes.
 #![tactic(auto)]
 
+mod blocks;
+mod item_texts;
 mod items;
 mod keys;
 pub mod laws;
 mod numbers;
 mod plain_texts;
+mod serials;
 mod spellings;
 mod texts;
 
+pub use item_texts::ItemText;
 pub use items::{Epc, EpcFault, EpcForm};
 pub use plain_texts::is_plain;
+pub use serials::Serial;

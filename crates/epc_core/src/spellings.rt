@@ -1,45 +1,51 @@
 //! The four forms in which a text spells a GS1 item, and the item that it spells.
-ghost use Rattle.std.specs.Prelude.{◌≡◌, ℕ, List, IfOk, string_bytes, option_map, is_some};
+ghost use Rattle.std.specs.Prelude.{◌≡◌, ℕ, List, IfOk, IfErr, option_map, is_some};
 ghost use Rattle.std.specs.List.{list_all};
 ghost use Rattle.std.specs.Option.{option_or};
-ghost use Rattle.percent_encoding.specs.Percent as percent;
-ghost use Rattle.epc_core.specs.Serials.{is_serial_byte, is_serial, serial_of, is_part_byte};
+ghost use Rattle.epc_core.specs.Serials.{serial_of, is_part_byte};
 ghost use Rattle.epc_core.specs.Items.{gtin_of_uri, gtin_of_link, sscc_of_uri, sscc_of_link, number_key_of, key_of};
-ghost use Rattle.epc_core.specs.Forms.{key_of_form, IsForm};
+ghost use Rattle.epc_core.specs.Forms.{key_of_form, IsForm, IsNumberForm, TakesMemory};
 ghost use Rattle.epc_core.specs.Spellings.{IsPlain};
 
+use crate::item_texts::ItemText;
 use crate::items::EpcForm;
 use crate::numbers::{are_parts, is_checked, write_number};
+use crate::serials::{MOST_CHARACTERS, Serial};
 use percent_encoding::percent_decode;
 use std::alloc::{AllocError, Global};
 
 /// The item that a plain text names.
 pub(crate) fn form_of(alloc: Global, text: &str) -> Result<EpcForm, AllocError>
+    requires { IsPlain text.now }
     ensures key { IfOk result (λ form. key_of_form form ≡ key_of text.now) }
-    ensures form { IfOk result (λ form. IsPlain text.now → IsForm form) }
+    ensures form { IfOk result (λ form. IsForm form) }
+    ensures memory { IfErr result (λ _. TakesMemory (key_of text.now)) }
 {
-    if let Some(parts) = gtin_of_uri(text).or(gtin_of_link(text)) {
-        let gtin = parts.0;
-        if let Some(serial) = serial_of(alloc, parts.1)? {
-            return Ok(EpcForm::Item { gtin, serial });
-        }
+    if let Some(form) = number_form(text) {
+        return Ok(form);
     }
-    if let Some(digits) = sscc_of_uri(text).or(sscc_of_link(text)) {
-        return Ok(EpcForm::Sscc(digits));
-    }
-    Ok(EpcForm::Other(String::from_str(alloc, text)?))
+    Ok(EpcForm::Other(ItemText::new(alloc, text)?))
 }
 
 /// Whether a text spells a GTIN with a serial number, or an SSCC.
 pub(crate) fn spells_number(text: &str) -> bool
     ensures { result ≡ is_some (number_key_of text.now) }
 {
+    number_form(text).is_some()
+}
+
+/// The item whose GTIN and serial number, or whose SSCC, a text spells.
+fn number_form(text: &str) -> Option<EpcForm>
+    ensures { IsNumberForm text.now result }
+{
     if let Some(parts) = gtin_of_uri(text).or(gtin_of_link(text)) {
-        if stands_for_serial(parts.1) {
-            return true;
+        let gtin = parts.0;
+        if let Some(serial) = serial_of(parts.1) {
+            return Some(EpcForm::Item { gtin, serial });
         }
     }
-    sscc_of_uri(text).or(sscc_of_link(text)).is_some()
+    let digits = sscc_of_uri(text).or(sscc_of_link(text))?;
+    Some(EpcForm::Sscc(digits))
 }
 
 /// The GTIN-14 and the escaped serial number in an SGTIN's EPC URI.
@@ -114,53 +120,17 @@ fn is_part_byte(b: u8) -> bool
 }
 
 /// The serial number that an escaped text stands for.
-fn serial_of(alloc: Global, escaped: &str) -> Result<Option<String>, AllocError>
-    ensures { IfOk result (λ serial. option_map (λ s. string_bytes s) serial ≡ serial_of escaped.now) }
+fn serial_of(escaped: &str) -> Option<Serial>
+    ensures { result ≡ serial_of escaped.now }
 {
-    let mut serial = Vec::new(alloc);
-    percent_decode(escaped.as_bytes()).append_to(&mut serial)?;
-    if !is_serial(&serial) {
-        return Ok(None);
-    }
-    Ok(String::from_utf8(serial).ok())
-}
-
-/// Whether an escaped text stands for a serial number.
-fn stands_for_serial(escaped: &str) -> bool
-    ensures { result ≡ is_serial (percent.percent_decode escaped.now) }
-{
+    let mut bytes = [0; MOST_CHARACTERS];
     let mut count: usize = 0;
     for byte in percent_decode(escaped.as_bytes()) {
-        if count == 20 || !is_serial_byte(byte) {
-            return false;
+        if count == MOST_CHARACTERS {
+            return None;
         }
+        bytes[count] = byte;
         count += 1;
     }
-    count >= 1
-}
-
-/// Whether these are 1 to 20 of the 82 characters that a serial number may have.
-pub(crate) fn is_serial(bytes: &[u8]) -> bool
-    ensures { result ≡ is_serial bytes.now }
-{
-    bytes.len() >= 1 && bytes.len() <= 20 && are_serial_bytes(bytes)
-}
-
-/// Whether a serial number may have each of these characters.
-fn are_serial_bytes(bytes: &[u8]) -> bool
-    ensures { result ≡ list_all is_serial_byte bytes.now }
-{
-    bytes.iter().all(|b| is_serial_byte(*b))
-}
-
-/// Whether a serial number may have this character.
-fn is_serial_byte(b: u8) -> bool
-    ensures { result ≡ is_serial_byte b }
-{
-    b.is_ascii_uppercase()
-        || b.is_ascii_lowercase()
-        || b == b'_'
-        || b == b'!'
-        || b == b'"'
-        || (b'%'..=b'?').contains(&b)
+    Serial::of_bytes(&bytes[..count])
 }

@@ -1,4 +1,5 @@
-use Rattle.std.proofs.Common.{◌≡◌, sym, ap, ◌∙◌, subst, string_bytes}
+use Rattle.std.proofs.Common.{sym, ap, ◌∙◌, subst}
+use Rattle.std.specs.Prelude.{IsUtf8}
 use Rattle.std.proofs.lemmas.Bool.{both_ways}
 use Rattle.epc_core.specs.Items.{uri_key}
 use Rattle.epc_core.specs.Spellings.{Spells, IsKey}
@@ -24,5 +25,5 @@ pub returns-clause-form : goal.returns-clause-form
 returns-clause-form c =
     let plain = c.is_plain.ensures.plain.0 c.if-not-is_plain.false in
     let spells = other_is_key c.args.text.now plain (sym c.spells_number.ensures ∙ c.if-spells_number.false) in
-    let same : string_bytes c.in_ok-text.text ≡ c.args.text.now = c.in_ok-text.ensures.ok in
-    (ap uri_key same, subst (λ t. Spells t (uri_key t)) (sym same) spells)
+    let same = c.in_ok-text.ensures.text in
+    (ap uri_key same, (subst (λ t. Spells t (uri_key t)) (sym same) spells, subst IsUtf8 (sym same) c.utf8.text))

@@ -9,10 +9,10 @@ pub returns-in-Some-clause-gives : goal.returns-in-Some-clause-gives
 returns-in-Some-clause-gives c =
     fault_given c.args.text.now _ (ap fault_of (sym c.as_bytes.ensures.value) ∙ (sym c.fault_of.ensures ∙ c.in-Some.is))
 
-pub invariant_of-result : goal.invariant_of-result
-invariant_of-result c =
+pub form_of-requires : goal.form_of-requires
+form_of-requires c =
     let none : fault_of c.args.text.now ≡ None = ap fault_of (sym c.as_bytes.ensures.value) ∙ (sym c.fault_of.ensures ∙ c.in_default.is) in
-    c.in-Ok.ensures.form (plain_from c.args.text.now none)
+    plain_from c.args.text.now none
 
 pub returns-in-Ok : goal.returns-in-Ok
 returns-in-Ok c =
@@ -20,6 +20,7 @@ returns-in-Ok c =
     record {
       gives = reading_plain c.args.text.now none ∙ ap Ok (sym c.in-Ok.ensures.key);
       memory = λ _. plain_from c.args.text.now none;
+      long = λ other. absurd (let no : ⊥ = cc in no);
       spells = subst (Spells c.args.text.now) (sym c.in-Ok.ensures.key) (spells_key c.args.text.now (plain_from c.args.text.now none));
     }
 
