@@ -1,21 +1,19 @@
 -- The pairs that a site's events relate an item to, event by event, and what one more pair adds.
-use Rattle.std.proofs.Common.{◌≡◌, ◌==◌, ◌<◌, ◌+◌, ℕ, Bool, true, false, cond, not, ◌&&◌, ◌||◌, List, length, take, get_or, ◌↔◌, Option, Some, None, is_some, option_map, refl, sym, ap, ◌∙◌, subst, arith}
-use Rattle.std.proofs.lemmas.Map.Views.{btree_set_contains_iff}
+use Rattle.std.proofs.Common.{◌≡◌, ◌==◌, ◌<◌, ◌+◌, ℕ, Bool, true, false, cond, not, ◌&&◌, ◌||◌, List, length, take, get_or, Option, Some, None, is_some, option_map, refl, sym, ap, ◌∙◌, arith}
 use Rattle.std.proofs.lemmas.Bool.{true≢false}
 use Rattle.std.proofs.lemmas.Bool.Decides.{nat_tests}
 use Rattle.std.proofs.lemmas.List.Folds.{list_any_more}
 use Rattle.std.specs.Borrow.{Bor}
 use Rattle.std.specs.BTreeSet.{BTreeSet, Updates}
-use Rattle.std.specs.List.{list_any, Contains}
+use Rattle.std.specs.List.{list_any}
 use Rattle.event_json.specs.Events.{Content}
 use Rattle.event_json.specs.declared.bodies.Body.{Body}
 use Rattle.trace_core.specs.declared.pairs.Pair.{Pair}
 use Rattle.trace_core.specs.Gathering.{is_in, joined_by, related_by}
-use Rattle.trace_core.proofs.PairOrder.{pair_is_eq, pairs_total, pairs_exact}
-use Rattle.trace_core.specs.Pairs.{pair_cmp, make_id, IsRelated}
+use Rattle.trace_core.proofs.PairOrder.{pair_is_eq}
+use Rattle.trace_core.specs.Pairs.{pair_cmp, make_id}
 use Rattle.trace_core.specs.PairTests.{same_item, lists, ships, takes_in, gives_out, same_id, ships_at, inside_at, is_related}
 use Rattle.trace_core.specs.Sites.{SiteEvents}
-use Rattle.trace_core.proofs.PairTestsDecide.{related_decides}
 use Rattle.trace_core.proofs.Booleans.{and_or, and_assoc, list_any-or, list_any-and_left, list_any-and_right, list_any-same, more_at_sites, more_inside}
 
 cond_or : (a b : Bool) → cond a true b ≡ (b || a)
@@ -98,13 +96,6 @@ module _ (old cur : BTreeSet Pair) (me : ℕ) (item : List ℕ) (sites : List �
       so_far p
       ∙ ap (λ b. is_in old p || b) (not_here s me p.site a same here)
       ∙ ap (λ b. is_in old p || (n && (b && same))) (sym (more_sites p.site))
-
--- the keys of a set that has what is related are the related pairs
-pub related_exact : (s : SiteEvents) (item : List ℕ) (set : BTreeSet Pair) (pairs : List Pair) → pairs ≡ set.keys → ((p : Pair) → is_in set p ≡ is_related s item p) → (p : Pair) → Contains pairs p ↔ IsRelated s item p
-related_exact s item set pairs keys related p =
-    let both = btree_set_contains_iff pairs_total pairs_exact set p in
-    let decides = related_decides s item p in
-    (λ h. decides.0 (sym (related p) ∙ both.1 (subst (λ xs. Contains xs p) keys h)), λ h. subst (λ xs. Contains xs p) (sym keys) (both.0 (related p ∙ decides.1 h)))
 
 nothing_more : (o own : Bool) → (o || (own && false)) ≡ o
 nothing_more true true = refl

@@ -12,7 +12,7 @@ use Rattle.std.proofs.lemmas.Map.Text.{is_eq-slice_cmp}
 use Rattle.std.proofs.lemmas.Option.{slice_get-map}
 use Rattle.std.proofs.lemmas.Slice.Eq.{bytes_eq-Decides}
 use Rattle.trace_core.specs.declared.items.Named.{Named}
-use Rattle.trace_core.specs.Numbers.{number_in, with_name, names_of, item_places, changed, changed_at, noted, number_found, IsNumbered, AreApart}
+use Rattle.trace_core.specs.Numbers.{number_in, with_name, names_of, item_places, known_too, changed, changed_at, noted, number_found, IsNumbered, AreApart}
 use Rattle.trace_core.specs.PairTests.{lists, same_item}
 use Rattle.trace_core.specs.Places.{kept, or_none, ends_with, with_last, without_last}
 use Rattle.trace_core.proofs.NumberLists.{some_is, none_is, number_stays, number_pushed, unnumbered, number_listed, apart_pushed, apart_front, last_is_new}
@@ -154,6 +154,32 @@ noted_known place i n named known =
 pub noted_new : (place : ℕ) (i : List ℕ) (named : List Named) → None ≡ number_in (names_of named) i → named ++ record { name = i; places = place ∷ [] } ∷ [] ≡ noted place i named
 noted_new place i named unknown = sym (cond-false (lists (names_of named) i) (changed (with_last place) i named) (named ++ record { name = i; places = place ∷ [] } ∷ []) (unnumbered (names_of named) i (sym unknown)))
 
+-- an item that is known stays, and a new one comes without places
+pub knew : (i : List ℕ) (n : ℕ) (named : List Named) → Some n ≡ number_in (names_of named) i → named ≡ known_too i named
+knew i n named known = sym (cond-true (lists (names_of named) i) named (named ++ record { name = i; places = [] } ∷ []) (number_listed (names_of named) i n (sym known)))
+
+pub learnt : (i : List ℕ) (named : List Named) → None ≡ number_in (names_of named) i → named ++ record { name = i; places = [] } ∷ [] ≡ known_too i named
+learnt i named unknown = sym (cond-false (lists (names_of named) i) named (named ++ record { name = i; places = [] } ∷ []) (unnumbered (names_of named) i (sym unknown)))
+
+pub known_names : (i : List ℕ) (named : List Named) → names_of (known_too i named) ≡ with_name (names_of named) i
+known_names i named = by_test (lists (names_of named) i)
+  where
+    by_test : (b : Bool) → names_of (cond b named (named ++ record { name = i; places = [] } ∷ [])) ≡ cond b (names_of named) (names_of named ++ i ∷ [])
+    by_test true = refl
+    by_test false = map-append (λ (x : Named). x.name) named (record { name = i; places = [] } ∷ [])
+
+-- what an item has no places of is looked up as if it were unknown
+none_there : (c : Bool) (o : Option (List ℕ)) → (c ≡ true → o ≡ None) → o ≡ cond c None o
+none_there true o none = none refl
+none_there false o none = refl
+
+pub known_found : (i : List ℕ) (named : List Named) (j : List ℕ) → item_places (known_too i named) j ≡ item_places named j
+known_found i named j = by_listed (λ b. item_places (cond b named (named ++ record { name = i; places = [] } ∷ [])) j ≡ item_places named j)
+    (lists (names_of named) i)
+    (λ known. refl)
+    (λ new. pushed_found named (record { name = i; places = [] }) new j
+    ∙ sym (none_there (same_item i j) (item_places named j) (λ here. subst (λ k. item_places named k ≡ None) ((bytes_eq-Decides i j).0 here) (no_places_of named i new))))
+
 -- a place of it is taken away
 pub forgotten_found : (place : ℕ) (i : List ℕ) (named : List Named) (j : List ℕ) → item_places (changed (without_last place) i named) j ≡ cond (same_item i j) (kept (without_last place (or_none (item_places named i)))) (item_places named j)
 forgotten_found place i named j = ⊎_elim
@@ -161,10 +187,6 @@ forgotten_found place i named j = ⊎_elim
     (λ new. ap (λ xs. item_places xs j) (changed_none (without_last place) i named new) ∙ as_before new)
     (cases_Bool (lists (names_of named) i))
   where
-    none_there : (c : Bool) (o : Option (List ℕ)) → (c ≡ true → o ≡ None) → o ≡ cond c None o
-    none_there true o none = none refl
-    none_there false o none = refl
-
     as_before : lists (names_of named) i ≡ false → item_places named j ≡ cond (same_item i j) (kept (without_last place (or_none (item_places named i)))) (item_places named j)
     as_before new =
         let gone : item_places named i ≡ None = no_places_of named i new in
@@ -247,12 +269,12 @@ by_outcome (Err e) p q = inr q
 
 -- what adding an item keeps
 module _ {A E : Type 0} (numbers numbers' : BTreeMap (List ℕ) ℕ) (named named' : List Named) where
-  pub note_added : (i : List ℕ) (place : ℕ) (r : Result A E) → IsNumbered numbers (names_of named) → None ≡ number_in (names_of named) i
-      → OnOk r (named' ≡ named ++ record { name = i; places = place ∷ [] } ∷ []) → OnOk r ((j : List ℕ) → number_found numbers' j ≡ cond (same_item i j) (Some (length named)) (number_found numbers j))
+  pub note_added : (i places : List ℕ) (r : Result A E) → IsNumbered numbers (names_of named) → None ≡ number_in (names_of named) i
+      → OnOk r (named' ≡ named ++ record { name = i; places = places } ∷ []) → OnOk r ((j : List ℕ) → number_found numbers' j ≡ cond (same_item i j) (Some (length named)) (number_found numbers j))
       → OnOk r (IsNumbered numbers' (names_of named'))
-  note_added i place (Err e) is unknown pushed updated = tt
-  note_added i place (Ok a) is unknown pushed updated =
-      subst (λ ns. IsNumbered numbers' ns) (sym (ap names_of pushed ∙ map-append (λ (x : Named). x.name) named (record { name = i; places = place ∷ [] } ∷ [])))
+  note_added i places (Err e) is unknown pushed updated = tt
+  note_added i places (Ok a) is unknown pushed updated =
+      subst (λ ns. IsNumbered numbers' ns) (sym (ap names_of pushed ∙ map-append (λ (x : Named). x.name) named (record { name = i; places = places } ∷ [])))
       (numbered_pushed numbers numbers' (names_of named) i is (unnumbered (names_of named) i (sym unknown))
       (λ j. updated j ∙ ap (λ n. cond (same_item i j) (Some n) (number_found numbers j)) (sym (length-map named (λ (x : Named). x.name)))))
 
@@ -264,12 +286,12 @@ module _ {A E : Type 0} (numbers numbers' : BTreeMap (List ℕ) ℕ) (named name
   }
 
 -- the number of an item that is added
-pub number_told : {E : Type 0} (r : Result ℕ E) (named named' : List Named) (i : List ℕ) (place : ℕ) → None ≡ number_in (names_of named) i → OnOk r (named' ≡ named ++ record { name = i; places = place ∷ [] } ∷ []) → IfOk r (λ n. n ≡ length named)
+pub number_told : {E : Type 0} (r : Result ℕ E) (named named' : List Named) (i places : List ℕ) → None ≡ number_in (names_of named) i → OnOk r (named' ≡ named ++ record { name = i; places = places } ∷ []) → IfOk r (λ n. n ≡ length named)
     → IfOk r (λ n. number_in (names_of named') i ≡ Some n)
-number_told (Err e) named named' i place unknown pushed is = tt
-number_told (Ok n) named named' i place unknown pushed is =
+number_told (Err e) named named' i places unknown pushed is = tt
+number_told (Ok n) named named' i places unknown pushed is =
     ap (λ (xs : List Named). number_in (names_of xs) i) pushed
-    ∙ ap (λ ns. number_in ns i) (map-append (λ (x : Named). x.name) named (record { name = i; places = place ∷ [] } ∷ []))
+    ∙ ap (λ ns. number_in ns i) (map-append (λ (x : Named). x.name) named (record { name = i; places = places } ∷ []))
     ∙ number_pushed (names_of named) i i (sym unknown)
     ∙ ap (λ b. cond b (Some (length (names_of named))) None) ((bytes_eq-Decides i i).1 refl)
     ∙ ap Some (length-map named (λ (x : Named). x.name) ∙ sym is)

@@ -58,7 +58,7 @@ number_stands (x ∷ xs) i n h = at (same_item x i) (number_in xs i) (λ same. (
     at false None same there e = none_is n e
     at false (Some m) same there e = subst (λ k. slice_get (x ∷ xs) k ≡ Some i) (some_is (suc m) n e) (there m refl)
 
-known_number : (xs : List (List ℕ)) (i : List ℕ) → is_some (number_in xs i) ≡ lists xs i
+pub known_number : (xs : List (List ℕ)) (i : List ℕ) → is_some (number_in xs i) ≡ lists xs i
 known_number [] i = refl
 known_number (x ∷ xs) i = either (same_item x i) (number_in xs i) ∙ ap (λ b. same_item x i || b) (known_number xs i)
   where
@@ -197,6 +197,10 @@ numbered_named events i = lists_with (flat_map (λ e. items_of e.body) events) [
 pub numbered_apart : (events : List Content) → AreApart (numbered events)
 unfolding numbered
 numbered_apart events = apart_more (flat_map (λ e. items_of e.body) events) [] (λ n i h. none_is i h)
+
+-- the number of a name that is there
+pub number_or : (names : List (List ℕ)) (j : List ℕ) → lists names j ≡ true → slice_get names (unwrap_or (number_in names j) 0) ≡ Some j
+number_or names j known = let (n, is) = listed_number names j known in ap (λ o. slice_get names (unwrap_or o 0)) is ∙ number_stands names j n is
 
 -- one more event
 pub numbered_more : (events : List Content) (e : Content) → numbered (events ++ e ∷ []) ≡ with_names (numbered events) (items_of e.body)

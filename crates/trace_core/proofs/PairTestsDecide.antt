@@ -30,7 +30,7 @@ lists_decides items item = Decides-like _
     (λ (k, lt, at). (k, item, lt, at, refl))
     (any_decides (λ i. same_item i item) (λ i. i ≡ item) (λ i. bytes_eq-Decides i item) items)
 
-site_decides : (sites : List ℕ) (site : ℕ) → Decides (list_any (λ s. s == site) sites) (Contains sites site)
+pub site_decides : (sites : List ℕ) (site : ℕ) → Decides (list_any (λ s. s == site) sites) (Contains sites site)
 site_decides sites site = Decides-like _
     (λ (k, x, lt, at, same). (k, lt, subst (λ z. slice_index_or sites k z ≡ z) same at))
     (λ (k, lt, at). (k, site, lt, at, refl))

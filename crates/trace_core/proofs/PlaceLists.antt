@@ -18,8 +18,8 @@ use Rattle.event_json.specs.Events.{Content}
 use Rattle.event_json.specs.declared.bodies.Body.{Body}
 use Rattle.trace_core.specs.PairTests.{lists, same_id}
 use Rattle.trace_core.specs.Pairs.{make_id}
-use Rattle.trace_core.specs.Spreads.{items_of}
-use Rattle.trace_core.specs.Places.{places_where, kept, or_none, text_places, id_places, at_place, names_item, IsIndex, IsNoted, AreEarlier, Notes, Forgets, KeepsNone}
+use Rattle.trace_core.specs.Spreads.{ins_in}
+use Rattle.trace_core.specs.Places.{places_where, kept, or_none, text_places, id_places, at_place, takes_item, IsIndex, IsNoted, AreEarlier, Notes, Forgets, KeepsNone}
 use Rattle.trace_core.proofs.Members.{contains_here, contains_there, contains_cases, contains_none, contains-map, list_any_witness, list_any_member}
 use Rattle.trace_core.proofs.PlaceSteps.{kept_all}
 use Rattle.trace_core.proofs.SetMembers.{contains-from_map}
@@ -147,12 +147,12 @@ module _ (found found' : List ℕ → Option (List ℕ)) (names : List ℕ → C
   index_same kept_none is = as_index (kept_none (λ i. places_where (names i) events) (earlier_places names events place last) (as_noted is))
 
 module _ (found found' : List ℕ → Option (List ℕ)) (place : ℕ) (e : Content) where
-  -- what is noted for the items of an event, and for an id
-  pub notes_items_of : (b : Body) → b ≡ e.body → Notes found found' place (lists (items_of b)) → Notes found found' place (λ i. names_item i e)
-  notes_items_of b is = subst (λ (c : Body). Notes found found' place (lists (items_of c))) is
+  -- what is noted for the inputs of an event, and for an id
+  pub notes_inputs_of : (b : Body) → b ≡ e.body → Notes found found' place (lists (ins_in b)) → Notes found found' place (λ i. takes_item i e)
+  notes_inputs_of b is = subst (λ (c : Body). Notes found found' place (lists (ins_in c))) is
 
-  pub forgets_items_of : (b : Body) → b ≡ e.body → Forgets found found' place (lists (items_of b)) → Forgets found found' place (λ i. names_item i e)
-  forgets_items_of b is = subst (λ (c : Body). Forgets found found' place (lists (items_of c))) is
+  pub forgets_inputs_of : (b : Body) → b ≡ e.body → Forgets found found' place (lists (ins_in b)) → Forgets found found' place (λ i. takes_item i e)
+  forgets_inputs_of b is = subst (λ (c : Body). Forgets found found' place (lists (ins_in c))) is
 
   pub notes_id : (o id : Option (List ℕ)) → o ≡ id → Notes found found' place (λ i. same_id o (Some i)) → Notes found found' place (λ i. same_id id (Some i))
   notes_id o id is = subst (λ (p : Option (List ℕ)). Notes found found' place (λ i. same_id p (Some i))) is

@@ -15,10 +15,7 @@ use Rattle.std.proofs.lemmas.List.Folds.{list_any_more, list_any-append}
 use Rattle.std.proofs.lemmas.Map.Text.{btree_map_updates_text}
 use Rattle.std.proofs.lemmas.Option.{slice_get-get_or, slice_get_cases, get_or_from_slice_get}
 use Rattle.std.proofs.lemmas.Slice.Eq.{bytes_eq-Decides}
-use Rattle.event_json.specs.declared.bodies.Body.{Body}
-use Rattle.event_json.specs.declared.bodies.Body.TheVariants.{Make}
 use Rattle.trace_core.specs.PairTests.{lists, same_item}
-use Rattle.trace_core.specs.Spreads.{items_of}
 use Rattle.trace_core.specs.Places.{kept, or_none, is_place, ends_with, with_last, without_last, text_places, Notes, NotesSome, Forgets, ForgetsIn, KeepsNone, left_of, is_emptied}
 
 -- what a look-up of a text finds after a change at one
@@ -198,25 +195,6 @@ noted_some first cur new place items n so_far same = record {
   noted = λ earlier noted before is i. same i ∙ so_far earlier noted before is i;
 }
 
--- some of the second keys after all of the first
-pub notes_some_more : (first second third : List ℕ → Option (List ℕ)) (place : ℕ) (xs ys all : List ℕ → Bool) → ((i : List ℕ) → all i ≡ (xs i || ys i)) → Notes first second place xs → NotesSome second third place ys → NotesSome first third place all
-notes_some_more first second third place xs ys all both one two = record {
-  some = λ i. xs i || two.some i;
-  among = λ i h. both i ∙ either (xs i) (two.some i) (ys i) (two.among i) h;
-  noted = notes_both first second third place xs two.some (λ i. xs i || two.some i) (λ i. refl) one two.noted;
-}
-  where
-    either : (a b c : Bool) → (b ≡ true → c ≡ true) → (a || b) ≡ true → (a || c) ≡ true
-    either true b c h e = refl
-    either false b c h e = h e
-
-pub notes_some_first : (found found' : List ℕ → Option (List ℕ)) (place : ℕ) (xs ys all : List ℕ → Bool) → ((i : List ℕ) → all i ≡ (xs i || ys i)) → NotesSome found found' place xs → NotesSome found found' place all
-notes_some_first found found' place xs ys all both one = record {
-  some = one.some;
-  among = λ i h. both i ∙ ap (λ b. b || ys i) (one.among i h);
-  noted = one.noted;
-}
-
 -- what was noted for some is taken away again
 pub forgotten_again : (first second third : List ℕ → Option (List ℕ)) (place : ℕ) (keys : List ℕ → Bool) → NotesSome first second place keys → Forgets second third place keys → KeepsNone first third place
 forgotten_again first second third place keys one two earlier before is i =
@@ -241,11 +219,10 @@ noted_new old cur new key copy places place changed as_before copied one none =
     (λ i. changed i ∙ ap (λ (f : List ℕ → Option (List ℕ)). cond (same_item copy i) (Some places) (f i)) as_before ∙ ap (λ k. cond (same_item k i) (Some places) (old i)) copied)
     (one ∙ ap (λ o. with_last place (or_none o)) none)
 
--- the items of a transformation
-pub made_items : (b : Body) (id : Option (List ℕ)) (ins outs xs ys : List (List ℕ)) → b ≡ Make id ins outs → xs ≡ ins → ys ≡ outs → (i : List ℕ) → lists (items_of b) i ≡ (lists xs i || lists ys i)
-made_items b id ins outs xs ys is are_ins are_outs i =
-    ap (λ c. lists (items_of c) i) is ∙ list_any-append (λ j. same_item j i) ins outs ∙ ap (λ zs. lists zs i || lists outs i) (sym are_ins) ∙ ap (λ zs. lists xs i || lists zs i) (sym are_outs)
+-- noted for no key
+pub notes_same : (found found' : List ℕ → Option (List ℕ)) (place : ℕ) (keys : List ℕ → Bool) → ((i : List ℕ) → keys i ≡ false) → ((i : List ℕ) → found' i ≡ found i) → Notes found found' place keys
+notes_same found found' place keys none same earlier noted before is i = same i ∙ is i ∙ ap (λ b. kept (earlier i ++ cond b (place ∷ []) [])) (sym (ap (λ b. noted i || b) (none i) ∙ or_no (noted i)))
 
--- noted for no key, or taken away from none
-pub notes_none : (found : List ℕ → Option (List ℕ)) (place : ℕ) (keys : List ℕ → Bool) → ((i : List ℕ) → keys i ≡ false) → Notes found found place keys
-notes_none found place keys none earlier noted before is i = is i ∙ ap (λ b. kept (earlier i ++ cond b (place ∷ []) [])) (sym (ap (λ b. noted i || b) (none i) ∙ or_no (noted i)))
+-- noted and then nothing more
+pub notes_then_same : (first second third : List ℕ → Option (List ℕ)) (place : ℕ) (keys : List ℕ → Bool) → Notes first second place keys → ((i : List ℕ) → third i ≡ second i) → Notes first third place keys
+notes_then_same first second third place keys one same earlier noted before is i = same i ∙ one earlier noted before is i

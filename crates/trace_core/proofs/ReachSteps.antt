@@ -3,7 +3,7 @@ use Rattle.std.proofs.Common.{◌≡◌, ◌<◌, ◌≤◌, ◌+◌, ℕ, true,
 use mathlib.Core.Bool.{false≢true}
 use mathlib.Core.Logic.{◌⊎◌}
 use Rattle.std.specs.BTreeSet.{BTreeSet}
-use Rattle.std.specs.List.{list_any, Contains}
+use Rattle.std.specs.List.{Contains}
 use Rattle.std.proofs.lemmas.Bool.{cases_eq, cases_lt}
 use Rattle.std.proofs.lemmas.List.Elements.{Contains-append_cases}
 use Rattle.std.proofs.lemmas.Option.{slice_get-get_or, slice_get_within, slice_get_cases}
@@ -12,31 +12,31 @@ use Rattle.trace_core.specs.declared.groups.Group.{Group}
 use Rattle.trace_core.specs.declared.nodes.Node.{Node}
 use Rattle.trace_core.specs.declared.pairs.Pair.{Pair}
 use Rattle.trace_core.specs.Chains.{Related, RelatesFrom}
+use Rattle.trace_core.specs.Gathering.{related_by}
 use Rattle.trace_core.specs.Groups.{IsGiven, IsGivenBy, SeesOnly, IsSought}
 use Rattle.trace_core.specs.Nodes.{Stands, Had, Gains, ReachedFromNodes}
 use Rattle.trace_core.specs.Numbers.{number_in, numbered}
 use Rattle.trace_core.specs.Pairs.{IsRelated}
-use Rattle.trace_core.specs.Places.{kept, places_where, names_item}
+use Rattle.trace_core.specs.Places.{names_item}
 use Rattle.trace_core.specs.Relations.{Reaches}
+use Rattle.trace_core.specs.Searches.{AreUnseen}
 use Rattle.trace_core.specs.Sites.{SiteEvents}
 use Rattle.trace_core.proofs.ChainLaws.{reaches_itself, reaches_step, reached_holds}
-use Rattle.trace_core.proofs.GroupSteps.{sought_at, sought_places, adds_same}
-use Rattle.trace_core.proofs.IndexSteps.{unnamed}
-use Rattle.trace_core.proofs.Members.{contains_none}
+use Rattle.trace_core.proofs.GatheringSteps.{is_related-by_events}
+use Rattle.trace_core.proofs.GroupSteps.{adds_same}
+use Rattle.trace_core.proofs.Members.{contains_none, contains_cases, list_any_witness, list_any_member}
 use Rattle.trace_core.proofs.NodeSteps.{more_nodes, gains_none, gains_retold}
-use Rattle.trace_core.proofs.NumberLists.{some_is, none_is, number_stands, unnumbered, numbered_apart}
+use Rattle.trace_core.proofs.NumberLists.{some_is, none_is, number_stands, unnumbered, numbered_named, numbered_apart}
+use Rattle.trace_core.proofs.PairTestsDecide.{related_decides}
+use Rattle.trace_core.proofs.RelatedPlaces.{related_named}
 use Rattle.trace_core.proofs.SetMembers.{contains_pushed}
-use Rattle.trace_core.proofs.Visiting.{BySites, one_site, all_sites_added}
-
-no_places : (ks : List ℕ) → kept ks ≡ None → ks ≡ []
-no_places [] h = refl
-no_places (k ∷ ks) h = none_is (k ∷ ks) (sym h)
+use Rattle.trace_core.proofs.Visiting.{BySites, one_site, all_sites_added, none_given_by}
 
 -- an item that no event names is related to nothing
 pub unrelated : (s : SiteEvents) (i : List ℕ) → number_in (numbered s.events) i ≡ None → (q : Pair) → IsRelated s i q → ⊥
 unrelated s i unknown q h =
-    let nowhere : places_where (names_item i) s.events ≡ [] = no_places (places_where (names_item i) s.events) (unnamed s.events i (unnumbered (numbered s.events) i unknown)) in
-    false≢true (sym (ap (list_any (λ k. sought_at true s i q (slice_get s.events k))) nowhere) ∙ (sought_places s i q true).1 h)
+    let (e, there, by) = list_any_witness (λ e. related_by s.me s.events i e.body q) s.events (sym (is_related-by_events s i q) ∙ (related_decides s i q).1 h) in
+    false≢true (sym (unnumbered (numbered s.events) i unknown) ∙ numbered_named s.events i ∙ list_any_member (names_item i) s.events e there (related_named s.me s.events i e.body q by))
 
 module _ (sites : List SiteEvents) where
   -- a node stands for one pair
@@ -55,24 +55,38 @@ module _ (sites : List SiteEvents) where
   pub site_of_node : (n : Node) (p : Pair) → Stands sites n p → p.site ≡ n.at
   site_of_node n p (t, at, item, place) = place
 
-  -- what one of the sites relates a node's pair to
-  module _ (number : ℕ) (s t : SiteEvents) (at_s : slice_get sites number ≡ Some s) (at_t : slice_get sites number ≡ Some t) (node : Node) (p : Pair) (stands : Stands sites node p) where
+  -- what one of the sites relates a pair to
+  module _ (number : ℕ) (s t : SiteEvents) (at_s : slice_get sites number ≡ Some s) (at_t : slice_get sites number ≡ Some t) (here : ℕ) (p : Pair) (its : p.site ≡ here) where
     it : s ≡ t
     it = some_is s t (sym at_s ∙ at_t)
 
-    pub site_gains : (item : ℕ) (a b : BTreeSet Group) (x y : List Node) → s.me ≡ node.at → Some item ≡ number_in (numbered t.events) p.item
+    pub site_gains : (item : ℕ) (a b : BTreeSet Group) (x y : List Node) → s.me ≡ here → Some item ≡ number_in (numbered t.events) p.item
         → ((all : List SiteEvents) (i : List ℕ) → slice_get all number ≡ Some s → slice_get (numbered s.events) item ≡ Some i → Gains (Stands all) (λ groups q. IsGiven s number groups q) (λ q. IsSought true s i q) a b x y)
         → Gains (Stands sites) (IsGiven t number) (RelatesFrom t p) a b x y
     site_gains item a b x y own known gained = subst (λ (u : SiteEvents). Gains (Stands sites) (IsGiven u number) (RelatesFrom u p) a b x y) it
         (gains_retold (Stands sites) (λ groups q. IsGiven s number groups q) (IsGiven s number) (λ q. IsSought true s p.item q) (RelatesFrom s p) a b x y
-        (adds_same (IsGiven s number) (λ q. IsSought true s p.item q) (RelatesFrom s p) a b (Had (Stands sites) x) (Had (Stands sites) y) (λ q. (λ h. (own ∙ sym (site_of_node node p stands), h), λ h. h.1)))
+        (adds_same (IsGiven s number) (λ q. IsSought true s p.item q) (RelatesFrom s p) a b (Had (Stands sites) x) (Had (Stands sites) y) (λ q. (λ h. (own ∙ sym its, h), λ h. h.1)))
         (gained sites p.item at_s (number_stands (numbered s.events) p.item item (ap (λ (u : SiteEvents). number_in (numbered u.events) p.item) it ∙ sym known))))
 
     pub unknown_gains : (a : BTreeSet Group) (x : List Node) → None ≡ number_in (numbered t.events) p.item → Gains (Stands sites) (IsGiven t number) (RelatesFrom t p) a a x x
     unknown_gains a x unknown = gains_none (Stands sites) (IsGiven t number) (RelatesFrom t p) a x (λ q h. unrelated t p.item (sym unknown) q h.1)
 
-    pub elsewhere_gains : (a : BTreeSet Group) (x : List Node) → (s.me ≡ node.at → ⊥) → Gains (Stands sites) (IsGiven t number) (RelatesFrom t p) a a x x
-    elsewhere_gains a x apart = gains_none (Stands sites) (IsGiven t number) (RelatesFrom t p) a x (λ q h. apart (ap (λ (u : SiteEvents). u.me) it ∙ h.0 ∙ site_of_node node p stands))
+    pub elsewhere_gains : (a : BTreeSet Group) (x : List Node) → (s.me ≡ here → ⊥) → Gains (Stands sites) (IsGiven t number) (RelatesFrom t p) a a x x
+    elsewhere_gains a x apart = gains_none (Stands sites) (IsGiven t number) (RelatesFrom t p) a x (λ q h. apart (ap (λ (u : SiteEvents). u.me) it ∙ h.0 ∙ its))
+
+  -- one site stands at a number
+  pub same_gains : (number : ℕ) (s t : SiteEvents) (p : Pair) (a b : BTreeSet Group) (x y : List Node) → slice_get sites number ≡ Some s → slice_get sites number ≡ Some t
+      → Gains (Stands sites) (IsGiven s number) (RelatesFrom s p) a b x y → Gains (Stands sites) (IsGiven t number) (RelatesFrom t p) a b x y
+  same_gains number s t p a b x y at at' gained = subst (λ (u : SiteEvents). Gains (Stands sites) (IsGiven u number) (RelatesFrom u p) a b x y) (some_is s t (sym at ∙ at')) gained
+
+  -- the pairs that are gained
+  pub targets_gained : (R : Pair → Type 0) (seen seen' : BTreeSet Group) (none nodes : List Node) (pairs targets : List Pair) → none ≡ [] → Gains (Stands sites) (IsGivenBy sites) R seen seen' none nodes
+      → ((p : Pair) → Contains pairs p ↔ Had (Stands sites) nodes p) → ((p : Pair) → Contains targets p ↔ Contains pairs p) → AreUnseen R (IsGivenBy sites) seen seen' targets
+  targets_gained R seen seen' none nodes pairs targets empty gained are same = record {
+    sound = λ q h. ⊎_elim (λ (n, there, stands). absurd (contains_none n (subst (λ ns. Contains ns n) empty there))) (λ r. r) (gained.added.sound q ((are q).0 ((same q).0 h)));
+    complete = λ q r. ⊎_elim (λ had. inl ((same q).1 ((are q).1 had))) (λ before. inr before) (gained.added.complete q r);
+    given = λ q h. ⊎_elim (λ before. inl before) (λ had. inr ((same q).1 ((are q).1 had))) (gained.added.given q h);
+  }
 
   -- one site more
   pub sites_gain : (n : ℕ) (s : SiteEvents) (p : Pair) (a b c : BTreeSet Group) (x y z : List Node) → slice_get sites n ≡ Some s → Gains (Stands sites) (IsGivenBy sites) (BySites sites p n) a b x y
@@ -210,3 +224,18 @@ known_there o i events s is are = is ∙ ap (λ (es : List Content). number_in (
 pub nothing_left : {X : Type 0} (xs : List X) → length xs ≡ 0 → xs ≡ []
 nothing_left [] none = refl
 nothing_left (x ∷ xs) none = absurd (omega (arith, none))
+
+-- what a site alone relates an item to, where no transformation was seen before
+pub related_alone : (s : SiteEvents) (site : ℕ) (item copy : List ℕ) (seen seen' : BTreeSet Group) (targets : List Pair) → site ≡ s.me → copy ≡ item → seen.keys ≡ []
+    → AreUnseen (Related (s ∷ []) (record { site = site; item = copy })) (IsGivenBy (s ∷ [])) seen seen' targets → (q : Pair) → Contains targets q ↔ IsRelated s item q
+related_alone s site item copy seen seen' targets own same empty unseen q = (
+  λ h. its (unseen.sound q h),
+  λ h. ⊎_elim (λ there. there) (λ given. absurd (none_given_by (s ∷ []) seen empty q given))
+      (unseen.complete q (0, s, omega arith, refl, (sym own, subst (λ i. IsRelated s i q) (sym same) h))),
+)
+  where
+    its : Related (s ∷ []) (record { site = site; item = copy }) q → IsRelated s item q
+    its (k, t, lt, at, (here, related)) = ⊎_elim
+        (λ one. subst (λ (u : SiteEvents). IsRelated u item q) (sym one) (subst (λ i. IsRelated t i q) same related))
+        (λ none. absurd (contains_none t none))
+        (contains_cases s t [] (k, lt, at))

@@ -1,7 +1,6 @@
--- The places of the events that name an item lead to all that relates it.
+-- Events that relate an item name it, and the places of ids lead to what is joined.
 use Rattle.std.proofs.Common.{◌≡◌, ◌==◌, not, ◌&&◌, ◌<◌, ◌≤◌, ℕ, Bool, true, false, ◌||◌, List, take, length, get_or, slice_get, ◌↔◌, Option, Some, None, refl, sym, ap, subst, ◌∙◌, ⊎_elim}
 use mathlib.Core.Bool.{false≢true}
-use Rattle.std.specs.BTreeSet.{BTreeSet}
 use Rattle.std.specs.List.{list_any, Contains}
 use Rattle.std.proofs.lemmas.Bool.{or_cases, and_parts}
 use Rattle.std.proofs.lemmas.Bool.Decides.{same_from_decides}
@@ -12,43 +11,38 @@ use Rattle.event_json.specs.Events.{Content}
 use Rattle.event_json.specs.declared.bodies.Body.{Body}
 use Rattle.event_json.specs.declared.bodies.Body.TheVariants.{Note, Ship, Make}
 use Rattle.trace_core.specs.declared.pairs.Pair.{Pair}
-use Rattle.trace_core.specs.Gathering.{is_in, shipped_by, made_by, joined_by, joins, related_by}
-use Rattle.trace_core.specs.PairTests.{lists, same_id, same_item, ships, takes_in, gives_out, is_related}
-use Rattle.trace_core.specs.Pairs.{make_id, HaveOneId, IsRelated}
-use Rattle.trace_core.specs.Places.{places_where, names_item, at_place, IsPartAt}
-use Rattle.trace_core.specs.Sites.{SiteEvents}
-use Rattle.trace_core.specs.Spreads.{items_of}
-use Rattle.trace_core.proofs.GatheringSteps.{is_related-by_events, related_exact}
-use Rattle.trace_core.proofs.Members.{list_any_witness, list_any_member}
+use Rattle.trace_core.specs.Gathering.{shipped_by, made_by, joined_by, joins, related_by}
+use Rattle.trace_core.specs.PairTests.{lists, same_id, same_item, ships, takes_in, gives_out}
+use Rattle.trace_core.specs.Pairs.{make_id, HaveOneId}
+use Rattle.trace_core.specs.Places.{places_where, at_place, IsPartAt}
+use Rattle.trace_core.specs.Spreads.{items_of, ins_in}
 use Rattle.trace_core.proofs.PlaceLists.{place_there, place_passes, any_at_places}
 use Rattle.trace_core.proofs.Booleans.{list_any-same}
 use Rattle.trace_core.proofs.PairTestsDecide.{same_id_decides}
-
--- what an event at a place relates the item to
-abbrev pub related_at : ℕ → List Content → List ℕ → Option Content → Pair → Bool
-related_at me events item o p = at_place (λ e. related_by me events item e.body p) o
 
 ships_named : (item : List ℕ) (site : ℕ) (b : Body) → ships item site b ≡ true → lists (items_of b) item ≡ true
 ships_named item site (Note items) h = absurd (false≢true h)
 ships_named item site (Ship items sites outside) h = (and_parts (lists items item) (list_any (λ s. s == site) sites) h).0
 ships_named item site (Make id ins outs) h = absurd (false≢true h)
 
-takes_named : (item : List ℕ) (b : Body) → takes_in item b ≡ true → lists (items_of b) item ≡ true
+-- the inputs of a transformation, and the test of one
+pub ins_listed : (i : List ℕ) (b : Body) → lists (ins_in b) i ≡ takes_in i b
+ins_listed i (Note items) = refl
+ins_listed i (Ship items sites outside) = refl
+ins_listed i (Make id ins outs) = refl
+
+pub takes_named : (item : List ℕ) (b : Body) → takes_in item b ≡ true → lists (items_of b) item ≡ true
 takes_named item (Note items) h = absurd (false≢true h)
 takes_named item (Ship items sites outside) h = absurd (false≢true h)
 takes_named item (Make id ins outs) h = list_any-append (λ i. same_item i item) ins outs ∙ ap (λ b. b || lists outs item) h
 
-related_named : (me : ℕ) (events : List Content) (item : List ℕ) (b : Body) (p : Pair) → related_by me events item b p ≡ true → lists (items_of b) item ≡ true
+pub related_named : (me : ℕ) (events : List Content) (item : List ℕ) (b : Body) (p : Pair) → related_by me events item b p ≡ true → lists (items_of b) item ≡ true
 related_named me events item b p h = ⊎_elim
     (λ ship. let shipped = (and_parts (not (p.site == me)) (ships item p.site b && same_item item p.item) ship).1 in
     ships_named item p.site b (and_parts (ships item p.site b) (same_item item p.item) shipped).0)
     (λ make. let made = (and_parts (p.site == me) (takes_in item b && (gives_out p.item b || joined_by events b p.item)) make).1 in
     takes_named item b (and_parts (takes_in item b) (gives_out p.item b || joined_by events b p.item) made).0)
     (or_cases (shipped_by me item b p) (made_by me events item b p) h)
-
-at_some : (me : ℕ) (events : List Content) (item : List ℕ) (o : Option Content) (p : Pair) → related_at me events item o p ≡ true → (e : Content) × (o ≡ Some e) × (related_by me events item e.body p ≡ true)
-at_some me events item None p h = absurd (false≢true h)
-at_some me events item (Some e) p h = (e, refl, h)
 
 absent : {X : Type 0} (o : Option X) (x : X) → o ≡ None → o ≡ Some x → ⊥
 absent o x none some = cc
@@ -58,29 +52,6 @@ slice_there xs i x h = ⊎_elim
     (λ (y, below, is, at). (below, get_or_from_slice_get xs i x x h))
     (λ (past, none). absurd (absent (slice_get xs i) x none h))
     (slice_get_cases xs i).1
-
--- the events that name the item relate it to what all events do
-pub related_by_places : (s : SiteEvents) (item : List ℕ) (p : Pair) → list_any (λ k. related_at s.me s.events item (slice_get s.events k) p) (places_where (names_item item) s.events) ≡ is_related s item p
-related_by_places s item p =
-    let places = places_where (names_item item) s.events in
-    let by_event = is_related-by_events s item p in
-    same_from_decides {P = is_related s item p ≡ true} _ _ (
-      λ h. let (k, in', at) = list_any_witness (λ k. related_at s.me s.events item (slice_get s.events k) p) places h in
-          let (e, is, related) = at_some s.me s.events item (slice_get s.events k) p at in
-          let (below, there) = slice_there s.events k e is in
-          by_event ∙ list_any_member (λ e. related_by s.me s.events item e.body p) s.events e (k, below, there) related,
-      λ h. let (e, (k, below, there), related) = list_any_witness (λ e. related_by s.me s.events item e.body p) s.events (sym by_event ∙ h) in
-          list_any_member (λ k. related_at s.me s.events item (slice_get s.events k) p) places k (place_there (names_item item) s.events k e below there (related_named s.me s.events item e.body p related))
-          (ap (λ o. related_at s.me s.events item o p) (slice_get-get_or s.events k e below ∙ ap Some there) ∙ related),
-    )
-    (λ h. h, λ h. h)
-
--- at the end of the places
-pub related_at_places : (s : SiteEvents) (item : List ℕ) (set : BTreeSet Pair) (pairs : List Pair) (places : List ℕ) (n : ℕ) → pairs ≡ set.keys → length places ≤ n
-    → places ≡ places_where (names_item item) s.events
-    → ((p : Pair) → is_in set p ≡ list_any (λ k. related_at s.me s.events item (slice_get s.events k) p) (take n places)) → (p : Pair) → Contains pairs p ↔ IsRelated s item p
-related_at_places s item set pairs places n keys past are so_far = related_exact s item set pairs keys
-    (λ p. so_far p ∙ ap (list_any (λ k. related_at s.me s.events item (slice_get s.events k) p)) (take_all n places past ∙ are) ∙ related_by_places s item p)
 
 same_id_either : (a b : Option (List ℕ)) → same_id a b ≡ same_id b a
 same_id_either a b = same_from_decides {P = HaveOneId a b} _ _ (same_id_decides a b)

@@ -76,7 +76,7 @@ room_made [] (suc j) = refl
 room_made (x ∷ xs) zero = refl
 room_made (x ∷ xs) (suc j) = room_made xs j
 
-get_set : (sites : List (List ℕ)) (k : ℕ) (x : List ℕ) (j : ℕ) → k < length sites → (j ≡ k → slice_get (set sites k x) j ≡ Some x) × ((j ≡ k → ⊥) → slice_get (set sites k x) j ≡ slice_get sites j)
+pub get_set : (sites : List (List ℕ)) (k : ℕ) (x : List ℕ) (j : ℕ) → k < length sites → (j ≡ k → slice_get (set sites k x) j ≡ Some x) × ((j ≡ k → ⊥) → slice_get (set sites k x) j ≡ slice_get sites j)
 get_set [] k x j below = absurd (omega (arith, below))
 get_set (y ∷ ys) zero x zero below = (λ _. refl, λ apart. absurd (apart refl))
 get_set (y ∷ ys) zero x (suc j) below = (λ same. absurd (omega (arith, same)), λ _. refl)

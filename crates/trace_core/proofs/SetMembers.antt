@@ -4,7 +4,7 @@ use mathlib.Core.Bool.{false≢true}
 use mathlib.Core.Logic.{◌⊎◌}
 use Rattle.std.specs.BTreeSet.{BTreeSet, contains, Updates}
 use Rattle.std.specs.Cmp.{IsTotalOrder, eq_by_cmp_equiv}
-use Rattle.std.specs.List.{Contains}
+use Rattle.std.specs.List.{Contains, flat_map}
 use Rattle.std.specs.Ordering.{eq_by_cmp}
 use Rattle.std.specs.declared.cmp.Ordering.{Ordering}
 use Rattle.std.proofs.lemmas.Bool.{cases_Bool, cond-true, cond-false}
@@ -73,3 +73,10 @@ contains-from_map f (x ∷ xs) y h = ⊎_elim
     (λ here. (x, contains_here x xs, here))
     (λ there. let (z, at, is) = contains-from_map f xs y there in (z, contains_there x z xs at, is))
     (contains_cases (f x) y (map f xs) h)
+
+pub contains-from_flat_map : {A B : Type 0} (f : A → List B) (xs : List A) (y : B) → Contains (flat_map f xs) y → (x : A) × Contains xs x × Contains (f x) y
+contains-from_flat_map f [] y h = absurd (contains_none y h)
+contains-from_flat_map f (x ∷ xs) y h = ⊎_elim
+    (λ here. (x, contains_here x xs, here))
+    (λ there. let (z, at, in') = contains-from_flat_map f xs y there in (z, contains_there x z xs at, in'))
+    (Contains-append_cases (f x) (flat_map f xs) y h)

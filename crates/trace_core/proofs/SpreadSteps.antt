@@ -42,7 +42,7 @@ module _ (s : SiteEvents) where
   here i = record { site = s.me; item = i }
 
   -- a chain of the site's pairs that ends at the site stays in it
-  inside-chain : (i : List ℕ) (q : Pair) → Reaches (SeeksFrom false s) (here i) q → q.site ≡ s.me → Reaches (Inside s) i q.item
+  pub inside-chain : (i : List ℕ) (q : Pair) → Reaches (SeeksFrom false s) (here i) q → q.site ≡ s.me → Reaches (Inside s) i q.item
   inside-chain i q reaches = reached_holds (SeeksFrom false s) (λ q. q.site ≡ s.me → Reaches (Inside s) i q.item)
       (λ p q so_far (same, made) at. reaches_step (Inside s) i p.item q.item (so_far (sym same)) (subst (λ (n : ℕ). IsRelated s p.item (record { site = n; item = q.item })) at (inr made)))
       (here i) q reaches (λ _. reaches_itself (Inside s) i)
@@ -53,7 +53,7 @@ module _ (s : SiteEvents) where
       i j reaches (reaches_itself (SeeksFrom false s) (here i))
 
   -- what is found is at the site
-  found_here : (i : List ℕ) (q : Pair) → Reaches (SeeksFrom false s) (here i) q → q.site ≡ s.me
+  pub found_here : (i : List ℕ) (q : Pair) → Reaches (SeeksFrom false s) (here i) q → q.site ≡ s.me
   found_here i q reaches = reached_holds (SeeksFrom false s) (λ (q : Pair). q.site ≡ s.me) (λ x y h (same, made). made.0) (here i) q reaches refl
 
   the_site : (n : ℕ) (t : SiteEvents) → slice_get (s ∷ []) n ≡ Some t → (n ≡ 0) × (s ≡ t)

@@ -1,10 +1,9 @@
 -- The nodes that an event's items lead to.
-use Rattle.std.proofs.Common.{◌≡◌, ◌==◌, ℕ, Bool, true, false, not, ◌&&◌, List, [], ◌∷◌, Option, None, Some, filter, length, slice_get, unwrap_or, ◌↔◌, refl, sym, ap, ◌∙◌, subst, ⊎_elim}
+use Rattle.std.proofs.Common.{◌≡◌, ◌==◌, ℕ, Bool, true, false, not, ◌&&◌, List, Option, None, Some, filter, length, slice_get, unwrap_or, ◌↔◌, refl, sym, ap, ◌∙◌, subst}
 use mathlib.Core.Bool.{false≢true}
 use Rattle.std.specs.List.{flat_map, list_any, Contains}
 use Rattle.std.proofs.lemmas.Bool.{and_parts, eqb-true, eq-eqb}
 use Rattle.std.proofs.lemmas.List.{length-map}
-use Rattle.std.proofs.lemmas.List.Elements.{Contains-append_cases}
 use Rattle.std.proofs.lemmas.Option.{slice_get-get_or}
 use Rattle.std.proofs.lemmas.Slice.Eq.{bytes_eq-Decides}
 use Rattle.event_json.specs.Events.{Content}
@@ -12,39 +11,29 @@ use Rattle.event_json.specs.declared.bodies.Body.{Body}
 use Rattle.event_json.specs.declared.bodies.Body.TheVariants.{Note, Ship, Make}
 use Rattle.trace_core.specs.declared.nodes.Node.{Node}
 use Rattle.trace_core.specs.declared.pairs.Pair.{Pair}
+use Rattle.trace_core.specs.Gathering.{sent_to}
 use Rattle.trace_core.specs.Groups.{outs_of, parts_of, outputs_at}
 use Rattle.trace_core.specs.Nodes.{Stands, sent_nodes, made_nodes, part_nodes, group_nodes}
 use Rattle.trace_core.specs.Numbers.{number_in, numbered, numbers_of, outs_in, outs_at}
 use Rattle.trace_core.specs.Pairs.{make_id}
-use Rattle.trace_core.specs.PairTests.{lists, same_item, ships, gives_out, same_id}
+use Rattle.trace_core.specs.PairTests.{lists, same_item, gives_out, same_id}
 use Rattle.trace_core.specs.Places.{at_place, places_where}
 use Rattle.trace_core.specs.Sites.{SiteEvents}
-use Rattle.trace_core.specs.Spreads.{items_of, output_count}
-use Rattle.trace_core.proofs.GroupSteps.{sends, outs_joined, outs_alone}
+use Rattle.trace_core.specs.Spreads.{output_count}
+use Rattle.trace_core.proofs.GroupSteps.{outs_joined, outs_alone}
 use Rattle.trace_core.proofs.IndexSteps.{outs_numbered}
-use Rattle.trace_core.proofs.Members.{contains_here, contains_there, contains_none, contains-map, contains-flat_map, list_any_witness, list_any_member}
+use Rattle.trace_core.proofs.Members.{contains_none, contains-map, contains-flat_map, list_any_witness, list_any_member}
 use Rattle.trace_core.proofs.NodeSteps.{StandFor}
-use Rattle.trace_core.proofs.NumberLists.{some_is, listed_number, number_stands}
+use Rattle.trace_core.proofs.NumberLists.{some_is, number_or}
 use Rattle.trace_core.proofs.PairTestsDecide.{lists_decides}
 use Rattle.trace_core.proofs.PlaceLists.{contains-filter, contains-from_filter, place_passes}
 use Rattle.trace_core.proofs.RelatedPlaces.{slice_there, joined_in_parts}
-use Rattle.trace_core.proofs.SetMembers.{contains-from_map}
-
-pub contains-from_flat_map : {A B : Type 0} (f : A → List B) (xs : List A) (y : B) → Contains (flat_map f xs) y → (x : A) × Contains xs x × Contains (f x) y
-contains-from_flat_map f [] y h = absurd (contains_none y h)
-contains-from_flat_map f (x ∷ xs) y h = ⊎_elim
-    (λ here. (x, contains_here x xs, here))
-    (λ there. let (z, at, in') = contains-from_flat_map f xs y there in (z, contains_there x z xs at, in'))
-    (Contains-append_cases (f x) (flat_map f xs) y h)
+use Rattle.trace_core.proofs.SetMembers.{contains-from_map, contains-from_flat_map}
 
 given_out : (b : Body) (j : List ℕ) → gives_out j b ≡ lists (outs_in b) j
 given_out (Note items) j = refl
 given_out (Ship items sites outside) j = refl
 given_out (Make id ins outs) j = refl
-
--- the number of a name that is there
-number_or : (names : List (List ℕ)) (j : List ℕ) → lists names j ≡ true → slice_get names (unwrap_or (number_in names j) 0) ≡ Some j
-number_or names j known = let (n, is) = listed_number names j known in ap (λ o. slice_get names (unwrap_or o 0)) is ∙ number_stands names j n is
 
 module _ (sites : List SiteEvents) (s : SiteEvents) (site : ℕ) (at_site : slice_get sites site ≡ Some s) where
   -- a node of the site stands for its item
@@ -127,53 +116,37 @@ module _ (sites : List SiteEvents) (s : SiteEvents) (site : ℕ) (at_site : slic
   some_in_group k b (Some id) n h = let (j, in', at) = contains-from_flat_map (λ k. part_nodes s.me s.events site k) (parts_of s.events b) n h in some_made j n at
 
   module _ (item : ℕ) (i : List ℕ) (numbered_so : slice_get (numbered s.events) item ≡ Some i) where
-    destination_stands : (t : ℕ) → Stands sites (record { site = site; item = item; at = t }) (record { site = t; item = i })
-    destination_stands t = standing item t i numbered_so
-
-    pub some_sent : (ships_too : Bool) (b : Body) (n : Node) → Contains (sent_nodes ships_too s.me site item b) n → (q : Pair) × Stands sites n q
-    some_sent ships_too (Note items) n h = absurd (contains_none n h)
-    some_sent ships_too (Make id ins outs) n h = absurd (contains_none n h)
-    some_sent true (Ship items to outside) n h =
+    pub some_sent : (ships : Bool) (to : List ℕ) (n : Node) → Contains (sent_nodes ships s.me site item to) n → (q : Pair) × Stands sites n q
+    some_sent false to n h = absurd (contains_none n h)
+    some_sent true to n h =
         let (t, in', is) = contains-from_map (λ t. record { site = site; item = item; at = t }) (filter (λ t. not (t == s.me)) to) n h in
-        (record { site = t; item = i }, subst (λ m. Stands sites m (record { site = t; item = i })) is (destination_stands t))
-    some_sent false (Ship items to outside) n h = absurd (contains_none n h)
+        (record { site = t; item = i }, subst (λ m. Stands sites m (record { site = t; item = i })) is (standing item t i numbered_so))
 
-    -- the sites that an event ships the item to
-    pub sent_stand : (ships_too : Bool) (e : Content) (b : Body) → b ≡ e.body → lists (items_of b) i ≡ true → StandFor (Stands sites) (sent_nodes ships_too s.me site item b) (sends ships_too s i e)
-    sent_stand ships_too e b is named q = subst (λ (c : Body). ((n : Node) × Contains (sent_nodes ships_too s.me site item b) n × Stands sites n q) ↔ ((ships_too && (not (q.site == s.me) && (ships i q.site c && same_item i q.item))) ≡ true)) is (of b named ships_too)
+    -- the sites that the item was shipped to
+    pub sent_stand : (ships : Bool) (to : List ℕ) → StandFor (Stands sites) (sent_nodes ships s.me site item to) (λ q. ships && sent_to s.me i to q)
+    sent_stand false to q = (λ (n, h, stand). absurd (contains_none n h), λ h. absurd (false≢true h))
+    sent_stand true to q = (
+      λ (n, h, stand).
+          let (t, in', is) = contains-from_map (λ t. record { site = site; item = item; at = t }) (filter (λ t. not (t == s.me)) to) n h in
+          let (among, other) = contains-from_filter (λ t. not (t == s.me)) to t in' in
+          let (its, place) = stood n q (ap (λ (m : Node). m.site) (sym is)) stand in
+          let there : q.site ≡ t = place ∙ ap (λ (m : Node). m.at) (sym is) in
+          let same : i ≡ q.item = some_is i q.item (sym numbered_so ∙ ap (slice_get (numbered s.events)) (ap (λ (m : Node). m.item) is) ∙ its) in
+          both_true (ap (λ m. not (m == s.me)) there ∙ other)
+          (both_true (list_any_member (λ m. m == q.site) to t among (eq-eqb t q.site (sym there))) ((bytes_eq-Decides i q.item).1 same)),
+      λ passes.
+          let (other, rest) = and_parts (not (q.site == s.me)) (list_any (λ m. m == q.site) to && same_item i q.item) passes in
+          let (any, same) = and_parts (list_any (λ m. m == q.site) to) (same_item i q.item) rest in
+          let (t, among, is) = list_any_witness (λ m. m == q.site) to any in
+          let there : t ≡ q.site = eqb-true t q.site is in (
+            record { site = site; item = item; at = t },
+            contains-map (λ t. record { site = site; item = item; at = t }) (filter (λ t. not (t == s.me)) to) t (contains-filter (λ t. not (t == s.me)) to t among (ap (λ m. not (m == s.me)) there ∙ other)),
+            (s, at_site, numbered_so ∙ ap Some ((bytes_eq-Decides i q.item).0 same), sym there),
+          ),
+    )
       where
-        no_second : (a b : Bool) → (a && (b && false)) ≡ true → ⊥
-        no_second true true h = false≢true h
-        no_second true false h = false≢true h
-        no_second false b h = false≢true h
-
-        of : (b : Body) → lists (items_of b) i ≡ true → (too : Bool) → ((n : Node) × Contains (sent_nodes too s.me site item b) n × Stands sites n q) ↔ ((too && (not (q.site == s.me) && (ships i q.site b && same_item i q.item))) ≡ true)
-        of (Note items) named too = (λ (n, h, stand). absurd (contains_none n h), λ h. absurd (no_second too (not (q.site == s.me)) h))
-        of (Make id ins outs) named too = (λ (n, h, stand). absurd (contains_none n h), λ h. absurd (no_second too (not (q.site == s.me)) h))
-        of (Ship items to outside) named false = (λ (n, h, stand). absurd (contains_none n h), λ h. absurd (false≢true h))
-        of (Ship items to outside) named true = (
-          λ (n, h, stand).
-              let (t, in', is) = contains-from_map (λ t. record { site = site; item = item; at = t }) (filter (λ t. not (t == s.me)) to) n h in
-              let (among, other) = contains-from_filter (λ t. not (t == s.me)) to t in' in
-              let (its, place) = stood n q (ap (λ (m : Node). m.site) (sym is)) stand in
-              let there : q.site ≡ t = place ∙ ap (λ (m : Node). m.at) (sym is) in
-              let same : i ≡ q.item = some_is i q.item (sym numbered_so ∙ ap (slice_get (numbered s.events)) (ap (λ (m : Node). m.item) is) ∙ its) in
-              both_true (ap (λ m. not (m == s.me)) there ∙ other)
-              (both_true (both_true named (list_any_member (λ m. m == q.site) to t among (eq-eqb t q.site (sym there)))) ((bytes_eq-Decides i q.item).1 same)),
-          λ passes.
-              let (other, rest) = and_parts (not (q.site == s.me)) (ships i q.site (Ship items to outside) && same_item i q.item) passes in
-              let (shipped, same) = and_parts (ships i q.site (Ship items to outside)) (same_item i q.item) rest in
-              let (listed, any) = and_parts (lists items i) (list_any (λ m. m == q.site) to) shipped in
-              let (t, among, is) = list_any_witness (λ m. m == q.site) to any in
-              let there : t ≡ q.site = eqb-true t q.site is in (
-                record { site = site; item = item; at = t },
-                contains-map (λ t. record { site = site; item = item; at = t }) (filter (λ t. not (t == s.me)) to) t (contains-filter (λ t. not (t == s.me)) to t among (ap (λ m. not (m == s.me)) there ∙ other)),
-                (s, at_site, numbered_so ∙ ap Some ((bytes_eq-Decides i q.item).0 same), sym there),
-              ),
-        )
-          where
-            both_true : {a b : Bool} → a ≡ true → b ≡ true → (a && b) ≡ true
-            both_true {a} {b} first second = ap (λ c. c && b) first ∙ second
+        both_true : {a b : Bool} → a ≡ true → b ≡ true → (a && b) ≡ true
+        both_true {a} {b} first second = ap (λ c. c && b) first ∙ second
 
 counted : (b : Body) → length (outs_in b) ≡ output_count b
 counted (Note items) = refl

@@ -4,33 +4,18 @@ use mathlib.Core.Bool.{false≢true}
 use mathlib.Core.Logic.{◌⊎◌}
 use Rattle.std.specs.BTreeMap.{is_at}
 use Rattle.std.specs.BTreeSet.{BTreeSet}
-use Rattle.std.specs.List.{Contains, list_any}
+use Rattle.std.specs.List.{list_any}
 use Rattle.std.proofs.lemmas.Bool.{cases_eq, cases_lt}
 use Rattle.std.proofs.lemmas.Option.{slice_get-get_or, slice_get_cases, get_or_from_slice_get}
-use Rattle.std.proofs.lemmas.Map.Views.{btree_set_contains_iff}
 use Rattle.trace_core.specs.declared.groups.Group.{Group}
 use Rattle.trace_core.specs.declared.pairs.Pair.{Pair}
 use Rattle.std.specs.Borrow.{Bor}
 use Rattle.std.proofs.lemmas.List.{length-map, get_or-map}
 use Rattle.trace_core.specs.Chains.{Related, RelatesFrom, sites_at}
 use Rattle.trace_core.specs.Groups.{group_cmp, Gives, IsGiven, IsGivenBy, AddsUnseen, SeesOnly}
-use Rattle.trace_core.specs.Pairs.{pair_cmp}
-use Rattle.trace_core.specs.Searches.{IsFound, AreUnseen}
+use Rattle.trace_core.specs.Searches.{IsFound}
 use Rattle.trace_core.specs.Sites.{SiteEvents}
-use Rattle.trace_core.proofs.GroupSteps.{adds_both, adds_same, adds_none}
-use Rattle.trace_core.proofs.PairOrder.{pairs_total, pairs_exact}
-
--- what is gathered
-pub gathered : (G : BTreeSet Group → Pair → Type 0) (R : Pair → Type 0) (seen seen' : BTreeSet Group) (none targets : BTreeSet Pair) (nodes : List Pair) → none.keys ≡ [] → AddsUnseen G R seen seen' (IsFound pair_cmp none) (IsFound pair_cmp targets) → nodes ≡ targets.keys → AreUnseen R G seen seen' nodes
-gathered G R seen seen' none targets nodes empty added keys =
-    let not_before : (n : Pair) → IsFound pair_cmp none n → ⊥ = λ n h. false≢true (subst (λ ks. list_any (is_at (pair_cmp n)) ks ≡ true) empty h) in
-    let listed : (n : Pair) → IsFound pair_cmp targets n → Contains nodes n = λ n h. subst (λ ks. Contains ks n) (sym keys) ((btree_set_contains_iff pairs_total pairs_exact targets n).0 h) in
-    let there : (n : Pair) → Contains nodes n → IsFound pair_cmp targets n = λ n h. (btree_set_contains_iff pairs_total pairs_exact targets n).1 (subst (λ ks. Contains ks n) keys h) in
-    record {
-      sound = λ n h. ⊎_elim (λ before. absurd (not_before n before)) (λ r. r) (added.sound n (there n h));
-      complete = λ n r. ⊎_elim (λ found. inl (listed n found)) (λ before. inr before) (added.complete n r);
-      given = λ n h. ⊎_elim (λ before. inl before) (λ found. inr (listed n found)) (added.given n h);
-    }
+use Rattle.trace_core.proofs.GroupSteps.{adds_both, adds_same}
 
 -- no transformation gives anything
 pub none_given : (s : SiteEvents) (site : ℕ) (none : BTreeSet Group) → none.keys ≡ [] → (q : Pair) → IsGiven s site none q → ⊥
@@ -72,9 +57,6 @@ module _ (sites : List SiteEvents) (node : Pair) where
         (added.given q (first, subst (λ m. IsFound group_cmp b (record { site = m; first = first })) same there, subst (λ (u : SiteEvents). Gives u first q) one gives)))
         (only (record { site = k; first = first }) there);
   }
-
-  pub no_site : (a : BTreeSet Group) (x : Pair → Type 0) → AddsUnseen (IsGivenBy sites) (BySites 0) a a x x
-  no_site a x = adds_none (IsGivenBy sites) (BySites 0) a x (λ q (k, s, below, at, related). omega (arith, below))
 
   -- one site more
   pub one_site : (n : ℕ) (s : SiteEvents) (a b c : BTreeSet Group) (x y z : Pair → Type 0) → slice_get sites n ≡ Some s → AddsUnseen (IsGivenBy sites) (BySites n) a b x y

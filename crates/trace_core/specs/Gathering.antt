@@ -11,6 +11,10 @@ use Rattle.trace_core.specs.PairTests.{same_item, ships, takes_in, gives_out, sa
 abbrev pub is_in : BTreeSet Pair → Pair → Bool
 is_in pairs p = contains pair_cmp pairs p
 
+-- the item at one of the sites, but for the own one
+abbrev pub sent_to : ℕ → List ℕ → List ℕ → Pair → Bool
+sent_to me item sites p = not (p.site == me) && (list_any (λ s. s == p.site) sites && same_item item p.item)
+
 -- shipped by this event
 abbrev pub shipped_by : ℕ → List ℕ → Body → Pair → Bool
 shipped_by me item body p = not (p.site == me) && (ships item p.site body && same_item item p.item)

@@ -1,5 +1,5 @@
 -- Transformations that a search comes to once: all parts of one id at a site, or one without an id.
-use Rattle.std.specs.Prelude.{◌≡◌, ◌≤◌, ◌+◌, ℕ, Bool, true, false, ◌&&◌, ◌||◌, cond, List, Option, None, Some, slice_get, sum_by, suc, ◌↔◌, [], ◌∷◌, ◌++◌, map}
+use Rattle.std.specs.Prelude.{◌≡◌, ◌≤◌, ◌+◌, ◌==◌, ℕ, Bool, true, false, ◌&&◌, ◌||◌, cond, List, Option, None, Some, slice_get, sum_by, suc, ◌↔◌, [], ◌∷◌, ◌++◌, map}
 use mathlib.Core.Logic.{◌⊎◌}
 use Rattle.std.specs.BTreeSet.{BTreeSet, contains}
 use Rattle.std.specs.List.{enumerate_from}
@@ -9,7 +9,7 @@ use Rattle.event_json.specs.Events.{Content}
 use Rattle.event_json.specs.declared.bodies.Body.{Body}
 use Rattle.trace_core.specs.declared.groups.Group.{Group}
 use Rattle.trace_core.specs.declared.pairs.Pair.{Pair}
-use Rattle.trace_core.specs.Gathering.{joined_by, shipped_by, made_by}
+use Rattle.trace_core.specs.Gathering.{joined_by}
 use Rattle.trace_core.specs.Pairs.{make_id, IsMade, IsRelated}
 use Rattle.trace_core.specs.PairTests.{gives_out, same_id}
 use Rattle.trace_core.specs.Places.{at_place, places_where}
@@ -91,9 +91,9 @@ pub record LooksAtUnseen (site : ℕ) (events : List Content) (seen seen' : BTre
   pub least : looks ≤ looks'
   pub most : looks' + unseen_outputs site events seen' ≤ looks + unseen_outputs site events seen
 
--- related by this event; inside the site alone, where shipments aren't asked for
-abbrev pub sought_by : Bool → ℕ → List Content → List ℕ → Body → Pair → Bool
-sought_by ships me events item b q = (ships && shipped_by me item b q) || made_by me events item b q
+-- an output, at the own site, of the transformation whose part stands at the place
+abbrev pub made_at : ℕ → List Content → ℕ → Pair → Bool
+made_at me events place q = at_place (λ e. q.site == me && outs_of events q.item e.body) (slice_get events place)
 
 abbrev pub IsSought : Bool → SiteEvents → List ℕ → Pair → Type 0
 IsSought true s item q = IsRelated s item q

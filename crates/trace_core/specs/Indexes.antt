@@ -9,16 +9,17 @@ use Rattle.trace_core.specs.declared.event_items.Members.{Members}
 use Rattle.trace_core.specs.declared.items.Named.{Named}
 use Rattle.trace_core.specs.Numbers.{numbered, with_names, names_of, item_places, HasMembers}
 use Rattle.trace_core.specs.PairTests.{lists}
-use Rattle.trace_core.specs.Places.{text_places, names_item, has_id, has_part, IsIndex, Notes, NotesSome, Forgets, KeepsNone}
+use Rattle.trace_core.specs.Sendings.{HasSent}
+use Rattle.trace_core.specs.Places.{text_places, takes_item, has_id, has_part, IsIndex, Notes, NotesSome, Forgets, KeepsNone}
 
 -- the places of eventIDs and of the ids of transformations are those of the events
 pub record HasIds (by_id by_part : BTreeMap (String Global) (List ℕ)) (events : List Content) : Type 0 where
   pub ids : IsIndex (text_places by_id) has_id events
   pub parts : IsIndex (text_places by_part) has_part events
 
--- the items are those of the events, with their numbers and places
+-- the items are those of the events, with their numbers and the places of what takes them in
 pub record HasItems (named : List Named) (its_members : List Members) (events : List Content) : Type 0 where
-  pub places : IsIndex (item_places named) names_item events
+  pub places : IsIndex (item_places named) takes_item events
   pub names : names_of named ≡ numbered events
   pub members : HasMembers events its_members
 
@@ -26,15 +27,31 @@ pub record HasItems (named : List Named) (its_members : List Members) (events : 
 pub record HasPlaces (index : Index) (events : List Content) : Type 0 where
   pub items : HasItems index.items index.members.items events
   pub ids : HasIds index.ids index.parts events
+  pub sent : HasSent events index.sent index.counts.items
 
--- the last place is noted for these items
-pub record NotesItems (old new : List Named) (place : ℕ) (items : List (List ℕ)) : Type 0 where
-  pub noted : Notes (item_places old) (item_places new) place (lists items)
+-- what takes items in stays
+abbrev pub SamePlaces : List Named → List Named → Type 0
+SamePlaces old new = (i : List ℕ) → item_places new i ≡ item_places old i
+
+-- these items have numbers
+pub record KnowsItems (old new : List Named) (items : List (List ℕ)) : Type 0 where
+  pub same : SamePlaces old new
   pub names : names_of new ≡ with_names (names_of old) items
 
--- it is noted for some of them
-pub record NotesSomeItems (old new : List Named) (place : ℕ) (items : List (List ℕ)) : Type 0 where
-  pub noted : NotesSome (item_places old) (item_places new) place (lists items)
+-- some items more have numbers
+pub record KnowsSomeItems (old new : List Named) : Type 0 where
+  pub same : SamePlaces old new
+  pub more : List (List ℕ)
+  pub names : names_of new ≡ names_of old ++ more
+
+-- these items have numbers, and the last place is noted for these inputs
+pub record NotesItems (old new : List Named) (place : ℕ) (items ins : List (List ℕ)) : Type 0 where
+  pub noted : Notes (item_places old) (item_places new) place (lists ins)
+  pub names : names_of new ≡ with_names (names_of old) items
+
+-- it is noted for some of them, and some items more have numbers
+pub record NotesSomeItems (old new : List Named) (place : ℕ) (ins : List (List ℕ)) : Type 0 where
+  pub noted : NotesSome (item_places old) (item_places new) place (lists ins)
   pub more : List (List ℕ)
   pub names : names_of new ≡ names_of old ++ more
 

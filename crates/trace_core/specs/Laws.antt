@@ -64,7 +64,7 @@ pub record IsTakenAt (before given : List Content) (place : ℕ) : Type 0 where
   pub used : Any (λ f. HaveOneId f.id event.id) (before ++ front)
   pub other : Contains (before ++ front) event → ⊥
 
--- n is the first such place, told from 1
+-- n is the first such place, reported from 1
 abbrev pub IsFirstTaken : List Content → List Content → ℕ → Type 0
 IsFirstTaken before given n = (place : ℕ) × (n ≡ place + 1) × IsTakenAt before given place × ((earlier : ℕ) → earlier < place → IsTakenAt before given earlier → ⊥)
 
@@ -80,7 +80,8 @@ Keeps seen (e ∷ es) more =
     ((rest : List Content) × (Any (λ f. HaveOneId f.id e.id) seen → ⊥) × (more ≡ e ∷ rest) × Keeps (seen ++ e ∷ []) es rest)
     ⊎ (Contains seen e × Any (λ f. HaveOneId f.id e.id) seen × Keeps (seen ++ e ∷ []) es more)
 
--- of a document that isn't refused the fresh events are kept, behind those before it, and as many are told as fresh; all others are known
+-- of a document that isn't refused the fresh events are kept, behind those before it, and as many are reported as fresh; all others are
+-- known
 abbrev pub AddingKeepsFresh : Type 0
 AddingKeepsFresh =
     (before given : List Content) (a : Addition) → adding before given ≡ Ok a

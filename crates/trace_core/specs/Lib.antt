@@ -1,4 +1,5 @@
 pub mod Adding
+pub mod Beyond
 pub mod Chains
 pub mod Found
 pub mod Gathering
@@ -11,9 +12,11 @@ pub mod Nodes
 pub mod Numbers
 pub mod PairTests
 pub mod Pairs
+pub mod Parts
 pub mod Places
 pub mod Relations
 pub mod Searches
+pub mod Sendings
 pub mod Sites
 pub mod Spreads
 pub mod Targets

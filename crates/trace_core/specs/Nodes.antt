@@ -1,16 +1,16 @@
 -- Pairs as a search keeps them, by numbers.
-use Rattle.std.specs.Prelude.{◌≡◌, ◌≢◌, ◌==◌, ℕ, Bool, not, cond, List, [], ◌++◌, Option, None, Some, map, filter, slice_get, AllPairs, Contains}
+use Rattle.std.specs.Prelude.{◌≡◌, ◌≢◌, ◌==◌, ◌↔◌, ℕ, Bool, true, not, cond, List, [], ◌++◌, Option, None, Some, map, filter, slice_get, AllPairs, Contains}
 use Rattle.std.specs.BTreeSet.{BTreeSet}
 use Rattle.std.specs.List.{flat_map}
 use Rattle.event_json.specs.Events.{Content}
 use Rattle.event_json.specs.declared.bodies.Body.{Body}
-use Rattle.event_json.specs.declared.bodies.Body.TheVariants.{Note, Ship, Make}
 use Rattle.trace_core.specs.declared.groups.Group.{Group}
 use Rattle.trace_core.specs.declared.nodes.Node.{Node}
 use Rattle.trace_core.specs.declared.pairs.Pair.{Pair}
 use Rattle.trace_core.specs.Groups.{AddsUnseen, parts_of}
 use Rattle.trace_core.specs.Numbers.{number_in, numbered, outs_at}
 use Rattle.trace_core.specs.Relations.{Reaches}
+use Rattle.trace_core.specs.Sendings.{IsSentTo}
 use Rattle.trace_core.specs.Sites.{SiteEvents}
 
 -- the node stands for the pair: the site at its place numbered the pair's item so
@@ -37,11 +37,15 @@ pub record NotesNodes (old new nodes : List Node) : Type 0 where
 abbrev pub destinations : ℕ → ℕ → ℕ → List ℕ → List Node
 destinations me site item sites = map (λ t. record { site = site; item = item; at = t }) (filter (λ t. not (t == me)) sites)
 
--- an item at each other site that it was shipped to, where shipments are asked for
-abbrev pub sent_nodes : Bool → ℕ → ℕ → ℕ → Body → List Node
-sent_nodes ships me site item (Note items) = []
-sent_nodes ships me site item (Ship items sites outside) = cond ships (destinations me site item sites) []
-sent_nodes ships me site item (Make id ins outs) = []
+-- those, where shipments are asked for
+abbrev pub sent_nodes : Bool → ℕ → ℕ → ℕ → List ℕ → List Node
+sent_nodes ships me site item sites = cond ships (destinations me site item sites) []
+
+-- an item is noted at each other site that it was shipped to, where shipments are asked for
+pub record NotesSent (ships : Bool) (me : ℕ) (events : List Content) (site item : ℕ) (i : List ℕ) (old new : List Node) : Type 0 where
+  pub sites : List ℕ
+  pub all : ships ≡ true → (t : ℕ) → Contains sites t ↔ IsSentTo events i t
+  pub noted : NotesNodes old new (sent_nodes ships me site item sites)
 
 -- items at the own site
 abbrev pub made_nodes : ℕ → ℕ → List ℕ → List Node

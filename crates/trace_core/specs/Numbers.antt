@@ -62,15 +62,13 @@ changed_at f n [] = []
 changed_at f zero (x ∷ xs) = record x { places = f x.places } ∷ xs
 changed_at f (suc n) (x ∷ xs) = x ∷ changed_at f n xs
 
+-- with this item, which is new if it isn't known
+abbrev pub known_too : List ℕ → List Named → List Named
+known_too i named = cond (lists (names_of named) i) named (named ++ record { name = i; places = [] } ∷ [])
+
 -- with this place of an item, which is new if it isn't known
 abbrev pub noted : ℕ → List ℕ → List Named → List Named
 noted place i named = cond (lists (names_of named) i) (changed (with_last place) i named) (named ++ record { name = i; places = place ∷ [] } ∷ [])
-
--- the inputs of a transformation
-abbrev pub ins_in : Body → List (List ℕ)
-ins_in (Note items) = []
-ins_in (Ship items sites outside) = []
-ins_in (Make id ins outs) = ins
 
 -- the outputs of a transformation
 abbrev pub outs_in : Body → List (List ℕ)
@@ -78,9 +76,11 @@ outs_in (Note items) = []
 outs_in (Ship items sites outside) = []
 outs_in (Make id ins outs) = outs
 
--- its inputs and then its outputs
-abbrev pub members_in : Body → List (List ℕ)
-members_in b = ins_in b ++ outs_in b
+-- the items that an event ships or makes
+abbrev pub moved_in : Body → List (List ℕ)
+moved_in (Note items) = []
+moved_in (Ship items sites outside) = items
+moved_in (Make id ins outs) = outs
 
 -- the numbers of known items
 abbrev pub numbers_of : List (List ℕ) → List (List ℕ) → List ℕ
@@ -94,8 +94,7 @@ outs_at events (Some e) = numbers_of (numbered events) (outs_in e.body)
 -- what is kept of the event at a place
 pub record IsMembers (events : List Content) (k : ℕ) (e : Content) (m : Members) : Type 0 where
   pub known : m.known ≡ length (numbered (take k events))
-  pub ins : m.ins ≡ length (ins_in e.body)
-  pub numbers : m.numbers ≡ numbers_of (numbered events) (members_in e.body)
+  pub outs : m.outs ≡ numbers_of (numbered events) (outs_in e.body)
 
 pub record HasMembers (events : List Content) (members : List Members) : Type 0 where
   pub count : length members ≡ length events

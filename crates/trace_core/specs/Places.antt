@@ -7,7 +7,7 @@ use Rattle.std.specs.declared.alloc.Global.{Global}
 use Rattle.event_json.specs.Events.{Content}
 use Rattle.trace_core.specs.PairTests.{lists, same_item, same_id}
 use Rattle.trace_core.specs.Pairs.{make_id}
-use Rattle.trace_core.specs.Spreads.{items_of}
+use Rattle.trace_core.specs.Spreads.{items_of, ins_in}
 
 -- the places, from 0, of those that pass, ascending
 abbrev pub places_where : {X : Type 0} → (X → Bool) → List X → List ℕ
@@ -47,6 +47,10 @@ text_places index text = get_by_text index text
 -- the event names the item
 abbrev pub names_item : List ℕ → Content → Bool
 names_item item e = lists (items_of e.body) item
+
+-- the event is a transformation that takes the item in
+abbrev pub takes_item : List ℕ → Content → Bool
+takes_item item e = lists (ins_in e.body) item
 
 -- the event has the eventID
 abbrev pub has_id : List ℕ → Content → Bool

@@ -29,6 +29,12 @@ items_of (Note items) = items
 items_of (Ship items sites outside) = items
 items_of (Make id ins outs) = ins ++ outs
 
+-- the inputs of a transformation
+abbrev pub ins_in : Body → List (List ℕ)
+ins_in (Note items) = []
+ins_in (Ship items sites outside) = []
+ins_in (Make id ins outs) = ins
+
 -- how many output members an event has
 abbrev pub output_count : Body → ℕ
 output_count (Note items) = 0

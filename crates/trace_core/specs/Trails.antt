@@ -1,12 +1,11 @@
--- A chain of related pairs between two pairs.
-use Rattle.std.specs.Prelude.{◌≡◌, ◌≢◌, ℕ, suc, ◌<◌, ◌≤◌, List, [], ◌∷◌, ◌++◌, map, length, get_or, All, AllPairs, Contains}
-use Rattle.std.specs.BTreeSet.{BTreeSet}
+-- A chain of related pairs between two pairs, and the steps of a search that leave one to each pair.
+use Rattle.std.specs.Prelude.{◌≡◌, ◌≢◌, ℕ, suc, ◌<◌, ◌≤◌, List, [], ◌∷◌, ◌++◌, Option, None, Some, map, length, get_or, All, AllPairs, Contains}
+use Rattle.std.specs.BTreeMap.{BTreeMap, get}
 use Rattle.trace_core.specs.declared.pairs.Pair.{Pair}
-use Rattle.trace_core.specs.declared.trails.Step.{Step}
+use Rattle.trace_core.specs.declared.steps.Step.{Step}
 use Rattle.trace_core.specs.Chains.{Related}
 use Rattle.trace_core.specs.Pairs.{pair_cmp}
-use Rattle.trace_core.specs.Relations.{IsChain, last_of, Chain}
-use Rattle.trace_core.specs.Searches.{IsFound, NotesAll}
+use Rattle.trace_core.specs.Relations.{IsChain, last_of, Chain, Reaches}
 use Rattle.trace_core.specs.Sites.{SiteEvents}
 
 -- the pairs begin with the root and end with the target, and each is related to the next
@@ -21,6 +20,12 @@ HaveNoRepeats pairs = AllPairs (λ p q. p ≢ q) pairs
 abbrev pub IsShortest : List SiteEvents → Pair → Pair → List Pair → Type 0
 IsShortest sites root target pairs = (n : ℕ) → Chain (Related sites) root n target → length pairs ≤ suc n
 
+-- a chain of related pairs from the root to the pair, without repeats and with as few pairs as any; none exactly where
+-- no chain leads there
+abbrev pub TellsTrail : List SiteEvents → Pair → Pair → Option (List Pair) → Type 0
+TellsTrail sites root p None = Reaches (Related sites) root p → ⊥
+TellsTrail sites root p (Some trail) = IsTrail sites root p trail × HaveNoRepeats trail × IsShortest sites root p trail
+
 -- this step stands at the place
 abbrev pub IsAt : List Step → ℕ → Step → Type 0
 IsAt steps place step = (place < length steps) × (get_or steps place step ≡ step)
@@ -28,6 +33,15 @@ IsAt steps place step = (place < length steps) × (get_or steps place step ≡ s
 -- the pairs of steps
 abbrev pub pairs_of : List Step → List Pair
 pairs_of steps = map (λ s. s.pair) steps
+
+-- the pair's step stands at the place; it has none where there is no place
+abbrev pub IsPlaceOf : List Step → Pair → Option ℕ → Type 0
+IsPlaceOf steps q None = Contains (pairs_of steps) q → ⊥
+IsPlaceOf steps q (Some k) = (s : Step) × IsAt steps k s × (s.pair ≡ q)
+
+-- the map has the place of each step's pair, and no other
+abbrev pub ArePlaces : BTreeMap Pair ℕ → List Step → Type 0
+ArePlaces places steps = (q : Pair) → IsPlaceOf steps q (get pair_cmp places q)
 
 -- each step but the first has an earlier one before it
 abbrev pub GoBack : List Step → Type 0
@@ -44,10 +58,26 @@ abbrev pub IsTraced : List Step → ℕ → ℕ → List Pair → Type 0
 IsTraced steps place last pairs =
     (step : Step) × (rest : List (ℕ × Step)) × IsPath steps ((place, step) ∷ rest) last × (pairs ≡ map (λ a. a.1.pair) ((place, step) ∷ rest))
 
--- the targets are noted as steps from a place, those that weren't seen before
-pub record NotesSteps (old new : List Step) (seen seen' : BTreeSet Pair) (from : ℕ) (targets : List Pair) : Type 0 where
+-- the targets are noted as steps from a place, those that have none
+pub record NotesSteps (old new : List Step) (from : ℕ) (targets : List Pair) : Type 0 where
   pub added : List Step
   pub appended : new ≡ old ++ added
   pub from_place : All (λ s. (s.from ≡ from) × Contains targets s.pair) added
-  pub notes : NotesAll pair_cmp seen seen' (pairs_of old) (pairs_of new) targets
-  pub apart : ((q : Pair) → Contains (pairs_of old) q → IsFound pair_cmp seen q) → HaveNoRepeats (pairs_of old) → HaveNoRepeats (pairs_of new)
+  pub noted : (q : Pair) → Contains targets q → Contains (pairs_of new) q
+  pub apart : HaveNoRepeats (pairs_of old) → HaveNoRepeats (pairs_of new)
+
+-- a step has the pair, and was found from this place or an earlier one
+abbrev pub IsNear : List Step → ℕ → Pair → Type 0
+IsNear steps k q = (j : ℕ) × (t : Step) × IsAt steps j t × (t.pair ≡ q) × (t.from ≤ k)
+
+-- the steps of a search from the root, nearest first, that has followed R from each step before the place
+pub record AreSteps (R : Pair → Pair → Type 0) (root : Pair) (place : ℕ) (steps : List Step) : Type 0 where
+  pub begun : (s : Step) → IsAt steps 0 s → s.pair ≡ root
+  pub some : 0 < length steps
+  pub back : GoBack steps
+  pub linked : (k : ℕ) (s t : Step) → IsAt steps k t → k ≢ 0 → IsAt steps t.from s → R s.pair t.pair
+  pub apart : HaveNoRepeats (pairs_of steps)
+  pub within : place ≤ length steps
+  pub mono : (j k : ℕ) (s t : Step) → IsAt steps j s → IsAt steps k t → j ≤ k → s.from ≤ t.from
+  pub behind : (k : ℕ) (s : Step) → IsAt steps k s → s.from ≤ place
+  pub near : (k : ℕ) (s : Step) → IsAt steps k s → k < place → (q : Pair) → R s.pair q → IsNear steps k q

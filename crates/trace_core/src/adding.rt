@@ -1,3 +1,4 @@
+//! How the events of a document are judged, and added whole or not at all.
 ghost use Rattle.std.specs.Prelude.{◌≡◌, Ok, IfOk, IfErr, OnErr, length, take};
 ghost use Rattle.trace_core.specs.Adding.{standing_among, with_fresh, adding, FaultOf};
 
@@ -62,7 +63,7 @@ pub fn append_fresh(events: &mut Book, given: Vec<Event>) -> Result<Added, AddFa
     Ok(added)
 }
 
-/// Adds an event if it is fresh, and tells how it stood.
+/// Adds an event if it is fresh, and returns how it stood.
 pub fn add_if_fresh(events: &mut Book, event: Event) -> Result<Standing, AllocError>
     ensures standing { IfOk result (λ standing. standing ≡ standing_among events.old event) }
     ensures ok { IfOk result (λ standing. events.new ≡ with_fresh events.old event standing) }

@@ -1,3 +1,4 @@
+//! The pairs that found nodes stand for, batch by batch.
 ghost use Rattle.std.specs.Prelude.{◌≡◌, ◌⊎◌, ◌↔◌, List, ℕ, Some, IfOk, OnOk, Contains, slice_get};
 ghost use Rattle.trace_core.specs.declared.nodes.Node.{Node};
 ghost use Rattle.trace_core.specs.declared.pairs.Pair.{Pair};

@@ -1,17 +1,22 @@
-ghost use Rattle.std.specs.Prelude.{◌≡◌, ◌++◌, ◌∷◌, [], ◌-◌, ℕ, List, Some, IfOk, OnOk, OnErr, length, take, slice_get, option_map};
+//! Events in the order in which they came, with the index that is kept of them.
+ghost use Rattle.std.specs.Prelude.{◌≡◌, ◌↔◌, ◌++◌, ◌∷◌, [], ◌-◌, ℕ, List, Some, IfOk, OnOk, OnErr, Contains, length, take, slice_get, option_map};
 ghost use Rattle.std.specs.List.{list_any};
 ghost use Rattle.event_json.specs.Contents.{same_content};
 ghost use Rattle.trace_core.specs.Adding.{standing_among};
+ghost use Rattle.trace_core.specs.Groups.{outputs_at};
+ghost use Rattle.trace_core.specs.Looks.{more_looks, LooksAtMost};
 ghost use Rattle.trace_core.specs.Numbers.{IsNumbered, numbered, number_in, outs_at};
 ghost use Rattle.trace_core.specs.Pairs.{make_id};
-ghost use Rattle.trace_core.specs.PairTests.{same_id, takes_in};
-ghost use Rattle.trace_core.specs.Places.{at_place, names_item, places_where};
+ghost use Rattle.trace_core.specs.PairTests.{same_id};
+ghost use Rattle.trace_core.specs.Places.{at_place, names_item, takes_item, places_where};
+ghost use Rattle.trace_core.specs.Sendings.{IsSentTo};
 
 use crate::adding::Standing;
 use crate::ids::places_of_id;
 use crate::indexes::Index;
+use crate::looks::count_looks;
 use epc_core::Epc;
-use event_json::{Event, PlainText};
+use event_json::{Event, PlainText, SiteNo};
 use std::alloc::{AllocError, Global};
 use std::collections::BTreeMap;
 use std::marker::Model;
@@ -36,7 +41,7 @@ impl Model for Book {
 }
 
 impl Book {
-    /// No events. Takes no memory.
+    /// No events. Does not allocate.
     pub fn new(alloc: Global) -> Book
         ensures { result ≡ [] }
     {
@@ -60,7 +65,7 @@ impl Book {
         self.events.get(place)
     }
 
-    /// What memory is taken from.
+    /// What memory is allocated from.
     pub fn alloc(&self) -> Global {
         *self.events.allocator()
     }
@@ -77,7 +82,7 @@ impl Book {
         Ok(())
     }
 
-    /// Leaves the first events alone. It costs the events that go, and takes no memory.
+    /// Leaves the first events alone. It costs the events that go, and does not allocate.
     pub fn truncate(&mut self, kept: usize)
         ensures { self.new ≡ take kept self.old }
     {
@@ -86,20 +91,13 @@ impl Book {
         }
     }
 
-    /// Takes the last event away. Takes no memory.
+    /// Takes the last event away. Does not allocate.
     fn pop(&mut self)
         ensures { self.new ≡ take (length self.old - 1) self.old }
     {
         if let Some(event) = self.events.pop() {
             self.index.forget(&event, self.events.len());
         }
-    }
-
-    /// The places of the events that name an item, ascending.
-    pub fn places_of(&self, item: &Epc) -> &[usize]
-        ensures { result.now ≡ places_where (names_item item.now) self.now }
-    {
-        self.index.items.places_of(item)
     }
 
     /// The number of an item that an event names, in the order in which items are first named.
@@ -130,30 +128,57 @@ impl Book {
         self.index.items.numbers()
     }
 
-    /// The places of the events that name the item of a number, ascending.
-    pub fn places_at(&self, number: usize) -> &[usize]
-        ensures { (i : List ℕ) → slice_get (numbered self.now) number ≡ Some i → result.now ≡ places_where (names_item i) self.now }
+    /// The places of the transformations that take the item of a number in, ascending.
+    pub fn takers_at(&self, number: usize) -> &[usize]
+        ensures { (i : List ℕ) → slice_get (numbered self.now) number ≡ Some i
+            → result.now ≡ places_where (takes_item i) self.now }
     {
         self.index.items.places_at(number)
     }
 
-    /// The numbers of the outputs of the event at a place, none where there is no transformation.
-    pub fn outs_at(&self, place: usize) -> &[usize]
-        ensures { result.now ≡ outs_at self.now (slice_get self.now place) }
+    /// The places of the transformations that take an item in, ascending; none if it isn't known.
+    pub fn takers_of(&self, item: &Epc) -> &[usize]
+        ensures { result.now ≡ places_where (takes_item item.now) self.now }
     {
-        match self.index.members_at(place) {
-            Some(members) => members.outs(),
+        self.index.items.places_of(item)
+    }
+
+    /// The sites that the item of a number was shipped to, in the order in which events first ship it there.
+    pub fn sites_at(&self, number: usize) -> &[SiteNo]
+        ensures { (i : List ℕ) → slice_get (numbered self.now) number ≡ Some i → (t : ℕ)
+            → Contains result.now t ↔ IsSentTo self.now i t }
+    {
+        self.index.sent.sites_of(number)
+    }
+
+    /// The sites that an item was shipped to, none if it isn't known.
+    pub fn sites_of(&self, item: &Epc) -> &[SiteNo]
+        ensures { (t : ℕ) → Contains result.now t ↔ IsSentTo self.now item.now t }
+    {
+        match self.number_of(item) {
+            Some(number) => self.sites_at(number),
             None => &[],
         }
     }
 
-    /// Whether the event at a place is a transformation with the item of a number among its inputs.
-    pub fn takes_at(&self, place: usize, number: usize) -> bool
-        ensures { (i : List ℕ) → slice_get (numbered self.now) number ≡ Some i → result ≡ at_place (λ e. takes_in i e.body) (slice_get self.now place) }
+    /// The numbers of the outputs of the event at a place, none where there is no transformation. Each is a look.
+    pub fn outs_at(&self, place: usize, looks: &mut u64) -> &[usize]
+        ensures outs { result.now ≡ outs_at self.now (slice_get self.now place) }
+        ensures counted { looks.new ≡ more_looks (outputs_at (slice_get self.now place)) looks.old }
+        ensures bounded { LooksAtMost (outputs_at (slice_get self.now place)) looks.old looks.new }
+    {
+        let outs = self.kept_outs(place);
+        count_looks(looks, outs.len());
+        outs
+    }
+
+    /// The numbers that are kept of the outputs of the event at a place.
+    fn kept_outs(&self, place: usize) -> &[usize]
+        ensures { result.now ≡ outs_at self.now (slice_get self.now place) }
     {
         match self.index.members_at(place) {
-            Some(members) => members.ins().contains(&number),
-            None => false,
+            Some(members) => members.outs.as_slice(),
+            None => &[],
         }
     }
 
@@ -164,7 +189,7 @@ impl Book {
         places_of_id(&self.index.parts, id)
     }
 
-    /// How an event stands among these. It costs those of its eventID, and takes no memory.
+    /// How an event stands among these. It costs those of its eventID, and does not allocate.
     pub fn standing(&self, event: &Event) -> Standing
         ensures { result ≡ standing_among self.now event.now }
     {
@@ -195,11 +220,11 @@ impl Book {
         }
     }
 
-    /// Whether an event names the item. Takes no memory.
+    /// Whether an event names the item, which has a number then. Does not allocate.
     pub fn mentions(&self, item: &Epc) -> bool
         ensures { result ≡ list_any (names_item item.now) self.now }
     {
-        !self.places_of(item).is_empty()
+        self.number_of(item).is_some()
     }
 
     /// An equal book.

@@ -1,15 +1,18 @@
+//! The events that a site has captured, and what they relate.
 ghost use Rattle.std.specs.Prelude.{◌≡◌, ◌↔◌, ◌<◌, ◌++◌, ◌∷◌, ℕ, [], Ok, IfOk, IfErr, OnOk, OnErr, IsTrue, Any, AllPairs, Contains, length, take, slice_get, option_map};
 ghost use Rattle.trace_core.specs.declared.pairs.Pair.{Pair};
 ghost use Rattle.trace_core.specs.Adding.{standing_among, with_fresh, adding, FaultOf};
-ghost use Rattle.trace_core.specs.Pairs.{IsRelated, IsStrictlyAscending};
+ghost use Rattle.trace_core.specs.Pairs.{IsRelated, IsShipped, IsStrictlyAscending};
 ghost use Rattle.trace_core.specs.Places.{IsPartAt};
 ghost use Rattle.trace_core.specs.Spreads.{items_of};
 
 use crate::adding::{AddFault, Added, Standing, add_if_fresh, append_fresh};
 use crate::books::Book;
-use crate::gathering::gather;
+use crate::gathering::gather_at_sites;
 use crate::ordered_keys::keys_in_order;
 use crate::pairs::Pair;
+use crate::seen::Seen;
+use crate::targets::unseen_targets;
 use epc_core::Epc;
 use event_json::{Event, PlainText, Sequence, SiteNo};
 use std::alloc::{AllocError, Global};
@@ -39,7 +42,7 @@ impl Model for Captured {
 }
 
 impl Captured {
-    /// A site without events. Takes no memory.
+    /// A site without events. Does not allocate.
     pub fn new(alloc: Global, me: SiteNo) -> Captured
         ensures { result ≡ record { me = me; events = [] } }
     {
@@ -68,24 +71,24 @@ impl Captured {
         self.book.get(place)
     }
 
-    /// Whether one of the captured events names the item. It costs a look-up, and takes no memory.
+    /// Whether one of the captured events names the item. It costs a look-up, and does not allocate.
     pub fn mentions(&self, item: &Epc) -> bool
         ensures { IsTrue result ↔ Any (λ e. Contains (items_of e.body) item.now) self.now.events }
     {
         self.book.mentions(item)
     }
 
-    /// How an event stands among the captured ones. Takes no memory.
+    /// How an event stands among the captured ones. Does not allocate.
     pub fn standing(&self, event: &Event) -> Standing
         ensures { result ≡ standing_among self.now.events event.now }
     {
         self.book.standing(event)
     }
 
-    /// Adds one event if it is fresh, and tells how it stood.
+    /// Adds one event if it is fresh, and returns how it stood.
     ///
     /// # Errors
-    /// Want of memory. Nothing is changed then.
+    /// Out of memory. Nothing is changed then.
     pub fn add_event(&mut self, event: Event) -> Result<Standing, AllocError>
         ensures standing { IfOk result (λ standing. standing ≡ standing_among self.old.events event) }
         ensures ok { IfOk result (λ standing. self.new ≡ record self.old { events = with_fresh self.old.events event standing }) }
@@ -98,7 +101,7 @@ impl Captured {
     /// read back from elsewhere.
     ///
     /// # Errors
-    /// Want of memory. Nothing is changed then.
+    /// Out of memory. Nothing is changed then.
     pub fn restore_event(&mut self, event: Event) -> Result<(), AllocError>
         ensures ok { OnOk result (self.new ≡ record self.old { events = self.old.events ++ event ∷ [] }) }
         ensures unchanged { OnErr result (self.new ≡ self.old) }
@@ -106,7 +109,7 @@ impl Captured {
         self.book.push(event)
     }
 
-    /// Takes back the last events, all but the first `kept`. Takes no memory.
+    /// Takes back the last events, all but the first `kept`. Does not allocate.
     pub fn truncate(&mut self, kept: usize)
         ensures { self.new ≡ record self.old { events = take kept self.old.events } }
     {
@@ -146,13 +149,25 @@ impl Captured {
         ensures exact { IfOk result (λ pairs. (p : Pair) → Contains pairs.items p ↔ IsRelated self.now item.now p) }
     {
         let alloc = self.book.alloc();
-        let mut pairs = BTreeSet::new(alloc);
-        for place in self.book.places_of(item) {
-            if let Some(event) = self.book.get(*place) {
-                gather(alloc, self.me, &self.book, item, event.body(), &mut pairs)?;
-            }
-        }
-        keys_in_order(alloc, pairs)
+        let pair = Pair {
+            site: self.me(),
+            item: item.copy(alloc)?,
+        };
+        unseen_targets(alloc, &[self], &pair, &mut Seen::new(alloc))
+    }
+
+    /// The pairs at other sites that an item at this site is related to, ascending and without repeats:
+    /// the item at each other site that it was shipped to. It costs a look-up and these.
+    pub fn shipped(&self, item: &Epc) -> Result<Vec<Pair>, AllocError>
+        ensures ascending { IfOk result (λ pairs. IsStrictlyAscending pairs.items) }
+        ensures exact { IfOk result (λ pairs. (p : Pair)
+            → Contains pairs.items p ↔ IsShipped self.now item.now p) }
+    {
+        let alloc = self.book.alloc();
+        let mut shipped = BTreeSet::new(alloc);
+        let sites = self.book.sites_of(item);
+        gather_at_sites(alloc, self.me, item, sites, &mut shipped)?;
+        keys_in_order(alloc, shipped)
     }
 
     /// The places of the captured parts of a transformation: of the transformations that have this
@@ -172,7 +187,7 @@ impl Captured {
         &self.book
     }
 
-    /// What the site's memory is taken from.
+    /// What the site's memory is allocated from.
     pub(crate) fn alloc(&self) -> Global {
         self.book.alloc()
     }

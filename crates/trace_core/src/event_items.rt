@@ -1,124 +1,34 @@
-ghost use Rattle.std.specs.Prelude.{◌≡◌, ◌++◌, ◌∷◌, [], IfOk, OnOk, OnErr, length, take, drop};
-ghost use Rattle.trace_core.specs.Indexes.{NotesItems, NotesSomeItems, KeepsItems, ForgetsPlace, ForgetsItems};
-ghost use Rattle.trace_core.specs.Numbers.{names_of, numbers_of, ins_in, members_in};
+//! The items of an event: how they get their numbers, and how the transformations that take them in are noted and
+//! taken back.
+ghost use Rattle.std.specs.Prelude.{◌≡◌, ◌++◌, [], List, IfOk, OnOk, OnErr, ℕ};
+ghost use Rattle.trace_core.specs.Indexes.{KnowsItems, KnowsSomeItems, NotesItems, NotesSomeItems, KeepsItems, ForgetsPlace, ForgetsItems};
+ghost use Rattle.trace_core.specs.Numbers.{names_of, numbers_of, outs_in, moved_in};
 ghost use Rattle.trace_core.specs.PairTests.{lists};
-ghost use Rattle.trace_core.specs.Spreads.{items_of};
+ghost use Rattle.trace_core.specs.Spreads.{items_of, ins_in};
 
 use crate::items::Items;
+use crate::numbers::Numbers;
 use epc_core::Epc;
 use event_json::Body;
-use smallvec::SmallVec;
 use std::alloc::{AllocError, Global};
-use std::marker::Model;
-
-/// Numbers of items. Four lie in the value itself: most transformations have no more inputs and outputs.
-#[derive(Debug)]
-pub struct Numbers {
-    numbers: SmallVec<usize, 4>,
-}
-
-impl Drop for Numbers {
-    fn drop(self) {
-        let Numbers { numbers: _ } = self;
-    }
-}
-
-impl Model for Numbers {
-    ghost use Rattle.std.specs.Prelude.{List, ℕ};
-
-    ghost Value = { List ℕ };
-
-    ghost view = { λ n. n.numbers.items };
-}
-
-impl Numbers {
-    /// No number. Takes no memory.
-    pub fn new(alloc: Global) -> Numbers
-        ensures { result ≡ [] }
-    {
-        Numbers {
-            numbers: SmallVec::new(alloc),
-        }
-    }
-
-    /// Adds a number at the end. An `Err` changes nothing.
-    pub fn push(&mut self, number: usize) -> Result<(), AllocError>
-        ensures ok { OnOk result (self.new ≡ self.old ++ number ∷ []) }
-        ensures err { OnErr result (self.new ≡ self.old) }
-    {
-        self.numbers.push(number)?;
-        Ok(())
-    }
-
-    /// Makes room for so many more.
-    pub fn reserve(&mut self, more: usize) -> Result<(), AllocError>
-        ensures { self.new ≡ self.old }
-    {
-        self.numbers.reserve(more)?;
-        Ok(())
-    }
-
-    /// The numbers in order.
-    pub fn as_slice(&self) -> &[usize]
-        ensures { result.now ≡ self.now }
-    {
-        self.numbers.as_slice()
-    }
-}
 
 /// What is kept of the members of an event.
 #[derive(Debug, Drop)]
 pub struct Members {
     /// How many items were known before it.
     pub known: usize,
-    /// How many of the numbers are those of inputs.
-    pub ins: usize,
-    /// The numbers of the inputs and then of the outputs, if it is a transformation.
-    pub numbers: Numbers,
+    /// The numbers of the outputs, if it is a transformation.
+    pub outs: Numbers,
 }
 
-impl Members {
-    /// The numbers of the inputs.
-    pub fn ins(&self) -> &[usize]
-        ensures { result.now ≡ take self.now.ins self.now.numbers }
-    {
-        let numbers = self.numbers.as_slice();
-        if self.ins < numbers.len() {
-            return &numbers[..self.ins];
-        }
-        numbers
-    }
-
-    /// The numbers of the outputs.
-    pub fn outs(&self) -> &[usize]
-        ensures { result.now ≡ drop self.now.ins self.now.numbers }
-    {
-        let numbers = self.numbers.as_slice();
-        if self.ins < numbers.len() {
-            return &numbers[self.ins..];
-        }
-        &[]
-    }
-}
-
-/// How many inputs an event has.
-pub fn input_count(body: &Body) -> usize
-    ensures { result ≡ length (ins_in body.now) }
-{
-    match body {
-        Body::Make { ins, .. } => ins.len(),
-        _ => 0,
-    }
-}
-
-/// Notes that the event at a place names these items. After an `Err` it is noted for some of them.
-fn note_items(
+/// Notes that the transformation at a place takes items in. After an `Err` some of them are noted.
+fn note_inputs(
     alloc: Global,
     known: &mut Items,
     items: &[Epc],
     place: usize,
 ) -> Result<(), AllocError>
-    ensures ok { OnOk result (NotesItems known.old known.new place items.now) }
+    ensures ok { OnOk result (NotesItems known.old known.new place items.now items.now) }
     ensures err { OnErr result (NotesSomeItems known.old known.new place items.now) }
 {
     for item in items {
@@ -127,28 +37,34 @@ fn note_items(
     Ok(())
 }
 
-/// Notes that the event at a place names these items, and adds their numbers to others. After an `Err` it is
-/// noted for some of them.
-fn note_numbered(
-    alloc: Global,
-    known: &mut Items,
-    items: &[Epc],
-    place: usize,
-    numbers: &mut Numbers,
-) -> Result<(), AllocError>
-    ensures ok { OnOk result (NotesItems known.old known.new place items.now) }
-    ensures numbers { OnOk result (numbers.new ≡ numbers.old ++ numbers_of (names_of known.new) items.now) }
-    ensures err { OnErr result (NotesSomeItems known.old known.new place items.now) }
+/// Gives numbers to items. After an `Err` some of them have one.
+fn know_items(alloc: Global, known: &mut Items, items: &[Epc]) -> Result<(), AllocError>
+    ensures ok { OnOk result (KnowsItems known.old known.new items.now) }
+    ensures err { OnErr result (KnowsSomeItems known.old known.new) }
 {
     for item in items {
-        let number = known.note(alloc, item, place)?;
-        numbers.push(number)?;
+        known.know(alloc, item)?;
     }
     Ok(())
 }
 
-/// Notes the inputs and outputs of the transformation at a place, and gives their numbers. After an `Err` some
-/// of them are noted.
+/// Gives numbers to items, and returns these in their order. After an `Err` some of the items have one.
+fn know_numbers(alloc: Global, known: &mut Items, items: &[Epc]) -> Result<Numbers, AllocError>
+    ensures ok { OnOk result (KnowsItems known.old known.new items.now) }
+    ensures numbers { IfOk result (λ numbers. numbers ≡ numbers_of (names_of known.new) items.now) }
+    ensures err { OnErr result (KnowsSomeItems known.old known.new) }
+{
+    let mut numbers = Numbers::new(alloc);
+    numbers.reserve(items.len())?;
+    for item in items {
+        let number = known.know(alloc, item)?;
+        numbers.push(number)?;
+    }
+    Ok(numbers)
+}
+
+/// Notes the inputs of the transformation at a place, and gives its outputs numbers, which are returned. After an
+/// `Err` some of that is done.
 fn note_made(
     alloc: Global,
     known: &mut Items,
@@ -156,64 +72,55 @@ fn note_made(
     outs: &[Epc],
     place: usize,
 ) -> Result<Numbers, AllocError>
-    ensures ok { OnOk result (NotesItems known.old known.new place (ins.now ++ outs.now)) }
-    ensures numbers { IfOk result (λ numbers. numbers ≡ numbers_of (names_of known.new) (ins.now ++ outs.now)) }
-    ensures err { OnErr result (NotesSomeItems known.old known.new place (ins.now ++ outs.now)) }
+    ensures ok { OnOk result (NotesItems known.old known.new place (ins.now ++ outs.now) ins.now) }
+    ensures numbers { IfOk result (λ numbers. numbers ≡ numbers_of (names_of known.new) outs.now) }
+    ensures err { OnErr result (NotesSomeItems known.old known.new place ins.now) }
 {
-    let mut numbers = Numbers::new(alloc);
-    numbers.reserve(ins.len().saturating_add(outs.len()))?;
-    note_numbered(alloc, known, ins, place, &mut numbers)?;
-    note_numbered(alloc, known, outs, place, &mut numbers)?;
-    Ok(numbers)
+    note_inputs(alloc, known, ins, place)?;
+    know_numbers(alloc, known, outs)
 }
 
-/// Notes the items that the event at a place names, and gives the numbers of its inputs and then of its
-/// outputs. After an `Err` some of them are noted.
+/// Gives numbers to items that are only observed, and returns none. After an `Err` some of the items have one.
+fn know_observed(alloc: Global, known: &mut Items, items: &[Epc]) -> Result<Numbers, AllocError>
+    ensures ok { OnOk result (KnowsItems known.old known.new items.now) }
+    ensures none { IfOk result (λ numbers. numbers ≡ []) }
+    ensures err { OnErr result (KnowsSomeItems known.old known.new) }
+{
+    know_items(alloc, known, items)?;
+    Ok(Numbers::new(alloc))
+}
+
+/// Gives the items of the event at a place numbers and notes its inputs. Returns the numbers of the items that it
+/// ships or makes. After an `Err` some of that is done.
 fn note_some_of(
     alloc: Global,
     known: &mut Items,
     body: &Body,
     place: usize,
 ) -> Result<Numbers, AllocError>
-    ensures ok { OnOk result (NotesItems known.old known.new place (items_of body.now)) }
-    ensures numbers { IfOk result (λ numbers. numbers ≡ numbers_of (names_of known.new) (members_in body.now)) }
-    ensures err { OnErr result (NotesSomeItems known.old known.new place (items_of body.now)) }
+    ensures ok { OnOk result (NotesItems known.old known.new place (items_of body.now) (ins_in body.now)) }
+    ensures numbers { IfOk result (λ numbers. numbers ≡ numbers_of (names_of known.new) (moved_in body.now)) }
+    ensures err { OnErr result (NotesSomeItems known.old known.new place (ins_in body.now)) }
 {
     match body {
-        Body::Note { items } => note_unnumbered(alloc, known, items.as_slice(), place),
-        Body::Ship { items, .. } => note_unnumbered(alloc, known, items.as_slice(), place),
+        Body::Note { items } => know_observed(alloc, known, items.as_slice()),
+        Body::Ship { items, .. } => know_numbers(alloc, known, items.as_slice()),
         Body::Make { ins, outs, .. } => {
             note_made(alloc, known, ins.as_slice(), outs.as_slice(), place)
         }
     }
 }
 
-/// Notes the items of an event at a place that is no transformation, and gives no number. After an `Err` some
-/// of them are noted.
-fn note_unnumbered(
-    alloc: Global,
-    known: &mut Items,
-    items: &[Epc],
-    place: usize,
-) -> Result<Numbers, AllocError>
-    ensures ok { OnOk result (NotesItems known.old known.new place items.now) }
-    ensures none { IfOk result (λ numbers. numbers ≡ []) }
-    ensures err { OnErr result (NotesSomeItems known.old known.new place items.now) }
-{
-    note_items(alloc, known, items, place)?;
-    Ok(Numbers::new(alloc))
-}
-
-/// Notes the items that the event at a place names, and gives the numbers of its inputs and then of its
-/// outputs. After an `Err` none of them is noted, and no item is new.
+/// Gives the items of the event at a place numbers and notes its inputs. Returns the numbers of the items that it
+/// ships or makes. After an `Err` none is noted, and no item is new.
 pub fn note_items_of(
     alloc: Global,
     known: &mut Items,
     body: &Body,
     place: usize,
 ) -> Result<Numbers, AllocError>
-    ensures ok { OnOk result (NotesItems known.old known.new place (items_of body.now)) }
-    ensures numbers { IfOk result (λ numbers. numbers ≡ numbers_of (names_of known.new) (members_in body.now)) }
+    ensures ok { OnOk result (NotesItems known.old known.new place (items_of body.now) (ins_in body.now)) }
+    ensures numbers { IfOk result (λ numbers. numbers ≡ numbers_of (names_of known.new) (moved_in body.now)) }
     ensures err { OnErr result (KeepsItems known.old known.new place) }
 {
     let before = known.len();
@@ -226,7 +133,18 @@ pub fn note_items_of(
     }
 }
 
-/// Takes a place away from items. Takes no memory.
+/// The numbers that are kept of an event: those of the outputs of a transformation.
+pub fn kept_numbers(alloc: Global, body: &Body, numbers: Numbers) -> Numbers
+    ensures { (names : List (List ℕ)) → numbers ≡ numbers_of names (moved_in body.now)
+        → result ≡ numbers_of names (outs_in body.now) }
+{
+    match body {
+        Body::Make { .. } => numbers,
+        _ => Numbers::new(alloc),
+    }
+}
+
+/// Takes a place away from items. Does not allocate.
 fn forget_items(known: &mut Items, items: &[Epc], place: usize)
     ensures { ForgetsPlace known.old known.new place (lists items.now) }
 {
@@ -235,24 +153,19 @@ fn forget_items(known: &mut Items, items: &[Epc], place: usize)
     }
 }
 
-/// Takes a place away from the items that the event there names. Takes no memory.
+/// Takes a place away from the inputs of the transformation there. Does not allocate.
 fn forget_place(known: &mut Items, body: &Body, place: usize)
-    ensures { ForgetsPlace known.old known.new place (lists (items_of body.now)) }
+    ensures { ForgetsPlace known.old known.new place (lists (ins_in body.now)) }
 {
-    match body {
-        Body::Note { items } => forget_items(known, items.as_slice(), place),
-        Body::Ship { items, .. } => forget_items(known, items.as_slice(), place),
-        Body::Make { ins, outs, .. } => {
-            forget_items(known, ins.as_slice(), place);
-            forget_items(known, outs.as_slice(), place);
-        }
+    if let Body::Make { ins, .. } = body {
+        forget_items(known, ins.as_slice(), place);
     }
 }
 
-/// Takes a place away from the items that the event there names, and leaves those alone that were known
-/// before. Takes no memory.
+/// Takes a place away from the inputs of the transformation there, and leaves those items alone that were known
+/// before. Does not allocate.
 pub fn forget_items_of(known: &mut Items, body: &Body, place: usize, before: usize)
-    ensures { ForgetsItems known.old known.new place (lists (items_of body.now)) before }
+    ensures { ForgetsItems known.old known.new place (lists (ins_in body.now)) before }
 {
     forget_place(known, body, place);
     known.truncate(before);

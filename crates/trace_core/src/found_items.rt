@@ -1,3 +1,4 @@
+//! The items of the numbers that a search has marked.
 ghost use Rattle.std.specs.Prelude.{◌≡◌, ◌⊎◌, ◌↔◌, ℕ, List, Some, IfOk, OnOk, Contains, slice_get};
 ghost use Rattle.trace_core.specs.Found.{HasMark, HasNumber, items_at};
 ghost use Rattle.trace_core.specs.Numbers.{numbered};

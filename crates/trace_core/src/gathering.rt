@@ -1,7 +1,7 @@
-ghost use Rattle.std.specs.Prelude.{◌≡◌, ◌==◌, not, ◌&&◌, ◌||◌, OnOk, length, option_map, slice_get, sum_by};
-ghost use Rattle.std.specs.List.{list_any};
+//! The pairs that one event more would relate an item to, gathered from the lists of the event.
+ghost use Rattle.std.specs.Prelude.{◌≡◌, ◌==◌, ◌&&◌, ◌||◌, OnOk, length, option_map, slice_get, sum_by};
 ghost use Rattle.trace_core.specs.declared.pairs.Pair.{Pair};
-ghost use Rattle.trace_core.specs.Gathering.{is_in, related_by, shipped_by, joined_by};
+ghost use Rattle.trace_core.specs.Gathering.{is_in, related_by, sent_to, shipped_by, joined_by};
 ghost use Rattle.trace_core.specs.Groups.{parts_of, outputs_at};
 ghost use Rattle.trace_core.specs.Looks.{one_look, LooksAtMost};
 ghost use Rattle.trace_core.specs.PairTests.{same_item, takes_in, gives_out, lists};
@@ -38,7 +38,7 @@ pub fn gather(
 }
 
 /// Adds the item at each other site that it was shipped to.
-pub fn gather_shipped(
+fn gather_shipped(
     alloc: Global,
     me: SiteNo,
     item: &Epc,
@@ -56,14 +56,15 @@ pub fn gather_shipped(
 }
 
 /// Adds the item at each of the sites but the own one.
-fn gather_at_sites(
+pub fn gather_at_sites(
     alloc: Global,
     me: SiteNo,
     item: &Epc,
     sites: &[SiteNo],
     pairs: &mut BTreeSet<Pair>,
 ) -> Result<(), AllocError>
-    ensures { OnOk result ((p : Pair) → is_in pairs.new p ≡ (is_in pairs.old p || (not (p.site == me) && (list_any (λ s. s == p.site) sites.now && same_item item.now p.item)))) }
+    ensures { OnOk result ((p : Pair)
+        → is_in pairs.new p ≡ (is_in pairs.old p || sent_to me item.now sites.now p)) }
 {
     for site in sites {
         if *site != me {

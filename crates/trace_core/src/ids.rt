@@ -1,3 +1,4 @@
+//! The places of eventIDs and of the ids of transformations.
 ghost use Rattle.std.specs.Prelude.{◌≡◌, ℕ, List, Some, OnOk, OnErr, option_map};
 ghost use Rattle.trace_core.specs.PairTests.{same_id, same_item};
 ghost use Rattle.trace_core.specs.Places.{text_places, id_places, is_emptied, ForgetsIn, Notes, Forgets};
@@ -20,7 +21,7 @@ pub fn places_of_id<'a>(index: &'a BTreeMap<String, Places>, id: Option<&PlainTe
     }
 }
 
-/// Notes that the event at a place has this id, if it has one. Only a new place takes memory. An `Err`
+/// Notes that the event at a place has this id, if it has one. Only a new place allocates. An `Err`
 /// changes nothing.
 pub fn note_id(
     alloc: Global,
@@ -55,7 +56,7 @@ fn note_text(
     Ok(())
 }
 
-/// Takes a place away from the id of the event there, if it has one. Takes no memory.
+/// Takes a place away from the id of the event there, if it has one. Does not allocate.
 pub fn forget_id(index: &mut BTreeMap<String, Places>, id: Option<&PlainText>, place: usize)
     ensures { Forgets (text_places index.old) (text_places index.new) place (λ i. same_id (option_map (λ t. t.now) id.entry) (Some i)) }
 {
@@ -64,7 +65,7 @@ pub fn forget_id(index: &mut BTreeMap<String, Places>, id: Option<&PlainText>, p
     }
 }
 
-/// Takes a place away from a text, if it is its last one, and the text with its only place. Takes no memory.
+/// Takes a place away from a text, if it is its last one, and the text with its only place. Does not allocate.
 fn forget_text(index: &mut BTreeMap<String, Places>, text: &str, place: usize)
     ensures { Forgets (text_places index.old) (text_places index.new) place (same_item text.now) }
 {
@@ -73,7 +74,7 @@ fn forget_text(index: &mut BTreeMap<String, Places>, text: &str, place: usize)
     }
 }
 
-/// Takes a place away from a text, if it is its last one, and tells whether none is left. Takes no memory.
+/// Takes a place away from a text, if it is its last one, and returns whether none is left. Does not allocate.
 fn forget_in(index: &mut BTreeMap<String, Places>, text: &str, place: usize) -> bool
     ensures left { ForgetsIn (text_places index.old) (text_places index.new) place text.now }
     ensures emptied { result ≡ is_emptied place (text_places index.old text.now) }

@@ -1,22 +1,26 @@
+//! What is looked up of a list of events: kept with it, event by event.
 ghost use Rattle.std.specs.Prelude.{◌≡◌, ◌++◌, ◌∷◌, [], List, OnOk, OnErr, length, slice_get, option_map};
 ghost use Rattle.event_json.specs.Events.{Content};
 ghost use Rattle.trace_core.specs.Indexes.{HasIds, HasItems, HasPlaces};
+ghost use Rattle.trace_core.specs.Sendings.{Extends, HasSent, NotesSendings, sendings_of};
 
-use crate::event_items::{Members, forget_items_of, input_count, note_items_of};
+use crate::event_items::{Members, forget_items_of, kept_numbers, note_items_of};
 use crate::gathering::make_id;
 use crate::ids::{forget_id, note_id};
 use crate::items::Items;
+use crate::numbers::Numbers;
 use crate::places::Places;
+use crate::sendings::Sent;
 use event_json::Event;
 use std::alloc::{AllocError, Global};
 use std::collections::BTreeMap;
 
-/// At which places of a list of events items, eventIDs and the ids of transformations stand, and which
-/// inputs and outputs each event has. What is looked up stands in ordered maps, so that no choice of texts
-/// makes a look-up slow.
+/// Which items a list of events names, the transformations that take each of them in and the sites that it was sent
+/// to; at which places eventIDs and the ids of transformations stand, and which outputs each event has. What is
+/// looked up by text stands in ordered maps, so that no choice of texts makes a look-up slow.
 #[derive(Debug, Drop)]
 pub struct Index {
-    /// By item: its number, and the events that name it.
+    /// By item: its number, and the transformations that take it in.
     pub items: Items,
     /// By event: its members.
     pub members: Vec<Members>,
@@ -24,10 +28,14 @@ pub struct Index {
     pub ids: BTreeMap<String, Places>,
     /// By transformationID: the transformations that have it.
     pub parts: BTreeMap<String, Places>,
+    /// What all events sent, by the numbers of items.
+    pub sent: Sent,
+    /// By event: how much was sent before it.
+    pub counts: Vec<usize>,
 }
 
 impl Index {
-    /// The index of no events. Takes no memory.
+    /// The index of no events. Does not allocate.
     pub fn new(alloc: Global) -> Index
         ensures { HasPlaces result [] }
     {
@@ -36,6 +44,8 @@ impl Index {
             members: Vec::new(alloc),
             ids: BTreeMap::new(alloc),
             parts: BTreeMap::new(alloc),
+            sent: Sent::new(alloc),
+            counts: Vec::new(alloc),
         }
     }
 
@@ -46,19 +56,27 @@ impl Index {
         ensures err { OnErr result ((events : List Content) → place ≡ length events → HasPlaces self.old events → HasPlaces self.new events) }
     {
         let known = self.items.len();
+        let before = self.sent.len();
         self.members.reserve(1)?;
+        self.counts.reserve(1)?;
         let numbers = note_items_of(alloc, &mut self.items, event.body(), place)?;
-        match note_ids(alloc, &mut self.ids, &mut self.parts, event, place) {
+        match note_rest(
+            alloc,
+            &mut self.sent,
+            &mut self.ids,
+            &mut self.parts,
+            event,
+            &numbers,
+            place,
+        ) {
             Ok(()) => {
-                let ins = input_count(event.body());
-                self.members.push_reserved(Members {
-                    known,
-                    ins,
-                    numbers,
-                });
+                let outs = kept_numbers(alloc, event.body(), numbers);
+                self.members.push_reserved(Members { known, outs });
+                self.counts.push_reserved(before);
                 Ok(())
             }
             Err(_) => {
+                self.sent.truncate(before);
                 forget_items_of(&mut self.items, event.body(), place, known);
                 Err(AllocError)
             }
@@ -72,23 +90,56 @@ impl Index {
         self.members.get(place)
     }
 
-    /// Takes away the last event, which stood at a place. Takes no memory.
+    /// Takes away the last event, which stood at a place. Does not allocate.
     pub fn forget(&mut self, event: &Event, place: usize)
         ensures { (events : List Content) → place ≡ length events → HasPlaces self.old (events ++ event.now ∷ []) → HasPlaces self.new events }
     {
         forget_members(&mut self.items, &mut self.members, event, place);
+        forget_sent(&mut self.sent, &mut self.counts);
         forget_id(&mut self.ids, event.id(), place);
         forget_id(&mut self.parts, make_id(event.body()), place);
     }
 }
 
-/// Takes away the members of the last event, which stood at a place. Takes no memory.
+/// Takes away the members of the last event, which stood at a place. Does not allocate.
 fn forget_members(items: &mut Items, members: &mut Vec<Members>, event: &Event, place: usize)
     ensures { (events : List Content) → place ≡ length events → HasItems items.old members.old.items (events ++ event.now ∷ []) → HasItems items.new members.new.items events }
 {
     if let Some(own) = members.pop() {
         forget_items_of(items, event.body(), place, own.known);
     }
+}
+
+/// Takes away what the last event sent. Does not allocate.
+fn forget_sent(sent: &mut Sent, counts: &mut Vec<usize>)
+    ensures { (events : List Content) (e : Content) → HasSent (events ++ e ∷ []) sent.old counts.old.items
+        → HasSent events sent.new counts.new.items }
+{
+    if let Some(before) = counts.pop() {
+        sent.truncate(before);
+    }
+}
+
+/// Notes what the event that comes at a place sends, which ships or makes the items of these numbers, and its ids.
+/// An `Err` changes no id, and leaves all sendings that were there.
+fn note_rest(
+    alloc: Global,
+    sent: &mut Sent,
+    ids: &mut BTreeMap<String, Places>,
+    parts: &mut BTreeMap<String, Places>,
+    event: &Event,
+    numbers: &Numbers,
+    place: usize,
+) -> Result<(), AllocError>
+    ensures sent { OnOk result (NotesSendings sent.old sent.new (sendings_of numbers.now event.now.body)) }
+    ensures front { Extends sent.old sent.new }
+    ensures ok { OnOk result ((events : List Content) → place ≡ length events → HasIds ids.old parts.old events
+        → HasIds ids.new parts.new (events ++ event.now ∷ [])) }
+    ensures err { OnErr result ((events : List Content) → place ≡ length events
+        → HasIds ids.old parts.old events → HasIds ids.new parts.new events) }
+{
+    sent.note_event(event.body(), numbers.as_slice())?;
+    note_ids(alloc, ids, parts, event, place)
 }
 
 /// Notes the ids of the event that comes at a place. An `Err` changes nothing that can be looked up.
@@ -99,8 +150,10 @@ fn note_ids(
     event: &Event,
     place: usize,
 ) -> Result<(), AllocError>
-    ensures ok { OnOk result ((events : List Content) → place ≡ length events → HasIds ids.old parts.old events → HasIds ids.new parts.new (events ++ event.now ∷ [])) }
-    ensures err { OnErr result ((events : List Content) → place ≡ length events → HasIds ids.old parts.old events → HasIds ids.new parts.new events) }
+    ensures ok { OnOk result ((events : List Content) → place ≡ length events → HasIds ids.old parts.old events
+        → HasIds ids.new parts.new (events ++ event.now ∷ [])) }
+    ensures err { OnErr result ((events : List Content) → place ≡ length events
+        → HasIds ids.old parts.old events → HasIds ids.new parts.new events) }
 {
     note_id(alloc, ids, event.id(), place)?;
     match note_id(alloc, parts, make_id(event.body()), place) {

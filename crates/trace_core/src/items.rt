@@ -1,5 +1,6 @@
+//! Items by number, each with the places of the transformations that take it in.
 ghost use Rattle.std.specs.Prelude.{◌≡◌, ◌∷◌, ◌++◌, ◌-◌, [], ℕ, List, Some, cond, IfOk, OnOk, OnErr, length, take, slice_get, option_map};
-ghost use Rattle.trace_core.specs.Numbers.{AreApart, IsNumbered, number_in, number_found, names_of, item_places, noted, changed, changed_at};
+ghost use Rattle.trace_core.specs.Numbers.{AreApart, IsNumbered, number_in, number_found, names_of, item_places, known_too, noted, changed, changed_at};
 ghost use Rattle.trace_core.specs.PairTests.{same_item};
 ghost use Rattle.trace_core.specs.Places.{or_none, with_last, without_last};
 
@@ -14,7 +15,7 @@ use std::marker::Model;
 pub struct Named {
     /// The item.
     pub name: Epc,
-    /// The events that name it.
+    /// The transformations that take it in.
     pub places: Places,
 }
 
@@ -39,7 +40,7 @@ impl Model for Items {
 }
 
 impl Items {
-    /// No items. Takes no memory.
+    /// No items. Does not allocate.
     pub fn new(alloc: Global) -> Items
         ensures { result ≡ [] }
     {
@@ -108,8 +109,26 @@ impl Items {
         }
     }
 
-    /// Notes that the event at a place names an item, which gets the next number if it is new, and tells its
-    /// number. An `Err` changes nothing.
+    /// The number of an item, which gets the next one if it is new. An `Err` changes nothing.
+    pub fn know(&mut self, alloc: Global, item: &Epc) -> Result<usize, AllocError>
+        ensures ok { OnOk result (self.new ≡ known_too item.now self.old) }
+        ensures number { IfOk result (λ number. number_in (names_of self.new) item.now ≡ Some number) }
+        ensures err { OnErr result (self.new ≡ self.old) }
+    {
+        match self.number(item) {
+            Some(number) => Ok(number),
+            None => add(
+                alloc,
+                &mut self.numbers,
+                &mut self.named,
+                item,
+                Places::new(alloc),
+            ),
+        }
+    }
+
+    /// Notes that the transformation at a place takes an item in, which gets the next number if it is new, and
+    /// returns its number. An `Err` changes nothing.
     pub fn note(&mut self, alloc: Global, item: &Epc, place: usize) -> Result<usize, AllocError>
         ensures ok { OnOk result (self.new ≡ noted place item.now self.old) }
         ensures number { IfOk result (λ number. number_in (names_of self.new) item.now ≡ Some number) }
@@ -117,11 +136,14 @@ impl Items {
     {
         match self.number(item) {
             Some(number) => note_at(&mut self.named, number, place),
-            None => add(alloc, &mut self.numbers, &mut self.named, item, place),
+            None => {
+                let places = Places::one(alloc, place)?;
+                add(alloc, &mut self.numbers, &mut self.named, item, places)
+            }
         }
     }
 
-    /// Takes a place away from an item, if it is its last one. The item keeps its number. Takes no memory.
+    /// Takes a place away from an item, if it is its last one. The item keeps its number. Does not allocate.
     pub fn forget(&mut self, item: &Epc, place: usize)
         ensures { self.new ≡ changed (without_last place) item.now self.old }
     {
@@ -130,7 +152,7 @@ impl Items {
         }
     }
 
-    /// Leaves the items of the first numbers alone. Takes no memory.
+    /// Leaves the items of the first numbers alone. Does not allocate.
     pub fn truncate(&mut self, kept: usize)
         ensures { self.new ≡ take kept self.old }
     {
@@ -139,7 +161,7 @@ impl Items {
         }
     }
 
-    /// Takes the item of the last number away. Takes no memory.
+    /// Takes the item of the last number away. Does not allocate.
     fn pop(&mut self)
         ensures { self.new ≡ take (length self.old - 1) self.old }
     {
@@ -149,15 +171,16 @@ impl Items {
     }
 }
 
-/// Adds a new item, with its first place, and tells its number. An `Err` changes nothing.
+/// Adds a new item with its places, and returns its number. An `Err` changes nothing.
 fn add(
     alloc: Global,
     numbers: &mut BTreeMap<Epc, usize>,
     named: &mut Vec<Named>,
     item: &Epc,
-    place: usize,
+    places: Places,
 ) -> Result<usize, AllocError>
-    ensures named { OnOk result (named.new.items ≡ named.old.items ++ record { name = item.now; places = place ∷ [] } ∷ []) }
+    ensures named { OnOk result (named.new.items
+        ≡ named.old.items ++ record { name = item.now; places = places } ∷ []) }
     ensures numbers { OnOk result ((i : List ℕ) → number_found numbers.new i ≡ cond (same_item item.now i) (Some (length named.old.items)) (number_found numbers.old i)) }
     ensures number { IfOk result (λ number. number ≡ length named.old.items) }
     ensures err { OnErr result ((named.new.items ≡ named.old.items) × ((i : List ℕ) → number_found numbers.new i ≡ number_found numbers.old i)) }
@@ -166,14 +189,14 @@ fn add(
     named.reserve(1)?;
     let new = Named {
         name: item.copy(alloc)?,
-        places: Places::one(alloc, place)?,
+        places,
     };
     numbers.insert(item.copy(alloc)?, number)?;
     named.push_reserved(new);
     Ok(number)
 }
 
-/// Notes a place of the item of a number, and tells the number. An `Err` changes nothing.
+/// Notes a place of the item of a number, and returns the number. An `Err` changes nothing.
 fn note_at(named: &mut Vec<Named>, number: usize, place: usize) -> Result<usize, AllocError>
     ensures number { IfOk result (λ told. told ≡ number) }
     ensures ok { OnOk result (named.new.items ≡ changed_at (with_last place) number named.old.items) }
@@ -186,7 +209,7 @@ fn note_at(named: &mut Vec<Named>, number: usize, place: usize) -> Result<usize,
     Ok(number)
 }
 
-/// Takes a place away from the item of a number, if it is its last one. Takes no memory.
+/// Takes a place away from the item of a number, if it is its last one. Does not allocate.
 fn forget_at(named: &mut Vec<Named>, number: usize, place: usize)
     ensures { named.new.items ≡ changed_at (without_last place) number named.old.items }
 {

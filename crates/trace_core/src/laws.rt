@@ -43,8 +43,8 @@ pub fn first_taken_is_told()
     ensures { FirstTakenIsTold }
 {}
 
-/// What is kept of a document that isn't refused: its fresh events, in order. As many are told as fresh, and all others
-/// as known.
+/// What is kept of a document that isn't refused: its fresh events, in order. As many are reported as fresh, and all
+/// others as known.
 pub fn adding_keeps_fresh()
     ensures { AddingKeepsFresh }
 {}

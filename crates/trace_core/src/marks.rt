@@ -1,3 +1,4 @@
+//! Sets of numbers: an ordered set of few, or a mark for each of all.
 ghost use Rattle.std.specs.Prelude.{◌≡◌, ◌<◌, ◌⊎◌, ◌↔◌, ℕ, true, false, [], IfOk, IfSome, OnOk, OnErr, IsTrue, Contains, length};
 ghost use Rattle.trace_core.specs.Marks.{is_set};
 
@@ -8,7 +9,7 @@ use std::marker::Model;
 /// A set of numbers, each below a count of all. Few stand in an ordered set. Once one in 64 of all is there,
 /// each of all has a mark, so that a look-up takes one step; these marks cost no more than 64 bytes for each
 /// number that is there then.
-#[derive(Drop)]
+#[derive(Debug, Drop)]
 pub struct Marks {
     few: BTreeSet<usize>,
     many: Vec<bool>,
@@ -26,7 +27,7 @@ impl Model for Marks {
 }
 
 impl Marks {
-    /// No numbers. Takes no memory.
+    /// No numbers. Does not allocate.
     pub fn new(alloc: Global) -> Marks
         ensures { result ≡ [] }
     {

@@ -1,10 +1,9 @@
+//! The nodes that a search has found: pairs, by the numbers of their items.
 ghost use Rattle.std.specs.Prelude.{◌≡◌, ◌∷◌, ◌⊎◌, ◌↔◌, [], false, IfOk, OnOk, OnErr, Contains, length};
 ghost use Rattle.trace_core.specs.declared.nodes.Node.{Node};
 ghost use Rattle.trace_core.specs.Found.{IsInBatch};
-ghost use Rattle.trace_core.specs.Looks.{LooksAtMost};
 ghost use Rattle.trace_core.specs.Nodes.{NotesNodes, destinations, made_nodes};
 
-use crate::looks::count_look;
 use crate::marks::Marks;
 use event_json::SiteNo;
 use std::alloc::{AllocError, Global};
@@ -52,7 +51,7 @@ impl Model for Nodes {
 }
 
 impl Nodes {
-    /// No nodes. Takes no memory.
+    /// No nodes. Does not allocate.
     pub fn new(alloc: Global) -> Nodes
         ensures { result ≡ [] }
     {
@@ -130,20 +129,17 @@ impl Nodes {
         Ok(())
     }
 
-    /// Notes each of the items at a site that numbered so many. Each is a look.
+    /// Notes each of the items at a site that numbered so many.
     pub fn note_outputs(
         &mut self,
         me: SiteNo,
         site: usize,
         all: usize,
         items: &[usize],
-        looks: &mut u64,
     ) -> Result<(), AllocError>
-        ensures noted { OnOk result (NotesNodes self.old self.new (made_nodes me site items.now)) }
-        ensures looks { OnOk result (LooksAtMost (length items.now) looks.old looks.new) }
+        ensures { OnOk result (NotesNodes self.old self.new (made_nodes me site items.now)) }
     {
         for item in items {
-            count_look(looks);
             self.note(site, *item, me, all)?;
         }
         Ok(())

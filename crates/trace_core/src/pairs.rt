@@ -1,3 +1,4 @@
+//! An item at a site, the pair that tracing speaks of.
 ghost use Rattle.std.specs.Prelude.{◌≡◌, IfOk};
 
 use epc_core::Epc;

@@ -1,3 +1,4 @@
+//! Places of events, ascending: those of an id, or those of the transformations that take an item in.
 ghost use Rattle.std.specs.Prelude.{◌≡◌, ◌==◌, ◌∷◌, [], IfOk, OnOk, OnErr, length};
 ghost use Rattle.trace_core.specs.Places.{ends_with, with_last, without_last};
 
@@ -5,11 +6,11 @@ use smallvec::SmallVec;
 use std::alloc::{AllocError, Global};
 use std::marker::Model;
 
-/// Places of events. Four lie in the value itself, as most items are named by no more events than that: a look at
+/// Places of events. Two lie in the value itself, as most items go into no more transformations than that: a look at
 /// them is a look at the item.
 #[derive(Debug)]
 pub struct Places {
-    places: SmallVec<usize, 4>,
+    places: SmallVec<usize, 2>,
 }
 
 impl Drop for Places {
@@ -27,6 +28,15 @@ impl Model for Places {
 }
 
 impl Places {
+    /// No place. Does not allocate.
+    pub fn new(alloc: Global) -> Places
+        ensures { result ≡ [] }
+    {
+        Places {
+            places: SmallVec::new(alloc),
+        }
+    }
+
     /// One place.
     pub fn one(alloc: Global, place: usize) -> Result<Places, AllocError>
         ensures { IfOk result (λ places. places ≡ place ∷ []) }
@@ -61,7 +71,7 @@ impl Places {
         Ok(())
     }
 
-    /// Takes a place away from the end, if it stands there. Takes no memory.
+    /// Takes a place away from the end, if it stands there. Does not allocate.
     pub fn forget(&mut self, place: usize)
         ensures { self.new ≡ without_last place self.old }
     {

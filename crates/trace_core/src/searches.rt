@@ -1,3 +1,4 @@
+//! The search for all that chains of a relation reach.
 ghost use Rattle.std.specs.Prelude.{◌≤◌, ◌+◌, ℕ, Contains, ◌↔◌, IfOk, OnOk, length};
 ghost use Rattle.std.specs.BTreeSet.{BTreeSet};
 ghost use Rattle.trace_core.specs.declared.groups.Group.{Group};
@@ -30,7 +31,7 @@ pub trait Relation {
     /// How many outputs the transformations have that weren't seen.
     ghost unseen: { Self → BTreeSet Group → ℕ };
 
-    /// No transformation: it gives nothing. Takes no memory.
+    /// No transformation: it gives nothing. Does not allocate.
     fn none_seen(&self, alloc: Global) -> Seen
         ensures none { (q : Pair) → gives self.now result q → ⊥ }
         ensures outputs { bounds_looks self.now → unseen self.now result ≤ outputs self.now };

@@ -1,3 +1,4 @@
+//! The transformations that a search has come to.
 ghost use Rattle.std.specs.Prelude.{◌≡◌, ◌<◌, ℕ, not, [], IfOk, OnOk, slice_get};
 ghost use Rattle.std.specs.BTreeSet.{contains};
 ghost use Rattle.std.specs.Vec.{vec_len};
@@ -9,7 +10,7 @@ use std::alloc::{AllocError, Global};
 use std::marker::Model;
 
 /// The transformations that a search has seen: of each site the places of their first parts.
-#[derive(Drop)]
+#[derive(Debug, Drop)]
 pub struct Seen {
     sites: Vec<Marks>,
 }
@@ -25,7 +26,7 @@ impl Model for Seen {
 }
 
 impl Seen {
-    /// No transformations. Takes no memory.
+    /// No transformations. Does not allocate.
     pub fn new(alloc: Global) -> Seen
         ensures { result.keys ≡ [] }
     {

@@ -1,3 +1,4 @@
+//! What is made of items inside one site, and what one more event would add.
 ghost use Rattle.std.specs.Prelude.{◌≡◌, ◌≤◌, ◌+◌, ◌-◌, ◌^◌, ◌⊎◌, ◌↔◌, ◌||◌, IfOk, OnOk, ℕ, List, None, Contains, length, slice_get};
 ghost use Rattle.std.specs.List.{list_any};
 ghost use Rattle.trace_core.specs.declared.nodes.Node.{Node};

@@ -1,45 +1,63 @@
-ghost use Rattle.std.specs.Prelude.{◌≡◌, IfOk, OnOk};
-ghost use Rattle.trace_core.specs.Chains.{Related, sites_at};
-ghost use Rattle.trace_core.specs.Groups.{AddsUnseen, IsGivenBy};
-ghost use Rattle.trace_core.specs.Pairs.{pair_cmp};
-ghost use Rattle.trace_core.specs.Searches.{IsFound, AreUnseen};
+//! What one pair is related to, for searches that take one pair at a time.
+ghost use Rattle.std.specs.Prelude.{◌≡◌, ◌<◌, IfOk, OnOk, Some, length, slice_get};
+ghost use Rattle.trace_core.specs.Chains.{Related, RelatesFrom, sites_at};
+ghost use Rattle.trace_core.specs.Groups.{IsGiven, IsGivenBy, SeesOnly};
+ghost use Rattle.trace_core.specs.Nodes.{Stands, Gains};
+ghost use Rattle.trace_core.specs.Pairs.{IsStrictlyAscending};
+ghost use Rattle.trace_core.specs.Searches.{AreUnseen};
+ghost use Rattle.trace_core.specs.Sites.{SiteEvents};
 
+use crate::batches::pairs_of;
 use crate::captured::Captured;
-use crate::groups::{Group, gather_unseen_from};
-use crate::ordered_keys::keys_in_order;
+use crate::nodes::Nodes;
+use crate::ordered_keys::in_order;
 use crate::pairs::Pair;
+use crate::seen::Seen;
+use crate::visits::visit_item;
 use std::alloc::{AllocError, Global};
-use std::collections::BTreeSet;
 
 /// The pairs that a pair is related to, but for those that transformations gave which were seen before,
-/// ascending.
+/// ascending. It costs the sites that the item was shipped to, the transformations that take it in, and the outputs of
+/// those that are new.
 pub fn unseen_targets(
     alloc: Global,
     sites: &[&Captured],
     pair: &Pair,
-    seen: &mut BTreeSet<Group>,
+    seen: &mut Seen,
 ) -> Result<Vec<Pair>, AllocError>
-    ensures { IfOk result (λ targets. AreUnseen (Related (sites_at sites.now) pair.now) (IsGivenBy (sites_at sites.now)) seen.old seen.new targets.items) }
+    ensures ascending { IfOk result (λ targets. IsStrictlyAscending targets.items) }
+    ensures unseen { IfOk result (λ targets.
+        AreUnseen (Related (sites_at sites.now) pair.now) (IsGivenBy (sites_at sites.now))
+        seen.old seen.new targets.items) }
 {
-    let mut targets = BTreeSet::new(alloc);
-    gather_targets(alloc, sites, pair, seen, &mut targets)?;
-    keys_in_order(alloc, targets)
+    let mut nodes = Nodes::new(alloc);
+    for number in 0..sites.len() {
+        visit_pair(sites, number, pair, seen, &mut nodes)?;
+    }
+    let pairs = pairs_of(alloc, sites, &nodes)?;
+    in_order(pairs)
 }
 
-/// Adds the pairs that a pair is related to, but for those that transformations gave which were seen before.
-fn gather_targets(
-    alloc: Global,
+/// Notes what a pair is related to by the events of one of the sites.
+fn visit_pair(
     sites: &[&Captured],
+    number: usize,
     pair: &Pair,
-    seen: &mut BTreeSet<Group>,
-    pairs: &mut BTreeSet<Pair>,
+    seen: &mut Seen,
+    nodes: &mut Nodes,
 ) -> Result<(), AllocError>
-    ensures { OnOk result (AddsUnseen (IsGivenBy (sites_at sites.now)) (Related (sites_at sites.now) pair.now) seen.old seen.new (IsFound pair_cmp pairs.old) (IsFound pair_cmp pairs.new)) }
+    requires { number < length sites.now }
+    ensures gains { OnOk result ((s : SiteEvents) → slice_get (sites_at sites.now) number ≡ Some s
+        → Gains (Stands (sites_at sites.now)) (IsGiven s number) (RelatesFrom s pair.now)
+        seen.old seen.new nodes.old nodes.new) }
+    ensures only { OnOk result (SeesOnly number seen.old seen.new) }
 {
+    let site = sites[number];
     let mut looks = 0;
-    for number in 0..sites.len() {
-        let site = sites[number];
-        gather_unseen_from(alloc, site, number, true, pair, seen, pairs, &mut looks)?;
+    if site.me() == pair.site {
+        if let Some(item) = site.book().number_of(&pair.item) {
+            visit_item(site, number, true, item, seen, nodes, &mut looks)?;
+        }
     }
     Ok(())
 }

@@ -1,55 +1,69 @@
-ghost use Rattle.std.specs.Prelude.{◌≡◌, ◌<◌, ◌∷◌, [], IfOk, IfSome, IfNone, OnOk, length};
+//! Shortest chains of related pairs from a root to given pairs.
+ghost use Rattle.std.specs.Prelude.{◌<◌, IfOk, List, length};
+ghost use Rattle.std.specs.List.{AllZip};
+ghost use Rattle.trace_core.specs.declared.pairs.Pair.{Pair};
 ghost use Rattle.trace_core.specs.Chains.{Related, sites_at};
-ghost use Rattle.trace_core.specs.Relations.{Reaches};
-ghost use Rattle.trace_core.specs.Trails.{IsTrail, HaveNoRepeats, IsShortest, GoBack, IsTraced, NotesSteps};
+ghost use Rattle.trace_core.specs.Sites.{SiteEvents};
+ghost use Rattle.trace_core.specs.Trails.{AreSteps, GoBack, IsTraced, TellsTrail};
 
 use crate::captured::Captured;
 use crate::pairs::Pair;
+use crate::seen::Seen;
+use crate::steps::{Step, Steps};
 use crate::targets::unseen_targets;
+use event_json::Sequence;
 use std::alloc::{AllocError, Global};
-use std::collections::{BTreeSet, VecDeque};
+use std::collections::VecDeque;
 
-/// A pair that a search found, and the place of the step that found it.
-#[derive(Drop)]
-pub struct Step {
-    /// The pair.
-    pub pair: Pair,
-    /// The place of the step before it. The first step has none.
-    pub from: usize,
-}
-
-/// A chain of related pairs from a root to a target, as `reach` follows them, without repeats. No chain
-/// has fewer pairs. `None` exactly where the target isn't reached. Each transformation is come to once.
-pub fn trail(
+/// For each of the pairs, in their order, a chain of related pairs from the root to it, as `reach` follows
+/// them, without repeats, such that no chain has fewer pairs. `None` exactly where it isn't reached. One search
+/// serves all pairs, and comes to each transformation once.
+pub fn trails_to(
     alloc: Global,
     sites: &[&Captured],
     root: &Pair,
-    target: &Pair,
-) -> Result<Option<Vec<Pair>>, AllocError>
-    ensures trail { IfOk result (λ found. IfSome found (λ pairs. IsTrail (sites_at sites.now) root.now target.now pairs.items)) }
-    ensures once { IfOk result (λ found. IfSome found (λ pairs. HaveNoRepeats pairs.items)) }
-    ensures shortest { IfOk result (λ found. IfSome found (λ pairs. IsShortest (sites_at sites.now) root.now target.now pairs.items)) }
-    ensures none { IfOk result (λ found. IfNone found (Reaches (Related (sites_at sites.now)) root.now target.now → ⊥)) }
+    pairs: &[Pair],
+) -> Result<Vec<Option<Sequence<Pair>>>, AllocError>
+    ensures { IfOk result (λ trails. AllZip (TellsTrail (sites_at sites.now) root.now) pairs.now trails.items) }
 {
-    let mut groups = BTreeSet::new(alloc);
-    let mut steps = Vec::new(alloc);
-    let mut seen = BTreeSet::new(alloc);
-    steps.push(Step {
-        pair: root.copy(alloc)?,
-        from: 0,
-    })?;
-    seen.insert(root.copy(alloc)?)?;
+    let steps = steps_from(alloc, sites, root)?;
+    let mut trails = Vec::new(alloc);
+    for pair in pairs {
+        trails.push(trail_to(alloc, &steps, pair)?)?;
+    }
+    Ok(trails)
+}
+
+/// The steps of a search for all that chains of related pairs reach from a root, nearest first.
+fn steps_from(alloc: Global, sites: &[&Captured], root: &Pair) -> Result<Steps, AllocError>
+    ensures { IfOk result (λ steps. AreSteps (Related (sites_at sites.now)) root.now (length steps) steps) }
+{
+    let mut seen = Seen::new(alloc);
+    let mut steps = Steps::new(alloc);
+    steps.note(0, root.copy(alloc)?)?;
     let mut place = 0;
     while place < steps.len() {
-        if steps[place].pair == *target {
-            return Ok(Some(traced(alloc, &steps, place)?));
-        }
-        let pair = &steps[place].pair;
-        let targets = unseen_targets(alloc, sites, pair, &mut groups)?;
-        note_steps(alloc, &mut steps, &mut seen, place, targets)?;
+        let pair = &steps.as_slice()[place].pair;
+        let targets = unseen_targets(alloc, sites, pair, &mut seen)?;
+        steps.note_all(place, targets)?;
         place += 1;
     }
-    Ok(None)
+    Ok(steps)
+}
+
+/// The trail to a pair by the steps of a search, None where it has no step.
+fn trail_to(alloc: Global, steps: &Steps, pair: &Pair) -> Result<Option<Sequence<Pair>>, AllocError>
+    requires { GoBack steps.now }
+    ensures { IfOk result (λ trail. (sites : List SiteEvents) (root : Pair)
+        → AreSteps (Related sites) root (length steps.now) steps.now → TellsTrail sites root pair.now trail) }
+{
+    match steps.place_of(pair) {
+        Some(place) => {
+            let pairs = traced(alloc, steps.as_slice(), place)?;
+            Ok(Some(Sequence::from_vec(pairs)))
+        }
+        None => Ok(None),
+    }
 }
 
 /// The pairs of the steps that lead to a place.
@@ -66,38 +80,4 @@ fn traced(alloc: Global, steps: &[Step], last: usize) -> Result<Vec<Pair>, Alloc
         pairs.push_front(steps[place].pair.copy(alloc)?)?;
     }
     pairs.into_iter().collect(alloc)
-}
-
-/// Notes the targets of the step at a place, those that weren't seen before.
-fn note_steps(
-    alloc: Global,
-    steps: &mut Vec<Step>,
-    seen: &mut BTreeSet<Pair>,
-    from: usize,
-    targets: Vec<Pair>,
-) -> Result<(), AllocError>
-    ensures { OnOk result (NotesSteps steps.old.items steps.new.items seen.old seen.new from targets.items) }
-{
-    for target in targets {
-        note_step(alloc, steps, seen, from, target)?;
-    }
-    Ok(())
-}
-
-/// Notes a target of the step at a place, if it wasn't seen before.
-fn note_step(
-    alloc: Global,
-    steps: &mut Vec<Step>,
-    seen: &mut BTreeSet<Pair>,
-    from: usize,
-    target: Pair,
-) -> Result<(), AllocError>
-    ensures { OnOk result (NotesSteps steps.old.items steps.new.items seen.old seen.new from (target ∷ [])) }
-{
-    if !seen.contains(&target) {
-        let pair = target.copy(alloc)?;
-        steps.push(Step { pair, from })?;
-        seen.insert(target)?;
-    }
-    Ok(())
 }

@@ -150,7 +150,7 @@ fn is_refused(alloc: Global, text: &str, fault: EpcFault) -> bool {
     Epc::read(alloc, text).err() == Some(fault)
 }
 
-// The faults, the first that applies; none of them is told as want of memory.
+// The faults, the first that applies; none of them is reported as out of memory.
 #[test]
 fn refusals(rt: HostRuntime) -> Result<(), Fail> {
     let mut long = String::new(rt.alloc());

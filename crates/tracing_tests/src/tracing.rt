@@ -1,5 +1,5 @@
-//! What is told of events that are added; what is made of several items; chains and transformations that are long or
-//! told in many parts; and texts that are told apart at their ends.
+//! What is reported of events that are added; what is made of several items; chains and transformations that are
+//! long or reported in many parts; and texts that are told apart at their ends.
 
 mod makers;
 

@@ -1,4 +1,4 @@
-//! Each kind of fault as it is printed, with its event and field. None is told as want of memory.
+//! Each kind of fault as it is printed, with its event and field. None is reported as out of memory.
 
 use super::{EVENTS, NOTHING, OBJECT, TRANSFORMATION, have_outcomes, is_outcome, within};
 use std::alloc::{AllocError, Global};

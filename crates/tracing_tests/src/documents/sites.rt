@@ -13,7 +13,7 @@ fn is_refused(alloc: Global, name: &str, addresses: &[&str], want: &str) -> Resu
     }
 }
 
-/// Whether each reason is told where those after it would fit, too. None is told as want of memory.
+/// Whether each reason is reported where those after it would fit, too. None is reported as out of memory.
 fn are_refused(alloc: Global) -> Result<bool, Fail> {
     let many = [""; 17];
     Ok(

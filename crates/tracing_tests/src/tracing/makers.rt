@@ -38,7 +38,7 @@ fn note(alloc: Global, members: &str) -> Result<String, AllocError> {
     format!(in alloc; r#"{{"type":"ObjectEvent",{TIMES},"action":"OBSERVE",{members}}}"#)
 }
 
-/// What is told of two ObjectEvents with these members, which are added together.
+/// What is reported of two ObjectEvents with these members, which are added together.
 fn told(alloc: Global, site: &mut Captured, members: (&str, &str)) -> Result<String, Fail> {
     let first = note(alloc, members.0)?;
     let second = note(alloc, members.1)?;
@@ -129,7 +129,7 @@ fn long_event(alloc: Global, ends: Ends) -> Result<String, AllocError> {
     )
 }
 
-/// Captures the event of these texts, and tells how it stood.
+/// Captures the event of these texts, and returns how it stood.
 fn stood(alloc: Global, site: &mut Captured, ends: Ends) -> Result<Standing, Fail> {
     let text = long_event(alloc, ends)?;
     let mut events = read(alloc, text.as_str())?.events.into_vec();
@@ -182,7 +182,8 @@ fn spreads_to_all_outputs(alloc: Global, site: &Captured) -> Result<bool, Fail> 
     Ok(found.len() == 1001 && looks == 2001)
 }
 
-/// Whether so it is at a site with a transformation that is told in parts: 1,000 of one input, and 1,000 of one output.
+/// Whether so it is at a site with a transformation that is reported in parts: 1,000 of one input, and 1,000 of one
+/// output.
 pub fn parts_are_looked_at_once(alloc: Global) -> Result<bool, Fail> {
     let mut site = fresh(alloc);
     for item in 0..1000 {

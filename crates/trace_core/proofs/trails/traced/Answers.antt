@@ -1,5 +1,5 @@
 use Rattle.std.proofs.Common.{sym, ap, ◌∙◌, arith}
-use Rattle.trace_core.specs.declared.trails.Step.{Step}
+use Rattle.trace_core.specs.declared.steps.Step.{Step}
 use Rattle.trace_core.proofs.TrailSteps.{trace_back}
 use Rattle.trace_core.proofs.trails.traced.Goals as goal
 

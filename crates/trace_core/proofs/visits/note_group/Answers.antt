@@ -16,5 +16,5 @@ returns-in-Some-clause-noted c = on_ok_weaker c.note_parts.result
 pub returns-in-None-clause-noted : goal.returns-in-None-clause-noted
 returns-in-None-clause-noted c = on_ok_weaker c.note_outputs.result
     (λ noted. same_nodes c.args.nodes.now c.note_outputs.new.self _ _
-    (ap (made_nodes c.args.me c.args.number) c.outs_at.ensures ∙ group_alone c.args.me c.args.book.now c.args.number c.args.place c.args.body.now (sym c.make_id.ensures ∙ ap (option_map (λ t. t.now)) c.in-None.is)) noted)
-    c.note_outputs.ensures.noted
+    (ap (made_nodes c.args.me c.args.number) c.outs_at-outs.ensures.outs ∙ group_alone c.args.me c.args.book.now c.args.number c.args.place c.args.body.now (sym c.make_id.ensures ∙ ap (option_map (λ t. t.now)) c.in-None.is)) noted)
+    c.note_outputs.ensures

@@ -2,30 +2,30 @@ use Rattle.std.proofs.Common.{List, subst, arith}
 use Rattle.std.proofs.lemmas.List.{get_or_default}
 use Rattle.event_json.specs.Events.{Content}
 use Rattle.trace_core.specs.Groups.{LooksAtUnseen}
-use Rattle.trace_core.proofs.GainSteps.{no_place, one_place, all_places}
+use Rattle.trace_core.proofs.GainSteps.{gains_sent, one_place, all_places}
 use Rattle.trace_core.proofs.GroupSteps.{sees_none, sees_both}
 use Rattle.trace_core.proofs.LookSteps.{looks_both, looks_none}
 use Rattle.trace_core.proofs.visits.visit_item.Goals as goal
 
 pub loop-place-init : goal.loop-place-init
 loop-place-init c = record {
-  gains = no_place c.args.ships c.args.site.now c.args.number c.args.item c.places_at-place-items.result.now c.args.seen.now c.args.nodes.now;
+  gains = gains_sent c.args.ships c.args.site.now c.args.number c.args.item c.takers_at-place-items.result.now c.me.result c.book-book.result.now c.args.seen.now c.args.nodes.now c.note_sent.new.nodes c.me.ensures c.book-book.ensures c.in_ok-note_sent.ensures;
   only = sees_none c.args.number c.args.seen.now;
   looks = looks_none c.args.number c.args.site.now.events c.args.seen.now c.args.looks.now;
 }
 
 pub loop-place-preserved : goal.loop-place-preserved
 loop-place-preserved c = record {
-  gains = one_place c.args.ships c.args.site.now c.args.number c.args.item c.places_at-place-items.result.now c.loop-place.place-index _ c.me.result c.book-book.result.now
-      c.args.seen.now c.loop-place.seen c.visit_event.new.seen c.args.nodes.now c.loop-place.nodes c.visit_event.new.nodes (omega (arith, c.loop-place-test.true))
-      (get_or_default c.places_at-place-items.result.now c.loop-place.place-index 0 _ (omega (arith, c.loop-place-test.true)))
-      c.me.ensures c.book-book.ensures c.places_at-place-items.ensures c.loop-place.invariant.gains c.in_ok-visit_event.ensures.gains;
-  only = sees_both c.args.number c.args.seen.now c.loop-place.seen c.visit_event.new.seen c.loop-place.invariant.only c.in_ok-visit_event.ensures.only;
-  looks = looks_both c.args.number c.args.site.now.events c.args.seen.now c.loop-place.seen c.visit_event.new.seen _ _ _ c.loop-place.invariant.looks
-      (subst (λ (es : List Content). LooksAtUnseen c.args.number es c.loop-place.seen c.visit_event.new.seen c.loop-place.looks c.visit_event.new.looks) c.book-book.ensures c.in_ok-visit_event.ensures.looks);
+  gains = one_place c.args.ships c.args.site.now c.args.number c.args.item c.takers_at-place-items.result.now c.loop-place.place-index _ c.me-in-loop-place.result c.book-book.result.now
+      c.args.seen.now c.loop-place.seen c.visit_make.new.seen c.args.nodes.now c.loop-place.nodes c.visit_make.new.nodes (omega (arith, c.loop-place-test.true))
+      (get_or_default c.takers_at-place-items.result.now c.loop-place.place-index 0 _ (omega (arith, c.loop-place-test.true)))
+      c.me-in-loop-place.ensures c.book-book.ensures c.loop-place.invariant.gains c.in_ok-visit_make.ensures.gains;
+  only = sees_both c.args.number c.args.seen.now c.loop-place.seen c.visit_make.new.seen c.loop-place.invariant.only c.in_ok-visit_make.ensures.only;
+  looks = looks_both c.args.number c.args.site.now.events c.args.seen.now c.loop-place.seen c.visit_make.new.seen _ _ _ c.loop-place.invariant.looks
+      (subst (λ (es : List Content). LooksAtUnseen c.args.number es c.loop-place.seen c.visit_make.new.seen c.loop-place.looks c.visit_make.new.looks) c.book-book.ensures c.in_ok-visit_make.ensures.looks);
 }
 
 pub returns-clause-gains : goal.returns-clause-gains
-returns-clause-gains c = all_places c.args.ships c.args.site.now c.args.number c.args.item c.places_at-place-items.result.now c.loop-place.place-index c.book-book.result.now
+returns-clause-gains c = all_places c.args.ships c.args.site.now c.args.number c.args.item c.takers_at-place-items.result.now c.loop-place.place-index c.book-book.result.now
     c.args.seen.now c.loop-place.seen c.args.nodes.now c.loop-place.nodes (omega (arith, c.loop-place-test.false)) c.book-book.ensures
-    c.places_at-place-items.ensures c.loop-place.invariant.gains
+    c.takers_at-place-items.ensures c.loop-place.invariant.gains

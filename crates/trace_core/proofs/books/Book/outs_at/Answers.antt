@@ -1,11 +1,11 @@
-use Rattle.std.proofs.Common.{List, sym, subst, ◌∙◌}
-use Rattle.event_json.specs.Events.{Content}
-use Rattle.trace_core.specs.Numbers.{HasMembers}
-use Rattle.trace_core.proofs.KeptMembers.{outs_kept, no_outs_kept}
+use Rattle.std.proofs.Common.{length, slice_get, ap, subst, ◌∙◌}
+use Rattle.trace_core.specs.Looks.{more_looks, LooksAtMost}
+use Rattle.trace_core.proofs.VisitSteps.{outs_counted}
 use Rattle.trace_core.proofs.books.Book.outs_at.Goals as goal
 
-pub returns-in-Some : goal.returns-in-Some
-returns-in-Some c = c.outs.ensures ∙ outs_kept c.args.self.now c.self.inside.index.members.items (subst (λ (es : List Content). HasMembers es c.self.inside.index.members.items) c.self.view_is c.self.invariant.items.members) c.args.place c.in-Some.members.now (sym c.in-Some.ensures)
+pub returns-clause-counted : goal.returns-clause-counted
+returns-clause-counted c = c.count_looks.ensures.counted ∙ ap (λ n. more_looks n c.args.looks.now) (ap length c.kept_outs-outs.ensures ∙ outs_counted c.args.self.now (slice_get c.args.self.now c.args.place))
 
-pub returns-in-None : goal.returns-in-None
-returns-in-None c = no_outs_kept c.args.self.now c.self.inside.index.members.items (subst (λ (es : List Content). HasMembers es c.self.inside.index.members.items) c.self.view_is c.self.invariant.items.members) c.args.place (sym c.in-None.ensures)
+pub returns-clause-bounded : goal.returns-clause-bounded
+returns-clause-bounded c = subst (λ n. LooksAtMost n c.args.looks.now c.count_looks.new.looks) (ap length c.kept_outs-outs.ensures ∙ outs_counted c.args.self.now (slice_get c.args.self.now c.args.place))
+    c.count_looks.ensures.bounded

@@ -1,19 +1,18 @@
-use Rattle.std.proofs.Common.{◌≡◌, ◌↔◌, ap, ◌∙◌, arith}
+use Rattle.std.proofs.Common.{◌↔◌, ◌∷◌, []}
 use Rattle.std.specs.List.{Contains}
 use Rattle.std.proofs.lemmas.Result.{IfOk-weaker}
 use Rattle.trace_core.specs.declared.pairs.Pair.{Pair}
+use Rattle.trace_core.specs.Chains.{Related}
+use Rattle.trace_core.specs.Groups.{IsGivenBy}
 use Rattle.trace_core.specs.Pairs.{IsRelated}
-use Rattle.trace_core.specs.Places.{places_where, names_item}
-use Rattle.trace_core.specs.Sites.{SiteEvents}
-use Rattle.trace_core.proofs.RelatedPlaces.{related_at_places}
+use Rattle.trace_core.specs.Searches.{AreUnseen}
+use Rattle.trace_core.proofs.ReachSteps.{related_alone}
 use Rattle.trace_core.proofs.captured.Captured.related.Goals as goal
 
--- the set has what the events at all places relate the item to
+-- what a search that has seen nothing notes from the item
 pub returns-clause-exact : goal.returns-clause-exact
-returns-clause-exact c = IfOk-weaker c.keys_in_order.result
-    (λ pairs. pairs.items ≡ c.loop-place.pairs.keys)
+returns-clause-exact c = IfOk-weaker c.unseen_targets.result
+    (λ targets. AreUnseen (Related (c.args.self.now ∷ []) (record { site = c.me.result; item = c.in_ok-copy.field-0 })) (IsGivenBy (c.args.self.now ∷ [])) c.new.result c.unseen_targets.new.seen targets.items)
     (λ pairs. (p : Pair) → Contains pairs.items p ↔ IsRelated c.args.self.now c.args.item.now p)
-    (λ pairs keys. related_at_places c.args.self.now c.args.item.now c.loop-place.pairs pairs.items _ c.loop-place.place-index keys (omega arith)
-    (c.places_of-place-items.ensures ∙ ap (λ (s : SiteEvents). places_where (names_item c.args.item.now) s.events) c.self.view_is)
-    c.loop-place.invariant)
-    c.keys_in_order.ensures.keys
+    (λ targets unseen. related_alone c.args.self.now c.me.result c.args.item.now c.in_ok-copy.field-0 c.new.result c.unseen_targets.new.seen targets.items c.me.ensures c.in_ok-copy.ensures c.new.ensures unseen)
+    c.unseen_targets.ensures.unseen

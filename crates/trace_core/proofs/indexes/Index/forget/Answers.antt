@@ -6,6 +6,7 @@ use Rattle.trace_core.proofs.indexes.Index.forget.Goals as goal
 pub returns : goal.returns
 returns c events last before = record {
   items = c.forget_members.ensures events last before.items;
+  sent = c.forget_sent.ensures events c.args.event.now before.sent;
   ids = record {
     ids = index_less (text_places c.args.self.now.ids) (text_places c.forget_id.new.index) has_id events c.args.place last c.args.event.now
         (forgets_id _ _ c.args.place c.args.event.now _ c.args.event.now.id c.id.ensures.value c.forget_id.ensures) before.ids.ids;

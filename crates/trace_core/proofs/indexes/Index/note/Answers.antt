@@ -1,9 +1,12 @@
-use Rattle.std.proofs.Common.{List, ◌∷◌, [], ◌++◌, length, sym, ap, subst, ◌∙◌}
+use Rattle.std.proofs.Common.{List, ℕ, ◌∷◌, [], ◌++◌, take, sym, ap, subst, ◌∙◌}
 use Rattle.event_json.specs.declared.bodies.Body.{Body}
-use Rattle.trace_core.specs.Numbers.{HasMembers, names_of, numbers_of, ins_in, members_in}
 use Rattle.trace_core.specs.declared.event_items.Members.{Members}
+use Rattle.trace_core.specs.declared.sendings.Sending.{Sending}
+use Rattle.trace_core.specs.Numbers.{HasMembers, names_of, numbers_of, outs_in, moved_in}
+use Rattle.trace_core.specs.Sendings.{HasSent}
 use Rattle.trace_core.proofs.IndexSteps.{items_noted, names_noted, items_kept, names_kept, items_undone, names_undone, members_more, count_names}
 use Rattle.trace_core.proofs.PlaceSteps.{after_fault}
+use Rattle.trace_core.proofs.SendingSteps.{all_sent, event_more, extends_back}
 use Rattle.trace_core.proofs.indexes.Index.note.Goals as goal
 
 -- the items weren't noted
@@ -15,11 +18,13 @@ returns-in_err-numbers-clause-err c = after_fault c.from_residual-in_err-numbers
     members = subst (λ (ms : List Members). HasMembers events ms) (sym c.in_ok-reserve.ensures.items) before.items.members;
   };
   ids = before.ids;
+  sent = subst (λ (ns : List ℕ). HasSent events c.args.self.now.sent ns) (sym c.in_ok-reserve-2.ensures.items) before.sent;
 })
 
 pub returns-in-Ok-clause-ok : goal.returns-in-Ok-clause-ok
 returns-in-Ok-clause-ok c events last before =
     let names = names_noted c.args.self.now.items events c.args.place last before.items.names before.items.places c.note_items_of.new.known c.args.event.now c.body.result.now c.body.ensures.value c.in_ok-numbers.ensures.ok in
+    let numbers = c.in_ok-numbers.ensures.numbers ∙ ap (λ (b : Body). numbers_of (names_of c.note_items_of.new.known) (moved_in b)) c.body.ensures.value in
     record {
       items = record {
         places = items_noted c.args.self.now.items events c.args.place last before.items.names before.items.places c.note_items_of.new.known c.args.event.now c.body.result.now c.body.ensures.value c.in_ok-numbers.ensures.ok;
@@ -27,10 +32,14 @@ returns-in-Ok-clause-ok c events last before =
         members = subst (λ (ms : List Members). HasMembers (events ++ c.args.event.now ∷ []) ms) (sym c.push_reserved.ensures.items)
             (members_more events c.args.event.now c.reserve.new.self.items _ (subst (λ (ms : List Members). HasMembers events ms) (sym c.in_ok-reserve.ensures.items) before.items.members)
             (c.len-known.ensures ∙ sym (count_names c.args.self.now.items events before.items.names))
-            (c.input_count-ins.ensures ∙ ap (λ (b : Body). length (ins_in b)) c.body-in-Ok.ensures.value)
-            (c.in_ok-numbers.ensures.numbers ∙ ap (λ (b : Body). numbers_of (names_of c.note_items_of.new.known) (members_in b)) c.body.ensures.value ∙ ap (λ ns. numbers_of ns (members_in c.args.event.now.body)) names));
+            (c.kept_numbers-outs.ensures (names_of c.note_items_of.new.known) (numbers ∙ ap (λ (b : Body). numbers_of (names_of c.note_items_of.new.known) (moved_in b)) (sym c.body-in-Ok.ensures.value))
+            ∙ ap (λ (b : Body). numbers_of (names_of c.note_items_of.new.known) (outs_in b)) c.body-in-Ok.ensures.value ∙ ap (λ ns. numbers_of ns (outs_in c.args.event.now.body)) names));
       };
       ids = c.in-Ok.ensures.ok events last before.ids;
+      sent = subst (λ (ns : List ℕ). HasSent (events ++ c.args.event.now ∷ []) c.note_rest.new.sent ns)
+          (sym (c.push_reserved-in-Ok.ensures.items ∙ ap (λ ns. ns ++ c.len-before.result ∷ []) c.in_ok-reserve-2.ensures.items ∙ ap (λ n. c.args.self.now.counts.items ++ n ∷ []) c.len-before.ensures))
+          (event_more events c.args.self.now.sent c.args.self.now.counts.items before.sent c.args.event.now c.note_rest.new.sent c.note_rest.ensures.front
+          (all_sent events c.args.event.now c.args.self.now.sent c.note_rest.new.sent c.in_ok-numbers.numbers before.sent.all (numbers ∙ ap (λ ns. numbers_of ns (moved_in c.args.event.now.body)) names) c.in-Ok.ensures.sent));
     }
 
 -- the rest wasn't
@@ -44,4 +53,7 @@ returns-in-Err-clause-err c events last before = record {
     members = subst (λ (ms : List Members). HasMembers events ms) (sym c.in_ok-reserve.ensures.items) before.items.members;
   };
   ids = c.in-Err.ensures.err events last before.ids;
+  sent = subst (λ (log : List Sending). HasSent events log c.reserve-2.new.self.items)
+      (sym (c.truncate.ensures ∙ ap (λ n. take n c.note_rest.new.sent) c.len-before.ensures ∙ extends_back c.args.self.now.sent c.note_rest.new.sent c.note_rest.ensures.front))
+      (subst (λ (ns : List ℕ). HasSent events c.args.self.now.sent ns) (sym c.in_ok-reserve-2.ensures.items) before.sent);
 }

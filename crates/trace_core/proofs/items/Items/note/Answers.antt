@@ -1,4 +1,4 @@
-use Rattle.std.proofs.Common.{List, sym, ap, ◌∙◌, subst, ⊎_elim}
+use Rattle.std.proofs.Common.{List, [], ◌∷◌, ◌++◌, sym, ap, ◌∙◌, subst, ⊎_elim}
 use Rattle.std.proofs.lemmas.Result.{on_ok_weaker}
 use Rattle.trace_core.specs.declared.items.Named.{Named}
 use Rattle.trace_core.specs.Numbers.{IsNumbered, names_of, number_in, noted}
@@ -13,7 +13,7 @@ invariant_of-self-in-None c = ⊎_elim
     (λ h. h)
     (λ h. h)
     (by_outcome c.add.result
-    (note_added _ _ _ _ c.args.item.now c.args.place c.add.result c.self.invariant (c.in-None.ensures ∙ ap (λ (xs : List Named). number_in (names_of xs) c.args.item.now) (sym c.self.view_is)) c.add.ensures.named c.add.ensures.numbers)
+    (note_added _ _ _ _ c.args.item.now _ c.add.result c.self.invariant (c.in-None.ensures ∙ ap (λ (xs : List Named). number_in (names_of xs) c.args.item.now) (sym c.self.view_is)) c.add.ensures.named c.add.ensures.numbers)
     (not_added _ _ _ _ c.add.result c.self.invariant c.add.ensures.err))
 
 pub returns-in-Some-clause-ok : goal.returns-in-Some-clause-ok
@@ -22,12 +22,13 @@ returns-in-Some-clause-ok c = on_ok_weaker c.note_at.result
     ∙ ap (noted c.args.place c.args.item.now) c.self.view_is)
     c.note_at.ensures.ok
 
-pub returns-in-None-clause-ok : goal.returns-in-None-clause-ok
-returns-in-None-clause-ok c = on_ok_weaker c.add.result
-    (λ is. is ∙ noted_new c.args.place c.args.item.now c.self.inside.named.items (c.in-None.ensures ∙ ap (λ (xs : List Named). number_in (names_of xs) c.args.item.now) (sym c.self.view_is))
+pub returns-in_ok-places-in-None-clause-ok : goal.returns-in_ok-places-in-None-clause-ok
+returns-in_ok-places-in-None-clause-ok c = on_ok_weaker c.add.result
+    (λ is. is ∙ ap (λ ps. c.self.inside.named.items ++ record { name = c.args.item.now; places = ps } ∷ []) c.in_ok-places-in-None.ensures
+    ∙ noted_new c.args.place c.args.item.now c.self.inside.named.items (c.in-None.ensures ∙ ap (λ (xs : List Named). number_in (names_of xs) c.args.item.now) (sym c.self.view_is))
     ∙ ap (noted c.args.place c.args.item.now) c.self.view_is)
     c.add.ensures.named
 
-pub returns-in-None-clause-number : goal.returns-in-None-clause-number
-returns-in-None-clause-number c = number_told c.add.result c.self.inside.named.items c.add.new.named.items c.args.item.now c.args.place
+pub returns-in_ok-places-in-None-clause-number : goal.returns-in_ok-places-in-None-clause-number
+returns-in_ok-places-in-None-clause-number c = number_told c.add.result c.self.inside.named.items c.add.new.named.items c.args.item.now _
     (c.in-None.ensures ∙ ap (λ (xs : List Named). number_in (names_of xs) c.args.item.now) (sym c.self.view_is)) c.add.ensures.named c.add.ensures.number

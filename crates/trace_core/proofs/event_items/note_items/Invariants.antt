@@ -1,7 +1,0 @@
-use Rattle.std.proofs.Common.{take}
-use Rattle.trace_core.specs.Indexes.{NotesItems}
-use Rattle.trace_core.proofs.event_items.note_items.Given as goal
-
--- the place is noted for the items so far
-abbrev pub invariant-loop-item : goal.invariant-loop-item
-invariant-loop-item l = NotesItems l.initial.known l.known l.place (take l.item-index l.items)
