@@ -24,7 +24,7 @@ same_addition a b r h k = cc
 refused : (n : ℕ) (a : Addition) (r : Result Addition ℕ) → r ≡ Err n → r ≡ Ok a → ⊥
 refused n a r h k = cc
 
--- a fault that is handed on
+-- a fault that is passed on
 pub handed_on : {T E : Type 0} (r : Result T E) (x : E) (Q : E → Type 0) → IsErrAnd r (λ y. y ≡ x) → Q x → IfErr r Q
 handed_on (Ok a) x Q h q = absurd h
 handed_on (Err e) x Q h q = subst Q (sym h) q

@@ -1,4 +1,4 @@
--- An answer tells whether the record changed.
+-- An answer says whether the record changed.
 use Rattle.std.proofs.Common.{◌≡◌, ◌≢◌, ◌↔◌, ℕ, zero, suc, ◌+◌, Bool, true, List, [], ◌∷◌, length, Some, None, refl, sym, ap, ◌∙◌, arith, lt-ltb}
 use Rattle.std.specs.Prelude.{IsFalse}
 use mathlib.Core.Bool.{false≢true}

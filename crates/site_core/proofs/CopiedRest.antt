@@ -42,6 +42,13 @@ captures_more s t input bytes told is does = by_effects told (subst (λ i. Does 
     by_effects (effects.Captured fresh known skipped) does = captured_more s t bytes fresh known skipped does
     by_effects other does = absurd does
 
+-- the record with the events of the other one is that one
+pub followed : (s t v : Record) (a : SiteEvents) → v ≡ s → CapturesMore s t → a ≡ t.captured → record v { captured = a } ≡ t
+followed s t v a view more same =
+    ap (λ (r : Record). record r { captured = a }) view
+    ∙ ap (λ (c : SiteEvents). record s { captured = c }) (same ∙ ap (λ (r : Record). r.captured) more.rest)
+    ∙ sym more.rest
+
 -- The copy of the rest.
 
 -- so many events of the site are copied behind those that were there

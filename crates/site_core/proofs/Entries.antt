@@ -34,7 +34,7 @@ module _ {K X : Type 0} {R : K → K → Ordering} (o : IsTotalOrder R) where
   entry_found m k v at = get-entries m k ∙ found_among (entries m) (entries_sorted m) k v at
 
   module _ (exact : IsAntisymmetric R) where
-    found_there : (es : List (K × X)) (k : K) (v : X) → find R k es ≡ Some v → Contains es (k, v)
+    pub found_there : (es : List (K × X)) (k : K) (v : X) → find R k es ≡ Some v → Contains es (k, v)
     found_there [] k v is = cc
     found_there (e ∷ es) k v is = elim (R k e.0) as (λ r. R k e.0 ≡ r → cond (is_eq r) (Some e.1) (find R k es) ≡ Some v → Contains (e ∷ es) (k, v)) [
       | Less ↦ λ _ h. contains_there e (k, v) es (found_there es k v h)

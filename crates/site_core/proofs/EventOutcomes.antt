@@ -33,7 +33,7 @@ use Rattle.site_core.proofs.Holders.{holding, holders_exact}
 use Rattle.site_core.proofs.ItemOrder.{item_total, item_exact}
 use Rattle.site_core.proofs.Places.{some_stands}
 use Rattle.site_core.proofs.Questions.{Decided, least_or_none}
-use Rattle.site_core.proofs.SourcesFound.{new_pair_source}
+use Rattle.site_core.proofs.SourcesFound.{new_pair_source, taken_moved}
 
 module _ (s : SiteEvents) (q : Quarantine) (e : Content) where
   module _ (i : List ℕ) (r : Recall) where
@@ -81,7 +81,7 @@ module _ (s : SiteEvents) (q : Quarantine) (e : Content) where
   is_candidate i r b = elim (new_pair_source s e i b.target b.new) [
     | inl moves ↦ Contains-append_left (moved_items e.body) (flat_map (λ (f : Content). moved_items f.body) s.events) i moves
     | inr part ↦ Contains-append_right (moved_items e.body) (flat_map (λ (f : Content). moved_items f.body) s.events) i
-        (contains-flat_map (λ (f : Content). moved_items f.body) s.events part.1 i (part.0, part.2, part.3) part.4.1)
+        (contains-flat_map (λ (f : Content). moved_items f.body) s.events part.2.1 i (part.2.0, part.2.2, part.2.3) (taken_moved i part.2.1.body part.2.4.1))
   ]
 
   blocks_item : (i : List ℕ) → Decided ((r : Recall) × IsBlockedBy s q e i r)

@@ -59,7 +59,7 @@ no_empty_with q r i full s is = elim (one_key recall_total recall_exact s r) [
 no_items : (items : Items) → items ≡ set.empty → (set.len items == 0) ≡ true
 no_items items is = ap (λ s. set.len s == 0) is ∙ ap (λ n. n == 0) (len-empty item_cmp (Unit {0}))
 
-no_length : (n : ℕ) → (n == 0) ≡ true → n ≡ 0
+pub no_length : (n : ℕ) → (n == 0) ≡ true → n ≡ 0
 no_length n h = grind (arith, nat_tests)
 
 some_items : (items : Items) → items ≢ set.empty → (set.len items == 0) ≡ false

@@ -16,10 +16,10 @@ use Rattle.site_core.proofs.ItemOrder.{item_total, item_exact}
 abbrev IsHeld : Quarantine → Recall → List ℕ → Type 0
 IsHeld q r i = IsTrue (held q r i)
 
-among_here : (items : Items) (i : List ℕ) → set.contains (set.insert items i) i ≡ true
+pub among_here : (items : Items) (i : List ℕ) → set.contains (set.insert items i) i ≡ true
 among_here items i = ap is_some (get_here item_total item_exact items i tt)
 
-among_apart : (items : Items) (i j : List ℕ) → j ≢ i → set.contains (set.insert items i) j ≡ set.contains items j
+pub among_apart : (items : Items) (i j : List ℕ) → j ≢ i → set.contains (set.insert items i) j ≡ set.contains items j
 among_apart items i j ne = ap is_some (get_apart item_total item_exact items i tt j ne)
 
 pub held_one : (q : Quarantine) (r : Recall) (i : List ℕ) (s : Recall) (j : List ℕ) → IsHeld (with_item q r i) s j ↔ (((s ≡ r) × (j ≡ i)) ⊎ IsHeld q s j)

@@ -1,12 +1,11 @@
 -- The recalls under which an item is held, among the entries of a quarantine.
-use Rattle.std.proofs.Common.{◌≡◌, ◌↔◌, ℕ, Bool, true, false, cond, Some, List, [], ◌∷◌, ◌++◌, map, filter, refl, sym, ap, subst, ◌∙◌, ⊎_elim, append_assoc}
+use Rattle.std.proofs.Common.{◌≡◌, ◌↔◌, ℕ, Bool, true, false, cond, Some, List, [], ◌∷◌, ◌++◌, map, filter, refl, sym, ap, subst, ◌∙◌, ⊎_elim}
 use Rattle.std.specs.Prelude.{T, IsTrue, is_some}
 use mathlib.Core.Bool.{false≢true}
 use Rattle.std.specs.FinMap.{find, is_sorted, entries, entries_sorted, get-entries, get-empty}
 use Rattle.std.specs.FinMap.Entries.{below_all}
 use Rattle.site_core.specs.ItemSets as set
 use Rattle.std.specs.List.{AllByRecursion, Contains}
-use Rattle.std.specs.List.Sorted.{IsStrictlySortedBy}
 use Rattle.std.specs.Ordering.{is_lt, is_eq, ordering_reverse}
 use Rattle.std.specs.declared.cmp.Ordering.{Ordering}
 use Rattle.std.specs.declared.cmp.Ordering.TheVariants.{Less, Equal, Greater}
@@ -36,32 +35,11 @@ module _ (i : List ℕ) where
   abbrev pub holding : List (Recall × Items) → List Recall
   holding es = map (λ e. e.0) (filter has es)
 
-  pub next_has : (xs es : List (Recall × Items)) (e : Recall × Items) (out total : List Recall) → xs ≡ e ∷ es → has e ≡ true → out ++ holding xs ≡ total → (out ++ e.0 ∷ []) ++ holding es ≡ total
-  next_has xs es e out total next h so_far =
-      let one : holding xs ≡ e.0 ∷ holding es = ap holding next ∙ ap (λ b. map (λ (x : Recall × Items). x.0) (cond b (e ∷ filter has es) (filter has es))) h in
-      append_assoc out (e.0 ∷ []) (holding es) ∙ ap (λ rs. out ++ rs) (sym one) ∙ so_far
-
-  pub next_lacks : (xs es : List (Recall × Items)) (e : Recall × Items) (out total : List Recall) → xs ≡ e ∷ es → has e ≡ false → out ++ holding xs ≡ total → out ++ holding es ≡ total
-  next_lacks xs es e out total next h so_far =
-      let one : holding xs ≡ holding es = ap holding next ∙ ap (λ b. map (λ (x : Recall × Items). x.0) (cond b (e ∷ filter has es) (filter has es))) h in
-      ap (λ rs. out ++ rs) (sym one) ∙ so_far
-
-  pub at_end : (xs : List (Recall × Items)) (out total : List Recall) → xs ≡ [] → out ++ holding xs ≡ total → out ≡ total
-  at_end xs out total none so_far = sym (append_nil out) ∙ ap (λ es. out ++ holding es) (sym none) ∙ so_far
-
   all_above : (x : Recall) (es : List (Recall × Items)) → T (below_all recall_cmp x es) → AllByRecursion (λ y. recall_cmp x y ≡ Less) (holding es)
   all_above x [] h = tt
   all_above x (e ∷ es) h = elim (has e) as (λ b. AllByRecursion (λ y. recall_cmp x y ≡ Less) (map (λ (x : Recall × Items). x.0) (cond b (e ∷ filter has es) (filter has es)))) [
     | true ↦ (less _ (first _ _ h), all_above x es (second _ _ h))
     | false ↦ all_above x es (second _ _ h)
-  ]
-
-  ascends : (es : List (Recall × Items)) → T (is_sorted recall_cmp es) → IsStrictlySortedBy recall_cmp (holding es)
-  unfolding IsStrictlySortedBy
-  ascends [] h = tt
-  ascends (e ∷ es) h = elim (has e) as (λ b. IsStrictlySortedBy recall_cmp (map (λ (x : Recall × Items). x.0) (cond b (e ∷ filter has es) (filter has es)))) [
-    | true ↦ (all_above e.0 es (first _ _ h), ascends es (second _ _ h))
-    | false ↦ ascends es (second _ _ h)
   ]
 
   abbrev Found : Recall → List (Recall × Items) → Type 0
@@ -93,7 +71,7 @@ module _ (i : List ℕ) where
     | false ↦ c
   ]
 
-  pub holding_has : (e : Recall × Items) (es : List (Recall × Items)) → has e ≡ true → Contains (holding (e ∷ es)) e.0
+  holding_has : (e : Recall × Items) (es : List (Recall × Items)) → has e ≡ true → Contains (holding (e ∷ es)) e.0
   holding_has e es h = subst (λ b. Contains (map (λ (x : Recall × Items). x.0) (cond b (e ∷ filter has es) (filter has es))) e.0) (sym h) (contains_here e.0 (holding es))
 
   from_found : (es : List (Recall × Items)) (r : Recall) → Found r es → Contains (holding es) r
@@ -105,20 +83,7 @@ module _ (i : List ℕ) where
         | Greater ↦ λ t f. more e es r (from_found es r f)
       ] refl h
 
-  pub holders_ascend : (q : Quarantine) → IsStrictlySortedBy recall_cmp (holding (entries q))
-  holders_ascend q = ascends (entries q) (entries_sorted q)
-
   pub holders_exact : (q : Quarantine) (r : Recall) → Contains (holding (entries q)) r ↔ IsTrue (held q r i)
   holders_exact q r =
       let same : set.contains (or_none (find recall_cmp r (entries q))) i ≡ held q r i = ap (λ o. set.contains (or_none o) i) (sym (get-entries q r)) in
       (λ c. sym same ∙ to_found (entries q) (entries_sorted q) r c, λ h. from_found (entries q) r (same ∙ h))
-
-  -- what is found to hold the item
-  pub held_at : (q : Quarantine) (xs es : List (Recall × Items)) (e : Recall × Items) → xs ≡ e ∷ es → has e ≡ true → holding xs ≡ holding (entries q) → IsTrue (held q e.0 i)
-  held_at q xs es e next h so_far = (holders_exact q e.0).0 (subst (λ rs. Contains rs e.0) so_far (subst (λ ys. Contains (holding ys) e.0) (sym next) (holding_has e es h)))
-
-  pub passed_by : (xs es : List (Recall × Items)) (e : Recall × Items) (total : List Recall) → xs ≡ e ∷ es → has e ≡ false → holding xs ≡ total → holding es ≡ total
-  passed_by xs es e total next h so_far = next_lacks xs es e [] total next h so_far
-
-  pub held_nowhere : (q : Quarantine) (xs : List (Recall × Items)) → xs ≡ [] → holding xs ≡ holding (entries q) → (r : Recall) → IsTrue (held q r i) → ⊥
-  held_nowhere q xs none so_far r h = contains_none r (subst (λ rs. Contains rs r) (sym so_far ∙ ap holding none) ((holders_exact q r).1 h))

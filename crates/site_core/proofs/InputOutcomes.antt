@@ -1,4 +1,4 @@
--- An input has an outcome other than want of memory.
+-- An input has an outcome other than out of memory.
 use Rattle.std.proofs.Common.{◌≡◌, ◌≢◌, ◌==◌, inl, inr, ℕ, suc, ◌+◌, ◌<◌, ◌≤◌, ◌^◌, true, false, List, [], ◌∷◌, length, Some, None, Result, Ok, Err, refl, sym, ap, subst, ◌∙◌, arith}
 use Rattle.std.specs.Prelude.{IsTrue, is_some}
 use mathlib.Core.Bool.{false≢true}
@@ -83,7 +83,7 @@ is_known s i = elim (is_named s i) [
   ]
 ]
 
--- Reasons other than want of memory.
+-- Reasons other than out of memory.
 
 doc_is_none : (fault : DocFault) → refusals.Doc fault ≢ refusals.NoMemory
 doc_is_none fault h = cc

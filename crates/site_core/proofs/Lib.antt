@@ -4,6 +4,7 @@ pub mod Captures
 pub mod Changes
 pub mod ChangesTold
 pub mod Clearings
+pub mod Closed
 pub mod Closures
 pub mod CopiedRest
 pub mod Deliveries
@@ -13,6 +14,7 @@ pub mod EventsAmong
 pub mod EventOutcomes
 pub mod Growths
 pub mod Held
+pub mod HeldIndex
 pub mod HeldLaws
 pub mod Holders
 pub mod InputOutcomes

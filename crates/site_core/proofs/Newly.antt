@@ -1,5 +1,6 @@
 -- The items of a list that aren't held yet.
 use Rattle.std.proofs.Common.{◌≡◌, ◌↔◌, ℕ, Bool, true, false, not, cond, List, [], ◌∷◌, filter, refl, sym, subst, ⊎_elim}
+use Rattle.std.specs.Prelude.{IsTrue}
 use Rattle.std.specs.List.{Contains}
 use Rattle.std.proofs.lemmas.Bool.Decides.{Decides-not}
 use Rattle.std.proofs.lemmas.List.Kept.{IsStrictlySortedBy-filter}
@@ -37,14 +38,18 @@ module _ {X : Type 0} (p : X → Bool) where
       (λ later. more x xs y (is_kept xs y later passes))
       (contains_cases x y xs there)
 
+-- one that isn't held is left
+pub kept_new : (q : Quarantine) (r : Recall) (found out : List (List ℕ)) → out ≡ filter (λ j. not (held q r j)) found → (j : List ℕ) → Contains found j → (IsTrue (held q r j) → ⊥) → Contains out j
+kept_new q r found out is j there free = subst (λ xs. Contains xs j) (sym is) (is_kept (λ j. not (held q r j)) found j there ((Decides-not (held q r j) (λ h. h, λ h. h)).1 free))
+
 -- those of the spread that aren't held
-pub newly : (s : SiteEvents) (q : Quarantine) (r : Recall) (i : List ℕ) (found out : List (List ℕ)) → AreAscendingItems found → ((j : List ℕ) → Contains found j ↔ IsSpread s (i ∷ []) j)
+pub newly : (s : SiteEvents) (q : Quarantine) (r : Recall) (i : List ℕ) (found out : List (List ℕ)) → AreAscendingItems found → ((j : List ℕ) → (IsTrue (held q r j) → ⊥) → Contains found j ↔ IsSpread s (i ∷ []) j)
     → out ≡ filter (λ j. not (held q r j)) found → AreNewlyHeld s q r i out
 newly s q r i found out up exact is = record {
   ascending = subst AreAscendingItems (sym is) (IsStrictlySortedBy-filter item_cmp (λ j. not (held q r j)) found up);
   exact = λ j.
       let fresh = Decides-not (held q r j) (λ h. h, λ h. h) in (
-        λ h. let (there, passes) = passing (λ j. not (held q r j)) found j (subst (λ xs. Contains xs j) is h) in ((exact j).0 there, fresh.0 passes),
-        λ (spread, not_held). subst (λ xs. Contains xs j) (sym is) (is_kept (λ j. not (held q r j)) found j ((exact j).1 spread) (fresh.1 not_held)),
+        λ h. let (there, passes) = passing (λ j. not (held q r j)) found j (subst (λ xs. Contains xs j) is h) in ((exact j (fresh.0 passes)).0 there, fresh.0 passes),
+        λ (spread, not_held). subst (λ xs. Contains xs j) (sym is) (is_kept (λ j. not (held q r j)) found j ((exact j not_held).1 spread) (fresh.1 not_held)),
       );
 }

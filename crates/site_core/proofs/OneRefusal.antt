@@ -1,4 +1,4 @@
--- But for want of memory, an input that has an effect isn't refused, and one that is refused is so for one reason.
+-- Unless memory runs out, an input that has an effect isn't refused, and one that is refused is so for one reason.
 use Rattle.std.proofs.Common.{◌≡◌, ◌≢◌, ◌≤◌, ◌^◌, inl, inr, ℕ, suc, arith, Bool, List, Ok, Err, Some, None, refl, sym, ap, subst, ◌∙◌}
 use Rattle.event_json.specs.declared.doc_faults.DocFault.{DocFault}
 use Rattle.event_json.specs.declared.documents.Doc.{Doc}

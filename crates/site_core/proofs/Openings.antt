@@ -1,4 +1,4 @@
--- A recall that is started opens: its root's spread comes under it, and each shipment of that is told.
+-- A recall that is started opens: its root's spread comes under it, and each shipment of that is announced.
 use Rattle.std.proofs.Common.{◌≡◌, ℕ, List, length, sym, ap, subst, ◌∙◌}
 use Rattle.frame_core.specs.Numbers.{Recall}
 use Rattle.scholten_core.specs.Changes.{next_own, begun, began}

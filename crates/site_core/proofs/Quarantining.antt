@@ -1,4 +1,4 @@
--- An item's spread comes under a recall, and messages tell of shipments.
+-- An item's spread comes under a recall, and messages announce shipments.
 use Rattle.std.proofs.Common.{◌≡◌, inl, inr, ℕ, ◌+◌, true, false, List, length, Some, refl, sym, ap, ◌∙◌, arith}
 use mathlib.Core.Bool.{false≢true}
 use Rattle.std.specs.List.{Contains, slice_get}
@@ -47,7 +47,7 @@ module _ (s : Record) (r : Recall) (i : List ℕ) (new items : List (List ℕ)) 
     | false ↦ λ is. (held_several s.quarantine r new r j).1 (inl (refl, (newly.exact j).1 (spread, λ before. false≢true (sym is ∙ before))))
   ] refl
 
-  -- the items whose shipments are told are of the spread, and have all that come under the recall
+  -- the items whose shipments are announced are of the spread, and have all that come under the recall
   module _ (of_spread : (j : List ℕ) → Contains items j → Spreads s i j) (has_new : (j : List ℕ) → Contains new j → Contains items j) where
     message_row : (n : ℕ) (x : Row) → IsNewRow s.engagement.next_message r out n x → IsNewMessage s after r n x
     message_row n x row =

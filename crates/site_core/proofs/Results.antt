@@ -25,7 +25,7 @@ pub either_way : {A E P Q S : Type 0} (result : Result A E) → OnOk result P �
 either_way (Ok a) p q f g = f p
 either_way (Err e) p q f g = g q
 
--- what holds of the fault that a call handed on
+-- what holds of the fault that a call passed on
 pub of_fault : {A E : Type 0} (P : E → Type 0) (result : Result A E) (told : E) → IsErrAnd result (λ fault. fault ≡ told) → P told → IfErr result P
 of_fault P result told handed holds =
     let (fault, is, same) = err_from_is_err_and result handed in

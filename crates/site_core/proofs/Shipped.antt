@@ -12,7 +12,7 @@ use Rattle.std.proofs.lemmas.List.{take_all}
 use Rattle.std.proofs.lemmas.Map.Lookups.{CmpEqualImpliesEq, exact_pairs, exact_unsigned, exact_bytes}
 use Rattle.std.proofs.lemmas.Map.Views.{btree_set_contains_iff}
 use Rattle.trace_core.specs.declared.pairs.Pair.{Pair}
-use Rattle.trace_core.specs.Pairs.{IsShipped, IsRelated}
+use Rattle.trace_core.specs.Pairs.{IsShipped}
 use Rattle.trace_core.specs.Sites.{SiteEvents}
 use Rattle.trace_core.proofs.Members.{contains_here, contains_there, contains_cases, contains_none, contains-map}
 use Rattle.trace_core.proofs.SetMembers.{found-insert, contains_more, contains-from_map}
@@ -30,11 +30,26 @@ kept_total = then_total (on_total (λ (p : Shipment). p.item) nat_list_cmp_total
 abbrev pair_of : ℕ → List ℕ → Pair
 pair_of t i = record { site = t; item = i }
 
--- what was there, and the item at each other site among these pairs
-abbrev pub WithOthers : ℕ → BTreeSet Shipment → List Pair → ℕ → List ℕ → Type 0
-WithOthers me found pairs t i = IsTrue (is_in found t i) ⊎ ((t ≡ me → ⊥) × Contains pairs (record { site = t; item = i }))
+-- what was there, and these pairs
+abbrev pub WithPairs : BTreeSet Shipment → List Pair → ℕ → List ℕ → Type 0
+WithPairs found pairs t i = IsTrue (is_in found t i) ⊎ Contains pairs (record { site = t; item = i })
 
-module _ (me : ℕ) (pairs rest : List Pair) (p : Pair) (next : pairs ≡ p ∷ rest) where
+-- a pair is added
+pair_added : (p : Pair) (old new : BTreeSet Shipment) → Updates kept_cmp old new (record { item = p.item; site = p.site }) true
+    → (t : ℕ) (i : List ℕ) → IsTrue (is_in new t i) ↔ (IsTrue (is_in old t i) ⊎ (p ≡ record { site = t; item = i }))
+pair_added p old new upd t i =
+    let both = found-insert kept_cmp kept_total kept_exact old new (record { item = p.item; site = p.site }) upd (record { item = i; site = t }) in (
+      λ found. ⊎_elim
+          (λ before. inl before)
+          (λ same. inr (ap (λ (x : Shipment). record { site = x.site; item = x.item }) same))
+          (both.0 found),
+      λ h. ⊎_elim
+          (λ before. both.1 (inl before))
+          (λ same. both.1 (inr (ap (λ (x : Pair). record { item = x.item; site = x.site }) same)))
+          h,
+    )
+
+module _ (pairs rest : List Pair) (p : Pair) (next : pairs ≡ p ∷ rest) where
   first_or_later : (t : ℕ) (i : List ℕ) → Contains pairs (pair_of t i) → (p ≡ pair_of t i) ⊎ Contains rest (pair_of t i)
   first_or_later t i there = contains_cases p (pair_of t i) rest (subst (λ ps. Contains ps (pair_of t i)) next there)
 
@@ -44,68 +59,44 @@ module _ (me : ℕ) (pairs rest : List Pair) (p : Pair) (next : pairs ≡ p ∷ 
   is_first : (t : ℕ) (i : List ℕ) → p ≡ pair_of t i → Contains pairs (pair_of t i)
   is_first t i same = subst (λ x. Contains pairs x) same (subst (λ ps. Contains ps p) (sym next) (contains_here p rest))
 
-  -- the next pair is added, unless it is at this site
-  pub next_added : (old new : BTreeSet Shipment) → ((t : ℕ) (i : List ℕ) → IsTrue (is_in new t i) ↔ (IsTrue (is_in old t i) ⊎ ((t ≡ me → ⊥) × (p ≡ record { site = t; item = i }))))
-      → (t : ℕ) (i : List ℕ) → WithOthers me new rest t i ↔ WithOthers me old pairs t i
-  next_added old new adds t i = (
-    λ h. ⊎_elim
-        (λ found. ⊎_elim
-        (λ before. inl before)
-        (λ (away, same). inr (away, is_first t i same))
-        ((adds t i).0 found))
-        (λ (away, there). inr (away, later t i there))
-        h,
-    λ h. ⊎_elim
-        (λ before. inl ((adds t i).1 (inl before)))
-        (λ (away, there). ⊎_elim
-        (λ same. inl ((adds t i).1 (inr (away, same))))
-        (λ last. inr (away, last))
-        (first_or_later t i there))
-        h,
-  )
+  -- the next pair is added
+  pub next_added : (old new : BTreeSet Shipment) → Updates kept_cmp old new (record { item = p.item; site = p.site }) true → (t : ℕ) (i : List ℕ) → WithPairs new rest t i ↔ WithPairs old pairs t i
+  next_added old new upd t i =
+      let adds = pair_added p old new upd t i in (
+        λ h. ⊎_elim
+            (λ found. ⊎_elim
+            (λ before. inl before)
+            (λ same. inr (is_first t i same))
+            (adds.0 found))
+            (λ there. inr (later t i there))
+            h,
+        λ h. ⊎_elim
+            (λ before. inl (adds.1 (inl before)))
+            (λ there. ⊎_elim
+            (λ same. inl (adds.1 (inr same)))
+            (λ last. inr last)
+            (first_or_later t i there))
+            h,
+      )
 
--- a pair at another site is added
-pub away_added : (me : ℕ) (p : Pair) (old new : BTreeSet Shipment) → (p.site ≡ me → ⊥) → Updates kept_cmp old new (record { item = p.item; site = p.site }) true
-    → (t : ℕ) (i : List ℕ) → IsTrue (is_in new t i) ↔ (IsTrue (is_in old t i) ⊎ ((t ≡ me → ⊥) × (p ≡ record { site = t; item = i })))
-away_added me p old new other upd t i =
-    let both = found-insert kept_cmp kept_total kept_exact old new (record { item = p.item; site = p.site }) upd (record { item = i; site = t }) in (
-      λ found. ⊎_elim
-          (λ before. inl before)
-          (λ same. let site : p.site ≡ t = ap (λ (x : Shipment). x.site) same in
-          inr (λ own. other (site ∙ own), ap (λ (x : Shipment). record { site = x.site; item = x.item }) same))
-          (both.0 found),
-      λ h. ⊎_elim
-          (λ before. both.1 (inl before))
-          (λ (away, same). both.1 (inr (ap (λ (x : Pair). record { item = x.item; site = x.site }) same)))
-          h,
-    )
-
--- a pair at this site isn't
-pub own_left_out : (me : ℕ) (p : Pair) (found : BTreeSet Shipment) → p.site ≡ me
-    → (t : ℕ) (i : List ℕ) → IsTrue (is_in found t i) ↔ (IsTrue (is_in found t i) ⊎ ((t ≡ me → ⊥) × (p ≡ record { site = t; item = i })))
-own_left_out me p found own t i = (
-  λ before. inl before,
-  λ h. ⊎_elim (λ before. before) (λ (away, same). absurd (away (sym (ap (λ (x : Pair). x.site) same) ∙ own))) h,
-)
-
--- after all pairs that an item is related to, its shipments are there
-pub shipments_added : (s : SiteEvents) (item : List ℕ) (me : ℕ) (old new : BTreeSet Shipment) (pairs rest : List Pair) → me ≡ s.me → rest ≡ [] → ((p : Pair) → Contains pairs p ↔ IsRelated s item p)
-    → ((t : ℕ) (i : List ℕ) → WithOthers me new rest t i ↔ WithOthers me old pairs t i)
+-- after all pairs that an item was shipped to, its shipments are there
+pub shipments_added : (s : SiteEvents) (item : List ℕ) (old new : BTreeSet Shipment) (pairs rest : List Pair) → rest ≡ [] → ((p : Pair) → Contains pairs p ↔ IsShipped s item p)
+    → ((t : ℕ) (i : List ℕ) → WithPairs new rest t i ↔ WithPairs old pairs t i)
     → (t : ℕ) (i : List ℕ) → IsTrue (is_in new t i) ↔ (IsTrue (is_in old t i) ⊎ ((item ≡ i) × IsShipped s i (record { site = t; item = i })))
-shipments_added s item me old new pairs rest is none exact all t i = (
+shipments_added s item old new pairs rest none exact all t i = (
   λ h. ⊎_elim
       (λ before. inl before)
-      (λ (away, there). ⊎_elim
-      (λ (other, same, any). inr (sym same, subst (λ (j : List ℕ). IsShipped s j (pair_of t i)) (sym same) (other, same, any)))
-      (λ (here, made). absurd (away (here ∙ sym is)))
-      ((exact (pair_of t i)).0 there))
+      (λ there.
+      let shipped = (exact (pair_of t i)).0 there in
+      let same : item ≡ i = sym shipped.1 in
+      inr (same, subst (λ (j : List ℕ). IsShipped s j (pair_of t i)) same shipped))
       ((all t i).0 (inl h)),
   λ h. ⊎_elim
       (λ found. found)
-      (λ (away, there). absurd (contains_none (pair_of t i) (subst (λ ps. Contains ps (pair_of t i)) none there)))
+      (λ there. absurd (contains_none (pair_of t i) (subst (λ ps. Contains ps (pair_of t i)) none there)))
       ((all t i).1 (⊎_elim
       (λ before. inl before)
-      (λ (same, shipped). inr (λ own. shipped.0 (own ∙ is), (exact (pair_of t i)).1 (inl (subst (λ (j : List ℕ). IsShipped s j (pair_of t i)) (sym same) shipped))))
+      (λ (same, shipped). inr ((exact (pair_of t i)).1 (subst (λ (j : List ℕ). IsShipped s j (pair_of t i)) (sym same) shipped)))
       h)),
 )
 
@@ -147,7 +138,7 @@ all_shipped s items k found out past all up is = record {
       );
 }
 
--- the shipments in the order of the set, as they are told
+-- the shipments in the order of the set, as they are listed
 pub shipped_told : (s : SiteEvents) (items : List (List ℕ)) (k : ℕ) (found : BTreeSet Shipment) (kept : List Shipment) (out : List (ℕ × List ℕ)) → length items ≤ k → HasShipments s (take k items) found
     → kept ≡ found.keys → IsStrictlySortedBy kept_cmp kept → out ≡ map told kept → AreShipments s items out
 shipped_told s items k found kept out past all keys up is =

@@ -1,8 +1,9 @@
 -- The sources of the pairs that an event adds, and what is found of them.
-use Rattle.std.proofs.Common.{◌≡◌, ◌⊎◌, inl, inr, ℕ, ◌+◌, ◌<◌, ◌≤◌, true, List, Option, Some, None, take, get_or, length, ◌↔◌, sym, ap, subst, ◌∙◌, ⊎_elim}
+use Rattle.std.proofs.Common.{◌≡◌, ◌⊎◌, inl, inr, ℕ, ◌+◌, ◌<◌, ◌≤◌, true, List, [], ◌∷◌, Option, Some, None, take, get_or, length, ◌↔◌, refl, sym, ap, subst, ◌∙◌, ⊎_elim}
+use Rattle.std.specs.Prelude.{Any, IsTrue}
 use Rattle.std.specs.BTreeSet.{BTreeSet, Updates}
 use Rattle.std.specs.Cmp.Lexicographic.{slice_cmp}
-use Rattle.std.specs.List.{Any, Contains, slice_get}
+use Rattle.std.specs.List.{Contains, slice_get}
 use Rattle.std.specs.Ordering.{nat_cmp}
 use Rattle.std.proofs.lemmas.Cmp.{nat_list_cmp_total}
 use Rattle.std.proofs.lemmas.List.{take_all}
@@ -12,43 +13,31 @@ use Rattle.std.proofs.lemmas.Option.{slice_get-get_or}
 use Rattle.event_json.specs.Events.{Content}
 use Rattle.event_json.specs.declared.bodies.Body.{Body}
 use Rattle.event_json.specs.declared.bodies.Body.TheVariants.{Note, Ship, Make}
+use Rattle.frame_core.specs.Numbers.{Recall}
 use Rattle.trace_core.specs.declared.pairs.Pair.{Pair}
-use Rattle.trace_core.specs.Pairs.{Ships, TakesIn, make_id, HaveOneId}
+use Rattle.trace_core.specs.Pairs.{Ships, TakesIn, GivesOut, make_id, IsRelated}
+use Rattle.trace_core.specs.Parts.{TakesInAsPart}
 use Rattle.trace_core.specs.Places.{IsPartAt}
 use Rattle.trace_core.specs.Searches.{IsFound}
 use Rattle.trace_core.specs.Sites.{SiteEvents}
 use Rattle.trace_core.specs.Spreads.{IsNewTarget}
 use Rattle.trace_core.proofs.AddedPairs.{related_with}
+use Rattle.trace_core.proofs.Members.{contains_cases, contains_none}
 use Rattle.trace_core.proofs.SetMembers.{found-insert, contains_more}
-use Rattle.site_core.specs.Quarantines.{item_cmp}
-use Rattle.site_core.specs.Sources.{moved_items, FindsAlso, FindsMovedAt, FindsParts}
+use Rattle.site_core.specs.HeldIndex.{Index, IsIndex}
+use Rattle.site_core.specs.Quarantines.{Quarantine, held, item_cmp}
+use Rattle.site_core.specs.Sources.{moved_items, FindsAlso, FindsMovedAt, FindsParts, FindsIfInput, FindsHeldInputs, FindsJoined}
+use Rattle.site_core.proofs.HeldIndex.{held_entry}
 
 ships_moved : (i : List ℕ) (site : ℕ) (b : Body) → Ships i site b → Contains (moved_items b) i
 ships_moved i site (Note items) h = absurd h
 ships_moved i site (Ship items sites outside) h = h.0
 ships_moved i site (Make id ins outs) h = absurd h
 
-taken_moved : (i : List ℕ) (b : Body) → TakesIn i b → Contains (moved_items b) i
+pub taken_moved : (i : List ℕ) (b : Body) → TakesIn i b → Contains (moved_items b) i
 taken_moved i (Note items) h = absurd h
 taken_moved i (Ship items sites outside) h = absurd h
 taken_moved i (Make id ins outs) h = h
-
--- one of the events moves the item, and is a part of the transformation that the event is a part of
-abbrev pub IsMovedByPart : List Content → Content → List ℕ → Type 0
-IsMovedByPart events e i = Any (λ f. HaveOneId (make_id f.body) (make_id e.body) × Contains (moved_items f.body) i) events
-
--- a new pair begins in an item that the event moves, or that a part of its transformation does
-pub new_pair_source : (s : SiteEvents) (e : Content) (i : List ℕ) (q : Pair) → IsNewTarget s e i q → Contains (moved_items e.body) i ⊎ IsMovedByPart s.events e i
-new_pair_source s e i q (related, new) = ⊎_elim
-    (λ before. absurd (new before))
-    (λ added. ⊎_elim
-    (λ own. ⊎_elim
-    (λ (other, (ships, same)). inl (ships_moved i q.site e.body ships))
-    (λ (here, (takes, gives)). inl (taken_moved i e.body takes))
-    own)
-    (λ ((k, f, lt, at, (takes, one)), rest). inr (k, f, lt, at, (one, taken_moved i f.body takes)))
-    added)
-    (related_with s e i q related)
 
 -- one more item is found
 pub found_more : (first old new : BTreeSet (List ℕ)) (items : List (List ℕ)) (k : ℕ) (i copy : List ℕ) → k < length items → i ≡ get_or items k i → copy ≡ i → Updates item_cmp old new copy true
@@ -90,19 +79,93 @@ all_parts events id places n first found past exact so_far = record {
       so_far.all k (subst (λ ps. Contains ps k) (sym (take_all n places past)) ((exact k).1 (e, stands, is ∙ sym same))) e stands i moves;
 }
 
--- without an id there are no parts
-pub no_parts : (events : List Content) (found : BTreeSet (List ℕ)) (o : Option (List ℕ)) → None ≡ o → FindsParts o events found found
-no_parts events found o none = record { stay = λ i h. h; all = λ e there (id, own, other) i moves. absurd (no_such o id none other) }
-  where
-    no_such : (o : Option (List ℕ)) (id : List ℕ) → None ≡ o → o ≡ Some id → ⊥
-    no_such o id h k = cc
+-- those of the quarantined inputs are among all that parts move
+pub held_among_parts : (events : List Content) (q : Quarantine) (id : List ℕ) (old new : BTreeSet (List ℕ)) → FindsParts (Some id) events old new → FindsHeldInputs events q id old new
+held_among_parts events q id old new parts = record {
+  stay = parts.stay;
+  all = λ i r h (k, f, lt, at, (is, takes)). parts.all f (k, lt, at) (id, is, refl) i (taken_moved i f.body takes);
+}
 
--- the list has each source of a new pair
-pub sources_listed : (s : SiteEvents) (e : Content) (b b' : Body) (first own all : BTreeSet (List ℕ)) (items : List (List ℕ)) → b ≡ e.body → b' ≡ e.body → FindsAlso first own (moved_items b)
-    → FindsParts (make_id b') s.events own all → items ≡ all.keys → (i : List ℕ) (q : Pair) → IsNewTarget s e i q → Contains items i
-sources_listed s e b b' first own all items is is' also parts keys i q new =
+pub input_found : (events : List Content) (id item copy : List ℕ) (old new : BTreeSet (List ℕ)) → copy ≡ item → Updates item_cmp old new copy true → FindsIfInput events id item old new
+input_found events id item copy old new same upd =
+    let found : (j : List ℕ) → IsFound item_cmp old j ⊎ (copy ≡ j) → IsFound item_cmp new j = λ j. (found-insert (slice_cmp nat_cmp) nat_list_cmp_total exact_bytes old new copy upd j).1 in
+    record { stay = λ i h. found i (inl h); here = λ takes. found item (inr same) }
+
+-- The quarantined inputs, sought among all quarantined items.
+module _ (events : List Content) (q : Quarantine) (id : List ℕ) (first : BTreeSet (List ℕ)) where
+  -- those that aren't found are left
+  pub record FindsButLeft (left : List (List ℕ × BTreeSet Recall)) (found : BTreeSet (List ℕ)) : Type 0 where
+    pub stay : (i : List ℕ) → IsFound item_cmp first i → IsFound item_cmp found i
+    pub all : (i : List ℕ) (r : Recall) → IsTrue (held q r i) → TakesInAsPart events id i → IsFound item_cmp found i ⊎ ((recalls : BTreeSet Recall) × Contains left (i, recalls))
+
+  pub all_left : (index : Index) (left : List (List ℕ × BTreeSet Recall)) → left ≡ index.entries → IsIndex index q → FindsButLeft left first
+  all_left index left gives is = record {
+    stay = λ i h. h;
+    all = λ i r h takes. let (recalls, there) = held_entry index q is i r h in inr (recalls, subst (λ es. Contains es (i, recalls)) (sym gives) there);
+  }
+
+  module _ (left rest : List (List ℕ × BTreeSet Recall)) (e : List ℕ × BTreeSet Recall) (next : left ≡ e ∷ rest) where
+    either_left : {P : Type 0} (i : List ℕ) → ((recalls : BTreeSet Recall) × Contains left (i, recalls)) → (e.0 ≡ i → P) → P ⊎ ((recalls : BTreeSet Recall) × Contains rest (i, recalls))
+    either_left i (recalls, there) here = ⊎_elim
+        (λ same. inl (here (ap (λ (x : List ℕ × BTreeSet Recall). x.0) same)))
+        (λ later. inr (recalls, later))
+        (contains_cases e (i, recalls) rest (subst (λ es. Contains es (i, recalls)) next there))
+
+    pub input_tried : (old new : BTreeSet (List ℕ)) → FindsIfInput events id e.0 old new → FindsButLeft left old → FindsButLeft rest new
+    input_tried old new tried so_far = record {
+      stay = λ i h. tried.stay i (so_far.stay i h);
+      all = λ i r h takes. ⊎_elim
+          (λ before. inl (tried.stay i before))
+          (λ left. either_left i left (λ is. subst (IsFound item_cmp new) is (tried.here (subst (λ (j : List ℕ). TakesInAsPart events id j) (sym is) takes))))
+          (so_far.all i r h takes);
+    }
+
+  pub none_left : (left : List (List ℕ × BTreeSet Recall)) (found : BTreeSet (List ℕ)) → left ≡ [] → FindsButLeft left found → FindsHeldInputs events q id first found
+  none_left left found none so_far = record {
+    stay = so_far.stay;
+    all = λ i r h takes. ⊎_elim
+        (λ found. found)
+        (λ (recalls, there). absurd (contains_none (i, recalls) (subst (λ es. Contains es (i, recalls)) none there)))
+        (so_far.all i r h takes);
+  }
+
+-- the quarantined inputs of a transformation with an id are those of the body that has it
+module _ (events : List Content) (q : Quarantine) (b : Body) (old : BTreeSet (List ℕ)) where
+  one_id : (id other : List ℕ) (o : Option (List ℕ)) → Some id ≡ o → o ≡ Some other → id ≡ other
+  one_id id other o h k = cc
+
+  pub joined_held : (id : List ℕ) (new : BTreeSet (List ℕ)) → Some id ≡ make_id b → FindsHeldInputs events q id old new → FindsJoined events q b old new
+  joined_held id new is finds = record {
+    stay = finds.stay;
+    all = λ other i r named h takes. finds.all i r h (subst (λ (x : List ℕ). TakesInAsPart events x i) (sym (one_id id other (make_id b) is named)) takes);
+  }
+
+-- a part takes the item in, another gives out the pair's item
+module _ (s : SiteEvents) (id i : List ℕ) (q : Pair) where
+  pub parts_relate : TakesInAsPart s.events id i → Any (λ g. (make_id g.body ≡ Some id) × GivesOut q.item g.body) s.events → q.site ≡ s.me → IsRelated s i q
+  parts_relate (k, f, lt, at, (is, takes)) (l, g, lt', at', (named, gives)) here = inr (here, (k, f, lt, at, (takes, (l, g, lt', at', (inr (id, is, named), gives)))))
+
+-- a new pair begins in an item that the event moves, or in one that a part of its transformation takes in
+pub new_pair_source : (s : SiteEvents) (e : Content) (i : List ℕ) (q : Pair) → IsNewTarget s e i q
+    → Contains (moved_items e.body) i ⊎ ((id : List ℕ) × (make_id e.body ≡ Some id) × TakesInAsPart s.events id i)
+new_pair_source s e i q (related, new) = ⊎_elim
+    (λ before. absurd (new before))
+    (λ added. ⊎_elim
+    (λ own. ⊎_elim
+    (λ (other, (ships, same)). inl (ships_moved i q.site e.body ships))
+    (λ (here, (takes, gives)). inl (taken_moved i e.body takes))
+    own)
+    (λ ((k, f, lt, at, (takes, (id, first, second))), (here, gives)).
+    inr (id, second, (k, f, lt, at, (first, takes))))
+    added)
+    (related_with s e i q related)
+
+-- the list has each quarantined source of a new pair
+pub sources_listed : (s : SiteEvents) (q : Quarantine) (e : Content) (b b' : Body) (first own all : BTreeSet (List ℕ)) (items : List (List ℕ)) → b ≡ e.body → b' ≡ e.body → FindsAlso first own (moved_items b)
+    → FindsJoined s.events q b' own all → items ≡ all.keys → (i : List ℕ) (r : Recall) (p : Pair) → IsTrue (held q r i) → IsNewTarget s e i p → Contains items i
+sources_listed s q e b b' first own all items is is' also joined keys i r p h new =
     let found : IsFound item_cmp all i = ⊎_elim
-    (λ moves. parts.stay i (also.all i (subst (λ c. Contains (moved_items c) i) (sym is) moves)))
-    (λ (k, f, lt, at, (one, moves)). parts.all f (k, lt, at) (subst (λ c. HaveOneId (make_id f.body) (make_id c)) (sym is') one) i moves)
-    (new_pair_source s e i q new) in
+    (λ moves. joined.stay i (also.all i (subst (λ c. Contains (moved_items c) i) (sym is) moves)))
+    (λ (id, named, takes). joined.all id i r (ap make_id is' ∙ named) h takes)
+    (new_pair_source s e i p new) in
     subst (λ xs. Contains xs i) (sym keys) ((btree_set_contains_iff nat_list_cmp_total exact_bytes all i).0 found)

@@ -1,4 +1,4 @@
--- A message that is received is taken: the item's spread comes under its recall, and what is new there is told.
+-- A message that is received is taken: the item's spread comes under its recall, and what is new there is announced.
 use Rattle.std.proofs.Common.{inl, ℕ, List, length, refl, sym, subst, Bool, true, false}
 use mathlib.Core.Bool.{false≢true}
 use Rattle.frame_core.specs.Numbers.{Recall, Message}

@@ -1,16 +1,21 @@
 -- What becomes of one event, and by what it is blocked.
-use Rattle.std.specs.Prelude.{◌≡◌, ◌≢◌, ⊤, ℕ, List, Option, Some, None}
+use Rattle.std.specs.Prelude.{◌≡◌, ◌≢◌, ⊤, ℕ, Bool, true, List, Option, Some, None}
 use Rattle.std.specs.declared.cmp.Ordering.TheVariants.{Greater}
+use Rattle.std.specs.List.{list_all}
 use Rattle.event_json.specs.Events.{Content}
+use Rattle.event_json.specs.declared.bodies.Body.{Body}
+use Rattle.event_json.specs.declared.bodies.Body.TheVariants.{Note, Ship, Make}
 use Rattle.frame_core.specs.Identifiers.{recall_cmp}
 use Rattle.frame_core.specs.Numbers.{Recall}
 use Rattle.trace_core.specs.Adding.{standing_among}
+use Rattle.trace_core.specs.Pairs.{Ships, make_id}
+use Rattle.trace_core.specs.Parts.{TakesInAsPart}
 use Rattle.trace_core.specs.Sites.{SiteEvents}
 use Rattle.trace_core.specs.declared.adding.Standing.{Standing}
 use Rattle.trace_core.specs.declared.adding.Standing.TheVariants.{Fresh, Known, Taken}
 use Rattle.site_core.specs.declared.capturing.CaptureFault.{CaptureFault}
 use Rattle.site_core.specs.declared.capturing.CaptureFault.TheVariants as faults
-use Rattle.site_core.specs.Quarantines.{Quarantine}
+use Rattle.site_core.specs.Quarantines.{Quarantine, held}
 use Rattle.site_core.specs.Capturing.{IsBlockedBy, IsFirstBlock, IsFree, IsReason, taken, blocked}
 
 -- the least recall by which the event is blocked from the item, or none
@@ -18,7 +23,18 @@ abbrev pub IsLeastBlock : SiteEvents → Quarantine → Content → List ℕ →
 IsLeastBlock s q e i None = (r : Recall) → IsBlockedBy s q e i r → ⊥
 IsLeastBlock s q e i (Some r) = IsBlockedBy s q e i r × ((other : Recall) → IsBlockedBy s q e i other → recall_cmp r other ≢ Greater)
 
--- the same, with the item
+-- the body doesn't ship the item, and where it is a part of a transformation that has other parts, one of those takes the item in
+pub record LeadsToOutputs (s : SiteEvents) (b : Body) (i : List ℕ) : Type 0 where
+  pub ships_nowhere : (site : ℕ) → Ships i site b → ⊥
+  pub joined : (id : List ℕ) → make_id b ≡ Some id → TakesInAsPart s.events id i
+
+-- whether all outputs of the body are quarantined under the recall
+abbrev pub holds_outputs : Quarantine → Body → Recall → Bool
+holds_outputs q (Note items) r = true
+holds_outputs q (Ship items sites outside) r = true
+holds_outputs q (Make id ins outs) r = list_all (λ j. held q r j) outs
+
+-- the least recall by which it is blocked, with the item
 abbrev pub IsBlockFrom : SiteEvents → Quarantine → Content → List ℕ → Option (Recall × List ℕ) → Type 0
 IsBlockFrom s q e i None = IsLeastBlock s q e i None
 IsBlockFrom s q e i (Some (r, j)) = (j ≡ i) × IsLeastBlock s q e i (Some r)
@@ -34,7 +50,7 @@ Passes s q e Fresh = (standing_among s.events e ≡ Fresh) × IsFree s q e
 Passes s q e Known = standing_among s.events e ≡ Known
 Passes s q e Taken = ⊥
 
--- the event, whose number this is, is refused for the reason that the fault tells
+-- the event, whose number this is, is refused for the reason that the fault names
 abbrev pub Refuses : SiteEvents → Quarantine → Content → ℕ → CaptureFault → Type 0
 Refuses s q e number faults.NoMemory = ⊤
 Refuses s q e number (faults.IdTaken event) = (event ≡ number) × IsReason s q e taken

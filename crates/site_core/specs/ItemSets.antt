@@ -1,5 +1,5 @@
 -- Sets of items. A finite set is a finite map with nothing at its keys, and its words here are the map's, since those
--- of std's `FinSet` don't tell which list of keys a set is.
+-- of std's `FinSet` don't say which list of keys a set is.
 use Rattle.std.specs.Prelude.{ℕ, Bool, List, map}
 use Rattle.std.specs.Ordering.{nat_cmp}
 use Rattle.std.specs.BTreeSet.{BTreeSet}

@@ -4,6 +4,7 @@ pub mod CapturingLaws
 pub mod Codes
 pub mod Emitting
 pub mod Following
+pub mod HeldIndex
 pub mod Holding
 pub mod ItemSets
 pub mod Laws
@@ -14,6 +15,7 @@ pub mod Quarantines
 pub mod Records
 pub mod Shipments
 pub mod Shipping
+pub mod Shortcuts
 pub mod Sources
 pub mod Spreading
 pub mod StepLaws

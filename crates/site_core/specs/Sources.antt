@@ -1,12 +1,14 @@
 -- Where a pair that one more event adds can begin.
-use Rattle.std.specs.Prelude.{ℕ, List, [], Option, Some, None, Contains}
+use Rattle.std.specs.Prelude.{◌≡◌, ℕ, List, [], Option, Some, None, Contains, IsTrue}
 use Rattle.std.specs.BTreeSet.{BTreeSet}
 use Rattle.event_json.specs.Events.{Content}
 use Rattle.event_json.specs.declared.bodies.Body.{Body}
 use Rattle.event_json.specs.declared.bodies.Body.TheVariants.{Note, Ship, Make}
+use Rattle.frame_core.specs.Numbers.{Recall}
 use Rattle.trace_core.specs.Pairs.{HaveOneId, make_id}
+use Rattle.trace_core.specs.Parts.{TakesInAsPart}
 use Rattle.trace_core.specs.Searches.{IsFound}
-use Rattle.site_core.specs.Quarantines.{item_cmp}
+use Rattle.site_core.specs.Quarantines.{Quarantine, held, item_cmp}
 
 -- the items that are shipped, or taken into a transformation
 abbrev pub moved_items : Body → List (List ℕ)
@@ -28,3 +30,18 @@ FindsMovedAt (Some e) old new = FindsAlso old new (moved_items e.body)
 pub record FindsParts (id : Option (List ℕ)) (events : List Content) (old new : BTreeSet (List ℕ)) : Type 0 where
   pub stay : (i : List ℕ) → IsFound item_cmp old i → IsFound item_cmp new i
   pub all : (e : Content) → Contains events e → HaveOneId (make_id e.body) id → (i : List ℕ) → Contains (moved_items e.body) i → IsFound item_cmp new i
+
+-- what was found is found, and so is the item, if a part of the transformation takes it in
+pub record FindsIfInput (events : List Content) (id item : List ℕ) (old new : BTreeSet (List ℕ)) : Type 0 where
+  pub stay : (i : List ℕ) → IsFound item_cmp old i → IsFound item_cmp new i
+  pub here : TakesInAsPart events id item → IsFound item_cmp new item
+
+-- what was found is found, and so is each quarantined item that a part of the transformation takes in
+pub record FindsHeldInputs (events : List Content) (q : Quarantine) (id : List ℕ) (old new : BTreeSet (List ℕ)) : Type 0 where
+  pub stay : (i : List ℕ) → IsFound item_cmp old i → IsFound item_cmp new i
+  pub all : (i : List ℕ) (r : Recall) → IsTrue (held q r i) → TakesInAsPart events id i → IsFound item_cmp new i
+
+-- what was found is found, and so are the quarantined inputs of the body's transformation
+pub record FindsJoined (events : List Content) (q : Quarantine) (b : Body) (old new : BTreeSet (List ℕ)) : Type 0 where
+  pub stay : (i : List ℕ) → IsFound item_cmp old i → IsFound item_cmp new i
+  pub all : (id i : List ℕ) (r : Recall) → make_id b ≡ Some id → IsTrue (held q r i) → TakesInAsPart events id i → IsFound item_cmp new i

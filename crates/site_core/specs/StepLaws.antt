@@ -1,4 +1,4 @@
--- What the step of a site has to mean: each effect changes the record in its way, an answer tells whether anything
+-- What the step of a site has to mean: each effect changes the record in its way, an answer says whether anything
 -- changed, and each input has one outcome.
 use Rattle.std.specs.Prelude.{◌≡◌, ◌≢◌, ◌⊎◌, ◌↔◌, ℕ, ◌+◌, Bool, IsTrue, IsFalse, IsSome, None, Ok, List, length, Contains}
 use Rattle.std.specs.FinMap.{get}
@@ -38,7 +38,7 @@ pub record KeepsDocument (s t : Record) (bytes : List ℕ) (fresh known skipped 
 abbrev pub CapturesKeepTheDocument : Type 0
 CapturesKeepTheDocument = (s t : Record) (bytes : List ℕ) (fresh known skipped : ℕ) → Does s (Capture bytes) (effects.Captured fresh known skipped) t → KeepsDocument s t bytes fresh known skipped
 
--- a recall that is started opens, and the answer tells of it
+-- a recall that is started opens, and the answer says so
 abbrev pub StartsOpen : Type 0
 StartsOpen =
     (s t : Record) (root : List ℕ) (recall : Recall) (quarantined numbered : ℕ) (ended : Bool)
@@ -50,14 +50,14 @@ pub record TellsOwed (s t : Record) (m : Message) (r : Recall) (numbered : ℕ) 
   pub messages : t.engagement.next_message ≡ s.engagement.next_message + numbered
   pub parent : IsTrue owed ↔ BecomesParent s.engagement t.engagement m r
 
--- a message that is received is for the site, and is taken, and the answer tells what is owed for it
+-- a message that is received is for the site, and is taken, and the answer says what is owed for it
 abbrev pub MessagesAreTaken : Type 0
 MessagesAreTaken =
     (s t : Record) (m : Message) (dest : ℕ) (r : Recall) (i : List ℕ) (quarantined numbered : ℕ) (owed : Bool)
     → Does s (Deliver (frames.Recall m dest r i)) (effects.Received quarantined numbered owed) t
     → IsForSite s m dest r × TakesMessage s t m r i × CountsNew s t r quarantined × TellsOwed s t m r numbered owed
 
--- the row of the signal's number goes to the signer, and is cleared, and the answer tells what follows
+-- the row of the signal's number goes to the signer, and is cleared, and the answer says what follows
 pub record ClearsFor (s t : Record) (m : Message) (by : ℕ) (answer : Signalled) : Type 0 where
   pub own : IsOwnMessage s m
   pub row : Row
@@ -97,7 +97,7 @@ ClearsFixes = (s t u : Record) (n : ℕ) (x : Row) → ClearsRow s t n x → Cle
 abbrev pub CountIsFixed : Type 0
 CountIsFixed = (s t : Record) (r : Recall) (a b : ℕ) → CountsNew s t r a → CountsNew s t r b → a ≡ b
 
--- An answer tells whether anything changed.
+-- An answer says whether anything changed.
 abbrev pub AnswersTellChanges : Type 0
 AnswersTellChanges = (s t : Record) (input : SiteInput) (e : Effects) → Does s input e t → IsFalse (changes e) ↔ (s ≡ t)
 
@@ -114,13 +114,13 @@ MessagesAreForTheSite =
 abbrev pub SignalsAreOfTheSite : Type 0
 SignalsAreOfTheSite = (s t : Record) (m : Message) (by : ℕ) (e : Effects) → Does s (Deliver (frames.Signal m by)) e t → IsOwnMessage s m
 
--- One outcome, but for want of memory.
+-- One outcome, unless memory runs out.
 
 -- an input has one effect, and leaves one record
 abbrev pub EffectsAreFixed : Type 0
 EffectsAreFixed = (s t u : Record) (input : SiteInput) (e f : Effects) → Does s input e t → Does s input f u → (e ≡ f) × (t ≡ u)
 
--- an input that has an effect is refused for want of memory alone
+-- an input that has an effect is refused as out of memory alone
 abbrev pub DoneIsNotRefused : Type 0
 DoneIsNotRefused = (s t : Record) (input : SiteInput) (e : Effects) (why : Refusal) → Does s input e t → Refuses s input why → why ≡ refusals.NoMemory
 
@@ -130,7 +130,7 @@ RefusalsAreFixed =
     (s : Record) (input : SiteInput) (a b : Refusal)
     → a ≢ refusals.NoMemory → b ≢ refusals.NoMemory → Refuses s input a → Refuses s input b → a ≡ b
 
--- No gap: an input is done, or is refused for a reason other than want of memory.
+-- No gap: an input is done, or is refused for a reason other than out of memory.
 
 abbrev pub HasOutcome : Record → SiteInput → Type 0
 HasOutcome s input = ((e : Effects) × (t : Record) × Does s input e t) ⊎ ((why : Refusal) × (why ≢ refusals.NoMemory) × Refuses s input why)

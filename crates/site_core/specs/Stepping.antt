@@ -1,4 +1,4 @@
--- What a step on a copy answers.
+-- What a step on a copy returns.
 use Rattle.std.specs.Prelude.{◌≡◌, false, true}
 use Rattle.std.specs.Prelude.{if◌then◌else◌}
 use Rattle.site_core.specs.declared.inputs.SiteInput.{SiteInput}

@@ -2,8 +2,8 @@
 --
 -- After Dijkstra and Scholten, "Termination detection for diffusing computations", Information Processing
 -- Letters 11 (1980), section 2: a site that learns of a recall quarantines what was made of the item there, and
--- tells each site that some of it was shipped to. How a recall begins, and what a message and a signal make of
--- the site's engagement, are `begun`, `received` and `signalled` of scholten_core.
+-- notifies each site that some of it was shipped to. How a recall begins, and what a message and a signal make
+-- of the site's engagement, are `begun`, `received` and `signalled` of scholten_core.
 use Rattle.std.specs.Prelude.{◌≡◌, ◌≢◌, ◌⊎◌, ◌↔◌, ⊤, ℕ, ◌+◌, ◌<◌, ◌≤◌, ◌^◌, ◌==◌, Bool, List, [], ◌∷◌, length, Contains, nat_lt, true, false, Some, None, IsSome, Result, Ok, Err}
 use Rattle.std.specs.Str.{IsUtf8}
 use Rattle.std.specs.FinMap.{get}
@@ -199,7 +199,7 @@ Refuses s (Deliver (frames.Recall m dest r i)) refusals.NumbersSpent = TakesPast
 Refuses s (Deliver (frames.Signal m by)) refusals.NotMine = IsNotForSignal s m by
 Refuses s input other = ⊥
 
--- the inputs for which a step in place may take memory: no item that isn't known, no frame that isn't for the site, no
+-- the inputs for which a step in place may allocate: no item that isn't known, no frame that isn't for the site, no
 -- repeat and no signal
 abbrev pub TakesMemory : Record → SiteInput → Type 0
 TakesMemory s (Capture bytes) = ⊤

@@ -1,4 +1,4 @@
--- What the answers of the parts of a step are told as.
+-- What the answers of the parts of a step are reported as.
 use Rattle.event_json.specs.declared.doc_faults.ReadFault.{ReadFault}
 use Rattle.event_json.specs.declared.doc_faults.ReadFault.TheVariants as reads
 use Rattle.frame_core.specs.declared.outboxes.NumberFault.{NumberFault}

@@ -62,7 +62,7 @@ abbrev pub GrowsBy : Record → ℕ → Record → Type 0
 GrowsBy s zero t = s ≡ t
 GrowsBy s (suc k) t = (u : Record) × GrowsBy s k u × Grows u t
 
--- What a start and a message that is taken share: the item's spread comes under the recall, and messages tell of it.
+-- What a start and a message that is taken share: the item's spread comes under the recall, and messages announce it.
 
 -- the row x of the number n is a message of this step
 pub record IsNewMessage (s t : Record) (r : Recall) (n : ℕ) (x : Row) : Type 0 where
@@ -81,7 +81,7 @@ pub record Quarantines (s t : Record) (r : Recall) (i : List ℕ) : Type 0 where
   -- a row that stands at a number from the next one on, in a restored record, may be written over
   pub row_kept : (n : ℕ) (x : Row) → n < s.engagement.next_message → get s.engagement.outbox n ≡ Some x → get t.engagement.outbox n ≡ Some x
   pub row_origin : (n : ℕ) (x : Row) → get t.engagement.outbox n ≡ Some x → (get s.engagement.outbox n ≡ Some x) ⊎ IsNewMessage s t r n x
-  -- where an item that comes under the recall was shipped to, its site is told
+  -- where an item that comes under the recall was shipped to, its site is notified
   pub row_told : (j : List ℕ) (u : ℕ) → Holds t r j → (Holds s r j → ⊥) → ShipsTo s j u → Tells t u r j
   pub next_message : s.engagement.next_message ≤ t.engagement.next_message
 
@@ -92,8 +92,8 @@ pub record CountsNew (s t : Record) (r : Recall) (count : ℕ) : Type 0 where
   pub exact : (j : List ℕ) → Contains items j ↔ (Holds t r j × (Holds s r j → ⊥))
   pub count_is : count ≡ length items
 
--- A start: the recall gets the next number, and each shipment of the root's spread is told once, also of what it
--- held before, as only a restored record does.
+-- A start: the recall gets the next number, and each shipment of the root's spread is announced once, also of
+-- what it held before, as only a restored record does.
 
 pub record Opens (s t : Record) (root : List ℕ) : Type 0 where
   pub quarantines : Quarantines s t (next_own s) root
@@ -103,7 +103,7 @@ pub record Opens (s t : Record) (root : List ℕ) : Type 0 where
   pub exact : (u : ℕ) (j : List ℕ) → Contains out (u, j) ↔ (Spreads s root j × ShipsTo s j u)
   pub begins : Begins s.engagement t.engagement root out
 
--- A message that wasn't seen: each shipment of what comes under its recall is told once.
+-- A message that wasn't seen: each shipment of what comes under its recall is announced once.
 
 pub record TakesMessage (s t : Record) (m : Message) (r : Recall) (i : List ℕ) : Type 0 where
   pub quarantines : Quarantines s t r i

@@ -1,16 +1,18 @@
-ghost use Rattle.std.specs.Prelude.{◌≡◌, ◌==◌, IfOk, IfErr, OnErr, not, ◌&&◌, length, take};
-ghost use Rattle.std.specs.List.{list_any};
+//! What capturing events makes of a site with a quarantine, and when an event is refused.
+ghost use Rattle.std.specs.Prelude.{◌≡◌, ◌==◌, IfOk, IfErr, OnErr, IsTrue, Contains, not, ◌&&◌, length, take};
+ghost use Rattle.frame_core.specs.Numbers.{Recall};
+ghost use Rattle.std.specs.List.{list_all, list_any};
 ghost use Rattle.site_core.specs.Quarantines.{held};
-ghost use Rattle.site_core.specs.Capturing.{IsCaptured, TellsRefusal};
+ghost use Rattle.site_core.specs.Capturing.{IsCaptured, IsBlockedBy, TellsRefusal};
 ghost use Rattle.trace_core.specs.Adding.{standing_among, with_fresh};
 ghost use Rattle.trace_core.specs.declared.adding.Standing.TheVariants.{Fresh};
-ghost use Rattle.site_core.specs.Blocks.{IsLeastBlock, IsBlockFrom, IsFirstBlockOf, Passes, Refuses};
+ghost use Rattle.site_core.specs.Blocks.{IsLeastBlock, IsBlockFrom, IsFirstBlockOf, LeadsToOutputs, holds_outputs, Passes, Refuses};
 
 use crate::holding::holders;
 use crate::quarantines::Quarantine;
-use crate::sources::sources;
+use crate::sources::{part_id, sources};
 use epc_core::Epc;
-use event_json::{Event, SiteNo};
+use event_json::{Body, Event, SiteNo};
 use frame_core::RecallId;
 use std::alloc::{AllocError, Global};
 use thiserror::Error;
@@ -90,7 +92,7 @@ fn capture_each(
     Ok(added)
 }
 
-/// Captures one event, whose number this is, and tells how it stood. Nothing is changed by a fault.
+/// Captures one event, whose number this is, and returns how it stood. Nothing is changed by a fault.
 fn capture_event(
     alloc: Global,
     captured: &mut Captured,
@@ -140,6 +142,12 @@ fn capture_fresh(
 
 /// The least item, and then the least recall, by which the event is blocked: it would lead from the item,
 /// which is quarantined under the recall, to a pair that isn't at this site and quarantined under it.
+///
+/// Where nothing is quarantined it does not allocate, and looks at no event. Else it looks at the event's
+/// items. Of a part of a transformation with an id it looks at what is quarantined too, or at the captured
+/// parts of the transformation where there are no more of them. A quarantined item
+/// that the event would lead to its own outputs alone costs a look at each of them for each recall of the
+/// item; one that it would lead elsewhere, or out of a quarantine, costs all that the item is related to.
 pub fn first_block(
     alloc: Global,
     captured: &Captured,
@@ -148,7 +156,10 @@ pub fn first_block(
 ) -> Result<Option<(RecallId, Epc)>, AllocError>
     ensures { IfOk result (λ block. IsFirstBlockOf captured.now quarantine.now event.now block) }
 {
-    for item in sources(alloc, captured, event)? {
+    if quarantine.is_empty() {
+        return Ok(None);
+    }
+    for item in sources(alloc, captured, quarantine, event)? {
         match block_from(alloc, captured, quarantine, event, item)? {
             Some(block) => return Ok(Some(block)),
             None => {}
@@ -187,6 +198,9 @@ fn least_recall(
     if recalls.is_empty() {
         return Ok(None);
     }
+    if stays_inside(captured, quarantine, event, item, &recalls) {
+        return Ok(None);
+    }
     let targets = captured.new_targets(event, item)?;
     for recall in recalls {
         if leads_out(captured.me(), quarantine, recall, &targets) {
@@ -194,6 +208,62 @@ fn least_recall(
         }
     }
     Ok(None)
+}
+
+/// Whether the event leads the item to outputs of its own alone, all of which are quarantined under each
+/// of the recalls. It is found by look-ups, without what the item is related to.
+fn stays_inside(
+    captured: &Captured,
+    quarantine: &Quarantine,
+    event: &Event,
+    item: &Epc,
+    recalls: &[RecallId],
+) -> bool
+    ensures { IsTrue result → (r : Recall) → Contains recalls.now r
+        → IsBlockedBy captured.now quarantine.now event.now item.now r → ⊥ }
+{
+    let body = event.body();
+    leads_to_outputs(captured, body, item) && each_holds_outputs(quarantine, recalls, body)
+}
+
+/// Whether new pairs from the item by the body are outputs of the body: those of the captured parts of its
+/// transformation aren't new where one of them takes the item in.
+fn leads_to_outputs(captured: &Captured, body: &Body, item: &Epc) -> bool
+    ensures { IsTrue result → LeadsToOutputs captured.now body.now item.now }
+{
+    match body {
+        Body::Ship { .. } => false,
+        _ => match part_id(body) {
+            Some(id) => captured.is_part_input(id, item),
+            None => true,
+        },
+    }
+}
+
+/// Whether all outputs of a body are quarantined under each of the recalls.
+fn each_holds_outputs(quarantine: &Quarantine, recalls: &[RecallId], body: &Body) -> bool
+    ensures { result ≡ list_all (λ r. holds_outputs quarantine.now body.now r) recalls.now }
+{
+    recalls
+        .iter()
+        .all(|recall| holds_outputs(quarantine, *recall, body))
+}
+
+/// Whether all outputs of a body are quarantined under a recall.
+fn holds_outputs(quarantine: &Quarantine, recall: RecallId, body: &Body) -> bool
+    ensures { result ≡ holds_outputs quarantine.now body.now recall }
+{
+    match body {
+        Body::Make { outs, .. } => holds_all(quarantine, recall, outs.as_slice()),
+        _ => true,
+    }
+}
+
+/// Whether each of the items is quarantined under a recall.
+fn holds_all(quarantine: &Quarantine, recall: RecallId, items: &[Epc]) -> bool
+    ensures { result ≡ list_all (λ j. held quarantine.now recall j) items.now }
+{
+    items.iter().all(|item| quarantine.holds(recall, item))
 }
 
 /// Whether one of the pairs isn't at this site and quarantined there under the recall.

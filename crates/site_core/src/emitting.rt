@@ -1,3 +1,4 @@
+//! The frames that a site may send.
 ghost use Rattle.std.specs.Prelude.{◌≡◌, option_map, slice_get};
 ghost use Rattle.frame_core.specs.Rows.{frame_of};
 ghost use Rattle.site_core.specs.Emitting.{is_parent, message_frames, signal_frames, frame_at};
@@ -7,7 +8,7 @@ use frame_core::{FrameView, MsgId};
 
 /// The frame that a site may send at this place, from 1: first the message of each row of its outbox, by
 /// number, and then the signal of each message that it has seen and that is no parent, by sender and
-/// number. `None` past the last one. Takes no memory.
+/// number. `None` past the last one. Does not allocate.
 pub fn emittable(state: &SiteState, place: u64) -> Option<FrameView<'_>>
     ensures { option_map frame_of result ≡ frame_at state.now.engagement place }
 {

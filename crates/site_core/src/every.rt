@@ -1,4 +1,4 @@
-//! Tests of all entries of a map, which take no memory.
+//! Tests of all entries of a map, which do not allocate.
 ghost use Rattle.std.specs.Prelude.{◌↔◌, IsTrue, Contains};
 
 use frame_core::tables::Key;

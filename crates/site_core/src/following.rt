@@ -1,20 +1,22 @@
+//! How a record is brought to the one after a step, which stands beside it already.
 ghost use Rattle.std.specs.Prelude.{◌≡◌, OnOk, OnErr};
 ghost use Rattle.site_core.specs.Following.{BeginsWith, CapturesMore};
 ghost use Rattle.site_core.specs.Steps.{Does, TakesMemory};
 ghost use Rattle.site_core.specs.declared.outcomes.Effects.{Effects as Told};
 
 use crate::inputs::SiteInput;
+use crate::shortcuts::Shortcuts;
 use crate::states::SiteState;
 use crate::step_laws::an_input_has_one_outcome;
 use std::alloc::{AllocError, Global};
 use trace_core::Captured;
 
 impl SiteState {
-    /// Brings the record before an input to the one after it, which stands beside it already. It costs what the
-    /// input changes; a document isn't read again: the events that it brought are copied.
+    /// Brings the record before an input to the one after it, which stands beside it already. A document isn't
+    /// read again: the events that it brought are copied. Other inputs are done again.
     ///
     /// # Errors
-    /// Want of memory. Nothing is changed then. It comes of no input for which [`SiteState::apply`] takes none.
+    /// Out of memory. Nothing is changed then. It comes of no input for which [`SiteState::apply`] takes none.
     pub fn follow(&mut self, input: &SiteInput, after: &SiteState) -> Result<(), AllocError>
         requires { (told : Told) × Does self.old input.now told after.now }
         ensures equal { OnOk result (self.new ≡ after.now) }
@@ -34,11 +36,16 @@ impl SiteState {
         ensures unchanged { OnErr result (self.new ≡ self.old) }
     {
         let kept = self.captured.len();
-        let copied = copy_rest(self.alloc, &mut self.captured, &after.captured);
-        if copied.is_err() {
-            self.captured.truncate(kept);
+        match copy_rest(self.alloc, &mut self.captured, &after.captured) {
+            Ok(()) => {
+                self.shortcuts = Shortcuts::begun(self.alloc, &after.shortcuts);
+                Ok(())
+            }
+            Err(_) => {
+                self.captured.truncate(kept);
+                Err(AllocError)
+            }
         }
-        copied
     }
 
     /// The step is done again: it has one outcome, which is the record after it.

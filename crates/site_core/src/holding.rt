@@ -9,8 +9,10 @@ use crate::quarantines::Quarantine;
 use epc_core::Epc;
 use frame_core::RecallId;
 use std::alloc::{AllocError, Global};
+use std::collections::BTreeSet;
 
-/// The recalls under which the item is quarantined, ascending and without repeats.
+/// The recalls under which the item is quarantined, ascending and without repeats. It costs a look-up and
+/// these recalls, not all that hold something.
 pub fn holders(
     alloc: Global,
     quarantine: &Quarantine,
@@ -19,24 +21,30 @@ pub fn holders(
     ensures ascending { IfOk result (λ recalls. IsStrictlySortedBy recall_cmp recalls.items) }
     ensures exact { IfOk result (λ recalls. (r : Recall) → Contains recalls.items r ↔ IsTrue (held quarantine.now r item.now)) }
 {
-    let mut recalls = Vec::new(alloc);
-    for (recall, items) in quarantine.by_recall() {
-        if items.contains(item) {
-            recalls.push(*recall)?;
-        }
+    match quarantine.recalls_of(item) {
+        Some(recalls) => in_order(alloc, recalls),
+        None => Ok(Vec::new(alloc)),
     }
-    Ok(recalls)
 }
 
-/// Whether the item is quarantined under some recall.
+/// The recalls of a set, ascending.
+fn in_order(alloc: Global, recalls: &BTreeSet<RecallId>) -> Result<Vec<RecallId>, AllocError>
+    ensures keys { IfOk result (λ out. out.items ≡ recalls.now.keys) }
+    ensures ascending { IfOk result (λ out. IsStrictlySortedBy recall_cmp out.items) }
+{
+    let mut out = Vec::new(alloc);
+    for recall in recalls {
+        out.push(*recall)?;
+    }
+    Ok(out)
+}
+
+/// Whether the item is quarantined under some recall. It costs a look-up.
 pub fn is_held(quarantine: &Quarantine, item: &Epc) -> bool
     ensures { IsTrue result ↔ ((r : Recall) × IsTrue (held quarantine.now r item.now)) }
 {
-    for (recall, items) in quarantine.by_recall() {
-        let _recall = recall;
-        if items.contains(item) {
-            return true;
-        }
+    match quarantine.recalls_of(item) {
+        Some(recalls) => !recalls.is_empty(),
+        None => false,
     }
-    false
 }

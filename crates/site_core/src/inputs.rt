@@ -1,3 +1,4 @@
+//! What a site is given: documents, starts of recalls, and frames.
 ghost use Rattle.std.specs.Prelude.{◌≡◌, IfOk};
 
 use epc_core::Epc;

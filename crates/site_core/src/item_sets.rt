@@ -1,3 +1,4 @@
+//! Sets of items, in the order of their keys.
 ghost use Rattle.std.specs.Prelude.{◌≡◌, ◌↔◌, ◌==◌, not, IfOk, OnOk, OnErr, IsTrue, IsFalse};
 ghost use Rattle.site_core.specs.ItemSets as set;
 
@@ -24,7 +25,7 @@ impl Model for ItemSet {
 }
 
 impl ItemSet {
-    /// No items. Takes no memory.
+    /// No items. Does not allocate.
     pub fn new(alloc: Global) -> ItemSet
         ensures { result ≡ set.empty }
     {
@@ -37,12 +38,12 @@ impl ItemSet {
     pub fn contains(&self, item: &Epc) -> bool
         ensures { result ≡ set.contains self.now item.now }
     {
-        // The length tells the proof that the keys ascend.
+        // The length shows the proof that the keys ascend.
         let _length = self.items.len();
         self.items.contains(item)
     }
 
-    /// Adds an item, and answers whether it is new. Only a new one takes memory. An `Err` changes nothing.
+    /// Adds an item, and returns whether it is new. Only a new one allocates. An `Err` changes nothing.
     pub fn insert(&mut self, item: Epc) -> Result<bool, AllocError>
         ensures new { IfOk result (λ new. new ≡ not (set.contains self.old item)) }
         ensures ok { OnOk result (self.new ≡ set.insert self.old item) }
@@ -53,7 +54,7 @@ impl ItemSet {
         Ok(self.items.insert(item)?)
     }
 
-    /// Removes an item, and answers whether it was in the set. Takes no memory.
+    /// Removes an item, and returns whether it was in the set. Does not allocate.
     pub fn remove(&mut self, item: &Epc) -> bool
         ensures was { result ≡ set.contains self.old item.now }
         ensures left { self.new ≡ set.remove self.old item.now }

@@ -1,4 +1,4 @@
-//! What a step answers by a look at the record, which takes no memory and changes nothing.
+//! What a step returns by a look at the record, which does not allocate and changes nothing.
 ghost use Rattle.std.specs.Prelude.{◌≡◌, ◌≤◌, ◌<◌, ◌↔◌, length, IsTrue};
 ghost use Rattle.frame_core.specs.declared.frames.Frame.TheVariants as frames;
 ghost use Rattle.site_core.specs.Looks.{IsAnsweredBy};
@@ -14,8 +14,8 @@ use epc_core::Epc;
 use event_json::SiteNo;
 use frame_core::{Frame, MsgId, RecallId};
 
-/// What a step answers without memory and without a change, if it answers so. A keeper asks this first: what is answered
-/// here is neither tried on a copy nor written down. None says that the step takes memory or changes the site.
+/// What a step returns without memory and without a change, if it returns so. A keeper asks this first: what is answered
+/// here is neither tried on a copy nor written down. None says that the step allocates or changes the site.
 pub fn look(state: &SiteState, input: &SiteInput) -> Option<Result<Effects, Refusal>>
     ensures { IsAnsweredBy state.now input.now result }
 {

@@ -1,3 +1,4 @@
+//! What a step did, or why it was refused.
 ghost use Rattle.std.specs.Prelude.{◌≡◌, IfOk};
 ghost use Rattle.site_core.specs.Told.{told_signal};
 ghost use Rattle.site_core.specs.Steps.{changes};
@@ -21,7 +22,7 @@ pub enum Effects {
         skipped: u64,
     },
     /// A recall was started: how many items came under it here, how many messages were numbered, and
-    /// whether it has ended, since there is nobody to tell.
+    /// whether it has ended, since there is nobody to notify.
     Started {
         recall: RecallId,
         quarantined: u64,

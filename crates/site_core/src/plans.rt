@@ -1,22 +1,23 @@
 //! What a step comes to, found at a borrowed record, and how it is done in place.
-ghost use Rattle.std.specs.Prelude.{◌≡◌, ◌⊎◌, ◌<◌, ◌≤◌, ◌^◌, length, None, Err, IfOk, OnOk, OnErr};
+ghost use Rattle.std.specs.Prelude.{◌≡◌, ◌⊎◌, ◌<◌, ◌≤◌, ◌^◌, length, true, None, Err, IfOk, OnOk, OnErr};
 ghost use Rattle.std.specs.FinMap as finite;
 ghost use Rattle.scholten_core.specs.Changes.{began, begun, received};
 ghost use Rattle.site_core.specs.Quarantines.{with_items};
 ghost use Rattle.site_core.specs.Shipments.{AreShipments};
+ghost use Rattle.site_core.specs.Shortcuts.{GivesHeld, IsClosedInside};
 ghost use Rattle.site_core.specs.Spreading.{AreNewlyHeld};
 ghost use Rattle.site_core.specs.Plans.{IsStartPlanned};
 ghost use Rattle.site_core.specs.Steps.{HaveNumbers, AreTooMany, reply};
 
 use crate::quarantines::Quarantine;
 use crate::shipping::shipments;
-use crate::spreading::{newly_held, not_held, spread_of};
+use crate::spreading::{newly_held, newly_held_past, not_held, spread_of};
 use epc_core::Epc;
 use event_json::SiteNo;
 use frame_core::{MsgId, NumberFault, RecallId};
 use scholten_core::{Began, Diffusion, Received};
 use std::alloc::{AllocError, Global};
-use trace_core::Captured;
+use trace_core::{Captured, Seen};
 
 /// What a recall adds to a site.
 #[derive(Debug, Drop)]
@@ -43,20 +44,51 @@ pub fn plan_start(
     Ok(Plan { new, out })
 }
 
-/// What a message of a recall adds: what is new of the spread of its item, and the shipments of that.
+/// What a message of a recall adds: what is new of the spread of its item, and the shipments of that. Where
+/// what is quarantined is closed inside the site, it costs what it adds; and the transformations that it goes
+/// through are seen afterwards, also after an error.
 pub fn plan_message(
     alloc: Global,
     captured: &Captured,
     quarantine: &Quarantine,
+    is_closed: bool,
     recall: RecallId,
     item: &Epc,
+    seen: &mut Seen,
 ) -> Result<Plan, AllocError>
+    requires closed { is_closed ≡ true → IsClosedInside captured.now quarantine.now }
+    requires gives { GivesHeld captured.now quarantine.now recall seen.old }
     ensures newly { IfOk result (λ plan. AreNewlyHeld captured.now quarantine.now recall item.now plan.new.items) }
     ensures shipped { IfOk result (λ plan. AreShipments captured.now plan.new.items plan.out.items) }
+    ensures seen { IfOk result (λ plan.
+        GivesHeld captured.now (with_items quarantine.now recall plan.new.items) recall seen.new) }
 {
-    let new = newly_held(alloc, captured, quarantine, recall, item)?;
+    let new = new_of_message(alloc, captured, quarantine, is_closed, recall, item, seen)?;
     let out = shipments(alloc, captured, &new)?;
     Ok(Plan { new, out })
+}
+
+/// What comes under the recall by a message, found in the cheaper way where it may be.
+fn new_of_message(
+    alloc: Global,
+    captured: &Captured,
+    quarantine: &Quarantine,
+    is_closed: bool,
+    recall: RecallId,
+    item: &Epc,
+    seen: &mut Seen,
+) -> Result<Vec<Epc>, AllocError>
+    requires closed { is_closed ≡ true → IsClosedInside captured.now quarantine.now }
+    requires gives { GivesHeld captured.now quarantine.now recall seen.old }
+    ensures newly { IfOk result (λ items. AreNewlyHeld captured.now quarantine.now recall item.now items.items) }
+    ensures seen { IfOk result (λ items.
+        GivesHeld captured.now (with_items quarantine.now recall items.items) recall seen.new) }
+{
+    if is_closed {
+        newly_held_past(alloc, captured, quarantine, recall, item, seen)
+    } else {
+        newly_held(alloc, captured, quarantine, recall, item)
+    }
 }
 
 /// Begins the recall, whose number is the next one, as planned. A fault changes nothing.
@@ -84,7 +116,7 @@ pub fn begin_planned(
     }
 }
 
-/// Takes a message of a recall that wasn't seen, as planned, and answers whether its signal is owed. A fault
+/// Takes a message of a recall that wasn't seen, as planned, and returns whether its signal is owed. A fault
 /// changes nothing.
 pub fn receive_planned(
     quarantine: &mut Quarantine,

@@ -1,28 +1,35 @@
-ghost use Rattle.std.specs.Prelude.{◌≡◌, ◌==◌, false, not, map, option_map, Some, None, IfOk, OnOk, OnErr, IsFalse};
+//! What is quarantined at a site, by recall.
+ghost use Rattle.std.specs.Prelude.{◌≡◌, ◌==◌, false, ◌↔◌, not, map, option_map, Some, None, IfOk, OnOk, OnErr, IsTrue, IsFalse};
 ghost use Rattle.std.specs.FinMap as finite;
 ghost use Rattle.frame_core.specs.Identifiers.{recall_cmp};
+ghost use Rattle.frame_core.specs.Numbers.{Recall};
 ghost use Rattle.frame_core.specs.Tables.{as_map};
+ghost use Rattle.site_core.specs.HeldIndex.{has, IsIndex};
 ghost use Rattle.site_core.specs.Holding.{without_item, without_items};
 ghost use Rattle.site_core.specs.ItemSets as set;
 ghost use Rattle.site_core.specs.Quarantines.{held, with_item, with_items, HasNoEmptySet};
 
+use crate::held_index::{copy_index, forget, note};
 use crate::item_sets::ItemSet;
 use epc_core::Epc;
 use frame_core::{RecallId, tables};
 use std::alloc::{AllocError, Global};
-use std::collections::BTreeMap;
+use std::collections::{BTreeMap, BTreeSet};
 use std::marker::Model;
 
-/// The items that are quarantined at a site, by recall. A recall without items isn't kept.
+/// The items that are quarantined at a site, by recall. A recall without items isn't kept. Beside them
+/// stands an index, so that to find the recalls of an item costs a look-up, however many recalls there are.
 #[derive(Debug, Drop)]
 pub struct Quarantine {
     recalls: BTreeMap<RecallId, ItemSet>,
+    index: BTreeMap<Epc, BTreeSet<RecallId>>,
     alloc: Global,
 }
 
 impl Model for Quarantine {
     ghost use Rattle.frame_core.specs.Identifiers.{recall_cmp};
     ghost use Rattle.frame_core.specs.Tables.{as_map};
+    ghost use Rattle.site_core.specs.HeldIndex.{IsIndex};
     ghost use Rattle.site_core.specs.Quarantines.{Quarantine, coded_quarantine, HasNoEmptySet};
 
     ghost Value = { Quarantine };
@@ -31,29 +38,30 @@ impl Model for Quarantine {
 
     ghost view = { λ q. as_map recall_cmp q.recalls };
 
-    ghost invariant = { λ q. HasNoEmptySet (as_map recall_cmp q.recalls) };
+    ghost invariant = { λ q. HasNoEmptySet (as_map recall_cmp q.recalls)
+        × IsIndex q.index (as_map recall_cmp q.recalls) };
 }
 
 impl Quarantine {
-    /// No items under any recall. Takes no memory; what is held comes from the allocator.
+    /// No items under any recall. Does not allocate; what is held comes from the allocator.
     pub fn new(alloc: Global) -> Quarantine
         ensures { result ≡ finite.empty }
     {
         Quarantine {
             recalls: BTreeMap::new(alloc),
+            index: BTreeMap::new(alloc),
             alloc,
         }
     }
 
-    /// The quarantine of these sets, by recall. Takes no memory.
-    pub fn restore(alloc: Global, recalls: BTreeMap<RecallId, ItemSet>) -> Quarantine
-        requires { HasNoEmptySet (as_map recall_cmp recalls) }
-        ensures { result ≡ as_map recall_cmp recalls }
+    /// Whether nothing is quarantined. Does not allocate.
+    pub fn is_empty(&self) -> bool
+        ensures { IsTrue result ↔ (self.now ≡ finite.empty) }
     {
-        Quarantine { recalls, alloc }
+        self.by_recall().is_empty()
     }
 
-    /// Whether an item is quarantined under a recall. Takes no memory.
+    /// Whether an item is quarantined under a recall. Does not allocate.
     pub fn holds(&self, recall: RecallId, item: &Epc) -> bool
         ensures { result ≡ held self.now recall item.now }
     {
@@ -63,19 +71,18 @@ impl Quarantine {
         }
     }
 
-    /// Quarantines an item under a recall, and answers whether it wasn't before. Only then it takes
-    /// memory. An `Err` changes nothing.
+    /// Quarantines an item under a recall, and returns whether it wasn't before. Only then it
+    /// allocates. An `Err` changes nothing.
     pub fn hold(&mut self, recall: RecallId, item: Epc) -> Result<bool, AllocError>
         ensures new { IfOk result (λ new. new ≡ not (held self.old recall item)) }
         ensures ok { OnOk result (self.new ≡ with_item self.old recall item) }
         ensures err { OnErr result (self.new ≡ self.old) }
         ensures only_new { OnErr result (IsFalse (held self.old recall item)) }
     {
-        hold_in(self.alloc, &mut self.recalls, recall, item)
+        self.hold_copy(recall, &item)
     }
 
-    /// Quarantines these items under a recall. An `Err` changes nothing. It costs these items, not those
-    /// that are held.
+    /// Quarantines these items under a recall. An `Err` changes nothing.
     pub fn hold_all(&mut self, recall: RecallId, items: &[Epc]) -> Result<(), AllocError>
         ensures ok { OnOk result (self.new ≡ with_items self.old recall items.now) }
         ensures err { OnErr result (self.new ≡ self.old) }
@@ -84,7 +91,7 @@ impl Quarantine {
         Ok(())
     }
 
-    /// Quarantines these items under a recall, and answers those that are new there: to release them gives
+    /// Quarantines these items under a recall, and returns those that are new there: to release them gives
     /// what was held before. An `Err` changes nothing: what was added is taken away again.
     pub(crate) fn hold_each<'a>(
         &mut self,
@@ -111,21 +118,22 @@ impl Quarantine {
         Ok(added)
     }
 
-    /// Quarantines a copy of an item under a recall, and answers whether it is new there. An `Err` changes
-    /// nothing.
+    /// Quarantines a copy of an item under a recall, and returns whether it is new there. Only then it
+    /// allocates. An `Err` changes nothing.
     fn hold_copy(&mut self, recall: RecallId, item: &Epc) -> Result<bool, AllocError>
         ensures new { IfOk result (λ new. new ≡ not (held self.old recall item.now)) }
         ensures ok { OnOk result (self.new ≡ with_item self.old recall item.now) }
         ensures err { OnErr result (self.new ≡ self.old) }
+        ensures only_new { OnErr result (IsFalse (held self.old recall item.now)) }
     {
         if self.holds(recall, item) {
             return Ok(false);
         }
-        let item = item.copy(self.alloc)?;
-        self.hold(recall, item)
+        hold_new(self.alloc, &mut self.recalls, &mut self.index, recall, item)?;
+        Ok(true)
     }
 
-    /// Takes these items away from a recall, the last one first. Takes no memory.
+    /// Takes these items away from a recall, the last one first. Does not allocate.
     pub(crate) fn release_all(&mut self, recall: RecallId, mut items: Vec<&Epc>)
         ensures { self.new ≡ without_items self.old recall (map (λ item. item.now) items.entry.items) }
     {
@@ -134,11 +142,12 @@ impl Quarantine {
         }
     }
 
-    /// Takes an item away from a recall. Takes no memory.
+    /// Takes an item away from a recall. Does not allocate.
     fn release(&mut self, recall: RecallId, item: &Epc)
         ensures { self.new ≡ without_item self.old recall item.now }
     {
         release_in(&mut self.recalls, recall, item);
+        forget(&mut self.index, recall, item);
     }
 
     /// The items that are quarantined under a recall.
@@ -148,13 +157,32 @@ impl Quarantine {
         tables::get(&self.recalls, recall)
     }
 
+    /// How many items are quarantined, each counted once.
+    pub(crate) fn item_count(&self) -> usize {
+        self.index.len()
+    }
+
+    /// The items that are quarantined, each with its recalls.
+    pub(crate) fn by_item(&self) -> &BTreeMap<Epc, BTreeSet<RecallId>>
+        ensures { IsIndex result.now self.now }
+    {
+        &self.index
+    }
+
+    /// The recalls under which an item is quarantined, ascending. It costs a look-up.
+    pub(crate) fn recalls_of(&self, item: &Epc) -> Option<&BTreeSet<RecallId>>
+        ensures { (r : Recall) → has (option_map (λ recalls. recalls.now) result) r ≡ held self.now r item.now }
+    {
+        self.index.get(item)
+    }
+
     /// The items that are quarantined, by recall. None of the sets is empty.
     pub fn by_recall(&self) -> &BTreeMap<RecallId, ItemSet>
         ensures recalls { as_map recall_cmp result.now ≡ self.now }
         ensures entries { result.now.entries ≡ finite.entries self.now }
         ensures no_empty { HasNoEmptySet self.now }
     {
-        // The length tells the proof that the recalls ascend.
+        // The length shows the proof that the recalls ascend.
         let _length = self.recalls.len();
         &self.recalls
     }
@@ -164,11 +192,42 @@ impl Quarantine {
         ensures { IfOk result (λ copies. copies ≡ self.now) }
     {
         let recalls = tables::copy(alloc, &self.recalls)?;
-        Ok(Quarantine { recalls, alloc })
+        let index = copy_index(alloc, &self.index)?;
+        Ok(Quarantine {
+            recalls,
+            index,
+            alloc,
+        })
     }
 }
 
-/// Adds an item to the set of a recall, and answers whether it is new there. An `Err` changes nothing.
+/// Adds a copy of an item to the set of a recall, and the recall to those of the item. An `Err` changes
+/// nothing.
+fn hold_new(
+    alloc: Global,
+    recalls: &mut BTreeMap<RecallId, ItemSet>,
+    index: &mut BTreeMap<Epc, BTreeSet<RecallId>>,
+    recall: RecallId,
+    item: &Epc,
+) -> Result<(), AllocError>
+    ensures ok { OnOk result (as_map recall_cmp recalls.new
+        ≡ with_item (as_map recall_cmp recalls.old) recall item.now) }
+    ensures err { OnErr result (as_map recall_cmp recalls.new ≡ as_map recall_cmp recalls.old) }
+    ensures index { IsIndex index.old (as_map recall_cmp recalls.old)
+        → IsIndex index.new (as_map recall_cmp recalls.new) }
+{
+    let own = item.copy(alloc)?;
+    note(alloc, index, recall, item)?;
+    match hold_in(alloc, recalls, recall, own) {
+        Ok(_) => Ok(()),
+        Err(fault) => {
+            forget(index, recall, item);
+            Err(fault)
+        }
+    }
+}
+
+/// Adds an item to the set of a recall, and returns whether it is new there. An `Err` changes nothing.
 fn hold_in(
     alloc: Global,
     recalls: &mut BTreeMap<RecallId, ItemSet>,
@@ -189,7 +248,7 @@ fn hold_in(
     Ok(new)
 }
 
-/// Removes an item from the set of a recall, and the recall with its last one. Takes no memory.
+/// Removes an item from the set of a recall, and the recall with its last one. Does not allocate.
 fn release_in(recalls: &mut BTreeMap<RecallId, ItemSet>, recall: RecallId, item: &Epc)
     ensures { as_map recall_cmp recalls.new ≡ without_item (as_map recall_cmp recalls.old) recall item.now }
 {
@@ -198,7 +257,7 @@ fn release_in(recalls: &mut BTreeMap<RecallId, ItemSet>, recall: RecallId, item:
     }
 }
 
-/// Removes an item from the set of a recall, and answers whether the set is empty then. Takes no memory.
+/// Removes an item from the set of a recall, and returns whether the set is empty then. Does not allocate.
 fn remove_in(recalls: &mut BTreeMap<RecallId, ItemSet>, recall: RecallId, item: &Epc) -> bool
     ensures left { (items : set.Items) → finite.get (as_map recall_cmp recalls.old) recall ≡ Some items → as_map recall_cmp recalls.new ≡ finite.insert (as_map recall_cmp recalls.old) recall (set.remove items item.now) }
     ensures emptied { (items : set.Items) → finite.get (as_map recall_cmp recalls.old) recall ≡ Some items → result ≡ (set.len (set.remove items item.now) == 0) }

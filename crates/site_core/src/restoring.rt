@@ -21,7 +21,7 @@ use trace_core::Captured;
 impl SiteState {
     /// A site that keeps just this, exactly where every site number in it is of the list, every message and
     /// recall number is 1 to 2^62, and the events are those of the site itself; else `None`. For parts that
-    /// come from elsewhere. It goes through all of them once, and takes no memory.
+    /// come from elsewhere. It goes through all of them once, and does not allocate.
     pub fn restore_if_sound(
         alloc: Global,
         sites: Sites,
@@ -73,7 +73,7 @@ fn is_engagement_among(among: &Among, diffusion: &Diffusion) -> bool
     ensures next_message { IsNextNumber diffusion.now.next_message }
     ensures next_recall { IsNextNumber diffusion.now.next_recall }
 {
-    // Their readers tell the proof that the next numbers are in range.
+    // Their readers show the proof that the next numbers are in range.
     let _next = (diffusion.next_message(), diffusion.next_recall());
     are_rows_among(among, diffusion)
         && are_seen_among(among, diffusion)

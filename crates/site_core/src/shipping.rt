@@ -1,5 +1,6 @@
+//! The shipments of items from a site to other sites.
 ghost use mathlib.Core.Logic.{◌⊎◌};
-ghost use Rattle.std.specs.Prelude.{◌≡◌, ◌≢◌, ◌↔◌, ℕ, List, IfOk, OnOk, IsTrue, Contains, map};
+ghost use Rattle.std.specs.Prelude.{◌≡◌, ◌↔◌, ℕ, List, IfOk, OnOk, IsTrue, map};
 ghost use Rattle.trace_core.specs.Pairs.{IsShipped};
 ghost use Rattle.site_core.specs.Shipments.{AreShipments};
 ghost use Rattle.site_core.specs.Shipping.{is_in};
@@ -9,7 +10,7 @@ use epc_core::Epc;
 use event_json::SiteNo;
 use std::alloc::{AllocError, Global};
 use std::collections::BTreeSet;
-use trace_core::{Captured, Pair};
+use trace_core::Captured;
 
 /// An item that was shipped to a site. Shipments are ordered by item, then by site.
 #[derive(Debug, Drop, PartialEq, Eq, PartialOrd, Ord)]
@@ -34,7 +35,7 @@ pub fn shipments(
     told(alloc, keys_in_order(alloc, found)?)
 }
 
-/// Adds the shipments of an item.
+/// Adds the shipments of an item. It costs the events that name it, not what they make of it.
 fn add_shipments(
     captured: &Captured,
     item: &Epc,
@@ -42,18 +43,7 @@ fn add_shipments(
 ) -> Result<(), AllocError>
     ensures { OnOk result ((t : ℕ) (i : List ℕ) → IsTrue (is_in found.new t i) ↔ (IsTrue (is_in found.old t i) ⊎ ((item.now ≡ i) × IsShipped captured.now i (record { site = t; item = i })))) }
 {
-    let me = captured.me();
-    for pair in captured.related(item)? {
-        add_if_away(me, pair, found)?;
-    }
-    Ok(())
-}
-
-/// Adds a pair unless it is at this site.
-fn add_if_away(me: SiteNo, pair: Pair, found: &mut BTreeSet<Shipment>) -> Result<(), AllocError>
-    ensures { OnOk result ((t : ℕ) (i : List ℕ) → IsTrue (is_in found.new t i) ↔ (IsTrue (is_in found.old t i) ⊎ ((t ≢ me) × (pair ≡ record { site = t; item = i })))) }
-{
-    if pair.site != me {
+    for pair in captured.shipped(item)? {
         found.insert(Shipment {
             item: pair.item,
             site: pair.site,

@@ -1,40 +1,103 @@
-ghost use Rattle.std.specs.Prelude.{◌≡◌, IfOk, OnOk, ℕ, List, Some, Contains, option_map, slice_get};
+//! The items from which an event that comes would give new pairs.
+ghost use Rattle.std.specs.Prelude.{◌≡◌, ◌↔◌, IfOk, OnOk, ℕ, List, Some, Contains, IsTrue, option_map, slice_get};
+ghost use Rattle.frame_core.specs.Numbers.{Recall};
 ghost use Rattle.trace_core.specs.declared.pairs.Pair.{Pair};
 ghost use Rattle.trace_core.specs.Pairs.{make_id};
 ghost use Rattle.trace_core.specs.Spreads.{AreAscendingItems, IsNewTarget};
-ghost use Rattle.site_core.specs.Sources.{moved_items, FindsAlso, FindsMovedAt, FindsParts};
+ghost use Rattle.site_core.specs.Quarantines.{held};
+ghost use Rattle.site_core.specs.Sources.{moved_items, FindsAlso, FindsMovedAt, FindsParts, FindsIfInput, FindsHeldInputs, FindsJoined};
 
 use crate::ordered_keys::keys_in_order;
+use crate::quarantines::Quarantine;
 use epc_core::Epc;
 use event_json::{Body, Event, PlainText};
 use std::alloc::{AllocError, Global};
 use std::collections::BTreeSet;
 use trace_core::Captured;
 
-/// All items from which the event would give new pairs, and maybe others, ascending.
-pub fn sources(alloc: Global, captured: &Captured, event: &Event) -> Result<Vec<Epc>, AllocError>
+/// All quarantined items from which the event would give new pairs, and maybe others, ascending. It costs
+/// the event's items; and of a part of a transformation with an id also what is quarantined, or the captured
+/// parts of the transformation where there are no more of them.
+pub fn sources(
+    alloc: Global,
+    captured: &Captured,
+    quarantine: &Quarantine,
+    event: &Event,
+) -> Result<Vec<Epc>, AllocError>
     ensures ascending { IfOk result (λ items. AreAscendingItems items.items) }
-    ensures all { IfOk result (λ items. (i : List ℕ) (q : Pair) → IsNewTarget captured.now event.now i q → Contains items.items i) }
+    ensures all { IfOk result (λ items. (i : List ℕ) (r : Recall) (q : Pair) → IsTrue (held quarantine.now r i)
+        → IsNewTarget captured.now event.now i q → Contains items.items i) }
 {
     let mut found = BTreeSet::new(alloc);
     add_moved(alloc, event.body(), &mut found)?;
-    add_joined(alloc, captured, event.body(), &mut found)?;
+    add_joined(alloc, captured, quarantine, event.body(), &mut found)?;
     keys_in_order(alloc, found)
 }
 
-/// Adds what the captured parts of the body's transformation move.
+/// Adds the quarantined inputs of the captured parts of the body's transformation, and maybe others of them.
 fn add_joined(
     alloc: Global,
     captured: &Captured,
+    quarantine: &Quarantine,
     body: &Body,
     found: &mut BTreeSet<Epc>,
 ) -> Result<(), AllocError>
-    ensures { OnOk result (FindsParts (make_id body.now) captured.now.events found.old found.new) }
+    ensures { OnOk result (FindsJoined captured.now.events quarantine.now body.now found.old found.new) }
 {
     match part_id(body) {
-        Some(id) => add_parts(alloc, captured, id, found),
+        Some(id) => add_held_inputs(alloc, captured, quarantine, id, found),
         None => Ok(()),
     }
+}
+
+/// Adds the quarantined inputs of the captured parts of a transformation, and maybe others of their inputs.
+/// It goes through what is quarantined, or through these parts where there are no more of them.
+fn add_held_inputs(
+    alloc: Global,
+    captured: &Captured,
+    quarantine: &Quarantine,
+    id: &PlainText,
+    found: &mut BTreeSet<Epc>,
+) -> Result<(), AllocError>
+    ensures { OnOk result (FindsHeldInputs captured.now.events quarantine.now id.now found.old found.new) }
+{
+    if quarantine.item_count() < captured.part_count(id) {
+        add_inputs_held(alloc, captured, quarantine, id, found)
+    } else {
+        add_parts(alloc, captured, id, found)
+    }
+}
+
+/// Adds those of the quarantined items that captured parts of a transformation take in.
+fn add_inputs_held(
+    alloc: Global,
+    captured: &Captured,
+    quarantine: &Quarantine,
+    id: &PlainText,
+    found: &mut BTreeSet<Epc>,
+) -> Result<(), AllocError>
+    ensures { OnOk result (FindsHeldInputs captured.now.events quarantine.now id.now found.old found.new) }
+{
+    for (item, _recalls) in quarantine.by_item() {
+        add_if_input(alloc, captured, id, item, found)?;
+    }
+    Ok(())
+}
+
+/// Adds an item if a captured part of a transformation takes it in.
+fn add_if_input(
+    alloc: Global,
+    captured: &Captured,
+    id: &PlainText,
+    item: &Epc,
+    found: &mut BTreeSet<Epc>,
+) -> Result<(), AllocError>
+    ensures { OnOk result (FindsIfInput captured.now.events id.now item.now found.old found.new) }
+{
+    if captured.is_part_input(id, item) {
+        found.insert(item.copy(alloc)?)?;
+    }
+    Ok(())
 }
 
 /// Adds what the captured parts of a transformation move. It costs these parts.
@@ -69,7 +132,7 @@ fn add_moved_at(
 }
 
 /// The id of a transformation, where it has one.
-fn part_id(body: &Body) -> Option<&PlainText>
+pub fn part_id(body: &Body) -> Option<&PlainText>
     ensures { option_map (λ id. id.now) result ≡ make_id body.now }
 {
     match body {

@@ -1,6 +1,8 @@
+//! The items that a recall comes to hold at a site, and which items a site knows.
 ghost use Rattle.std.specs.Prelude.{◌≡◌, ◌↔◌, ◌∷◌, [], ℕ, List, IfOk, IsTrue, Contains, filter, not};
 ghost use Rattle.trace_core.specs.Spreads.{AreAscendingItems, IsSpread};
-ghost use Rattle.site_core.specs.Quarantines.{held};
+ghost use Rattle.site_core.specs.Quarantines.{held, with_items};
+ghost use Rattle.site_core.specs.Shortcuts.{GivesHeld, IsClosedInside, IsSpreadPast};
 ghost use Rattle.site_core.specs.Spreading.{AreNewlyHeld, IsKnownItem};
 
 use crate::holding::is_held;
@@ -8,7 +10,8 @@ use crate::quarantines::Quarantine;
 use epc_core::Epc;
 use frame_core::RecallId;
 use std::alloc::{AllocError, Global};
-use trace_core::Captured;
+use std::collections::BTreeSet;
+use trace_core::{Captured, Seen};
 
 /// The items that the site's pairs lead to from the item inside the site, itself among them, ascending
 /// and without repeats.
@@ -58,10 +61,51 @@ pub fn newly_held(
     not_held(alloc, quarantine, recall, items)
 }
 
-/// Whether one of the captured events names the item, or it is quarantined under some recall. It doesn't
-/// go through the events.
+/// The same where what is quarantined is closed inside the site: the search ends at items that are quarantined
+/// under the recall, and leaves out transformations all of whose outputs are. It costs what is new, and the
+/// events that name it; those that the search goes through are seen afterwards, also after an error.
+pub(crate) fn newly_held_past(
+    alloc: Global,
+    captured: &Captured,
+    quarantine: &Quarantine,
+    recall: RecallId,
+    item: &Epc,
+    seen: &mut Seen,
+) -> Result<Vec<Epc>, AllocError>
+    requires closed { IsClosedInside captured.now quarantine.now }
+    requires gives { GivesHeld captured.now quarantine.now recall seen.old }
+    ensures newly { IfOk result (λ items. AreNewlyHeld captured.now quarantine.now recall item.now items.items) }
+    ensures seen { IfOk result (λ items.
+        GivesHeld captured.now (with_items quarantine.now recall items.items) recall seen.new) }
+{
+    let found = spread_past(alloc, captured, quarantine, recall, item, seen)?;
+    not_held(alloc, quarantine, recall, found)
+}
+
+/// The spread of an item past what is quarantined under the recall, and past the transformations that were
+/// seen.
+fn spread_past(
+    alloc: Global,
+    captured: &Captured,
+    quarantine: &Quarantine,
+    recall: RecallId,
+    item: &Epc,
+    seen: &mut Seen,
+) -> Result<Vec<Epc>, AllocError>
+    ensures ascending { IfOk result (λ found. AreAscendingItems found.items) }
+    ensures past { IfOk result (λ found.
+        IsSpreadPast captured.now quarantine.now recall item.now seen.old seen.new found.items) }
+{
+    match quarantine.under(recall) {
+        Some(items) => captured.spread_beyond(item, items.items(), seen),
+        None => captured.spread_beyond(item, &BTreeSet::new(alloc), seen),
+    }
+}
+
+/// Whether one of the captured events names the item, or it is quarantined under some recall. For an item
+/// that is named it costs a look-up, and goes through neither the events nor the recalls.
 pub fn is_known(captured: &Captured, quarantine: &Quarantine, item: &Epc) -> bool
     ensures { IsTrue result ↔ IsKnownItem captured.now quarantine.now item.now }
 {
-    is_held(quarantine, item) || captured.mentions(item)
+    captured.mentions(item) || is_held(quarantine, item)
 }

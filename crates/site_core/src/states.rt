@@ -1,3 +1,4 @@
+//! All that one site keeps.
 ghost use Rattle.std.specs.Prelude.{◌≡◌, ◌<◌, length, option_map, IfOk};
 ghost use Rattle.std.specs.Ordering.{nat_cmp};
 ghost use Rattle.std.specs.FinMap as map;
@@ -8,6 +9,7 @@ ghost use Rattle.frame_core.specs.Unsignalled.{IsNextNumber};
 ghost use Rattle.site_core.specs.Records.{fresh, IsSound};
 
 use crate::quarantines::Quarantine;
+use crate::shortcuts::Shortcuts;
 use event_json::{SiteNo, Sites};
 use frame_core::{MsgId, RecallId, Row, RowView};
 use scholten_core::{Diffusion, Own};
@@ -17,7 +19,8 @@ use std::marker::Model;
 use trace_core::Captured;
 
 /// All that one site keeps: the list of sites, the events that it captured, the items that are
-/// quarantined at it, and its part in the recalls that pass it.
+/// quarantined at it, and its part in the recalls that pass it. Beside them it keeps what it knows of the
+/// quarantine, by which messages cost less.
 ///
 /// Every site number in it is of its list, and every message and recall number is 1 to 2^62.
 #[derive(Debug)]
@@ -26,6 +29,7 @@ pub struct SiteState {
     pub(crate) captured: Captured,
     pub(crate) quarantine: Quarantine,
     pub(crate) diffusion: Diffusion,
+    pub(crate) shortcuts: Shortcuts,
     pub(crate) alloc: Global,
 }
 
@@ -37,6 +41,7 @@ impl Drop for SiteState {
             captured: _,
             quarantine: _,
             diffusion: _,
+            shortcuts: _,
             alloc: _,
         } = self;
     }
@@ -45,6 +50,7 @@ impl Drop for SiteState {
 impl Model for SiteState {
     ghost use Rattle.site_core.specs.Codes.{coded_record};
     ghost use Rattle.site_core.specs.Records.{Record, IsSound};
+    ghost use Rattle.site_core.specs.Shortcuts.{AreShortcuts};
 
     ghost Value = { Record };
 
@@ -52,25 +58,30 @@ impl Model for SiteState {
 
     ghost view = { λ s. record { sites = s.sites; captured = s.captured; quarantine = s.quarantine; engagement = s.diffusion } };
 
-    ghost invariant = { λ s. IsSound (record { sites = s.sites; captured = s.captured; quarantine = s.quarantine; engagement = s.diffusion }) };
+    ghost invariant = { λ s. IsSound (record
+        { sites = s.sites; captured = s.captured; quarantine = s.quarantine; engagement = s.diffusion })
+        × AreShortcuts s.captured s.quarantine s.shortcuts };
 }
 
 impl SiteState {
-    /// The site `me` of these sites, which has captured nothing yet. Takes no memory.
+    /// The site `me` of these sites, which has captured nothing yet. Does not allocate.
     pub fn new(alloc: Global, sites: Sites, me: SiteNo) -> SiteState
         requires of_the_list { me < length sites }
         ensures { result ≡ fresh sites me }
     {
+        let quarantine = Quarantine::new(alloc);
+        let shortcuts = Shortcuts::new(alloc, &quarantine);
         SiteState {
             sites,
             captured: Captured::new(alloc, me),
-            quarantine: Quarantine::new(alloc),
+            quarantine,
             diffusion: Diffusion::new(alloc, me),
+            shortcuts,
             alloc,
         }
     }
 
-    /// A site that keeps just this. Takes no memory.
+    /// A site that keeps just this. Does not allocate.
     pub fn restore(
         alloc: Global,
         sites: Sites,
@@ -81,11 +92,13 @@ impl SiteState {
         requires sound { IsSound (record { sites = sites; captured = captured; quarantine = quarantine; engagement = diffusion }) }
         ensures { result ≡ record { sites = sites; captured = captured; quarantine = quarantine; engagement = diffusion } }
     {
+        let shortcuts = Shortcuts::new(alloc, &quarantine);
         SiteState {
             sites,
             captured,
             quarantine,
             diffusion,
+            shortcuts,
             alloc,
         }
     }
@@ -185,11 +198,17 @@ impl SiteState {
     pub fn copy(&self, alloc: Global) -> Result<SiteState, AllocError>
         ensures { IfOk result (λ s. s ≡ self.now) }
     {
+        let sites = self.sites.copy(alloc)?;
+        let captured = self.captured.copy(alloc)?;
+        let quarantine = self.quarantine.copy(alloc)?;
+        let diffusion = self.diffusion.copy(alloc)?;
+        let shortcuts = Shortcuts::begun(alloc, &self.shortcuts);
         Ok(SiteState {
-            sites: self.sites.copy(alloc)?,
-            captured: self.captured.copy(alloc)?,
-            quarantine: self.quarantine.copy(alloc)?,
-            diffusion: self.diffusion.copy(alloc)?,
+            sites,
+            captured,
+            quarantine,
+            diffusion,
+            shortcuts,
             alloc,
         })
     }

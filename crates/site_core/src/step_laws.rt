@@ -14,13 +14,13 @@ pub fn a_capture_leads_no_further()
     ensures blocked { BlockedEventsLeadOut }
 {}
 
-/// A start brings the root's spread under the recall that it begins, and tells of each shipment of it.
+/// A start brings the root's spread under the recall that it begins, and announces each shipment of it.
 pub fn a_start_opens_a_recall()
     ensures { StartsOpen }
 {}
 
 /// A message that is received wasn't seen: the item's spread comes under its recall, and each shipment of
-/// what is new there is told.
+/// what is new there is announced.
 pub fn a_message_is_taken()
     ensures { MessagesAreTaken }
 {}
@@ -40,7 +40,7 @@ pub fn ways_fix_what_follows()
     ensures count { CountIsFixed }
 {}
 
-/// An answer tells whether anything changed: a capture of known events alone, a repeat and a stale signal
+/// An answer says whether anything changed: a capture of known events alone, a repeat and a stale signal
 /// leave the record as it was, and nothing else does.
 pub fn an_answer_tells_a_change()
     ensures changes { AnswersTellChanges }
@@ -53,15 +53,15 @@ pub fn frames_are_for_their_site()
     ensures signals { SignalsAreOfTheSite }
 {}
 
-/// But for want of memory an input has one outcome: one effect that leaves one record, or one reason for
-/// which it is refused, and not both.
+/// Unless memory runs out, an input has one outcome: one effect that leaves one record, or one reason
+/// for which it is refused, and not both.
 pub fn an_input_has_one_outcome()
     ensures effects { EffectsAreFixed }
     ensures not_both { DoneIsNotRefused }
     ensures refusals { RefusalsAreFixed }
 {}
 
-/// Every input has an outcome other than want of memory.
+/// Every input has an outcome other than out of memory.
 pub fn an_input_has_an_outcome()
     ensures events { EventsHaveAnOutcome }
     ensures inputs { InputsHaveAnOutcome }

@@ -1,3 +1,4 @@
+//! The step of a site: what an input makes of its record.
 ghost use Rattle.std.specs.Prelude.{◌≡◌, Err, IfOk, IfErr, OnErr};
 ghost use Rattle.frame_core.specs.declared.frames.Frame.TheVariants as frames;
 ghost use Rattle.site_core.specs.Steps.{Does, Refuses, TakesMemory, CopiesRecord, changes};
@@ -8,6 +9,7 @@ use crate::inputs::SiteInput;
 use crate::looks::look;
 use crate::outcomes::{Effects, Refusal};
 use crate::plans::{begin_planned, plan_message, plan_start, receive_planned};
+use crate::shortcuts::Shortcuts;
 use crate::states::SiteState;
 use epc_core::Epc;
 use event_json::{SiteNo, read_document};
@@ -64,7 +66,7 @@ fn stepped_to(next: SiteState, effects: Effects) -> Stepped
 }
 
 impl SiteState {
-    /// The step of a site, in place. It costs what it adds and takes away, not what is kept.
+    /// The step of a site, in place: nothing that is kept is copied.
     ///
     /// # Errors
     /// As those of [`step`]. Nothing is changed then. `NoMemory` comes of no signal.
@@ -113,6 +115,7 @@ impl SiteState {
         let skipped = doc.skipped;
         let events = doc.events.into_vec();
         let added = capture_all(self.alloc, &mut self.captured, &self.quarantine, events)?;
+        self.shortcuts = Shortcuts::begun(self.alloc, &self.shortcuts);
         Ok(Effects::Captured {
             fresh: added.fresh,
             known: added.known,
@@ -161,7 +164,16 @@ impl SiteState {
         ensures refused { IfErr result (λ why. Refuses self.old (SiteInput.Deliver (frames.Recall message dest recall item.now)) why) }
         ensures unchanged { OnErr result (self.new ≡ self.old) }
     {
-        let plan = plan_message(self.alloc, &self.captured, &self.quarantine, recall, item)?;
+        let mut seen = self.shortcuts.take_seen(self.alloc, recall);
+        let plan = plan_message(
+            self.alloc,
+            &self.captured,
+            &self.quarantine,
+            self.shortcuts.is_closed(),
+            recall,
+            item,
+            &mut seen,
+        )?;
         let owed = receive_planned(
             &mut self.quarantine,
             &mut self.diffusion,
@@ -169,6 +181,7 @@ impl SiteState {
             recall,
             &plan,
         )?;
+        self.shortcuts.keep_seen(recall, seen);
         Ok(Effects::Received {
             quarantined: plan.new.len() as u64,
             numbered: plan.out.len() as u64,
@@ -176,7 +189,7 @@ impl SiteState {
         })
     }
 
-    /// Takes a signal for a message that stands and went to the site that signals. Takes no memory.
+    /// Takes a signal for a message that stands and went to the site that signals. Does not allocate.
     fn clear(&mut self, message: MsgId, by: SiteNo) -> Effects
         requires stands { CopiesRecord self.old (SiteInput.Deliver (frames.Signal message by)) }
         ensures { Does self.old (SiteInput.Deliver (frames.Signal message by)) result self.new }

@@ -1,3 +1,4 @@
+//! Engagement of one site, by examples.
 ghost use Rattle.std.specs.Prelude.{◌<◌};
 
 use crate::numbers::site;
@@ -34,7 +35,7 @@ fn nearly_spent(alloc: Global) -> Result<Diffusion, AllocError> {
     Diffusion::restore(alloc, site(3), rows, seen, parents, own, LAST_NUMBER, 1)
 }
 
-/// Site D, told by B and by C, which tells E: it is engaged until its message is signalled.
+/// Site D, notified by B and by C, which notifies E: it is engaged until its message is signalled.
 fn is_engaged_once(d: &mut Diffusion, out: &[(SiteNo, Epc)]) -> bool {
     let recall = first_recall();
     let first = d.receive(message(1, 1), recall, out) == Ok(Received::Owe { numbered: 1 });

@@ -1,3 +1,4 @@
+//! The check of the records of three sites, by examples.
 mod conditions;
 
 ghost use Rattle.std.specs.Prelude.{◌<◌};
@@ -23,7 +24,7 @@ enum Given {
     Shipped(&'static str, &'static str),
     /// A recall of the item.
     Recalled(&'static str),
-    /// The first message of a site, which tells of the item under the first recall of A.
+    /// The first message of a site, which announces the item under the first recall of A.
     Told(At, &'static str),
     /// The signal of a site for the first message.
     Signalled(At),
@@ -78,7 +79,7 @@ fn empty(alloc: Global, me: At) -> Result<SiteState, Fail> {
     Ok(SiteState::new(alloc, sites, me))
 }
 
-/// What the site is handed.
+/// What the site is given.
 fn input(alloc: Global, me: At, given: Given) -> Result<SiteInput, Fail> {
     let document = match given {
         Made(of, item) => format!(in alloc;
@@ -118,7 +119,7 @@ fn site(alloc: Global, me: At, given: &[Given]) -> Result<SiteState, Fail> {
     Ok(state)
 }
 
-/// What the check says of these sites, None where they fit together.
+/// What the check says of these sites, None where they are consistent.
 fn says(alloc: Global, sites: &[SiteState]) -> Result<Option<Misfit>, Fail> {
     let mut states = Vec::new(alloc);
     for site in sites {
@@ -163,7 +164,7 @@ fn add(alloc: Global, sites: &mut Vec<SiteState>, me: At, given: &[Given]) -> Re
     Ok(())
 }
 
-/// Whether the check of sites A, B and C, which were given this, says this; None where they fit together.
+/// Whether the check of sites A, B and C, which were given this, says this; None where they are consistent.
 fn is_charged(alloc: Global, given: [&[Given]; 3], wanted: Option<Misfit>) -> Result<bool, Fail> {
     let sites = three(alloc, given)?;
     Ok(says(alloc, &sites)? == wanted)
@@ -195,9 +196,9 @@ fn sites_fit_before_and_after_a_recall(rt: HostRuntime) -> Result<(), Fail> {
 #[test]
 fn states_of_different_days_do_not_fit(rt: HostRuntime) -> Result<(), Fail> {
     let alloc = rt.alloc();
-    // A knows that the recall has ended, and B was never told.
+    // A knows that the recall has ended, and B was never notified.
     assert!(rt; is_charged(alloc, [&ENDED, &[], &[]], misfit(2, B))?);
-    // B was told of a recall that A never began.
+    // B was notified of a recall that A never began.
     assert!(rt; is_charged(alloc, [&[], &[Told(A, "y")], &[]], misfit(3, B))?);
     Ok(())
 }

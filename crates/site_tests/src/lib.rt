@@ -1,4 +1,4 @@
-//! A site's engagement, steps and rows, worlds of sites, and sites that fit together, by examples.
+//! A site's engagement, steps and rows, worlds of sites, and sites that are consistent, by examples.
 #![tactic(auto)]
 
 #[cfg(test)]

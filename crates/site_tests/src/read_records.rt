@@ -167,7 +167,7 @@ fn rows(alloc: Global, changed: Changed) -> Result<Rows, Fail> {
     rows_with(alloc, site, address, part)
 }
 
-/// The table and the place of the bad row, `None` where no row is bad; want of memory is no answer.
+/// The table and the place of the bad row, `None` where no row is bad; out of memory is no answer.
 fn bad(alloc: Global, changed: Changed) -> Result<Option<(Table, u64)>, Fail> {
     let rows = rows(alloc, changed)?;
     match state_of(alloc, &rows) {

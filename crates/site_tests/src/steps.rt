@@ -76,7 +76,7 @@ fn document(text: String) -> SiteInput {
     SiteInput::Capture(Sequence::from_vec(text.into_bytes()))
 }
 
-/// What an input is answered.
+/// The answer to an input.
 #[derive(Clone, Copy)]
 enum Want {
     Done(Effects),
@@ -99,7 +99,7 @@ fn is_y(item: &Epc) -> bool {
     }
 }
 
-/// Whether this is the refusal that is wanted.
+/// Whether this is the refusal that is expected.
 fn is_refusal(refusal: &Refusal, want: Want) -> bool {
     match (refusal, want) {
         (
@@ -118,7 +118,7 @@ fn is_refusal(refusal: &Refusal, want: Want) -> bool {
     }
 }
 
-/// Whether this is the answer that is wanted.
+/// Whether this is the answer that is expected.
 fn is_answer(answer: &Result<Effects, Refusal>, want: Want) -> bool {
     match answer {
         Ok(effects) => matches!(want, Done(wanted) if wanted == *effects),
@@ -126,7 +126,7 @@ fn is_answer(answer: &Result<Effects, Refusal>, want: Want) -> bool {
     }
 }
 
-/// An input, and what it is answered.
+/// An input, and its answer.
 type Row = (Short, Want);
 
 /// Whether the site gives this answer to a copy of the input.
@@ -164,7 +164,7 @@ fn fresh(alloc: Global, me: SiteNo) -> Result<SiteState, Fail> {
     }
 }
 
-/// What the capture of one fresh event answers.
+/// What the capture of one fresh event returns.
 const FRESH: Effects = Effects::Captured {
     fresh: 1,
     known: 0,
@@ -216,7 +216,7 @@ fn owes_signal(b: &SiteState) -> bool {
     emittable(b, 1) == Some(due)
 }
 
-/// What a message answers that brings one item, which went nowhere.
+/// What a message returns that brings one item, which went nowhere.
 const TAKEN: Effects = Effects::Received {
     quarantined: 1,
     numbered: 0,
@@ -295,8 +295,8 @@ fn the_last_signal_ends_the_recall(rt: HostRuntime) -> Result<(), Fail> {
     Ok(())
 }
 
-/// B has captured nothing, and knows y since it is quarantined: it may recall it, and has nobody to tell. It doesn't
-/// know x.
+/// B has captured nothing, and knows y since it is quarantined: it may recall it, and has nobody to notify. It
+/// doesn't know x.
 fn recalls_what_is_held(alloc: Global, b: &mut SiteState) -> Result<bool, Fail> {
     let started = Effects::Started {
         recall: RecallId {

@@ -1,3 +1,4 @@
+//! Worlds of sites with keepers in memory, by examples.
 use crate::numbers::site;
 use epc_core::{Epc, EpcForm};
 use event_json::{Sequence, SiteNo, Sites};
@@ -116,7 +117,7 @@ fn add_frames(events: &mut Vec<WorldEvent>) -> Result<(), AllocError> {
     add_delivery(events, c(), 2)
 }
 
-/// What the world answers to that recall.
+/// What the world returns to that recall.
 fn spread(alloc: Global, world: &mut World<MemoryKeeper>) -> Result<Vec<Answer>, Fail> {
     let mut events = Vec::new(alloc);
     add_recall(alloc, &mut events)?;
@@ -172,8 +173,8 @@ fn has_ended(world: &World<MemoryKeeper>) -> bool {
         && world.view(b()).is_some()
 }
 
-/// Whether the answers are those wanted, and the world tells what is quarantined, that the recall has ended, and
-/// which frames were sent.
+/// Whether the answers are those expected, and the world says what is quarantined, that the recall has ended,
+/// and which frames were sent.
 fn spreads(alloc: Global) -> Result<bool, Fail> {
     let mut world = two_sites(alloc)?;
     let answers = spread(alloc, &mut world)?;
@@ -187,7 +188,7 @@ fn a_recall_spreads_and_ends(rt: HostRuntime) -> Result<(), Fail> {
     Ok(())
 }
 
-/// Whether two keepers make no world for this reason, and are handed back.
+/// Whether two keepers make no world for this reason, and are given back.
 fn are_refused(
     alloc: Global,
     first: MemoryKeeper,
@@ -219,7 +220,7 @@ fn a_world_is_of_all_sites_in_order(rt: HostRuntime) -> Result<(), Fail> {
     Ok(())
 }
 
-/// Site B, which was told of a recall that A never began.
+/// Site B, which was notified of a recall that A never began.
 fn told_of_nothing(alloc: Global) -> Result<MemoryKeeper, Fail> {
     let mut told = keeper(alloc, true)?;
     told.apply(SiteInput::Deliver(Frame::Recall {

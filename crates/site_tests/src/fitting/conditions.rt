@@ -19,7 +19,7 @@ fn joined(alloc: Global, one: &SiteState, other: &SiteState) -> Result<SiteState
     requires sites { length one.now.sites ≡ length other.now.sites }
 {
     let me = other.me();
-    // The own number tells the proof that the record is sound.
+    // The own number shows the proof that the record is sound.
     let _me = one.me();
     let rows = tables::copy(alloc, other.outbox())?;
     let seen = BTreeMap::new(alloc);
@@ -60,7 +60,7 @@ fn with_joined(alloc: Global, given: [&[Given]; 3]) -> Result<Vec<SiteState>, Fa
     Ok(sites)
 }
 
-/// Whether just this condition is charged to such a site B, beside A, which was given this, and an empty C.
+/// Whether just this condition is attributed to such a site B, beside A, which was given this, and an empty C.
 fn charges_joined(alloc: Global, given: [&[Given]; 3], condition: u64) -> Result<bool, Fail> {
     let sites = with_joined(alloc, given)?;
     Ok(says(alloc, &sites)? == misfit(condition, B))
@@ -83,7 +83,7 @@ fn a_message_that_waits_at_a_neutral_site_is_seen(rt: HostRuntime) -> Result<(),
 #[test]
 fn each_condition_is_charged_alone(rt: HostRuntime) -> Result<(), Fail> {
     let alloc = rt.alloc();
-    // B was told of nothing, though A shipped y to it.
+    // B was notified of nothing, though A shipped y to it.
     assert!(rt; is_charged(alloc, [&ENDED, &[], &[]], misfit(2, B))?);
     // B holds y, which w doesn't lead to.
     let root = [Shipped("w", "c"), Recalled("w"), Signalled(C)];

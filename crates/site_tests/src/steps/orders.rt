@@ -14,8 +14,8 @@ fn from(site: SiteNo, number: u64) -> MsgId {
     MsgId { site, number }
 }
 
-/// Site A makes v and w of x, ships w to B and then v to C, and starts a recall of x. Then it is told by C, and then
-/// by B under a greater number.
+/// Site A makes v and w of x, ships w to B and then v to C, and starts a recall of x. Then it is notified by C, and
+/// then by B under a greater number.
 fn recalls_both(alloc: Global, a: &mut SiteState) -> Result<bool, Fail> {
     let started = Effects::Started {
         recall: recall(),

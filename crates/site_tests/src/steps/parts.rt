@@ -1,4 +1,4 @@
-//! Parts of what a site keeps, and of what it answers.
+//! Parts of what a site keeps, and of what it returns.
 use super::Want::Blocked;
 use super::{is_refusal, recall};
 use epc_core::Epc;

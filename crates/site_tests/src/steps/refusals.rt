@@ -53,7 +53,7 @@ fn refuses(alloc: Global, a: &mut SiteState) -> Result<bool, Fail> {
     give(alloc, a, &rows)
 }
 
-/// Of no bytes it is told that they are no document.
+/// Of no bytes it is reported that they are no document.
 fn refuses_no_document(alloc: Global, a: &mut SiteState) -> bool {
     match a.apply(&SiteInput::Capture(Sequence::new(alloc))) {
         Err(Refusal::Doc(fault)) => fault.kind == DocFaultKind::Syntax,

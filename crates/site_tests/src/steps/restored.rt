@@ -13,7 +13,7 @@ use std::test::Fail;
 /// What is kept of recalls beside the events of A.
 #[derive(Clone, Copy)]
 enum Kept {
-    /// The recall A#1 of y, which goes on.
+    /// The recall A#1 of y, which continues.
     Live,
     /// The recall A#1 of y, whose end is recorded.
     Ended,
@@ -114,7 +114,7 @@ fn records_to_which_no_run_leads_follow_the_rules(rt: HostRuntime) -> Result<(),
         (NoMessages, (Short::Start('y'), NumbersSpent)),
         (NoRecalls, (Short::Start('y'), NumbersSpent)),
         (NoMessages, (told, NumbersSpent)),
-        // It is told of its own recall: it owes nothing while that goes on, and is engaged once it has ended.
+        // It is notified of its own recall: it owes nothing while that continues, and is engaged once it has ended.
         (Live, (told, Done(taken(false)))),
         (Ended, (told, Done(taken(true)))),
     ];

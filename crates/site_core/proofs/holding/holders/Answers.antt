@@ -1,19 +1,21 @@
-use Rattle.std.proofs.Common.{◌↔◌, sym, subst}
+use Rattle.std.proofs.Common.{◌≡◌, ◌↔◌, sym}
 use Rattle.std.specs.Prelude.{IsTrue}
-use Rattle.std.specs.FinMap.{entries}
 use Rattle.std.specs.List.{Contains}
-use Rattle.std.specs.List.Sorted.{IsStrictlySortedBy}
-use Rattle.frame_core.specs.Identifiers.{recall_cmp}
+use Rattle.std.proofs.lemmas.Result.{IfOk-weaker}
+use Rattle.frame_core.specs.Numbers.{Recall}
 use Rattle.site_core.specs.Quarantines.{held}
-use Rattle.site_core.proofs.Holders.{at_end, holding, holders_ascend, holders_exact}
+use Rattle.site_core.proofs.HeldIndex.{nothing_ascends, holders_found, holders_none}
 use Rattle.site_core.proofs.holding.holders.Goals as goal
 
-pub returns-clause-ascending : goal.returns-clause-ascending
-returns-clause-ascending c =
-    let all = at_end c.args.item.now c.loop-recall.recall-iterator c.loop-recall.recalls.items (holding c.args.item.now (entries c.args.quarantine.now)) c.in-None.ensures.steps.0 c.loop-recall.invariant in
-    subst (IsStrictlySortedBy recall_cmp) (sym all) (holders_ascend c.args.item.now c.args.quarantine.now)
+pub returns-in-Some-clause-exact : goal.returns-in-Some-clause-exact
+returns-in-Some-clause-exact c = IfOk-weaker c.in_order.result
+    (λ out. out.items ≡ c.in-Some.recalls.now.keys)
+    (λ out. (r : Recall) → Contains out.items r ↔ IsTrue (held c.args.quarantine.now r c.args.item.now))
+    (λ out keys. holders_found c.args.quarantine.now c.args.item.now c.in-Some.recalls.now out.items keys c.in-Some.ensures)
+    c.in_order.ensures.keys
 
-pub returns-clause-exact : goal.returns-clause-exact
-returns-clause-exact c = λ r.
-    let all = at_end c.args.item.now c.loop-recall.recall-iterator c.loop-recall.recalls.items (holding c.args.item.now (entries c.args.quarantine.now)) c.in-None.ensures.steps.0 c.loop-recall.invariant in
-    subst (λ rs. Contains rs r ↔ IsTrue (held c.args.quarantine.now r c.args.item.now)) (sym all) (holders_exact c.args.item.now c.args.quarantine.now r)
+pub returns-in-None-clause-ascending : goal.returns-in-None-clause-ascending
+returns-in-None-clause-ascending c = nothing_ascends c.new.result.items c.new.ensures.items
+
+pub returns-in-None-clause-exact : goal.returns-in-None-clause-exact
+returns-in-None-clause-exact c = holders_none c.args.quarantine.now c.args.item.now c.new.result.items c.new.ensures.items (λ r. sym (c.in-None.ensures r))

@@ -14,7 +14,7 @@ use Rattle.site_core.proofs.Held.{none_held}
 use Rattle.site_core.proofs.Results.{after_ok, after_err, after_fault, of_value}
 use Rattle.site_core.proofs.quarantines.hold_in.Goals as goal
 
--- the recall has the set that is lent
+-- the recall has the set that is borrowed
 lent : (c : goal.After-recalls-in-Some-1) → get (as_map recall_cmp c.args.recalls.now) c.args.recall ≡ Some c.in-Some.items.now
 lent c = sym (c.in-Some.ensures.value ∙ map_found recall_total c.args.recalls.now c.args.recall c.in-Some.ensures.ordered)
 

@@ -9,7 +9,7 @@ use Rattle.site_core.specs.ItemSets as set
 use Rattle.site_core.specs.ItemSets.{Items}
 use Rattle.site_core.proofs.quarantines.remove_in.Goals as goal
 
--- the recall has the set that is lent
+-- the recall has the set that is borrowed
 lent : (c : goal.After-recalls-in-Some-1) → get (as_map recall_cmp c.args.recalls.now) c.args.recall ≡ Some c.in-Some.items.now
 lent c = sym (c.in-Some.ensures.value ∙ map_found recall_total c.args.recalls.now c.args.recall c.in-Some.ensures.ordered)
 

@@ -12,6 +12,6 @@ returns c =
     let r = c.args.recall in
     let found = c.in_ok-items.items.items in
     elim c.not_held.result as (λ answer. IfOk answer (λ items. items.items ≡ filter (λ j. not (held q r j)) found) → IfOk answer (λ items. AreNewlyHeld s q r c.args.item.now items.items)) [
-      | Ok items ↦ λ is. newly s q r c.args.item.now found items.items c.in_ok-items.ensures.ascending c.in_ok-items.ensures.exact is
+      | Ok items ↦ λ is. newly s q r c.args.item.now found items.items c.in_ok-items.ensures.ascending (λ j free. c.in_ok-items.ensures.exact j) is
       | Err fault ↦ λ is. is
     ] c.not_held.ensures

@@ -7,6 +7,7 @@ use Rattle.site_core.specs.Records.{Record}
 use Rattle.site_core.specs.Spreading.{IsKnownItem}
 use Rattle.site_core.specs.Steps.{Starts, Refuses}
 use Rattle.site_core.specs.Told.{told_numbers}
+use Rattle.site_core.proofs.Closed.{shortcuts_with}
 use Rattle.site_core.proofs.Results.{of_fault}
 use Rattle.site_core.proofs.Soundness.{starts_sound}
 use Rattle.site_core.proofs.Starting.{started, started_past, refused}
@@ -24,7 +25,8 @@ started_inside c =
 pub invariant_of-self-2 : goal.invariant_of-self-2
 invariant_of-self-2 c =
     let s : Record = record { sites = c.self.inside.sites; captured = c.self.inside.captured; quarantine = c.self.inside.quarantine; engagement = c.self.inside.diffusion } in
-    starts_sound s c.args.root.now (record { site = c.me.result; number = c.next_recall.result }) c.len.result c.in_ok-began.began.numbered c.in_ok-began.began.ended (record s { quarantine = c.begin_planned.new.quarantine; engagement = c.begin_planned.new.diffusion }) c.self.invariant (started_inside c)
+    let sound = starts_sound s c.args.root.now (record { site = c.me.result; number = c.next_recall.result }) c.len.result c.in_ok-began.began.numbered c.in_ok-began.began.ended (record s { quarantine = c.begin_planned.new.quarantine; engagement = c.begin_planned.new.diffusion }) c.self.invariant.0 (started_inside c) in
+    (sound, shortcuts_with s.captured s.quarantine c.self.inside.shortcuts c.self.invariant.1 (record { site = c.me.result; number = c.next_recall.result }) c.args.root.now c.in_ok-plan.plan.new.items c.begin_planned.new.quarantine c.in_ok-began.ensures.held c.in_ok-plan.ensures.newly)
 
 pub returns-clause-done : goal.returns-clause-done
 returns-clause-done c = subst (λ s. Starts s c.args.root.now (record { site = c.me.result; number = c.next_recall.result }) c.len.result c.in_ok-began.began.numbered c.in_ok-began.began.ended (record { sites = c.self.inside.sites; captured = c.self.inside.captured; quarantine = c.begin_planned.new.quarantine; engagement = c.begin_planned.new.diffusion })) c.self.view_is (started_inside c)
