@@ -1,4 +1,4 @@
--- What a report and an audit tell once a recall has ended, and that there is one verdict.
+-- What a report and an audit say once a recall has ended, and that there is one verdict.
 use Rattle.std.proofs.Common.{◌≡◌, ◌↔◌, Bool, true, false, List, Some, None, refl, sym, ap, ◌∙◌, subst}
 use Rattle.std.specs.Ordering.{ordering_reverse}
 use Rattle.std.specs.declared.cmp.Ordering.TheVariants.{Less, Equal, Greater}
@@ -7,6 +7,7 @@ use Rattle.scholten_core.specs.declared.own_recalls.Own.{Own}
 use Rattle.trace_core.specs.Chains.{Related}
 use Rattle.trace_core.specs.Pairs.{pair_cmp}
 use Rattle.trace_core.specs.Relations.{Reaches}
+use Rattle.trace_core.specs.Trails.{TellsTrail}
 use Rattle.trace_core.specs.declared.pairs.Pair.{Pair}
 use Rattle.trace_core.proofs.PairOrder.{pairs_exact, pairs_total}
 use Rattle.site_core.specs.Records.{Record}
@@ -16,7 +17,6 @@ use Rattle.site_recovery.specs.Laws.{AreInPlace, captured_of}
 use Rattle.site_recovery.specs.Looks.{world_of, own}
 use Rattle.site_recovery.proofs.Worlds.{ends_are_exact}
 use Rattle.report_core.specs.Laws.{EndsAreEqual, EndsHaveTrails, OneVerdict}
-use Rattle.report_core.specs.Reports.{TellsTrail}
 use Rattle.report_core.specs.Verdicts.{IsHeld, DiffersAt}
 use Rattle.report_core.specs.declared.audits.Verdict.TheVariants as verdicts
 use Rattle.report_core.proofs.Zips.{zip_member}

@@ -28,7 +28,7 @@ use Rattle.report_core.specs.Outside.{ShipsOut, IsOutside, AreOutside}
 use Rattle.report_core.specs.declared.outside.OutsideShipment.{OutsideShipment}
 use Rattle.report_core.proofs.Adding.{outside_total, outside_exact}
 
--- what an event tells, part by part
+-- what an event says, part by part
 pub body_told : (site : ℕ) (items : Items) (body : Body) (x : OutsideShipment) → BodyTells site items body x ↔ ((x.site ≡ site) × IsTrue (set.contains items x.item) × ShipsOut x.item x.destination body)
 body_told site items (Note xs) x = (λ h. absurd h, λ h. absurd h.2)
 body_told site items (Make id ins outs) x = (λ h. absurd h, λ h. absurd h.2)
@@ -80,7 +80,7 @@ told_of_records recall refs x = (
       (s, there, subst (λ z. RecordTells recall z x) (sym same) tells),
 )
 
--- no event tells anything where nothing is held under the recall
+-- no event says anything where nothing is held under the recall
 pub none_told : (recall : Recall) (r : Record) (q : Quarantine) → q ≡ r.quarantine → None ≡ finite.get q recall → (x : OutsideShipment) → RecordTells recall r x → ⊥
 none_told recall r q same none x (e, among, tells) =
     let has = ((body_told r.engagement.me (items_under r.quarantine recall) e.body x).0 tells).1 in

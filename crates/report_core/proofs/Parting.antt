@@ -37,7 +37,7 @@ all_above p q qs low up r at = elim (contains_cases q r qs at) [
 
 -- Where they part.
 
--- one of the lists has the pair alone, the second where so told
+-- one of the lists has the pair alone, the second where so reported
 abbrev pub IsAlone : List Pair → List Pair → Pair → Bool → Type 0
 IsAlone ps qs p false = Contains ps p × (Contains qs p → ⊥)
 IsAlone ps qs p true = Contains qs p × (Contains ps p → ⊥)

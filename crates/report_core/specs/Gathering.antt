@@ -22,7 +22,7 @@ IsIn found x = IsTrue (contains outside_cmp found x)
 abbrev pub Adds : Found → Found → (OutsideShipment → Type 0) → Type 0
 Adds old new P = (x : OutsideShipment) → IsIn new x ↔ (IsIn old x ⊎ P x)
 
--- one of the list tells it
+-- one of the list says it
 abbrev pub OneTells : {Y : Type 0} → List Y → (Y → OutsideShipment → Type 0) → OutsideShipment → Type 0
 OneTells {Y} ys P x = (y : Y) × Contains ys y × P y x
 

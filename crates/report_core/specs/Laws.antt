@@ -1,4 +1,4 @@
--- What a report and an audit tell once a recall has ended, and that records have one verdict.
+-- What a report and an audit say once a recall has ended, and that records have one verdict.
 use Rattle.std.specs.Prelude.{◌≡◌, Option, IsSome, List, length, Contains}
 use Rattle.frame_core.specs.Numbers.{Recall}
 use Rattle.trace_core.specs.declared.pairs.Pair.{Pair}
@@ -13,7 +13,7 @@ use Rattle.report_core.specs.declared.audits.Verdict.{Verdict}
 use Rattle.report_core.specs.declared.audits.Verdict.TheVariants.{Equal}
 use Rattle.report_core.specs.declared.reports.RecallReport.{RecallReport}
 
--- Where the sites fit together and the recall has ended, the audit finds just the pairs in reach.
+-- Where the sites are consistent and the recall has ended, the audit finds just the pairs in reach.
 abbrev pub EndsAreEqual : Type 0
 EndsAreEqual =
     (records : List Record) (recall : Recall) (verdict : Verdict) → AreInPlace records → Fit (world_of records) → IsEnded (world_of records) recall

@@ -1,13 +1,10 @@
--- What a report of a recall tells.
-use Rattle.std.specs.Prelude.{◌≡◌, ◌↔◌, List, Option, Some, None, IsSome, Contains}
+-- What a report of a recall says.
+use Rattle.std.specs.Prelude.{◌≡◌, ◌↔◌, List, Some, None, IsSome, Contains}
 use Rattle.std.specs.List.{AllZip}
 use Rattle.frame_core.specs.Numbers.{Recall}
 use Rattle.scholten_core.specs.declared.own_recalls.Own.{Own}
-use Rattle.trace_core.specs.Chains.{Related}
 use Rattle.trace_core.specs.Pairs.{IsStrictlyAscending}
-use Rattle.trace_core.specs.Relations.{Reaches}
-use Rattle.trace_core.specs.Sites.{SiteEvents}
-use Rattle.trace_core.specs.Trails.{IsTrail, HaveNoRepeats, IsShortest}
+use Rattle.trace_core.specs.Trails.{TellsTrail}
 use Rattle.trace_core.specs.declared.pairs.Pair.{Pair}
 use Rattle.site_core.specs.Records.{Record}
 use Rattle.site_recovery.specs.Laws.{captured_of}
@@ -18,19 +15,13 @@ use Rattle.report_core.specs.declared.reports.RecallReport.{RecallReport}
 use Rattle.report_core.specs.declared.faults.ReportFault.{ReportFault}
 use Rattle.report_core.specs.declared.faults.ReportFault.TheVariants.{NoMemory, UnknownRecall}
 
--- a chain of related pairs from the root to the pair, without repeats and with as few pairs as any; none exactly where
--- no chain leads there
-abbrev pub TellsTrail : List SiteEvents → Pair → Pair → Option (List Pair) → Type 0
-TellsTrail sites root p None = Reaches (Related sites) root p → ⊥
-TellsTrail sites root p (Some trail) = IsTrail sites root p trail × HaveNoRepeats trail × IsShortest sites root p trail
-
 -- the list of what is quarantined under the recall at all sites: by site and item, and each once
 pub record AreHeld (records : List Record) (recall : Recall) (pairs : List Pair) : Type 0 where
   pub all : pairs ≡ quarantined recall records
   pub ascending : IsStrictlyAscending pairs
   pub exact : (p : Pair) → Contains pairs p ↔ Held (world_of records) p.site recall p.item
 
--- the report tells the recall's root and whether it has ended, as the record of the site that began it has them; what
+-- the report gives the recall's root and whether it has ended, as the record of the site that began it has them; what
 -- is quarantined, with a trail to each pair; and what of it was shipped out
 pub record IsReport (records : List Record) (recall : Recall) (report : RecallReport) : Type 0 where
   pub entry : Own

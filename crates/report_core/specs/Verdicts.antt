@@ -1,4 +1,4 @@
--- What an audit of a recall answers: the quarantine against what the root reaches.
+-- What an audit of a recall returns: the quarantine against what the root reaches.
 use Rattle.std.specs.Prelude.{◌≡◌, ◌↔◌, Bool, true, false, List, length}
 use Rattle.std.specs.declared.cmp.Ordering.TheVariants.{Less}
 use Rattle.frame_core.specs.Numbers.{Recall}

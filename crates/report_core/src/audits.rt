@@ -1,3 +1,4 @@
+//! The audit of a recall: what is quarantined against what its root reaches.
 ghost use Rattle.std.specs.Prelude.{◌≡◌, IfOk, IfErr, IsSome};
 ghost use Rattle.site_recovery.specs.Checking.{records_at, world_at};
 ghost use Rattle.site_recovery.specs.FittingAt.{AreAllSites};

@@ -1,3 +1,4 @@
+//! A place outside the traced sites.
 ghost use Rattle.std.specs.Prelude.{◌≡◌, Some, refl};
 ghost use Rattle.std.specs.Cmp as Cmp;
 ghost use Rattle.std.specs.Cmp.Lexicographic.{slice_cmp, pointwise, nat_list_cmp_total, nat_list_eq_equiv, texts_ties, texts_po};
@@ -24,7 +25,7 @@ impl Model for Destination {
 }
 
 impl Destination {
-    /// The place of this text. Takes no memory.
+    /// The place of this text. Does not allocate.
     pub(crate) fn of(text: PlainText) -> Destination
         ensures { result ≡ text }
     {

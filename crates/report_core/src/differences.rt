@@ -1,3 +1,4 @@
+//! The first difference of two lists of pairs.
 ghost use Rattle.std.specs.Prelude.{◌≡◌, option_map};
 ghost use Rattle.report_core.specs.Differences.{difference};
 

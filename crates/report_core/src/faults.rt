@@ -1,3 +1,4 @@
+//! Why a recall has no report and no audit.
 ghost use Rattle.std.specs.Prelude.{◌≡◌};
 ghost use Rattle.report_core.specs.declared.faults.ReportFault.TheVariants.{NoMemory};
 

@@ -2,12 +2,12 @@
 
 ghost use Rattle.report_core.specs.Laws.{EndsAreEqual, EndsHaveTrails, OneVerdict};
 
-/// Where the sites fit together and the recall has ended, an audit answers Equal.
+/// Where the sites are consistent and the recall has ended, an audit returns Equal.
 pub fn an_ended_recall_is_equal()
     ensures { EndsAreEqual }
 {}
 
-/// Where the sites fit together and the recall has ended, a trail leads to each pair of its report.
+/// Where the sites are consistent and the recall has ended, a trail leads to each pair of its report.
 pub fn an_ended_recall_has_trails()
     ensures { EndsHaveTrails }
 {}

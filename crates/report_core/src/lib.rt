@@ -11,7 +11,6 @@ mod ordered_keys;
 mod outside;
 mod reports;
 mod roots;
-mod trails;
 
 pub use audits::{Verdict, audit};
 pub use destinations::Destination;

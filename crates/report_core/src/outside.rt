@@ -1,3 +1,4 @@
+//! Shipments of recalled items out of the traced sites.
 ghost use Rattle.std.specs.Prelude.{◌≡◌, IfOk};
 ghost use Rattle.site_recovery.specs.Checking.{records_at, world_at};
 ghost use Rattle.site_recovery.specs.FittingAt.{AreAllSites};

@@ -1,3 +1,4 @@
+//! The report of a recall.
 ghost use Rattle.std.specs.Prelude.{◌≡◌, IfOk, IfErr};
 ghost use Rattle.site_recovery.specs.Checking.{records_at, world_at};
 ghost use Rattle.site_recovery.specs.FittingAt.{AreAllSites};
@@ -6,13 +7,12 @@ ghost use Rattle.report_core.specs.Reports.{IsReport, TellsFault};
 use crate::faults::ReportFault;
 use crate::outside::{OutsideShipment, shipped_out};
 use crate::roots::root_of;
-use crate::trails::trails;
 use event_json::Sequence;
 use frame_core::RecallId;
 use site_core::SiteState;
 use site_recovery::{captured, own_recall, quarantined};
 use std::alloc::Global;
-use trace_core::Pair;
+use trace_core::{Pair, trails_to};
 
 /// What the records of all sites say of a recall.
 #[derive(Debug, Drop)]
@@ -50,7 +50,7 @@ pub fn report(
     let root = root_of(alloc, recall, own)?;
     let pairs = quarantined(alloc, sites, recall)?;
     let captured = captured(alloc, sites)?;
-    let trails = trails(alloc, captured.as_slice(), &root, pairs.as_slice())?;
+    let trails = trails_to(alloc, captured.as_slice(), &root, pairs.as_slice())?;
     let outside = shipped_out(alloc, sites, recall)?;
     Ok(RecallReport {
         root,

@@ -2,10 +2,11 @@ use Rattle.std.proofs.Common.{◌≡◌, ◌∙◌, ℕ, ◌<◌, length, refl, 
 use Rattle.std.specs.List.{AllZip}
 use Rattle.std.specs.Option.{option_map}
 use Rattle.trace_core.specs.Chains.{sites_at}
+use Rattle.trace_core.specs.Trails.{TellsTrail}
 use Rattle.site_recovery.specs.Checking.{records_at, world_at}
 use Rattle.site_recovery.specs.Laws.{captured_of}
 use Rattle.report_core.specs.Outside.{AreOutside}
-use Rattle.report_core.specs.Reports.{AreHeld, TellsTrail}
+use Rattle.report_core.specs.Reports.{AreHeld}
 use Rattle.report_core.proofs.reports.report.Goals as goal
 
 pub returns-clause-ok : goal.returns-clause-ok
