@@ -4,7 +4,8 @@ use crate::numbers::site;
 use frame_core::{Frame, MsgId};
 use keeper_core::{MemoryKeeper, SiteKeeper};
 use site_commands::{
-    Answer, Fault, Files, audit_sites, capture, init, report_recall, run_sites, start,
+    Answer, Documents, Fault, Files, audit_sites, capture, capture_documents, init, report_recall,
+    run_sites, start,
 };
 use site_core::{SiteInput, SiteState};
 use site_threads::FreeGate;
@@ -30,6 +31,8 @@ struct Kept {
 struct MemoryFiles {
     alloc: Global,
     texts: Vec<(String, Vec<u8>)>,
+    /// How many lines of a text have been read.
+    lines_read: usize,
     sites: Vec<Kept>,
 }
 
@@ -56,6 +59,8 @@ impl Files<MemoryKeeper> for MemoryFiles {
     // The texts that the tests read say what the calls did.
     ghost reads = { λ _ _ _ _. ⊤ };
 
+    ghost lines = { λ _ _ _ _. ⊤ };
+
     ghost finds = { λ _ _ _ _. ⊤ };
 
     ghost makes = { λ _ _ _ _. ⊤ };
@@ -70,6 +75,24 @@ impl Files<MemoryKeeper> for MemoryFiles {
         match self.text_at(path) {
             Some(bytes) => Ok(bytes.as_slice().to_vec(alloc)?),
             None => Err(Fault::Read),
+        }
+    }
+
+    fn read_line(&mut self, alloc: Global, path: &str) -> Result<Option<Vec<u8>>, Fault> {
+        let Some(bytes) = self.text_at(path) else {
+            return Err(Fault::Read);
+        };
+        let mut lines = bytes.split(|byte| *byte == b'\n');
+        match lines.nth(self.lines_read) {
+            Some(line) => {
+                let line = line.to_vec(alloc)?;
+                self.lines_read += 1;
+                Ok(Some(line))
+            }
+            None => {
+                self.lines_read = 0;
+                Ok(None)
+            }
         }
     }
 
@@ -115,6 +138,7 @@ fn files(alloc: Global) -> Result<MemoryFiles, Fail> {
     let mut files = MemoryFiles {
         alloc,
         texts: Vec::new(alloc),
+        lines_read: 0,
         sites: Vec::new(alloc),
     };
     files.write_new("list", b"# two sites\r\nsite A a\n\nsite B b".as_slice())?;
@@ -122,6 +146,7 @@ fn files(alloc: Global) -> Result<MemoryFiles, Fail> {
     files.write_new("f/sites", b"site A a\n".as_slice())?;
     files.write_new("made", MADE.as_bytes())?;
     files.write_new("broken", b"{".as_slice())?;
+    files.write_new("lines", b"{\n \r\n{".as_slice())?;
     Ok(files)
 }
 
@@ -219,6 +244,54 @@ fn commands_are_answered(rt: HostRuntime) -> Result<(), Fail> {
     Ok(())
 }
 
+/// Whether the documents of these files are captured at A with this status and this output.
+fn takes_documents(
+    alloc: Global,
+    files: &mut MemoryFiles,
+    documents: &Documents<'_>,
+    status: u8,
+    text: &str,
+) -> bool {
+    let mut output = Vec::new(alloc);
+    match capture_documents(alloc, files, "d", "A", documents, &mut output) {
+        Ok(ended) => ended == status && output.as_slice() == text.as_bytes(),
+        Err(_) => false,
+    }
+}
+
+#[test]
+fn documents_are_answered_one_by_one(rt: HostRuntime) -> Result<(), Fail> {
+    let mut files = files(rt.alloc())?;
+    assert!(rt; gives(rt.alloc(), &mut files, Asked::Init("d", "list"), 0, ""));
+    let three = Documents {
+        paths: &["made", "broken", "made"],
+        by_lines: false,
+    };
+    assert!(rt;
+        takes_documents(
+            rt.alloc(),
+            &mut files,
+            &three,
+            1,
+            "captured 2 known 0 skipped 0 made\nrefused Doc Syntax event 0 field document broken\ncaptured 2 known 0 skipped 0 made\ndocuments 3 captured 4 known 0 skipped 0 refused 1\n"
+        )
+    );
+    let lines = Documents {
+        paths: &["lines"],
+        by_lines: true,
+    };
+    assert!(rt;
+        takes_documents(
+            rt.alloc(),
+            &mut files,
+            &lines,
+            1,
+            "refused Doc Syntax event 0 field document lines:1\nrefused Doc Syntax event 0 field document lines:3\ndocuments 2 captured 0 known 0 skipped 0 refused 2\n"
+        )
+    );
+    Ok(())
+}
+
 /// Commands that begin the recall A#1.
 const STARTED: [(Asked, u8, &str); 3] = [
     (Asked::Init("d", "list"), 0, ""),
@@ -243,7 +316,7 @@ fn signal() -> SiteInput {
     SiteInput::Deliver(Frame::Signal { id, by: site(1) })
 }
 
-/// Hands an input to the first site. Whether it was taken.
+/// Gives an input to the first site. Whether it was taken.
 fn takes(files: &mut MemoryFiles, input: SiteInput) -> bool {
     let Some(kept) = files.sites.get_mut(0) else {
         return false;

@@ -1,3 +1,4 @@
+//! Numbers of sites, for tests.
 ghost use Rattle.std.specs.Prelude.{◌<◌};
 
 use event_json::SiteNo;

@@ -23,7 +23,7 @@ enum Short {
     Shipped(char, char),
     /// A recall of x.
     Start,
-    /// The message A.1 to B, which tells it of y under the recall A#1.
+    /// The message A.1 to B, which notifies it of y under the recall A#1.
     Told,
     /// B's signal for that message.
     Signal,
@@ -112,7 +112,7 @@ const WHOLE: [Short; 4] = [
     Short::Signal,
 ];
 
-/// What an audit of A#1 answers where A and B went through this.
+/// What an audit of A#1 returns where A and B went through this.
 fn audited(alloc: Global, a: &[Short], b: &[Short]) -> Result<Result<Verdict, ReportFault>, Fail> {
     let a = after(alloc, site(0), a)?;
     let b = after(alloc, site(1), b)?;
@@ -226,7 +226,7 @@ fn tells(report: &Result<RecallReport, ReportFault>, late: bool) -> bool {
 fn a_report_has_trails_and_shipments_outside(rt: HostRuntime) -> Result<(), Fail> {
     let first = reported(rt.alloc(), &WHOLE[..3])?;
     assert!(rt; tells(&first, false));
-    // What is shipped outside once the recall began is captured, and told.
+    // What is shipped outside once the recall began is captured, and reported.
     let late = [WHOLE[0], WHOLE[1], WHOLE[2], Short::Shipped('x', 'z')];
     let late = reported(rt.alloc(), &late)?;
     assert!(rt; tells(&late, true));

@@ -31,6 +31,8 @@ impl Files<MemoryKeeper> for OneFile {
     // The texts that the tests read say what the calls did.
     ghost reads = { λ _ _ _ _. ⊤ };
 
+    ghost lines = { λ _ _ _ _. ⊤ };
+
     ghost finds = { λ _ _ _ _. ⊤ };
 
     ghost makes = { λ _ _ _ _. ⊤ };
@@ -47,6 +49,10 @@ impl Files<MemoryKeeper> for OneFile {
         } else {
             Err(Fault::Read)
         }
+    }
+
+    fn read_line(&mut self, _: Global, _: &str) -> Result<Option<Vec<u8>>, Fault> {
+        Err(Fault::Read)
     }
 
     fn exists(&mut self, _: &str) -> Result<bool, Fault> {
@@ -139,6 +145,7 @@ fn a_bad_command_line_ends_with_2(rt: HostRuntime) -> Result<(), Fail> {
         ("recall", "", 2, "", "error:"),
         ("recall -xh", "", 2, "", "error:"),
         ("recall start d A", "", 2, "", "error:"),
+        ("recall capture d A", "", 2, "", "error:"),
         ("recall run d --turns 0", "", 2, "", "error: invalid value"),
         (
             "recall run d --turns 1000001",
@@ -164,6 +171,8 @@ fn commands_on_files_are_told(rt: HostRuntime) -> Result<(), Fail> {
             "",
         ),
         ("recall audit d", "", 3, "", "fault Read\n"),
+        ("recall capture d A a b", "", 3, "", "fault Read\n"),
+        ("recall capture d A - --lines", "", 3, "", "fault Read\n"),
         ("recall run d", "", 3, "", "fault Read\n"),
         ("recall run d --turns 1000000", "", 3, "", "fault Read\n"),
     ];
@@ -201,7 +210,7 @@ impl Write for Broken {
     }
 }
 
-/// Whether a command line ends with status 3 where its output fails, and tells that.
+/// Whether a command line ends with status 3 where its output fails, and reports that.
 fn fails<R: Threads + Wait + Clock + Sync>(
     rt: &R,
     alloc: Global,
@@ -235,7 +244,7 @@ fn an_output_that_fails_ends_with_3(rt: HostRuntime) -> Result<(), Fail> {
     Ok(())
 }
 
-/// Whether a script ends with status 3 where its input fails, and tells that.
+/// Whether a script ends with status 3 where its input fails, and reports that.
 fn input_fails<R: Threads + Wait + Clock + Sync>(rt: &R, alloc: Global) -> Result<bool, Fail> {
     let words = words_of(alloc, "recall sim")?;
     let mut written = Vec::new(alloc);

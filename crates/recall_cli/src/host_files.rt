@@ -1,5 +1,6 @@
 //! The files of the machine.
 
+use crate::line_files::{INPUT, LineFile};
 use keeper_core::KeepFault;
 use site_commands::{Fault, Files};
 use site_core::SiteState;
@@ -8,7 +9,7 @@ use sqlite::{Connection, Error as DatabaseError, ErrorCode, FileFrom, FileStore,
 use std::alloc::Global;
 use std::fs::{self, File};
 use std::hash::{BuildHasher, RandomState};
-use std::io::{Error, ErrorKind, Write};
+use std::io::{self, Error, ErrorKind, Read, Write};
 
 /// A connection to a database in a file. A write that was torn by a crash may have left any bytes, so each commit syncs
 /// twice.
@@ -21,6 +22,8 @@ type FileSite = StoredSite<FileFrom<Wary>>;
 #[derive(Drop)]
 pub(crate) struct HostFiles<'a> {
     runtime: &'a HostRuntime,
+    /// The file of which lines are read, until its end.
+    lines: Option<LineFile>,
     /// The path of the last file of which a call failed.
     failed: Option<String>,
 }
@@ -30,6 +33,7 @@ impl<'a> HostFiles<'a> {
     pub(crate) fn new(runtime: &'a HostRuntime) -> HostFiles<'a> {
         HostFiles {
             runtime,
+            lines: None,
             failed: None,
         }
     }
@@ -45,6 +49,29 @@ impl<'a> HostFiles<'a> {
     /// Keeps the path of a file of which a call failed.
     fn note(&mut self, path: &str) {
         self.failed = String::from_str(self.runtime.alloc(), path).ok();
+    }
+
+    /// The bytes of a file, or of the standard input to its end.
+    fn bytes(&self, path: &str) -> io::Result<Vec<u8>> {
+        if path != INPUT {
+            return fs::read(self.runtime, path);
+        }
+        let mut bytes = Vec::new(self.runtime.alloc());
+        self.runtime.stdin().read_to_end(&mut bytes)?;
+        Ok(bytes)
+    }
+
+    /// The next line of a file, which is opened where its lines aren't being read.
+    fn next_line(&mut self, alloc: Global, path: &str) -> io::Result<Option<Vec<u8>>> {
+        let mut file = match self.lines.take() {
+            Some(file) if file.is_of(path) => file,
+            _ => LineFile::open(self.runtime, path)?,
+        };
+        let line = file.next_line(alloc)?;
+        if line.is_some() {
+            self.lines = Some(file);
+        }
+        Ok(line)
     }
 
     /// Opens a database, and makes it where there is no file or an empty one.
@@ -104,7 +131,7 @@ impl<'a> HostFiles<'a> {
     }
 }
 
-/// Want of memory, or else the fault that is given.
+/// Out of memory, or else the fault that is given.
 fn fault_of(error: &Error, fault: Fault) -> Fault {
     if error.kind() == ErrorKind::OutOfMemory {
         Fault::NoMemory
@@ -160,6 +187,8 @@ impl Files<FileSite> for HostFiles<'_> {
     // What stands behind a path no contract can say.
     ghost reads = { λ _ _ _ _. ⊤ };
 
+    ghost lines = { λ _ _ _ _. ⊤ };
+
     ghost finds = { λ _ _ _ _. ⊤ };
 
     ghost makes = { λ _ _ _ _. ⊤ };
@@ -171,8 +200,18 @@ impl Files<FileSite> for HostFiles<'_> {
     ghost writes = { λ _ _ _ _. ⊤ };
 
     fn read(&mut self, _: Global, path: &str) -> Result<Vec<u8>, Fault> {
-        match fs::read(self.runtime, path) {
+        match self.bytes(path) {
             Ok(bytes) => Ok(bytes),
+            Err(error) => {
+                self.note(path);
+                Err(fault_of(&error, Fault::Read))
+            }
+        }
+    }
+
+    fn read_line(&mut self, alloc: Global, path: &str) -> Result<Option<Vec<u8>>, Fault> {
+        match self.next_line(alloc, path) {
+            Ok(line) => Ok(line),
             Err(error) => {
                 self.note(path);
                 Err(fault_of(&error, Fault::Read))

@@ -1,10 +1,11 @@
 //! `recall`: traces recalled products through a supply chain.
 //!
-//! The program hands its words and the standard streams to [`run_command`], and ends with the
-//! status that it answers.
+//! The program gives its words and the standard streams to [`run_command`], and ends with the
+//! status that it returns.
 #![tactic(auto)]
 
 mod host_files;
+mod line_files;
 mod progress;
 
 use host_files::HostFiles;

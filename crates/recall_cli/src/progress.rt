@@ -1,4 +1,4 @@
-//! How a long run goes, told on the error stream where that is a terminal.
+//! How a long run goes, reported on the error stream where that is a terminal.
 
 use event_json::SiteNo;
 use site_threads::{Gate, Pass};
@@ -6,17 +6,17 @@ use std::io::IsTerminal;
 use std::sync::atomic::{AtomicU64, Ordering};
 use std::time::Clock;
 
-/// How long nothing is told, in milliseconds.
+/// How long nothing is reported, in milliseconds.
 const QUIET: u64 = 2000;
 
-/// What the sites of a run have told so far.
+/// What the sites of a run have reported so far.
 #[derive(Drop)]
 pub(crate) struct Progress {
     /// How many turns were begun.
     turns: AtomicU64,
     /// How many messages wait for a signal, at all sites together.
     open: AtomicU64,
-    /// When it was told last, in milliseconds of the clock.
+    /// When it was reported last, in milliseconds of the clock.
     told: AtomicU64,
 }
 
@@ -30,7 +30,7 @@ impl Progress {
         }
     }
 
-    /// Whether it is to be told again: for the first to ask after it was quiet for so long.
+    /// Whether it is to be reported again: for the first to ask after it was quiet for so long.
     fn is_due(&self, now: u64) -> bool {
         let told = self.told.load(Ordering::SeqCst);
         now.saturating_sub(told) >= QUIET
@@ -40,7 +40,7 @@ impl Progress {
                 .is_ok()
     }
 
-    /// Tells a user how the run goes. Where the stream fails there is nobody left to tell.
+    /// Tells a user how the run goes. Where the stream fails there is nobody left to report it to.
     fn tell(&self, rt: &HostRuntime) {
         let turns = self.turns.load(Ordering::SeqCst);
         let open = self.open.load(Ordering::SeqCst);
@@ -48,18 +48,18 @@ impl Progress {
     }
 }
 
-/// Lets every turn begin, and tells now and then how many were begun and how many messages are open.
+/// Lets every turn begin, and reports now and then how many were begun and how many messages are open.
 #[derive(Clone, Copy)]
 pub(crate) struct TellingGate<'a> {
     runtime: &'a HostRuntime,
     /// Where the error stream is a terminal.
     progress: Option<&'a Progress>,
-    /// How many messages of this gate's site were open when it was told last.
+    /// How many messages of this gate's site were open when it was reported last.
     open: u64,
 }
 
 impl<'a> TellingGate<'a> {
-    /// A gate that tells where the error stream is a terminal.
+    /// A gate that reports where the error stream is a terminal.
     pub(crate) fn new(rt: &'a HostRuntime, progress: &'a Progress) -> TellingGate<'a> {
         TellingGate {
             runtime: rt,

@@ -10,21 +10,23 @@ use Rattle.script_core.specs.declared.faults.ScriptFault.TheVariants as faults
 use Rattle.script_core.specs.declared.tallies.Tally.{Tally}
 use Rattle.site_commands.specs.Answers.{IsAnswer, answer_status, answer_text}
 use Rattle.site_core.specs.Records.{Record}
-use Rattle.recall_commands.specs.CommandLines.{AsksSim, AsksFiles, AsksHelp, IsBad, texts_of}
+use Rattle.recall_commands.specs.CommandLines.{AsksBatch, AsksFiles, AsksHelp, AsksSim, IsBad, paths_of, texts_of}
 use Rattle.recall_commands.specs.Leads.{LeadsTo}
 use Rattle.site_commands.specs.Faults.{fault_line}
 use Rattle.site_commands.specs.declared.answers.Answer.{Answer}
+use Rattle.site_commands.specs.Captures.{CapturesAll, EndsEarly}
+use Rattle.recall_commands.specs.declared.command_lines.Batch.{Batch}
 use Rattle.recall_commands.specs.declared.command_lines.FileCommand.{FileCommand}
 use Rattle.site_commands.specs.declared.faults.Fault.{Fault}
 use Rattle.site_commands.specs.declared.faults.Fault.TheVariants.{NoMemory, Write}
 
--- what the input still has, and what the output and the error stream hold, where they tell it
+-- what the input still has, and what the output and the error stream hold, where they report it
 pub record Streams : Type 0 where
   pub input : Option (List ℕ)
   pub output : Option (List ℕ)
   pub errors : Option (List ℕ)
 
--- the line that tells a fault of a script
+-- the line that reports a fault of a script
 abbrev pub script_fault_line : ScriptFault → List ℕ
 script_fault_line faults.NoMemory = codes "fault NoMemory\n"
 script_fault_line faults.Read = codes "fault Read\n"
@@ -56,7 +58,7 @@ TextEnds done text output output_after errors errors_after status =
     ((status ≡ done) × Appends output output_after text × Keeps errors errors_after)
     ⊎ ((status ≡ 3) × AppendsBeginning output output_after text × AppendsBeginning errors errors_after (fault_line Write))
 
--- where a recall is unknown, the error stream tells which command lists the recalls
+-- where a recall is unknown, the error stream says which command lists the recalls
 abbrev pub Advises : List ℕ → Option (List ℕ) → Option (List ℕ) → Type 0
 Advises text errors errors_after =
     ((text ≡ codes "refused UnknownRecall\n") × AppendsBeginning errors errors_after (codes "`recall audit` lists the recalls that sites began\n"))
@@ -68,7 +70,7 @@ AnswerEnds answer output output_after errors errors_after status =
     ((status ≡ answer_status answer) × Appends output output_after (answer_text answer) × Advises (answer_text answer) errors errors_after)
     ⊎ ((status ≡ 3) × AppendsBeginning output output_after (answer_text answer) × AppendsBeginning errors errors_after (fault_line Write))
 
--- what came of a command on files is told: its answer with its status; or its fault, with status 3, and no answer
+-- what came of a command on files is reported: its answer with its status; or its fault, with status 3, and no answer
 abbrev pub TellsOutcome : Result Answer Fault → Option (List ℕ) → Option (List ℕ) → Option (List ℕ) → Option (List ℕ) → ℕ → Type 0
 TellsOutcome (Ok answer) output output_after errors errors_after status =
     AnswerEnds answer output output_after errors errors_after status
@@ -115,9 +117,23 @@ abbrev pub HelpHelps : {F : Type 0} → List (String Global) → F → F → Str
 HelpHelps words old new before after status =
     (name : List ℕ) → texts_of words ≡ name ∷ codes "--help" ∷ [] → Helps (texts_of words) old new before after status ⊎ LacksMemory old new before after status
 
-module _ {F K : Type 0} (reads : F → List ℕ → List ℕ → F → Type 0) (finds : F → List ℕ → Bool → F → Type 0) (makes : F → List ℕ → Record → F → Type 0) (opens : F → List ℕ → List ℕ → K → F → Type 0) (closes : F → K → F → Type 0) (writes : F → List ℕ → List ℕ → F → Type 0) (shown : K → Option Record) where
-  -- A command on files was asked for, and what came of it was told: an answer, which is that of these calls of the files, with
-  -- status 1 only refusals; or a fault, after which nothing is said of the files.
+-- a fault ended the capture of several documents: status 3, its line on the error stream, and the answers to those before
+pub record BreaksOff (output output_after errors errors_after : Option (List ℕ)) (status : ℕ) : Type 0 where
+  pub fault : Fault
+  pub early : EndsEarly output output_after
+  pub told : AppendsBeginning errors errors_after (fault_line fault)
+  pub status_is : status ≡ 3
+
+-- several documents were captured, each answered on its own; or a fault ended it
+abbrev pub BatchEnds : {F K : Type 0} → (F → List ℕ → List ℕ → F → Type 0) → (F → List ℕ → Option (List ℕ) → F → Type 0) → (F → List ℕ → List ℕ → K → F → Type 0) → (F → K → F → Type 0) → (K → Option Record)
+    → Batch → F → F → Option (List ℕ) → Option (List ℕ) → Option (List ℕ) → Option (List ℕ) → ℕ → Type 0
+BatchEnds reads lines opens closes shown batch old new output output_after errors errors_after status =
+    (CapturesAll reads lines opens closes shown batch.folder.now batch.site.now batch.by_lines (paths_of batch) old new output output_after status × Keeps errors errors_after)
+    ⊎ BreaksOff output output_after errors errors_after status
+
+module _ {F K : Type 0} (reads : F → List ℕ → List ℕ → F → Type 0) (lines : F → List ℕ → Option (List ℕ) → F → Type 0) (finds : F → List ℕ → Bool → F → Type 0) (makes : F → List ℕ → Record → F → Type 0) (opens : F → List ℕ → List ℕ → K → F → Type 0) (closes : F → K → F → Type 0) (writes : F → List ℕ → List ℕ → F → Type 0) (shown : K → Option Record) where
+  -- A command on files was asked for, and what came of it was reported: an answer, which is that of these calls of the files,
+  -- with status 1 only refusals; or a fault, after which nothing is said of the files.
   pub record DoesFiles (words : List (List ℕ)) (old new : F) (before after : Streams) (status : ℕ) : Type 0 where
     pub command : FileCommand
     pub asked : AsksFiles words command
@@ -127,7 +143,14 @@ module _ {F K : Type 0} (reads : F → List ℕ → List ℕ → F → Type 0) (
     pub unread : Keeps before.input after.input
     pub told : TellsOutcome outcome before.output after.output before.errors after.errors status
 
+  -- several documents were asked to be captured, and what came of it was reported
+  pub record DoesBatch (words : List (List ℕ)) (old new : F) (before after : Streams) (status : ℕ) : Type 0 where
+    pub batch : Batch
+    pub asked : AsksBatch words batch
+    pub unread : Keeps before.input after.input
+    pub ends : BatchEnds reads lines opens closes shown batch old new before.output after.output before.errors after.errors status
+
   -- how a command line ends, from old files to new ones
   abbrev pub Ends : List (String Global) → F → F → Streams → Streams → ℕ → Type 0
   Ends words old new before after status =
-      RunsAsked (texts_of words) old new before after status ⊎ (DoesFiles (texts_of words) old new before after status ⊎ (Helps (texts_of words) old new before after status ⊎ (IsMistaken (texts_of words) old new before after status ⊎ LacksMemory old new before after status)))
+      RunsAsked (texts_of words) old new before after status ⊎ (DoesFiles (texts_of words) old new before after status ⊎ (DoesBatch (texts_of words) old new before after status ⊎ (Helps (texts_of words) old new before after status ⊎ (IsMistaken (texts_of words) old new before after status ⊎ LacksMemory old new before after status))))

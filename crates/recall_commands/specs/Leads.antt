@@ -1,5 +1,5 @@
--- Which calls of the files lead to the answer of a command. What a call does is told by relations of the kind of files, and
--- what a keeper shows by its kind.
+-- Which calls of the files lead to the answer of a command. What a call does is stated by relations of the kind of files,
+-- and what a keeper shows by its kind.
 use Rattle.std.specs.Prelude.{ℕ, Bool, List, Option}
 use Rattle.site_core.specs.Records.{Record}
 use Rattle.site_commands.specs.Calls.{AuditsAt, CapturesAt, ReportsAt, StartsAt}

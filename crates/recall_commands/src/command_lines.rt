@@ -1,12 +1,12 @@
 //! What the words of a command line ask for.
 
-ghost use Rattle.std.specs.Prelude.{◌≡◌, false, IfOk, IfSome, codes};
+ghost use Rattle.std.specs.Prelude.{◌≡◌, ◌↔◌, false, IfOk, IfSome, IsTrue, codes};
 ghost use Rattle.clap.specs.Words.{app_of, found_of, kind_of, rows_of, rule_of, subcommand_rows_of};
-ghost use Rattle.recall_commands.specs.CommandLines.{audit, capture, init, on_folder, recall, report, required, run, sim, start, texts_of, turns, AsksFor, AsksNamed, Gives, GivesNumber, IsCommand, IsToldAs};
+ghost use Rattle.recall_commands.specs.CommandLines.{audit, capture, files, init, lines, on_folder, recall, report, required, run, sim, start, texts_of, turns, AsksFor, AsksNamed, Gives, GivesNumber, IsCapture, IsCommand, IsSet, IsToldAs};
 
 use crate::helps;
 use clap::error::ErrorKind;
-use clap::{Arg, ArgMatches, Command, Error, value_parser};
+use clap::{Arg, ArgAction, ArgMatches, Command, Error, value_parser};
 use std::alloc::{AllocError, Global};
 
 /// What a command line asks for.
@@ -16,10 +16,22 @@ pub(crate) enum Asked<'a> {
     Sim,
     /// Something of the sites' files.
     Files(FileCommand<'a>),
+    /// Documents of several files, or of their lines, are captured at a site.
+    Batch(Batch<'a>),
     /// Help, which is an answer.
     Help(String),
     /// A bad command line, with what is wrong with it.
     Mistake(String),
+}
+
+/// Documents that are captured at a site of a folder one after another: those of several files, or of the lines of some.
+#[derive(Debug, Drop)]
+pub(crate) struct Batch<'a> {
+    pub(crate) folder: &'a str,
+    pub(crate) site: &'a str,
+    pub(crate) paths: Vec<&'a str>,
+    /// Whether each line of a file is a document.
+    pub(crate) by_lines: bool,
 }
 
 /// A command on the sites' files in a folder.
@@ -30,7 +42,7 @@ pub(crate) enum FileCommand<'a> {
         folder: &'a str,
         list: &'a str,
     },
-    /// A document is captured at a site.
+    /// The document of one file is captured at a site.
     Capture {
         folder: &'a str,
         site: &'a str,
@@ -65,20 +77,65 @@ pub(crate) fn read<'a>(alloc: Global, words: &'a [String]) -> Result<Asked<'a>, 
     let command = recall(alloc)?;
     match command.try_get_matches_from(words) {
         // The command has no other subcommands, no argument is left out, and the turns are in range.
-        Ok(matches) => named(&matches).ok_or(AllocError),
+        Ok(matches) => named(alloc, &matches).ok_or(AllocError),
         Err(error) => of_error(alloc, &error),
     }
 }
 
-/// What the subcommand that was met asks for.
-fn named<'a>(matches: &ArgMatches<'a>) -> Option<Asked<'a>>
+/// What the subcommand that was met asks for. None where memory runs out.
+fn named<'a>(alloc: Global, matches: &ArgMatches<'a>) -> Option<Asked<'a>>
     ensures { IfSome result (AsksNamed (subcommand_rows_of matches.now)) }
 {
     let (name, given) = matches.subcommand()?;
     if name == "sim" {
-        return Some(Asked::Sim);
+        Some(Asked::Sim)
+    } else if name == "capture" {
+        capture_command(alloc, given)
+    } else {
+        Some(Asked::Files(file_command(name, given)?))
     }
-    Some(Asked::Files(file_command(name, given)?))
+}
+
+/// The command to capture documents: that of one file, or a batch.
+fn capture_command<'a>(alloc: Global, given: &ArgMatches<'a>) -> Option<Asked<'a>>
+    ensures { IfSome result (IsCapture (rows_of (found_of given.now))) }
+{
+    let folder = argument(given, "dir")?;
+    let site = argument(given, "site")?;
+    let paths = given.get_strs("file")?;
+    let by_lines = is_set(given, "lines");
+    if paths.len() == 1 && !by_lines {
+        let file = paths[0];
+        return Some(Asked::Files(FileCommand::Capture { folder, site, file }));
+    }
+    let paths = copied(alloc, paths).ok()?;
+    Some(Asked::Batch(Batch {
+        folder,
+        site,
+        paths,
+        by_lines,
+    }))
+}
+
+/// A list of the same texts.
+fn copied<'a>(alloc: Global, texts: &[&'a str]) -> Result<Vec<&'a str>, AllocError>
+    ensures { IfOk result (λ copy. copy.items ≡ texts.now) }
+{
+    let mut copy = Vec::new(alloc);
+    for text in texts {
+        copy.push(*text)?;
+    }
+    Ok(copy)
+}
+
+/// Whether the option of a name is there.
+fn is_set(given: &ArgMatches<'_>, name: &str) -> bool
+    ensures { IsTrue result ↔ IsSet (rows_of (found_of given.now)) name.now }
+{
+    match given.get_str(name) {
+        Some(text) => text == "true",
+        None => false,
+    }
 }
 
 /// The command of a name on the sites' files.
@@ -120,10 +177,7 @@ fn site_command<'a>(name: &str, folder: &'a str, given: &ArgMatches<'a>) -> Opti
     ensures { IfSome result (λ c. IsCommand c name.now (rows_of (found_of given.now))) }
 {
     let site = argument(given, "site")?;
-    if name == "capture" {
-        let file = argument(given, "file")?;
-        Some(FileCommand::Capture { folder, site, file })
-    } else if name == "start" {
+    if name == "start" {
         let item = argument(given, "epc")?;
         Some(FileCommand::Start { folder, site, item })
     } else {
@@ -214,8 +268,33 @@ fn capture<'a>(alloc: Global) -> Result<Command<'a>, AllocError>
         helps::CAPTURE_ABOUT,
         helps::CAPTURE_EXAMPLE,
     )?
-    .arg(required(alloc, "site", "The site that captures it"))?
-    .arg(required(alloc, "file", "The file of the document"))
+    .arg(required(alloc, "site", "The site that captures them"))?
+    .arg(files(alloc))?
+    .arg(lines(alloc))
+}
+
+/// The files of the documents, one at least.
+fn files<'a>(alloc: Global) -> Arg<'a>
+    ensures rule { rule_of result ≡ files }
+    ensures local { result.global ≡ false }
+{
+    required(
+        alloc,
+        "file",
+        "The files of the documents; `-` is the standard input",
+    )
+    .action(ArgAction::Append)
+}
+
+/// Whether each line is a document.
+fn lines<'a>(alloc: Global) -> Arg<'a>
+    ensures rule { rule_of result ≡ lines }
+    ensures local { result.global ≡ false }
+{
+    Arg::new(alloc, "lines")
+        .long("lines")
+        .action(ArgAction::SetTrue)
+        .help("Each line of a file is a document")
 }
 
 fn start<'a>(alloc: Global) -> Result<Command<'a>, AllocError>
@@ -261,7 +340,7 @@ fn audit<'a>(alloc: Global) -> Result<Command<'a>, AllocError>
     on_folder(alloc, "audit", helps::AUDIT_ABOUT, helps::AUDIT_EXAMPLE)
 }
 
-/// What an error of `clap` is told as. Help that was asked for is one of its errors.
+/// What an error of `clap` is reported as. Help that was asked for is one of its errors.
 fn of_error<'a>(alloc: Global, error: &Error) -> Result<Asked<'a>, AllocError>
     ensures { IfOk result (IsToldAs (kind_of error.now)) }
 {

@@ -5,16 +5,17 @@ ghost use Rattle.std.specs.Io.KnownBytes.{Appends, Keeps};
 ghost use Rattle.script_core.specs.Writing.{AppendsBeginning};
 ghost use Rattle.site_commands.specs.Answers.{IsAnswer};
 ghost use Rattle.recall_commands.specs.CommandLines.{HasTurns};
-ghost use Rattle.recall_commands.specs.Ends.{Ends, SimRuns, HelpHelps, RunsScript, TextEnds, AnswerEnds, Advises, TellsOutcome, script_fault_line};
+ghost use Rattle.recall_commands.specs.Ends.{BatchEnds, Ends, SimRuns, HelpHelps, RunsScript, TextEnds, AnswerEnds, Advises, TellsOutcome, script_fault_line};
 ghost use Rattle.recall_commands.specs.Leads.{LeadsTo};
 ghost use Rattle.site_commands.specs.Faults.{fault_line};
 
-use crate::command_lines::{self, Asked, FileCommand};
+use crate::command_lines::{self, Asked, Batch, FileCommand};
 use crate::statuses;
 use keeper_core::SiteKeeper;
 use script_core::{ScriptFault, Tally, run_script, write_text};
 use site_commands::{
-    Answer, Fault, Files, audit_sites, capture, init, report_recall, run_sites, start,
+    Answer, Documents, Fault, Files, audit_sites, capture, capture_documents, init, report_recall,
+    run_sites, start,
 };
 use site_threads::Gate;
 use std::alloc::Global;
@@ -23,9 +24,9 @@ use std::sync::Wait;
 use std::thread::Threads;
 use std::time::Clock;
 
-/// Does what the words of a command line ask for, and answers the status to end with: 0 done, 1
-/// something was refused, 2 bad command line, 3 a fault that isn't printed as `refused`, want of
-/// memory too, 4 an audit found something amiss.
+/// Does what the words of a command line ask for, and returns the status to end with: 0 done, 1
+/// something was refused, 2 bad command line, 3 a fault that isn't printed as `refused`, out of
+/// memory too, 4 an audit found a discrepancy.
 ///
 /// The words begin with the program's name. Answers, refusals and help go to `output`, faults and
 /// what is wrong with a command line to `errors`. An answer of a command on the sites' files is that of
@@ -49,7 +50,8 @@ pub fn run_command<
     output: &mut W,
     errors: &mut E,
 ) -> u8
-    ensures ends { Ends F.reads F.finds F.makes F.opens F.closes F.writes K.shown words.now files.old files.new (record { input = I.remaining input.old; output = W.contents output.old; errors = E.contents errors.old })
+    ensures ends { Ends F.reads F.lines F.finds F.makes F.opens F.closes F.writes K.shown words.now files.old files.new
+        (record { input = I.remaining input.old; output = W.contents output.old; errors = E.contents errors.old })
         (record { input = I.remaining input.new; output = W.contents output.new; errors = E.contents errors.new }) result }
     ensures sim { SimRuns words.now files.old files.new (record { input = I.remaining input.old; output = W.contents output.old; errors = E.contents errors.old })
         (record { input = I.remaining input.new; output = W.contents output.new; errors = E.contents errors.new }) result }
@@ -62,6 +64,7 @@ pub fn run_command<
             let outcome = on_files(rt, alloc, files, gate, &command);
             tell(&outcome, output, errors)
         }
+        Ok(Asked::Batch(batch)) => capture_batch(alloc, files, &batch, output, errors),
         Ok(Asked::Help(text)) => print(text.as_str(), statuses::DONE, output, errors),
         Ok(Asked::Mistake(text)) => {
             say(errors, text.as_str());
@@ -101,7 +104,7 @@ fn status_of(tally: Tally) -> u8
     }
 }
 
-/// The line that tells a fault of a script.
+/// The line that reports a fault of a script.
 fn script_fault_line(cause: ScriptFault) -> &'static str
     ensures { result.now ≡ script_fault_line cause }
 {
@@ -132,6 +135,27 @@ fn on_files<
         FileCommand::Run { folder, turns } => run_sites(rt, alloc, files, gate, folder, *turns),
         FileCommand::Report { folder, recall } => report_recall(alloc, files, folder, recall),
         FileCommand::Audit { folder } => audit_sites(alloc, files, folder),
+    }
+}
+
+/// Captures several documents, each of which is answered once it is kept.
+fn capture_batch<K: SiteKeeper, F: Files<K>, W: Write, E: Write>(
+    alloc: Global,
+    files: &mut F,
+    batch: &Batch<'_>,
+    output: &mut W,
+    errors: &mut E,
+) -> u8
+    ensures { BatchEnds F.reads F.lines F.opens F.closes K.shown batch.now files.old files.new
+        (W.contents output.old) (W.contents output.new) (E.contents errors.old) (E.contents errors.new) result }
+{
+    let documents = Documents {
+        paths: batch.paths.as_slice(),
+        by_lines: batch.by_lines,
+    };
+    match capture_documents(alloc, files, batch.folder, batch.site, &documents, output) {
+        Ok(status) => status,
+        Err(cause) => fault(cause, errors),
     }
 }
 
@@ -170,7 +194,7 @@ fn advise<E: Write>(text: &str, errors: &mut E)
     }
 }
 
-/// Prints a text, and answers the status where that is done.
+/// Prints a text, and returns the status where that is done.
 fn print<W: Write, E: Write>(text: &str, status: u8, output: &mut W, errors: &mut E) -> u8
     ensures { TextEnds status text.now (W.contents output.old) (W.contents output.new) (E.contents errors.old) (E.contents errors.new) result }
 {
@@ -189,7 +213,7 @@ fn fault<E: Write>(cause: Fault, errors: &mut E) -> u8
     statuses::FAULT
 }
 
-/// Writes to the error stream. Where that fails there is nobody left to tell.
+/// Writes to the error stream. Where that fails there is nobody left to report it to.
 fn say<E: Write>(errors: &mut E, text: &str)
     ensures { AppendsBeginning (E.contents errors.old) (E.contents errors.new) text.now }
 {

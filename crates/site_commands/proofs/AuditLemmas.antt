@@ -3,7 +3,7 @@ use Rattle.std.proofs.Common.{◌≡◌, ◌||◌, ℕ, ◌+◌, ◌<◌, Bool, 
 use Rattle.std.specs.List.{flat_map, list_any}
 use Rattle.std.proofs.lemmas.Grind.{flat_map-append}
 use Rattle.event_json.specs.Sites.{Site}
-use Rattle.report_core.proofs.Zips.{zip_more}
+use Rattle.trace_core.proofs.Zips.{zip_more}
 use Rattle.site_core.specs.Records.{Record}
 use Rattle.site_commands.specs.Audits.{AuditsRecall, AuditsSome}
 use Rattle.site_commands.specs.declared.audits.StartedRecall.{StartedRecall}

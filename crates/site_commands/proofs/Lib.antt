@@ -1,5 +1,6 @@
 pub mod AuditLemmas
 pub mod CallsInTurn
+pub mod CaptureLemmas
 pub mod MakingLemmas
 pub mod RefusalLemmas
 pub mod ReportLemmas

@@ -42,7 +42,7 @@ makes_more makes folder sites site (suc count) old mid new (next, first, rest) l
     (next, first, makes_more makes folder sites (site + 1) count next mid new rest (subst (λ (n : ℕ). makes mid (file_path folder (name_at sites n)) (fresh sites n) new) later last))
 
 module _ {F : Type 0} (reads : F → List ℕ → List ℕ → F → Type 0) (finds : F → List ℕ → Bool → F → Type 0) (makes : F → List ℕ → Record → F → Type 0) (writes : F → List ℕ → List ℕ → F → Type 0) (folder : List ℕ) where
-  -- what is refused is told, and nothing is made
+  -- what is refused is reported, and nothing is made
   pub refuses : (refused : List ℕ) (sites : List Site) (text : List ℕ) (old : F) (answer : Answer) → 0 < length refused → answer_text answer ≡ refused → answer_status answer ≡ 1
       → MakesWhere reads finds makes writes folder refused sites text old old answer
   refuses [] sites text old answer some told status = absurd (omega arith)

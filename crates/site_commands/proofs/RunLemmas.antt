@@ -33,7 +33,7 @@ module _ {K : Type 0} (shown : K → Option Record) where
   all_kept_open [] (l ∷ lists) all = absurd all
   all_kept_open (k ∷ keepers) [] all = absurd all
 
-  -- what is told after a run of sites whose desks take no jobs
+  -- what is reported after a run of sites whose desks take no jobs
   pub came_to_its_end : (sites : List Site) (turns : ℕ) (old new : List K) (ds : List DeskOut) (lists : List SiteList) (text : List ℕ) → AllZip (Began shown) old lists → AllZip (IsKept shown) new lists
       → All (λ (d : DeskOut). d.limit ≡ 0) ds → AllZip HasEnd ds lists → AllZip (HasTurned shown turns) new lists → TellsRecalls shown sites new text → CameToItsEnd shown sites turns old new text
   came_to_its_end sites turns old new ds lists text began kept none ends turned told =
@@ -50,7 +50,7 @@ module _ {K : Type 0} (shown : K → Option Record) where
     pub shown_stand : (keepers : List K) (rs : List Record) → KeepersFit shown may keepers → AllShow shown keepers rs → StandTogether rs
     shown_stand keepers rs fit all = fit rs (all_open_in keepers rs all)
 
-    -- a misfit is told, and nothing else that hinders a run
+    -- inconsistent records are reported, and nothing else that prevents a run
     pub misfit_told : (sites : List Site) (turns : ℕ) (old new : List K) (cause : GatherCause) (answer : Answer) → Hinders shown new cause → FitAfter shown may old cause new → TellsCause sites cause answer → AnswersRun shown sites turns old new answer
     misfit_told sites turns old new (NotAWorld (worlds.Misfit misfit)) (Amiss text) (records, shows, dont) fit told = (
       record {

@@ -1,4 +1,4 @@
--- what a keeper answers, as it is told
+-- what a keeper returns, as it is reported
 use Rattle.std.proofs.Common.{◌≡◌, inl, inr, sym, subst, [], List, Option, Some, None, Result, Ok, Err, IfErr, string_bytes, arith}
 use Rattle.std.specs.Global.{Global}
 use Rattle.std.specs.Prelude.{IsErrAnd}

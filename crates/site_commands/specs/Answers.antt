@@ -1,4 +1,4 @@
--- What a command on the sites' files answers.
+-- What a command on the sites' files returns.
 use Rattle.std.specs.Prelude.{◌≡◌, ⊤, ℕ, List, [], ◌∷◌, ◌++◌, codes, string_bytes}
 use Rattle.site_commands.specs.declared.answers.Answer.{Answer}
 use Rattle.site_commands.specs.declared.answers.Answer.TheVariants as answers
@@ -21,7 +21,7 @@ refusal_line what = codes "refused " ++ what ++ 10 ∷ []
 abbrev pub BeginsRefused : List ℕ → Type 0
 BeginsRefused text = (rest : List ℕ) × (text ≡ codes "refused " ++ rest)
 
--- what is told with the status of a refusal is one
+-- what is reported with the status of a refusal is one
 abbrev pub IsAnswer : Answer → Type 0
 IsAnswer (answers.Done text) = ⊤
 IsAnswer (answers.Refused text) = BeginsRefused (string_bytes text)

@@ -1,4 +1,4 @@
--- What an audit of all sites answers.
+-- What an audit of all sites returns.
 use Rattle.std.specs.Prelude.{◌≡◌, ◌⊎◌, ℕ, Bool, true, false, List, [], ◌∷◌, ◌++◌, codes, length, map, string_bytes}
 use Rattle.std.specs.FinMap as finite
 use Rattle.std.specs.Fmt.{decimal}
@@ -22,7 +22,7 @@ use Rattle.site_commands.specs.declared.audits.StartedRecall.{StartedRecall}
 
 -- ---- the words
 
--- the least condition that fails, and the least site that is charged with it
+-- the least condition that fails, and the least site that it is attributed to
 abbrev pub misfit_text : List Site → Misfit → List ℕ
 misfit_text sites misfit = codes "misfit " ++ decimal misfit.condition ++ 32 ∷ (name_at sites misfit.site ++ 10 ∷ [])
 
@@ -60,7 +60,7 @@ abbrev pub is_amiss : Verdict → Bool
 is_amiss (Equal count) = false
 is_amiss (Differs p missing) = true
 
--- a recall that hasn't ended is told so; else what is quarantined is compared with what its root reaches
+-- a recall that hasn't ended is reported so; else what is quarantined is compared with what its root reaches
 abbrev pub AuditsBy : List Site → List Record → Recall → Bool → List ℕ → Bool → Type 0
 AuditsBy sites records r false line amiss = (line ≡ open_text sites r) × (amiss ≡ false)
 AuditsBy sites records r true line amiss =
@@ -88,7 +88,7 @@ AuditsRecalls sites records (Done text) = AuditsLines sites records (string_byte
 AuditsRecalls sites records (Refused text) = ⊥
 AuditsRecalls sites records (Amiss text) = AuditsLines sites records (string_bytes text) true
 
--- the records fit together, and each recall is told; or they don't, and that is told
+-- the records are consistent, and each recall is reported; or they aren't, and that is reported
 abbrev pub FitsAnd : List Site → List Record → Answer → Type 0
 FitsAnd sites records answer = Fits (world_of records) [] × AuditsRecalls sites records answer
 

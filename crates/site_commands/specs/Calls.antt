@@ -1,5 +1,5 @@
--- Which calls of the files lead to an answer of a command, in order. What a call does is told by relations of the kind of
--- files, and what a keeper shows by its kind.
+-- Which calls of the files lead to an answer of a command, in order. What a call does is stated by relations of the kind
+-- of files, and what a keeper shows by its kind.
 use Rattle.std.specs.Prelude.{◌≡◌, ⊤, ◌≤◌, ◌+◌, ℕ, List, [], ◌∷◌, ◌++◌, codes, length, Option, Some, None, Result, Ok, Err, string_bytes}
 use Rattle.epc_core.specs.declared.items.EpcFault.{EpcFault}
 use Rattle.epc_core.specs.Reading.{reading}
@@ -18,7 +18,7 @@ use Rattle.site_commands.specs.Reports.{AnswersReport}
 use Rattle.site_commands.specs.Steps.{AnswersStep}
 use Rattle.site_commands.specs.declared.answers.Answer.{Answer}
 
--- this is refused, and nothing else is told
+-- this is refused, and nothing else is reported
 pub record IsRefusal (what : List ℕ) (answer : Answer) : Type 0 where
   pub text : answer_text answer ≡ refusal_line what
   pub status : answer_status answer ≡ 1
@@ -56,7 +56,7 @@ module _ {F K : Type 0} (opens : F → List ℕ → List ℕ → K → F → Typ
     pub opened : opens old (file_path folder (name_at sites site)) (name_at sites site) keeper new
     pub shows : ShowsSite shown sites site keeper r
 
-  -- the site's file was opened, its record took the step, the step is told, and the file was closed
+  -- the site's file was opened, its record took the step, the step is reported, and the file was closed
   pub record StepsAt (site : ℕ) (input : SiteInput) (old new : F) (answer : Answer) : Type 0 where
     pub mid : F
     pub keeper : K
@@ -72,7 +72,7 @@ module _ {F K : Type 0} (opens : F → List ℕ → List ℕ → K → F → Typ
   OpensFrom site old new (keeper ∷ keepers) (r ∷ rs) = (mid : F) × OpensSite site old mid keeper r × OpensFrom (site + 1) mid new keepers rs
   OpensFrom site old new keepers rs = ⊥
 
-  -- the files of all sites were opened, what their records say is told, and they were closed
+  -- the files of all sites were opened, what their records say is reported, and they were closed
   pub record TellsAll (Tells : List Record → Answer → Type 0) (old new : F) (answer : Answer) : Type 0 where
     pub mid : F
     pub keepers : List K

@@ -1,4 +1,4 @@
--- How the faults of the commands on the sites' files are told.
+-- How the faults of the commands on the sites' files are reported.
 use Rattle.std.specs.Prelude.{ℕ, List, [], ◌∷◌, ◌++◌, codes}
 use Rattle.site_threads.specs.declared.gather.GatherCause.{GatherCause}
 use Rattle.site_threads.specs.declared.gather.GatherCause.TheVariants as gathering
@@ -23,7 +23,7 @@ fault_name faults.Closed = codes "Closed"
 fault_name faults.SiteLost = codes "SiteLost"
 fault_name faults.GaveUp = codes "GaveUp"
 
--- the line that tells a fault
+-- the line that reports a fault
 abbrev pub fault_line : Fault → List ℕ
 fault_line fault = codes "fault " ++ fault_name fault ++ 10 ∷ []
 

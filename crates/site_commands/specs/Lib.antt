@@ -1,6 +1,7 @@
 pub mod Answers
 pub mod Audits
 pub mod Calls
+pub mod Captures
 pub mod Faults
 pub mod Folders
 pub mod Making

@@ -1,4 +1,4 @@
--- Which calls of the files `init` makes, and what it answers.
+-- Which calls of the files `init` makes, and what it returns.
 use Rattle.std.specs.Prelude.{◌≡◌, ◌+◌, ℕ, zero, suc, Bool, true, false, List, [], ◌∷◌, ◌++◌, codes, length, nat_le, if◌then◌else◌, string_bytes}
 use Rattle.event_json.specs.Sites.{Site}
 use Rattle.script_core.specs.SiteLists.{IsSiteList}
@@ -19,7 +19,7 @@ abbrev pub line_where : Bool → List ℕ → List ℕ
 line_where true name = exists_line name
 line_where false name = []
 
--- of the sites from a number on, those that have a file; `found` tells for each whether it has one
+-- of the sites from a number on, those that have a file; `found` says for each whether it has one
 abbrev pub exists_lines : List Site → ℕ → List Bool → List ℕ
 exists_lines sites site [] = []
 exists_lines sites site (found ∷ rest) = line_where found (name_at sites site) ++ exists_lines sites (site + 1) rest
@@ -54,13 +54,13 @@ module _ {F : Type 0} (reads : F → List ℕ → List ℕ → F → Type 0) (fi
     pub made : MakesFrom makes folder sites 0 (length sites) old mid
     pub written : writes mid (list_path folder) text new
 
-  -- where nothing is refused all is made, and else nothing, and the refusals are told
+  -- where nothing is refused all is made, and else nothing, and the refusals are reported
   abbrev pub MakesWhere : List ℕ → List Site → List ℕ → F → F → Answer → Type 0
   MakesWhere [] sites text old new answer = (answer_text answer ≡ []) × (answer_status answer ≡ 0) × MakesAll sites text old new
   MakesWhere (c ∷ cs) sites text old new answer = (answer_text answer ≡ c ∷ cs) × (answer_status answer ≡ 1) × (new ≡ old)
 
   -- Each of the sites' files was looked for, and then the folder's list: what is refused of the list's lines, of the number of sites,
-  -- and of the files, in this order, is told; or all is made.
+  -- and of the files, in this order, is reported; or all is made.
   pub record MakesListed (listed : SiteList) (text : List ℕ) (old new : F) (answer : Answer) : Type 0 where
     pub found : List Bool
     pub number : length found ≡ length listed.sites
@@ -71,7 +71,7 @@ module _ {F : Type 0} (reads : F → List ℕ → List ℕ → F → Type 0) (fi
     pub last : LooksForList finds folder ((string_bytes listed.refusals ++ few_line listed.sites) ++ exists_lines listed.sites 0 found) first second refused
     pub made : MakesWhere refused listed.sites text second new answer
 
-  -- the list was read, and the files of its sites were made, or what is refused is told
+  -- the list was read, and the files of its sites were made, or what is refused is reported
   pub record InitsAt (list : List ℕ) (old new : F) (answer : Answer) : Type 0 where
     pub text : List ℕ
     pub mid : F

@@ -55,7 +55,7 @@ report_text sites r report =
     head_text sites r report.root report.ended ++ pairs_text sites report.pairs report.trails
     ++ outsides_text sites report.outside ++ total_text (length report.pairs) (length report.outside)
 
--- the report of the recall is told; or that no site began it
+-- the report of the recall is reported; or that no site began it
 abbrev pub AnswersReport : List Site → List Record → Recall → Answer → Type 0
 AnswersReport sites records r (Done text) = (report : RecallReport) × IsReport records r report × (string_bytes text ≡ report_text sites r report)
 AnswersReport sites records r (Refused text) =

@@ -1,4 +1,4 @@
--- What a run of all sites answers.
+-- What a run of all sites returns.
 use Rattle.std.specs.Prelude.{◌≡◌, ℕ, List, [], ◌∷◌, ◌++◌, All, length, Option, Result, string_bytes}
 use Rattle.std.specs.List.{flat_map, AllZip}
 use Rattle.event_json.specs.Sites.{Site}
@@ -31,14 +31,14 @@ ran_text sites b = recall_text sites b.recall ++ 32 ∷ (ended_word b.ended ++ 1
 abbrev pub ran_texts : List Site → List Record → List ℕ
 ran_texts sites records = flat_map (ran_text sites) (begun records)
 
--- the keepers show records that stand together, and of each recall in them it is told whether it has ended
+-- the keepers show records that stand together, and of each recall in them it is reported whether it has ended
 pub record TellsRecalls {K : Type 0} (shown : K → Option Record) (sites : List Site) (keepers : List K) (text : List ℕ) : Type 0 where
   pub records : List Record
   pub shows : AreShown shown keepers records
   pub together : StandTogether records
   pub text_is : text ≡ ran_texts sites records
 
--- the records that the keepers show don't fit together, and that is told
+-- the records that the keepers show aren't consistent, and that is reported
 pub record TellsTheMisfit {K : Type 0} (shown : K → Option Record) (sites : List Site) (keepers : List K) (text : List ℕ) : Type 0 where
   pub records : List Record
   pub shows : AreShown shown keepers records
@@ -47,8 +47,9 @@ pub record TellsTheMisfit {K : Type 0} (shown : K → Option Record) (sites : Li
   pub text_is : text ≡ misfit_text sites misfit
 
 module _ {K : Type 0} (shown : K → Option Record) (sites : List Site) (turns : ℕ) where
-  -- each keeper is open in the record to which its steps lead from the one that it began with, and these are told; each
-  -- step is that of a frame, and each site's gate was asked for just these turns, or for fewer where the site is done
+  -- each keeper is open in the record to which its steps lead from the one that it began with, and these are reported;
+  -- each step is that of a frame, and each site's gate was asked for just these turns, or for fewer where the site is
+  -- done
   pub record CameToItsEnd (old new : List K) (text : List ℕ) : Type 0 where
     pub lists : List SiteList
     pub began : AllZip (Began shown) old lists
@@ -57,13 +58,13 @@ module _ {K : Type 0} (shown : K → Option Record) (sites : List Site) (turns :
     pub turned : AllZip (HasTurned shown turns) new lists
     pub told : TellsRecalls shown sites new text
 
-  -- the run came to its end; or there was none, since the records don't fit together, and the keepers are as they were
+  -- the run came to its end; or there was none, since the records aren't consistent, and the keepers are as they were
   abbrev pub AnswersRun : List K → List K → Answer → Type 0
   AnswersRun old new (Done text) = CameToItsEnd old new (string_bytes text)
   AnswersRun old new (Refused text) = ⊥
   AnswersRun old new (Amiss text) = TellsTheMisfit shown sites old (string_bytes text) × (new ≡ old)
 
--- the misfit is told, of the causes that hinder a run
+-- the misfit is reported, of the causes that prevent a run
 abbrev pub TellsWorldFault : List Site → WorldFault → Answer → Type 0
 TellsWorldFault sites (worlds.Misfit misfit) (Amiss text) = string_bytes text ≡ misfit_text sites misfit
 TellsWorldFault sites fault answer = ⊥
@@ -72,8 +73,8 @@ abbrev pub TellsCause : List Site → GatherCause → Answer → Type 0
 TellsCause sites (NotAWorld fault) answer = TellsWorldFault sites fault answer
 TellsCause sites cause answer = ⊥
 
--- The run has no answer: the fault is that of a cause which hinders it, and a gate that is named gave up, a keeper that is
--- named was refused. The keepers are as they were where they make no world, and else the sites stand together in
+-- The run has no answer: the fault is that of a cause which prevents it, and a gate that is named gave up, a keeper that
+-- is named was refused. The keepers are as they were where they make no world, and else the sites stand together in
 -- whichever records they are open, or may be opened.
 pub record FailsRun {K G : Type 0} (shown : K → Option Record) (may : K → Record → Type 0) (reopens : K → Result K (Unopened K) → Type 0) (gives_up : G → ℕ → ℕ → Type 0) (turns : ℕ) (old new : List K) (fault : Fault) : Type 0 where
   pub cause : GatherCause

@@ -1,4 +1,4 @@
-//! What a command on the sites' files answers.
+//! What a command on the sites' files returns.
 
 ghost use Rattle.std.specs.Prelude.{◌≡◌, ◌++◌, IfOk, codes, string_bytes};
 ghost use Rattle.site_commands.specs.Answers.{IsAnswer, answer_status, answer_text};
@@ -6,14 +6,14 @@ ghost use Rattle.site_commands.specs.Calls.{IsRefusal};
 
 use std::alloc::{AllocError, Global};
 
-/// What a command on the sites' files answers: a text for the standard output.
+/// What a command on the sites' files returns: a text for the standard output.
 #[derive(Debug, Drop)]
 pub enum Answer {
     /// All was done.
     Done(String),
     /// It was refused; the text has a line for each refusal.
     Refused(String),
-    /// It was done, and showed that the records of the sites don't fit together, or that what is quarantined
+    /// It was done, and showed that the records of the sites aren't consistent, or that what is quarantined
     /// differs from what is to be.
     Amiss(String),
 }
@@ -47,7 +47,7 @@ impl Answer {
         }
     }
 
-    /// The status of a program that ends with it: 0 done, 1 refused, 4 amiss.
+    /// The status of a program that ends with it: 0 done, 1 refused, 4 a discrepancy.
     pub fn status(&self) -> u8
         ensures { result ≡ answer_status self.now }
     {

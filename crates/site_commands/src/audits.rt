@@ -1,4 +1,4 @@
-//! `audit`: whether the records of the sites fit together, and whether each ended recall quarantined what it is to.
+//! `audit`: whether the records of the sites are consistent, and whether each ended recall quarantined what it is to.
 
 ghost use Rattle.std.specs.Prelude.{◌≡◌, ◌++◌, List, IfOk, IfErr, OnOk, string_bytes};
 ghost use Rattle.site_core.specs.Records.{Record};
@@ -69,7 +69,7 @@ pub fn audit_of(alloc: Global, sites: &Sites, records: &[&SiteState]) -> Result<
     }
 }
 
-/// Which condition fails, and the site that it is charged to.
+/// Which condition fails, and the site that it is attributed to.
 pub(crate) fn misfit_text(
     alloc: Global,
     sites: &Sites,

@@ -54,7 +54,7 @@ pub enum Fault {
 }
 
 impl Fault {
-    /// The line that tells the fault, as `fault Read`, with its LF.
+    /// The line that reports the fault, as `fault Read`, with its LF.
     pub fn line(self) -> &'static str
         ensures { result.now ≡ fault_line self }
     {

@@ -17,15 +17,18 @@ use site_core::SiteState;
 use std::alloc::{AllocError, Global};
 
 /// The files that the commands read, make and change. What stands behind a path no contract says: each call that
-/// succeeds is told by a relation of the kind of files, so that contracts say which calls led to an answer.
+/// succeeds is stated by a relation of the kind of files, so that contracts say which calls led to an answer.
 pub trait Files<K: SiteKeeper> {
-    ghost use Rattle.std.specs.Prelude.{List, ℕ, Bool, IfOk, OnOk};
+    ghost use Rattle.std.specs.Prelude.{List, ℕ, Bool, Option, IfOk, OnOk, option_map};
     ghost use Rattle.site_core.specs.Records.{Record};
 
     /// From these files, the file of this path was read with these bytes, to those files.
     ghost reads: { Self → List ℕ → List ℕ → Self → Type 0 };
 
-    /// The file of this path was found, or found wanting.
+    /// The next line of the file of this path was read, without its LF; or its end was met.
+    ghost lines: { Self → List ℕ → Option (List ℕ) → Self → Type 0 };
+
+    /// The file of this path was found, or found missing.
     ghost finds: { Self → List ℕ → Bool → Self → Type 0 };
 
     /// The file of a site was made at this path, in this record.
@@ -43,6 +46,11 @@ pub trait Files<K: SiteKeeper> {
     /// The bytes of a file. `Read` where it is missing or can't be read.
     fn read(&mut self, alloc: Global, path: &str) -> Result<Vec<u8>, Fault>
         ensures { IfOk result (λ bytes. reads self.old path.now bytes.items self.new) };
+
+    /// The next line of a file, from its first one on, without its LF; `None` at its end. A last line needs no LF. `Read`
+    /// where the file is missing or can't be read.
+    fn read_line(&mut self, alloc: Global, path: &str) -> Result<Option<Vec<u8>>, Fault>
+        ensures { IfOk result (λ line. lines self.old path.now (option_map (λ l. l.items) line) self.new) };
 
     /// Whether there is a file of this path.
     fn exists(&mut self, path: &str) -> Result<bool, Fault>

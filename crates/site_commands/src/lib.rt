@@ -5,15 +5,18 @@
 
 mod answers;
 mod audits;
+mod captures;
 mod faults;
 mod folders;
 mod making;
 mod reports;
 mod runs;
 mod steps;
+mod totals;
 
 pub use answers::Answer;
 pub use audits::{audit_of, audit_sites};
+pub use captures::{Documents, capture_documents};
 pub use faults::Fault;
 pub use folders::Files;
 pub use making::init;

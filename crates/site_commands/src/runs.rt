@@ -27,8 +27,8 @@ use world_core::WorldFault;
 /// Runs all sites of a folder, each in a thread of its own, where one can be made, for so many turns: at most 1,000,000.
 ///
 /// Frames go from site to site, and nothing else is done: each step of a site is that of a frame. Then each recall that a
-/// site began is told, by site and number: that it has ended, or that it is open. Where the records don't fit together,
-/// there is no run. Each site has a copy of the gate to its turns.
+/// site began is reported, by site and number: that it has ended, or that it is open. Where the records aren't
+/// consistent, there is no run. Each site has a copy of the gate to its turns.
 ///
 /// # Errors
 /// In this order: those of the folder's list, those of opening the sites' files, and those of [`run_of`]; after these
@@ -54,12 +54,12 @@ pub fn run_sites<
 }
 
 /// Runs the sites of these keepers, in the order of their numbers, for so many turns: at most 1,000,000. Each has a copy of
-/// the gate to its turns. The keepers are handed back, open where there is an answer.
+/// the gate to its turns. The keepers are given back, open where there is an answer.
 ///
 /// # Errors
 /// `OtherSites` where the keepers aren't of one list of sites, in order, and `Closed` where one is closed: they are as
 /// they were. `NoMemory`, `SiteLost` where a keeper was closed and an opening of it was refused, and `GaveUp` where a gate
-/// gave up: in whichever records the keepers are open, or may be opened, they fit together, or nothing has changed.
+/// gave up: in whichever records the keepers are open, or may be opened, they are consistent, or nothing has changed.
 pub fn run_of<K: SiteKeeper + Send, G: Gate + Copy + Send, R: Threads + Wait + Clock + Sync>(
     rt: &R,
     alloc: Global,
@@ -108,7 +108,7 @@ fn unused<G: Gate + Copy>(
     Ok((desks, gates))
 }
 
-/// What is told where a run has no answer.
+/// What is reported where a run has no answer.
 fn tell_cause(alloc: Global, sites: &Sites, cause: GatherCause) -> Result<Answer, Fault>
     ensures answered { IfOk result (TellsCause sites.now cause) }
     ensures sound { IfOk result IsAnswer }

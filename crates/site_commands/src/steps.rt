@@ -90,7 +90,7 @@ fn step_at<K: SiteKeeper, F: Files<K>>(
 /// # Errors
 /// `Closed` exactly while the keeper is closed, and nothing changes. `Device`, which comes only where
 /// [`SiteKeeper::failures`] rose, and `Store`, which close it, with the record before the step or the one after it. After
-/// `NoMemory` it is open, and the step may be done and not told.
+/// `NoMemory` it is open, and the step may be done and not reported.
 pub fn step<K: SiteKeeper>(
     alloc: Global,
     sites: &Sites,

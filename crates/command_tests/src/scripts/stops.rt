@@ -38,7 +38,7 @@ const LINES: [&str; 22] = [
 const END: &str =
     "pair A uri x\npair B uri x\npair C uri x\npair D uri x\npair E uri x\nquarantined 5 ended\n";
 
-/// The recall with a stop of a site before one of its lines, and what opens the site and goes on to the end.
+/// The recall with a stop of a site before one of its lines, and what opens the site and continues to the end.
 fn script_with(alloc: Global, place: usize, stop: &str) -> Result<String, AllocError> {
     let mut script = String::from_str(alloc, DIAMOND)?;
     for line in LINES.iter().take(place) {
