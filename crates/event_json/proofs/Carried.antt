@@ -98,12 +98,12 @@ none_not : {A : Type 0} (o : Option A) → is_none o ≡ not (is_some o)
 none_not None = refl
 none_not (Some x) = refl
 
--- whether a transformation is told by half, by what its checks keep
+-- whether a transformation is incomplete, by what its checks keep
 pub is_half : (id : Option (List ℕ)) (ins outs : List (List ℕ)) (has_id : Bool) (n m : ℕ) (half : Bool) → is_some id ≡ has_id → length ins ≡ n → length outs ≡ m
     → half ≡ (not has_id && ((n == 0) || (m == 0))) → (is_none id && ((length ins == 0) || (length outs == 0))) ≡ half
 is_half id ins outs has_id n m half some few many is = rw (none_not id, some, few, many) (sym is)
 
--- a transformation whose checks pass is read, where it isn't told by half
+-- a transformation whose checks pass is read, where it isn't incomplete
 pub transformation_found : (d : Data) (head : Head) (ins outs : List (List ℕ)) (id : Option (List ℕ)) → without_declaration d ≡ Ok tt → without_quantities fields.InputQuantityList d ≡ Ok tt
     → without_quantities fields.OutputQuantityList d ≡ Ok tt → head_of d ≡ Ok head → epcs_of fields.InputEpcList d ≡ Ok ins → epcs_of fields.OutputEpcList d ≡ Ok outs
     → identifier_of fields.TransformationId (member_of fields.TransformationId d) ≡ Ok id

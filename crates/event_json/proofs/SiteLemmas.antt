@@ -44,7 +44,7 @@ free sites name addresses e =
     let taken = neither (list_any (λ a. is_some (addressed sites a)) addresses) (repeats addresses) f.0 in
     record { good_name = positive _ a.0; new_name = b.0; room = sizes.0; few = sizes.1; plain = positive _ d.0; new_addresses = taken.0; once = taken.1 }
 
--- no want of memory is found
+-- no lack of memory is found
 not_memory : (b : Bool) (fault : SitesFault) (rest : Option SitesFault) → (fault ≡ NoMemory → ⊥) → cond b (Some fault) rest ≡ Some NoMemory → rest ≡ Some NoMemory
 not_memory true fault rest other e = absurd (other (same_Some fault NoMemory e))
 not_memory false fault rest other e = e

@@ -33,7 +33,7 @@ object_event sites d = do
   destinations ← destinations_of d
   Ok (record { id = head.id; instant = head.instant; body = shipment sites items destinations })
 
--- a transformation that is told in one event has inputs and outputs; one that has an id may be told in several
+-- a transformation that is reported in one event has inputs and outputs; one that has an id may be reported in several
 abbrev pub made : Option (List ℕ) → List (List ℕ) → List (List ℕ) → Result Body Flaw
 made id ins outs =
     if is_none id && ((length ins == 0) || (length outs == 0))

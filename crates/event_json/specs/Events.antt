@@ -18,7 +18,7 @@ IsIdentifier id = IfSome id IsPlain
 abbrev pub IsInstant : ℤ → Type 0
 IsInstant n = (neg_ℤ (pos (2 ^ 63 * 1_000_000_000)) ≤ℤ n) × (n <ℤ pos (2 ^ 63 * 1_000_000_000))
 
--- the limits of the lists; a shipment goes somewhere; a transformation that is told in one event has inputs and outputs
+-- the limits of the lists; a shipment goes somewhere; a transformation that is reported in one event has inputs and outputs
 abbrev pub IsBody : Body → Type 0
 IsBody (Note items) = length items ≤ 1000
 IsBody (Ship items sites outside) = (length items ≤ 1000) × (0 < length sites + length outside) × (length sites + length outside ≤ 1000)

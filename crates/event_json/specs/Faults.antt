@@ -17,7 +17,7 @@ abbrev pub ◌>>=◌ : {A B E : Type 0} → Result A E → (A → Result B E) �
 (Ok x) >>= f = f x
 (Err e) >>= f = Err e
 
--- what a check that takes no memory returned, seen by view, is what its definition finds
+-- what a check that does not allocate returned, seen by view, is what its definition finds
 abbrev pub Shows : {X Y E : Type 0} → (X → Y) → Result X E → Result Y E → Type 0
 Shows view (Ok x) found = found ≡ Ok (view x)
 Shows view (Err e) found = found ≡ Err e
@@ -31,7 +31,7 @@ abbrev pub Finds : {X : Type 0} → Result X CheckFault → Result X Flaw → Ty
 Finds (Ok x) found = found ≡ Ok x
 Finds (Err e) found = Fails e found
 
--- what a check that takes no memory and keeps nothing returned is whether its definition finds something, or else the fault
+-- what a check that does not allocate and keeps nothing returned is whether its definition finds something, or else the fault
 abbrev pub Passes : {Y E : Type 0} → Result ⊤ E → Result Y E → Type 0
 Passes {Y} (Ok _) found = (y : Y) × (found ≡ Ok y)
 Passes (Err e) found = found ≡ Err e

@@ -33,7 +33,7 @@ pub record IsRead (sites : List Site) (items : Items) (doc : Doc) : Type 0 where
   pub kept : doc.events ≡ filter_map (λ e. e) found
   pub skipped : doc.skipped ≡ length (filter is_none found)
 
--- the fault is that of the first event that doesn't pass, told with its place from 1
+-- the fault is that of the first event that doesn't pass, reported with its place from 1
 pub record IsFirstFault (sites : List Site) (items : Items) (fault : DocFault) : Type 0 where
   pub place : ℕ
   pub value : Data

@@ -1,3 +1,4 @@
+//! What an event says of its items, its copies and comparisons.
 ghost use Rattle.std.specs.Prelude.{◌≡◌, IfOk};
 
 use crate::copies::copy_id;

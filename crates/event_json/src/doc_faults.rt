@@ -16,7 +16,7 @@ pub enum DocFaultKind {
     NotDocument = 2,
     /// The list has more than 1,000 events.
     TooManyEvents = 3,
-    /// The event's type is wanting or is none of the standard's five.
+    /// The event's type is missing or is none of the standard's five.
     NoType = 4,
     /// A member that has to be there is absent or null.
     Missing = 5,

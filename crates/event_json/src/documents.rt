@@ -139,7 +139,7 @@ fn check_count(list: &[Value]) -> Result<(), DocFault>
 
 /// The events of a document's value, with destinations looked up among the sites; or its first fault.
 ///
-/// Each event is checked before the first is kept, so a fault is found without taking memory.
+/// Each event is checked before the first is kept, so a fault is found without allocating.
 ///
 /// # Errors
 /// `Doc` with the document's first fault, or `NoMemory` where it has none.

@@ -1,3 +1,4 @@
+//! The event types of the standard.
 ghost use Rattle.std.specs.Prelude.{◌≡◌};
 ghost use Rattle.event_json.specs.Checks.{type_named};
 

@@ -1,3 +1,4 @@
+//! An event of a site: its eventID, its instant and what it says.
 ghost use Rattle.std.specs.Prelude.{◌≡◌, IfOk, option_map};
 ghost use Rattle.event_json.specs.Events.{IsIdentifier, IsInstant, IsBody};
 

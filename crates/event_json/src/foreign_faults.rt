@@ -1,4 +1,4 @@
-//! Faults of the libraries that are called, told as ours.
+//! Faults of the libraries that are called, reported as ours.
 
 ghost use Rattle.std.specs.Prelude.{◌≡◌, ◌↔◌};
 ghost use Rattle.serde_json.specs.Errors.{IsMemory};
@@ -10,7 +10,7 @@ ghost use Rattle.event_json.specs.declared.doc_faults.DocFaultKind.TheVariants a
 use crate::doc_faults::{CheckFault, DocFault, DocFaultKind, DocField, Flaw, ReadFault};
 use epc_core::EpcFault;
 
-/// Why bytes weren't read as JSON: want of memory where the error says so, and else they are no JSON
+/// Why bytes weren't read as JSON: out of memory where the error says so, and else they are no JSON
 /// text.
 pub(crate) fn json_fault(error: &serde_json::Error) -> ReadFault
     ensures memory { (result ≡ ReadFault.NoMemory) ↔ IsMemory error.now }
@@ -27,7 +27,7 @@ pub(crate) fn json_fault(error: &serde_json::Error) -> ReadFault
     }
 }
 
-/// Why a text of this field wasn't read as an EPC: want of memory, or it is none.
+/// Why a text of this field wasn't read as an EPC: out of memory, or it is none.
 pub(crate) fn epc_fault(field: DocField, fault: &EpcFault) -> CheckFault
     ensures { result ≡ check_fault_of field fault.now }
 {

@@ -1,4 +1,4 @@
-//! The checks of an event, made without taking memory: whether reading it finds a fault, and which.
+//! The checks of an event, made without allocating: whether reading it finds a fault, and which.
 
 ghost use Rattle.std.specs.Prelude.{◌≡◌, ◌≤◌, ◌&&◌, ◌||◌, ◌==◌, not, List, length, is_some};
 ghost use Rattle.serde_json.specs.View.{view, items_view};
@@ -152,7 +152,7 @@ fn check_object_event(value: &Value) -> Result<(), Flaw>
     check_destinations(value)
 }
 
-/// Whether a transformation is told by half: without an id, and without inputs or without outputs.
+/// Whether a transformation is incomplete: without an id, and without inputs or without outputs.
 fn is_half(has_id: bool, ins: usize, outs: usize) -> bool
     ensures { result ≡ (not has_id && ((ins == 0) || (outs == 0))) }
 {

@@ -1,3 +1,4 @@
+//! A list that contracts see as a list.
 ghost use Rattle.std.specs.Prelude.{◌≡◌, ◌==◌, List, [], length, IfOk};
 
 use crate::copies::Copyable;
@@ -17,7 +18,7 @@ impl<T> Model for Sequence<T> {
 }
 
 impl<T> Sequence<T> {
-    /// No values. Takes no memory.
+    /// No values. Does not allocate.
     pub fn new(alloc: Global) -> Sequence<T>
         ensures { result ≡ [] }
     {
@@ -26,14 +27,14 @@ impl<T> Sequence<T> {
         }
     }
 
-    /// The values of a vector, in order. Takes no memory.
+    /// The values of a vector, in order. Does not allocate.
     pub fn from_vec(values: Vec<T>) -> Sequence<T>
         ensures { result ≡ values.items }
     {
         Sequence { values }
     }
 
-    /// The vector of the values, in order. Takes no memory.
+    /// The vector of the values, in order. Does not allocate.
     pub fn into_vec(self) -> Vec<T>
         ensures { result.items ≡ self }
     {

@@ -131,7 +131,7 @@ impl Eq for Sites {
 }
 
 impl Sites {
-    /// No sites. Takes no memory; what is added comes from the allocator.
+    /// No sites. Does not allocate; what is added comes from the allocator.
     pub fn new(alloc: Global) -> Sites
         ensures { result ≡ [] }
     {
@@ -230,11 +230,11 @@ impl Sites {
         None
     }
 
-    /// Adds a site at the end, and answers its number.
+    /// Adds a site at the end, and returns its number.
     ///
     /// # Errors
     /// The first of `BadName`, `NameTaken`, `TooMany`, `BadAddress` and `AddressTaken` that there is
-    /// cause for, each found without taking memory, or `NoMemory` where there is cause for none. The
+    /// cause for, each found without allocating, or `NoMemory` where there is cause for none. The
     /// sites then are as they were.
     pub fn add(&mut self, name: &str, addresses: &[&str]) -> Result<SiteNo, SitesFault>
         ensures free { OnOk result (sites_fault self.old name.now (map (λ a. a.now) addresses.now) ≡ None) }

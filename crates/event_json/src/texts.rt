@@ -1,3 +1,4 @@
+//! A plain text.
 ghost use Rattle.std.specs.Prelude.{◌≡◌, ◌↔◌, IfOk, IfSome, IsSome};
 ghost use Rattle.epc_core.specs.Spellings.{IsPlain};
 

@@ -83,7 +83,7 @@ module _ {K X : Type 0} {R : K → K → Ordering} (o : IsTotalOrder R) where
         | inr ne ↦ get_apart o exact (insert m k v) k w q ne ∙ get_apart o exact m k v q ne
       ])
 
--- what a lent value is
+-- what a borrowed value is
 pub lent_value : {A : Type 0} (found : Option (Bor A)) → option_map {T = Bor A} {U = A} (λ value. value.now) found ≡ option_copied found
 lent_value None = refl
 lent_value (Some a) = refl

@@ -1,4 +1,4 @@
--- What noting a message answers.
+-- What noting a message returns.
 use Rattle.std.proofs.Common.{◌≡◌, ◌↔◌, Option, None, Result, Ok, refl, subst}
 use Rattle.std.specs.Prelude.{IsSome}
 use Rattle.std.specs.declared.alloc.AllocError.{AllocError}

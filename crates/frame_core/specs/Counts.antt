@@ -41,7 +41,7 @@ abbrev pub undone : FinMap nat_cmp Row → ℕ → List (Option Row) → FinMap 
 undone rows n [] = rows
 undone rows n (before ∷ later) = set_back (undone rows (n + 1) later) n before
 
--- rows stand at these numbers, and the recalls of what they had before have a count: to set them back takes no memory
+-- rows stand at these numbers, and the recalls of what they had before have a count: to set them back does not allocate
 abbrev pub CanUndo : Counted → ℕ → List (Option Row) → Type 0
 CanUndo c n [] = ⊤
 CanUndo c n (before ∷ later) = IsSome (get c.rows n) × IfSome before (λ row. IsSome (get c.counts row.recall)) × CanUndo c (n + 1) later

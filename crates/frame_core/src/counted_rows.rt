@@ -18,7 +18,7 @@ use std::marker::Model;
 
 /// Rows by number, and how many rows each recall has.
 ///
-/// A recall that ever had a row keeps its count, 0 too, so that to put a row back takes no memory.
+/// A recall that ever had a row keeps its count, 0 too, so that to put a row back does not allocate.
 #[derive(Debug, Drop)]
 pub(crate) struct CountedRows {
     rows: BTreeMap<u64, Row>,
@@ -41,7 +41,7 @@ impl Model for CountedRows {
 }
 
 impl CountedRows {
-    /// No rows. Takes no memory.
+    /// No rows. Does not allocate.
     pub(crate) fn new(alloc: Global) -> CountedRows
         ensures { result.rows ≡ finite.empty }
     {
@@ -62,8 +62,8 @@ impl CountedRows {
         Ok(CountedRows { rows, counts })
     }
 
-    /// Puts a row under a number, and answers the one that stood there. Only a number without a row or a
-    /// recall without a count takes memory. An `Err` changes nothing.
+    /// Puts a row under a number, and returns the one that stood there. Only a number without a row or a
+    /// recall without a count allocates. An `Err` changes nothing.
     pub(crate) fn put(&mut self, number: u64, row: Row) -> Result<Option<Row>, AllocError>
         ensures old { IfOk result (λ old. old ≡ finite.get self.old.rows number) }
         ensures ok { OnOk result (self.new.rows ≡ finite.insert self.old.rows number row) }
@@ -90,7 +90,7 @@ impl CountedRows {
         Ok(before)
     }
 
-    /// Removes the row of a number, and answers it. Takes no memory.
+    /// Removes the row of a number, and returns it. Does not allocate.
     pub(crate) fn take(&mut self, number: u64) -> Option<Row>
         ensures value { result ≡ finite.get self.old.rows number }
         ensures rows { self.new.rows ≡ finite.remove self.old.rows number }
@@ -104,7 +104,7 @@ impl CountedRows {
     }
 
     /// Sets a number back to the row that it had before one was put there, or removes it where it had
-    /// none. Takes no memory.
+    /// none. Does not allocate.
     pub(crate) fn undo(&mut self, number: u64, before: Option<Row>)
         requires stands { IsSome (finite.get self.old.rows number) }
         requires counted { IfSome before (λ row. IsSome (finite.get self.old.counts row.recall)) }
@@ -149,7 +149,7 @@ impl CountedRows {
         Ok(())
     }
 
-    /// Puts a row with a copy of an item under a number, and answers the one that stood there. An `Err`
+    /// Puts a row with a copy of an item under a number, and returns the one that stood there. An `Err`
     /// changes nothing.
     fn put_copy(
         &mut self,
@@ -169,8 +169,8 @@ impl CountedRows {
         self.put(number, Row { dest, recall, item })
     }
 
-    /// Sets the numbers from the first on back to the rows that they had, the last one first. Takes no
-    /// memory.
+    /// Sets the numbers from the first on back to the rows that they had, the last one first. Does not
+    /// allocate.
     fn undo_all(&mut self, first: u64, mut replaced: Vec<Option<Row>>)
         requires in_range { first + length replaced.items < 2 ^ 64 }
         requires can { CanUndo self.old first replaced.items }
@@ -181,14 +181,14 @@ impl CountedRows {
         }
     }
 
-    /// How many rows are of a recall. Takes no memory.
+    /// How many rows are of a recall. Does not allocate.
     pub(crate) fn count(&self, recall: RecallId) -> u64
         ensures { result ≡ rows_of self.now.rows recall }
     {
         count_of(&self.counts, recall)
     }
 
-    /// The row of a number. Takes no memory.
+    /// The row of a number. Does not allocate.
     pub(crate) fn get(&self, number: u64) -> Option<&Row>
         ensures { option_map (λ row. row.now) result ≡ finite.get self.now.rows number }
     {
@@ -218,7 +218,7 @@ fn count_of(counts: &BTreeMap<RecallId, u64>, recall: RecallId) -> u64
     tables::get(counts, recall).copied().unwrap_or(0)
 }
 
-/// Raises the count of a recall by one. Only a recall without a count takes memory.
+/// Raises the count of a recall by one. Only a recall without a count allocates.
 fn raise(counts: &mut BTreeMap<RecallId, u64>, recall: RecallId) -> Result<(), AllocError>
     requires { count_in (as_map recall_cmp counts.old) recall < 2 ^ 63 }
     ensures ok { OnOk result (IsRaised (as_map recall_cmp counts.old) recall (as_map recall_cmp counts.new)) }
@@ -231,7 +231,7 @@ fn raise(counts: &mut BTreeMap<RecallId, u64>, recall: RecallId) -> Result<(), A
     Ok(())
 }
 
-/// Lowers the count of a recall by one. Takes no memory.
+/// Lowers the count of a recall by one. Does not allocate.
 fn lower(counts: &mut BTreeMap<RecallId, u64>, recall: RecallId)
     requires { 0 < count_in (as_map recall_cmp counts.old) recall }
     ensures lowered { IsLowered (as_map recall_cmp counts.old) recall (as_map recall_cmp counts.new) }

@@ -1,3 +1,4 @@
+//! What one site sends to another: messages of recalls, and signals.
 ghost use Rattle.std.specs.Prelude.{◌≡◌, IfOk};
 ghost use Rattle.frame_core.specs.Rows.{frame_of};
 
@@ -59,7 +60,7 @@ pub enum FrameView<'a> {
 }
 
 impl Frame {
-    /// The same frame, borrowed.
+    /// The frame, borrowed.
     pub fn view(&self) -> FrameView<'_>
         ensures { frame_of result ≡ self.now }
     {

@@ -1,3 +1,4 @@
+//! The identifiers of recalls and messages.
 use event_json::SiteNo;
 use std::marker::Model;
 

@@ -2,7 +2,7 @@
 //! and the messages of others that the site has ever handled.
 //!
 //! Contracts see the outbox and the seen messages as finite maps. They are kept in `BTreeMap`s, by the
-//! calls of [`tables`], and lent as such.
+//! calls of [`tables`], and borrowed as such.
 #![tactic(auto)]
 
 mod counted_rows;

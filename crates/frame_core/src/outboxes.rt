@@ -1,3 +1,4 @@
+//! The outbox: messages that are numbered and not signalled yet.
 ghost use Rattle.std.specs.Prelude.{◌≡◌, ◌+◌, ◌<◌, ◌^◌, ◌↔◌, length, option_map, Err, [], ◌∷◌, IfOk, OnOk, OnErr, IfErr, IsFalse};
 ghost use Rattle.std.specs.Ordering.{nat_cmp};
 ghost use Rattle.std.specs.FinMap as map;
@@ -25,7 +26,7 @@ pub enum NumberFault {
     /// Memory ran out.
     #[error("memory ran out")]
     NoMemory,
-    /// Fewer numbers are left than are wanted.
+    /// Fewer numbers are left than are needed.
     #[error("the numbers are spent")]
     NumbersSpent,
 }
@@ -63,7 +64,7 @@ impl Model for Outbox {
 }
 
 impl Outbox {
-    /// No messages. The next number is 1. Takes no memory.
+    /// No messages. The next number is 1. Does not allocate.
     pub fn new(alloc: Global) -> Outbox
         ensures { result ≡ record { rows = map.empty; next = 1 } }
     {
@@ -82,7 +83,7 @@ impl Outbox {
         Ok(Outbox { rows, next })
     }
 
-    /// Numbers a message, and answers its number. A fault changes nothing.
+    /// Numbers a message, and returns its number. A fault changes nothing.
     ///
     /// In a restored outbox a row may stand at the next number; it is written over.
     pub fn number(&mut self, dest: SiteNo, recall: RecallId, item: Epc) -> Result<u64, NumberFault>
@@ -111,7 +112,7 @@ impl Outbox {
     ) -> Result<(), NumberFault>
         ensures rows { OnOk result (self.new.rows ≡ numbered self.old.rows self.old.next recall out.now) }
         ensures next { OnOk result (self.new.next ≡ self.old.next + length out.now) }
-        // More rows are wanted than numbers are left.
+        // More rows are needed than numbers are left.
         ensures spent { (result ≡ Err NumberFault.NumbersSpent) ↔ (2 ^ 62 + 1 < self.old.next + length out.now) }
         ensures err { OnErr result (self.new ≡ self.old) }
     {
@@ -130,7 +131,7 @@ impl Outbox {
         LAST_NUMBER + 1 - self.next
     }
 
-    /// The row of a number. Takes no memory.
+    /// The row of a number. Does not allocate.
     pub fn row(&self, number: u64) -> Option<RowView<'_>>
         ensures { option_map row_of result ≡ map.get self.now.rows number }
     {
@@ -140,7 +141,7 @@ impl Outbox {
         }
     }
 
-    /// Removes the row of a number, and answers whether it was there. Takes no memory.
+    /// Removes the row of a number, and returns whether it was there. Does not allocate.
     pub fn clear(&mut self, number: u64) -> bool
         ensures found { result ≡ map.contains_key self.old.rows number }
         ensures rows { self.new.rows ≡ map.remove self.old.rows number }
@@ -150,14 +151,14 @@ impl Outbox {
         self.rows.take(number).is_some()
     }
 
-    /// How many messages of a recall are unsignalled. Takes no memory, and costs one look-up.
+    /// How many messages of a recall are unsignalled. Does not allocate, and costs one look-up.
     pub fn rows_of(&self, recall: RecallId) -> u64
         ensures { result ≡ rows_of self.now.rows recall }
     {
         self.rows.count(recall)
     }
 
-    /// Whether a message of a recall is unsignalled. Takes no memory, and costs one look-up.
+    /// Whether a message of a recall is unsignalled. Does not allocate, and costs one look-up.
     pub fn has_rows(&self, recall: RecallId) -> bool
         ensures { result ≡ has_rows self.now.rows recall }
     {
@@ -179,7 +180,7 @@ impl Outbox {
         ensures entries { result.now.entries ≡ map.entries self.now.rows }
     {
         let rows = self.rows.by_number();
-        // The length tells the proof that the numbers ascend.
+        // The length shows the proof that the numbers ascend.
         let _length = rows.len();
         rows
     }

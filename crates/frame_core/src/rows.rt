@@ -1,3 +1,4 @@
+//! What a numbered message says.
 ghost use Rattle.std.specs.Prelude.{◌≡◌, IfOk};
 ghost use Rattle.frame_core.specs.Rows.{row_of};
 
@@ -29,7 +30,7 @@ pub struct RowView<'a> {
 }
 
 impl Row {
-    /// The same row, borrowed.
+    /// The row, borrowed.
     pub fn view(&self) -> RowView<'_>
         ensures { row_of result ≡ self.now }
     {

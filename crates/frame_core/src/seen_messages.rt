@@ -1,3 +1,4 @@
+//! The messages that a site has handled.
 ghost use Rattle.std.specs.Prelude.{◌≡◌, ◌≢◌, ◌↔◌, Ok, IfOk, IsSome};
 ghost use Rattle.std.specs.FinMap as map;
 ghost use Rattle.frame_core.specs.Identifiers.{message_cmp};
@@ -39,7 +40,7 @@ impl Model for Seen {
 }
 
 impl Seen {
-    /// No messages. Takes no memory.
+    /// No messages. Does not allocate.
     pub fn new(alloc: Global) -> Seen
         ensures { result ≡ map.empty }
     {
@@ -48,7 +49,7 @@ impl Seen {
         }
     }
 
-    /// These messages, each with the recall that it was seen under. Takes no memory.
+    /// These messages, each with the recall that it was seen under. Does not allocate.
     pub fn restore(messages: BTreeMap<MsgId, RecallId>) -> Seen
         ensures { result ≡ as_map message_cmp messages }
     {
@@ -56,7 +57,7 @@ impl Seen {
     }
 
     /// Notes a message under a recall, unless it was seen before, under whichever recall. That it was
-    /// is told without memory.
+    /// is found without memory.
     pub fn note(&mut self, message: MsgId, recall: RecallId) -> Result<Noted, AllocError>
         ensures repeat { (result ≡ Ok Noted.Repeat) ↔ IsSome (map.get self.old message) }
         ensures fresh { result ≡ Ok Noted.Fresh → self.new ≡ map.insert self.old message recall }
@@ -70,7 +71,7 @@ impl Seen {
     }
 
     /// Forgets a message that was noted just now, where the call that noted it finds no memory for the
-    /// rest of what it does. Takes no memory.
+    /// rest of what it does. Does not allocate.
     pub fn forget(&mut self, message: MsgId)
         ensures { self.new ≡ map.remove self.old message }
     {
@@ -89,7 +90,7 @@ impl Seen {
         ensures messages { as_map message_cmp result.now ≡ self.now }
         ensures entries { result.now.entries ≡ map.entries self.now }
     {
-        // The length tells the proof that the messages ascend.
+        // The length shows the proof that the messages ascend.
         let _length = self.messages.len();
         &self.messages
     }

@@ -52,16 +52,16 @@ impl Copyable for Row {
     }
 }
 
-/// The value of a key. Takes no memory.
+/// The value of a key. Does not allocate.
 pub fn get<K: Key, V>(map: &BTreeMap<K, V>, key: K) -> Option<&V>
     ensures { option_map (λ value. value.now) result ≡ finite.get (as_map K.cmp map.now) key }
 {
-    // The length tells the proof that the keys ascend.
+    // The length shows the proof that the keys ascend.
     let _length = map.len();
     map.get(&key)
 }
 
-/// Gives a key its value, and answers the one that it had. Only a new key takes memory. An `Err` changes
+/// Gives a key its value, and returns the one that it had. Only a new key allocates. An `Err` changes
 /// nothing.
 pub fn put<K: Key, V: Drop>(
     map: &mut BTreeMap<K, V>,
@@ -80,7 +80,7 @@ pub fn put<K: Key, V: Drop>(
     }
 }
 
-/// Removes a key, and answers the value that it had. Takes no memory.
+/// Removes a key, and returns the value that it had. Does not allocate.
 pub fn take<K: Key, V: Drop>(map: &mut BTreeMap<K, V>, key: K) -> Option<V>
     ensures value { result ≡ finite.get (as_map K.cmp map.old) key }
     ensures left { as_map K.cmp map.new ≡ finite.remove (as_map K.cmp map.old) key }
@@ -89,8 +89,8 @@ pub fn take<K: Key, V: Drop>(map: &mut BTreeMap<K, V>, key: K) -> Option<V>
     map.remove(&key)
 }
 
-/// Sets a key back to the value that it had before it was put, or removes it where it had none. Takes no
-/// memory.
+/// Sets a key back to the value that it had before it was put, or removes it where it had none. Does not
+/// allocate.
 pub fn undo<K: Key, V: Drop>(map: &mut BTreeMap<K, V>, key: K, before: Option<V>)
     requires stands { IsSome (finite.get (as_map K.cmp map.old) key) }
     ensures { as_map K.cmp map.new ≡ set_back (as_map K.cmp map.old) key before }

@@ -58,7 +58,7 @@ HindersOpening fault = ⊥
 abbrev pub Rises : ℕ → ℕ → Type 0
 Rises before now = (before < now) ⊎ (now + 1 ≡ 2 ^ 64)
 
--- what a refusal of the step is answered as
+-- what a refusal of the step is returned as
 abbrev pub fault_of : Refusal → KeepFault
 fault_of refusals.NoMemory = NoMemory
 fault_of why = Refused why

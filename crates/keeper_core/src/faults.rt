@@ -1,3 +1,4 @@
+//! Why a keeper's call has no effects.
 use site_core::Refusal;
 use thiserror::Error;
 
@@ -10,7 +11,7 @@ pub enum Keep {
     New,
 }
 
-/// Why an input had no effects that were told.
+/// Why an input had no effects that were reported.
 #[derive(Debug, Drop, PartialEq, Eq, Error)]
 pub enum KeepFault {
     /// Memory ran out. Nothing changed, and the keeper isn't closed by it.

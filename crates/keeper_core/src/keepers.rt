@@ -1,3 +1,4 @@
+//! What keeps the record of one site.
 ghost use Rattle.std.specs.Prelude.{◌≡◌, ℕ, ◌≤◌, Bool, Option, Some, None, Result, Ok, Err, IfOk, IfErr, MatchResult, is_ok, option_map};
 ghost use Rattle.site_core.specs.Records.{Record};
 ghost use Rattle.site_core.specs.Steps.{CopiesRecord};
@@ -55,8 +56,8 @@ pub trait SiteKeeper: Drop {
         ensures count { failed self.old ≤ failed self.new }
         ensures kind { applies self.old input result self.new };
 
-    /// A step of which nothing is told, since the site stops in it: the keeper is closed then. On a closed keeper
-    /// it changes nothing.
+    /// A step of which nothing is reported, since the site stops in it: the keeper is closed then. On a closed
+    /// keeper it changes nothing.
     ///
     /// # Errors
     /// Where memory runs out, and an open keeper stays open with the record that it had.
@@ -66,7 +67,7 @@ pub trait SiteKeeper: Drop {
         ensures count { failed self.old ≤ failed self.new }
         ensures kind { stops self.old input keep (is_ok result) self.new };
 
-    /// Opens a closed keeper, in one of the records that the stop may have left. An open one is handed back as it
+    /// Opens a closed keeper, in one of the records that the stop may have left. An open one is given back as it
     /// is.
     ///
     /// # Errors

@@ -1,3 +1,4 @@
+//! A keeper in memory.
 ghost use Rattle.std.specs.Prelude.{◌≡◌, ◌≤◌, true, Some, None, Ok, Err, IfOk, IfErr, MatchResult, is_ok};
 ghost use Rattle.site_core.specs.Records.{Record};
 ghost use Rattle.site_core.specs.Steps.{CopiesRecord};
@@ -10,7 +11,7 @@ use site_core::{Effects, Refusal, SiteInput, SiteState};
 use std::alloc::AllocError;
 use std::marker::Model;
 
-/// A keeper in memory, which stops where it is told to.
+/// A keeper in memory, which stops where it is armed to.
 #[derive(Debug, Drop)]
 pub struct MemoryKeeper {
     state: SiteState,
@@ -30,7 +31,7 @@ impl Model for MemoryKeeper {
 }
 
 impl MemoryKeeper {
-    /// An open keeper of a state. Takes no memory.
+    /// An open keeper of a state. Does not allocate.
     pub fn new(state: SiteState) -> MemoryKeeper
         ensures { result ≡ record { state = state; is_open = true; armed = None; failures = 0 } }
     {
@@ -42,7 +43,7 @@ impl MemoryKeeper {
         }
     }
 
-    /// Makes the next step a stop that answers `Device`. It stays armed where the step finds the keeper closed, or
+    /// Makes the next step a stop that returns `Device`. It stays armed where the step finds the keeper closed, or
     /// no memory.
     pub fn arm(&mut self, keep: Keep)
         ensures { self.new ≡ record self.old { armed = Some keep } }
@@ -107,7 +108,7 @@ impl SiteKeeper for MemoryKeeper {
     ghost failed = { λ k. k.failures };
 
     // What a keeper in memory does is settled: nothing fails but an armed step, which leaves the record that it was
-    // armed with; a stop leaves the record that it is told to keep; and an opening is never hindered.
+    // armed with; a stop leaves the record that it is to keep; and an opening is never prevented.
     ghost applies = { λ k. AppliesIn k.is_open k.armed k };
 
     ghost stops = { λ k. StopsWhereOpen k.is_open k };

@@ -1,4 +1,4 @@
--- What taking a message leaves, which wasn't seen, and what it answers.
+-- What taking a message leaves, which wasn't seen, and what it returns.
 use Rattle.std.proofs.Common.{◌≡◌, ◌⊎◌, inl, inr, ℕ, Bool, true, false, List, length, Option, Some, None, refl, sym, ap, subst, ◌∙◌}
 use Rattle.std.specs.FinMap.{FinMap, get, insert}
 use Rattle.frame_core.specs.Numbers.{Recall, Message}

@@ -1,4 +1,4 @@
--- What a change answers is fixed by the change.
+-- What a change returns is fixed by the change.
 use Rattle.std.proofs.Common.{◌≡◌, inl, inr, Some, None, refl, sym, ap, ◌∙◌, arith}
 use Rattle.frame_core.specs.Numbers.{Recall, Message}
 use Rattle.frame_core.specs.Laws.{IsRowOf, HasNoRows}

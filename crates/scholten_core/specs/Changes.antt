@@ -1,4 +1,4 @@
--- How a site's engagement changes, and what each call answers: when it begins a recall, receives a message, or
+-- How a site's engagement changes, and what each call returns: when it begins a recall, receives a message, or
 -- is signalled that one of its messages is done.
 --
 -- After Dijkstra and Scholten, "Termination detection for diffusing computations", Information Processing
@@ -19,7 +19,7 @@ use Rattle.scholten_core.specs.OwnRecalls.{with_end}
 use Rattle.scholten_core.specs.Engagement.{Engagement, live_own}
 
 -- The site starts the computation: the recall takes the next number, and its messages are numbered, each for a
--- destination and an item, in order. Where there is nobody to tell, it has ended.
+-- destination and an item, in order. Where there is nobody to notify, it has ended.
 
 abbrev pub next_own : Engagement → Recall
 next_own e = record { site = e.me; number = e.next_recall }
@@ -51,14 +51,14 @@ noted e m r out = record e {
 abbrev pub with_parent : Engagement → Recall → Message → Engagement
 with_parent e r m = record e { parents = insert e.parents r m }
 
--- handed whether rows of the recall are left, its parent, and the own recall where the site is its live initiator
+-- given whether rows of the recall are left, its parent, and the own recall where the site is its live initiator
 abbrev pub engaged : Engagement → Message → Recall → ℕ → Bool → Option Message → Option Own → Engagement × Received
 engaged e m r n false parent live = (e, SignalNow n)
 engaged e m r n true (Some first) live = (e, SignalNow n)
 engaged e m r n true None (Some own) = (e, SignalNow n)
 engaged e m r n true None None = (with_parent e r m, Owe n)
 
--- handed the recall that the message was seen under before
+-- given the recall that the message was seen under before
 abbrev pub at_first : Engagement → Message → Recall → List (ℕ × List ℕ) → Option Recall → Engagement × Received
 at_first e m r out (Some before) = (e, Repeat)
 at_first e m r out None =
@@ -72,14 +72,14 @@ received e m r out = at_first e m r out (get e.seen m)
 -- recall's last row, the site is done with it: the parent goes, and its signal is due; at the live initiator the
 -- computation has ended.
 
--- handed whether rows of the recall are left, its parent, and the own recall where the site is its live initiator
+-- given whether rows of the recall are left, its parent, and the own recall where the site is its live initiator
 abbrev pub settled : Engagement → Recall → Bool → Option Message → Option Own → Engagement × Signalled
 settled e r true parent live = (e, Cleared)
 settled e r false (Some parent) live = (record e { parents = remove e.parents r }, ParentDue parent)
 settled e r false None (Some own) = (record e { own = insert e.own r.number (with_end own) }, Ended r)
 settled e r false None None = (e, Cleared)
 
--- handed the row that the signal is for
+-- given the row that the signal is for
 abbrev pub at_row : Engagement → ℕ → Option Row → Engagement × Signalled
 at_row e n None = (e, Stale)
 at_row e n (Some row) =

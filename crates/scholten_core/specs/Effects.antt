@@ -31,7 +31,7 @@ pub record AddsRows (old new : Engagement) (r : Recall) (out : List (ℕ × List
       → get new.outbox (old.next_message + place) ≡ Some (record { dest = pair.0; recall = r; item = pair.1 })
   pub next_message : new.next_message ≡ old.next_message + length out
 
--- an own recall that just began, from the root, with these messages: where there is nobody to tell it has ended
+-- an own recall that just began, from the root, with these messages: where there is nobody to notify it has ended
 pub record IsBegun (o : Own) (root : List ℕ) (out : List (ℕ × List ℕ)) : Type 0 where
   pub begun_with : o.root ≡ root
   pub ends_at_once : IsTrue o.ended ↔ (out ≡ [])

@@ -20,11 +20,11 @@ use Rattle.scholten_core.specs.Replies.{TellsBegun, TellsTaken, TellsCleared}
 
 -- The definitions.
 
--- a recall that is begun begins, and the answer tells of it
+-- a recall that is begun begins, and the answer says so
 abbrev pub BegunBegins : Type 0
 BegunBegins = (e : Engagement) (root : List ℕ) (out : List (ℕ × List ℕ)) → Begins e (begun e root out) root out × TellsBegun e (begun e root out) (began e out)
 
--- a message that wasn't seen is taken, and the answer tells what became of it
+-- a message that wasn't seen is taken, and the answer says what became of it
 abbrev pub UnseenIsTaken : Type 0
 UnseenIsTaken =
     (e : Engagement) (m : Message) (r : Recall) (out : List (ℕ × List ℕ))
@@ -36,7 +36,7 @@ SeenIsRepeat =
     (e : Engagement) (m : Message) (r : Recall) (out : List (ℕ × List ℕ)) (under : Recall)
     → get e.seen m ≡ Some under → received e m r out ≡ (e, Repeat)
 
--- a signal for a row that stands clears it, and the answer tells what follows
+-- a signal for a row that stands clears it, and the answer says what follows
 abbrev pub StandingIsCleared : Type 0
 StandingIsCleared =
     (e : Engagement) (n : ℕ) (x : Row)

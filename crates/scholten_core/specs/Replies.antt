@@ -1,4 +1,4 @@
--- What each change answers, by what it changed: one case for each answer, and the cases exclude one another.
+-- What each change returns, by what it changed: one case for each answer, and the cases exclude one another.
 use Rattle.std.specs.Prelude.{◌≡◌, ◌⊎◌, ◌+◌, Some, None}
 use Rattle.std.specs.FinMap.{get}
 use Rattle.frame_core.specs.Numbers.{Recall, Message}

@@ -1,3 +1,4 @@
+//! What one site keeps of the recalls that pass it, and how a start, a message and a signal change it.
 ghost use Rattle.std.specs.Prelude.{◌≡◌, ◌+◌, ◌<◌, ◌≤◌, ◌^◌, ◌↔◌, ◌⊎◌, length, option_map, Ok, Err, None, IfOk, OnOk, OnErr, IsSome, IsNone, is_none, ◌&&◌};
 ghost use Rattle.std.specs.Ordering.{nat_cmp};
 ghost use Rattle.std.specs.FinMap as map;
@@ -65,7 +66,7 @@ impl Model for Diffusion {
 }
 
 impl Diffusion {
-    /// The site `me` with no recalls. The next numbers are 1. Takes no memory.
+    /// The site `me` with no recalls. The next numbers are 1. Does not allocate.
     pub fn new(alloc: Global, me: SiteNo) -> Diffusion
         ensures { result ≡ record { me = me; outbox = map.empty; seen = map.empty; parents = map.empty; own = map.empty; next_message = 1; next_recall = 1 } }
     {
@@ -81,7 +82,7 @@ impl Diffusion {
     }
 
     /// The site `me` with just these maps and these next numbers. The maps are taken as they are; memory
-    /// is taken for the deficits of the outbox's recalls.
+    /// is allocated for the deficits of the outbox's recalls.
     pub fn restore(
         alloc: Global,
         me: SiteNo,
@@ -115,7 +116,7 @@ impl Diffusion {
     pub fn begin(&mut self, root: Epc, out: &[(SiteNo, Epc)]) -> Result<Began, NumberFault>
         ensures answer { IfOk result (λ answer. answer ≡ began self.old out.now) }
         ensures ok { OnOk result (self.new ≡ begun self.old root out.now) }
-        // The next recall has no number, or more messages are wanted than numbers are left.
+        // The next recall has no number, or more messages are needed than numbers are left.
         ensures spent { (result ≡ Err NumberFault.NumbersSpent) ↔ ((2 ^ 62 < self.old.next_recall) ⊎ (2 ^ 62 + 1 < self.old.next_message + length out.now)) }
         ensures err { OnErr result (self.new ≡ self.old) }
     {
@@ -153,9 +154,9 @@ impl Diffusion {
     ) -> Result<Received, NumberFault>
         ensures answer { IfOk result (λ answer. answer ≡ (received self.old message recall out.now).1) }
         ensures ok { OnOk result (self.new ≡ (received self.old message recall out.now).0) }
-        // That a message was seen before is told without memory and without numbers.
+        // That a message was seen before is found without memory and without numbers.
         ensures repeat { (result ≡ Ok Received.Repeat) ↔ IsSome (map.get self.old.seen message) }
-        // More messages are wanted than numbers are left.
+        // More messages are needed than numbers are left.
         ensures spent { (result ≡ Err NumberFault.NumbersSpent) ↔ (IsNone (map.get self.old.seen message) × (2 ^ 62 + 1 < self.old.next_message + length out.now)) }
         ensures err { OnErr result (self.new ≡ self.old) }
     {
@@ -222,7 +223,7 @@ impl Diffusion {
         }
     }
 
-    /// Takes the signal for a message of this site. Takes no memory.
+    /// Takes the signal for a message of this site. Does not allocate.
     pub fn signalled(&mut self, number: u64) -> Signalled
         ensures answer { result ≡ (signalled self.old number).1 }
         ensures state { self.new ≡ (signalled self.old number).0 }
@@ -246,8 +247,8 @@ impl Diffusion {
         Signalled::Cleared
     }
 
-    /// How many messages of a recall this site has sent that are not signalled. Takes no memory, and costs
-    /// one look-up.
+    /// How many messages of a recall this site has sent that are not signalled. Does not allocate, and
+    /// costs one look-up.
     pub fn deficit(&self, recall: RecallId) -> u64
         ensures { result ≡ rows_of self.now.outbox recall }
     {
@@ -329,7 +330,7 @@ impl Diffusion {
         ensures parents { as_map recall_cmp result.now ≡ self.now.parents }
         ensures entries { result.now.entries ≡ map.entries self.now.parents }
     {
-        // The length tells the proof that the recalls ascend.
+        // The length shows the proof that the recalls ascend.
         let _length = self.parents.len();
         &self.parents
     }
@@ -346,7 +347,7 @@ impl Diffusion {
         ensures own { as_map nat_cmp result.now ≡ self.now.own }
         ensures entries { result.now.entries ≡ map.entries self.now.own }
     {
-        // The length tells the proof that the numbers ascend.
+        // The length shows the proof that the numbers ascend.
         let _length = self.own.len();
         &self.own
     }

@@ -1,3 +1,4 @@
+//! What a start, a message and a signal did.
 use frame_core::{MsgId, RecallId};
 
 /// What beginning a recall did.
@@ -7,7 +8,7 @@ pub struct Began {
     pub recall: RecallId,
     /// How many messages were numbered.
     pub numbered: u64,
-    /// Whether it ended at once, since there is nobody to tell.
+    /// Whether it ended at once, since there is nobody to notify.
     pub ended: bool,
 }
 

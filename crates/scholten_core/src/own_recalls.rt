@@ -1,3 +1,4 @@
+//! The recalls that a site began.
 ghost use Rattle.std.specs.Prelude.{◌≡◌, Some, IfOk};
 ghost use Rattle.std.specs.Ordering.{nat_cmp};
 ghost use Rattle.std.specs.FinMap as map;
@@ -37,7 +38,7 @@ impl Copyable for Own {
     }
 }
 
-/// Records the end of a recall. Takes no memory.
+/// Records the end of a recall. Does not allocate.
 pub(crate) fn record_end(recalls: &mut BTreeMap<u64, Own>, number: u64)
     ensures { (own : Own) → map.get (as_map nat_cmp recalls.old) number ≡ Some own → as_map nat_cmp recalls.new ≡ map.insert (as_map nat_cmp recalls.old) number (with_end own) }
 {

@@ -203,7 +203,7 @@ place_at (Down old) changed sent now (Stop at input keep) place h = let told = h
 place_at (Down old) changed sent now (Send at from) place h = let told = h.0 in cc
 place_at (Down old) changed sent now (Reopen at) place h = let told = h.0 in cc
 
--- a frame that is sent is told by its place
+-- a frame that is sent is reported by its place
 pub told_place : (old new : WorldState) (event : WorldEvent) (place : ℕ) → Turns old event (Sent place) new → place ≡ length new.sent
 told_place old new event place h = by (slice_get old.sites (site_of event)) h where
   by : (o : Option Standing) → TurnsFrom o old event (Sent place) new → place ≡ length new.sent
@@ -229,7 +229,7 @@ shown_records (k ∷ ks) (r ∷ rs) all =
 shown_records [] (r ∷ rs) all = absurd all
 shown_records (k ∷ ks) [] all = absurd all
 
--- what `World::turn` tells of keepers in memory
+-- what `World::turn` says of keepers in memory
 pub record Kept (keepers after : List InMemory) (sent now : List Frame) (event : WorldEvent) (answer : Answer) : Type 0 where
   pub turns : Turns (seen_as keepers sent) event answer (seen_as after now)
   pub unarmed : AreUnarmed after

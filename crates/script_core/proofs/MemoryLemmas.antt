@@ -1,4 +1,4 @@
--- Which lines take memory.
+-- Which lines allocate.
 use Rattle.std.proofs.Common.{◌≡◌, ◌≤◌, true, false, cond, length, subst, refl}
 use Rattle.std.specs.Prelude.{nat_le}
 use Rattle.std.proofs.lemmas.Bool.{leb-true}

@@ -26,7 +26,7 @@ arrived w n frame q outcome standing to up happens =
       changed = ap (λ k. with_standing (with_frame w frame) k standing) (sym to);
     }))
 
--- a frame was sent and handed to its site
+-- a frame was sent and given to its site
 pub carried : (w mid after : World) (n : ℕ) (frame : Frame) (q : Record) (outcome : Outcome) (standing : Standing) (sites : List Site) (before text : List ℕ)
     → mid ≡ with_frame w frame → addressee frame ≡ n → up_at mid n ≡ Some q → Happens q (armed_at mid n) (Deliver frame) outcome standing → after ≡ with_standing mid n standing
     → sites ≡ after.sites → text ≡ before ++ pump_text sites n outcome → AddsText (Carries (Some frame)) w after before text

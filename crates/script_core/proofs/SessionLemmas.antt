@@ -55,7 +55,7 @@ text_more answers more before between after written told =
 text_of_one : (a : Said) → text_of (a ∷ []) ≡ a.text
 text_of_one a = append-nil a.text
 
--- ---- a session goes on
+-- ---- a session continues
 
 -- it begins where it is
 pub goes_start : (s : Session) (piece : List ℕ) (before : Option (List ℕ)) → GoesOn s piece s piece before before

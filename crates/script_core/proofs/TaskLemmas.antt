@@ -42,7 +42,7 @@ pub other_message_is : (a b : Message) → (a.site == b.site) && (a.number == b.
 other_message_is a b e same =
     let both : true ≡ false = sym (and_from (a.site == b.site) (a.number == b.number) (eq-eqb a.site b.site (ap (λ m. m.site) same)) (eq-eqb a.number b.number (ap (λ m. m.number) same))) ∙ e in cc
 
--- a frame that was sent is handed to its site
+-- a frame that was sent is given to its site
 pub delivered : (sent : List Frame) (place site : ℕ) (frame : Frame) → sent_at sent place ≡ Some frame → site ≡ addressee frame → input_at sent site (Deliver place) ≡ Some (inputs.Deliver frame)
 delivered sent place site frame at to =
     ap (Rattle.world_core.specs.Turns.input_of_frame site) at ∙ ap (λ v. cond v (Some (inputs.Deliver frame)) None) (eq-eqb (addressee frame) site (sym to))

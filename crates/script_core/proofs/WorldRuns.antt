@@ -72,7 +72,7 @@ joined old mid new p q = (p.0 ++ q.0, p.1 ++ q.1, run_on old mid new p.0 q.0 p.1
 
 -- ---- one event
 
--- an input that a site is handed
+-- an input that a site is given
 happened : (w : WorldState) (n : ℕ) (old : Record) (armed : Option Keep) (input : WorldInput) (given : SiteInput) (outcome : Outcome) (standing : Standing)
     → slice_get w.sites n ≡ Some (Up old) → input_at w.sent n input ≡ Some given → Happens old armed given outcome standing → Leads w (with_site w n standing)
 happened w n old None input given (Did effects) standing there is h =

@@ -1,4 +1,4 @@
--- What each event does to a world whose sites are kept in memory, and what it is answered. Memory may always run out.
+-- What each event does to a world whose sites are kept in memory, and its answer. Memory may always run out.
 use Rattle.std.specs.Prelude.{◌≡◌, ◌⊎◌, List, Option, Some, None, slice_get, slice_set}
 use Rattle.frame_core.specs.declared.frames.Frame.{Frame}
 use Rattle.keeper_core.specs.declared.faults.Keep.{Keep}
@@ -30,7 +30,7 @@ pub record IsAnswered (old : Record) (armed : Option Keep) (input : SiteInput) (
   pub happens : Happens old armed input outcome new
   pub told : answer ≡ answer_for outcome
 
--- a site that is up is handed an input, where there is one
+-- a site that is up is given an input, where there is one
 abbrev pub IsHanded : Record → Option Keep → Option SiteInput → Answer → Standing → Type 0
 IsHanded old armed None answer new = (answer ≡ NoFrame) × (new ≡ Up old)
 IsHanded old armed (Some input) answer new = IsAnswered old armed input answer new ⊎ ((answer ≡ NoMemory) × (new ≡ Up old))

@@ -1,4 +1,4 @@
--- Which lines may end in want of memory. All other lines are answered without memory: those that nothing is answered to, and those that are
+-- Which lines may run out of memory. All other lines are answered without memory: those that nothing is answered to, and those that are
 -- refused with BadLine, Late, NoWorld or, once the world has begun, with BadEpc.
 use Rattle.std.specs.Prelude.{ℕ, ⊤, ◌≤◌, List, length, Option, Some, None}
 use Rattle.epc_core.specs.Spellings.{IsPlain}
@@ -36,6 +36,6 @@ RequestTakesMemory s (Some requests.silent) = ⊥
 RequestTakesMemory s (Some (requests.site name addresses)) = SiteTakesMemory s
 RequestTakesMemory s (Some (requests.task task)) = TaskTakesMemory s task
 
--- in this state the line takes memory
+-- in this state the line allocates
 abbrev pub TakesMemory : State → List ℕ → Type 0
 TakesMemory s line = (asked : Option Request) × Asks line asked × RequestTakesMemory s asked

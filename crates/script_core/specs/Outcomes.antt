@@ -6,7 +6,7 @@ use Rattle.epc_core.specs.declared.items.EpcFault.TheVariants as epcs
 use Rattle.event_json.specs.declared.site_lists.SitesFault.{SitesFault}
 use Rattle.event_json.specs.declared.site_lists.SitesFault.TheVariants as sites
 
--- a fault, or want of memory where there is none
+-- a fault, or out of memory where there is none
 abbrev pub told : {X F : Type 0} → Option F → Result (Result X F) AllocError
 told None = Err alloc_error
 told (Some fault) = Ok (Err fault)
@@ -15,7 +15,7 @@ abbrev pub unless_memory : {X E F : Type 0} → (E → Option F) → Result X E 
 unless_memory fault_of (Ok x) = Ok (Ok x)
 unless_memory fault_of (Err e) = told (fault_of e)
 
--- each fault but want of memory
+-- each fault but out of memory
 abbrev pub epc_fault : EpcFault → Option EpcFault
 epc_fault epcs.NoMemory = None
 epc_fault epcs.Empty = Some epcs.Empty

@@ -18,7 +18,7 @@ use Rattle.script_core.specs.Words.{ended_text, stopped_text, pumped_text}
 use Rattle.script_core.specs.declared.worlds.Outcome.{Outcome}
 use Rattle.script_core.specs.declared.worlds.Outcome.TheVariants.{Did, Stopped}
 
--- what is told of an input while it runs: that a recall has ended, and that a site stopped
+-- what is reported of an input while it runs: that a recall has ended, and that a site stopped
 abbrev pub pump_text : List Site → ℕ → Outcome → List ℕ
 pump_text sites n (Did (Ended r)) = ended_text sites r
 pump_text sites n Stopped = stopped_text sites n
@@ -32,7 +32,7 @@ pub record Arrives (frame : Frame) (old : Record) (w : World) (text : List ℕ) 
   pub told : text ≡ pump_text w.sites (addressee frame) outcome
   pub changed : after ≡ with_standing w (addressee frame) standing
 
--- nothing is told, and nothing changes
+-- nothing is reported, and nothing changes
 abbrev pub Nothing : World → List ℕ → World → Type 0
 Nothing w text after = (text ≡ []) × (after ≡ w)
 

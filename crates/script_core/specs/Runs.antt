@@ -65,11 +65,11 @@ pub record IsBeforeLongLine (input : List ℕ) (answers : List Said) : Type 0 wh
 abbrev pub IsContent : List ℕ → List ℕ → List ℕ → Type 0
 IsContent line rest content = ((rest ≡ []) × (content ≡ line)) ⊎ ((more : List ℕ) × (rest ≡ 10 ∷ more) × (content ≡ strip_carriage_return line))
 
--- the line has outgrown its room, or it is whole and takes memory
+-- the line has outgrown its room, or it is whole and allocates
 abbrev pub WantsMemory : State → List ℕ → List ℕ → Type 0
 WantsMemory state line rest = (room < length line) ⊎ ((content : List ℕ) × IsContent line rest content × TakesMemory state content)
 
--- memory ran out at a line that wants it, and all lines before it were answered so
+-- memory ran out at a line that needs it, and all lines before it were answered so
 pub record IsAtLine (input : List ℕ) (answers : List Said) : Type 0 where
   pub line : List ℕ
   pub rest : List ℕ
@@ -77,7 +77,7 @@ pub record IsAtLine (input : List ℕ) (answers : List Said) : Type 0 where
   pub before : Answered input (line ++ rest) answers
   pub wants : WantsMemory before.state line rest
 
--- memory ran out before anything was read, or at a line that wants it
+-- memory ran out before anything was read, or at a line that needs it
 abbrev pub IsShort : List ℕ → Option (List ℕ) → List Said → Type 0
 IsShort input left answers = ((answers ≡ []) × (left ≡ Some input)) ⊎ IsAtLine input answers
 

@@ -21,7 +21,7 @@ site_outcome (running world) name addresses = (refused (codes "Late"), running w
 
 -- ---- a line
 
--- The gate of all tasks: they are refused while sites are gathered.
+-- The check of all tasks: they are refused while sites are gathered.
 abbrev pub Passes : State → Task → Said → State → Type 0
 Passes (gathering sites) task said t = (said ≡ refused (codes "NoWorld")) × (t ≡ gathering sites)
 Passes (running world) task said (gathering sites) = ⊥

@@ -31,7 +31,7 @@ pub record Follows (input : List ℕ) (session : Session) (rest : List ℕ) (ans
   pub lines : session.lines ≡ length whole
   pub refused : session.refused ≡ refusals answers
 
--- The session goes on from the piece to the rest of it, and the answers are written.
+-- The session continues from the piece to the rest of it, and the answers are written.
 abbrev pub GoesOn : Session → List ℕ → Session → List ℕ → Option (List ℕ) → Option (List ℕ) → Type 0
 GoesOn old piece new rest before after =
     (input later : List ℕ) (answers : List Said) → Follows input old (piece ++ later) answers

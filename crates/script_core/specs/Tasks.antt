@@ -63,15 +63,15 @@ abbrev pub WhereAllUp : World → Option ℕ → Type 0 → Said → World → T
 WhereAllUp w None task said after = task
 WhereAllUp w (Some n) task said after = IsRefused w (closed_text w n) said after
 
--- ---- `capture`, `recall`, `deliver`: a site is handed an input
+-- ---- `capture`, `recall`, `deliver`: a site is given an input
 
--- a stopped step is told in place of what it did, or of its refusal
+-- a stopped step is reported in place of what it did, or of its refusal
 abbrev pub outcome_said : List Site → ℕ → List ℕ → Outcome → Said
 outcome_said sites n about (Did effects) = done (effects_text sites about effects)
 outcome_said sites n about (Refused why) = refused (refusal_text sites why)
 outcome_said sites n about Stopped = done (stopped_text sites n)
 
--- what came of the input is told
+-- what came of the input is reported
 pub record Tells (w : World) (n : ℕ) (input : SiteInput) (about : List ℕ) (old : Record) (said : Said) (after : World) : Type 0 where
   pub outcome : Outcome
   pub standing : Standing
@@ -96,7 +96,7 @@ abbrev pub Delivers : World → Option Frame → Said → World → Type 0
 Delivers w None said after = IsRefused w (codes "NoFrame") said after
 Delivers w (Some frame) said after = Hands w (addressee frame) (Deliver frame) (message_text w.sites (message_of frame)) said after
 
--- ---- `send`, `signal`: a frame is sent, and its place among those sent is told
+-- ---- `send`, `signal`: a frame is sent, and its place among those sent is reported
 
 abbrev pub Sends : World → Option Frame → Said → World → Type 0
 Sends w None said after = IsRefused w (codes "NoFrame") said after

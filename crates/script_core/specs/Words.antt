@@ -38,7 +38,7 @@ abbrev pub owed_word : Bool → List ℕ
 owed_word true = codes "owed"
 owed_word false = codes "signal"
 
--- What a step did. Of a frame the message is told that it is about.
+-- What a step did. Of a frame the message is reported that it is about.
 
 abbrev pub captured_text : ℕ → ℕ → ℕ → List ℕ
 captured_text fresh known skipped = codes "captured " ++ decimal fresh ++ codes " known " ++ decimal known ++ codes " skipped " ++ decimal skipped ++ 10 ∷ []

@@ -20,7 +20,7 @@ use trace_core::Pair;
 pub(crate) enum Answer {
     /// Nothing.
     Silent,
-    /// A refusal without details: its text is fixed, so that it takes no memory.
+    /// A refusal without details: its text is fixed, so that it does not allocate.
     Fixed(&'static str),
     /// A refusal with details.
     Refusal(String),
@@ -138,7 +138,7 @@ impl Answer {
         Answer::refusal(alloc, what.as_str())
     }
 
-    /// What came of an input that a site was handed. `about` is the message that it brings or signals.
+    /// What came of an input that a site was given. `about` is the message that it brings or signals.
     pub(crate) fn of_outcome(
         alloc: Global,
         sites: &Sites,
@@ -180,7 +180,7 @@ impl Answer {
         Ok(Answer::Done(format!(in alloc; "open {name}\n")?))
     }
 
-    /// What was told in so many rounds, and how many frames were sent in them.
+    /// What was reported in so many rounds, and how many frames were sent in them.
     pub(crate) fn pumped(
         alloc: Global,
         text: String,

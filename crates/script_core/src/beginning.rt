@@ -29,7 +29,7 @@ fn fresh_world(alloc: Global, sites: &Sites) -> Result<MemoryWorld, AllocError>
     let keepers = fresh_keepers(alloc, sites)?;
     match World::new(alloc, keepers) {
         Ok(world) => Ok(MemoryWorld::new(world)),
-        // Only want of memory is left: the keepers are open, in order, and nothing happened at their sites.
+        // Only out of memory is left: the keepers are open, in order, and nothing happened at their sites.
         Err(_) => Err(AllocError),
     }
 }

@@ -81,7 +81,7 @@ impl Running {
         self.hand_over(alloc, site, WorldInput::Deliver(place), about.as_str())
     }
 
-    /// Hands an input to a site, and tells what came of it. `about` is the message that it brings or signals.
+    /// Gives an input to a site, and returns what came of it. `about` is the message that it brings or signals.
     fn hand_over(
         &mut self,
         alloc: Global,

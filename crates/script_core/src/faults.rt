@@ -1,3 +1,4 @@
+//! Why a script ended before its end.
 use std::alloc::AllocError;
 use thiserror::Error;
 
@@ -5,7 +6,7 @@ use thiserror::Error;
 #[derive(Clone, Copy, Debug, PartialEq, Eq, Error)]
 pub enum ScriptFault {
     /// Memory ran out: at the start, while a line of over 8,192 bytes was held, or at a line whose
-    /// answer or effect takes memory.
+    /// answer or effect allocates.
     #[error("NoMemory")]
     NoMemory,
     /// The reader failed. An interrupted read is made again.

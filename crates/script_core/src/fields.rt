@@ -1,3 +1,4 @@
+//! The fields of a line.
 ghost use Rattle.std.specs.Prelude.{◌≡◌, IfOk, map};
 ghost use Rattle.script_core.specs.Fields.{fields};
 ghost use Rattle.script_core.specs.Steps.{past_spaces, first_field, after_field, AreFields};
@@ -38,7 +39,7 @@ pub(crate) fn split_field(text: &str) -> (&str, &str)
     }
 }
 
-/// The fields of a text, counted. It takes no memory.
+/// The fields of a text, counted. It does not allocate.
 pub(crate) fn words_of(text: &str) -> Words<'_>
     ensures { AreFields (fields text.now) result }
 {

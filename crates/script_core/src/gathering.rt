@@ -13,7 +13,7 @@ use crate::outcomes::site_or_fault;
 use event_json::Sites;
 use std::alloc::{AllocError, Global};
 
-/// Adds a site, or answers why not. The addresses are the fields of a text.
+/// Adds a site, or returns why not. The addresses are the fields of a text.
 pub(crate) fn add_site(
     alloc: Global,
     sites: &mut Sites,

@@ -56,7 +56,7 @@ impl HeldLine {
         self.bytes.as_slice()
     }
 
-    /// Puts bytes behind. Memory is wanted only for a line of over 8,192 bytes.
+    /// Puts bytes behind. Memory is needed only for a line of over 8,192 bytes.
     pub(crate) fn grow(&mut self, bytes: &[u8]) -> Result<(), ScriptFault>
         ensures ok { OnOk result ((length self.new ≤ longest_line) × (self.new ≡ self.old ++ bytes.now)) }
         ensures err { IfErr result (λ e. FailsToGrow self.old bytes.now e) }

@@ -9,7 +9,7 @@ use crate::outcomes::item_or_fault;
 use epc_core::Epc;
 use std::alloc::{AllocError, Global};
 
-/// The item that an EPC text names, `None` where it is no EPC text. Only plain texts take memory.
+/// The item that an EPC text names, `None` where it is no EPC text. Only plain texts allocate.
 pub fn item_of(alloc: Global, text: &str) -> Result<Option<Epc>, AllocError>
     ensures ok { IfOk result (λ item. MatchOption item ((fault : EpcFault) × (reading text.now ≡ Err fault)) (λ e. (reading text.now ≡ Ok e) × IsPlain text.now)) }
     ensures err { IfErr result (λ _. IsPlain text.now) }

@@ -1,4 +1,4 @@
-//! Reading what a line asks for. It takes no memory: the parts of a line are lent.
+//! Reading what a line asks for. It does not allocate: the parts of a line are borrowed.
 
 ghost use Rattle.std.specs.Prelude.{◌≡◌, true, false, MatchOption};
 ghost use Rattle.std.specs.Str.{is_utf8};

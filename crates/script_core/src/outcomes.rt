@@ -1,4 +1,4 @@
-//! Faults of the calls below, apart from want of memory, which is answered exactly where they do.
+//! Faults of the calls below, apart from out of memory, which is answered exactly where they do.
 
 ghost use Rattle.std.specs.Prelude.{◌≡◌};
 ghost use Rattle.script_core.specs.Outcomes.{unless_memory, epc_fault, site_fault};

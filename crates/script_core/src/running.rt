@@ -157,7 +157,7 @@ impl Running {
         self.world.ended(recall)
     }
 
-    /// Hands an input to a site that is up: it is a step, or the stop that is armed for it.
+    /// Gives an input to a site that is up: it is a step, or the stop that is armed for it.
     pub(crate) fn hand(&mut self, site: SiteNo, input: WorldInput) -> Result<Outcome, AllocError>
         ensures { (old : Record) (given : SiteInput) → up_at self.old site ≡ Some old → input_at self.old.world.sent site input ≡ Some given
             → IfOk result (λ outcome. (standing : Standing) × Happens old (armed_at self.old site) given outcome standing × (self.new ≡ with_standing self.old site standing)) }
@@ -166,7 +166,7 @@ impl Running {
         self.world.happen(site, armed, input)
     }
 
-    /// Sends the frame of a name that the record of a site that is up makes emittable, and answers its place among
+    /// Sends the frame of a name that the record of a site that is up makes emittable, and returns its place among
     /// those sent.
     pub(crate) fn emit(&mut self, site: SiteNo, name: FrameName) -> Result<u64, AllocError>
         ensures { (old : Record) (frame : Frame) → up_at self.old site ≡ Some old → frame_named old.engagement name ≡ Some frame

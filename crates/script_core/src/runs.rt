@@ -1,3 +1,4 @@
+//! Running a script from a reader to a writer.
 ghost use Rattle.std.specs.Prelude.{◌≡◌, ◌<◌, ◌≤◌, take, length, IfOk, IfErr, IfSome, MatchOption};
 ghost use Rattle.std.specs.Io.KnownBytes.{Keeps, Consumes, IsAtEnd};
 ghost use Rattle.script_core.specs.Runs.{IsDone, Leaves};
@@ -28,7 +29,7 @@ const PIECE: usize = 8_192;
 ///   were read.
 /// - [`ScriptFault::LineTooLong`] leaves those to all lines before the first that is too long.
 /// - [`ScriptFault::NoMemory`] comes before anything is read, or at a line that has more than 8,192
-///   bytes or takes memory, and leaves the answers to all lines before it. No memory is taken by a
+///   bytes or allocates, and leaves the answers to all lines before it. Nothing is allocated by a
 ///   line without an answer but `site`, and by one that is refused with BadLine, Late or NoWorld,
 ///   or, once the world has begun, with BadEpc.
 /// - [`ScriptFault::Write`] leaves a beginning of the answers' text.

@@ -1,4 +1,4 @@
-//! A script's state, and the gate that its lines pass.
+//! A script's state, and the check that its lines pass.
 
 ghost use Rattle.std.specs.Prelude.{◌≡◌, IfOk, IfErr, OnOk, OnErr};
 ghost use Rattle.script_core.specs.Answer.{answer_of};
@@ -37,7 +37,7 @@ impl Script {
         Script::Gathering(Sites::new(alloc))
     }
 
-    /// Takes a line, without its line ending. Only a line that takes memory can end in `Err`; nothing
+    /// Takes a line, without its line ending. Only a line that allocates can end in `Err`; nothing
     /// is said of the script then.
     pub(crate) fn take_line(&mut self, alloc: Global, line: &[u8]) -> Result<Answer, AllocError>
         ensures ok { IfOk result (λ a. Takes (state_of self.old) line.now (answer_of a) (state_of self.new)) }
@@ -62,7 +62,7 @@ impl Script {
         }
     }
 
-    /// The gate of all lines that ask something of the world.
+    /// The check of all lines that ask something of the world.
     fn pass(&mut self, alloc: Global, task: Task<'_>) -> Result<Answer, AllocError>
         ensures ok { IfOk result (λ a. Passes (begun (state_of self.old)) (task_of task.entry) (answer_of a) (state_of self.new)) }
         ensures err { IfErr result (λ _. TaskTakesMemory (state_of self.old) (task_of task.entry)) }
@@ -74,7 +74,7 @@ impl Script {
         }
     }
 
-    /// Begins the world, once two sites stand. Only that takes memory.
+    /// Begins the world, once two sites stand. Only that allocates.
     #[tactic(auto, unfolding(crate::specs::State::begun))]
     fn begin(&mut self, alloc: Global) -> Result<(), AllocError>
         ensures ok { OnOk result (state_of self.new ≡ begun (state_of self.old)) }

@@ -63,7 +63,7 @@ impl Running {
         self.post(alloc, site, FrameName::Signal(MsgId { site: of, number }))
     }
 
-    /// Sends the frame of a name that a site may send, and tells its place among those sent.
+    /// Sends the frame of a name that a site may send, and returns its place among those sent.
     fn post(&mut self, alloc: Global, site: SiteNo, name: FrameName) -> Result<Answer, AllocError>
         ensures { (old : Record) (frame : Frame) → up_at self.old site ≡ Some old → frame_named old.engagement name ≡ Some frame
             → IfOk result (λ a. Sends self.old (Some frame) (answer_of a) self.new) }

@@ -6,8 +6,8 @@ ghost use Rattle.script_core.specs.Streams.{fault_of_kind};
 use crate::faults::ScriptFault;
 use std::io::ErrorKind;
 
-/// The fault that an error of a reader or a writer is told as, if any: a call that was interrupted
-/// may be made again.
+/// The fault that an error of a reader or a writer is reported as, if any: a call that was
+/// interrupted may be made again.
 pub(crate) fn fault_of_kind(kind: ErrorKind, fault: ScriptFault) -> Result<(), ScriptFault>
     ensures { result ≡ fault_of_kind kind fault }
 {

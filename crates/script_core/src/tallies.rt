@@ -1,3 +1,4 @@
+//! The count of a script's lines and refusals.
 /// What a script came to.
 #[derive(Clone, Copy, Debug, PartialEq, Eq)]
 pub struct Tally {

@@ -1,5 +1,5 @@
-//! What a program that tells of sites shares with a script: how recalls, steps and refusals are written, and how items,
-//! numbers and recalls are read.
+//! What a program that speaks of sites shares with a script: how recalls, steps and refusals are written, and how
+//! items, numbers and recalls are read.
 
 pub use crate::items::item_of;
 pub use crate::numbers::{number_of, recall_of};

@@ -56,7 +56,7 @@ fn owed_word(owed: bool) -> &'static str
     if owed { "owed" } else { "signal" }
 }
 
-/// What a step did; of a frame the message that it is about is told.
+/// What a step did; of a frame the message that it is about is reported.
 pub fn effects_text(
     alloc: Global,
     sites: &Sites,
@@ -234,7 +234,7 @@ pub(crate) fn stopped_text(alloc: Global, sites: &Sites, site: SiteNo) -> Result
     format!(in alloc; "stopped {name}\n")
 }
 
-/// Adds what is told while rounds of `pump` run: that a recall has ended, and that a site stopped.
+/// Adds what is reported while rounds of `pump` run: that a recall has ended, and that a site stopped.
 pub(crate) fn push_outcome(
     alloc: Global,
     text: &mut String,

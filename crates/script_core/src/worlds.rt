@@ -99,7 +99,7 @@ impl MemoryWorld {
         self.sent
     }
 
-    /// One event, and what it is answered.
+    /// One event, and its answer.
     fn turn(&mut self, event: WorldEvent) -> Answer
         ensures turns { Turns self.old event result self.new }
         ensures count { length self.new.sites ≡ length self.old.sites }
@@ -136,7 +136,7 @@ impl MemoryWorld {
         match self.turn(WorldEvent::Step { site, input }) {
             Answer::Done(effects) => Ok(Outcome::Did(effects)),
             Answer::Fault(KeepFault::Refused(why)) => Ok(Outcome::Refused(why)),
-            // Only want of memory is left: the site is up, and the frame is for it.
+            // Only out of memory is left: the site is up, and the frame is for it.
             _ => Err(AllocError),
         }
     }
@@ -148,12 +148,12 @@ impl MemoryWorld {
     {
         match self.turn(WorldEvent::Stop { site, input, keep }) {
             Answer::Stopped => Ok(Outcome::Stopped),
-            // Only want of memory is left.
+            // Only out of memory is left.
             _ => Err(AllocError),
         }
     }
 
-    /// Sends the frame that the record of a site that is up makes emittable at a place, from 1, and answers its
+    /// Sends the frame that the record of a site that is up makes emittable at a place, from 1, and returns its
     /// place among those sent.
     pub(crate) fn send(&mut self, site: SiteNo, name: FrameName) -> Result<u64, AllocError>
         ensures does { (old : Record) (frame : Frame) → up_in self.old.sites site ≡ Some old → frame_named old.engagement name ≡ Some frame
@@ -162,7 +162,7 @@ impl MemoryWorld {
     {
         match self.post(site, name) {
             Answer::Sent(at) => Ok(at),
-            // Only want of memory is left.
+            // Only out of memory is left.
             _ => Err(AllocError),
         }
     }
@@ -186,7 +186,7 @@ impl MemoryWorld {
     {
         match self.turn(WorldEvent::Reopen { site }) {
             Answer::Reopened => Ok(()),
-            // Only want of memory is left.
+            // Only out of memory is left.
             _ => Err(AllocError),
         }
     }

@@ -26,7 +26,7 @@ pub fn write_text<W: Write>(writer: &mut W, text: &[u8]) -> Result<(), ScriptFau
     Ok(())
 }
 
-/// Writes at least a byte of a text that has one, and answers how many bytes the writer took.
+/// Writes at least a byte of a text that has one, and returns how many bytes the writer took.
 fn write_some<W: Write>(writer: &mut W, text: &[u8]) -> Result<usize, ScriptFault>
     ensures some { IfOk result (λ n. 0 < n) }
     ensures bound { IfOk result (λ n. n ≤ length text.now) }

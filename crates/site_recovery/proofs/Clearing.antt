@@ -1,4 +1,4 @@
--- A signal that clears a row keeps the fit, where the row's message is answered.
+-- A signal that clears a row keeps the records consistent, where the row's message is answered.
 use Rattle.std.proofs.Common.{◌≡◌, ◌⊎◌, inl, inr, ℕ, zero, suc, ◌<◌, List, Some, sym, ap, ◌∙◌, subst}
 use Rattle.frame_core.specs.Numbers.{Recall, Message}
 use Rattle.frame_core.specs.declared.frames.Frame.{Frame}

@@ -1,4 +1,4 @@
--- Sites that keep nothing yet fit together.
+-- Sites that keep nothing yet are consistent.
 use Rattle.std.proofs.Common.{◌≡◌, inl, inr, ℕ, ◌<◌, List, [], length, Some, None, sym, ap, ◌∙◌}
 use Rattle.std.specs.Ordering.{nat_cmp}
 use Rattle.std.specs.FinMap.{get-empty}

@@ -1,4 +1,4 @@
--- A capture keeps the fit.
+-- A capture keeps the records consistent.
 use Rattle.std.proofs.Common.{◌≡◌, ◌⊎◌, inl, inr, ℕ, sym, subst}
 use Rattle.frame_core.specs.declared.frames.Frame.{Frame}
 use Rattle.site_recovery.specs.Fit.{Fit, Tells, FrameFits}

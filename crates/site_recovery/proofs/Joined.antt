@@ -1,4 +1,4 @@
--- The records fit together exactly where each condition holds at each of the sites.
+-- The records are consistent exactly where each condition holds at each of the sites.
 use Rattle.std.proofs.Common.{◌≡◌, ◌≢◌, ◌⊎◌, ◌↔◌, inl, inr, ℕ, ◌<◌, ◌≤◌, true, List, [], length, Some, None, refl, sym, ap, ◌∙◌, subst, arith}
 use Rattle.std.specs.Ordering.{nat_cmp}
 use Rattle.std.specs.FinMap.{get-empty}
@@ -70,7 +70,7 @@ kept_under q r i h = elim (map.get q r) as (λ found. map.get q r ≡ found → 
   | Some items ↦ λ _. refl
 ] refl
 
--- nothing is charged to a site past the end
+-- nothing is attributed to a site past the end
 module _ (records : List Record) (all : AreAllSites records) where
   abbrev W : World
   W = world_of records

@@ -137,7 +137,7 @@ module _ (n : ℕ) (W : World) where
   pub before_11 : Before n W 10 → Holds (BelowParts W) → Before n W 11
   before_11 b h10 = one_more_holds n W NumbersAreBelow b (λ s below. (below_parts W s).0 (h10 s below))
 
--- What holds of each fault that is handed on.
+-- What holds of each fault that is passed on.
 pub handed_on : (r : Result (Unit {0}) CheckFault) (x : CheckFault) (Q : CheckFault → Type 0) → IsErrAnd r (λ e. e ≡ x) → Q x → IfErr r Q
 handed_on (Ok u) x Q h q = tt
 handed_on (Err e) x Q h q = subst Q (sym h) q

@@ -1,4 +1,4 @@
--- A step of one site keeps the fit, and what has ended.
+-- A step of one site keeps the records consistent, and what has ended.
 use Rattle.std.proofs.Common.{◌≡◌, inl, inr, ℕ, zero, suc, cond, List, Some, None, refl, sym, ap, ◌∙◌, subst, eqb, eq-eqb, ne_eqb}
 use Rattle.std.specs.FinMap.{get}
 use Rattle.std.specs.List.{Contains}
@@ -71,7 +71,7 @@ clears_stays V W s n x f c q is =
       quarantine = λ t i. (λ h. sym (ap (λ z. held z q i) (c.quarantine t)) ∙ h, λ h. ap (λ z. held z q i) (c.quarantine t) ∙ h);
     }
 
--- Each way keeps the fit.
+-- Each way keeps the records consistent.
 
 pub still_itself : (V : World) (sent : List Frame) → Fits V sent → FitsStill V V sent
 still_itself V sent f = record { fits = f; ended_stay = λ r _. stays_itself V r }

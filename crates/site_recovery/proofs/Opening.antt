@@ -1,4 +1,4 @@
--- A recall that begins keeps the fit.
+-- A recall that begins keeps the records consistent.
 use Rattle.std.proofs.Common.{◌≡◌, ◌⊎◌, inl, inr, ℕ, ◌<◌, ◌≤◌, true, false, List, Some, refl, sym, ap, ◌∙◌, subst, arith, lt_of_lt_of_le, lt_irrefl}
 use Rattle.frame_core.specs.Numbers.{Recall, Message}
 use Rattle.frame_core.specs.declared.frames.Frame.{Frame}

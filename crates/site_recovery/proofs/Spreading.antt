@@ -1,4 +1,4 @@
--- What a start and a message that is taken share keeps what is quarantined closed, and told of.
+-- What a start and a message that is taken share keeps what is quarantined closed, and announced.
 use Rattle.std.proofs.Common.{◌≡◌, ◌⊎◌, inl, inr, ℕ, true, false, List, refl, sym, ◌∙◌, subst}
 use mathlib.Core.Bool.{false≢true}
 use Rattle.frame_core.specs.Numbers.{Recall}

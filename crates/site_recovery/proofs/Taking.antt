@@ -1,4 +1,4 @@
--- A message that is taken keeps the fit, where its row stands.
+-- A message that is taken keeps the records consistent, where its row stands.
 use Rattle.std.proofs.Common.{◌≡◌, ◌⊎◌, inl, inr, ℕ, zero, suc, ◌<◌, ◌≤◌, List, Some, None, refl, sym, ap, ◌∙◌, subst, arith, lt_of_lt_of_le}
 use Rattle.frame_core.specs.Numbers.{Recall, Message}
 use Rattle.frame_core.specs.declared.frames.Frame.{Frame}

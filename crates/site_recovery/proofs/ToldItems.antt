@@ -1,4 +1,4 @@
--- What rows tell a site.
+-- What rows announce to a site.
 use Rattle.std.proofs.Common.{◌≡◌, ◌⊎◌, ◌↔◌, inl, inr, ℕ, List, Some, sym, ap, ◌∙◌, subst}
 use Rattle.std.specs.Cmp.{nat_cmp_total}
 use Rattle.std.specs.FinMap.{FinMap, entries, get, nat_cmp-IsAntisymmetric}
@@ -32,7 +32,7 @@ row_held told new x dest item at copied is r i =
       ])),
     )
 
--- what rows tell is what is found among them
+-- what rows announce is what is found among them
 pub tells_found : (m : FinMap nat_cmp Row) (es : List (ℕ × Row)) → es ≡ entries m → (x : Row) → ((e : ℕ × Row) × Contains es e × (e.1 ≡ x)) ↔ ((n : ℕ) × (get m n ≡ Some x))
 tells_found m es same x = (
   λ (e, at, is). (e.0, entry_found nat_cmp_total m e.0 e.1 (subst (λ xs. Contains xs e) same at) ∙ ap Some is),

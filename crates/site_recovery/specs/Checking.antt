@@ -1,4 +1,4 @@
--- What the check of the records answers.
+-- What the check of the records returns.
 use Rattle.std.specs.Prelude.{◌≡◌, ◌⊎◌, ◌↔◌, ℕ, ◌<◌, IsTrue, List, [], length, map, get_or, Option, Some, None}
 use Rattle.std.specs.FinMap.{empty}
 use Rattle.std.specs.Borrow.{Bor}

@@ -1,4 +1,4 @@
--- When the records of all sites fit together, and a frame that was sent fits them.
+-- When the records of all sites are consistent, and a frame that was sent fits them.
 --
 -- The ten conditions are numbered as the answers of the check are. Numbers 7 and 8 are of one frame each; the others are
 -- of the records alone.
@@ -60,15 +60,15 @@ IsAnswered W s m = ((q : Recall) × (seen W s m ≡ Some q)) × ((q : Recall) �
 pub record Fit (W : World) : Type 0 where
   -- 1: what is made of a quarantined item is quarantined
   pub closed : (s : ℕ) (r : Recall) (i j : List ℕ) → Held W s r i → Makes W s i j → Held W s r j
-  -- 2: where a quarantined item was shipped to, it is quarantined, or a message tells of it
+  -- 2: where a quarantined item was shipped to, it is quarantined, or a message announces it
   pub told : (s : ℕ) (r : Recall) (i : List ℕ) (t : ℕ) → Held W s r i → Ships W s i t → Tells W s t r i ⊎ Held W t r i
-  -- 2: what a message told of is quarantined where the message was seen, under whatever recall
+  -- 2: what a message announced is quarantined where the message was seen, under whatever recall
   pub taken : (s n : ℕ) (x : Row) (q : Recall) → row W s n ≡ Some x → seen W x.dest (record { site = s; number = n }) ≡ Some q → Held W x.dest x.recall x.item
   -- 3: a quarantined item's recall was begun, and the item is in reach of its root
   pub reached : (s : ℕ) (r : Recall) (i : List ℕ) → Held W s r i → IsInReach W r s i
   -- 3: a recall's root is quarantined where it was begun
   pub rooted : (s k : ℕ) (o : Own) → own W s k ≡ Some o → Held W s (record { site = s; number = k }) o.root
-  -- 3: a message tells of an item that is quarantined where it was sent, and was shipped to where it goes
+  -- 3: a message announces an item that is quarantined where it was sent, and was shipped to where it goes
   pub rows_held : (s n : ℕ) (x : Row) → row W s n ≡ Some x → Held W s x.recall x.item
   pub rows_shipped : (s n : ℕ) (x : Row) → row W s n ≡ Some x → Ships W s x.item x.dest
   -- 4: messages of a recall wait at a site that is engaged for it, or at its initiator while it is live
@@ -95,7 +95,7 @@ abbrev pub FrameFits : World → Frame → Type 0
 FrameFits W (frames.Recall m dest r i) = (row W m.site m.number ≡ Some (record { dest = dest; recall = r; item = i })) ⊎ IsAnswered W dest m
 FrameFits W (frames.Signal m by) = IsAnswered W by m
 
--- the records and the frames that were ever sent fit together
+-- the records and the frames that were ever sent are consistent
 pub record Fits (W : World) (sent : List Frame) : Type 0 where
   pub records_fit : Fit W
   pub frames_fit : (f : Frame) → Contains sent f → FrameFits W f

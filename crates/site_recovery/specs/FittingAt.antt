@@ -1,4 +1,4 @@
--- The conditions of the records, each by the site to which its failures are charged.
+-- The conditions of the records, each by the site to which its failures are attributed.
 use Rattle.std.specs.Prelude.{◌≡◌, ◌≢◌, ◌⊎◌, ◌↔◌, ℕ, ◌<◌, List, length, Some}
 use Rattle.frame_core.specs.Numbers.{Recall, Message}
 use Rattle.frame_core.specs.declared.rows.Row.{Row}
@@ -33,14 +33,14 @@ number_of NumbersAreBelow = 10
 abbrev pub IsClosedAt : World → ℕ → Type 0
 IsClosedAt W s = (r : Recall) (i j : List ℕ) → Held W s r i → Makes W s i j → Held W s r j
 
--- what was shipped to the site from a quarantine is quarantined or told of here, and what a row tells of is quarantined
--- here once its message was seen
+-- what was shipped to the site from a quarantine is quarantined or announced here, and what a row announces is
+-- quarantined here once its message was seen
 pub record IsToldAt (W : World) (t : ℕ) : Type 0 where
   pub told : (s : ℕ) (r : Recall) (i : List ℕ) → Held W s r i → Ships W s i t → Tells W s t r i ⊎ Held W t r i
   pub taken : (s n : ℕ) (x : Row) (q : Recall) → row W s n ≡ Some x → x.dest ≡ t → seen W t (record { site = s; number = n }) ≡ Some q → Held W t x.recall x.item
 
 -- what is quarantined at the site is in reach of its recall's root; the roots of the site's recalls are quarantined
--- here; and what its rows tell of is quarantined here, and was shipped to where they go
+-- here; and what its rows announce is quarantined here, and was shipped to where they go
 pub record IsJustifiedAt (W : World) (s : ℕ) : Type 0 where
   pub reached : (r : Recall) (i : List ℕ) → Held W s r i → IsInReach W r s i
   pub rooted : (k : ℕ) (o : Own) → own W s k ≡ Some o → Held W s (record { site = s; number = k }) o.root
@@ -94,6 +94,6 @@ AreAllSites records = (s : ℕ) → s < length records → IsOneOf (length recor
 abbrev pub QuietEndsFollow : Type 0
 QuietEndsFollow = (W : World) (s : ℕ) → WaitsRightlyAt W s → ParentsLeadHomeFrom W s → EndsAreQuietAt W s
 
--- The records fit together exactly where each condition holds at each of the sites.
+-- The records are consistent exactly where each condition holds at each of the sites.
 abbrev pub FitIsByConditions : Type 0
 FitIsByConditions = (records : List Record) → AreAllSites records → Fit (world_of records) ↔ ((c : Condition) (s : ℕ) → s < length records → FitAt (world_of records) c s)

@@ -1,4 +1,4 @@
--- What keeps sites fitting together, and what that gives once a recall has ended.
+-- What keeps sites consistent, and what that gives once a recall has ended.
 use Rattle.std.specs.Prelude.{◌≡◌, ◌↔◌, ℕ, ◌<◌, ◌++◌, List, [], ◌∷◌, length, map, set, Contains, IsTrue, Some}
 use Rattle.event_json.specs.Sites.{Site}
 use Rattle.frame_core.specs.Numbers.{Recall}
@@ -49,7 +49,7 @@ pub record FitsStill (V W : World) (sent : List Frame) : Type 0 where
 abbrev pub WasSent : List Frame → SiteInput → Type 0
 WasSent sent input = (f : Frame) → input ≡ Deliver f → Contains sent f
 
--- A step of one site keeps the fit, and what has ended, and each record in its place.
+-- A step of one site keeps the records consistent, and what has ended, and each record in its place.
 abbrev pub StepsKeepTheFit : Type 0
 StepsKeepTheFit =
     (records : List Record) (sent : List Frame) (s : ℕ) (input : SiteInput) (e : Effects) (next : Record)
@@ -69,7 +69,7 @@ FewerFramesFit =
     (records : List Record) (sent some : List Frame)
     → Fits (world_of records) sent → ((f : Frame) → Contains some f → Contains sent f) → Fits (world_of records) some
 
--- Sites that keep nothing yet fit together, and no frame was sent.
+-- Sites that keep nothing yet are consistent, and no frame was sent.
 abbrev pub EmptySitesFit : Type 0
 EmptySitesFit =
     (sites : List Site) (records : List Record)

@@ -1,7 +1,7 @@
 -- What a look at the records of all sites finds.
 --
--- The conditions under which sites fit together, and the laws of what an event changes, look at records by these
--- alone.
+-- The conditions under which sites are consistent, and the laws of what an event changes, look at records by
+-- these alone.
 use Rattle.std.specs.Prelude.{ℕ, List, [], Option, get_or}
 use Rattle.std.specs.FinMap.{get}
 use Rattle.frame_core.specs.Numbers.{Recall, Message}

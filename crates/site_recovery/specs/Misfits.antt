@@ -1,4 +1,4 @@
--- What a check of the records answers where they don't fit together.
+-- What a check of the records returns where they aren't consistent.
 use Rattle.std.specs.Prelude.{◌≡◌, ⊤, ℕ, ◌<◌, Some}
 use Rattle.site_recovery.specs.Checking.{IsLeastUnmet}
 use Rattle.site_recovery.specs.FittingAt.{Condition, number_of, FitAt}

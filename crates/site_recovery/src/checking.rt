@@ -1,3 +1,4 @@
+//! The check that the records of all sites are consistent.
 ghost use Rattle.std.specs.Prelude.{◌<◌, ℕ, [], length, OnOk, IfErr};
 ghost use Rattle.site_recovery.specs.Checking.{records_at, world_at};
 ghost use Rattle.site_recovery.specs.Fit.{Fits};
@@ -18,16 +19,16 @@ use site_core::SiteState;
 use std::alloc::Global;
 use thiserror::Error;
 
-/// Where records don't fit together.
+/// Where records aren't consistent.
 #[derive(Clone, Copy, Debug, Drop, PartialEq, Eq)]
 pub struct Misfit {
     /// The number of the least condition that fails: 1 to 6, 9 or 10.
     pub condition: u64,
-    /// The least site that is charged with it.
+    /// The least site that it is attributed to.
     pub site: SiteNo,
 }
 
-/// Why records weren't found to fit together.
+/// Why records weren't found to be consistent.
 #[derive(Clone, Copy, Debug, Drop, PartialEq, Eq, Error)]
 pub enum CheckFault {
     /// Memory ran out.
@@ -59,7 +60,7 @@ fn check<C: Condition>(
     }
 }
 
-/// Whether what is quarantined and told of has its reason, at each site.
+/// Whether what is quarantined and announced has its reason, at each site.
 fn check_justified(alloc: Global, sites: &[&SiteState]) -> Result<(), CheckFault>
     requires all { AreAllSites (records_at sites.now) }
     ensures ok { OnOk result ((s : ℕ) → s < length sites.now → IsJustifiedAt (world_at sites.now) s) }
@@ -82,11 +83,11 @@ fn check_justified(alloc: Global, sites: &[&SiteState]) -> Result<(), CheckFault
     }
 }
 
-/// Checks that the records of all sites, in the order of their numbers, fit together while no frame is in
-/// flight.
+/// Checks that the records of all sites, in the order of their numbers, are consistent while no frame is
+/// in flight.
 ///
 /// # Errors
-/// `Misfit` with the least condition that fails and the least site that is charged with it, and
+/// `Misfit` with the least condition that fails and the least site that it is attributed to, and
 /// `NoMemory`.
 pub fn check_world(alloc: Global, sites: &[&SiteState]) -> Result<(), CheckFault>
     requires all { AreAllSites (records_at sites.now) }

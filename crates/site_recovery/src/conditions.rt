@@ -1,4 +1,4 @@
-//! A condition of the records, which is charged to one site.
+//! A condition of the records, which is attributed to one site.
 ghost use Rattle.std.specs.Prelude.{◌≡◌, ◌↔◌, ℕ, IfOk, IsTrue, length};
 ghost use Rattle.site_recovery.specs.Checking.{records_at, world_at, IsLeastUnmet};
 ghost use Rattle.site_recovery.specs.FittingAt.{AreAllSites};

@@ -5,7 +5,7 @@ use frame_core::tables::Key;
 use std::alloc::{AllocError, Global};
 use std::collections::{BTreeMap, BTreeSet};
 
-/// A test of one element. It may take memory.
+/// A test of one element. It may allocate.
 pub(crate) trait Test<X> {
     /// The elements that pass.
     ghost holds: { Self → X → Type 0 };
@@ -15,7 +15,7 @@ pub(crate) trait Test<X> {
         ensures { IfOk result (λ passes. IsTrue passes ↔ holds self.now element.now) };
 }
 
-/// A test of one entry of a map. It may take memory.
+/// A test of one entry of a map. It may allocate.
 pub(crate) trait EntryTest<K, V> {
     /// The entries that pass.
     ghost holds: { Self → K → V → Type 0 };

@@ -1,4 +1,4 @@
-//! What is quarantined and told of has its reason.
+//! What is quarantined and announced has its reason.
 use crate::conditions::Condition;
 use crate::every::{EntryTest, each_entry};
 use crate::pairs::ships;
@@ -71,7 +71,7 @@ impl EntryTest<u64, Row> for JustRow<'_> {
     }
 }
 
-/// What the site's rows tell of is quarantined there, and was shipped to where they go.
+/// What the site's rows announce is quarantined there, and was shipped to where they go.
 #[derive(Drop)]
 pub(crate) struct RowsJustified;
 

@@ -1,4 +1,4 @@
-//! Laws of sites that fit together, each named by a function with an empty body whose contract is the law.
+//! Laws of sites that are consistent, each named by a function with an empty body whose contract is the law.
 
 ghost use Rattle.site_recovery.specs.FittingAt.{FitIsByConditions, QuietEndsFollow};
 ghost use Rattle.site_recovery.specs.Laws.{EmptySitesFit, EndsAreExact, FewerFramesFit, SendsKeepTheFit, StepsKeepTheFit};
@@ -9,7 +9,7 @@ pub fn an_end_is_exact()
     ensures { EndsAreExact }
 {}
 
-/// A step of one site, of whatever input, leaves all fitting together, where each frame that it is given
+/// A step of one site, of whatever input, leaves all consistent, where each frame that it is given
 /// was sent; and each recall that had ended stays ended, with the same items.
 pub fn a_step_keeps_the_fit()
     ensures { StepsKeepTheFit }
@@ -21,13 +21,13 @@ pub fn a_sent_frame_keeps_the_fit()
     ensures forgotten { FewerFramesFit }
 {}
 
-/// Sites that keep nothing yet fit together.
+/// Sites that keep nothing yet are consistent.
 pub fn empty_sites_fit_together()
     ensures { EmptySitesFit }
 {}
 
-/// The records of all sites fit together exactly where each condition holds at each site. The ninth follows from
-/// the fourth and the sixth.
+/// The records of all sites are consistent exactly where each condition holds at each site. The ninth follows
+/// from the fourth and the sixth.
 pub fn conditions_make_the_fit()
     ensures all { FitIsByConditions }
     ensures ninth { QuietEndsFollow }

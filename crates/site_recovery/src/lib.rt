@@ -1,4 +1,4 @@
-//! When the records of all sites fit together, and that each event keeps them so.
+//! When the records of all sites are consistent, and that each event keeps them so.
 #![tactic(auto)]
 
 mod checking;

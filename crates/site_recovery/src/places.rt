@@ -1,3 +1,4 @@
+//! Whether records are those of all sites, in order.
 ghost use Rattle.std.specs.Prelude.{◌↔◌, IsTrue};
 ghost use Rattle.site_recovery.specs.Checking.{records_at};
 ghost use Rattle.site_recovery.specs.FittingAt.{AreAllSites, IsOneOf};

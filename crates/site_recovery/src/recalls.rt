@@ -15,8 +15,8 @@ use site_core::SiteState;
 use std::alloc::{AllocError, Global};
 use trace_core::{Captured, Pair};
 
-/// The recall as the site that began it keeps it, None where that site's record has no such recall. Takes no
-/// memory.
+/// The recall as the site that began it keeps it, None where that site's record has no such recall. Does not
+/// allocate.
 pub fn own_recall<'a>(sites: &'a [&'a SiteState], recall: RecallId) -> Option<&'a Own>
     ensures { option_map (λ o. o.now) result ≡ own (world_at sites.now) recall.site recall.number }
 {

@@ -1,4 +1,4 @@
-//! Where quarantined items were shipped to they are quarantined, or told of.
+//! Where quarantined items were shipped to they are quarantined, or announced.
 ghost use Rattle.std.specs.Prelude.{◌≡◌, ◌⊎◌, ◌↔◌, ℕ, List, IfOk, IsTrue, Some};
 
 use crate::conditions::Condition;
@@ -12,7 +12,7 @@ use frame_core::{MsgId, RecallId, Row};
 use site_core::{ItemSet, Quarantine, SiteState};
 use std::alloc::{AllocError, Global};
 
-/// An item that the site `to` is told of, or that is quarantined there, where `from` shipped it there.
+/// An item that is announced to the site `to`, or that is quarantined there, where `from` shipped it there.
 #[derive(Drop)]
 struct ToldItem<'a> {
     sites: &'a [&'a SiteState],
@@ -75,7 +75,7 @@ impl EntryTest<RecallId, ItemSet> for ToldFrom<'_> {
     }
 }
 
-/// A site from which all that was shipped to the site `to` is told of there.
+/// A site from which all that was shipped to the site `to` is announced there.
 #[derive(Drop)]
 struct Telling<'a> {
     sites: &'a [&'a SiteState],
@@ -103,7 +103,7 @@ impl<'b> Test<&'b SiteState> for Telling<'_> {
     }
 }
 
-/// What was shipped to the site from a quarantine is quarantined here, or told of.
+/// What was shipped to the site from a quarantine is quarantined here, or announced.
 #[derive(Drop)]
 pub(crate) struct Told;
 
@@ -184,7 +184,7 @@ impl<'b> Test<&'b SiteState> for Taking<'_> {
     }
 }
 
-/// What a row tells of is quarantined at the site that it goes to, once its message was seen there.
+/// What a row announces is quarantined at the site that it goes to, once its message was seen there.
 #[derive(Drop)]
 pub(crate) struct Taken;
 

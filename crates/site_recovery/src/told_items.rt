@@ -1,4 +1,4 @@
-//! What a site's messages tell another site.
+//! What a site's messages announce to another site.
 ghost use Rattle.std.specs.Prelude.{◌≡◌, ◌⊎◌, ◌↔◌, ℕ, List, IfOk, OnOk, IsTrue};
 ghost use Rattle.frame_core.specs.Numbers.{Recall};
 ghost use Rattle.site_core.specs.Quarantines.{held};
@@ -19,7 +19,7 @@ fn hold_row(alloc: Global, told: &mut Quarantine, row: &Row, dest: SiteNo) -> Re
     Ok(())
 }
 
-/// The items that unsignalled messages of the site tell the other site of, by recall.
+/// The items that unsignalled messages of the site announce to the other site, by recall.
 pub(crate) fn told_to(
     alloc: Global,
     state: &SiteState,

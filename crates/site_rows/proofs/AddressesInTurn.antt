@@ -1,4 +1,4 @@
--- Rows of addresses that are good are those of the sites whose addresses they tell.
+-- Rows of addresses that are good are those of the sites whose addresses they give.
 use Rattle.std.proofs.Common.{◌≡◌, ◌⊎◌, inl, inr, ℕ, zero, suc, ◌+◌, ◌<◌, ◌≤◌, ℤ, pos, Bool, true, false, Option, Some, None, List, [], ◌∷◌, ◌++◌, length, map, take, refl, sym, ap, subst, ◌∙◌, arith}
 use Rattle.std.specs.Prelude.{T, ◌&&◌, ◌-ℤ◌}
 use Rattle.std.specs.FinMap as finite

@@ -60,7 +60,7 @@ module _ {K X : Type 0} {R : K → K → Ordering} (o : IsTotalOrder R) where
         let all : without R k (entries m) ≡ entries m = removed_entries m k ∙ ap entries (remove_none o exact m k none) in
         subst (λ es. IsPermutation (es ++ (k, v) ∷ []) (entries (insert m k v))) all (inserted_entries m k v)
 
-    -- Rows that stand for the entries, and a test of a row that tells whether it is that of a key.
+    -- Rows that stand for the entries, and a test of a row that says whether it is that of a key.
     module _ {W : Type 0} (f : K × X → W) where
       pub new_row : (m : FinMap R X) (k : K) (v : X) → get m k ≡ None → IsPermutation (map f (entries m) ++ f (k, v) ∷ []) (map f (entries (insert m k v)))
       new_row m k v none =

@@ -13,7 +13,6 @@ pub mod GoodTables
 pub mod HeldInTurn
 pub mod InTurn
 pub mod KeyTests
-pub mod KeysInUtf8
 pub mod ListsInTurn
 pub mod MessageRows
 pub mod NamesInTurn

@@ -23,7 +23,7 @@ named_more sites after names n name texts s at same is so_far =
     ap (map f) is ∙ map-append f sites (new ∷ []) ∙ ap (λ xs. xs ++ name ∷ []) so_far ∙ ap (λ x. map f (take n names) ++ x ∷ []) (sym same)
     ∙ sym (map-append f (take n names) (s ∷ [])) ∙ ap (map f) (sym (taken_more names n s at))
 
--- the rows of sites tell of no more than their names
+-- the rows of sites say no more than their names
 pub rows_of_names : (n : ℕ) (xs ys : List Site) → map (λ (s : Site). s.name) xs ≡ map (λ (s : Site). s.name) ys → map site_row (enumerate_from n xs) ≡ map site_row (enumerate_from n ys)
 rows_of_names n [] [] e = refl
 rows_of_names n [] (y ∷ ys) e = cc

@@ -325,7 +325,7 @@ some_key =
 pub some_keys : All IsKey (uri_key some_text ∷ [])
 some_keys = All-cons IsKey (uri_key some_text) [] some_key (All-nil IsKey)
 
--- an input is wanting
+-- an input is missing
 no_inputs : (sites : List Site) (event : ℕ) (rows : List PartRow) (from second : ℕ) (id : Option (List ℕ)) (ins : List (List ℕ)) → IsListRead IsKey (λ t. t) event 3 1000 rows from second ins
     → id ≡ None → length ins ≡ 0 → IsWanting sites event (pos 2) id (part_rows event 3 ins) (slice_get rows second)
 no_inputs sites event rows from second id ins read no_id none (Note others) on behind good first past e = unlike 2 0 (λ is. omega arith) good.of_kind
@@ -352,7 +352,7 @@ make_without_input sites event rows from second id ins read plain no_id none =
       wanting = no_inputs sites event rows from second id ins read no_id none;
     }
 
--- an output is wanting
+-- an output is missing
 no_outputs : (sites : List Site) (event : ℕ) (rows : List PartRow) (from second end : ℕ) (id : Option (List ℕ)) (ins outs : List (List ℕ)) → IsMakeRead event rows from second end ins outs
     → id ≡ None → length outs ≡ 0 → IsWanting sites event (pos 2) id (body_rows sites event (Make id ins outs)) (slice_get rows end)
 no_outputs sites event rows from second end id ins outs read no_id none (Note others) on behind good first past e = unlike 2 0 (λ is. omega arith) good.of_kind

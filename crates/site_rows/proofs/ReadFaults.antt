@@ -64,7 +64,7 @@ pub sites_of_rows : (n : ℕ) (sites : List Site) → length (map site_of_row (m
 sites_of_rows n [] = refl
 sites_of_rows n (s ∷ sites) = ap suc (sites_of_rows (n + 1) sites)
 
--- and the lists of events tell of no more of them
+-- and the lists of events say no more of them
 module _ (sites others : List Site) (alike : (t : ℕ) → name_of sites t ≡ name_of others t) (size : length sites ≡ length others) where
   names_alike : (to : List ℕ) → map (name_of sites) to ≡ map (name_of others) to
   names_alike [] = refl

@@ -87,7 +87,7 @@ pub is_added : {K V : Type 0} (cmp : K → K → Ordering) (Is : K → V → Typ
 is_added cmp Is one before after k v is true h = record { key = k; value = v; is = is; last = h.0; ascending = h.1 }
 is_added cmp Is one before after k v is false h = λ l w other up. h (subst (λ e. T (is_sorted cmp (before ++ e ∷ []))) (one l k w v other is) up)
 
--- ---- what a table's map tells
+-- ---- what a table's map says
 module _ {R K V : Type 0} (Is : R → K → V → Type 0) where
   pub rows_matched : (row : K × V → R) → ((r : R) (k : K) (v : V) → Is r k v → r ≡ row (k, v)) → (rs : List R) (es : List (K × V)) → Match Is rs es → rs ≡ map row es
   rows_matched row same [] [] m = refl

@@ -1,4 +1,4 @@
--- The rows of events and of their lists tell the events.
+-- The rows of events and of their lists determine the events.
 use Rattle.std.proofs.Common.{◌≡◌, inl, inr, ℕ, ◌+◌, ◌*◌, ◌/◌, ◌%◌, ◌-◌, ◌<◌, ℤ, pos, suc, Bool, true, false, All, List, [], ◌∷◌, ◌++◌, length, map, refl, sym, ap, ◌∙◌, arith}
 use lib.IntN.{negsuc}
 use Rattle.std.specs.Prelude.{nat_lt, ◌==◌}
@@ -105,7 +105,7 @@ same_body sites tell event (Make m ins outs) (Make m2 ins2 outs2) hb hc kind id 
     let to = same_texts event 4 outs outs2 parts.1 in
     λ i. Make (id i) (from i) (to i)
 
--- the seconds and the nanoseconds tell the instant
+-- the seconds and the nanoseconds determine the instant
 same_quotient : (a b d : ℕ) → a / suc d ≡ b / suc d → a % suc d ≡ b % suc d → a ≡ b
 same_quotient a b d q r =
     let one = div-add-mod a (suc d) in

@@ -1,4 +1,4 @@
--- The rows of a quarantine tell what is held.
+-- The rows of a quarantine determine what is held.
 use Rattle.std.proofs.Common.{◌≡◌, inl, inr, ℕ, true, List, [], ◌∷◌, Option, Some, None, refl, sym, ap, subst, ◌∙◌}
 use mathlib.Core.Bool.{false≢true}
 use Rattle.std.specs.Prelude.{IsTrue, is_some}

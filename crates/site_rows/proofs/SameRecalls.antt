@@ -1,4 +1,4 @@
--- The rows of messages, parents and own recalls tell the maps that they stand for.
+-- The rows of messages, parents and own recalls determine the maps that they stand for.
 use Rattle.std.proofs.Common.{◌≡◌, ℕ, pos, arith, Bool, true, false, cond, map, refl, sym, ap}
 use Rattle.std.specs.FinMap.{FinMap, entries, same_entries_map}
 use Rattle.std.specs.declared.cmp.Ordering.{Ordering}

@@ -25,8 +25,7 @@ use Rattle.scholten_core.specs.declared.own_recalls.Own.{Own}
 use Rattle.site_core.proofs.Entries.{entry_found, entry_there}
 use Rattle.site_core.specs.Records.{Record}
 use Rattle.trace_core.proofs.Members.{contains-flat_map, contains-map}
-use Rattle.trace_core.proofs.SetMembers.{contains-from_map}
-use Rattle.trace_core.proofs.VisitSteps.{contains-from_flat_map}
+use Rattle.trace_core.proofs.SetMembers.{contains-from_map, contains-from_flat_map}
 use Rattle.site_rows.specs.RecordRows.{SECOND, address_row, addresses_of, body_rows, event_row, name_of, outbox_row, parent_row, part_row, part_rows, parts_of, quarantine_rows, recall_row, seen_row, site_row}
 use Rattle.site_rows.specs.TableLaws.{HasList, IsRowOfEvent, IsRowOfMember, RowsStandForTheRecord, SaysEnd, SaysKind}
 use Rattle.site_rows.specs.declared.address_rows.Address.{Address}

@@ -7,7 +7,7 @@ use Rattle.site_rows.specs.declared.rows.AddressRow.{AddressRow}
 abbrev pub row_at : ℕ → ℕ → List ℕ → AddressRow
 row_at site place text = record { text = text; site = pos site; place = pos place }
 
--- the texts are those that rows tell of a site, each at its place
+-- the texts are those that rows give for a site, each at its place
 pub record AreTextsOf (rows : List AddressRow) (site : ℕ) (texts : List (List ℕ)) : Type 0 where
   pub told : (place : ℕ) (text : List ℕ) → slice_get texts place ≡ Some text → Contains rows (row_at site place text)
   pub all : (row : AddressRow) (place : ℕ) → Contains rows row → row.site ≡ pos site → row.place ≡ pos place → place < length texts
@@ -18,6 +18,6 @@ pub record IsRowAt (rows : List AddressRow) (site place : ℕ) (row : AddressRow
   pub at_site : row.site ≡ pos site
   pub at_place : row.place ≡ pos place
 
--- each site has the addresses that rows tell of it
+-- each site has the addresses that rows give for it
 abbrev pub HaveAddresses : List AddressRow → List Site → Type 0
 HaveAddresses rows sites = (number : ℕ) (site : Site) → slice_get sites number ≡ Some site → AreTextsOf rows number site.addresses

@@ -38,7 +38,7 @@ pub record Begins {R : Type 0} (Stand : List R → Type 0) (rows : List R) : Typ
   pub stand : Stand (rows ++ more)
 
 -- the first bad row by its place, from 1: the rows before it, where there are some, begin a table that stands so, and
--- with it they begin none. Behind the last row it is a row that is wanting: the rows are no such table.
+-- with it they begin none. Behind the last row it is a row that is missing: the rows are no such table.
 pub record IsFirstBad {R : Type 0} (Stand : List R → Type 0) (rows : List R) (place : ℕ) : Type 0 where
   pub before : ℕ
   pub next : place ≡ before + 1

@@ -48,7 +48,7 @@ pub record HoldsItems (s : Record) : Type 0 where
   pub quarantine : HoldsKeys s.quarantine
   pub engagement : NamesItems s.engagement
 
--- no row of such a record is a bad one, and none is wanting
+-- no row of such a record is a bad one, and none is missing
 abbrev pub RowsOfRecordsAreGood : Type 0
 RowsOfRecordsAreGood = (s : Record) → IsKept s → HoldsItems s → (table : Table) (place : ℕ) → IsBadRow (rows_of s) table place → ⊥
 

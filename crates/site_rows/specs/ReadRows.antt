@@ -26,7 +26,7 @@ IsBadRow rows Seen place = IsFirstBad (IsSeenTable (length rows.site)) rows.seen
 IsBadRow rows Parent place = IsFirstBad (IsParentTable (length rows.site)) rows.parent place
 IsBadRow rows Recall place = IsFirstBad IsRecallTable rows.recall place
 
--- the table has no bad row, and none is wanting
+-- the table has no bad row, and none is missing
 abbrev pub HasNoBadRow : Rows → Table → Type 0
 HasNoBadRow rows table = (place : ℕ) → IsBadRow rows table place → ⊥
 

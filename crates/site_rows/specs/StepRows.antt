@@ -94,7 +94,7 @@ counts_of changes = record {
 abbrev pub no_rows : Counts
 no_rows = record { event = 0; quarantine = 0; outbox = 0; seen = 0; parent = 0; signalled = 0; left = 0; recall = 0; numbers = 0 }
 
--- what a step tells of itself: each fresh event, each item that came under a recall and each message that was numbered
+-- what a step says of itself: each fresh event, each item that came under a recall and each message that was numbered
 -- is a row; a message that is taken is seen, and becomes the parent where its signal is owed; a message that is signalled
 -- goes, and with the last one of a recall its parent goes, or the site's own recall ends
 abbrev pub counts_told : Effects → Counts

@@ -139,7 +139,7 @@ pub fn address_rows(alloc: Global, sites: &Sites) -> Result<Sequence<AddressRow>
     ensures { IfOk result (λ rows. rows ≡ map address_row (finite.entries (addresses_of sites.now))) }
 {
     let addresses = addresses_of(alloc, sites)?;
-    // The length tells the proof that the texts ascend.
+    // The length shows the proof that the texts ascend.
     let _length = addresses.len();
     Ok(Sequence::from_vec(listed(alloc, &addresses)?))
 }

@@ -22,13 +22,13 @@ use std::collections::{BTreeMap, BTreeSet};
 
 /// What a site keeps is a record whose rows can be read back: its events are within their limits, its texts are those of
 /// items, sites and plain destinations, and each is UTF-8. It is for proofs: it goes through all that the site keeps,
-/// tells nothing and changes nothing.
+/// says nothing and changes nothing.
 pub fn sites_keep_items(state: &SiteState)
     ensures kept { IsKept state.now }
     ensures items { HoldsItems state.now }
     ensures texts { HoldsTexts state.now }
 {
-    // Their readers tell the proof that the sites are in order and the record is sound.
+    // Their readers show the proof that the sites are in order and the record is sound.
     let sites = state.sites();
     let _known = (sites.len(), state.me());
     show_sites(sites);
@@ -97,7 +97,7 @@ fn show_events(state: &SiteState)
 fn show_event(state: &SiteState, place: usize)
     ensures { (e : _) → slice_get state.now.captured.events place ≡ Some e → IsEventOfTexts (length state.now.sites) e }
 {
-    // Its reader tells the proof that events ship to sites of the list.
+    // Its reader shows the proof that events ship to sites of the list.
     let _me = state.me();
     if let Some(event) = state.captured().event(place) {
         let id = event.id();

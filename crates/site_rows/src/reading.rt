@@ -56,7 +56,7 @@ impl From<AllocError> for StateFault {
 ///
 /// # Errors
 /// A bad row of the first table that has one, in the order of [`Table`]: the first bad one of that table. A row that is
-/// wanting is named by the place where it would stand. And want of memory, which alone comes where the rows are those of
+/// missing is named by the place where it would stand. And out of memory, which alone comes where the rows are those of
 /// a record.
 pub fn state_of(alloc: Global, rows: &Rows) -> Result<SiteState, StateFault>
     ensures read { IfOk result (λ state. rows_of state ≡ rows.now) }
@@ -111,7 +111,7 @@ fn sites_of(alloc: Global, rows: &Rows) -> Result<Sites, StateFault>
         Ok(names) => names,
         Err(fault) => return Err(in_table(Table::Site, fault)),
     };
-    // The count tells the proof that the names are those of sites.
+    // The count shows the proof that the names are those of sites.
     let _count = names.len();
     match addressed(alloc, &names, rows.address.as_slice()) {
         Ok(sites) => Ok(sites),

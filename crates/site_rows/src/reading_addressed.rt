@@ -21,7 +21,7 @@ const ADDRESSES: u64 = 16;
 /// The sites of these names, with the addresses of the rows.
 ///
 /// # Errors
-/// The first row that is no address's, and want of memory.
+/// The first row that is no address's, and out of memory.
 pub(crate) fn addressed(
     alloc: Global,
     names: &Sites,
@@ -37,7 +37,7 @@ pub(crate) fn addressed(
     Ok(sites)
 }
 
-/// The sites of these names, each with the addresses that rows tell of it.
+/// The sites of these names, each with the addresses that rows give for it.
 fn with_addresses(alloc: Global, names: &Sites, rows: &[AddressRow]) -> Result<Sites, AllocError>
     requires table { IsAddressTable (length names.now) rows.now }
     ensures names { IfOk result (λ sites. map (λ s. s.name) sites ≡ map (λ s. s.name) names.now) }
@@ -50,12 +50,12 @@ fn with_addresses(alloc: Global, names: &Sites, rows: &[AddressRow]) -> Result<S
             add_site(alloc, rows, number, name, &mut sites)?;
         }
     }
-    // The length tells the proof that these are sites.
+    // The length shows the proof that these are sites.
     let _length = sites.len();
     Ok(sites)
 }
 
-/// Adds a site of this number and name, with the addresses that rows tell of it.
+/// Adds a site of this number and name, with the addresses that rows give for it.
 fn add_site(
     alloc: Global,
     rows: &[AddressRow],
@@ -71,14 +71,14 @@ fn add_site(
     match sites.add(name, texts.as_slice()) {
         Ok(_) => Ok(()),
         Err(fault) => {
-            // Good rows tell of no site that can't be added.
+            // Good rows name no site that can't be added.
             prove!(matches!(&fault, SitesFault::NoMemory));
             Err(AllocError)
         }
     }
 }
 
-/// The addresses that rows tell of a site, by place.
+/// The addresses that rows give for a site, by place.
 fn texts_of<'a>(
     alloc: Global,
     rows: &'a [AddressRow],

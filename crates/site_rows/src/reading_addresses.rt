@@ -15,7 +15,7 @@ use std::cmp::Ordering;
 /// The most addresses of a site.
 const ADDRESSES: i64 = 16;
 
-/// Tests that the rows are those of addresses of so many sites. Takes no memory.
+/// Tests that the rows are those of addresses of so many sites. Does not allocate.
 ///
 /// # Errors
 /// The first row that is no address's: its text isn't plain or doesn't come after the text before it, its site isn't one

@@ -25,7 +25,7 @@ const NANOS: i128 = 1_000_000_000;
 ///
 /// # Errors
 /// The first row with which the rows are no longer those of the lists of these events, or the place behind the last row
-/// where one is wanting; and want of memory.
+/// where one is missing; and out of memory.
 pub(crate) fn captured_of(
     alloc: Global,
     me: SiteNo,
@@ -54,7 +54,7 @@ pub(crate) fn captured_of(
     Ok(captured)
 }
 
-/// The event of a row at a place, with the lists whose rows stand next; `None` where a member is wanting.
+/// The event of a row at a place, with the lists whose rows stand next; `None` where a member is missing.
 fn event_at(
     alloc: Global,
     sites: &Sites,
@@ -77,7 +77,7 @@ fn event_at(
     }
 }
 
-/// What the event of a row says of its items, from the rows that stand next; `None` where a member is wanting.
+/// What the event of a row says of its items, from the rows that stand next; `None` where a member is missing.
 fn body_at(
     alloc: Global,
     sites: &Sites,

@@ -37,7 +37,7 @@ pub(crate) trait EntryRow<K: Key, V: Drop> {
     /// The entry that a row stands for, where there are so many sites.
     ghost is: { ℕ → Self → K → V → Type 0 };
 
-    /// Adds the entry of the row at the end, where it stands for one that comes there, and answers whether it does.
+    /// Adds the entry of the row at the end, where it stands for one that comes there, and returns whether it does.
     fn add(
         &self,
         alloc: Global,
@@ -51,7 +51,7 @@ pub(crate) trait EntryRow<K: Key, V: Drop> {
 /// The map whose entries the rows are, by key.
 ///
 /// # Errors
-/// The first row that is no entry's, or that doesn't come after the row before it; and want of memory.
+/// The first row that is no entry's, or that doesn't come after the row before it; and out of memory.
 pub(crate) fn entries_of<K: Key, V: Drop, R: EntryRow<K, V>>(
     alloc: Global,
     sites: u64,
@@ -72,7 +72,7 @@ pub(crate) fn entries_of<K: Key, V: Drop, R: EntryRow<K, V>>(
     Ok(entries)
 }
 
-/// Adds an entry at the end, where its key comes after all others, and answers whether it does.
+/// Adds an entry at the end, where its key comes after all others, and returns whether it does.
 pub(crate) fn append<K: Key, V: Drop>(
     entries: &mut BTreeMap<K, V>,
     key: K,
@@ -91,7 +91,7 @@ pub(crate) fn append<K: Key, V: Drop>(
 fn is_after<K: Key, V>(entries: &BTreeMap<K, V>, key: K) -> bool
     ensures { (v : V) → IsTrue result ↔ T (is_sorted K.cmp (entries.now.entries ++ (key, v) ∷ [])) }
 {
-    // The length tells the proof that the keys ascend.
+    // The length shows the proof that the keys ascend.
     let _length = entries.len();
     match entries.last_key_value() {
         Some((last, _)) => last.cmp(&key) == Ordering::Less,

@@ -18,7 +18,7 @@ const KINDS: u64 = 3;
 /// The kind of an event that makes items.
 const MAKE: i64 = 2;
 
-/// Tests that the rows are those of events, the members of their lists aside. Takes no memory.
+/// Tests that the rows are those of events, the members of their lists aside. Does not allocate.
 ///
 /// # Errors
 /// The first row that is no event's: its number isn't the next one, from 1, its eventID or its transformationID isn't

@@ -22,7 +22,7 @@ use std::cmp::Ordering;
 /// The quarantine whose items the rows are, by recall and item.
 ///
 /// # Errors
-/// The first row that is no quarantined item's, or that doesn't come after the row before it; and want of memory.
+/// The first row that is no quarantined item's, or that doesn't come after the row before it; and out of memory.
 pub(crate) fn quarantine_of(
     alloc: Global,
     sites: u64,
@@ -41,12 +41,12 @@ pub(crate) fn quarantine_of(
             return Err(TableFault::BadRow(place as u64 + 1));
         }
     }
-    // The recalls tell the proof that none of them is without items.
+    // The recalls show the proof that none of them is without items.
     let _recalls = quarantine.by_recall().len();
     Ok(quarantine)
 }
 
-/// Adds the item of a row at the end, and answers whether it is one that comes there.
+/// Adds the item of a row at the end, and returns whether it is one that comes there.
 fn add_held(
     alloc: Global,
     sites: u64,
@@ -82,11 +82,11 @@ fn held_row(
     }
 }
 
-/// Quarantines an item that comes after all others, and answers whether it does.
+/// Quarantines an item that comes after all others, and returns whether it does.
 fn hold_last(quarantine: &mut Quarantine, recall: RecallId, item: Epc) -> Result<bool, AllocError>
     ensures { IfOk result (λ added. IsAppended held_cmp (all_held quarantine.old) (held_of recall item) (all_held quarantine.new) added) }
 {
-    // The recalls tell the proof that none of them is without items.
+    // The recalls show the proof that none of them is without items.
     let _recalls = quarantine.by_recall().len();
     if !comes_last(quarantine, recall, &item) {
         return Ok(false);

@@ -166,7 +166,7 @@ fn own_entry(alloc: Global, row: &RecallRow) -> Result<Option<(u64, Own)>, Alloc
 /// The messages that aren't signalled, by number.
 ///
 /// # Errors
-/// The first row that is no such entry's, or whose key doesn't come after the key before it; and want of memory.
+/// The first row that is no such entry's, or whose key doesn't come after the key before it; and out of memory.
 pub(crate) fn outbox_of(
     alloc: Global,
     sites: u64,
@@ -183,7 +183,7 @@ pub(crate) fn outbox_of(
 /// The messages that were handled, each with its recall.
 ///
 /// # Errors
-/// The first row that is no such entry's, or whose key doesn't come after the key before it; and want of memory.
+/// The first row that is no such entry's, or whose key doesn't come after the key before it; and out of memory.
 pub(crate) fn seen_of(
     alloc: Global,
     sites: u64,
@@ -200,7 +200,7 @@ pub(crate) fn seen_of(
 /// The parents, by recall.
 ///
 /// # Errors
-/// The first row that is no such entry's, or whose key doesn't come after the key before it; and want of memory.
+/// The first row that is no such entry's, or whose key doesn't come after the key before it; and out of memory.
 pub(crate) fn parents_of(
     alloc: Global,
     sites: u64,
@@ -217,7 +217,7 @@ pub(crate) fn parents_of(
 /// The own recalls, by number.
 ///
 /// # Errors
-/// The first row that is no such entry's, or whose key doesn't come after the key before it; and want of memory.
+/// The first row that is no such entry's, or whose key doesn't come after the key before it; and out of memory.
 pub(crate) fn own_of(alloc: Global, rows: &[RecallRow]) -> Result<BTreeMap<u64, Own>, TableFault>
     ensures rows { IfOk result (λ m. rows.now ≡ map recall_row (entries (as_map nat_cmp m))) }
     ensures among { IfOk result (λ m. (n : ℕ) (own : Own) → get (as_map nat_cmp m) n ≡ Some own → IsNumber n × IsKey own.root) }

@@ -17,7 +17,7 @@ const VERSION: i64 = 1;
 /// The most sites.
 const SITES: u64 = 16;
 
-/// What the row of the site itself tells.
+/// What the row of the site itself says.
 #[derive(Clone, Copy, Debug, PartialEq, Eq)]
 pub struct StoreNumbers {
     /// The site's own number.
@@ -28,10 +28,10 @@ pub struct StoreNumbers {
     pub next_recall: u64,
 }
 
-/// What the one row of the site itself tells.
+/// What the one row of the site itself says.
 ///
 /// # Errors
-/// The row, where it is bad or wanting, and a second row.
+/// The row, where it is bad or missing, and a second row.
 pub(crate) fn store_of(sites: &[SiteRow], rows: &[StoreRow]) -> Result<StoreNumbers, TableFault>
     ensures read { IfOk result (λ numbers. IsStore sites.now rows.now numbers) }
     ensures bad { IfErr result (λ fault. IsFaultOf (IsStoreTable sites.now) rows.now fault) }
@@ -48,7 +48,7 @@ pub(crate) fn store_of(sites: &[SiteRow], rows: &[StoreRow]) -> Result<StoreNumb
     Ok(numbers)
 }
 
-/// What a row of the site itself tells.
+/// What a row of the site itself says.
 fn store_numbers(sites: &[SiteRow], row: &StoreRow) -> Option<StoreNumbers>
     ensures { Tells result (IsStore sites.now (row.now ∷ [])) }
 {
@@ -79,14 +79,14 @@ fn is_listed(sites: &[SiteRow], number: i64) -> bool
 ///
 /// # Errors
 /// The first row whose number isn't the next one, from 0 to 15, or whose name is no site's name or an earlier
-/// site's; and want of memory.
+/// site's; and out of memory.
 pub(crate) fn names_of(alloc: Global, rows: &[SiteRow]) -> Result<Sites, TableFault>
     ensures read { IfOk result (λ names. rows.now ≡ map site_row (enumerate_from 0 names)) }
     ensures bad { IfErr result (λ fault. IsFaultOf IsSiteTable rows.now fault) }
 {
     let mut names = Sites::new(alloc);
     for (place, row) in rows.iter().enumerate() {
-        // Their length tells the proof that the names are those of sites.
+        // Their length shows the proof that the names are those of sites.
         let _count = names.len();
         if !add_name(&mut names, row)? {
             return Err(TableFault::BadRow(place as u64 + 1));
@@ -95,7 +95,7 @@ pub(crate) fn names_of(alloc: Global, rows: &[SiteRow]) -> Result<Sites, TableFa
     Ok(names)
 }
 
-/// Adds the site of a row, and answers whether it is one that comes next.
+/// Adds the site of a row, and returns whether it is one that comes next.
 fn add_name(names: &mut Sites, row: &SiteRow) -> Result<bool, AllocError>
     ensures { IfOk result (λ added. IsNamed names.old row.now names.new added) }
 {

@@ -51,7 +51,7 @@ pub fn changes_of(
     }
 }
 
-/// No row is changed. Takes no memory.
+/// No row is changed. Does not allocate.
 fn no_changes(alloc: Global) -> RowChanges
     ensures { result ≡ no_changes }
 {

@@ -1,3 +1,4 @@
+//! A text of a row.
 ghost use Rattle.std.specs.Prelude.{◌≡◌, IfOk, Some, string_bytes, refl, nat_eq};
 ghost use Rattle.std.specs.Cmp as Cmp;
 ghost use Rattle.std.specs.Cmp.Lexicographic.{slice_cmp, pointwise, nat_list_cmp_total, nat_list_eq_equiv, texts_ties, texts_po};
@@ -22,7 +23,7 @@ impl Model for Text {
 }
 
 impl Text {
-    /// The text. Takes no memory.
+    /// The text. Does not allocate.
     pub fn from_string(text: String) -> Text
         ensures { result ≡ string_bytes text }
     {

@@ -56,7 +56,7 @@ all_keyed (r ∷ rows) all = rw (all.0, all_keyed rows all.1) refl
 holds_listed : (table : Table) (rows tree : List Row) → IsShaped shape.Table tree → IsListed table tree rows → HasRows table rows tree
 holds_listed table rows tree shaped listed = record { keyed = all_keyed tree shaped.1; rising = shaped.0; same = listed.same }
 
--- what the readers answer is what is stored
+-- what the readers return is what is stored
 pub stored_as_read : (image : Image) (s : State) → Opens s → IsLive s → AreFoundIn image s.committed.trees → Settles s → s.now.schema ≡ site_schema
     → (rows : stored.Contents) → reads.AreListed rows s.now.trees → stored.IsStored rows s
 stored_as_read image s opens live found settles has rows listed =

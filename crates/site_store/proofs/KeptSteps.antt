@@ -57,7 +57,7 @@ applies_open r input answer old new shown h =
     let at = shown_open old r shown in
     steps r input answer old new at.0 at.1 (subst (λ b. AppliesKept b old input answer new) at.0 h)
 
--- memory is wanted of none but what a look doesn't answer
+-- memory is needed for none but what a look doesn't answer
 pub applies_memory : (r : Record) (input : SiteInput) (old new : Kept) → shown_in old ≡ Some r → AppliesKept old.is_open old input (Err NoMemory) new → CopiesRecord r input
 applies_memory r input old new shown h =
     let at = shown_open old r shown in
@@ -171,7 +171,7 @@ stops_count input keep done old new h = at old.is_open keep h
         let two = after_count it.0 it.1 new done it.3 in
         omega (one, two, arith)
 
--- ---- what hinders an opening
+-- ---- what prevents an opening
 
 -- a failure of the device is counted
 pub fault_rises : (fault : KeepFault) (n : ℕ) → fault ≡ Device → Rises n (failures_after fault n)

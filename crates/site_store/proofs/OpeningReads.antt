@@ -1,4 +1,4 @@
--- What a reading of the tables tells of an opening.
+-- What a reading of the tables says of an opening.
 use Rattle.std.specs.Prelude.{IfOk, IfErr, slice_get, nat_eq, ◌≢◌}
 use Rattle.std.specs.Cmp.Lexicographic.{pointwise}
 use Rattle.std.proofs.lemmas.Option.{same_Some}

@@ -146,7 +146,7 @@ module _ {D : Type 0} {g : disk.Ghosts D} where
       → (HasCleanDisk (file_state after) → IsTrue old.is_open → Keeps old.pair (file_state before) → KeepsStopped new done (file_state after)) → (HasCleanDisk (file_state after) → HasCleanDisk (file_state before)) → StopsAt link old input keep done (Connected after) new
   stopped_in link before after input keep done old new is steps calls disk clean = rw is (steps, calls, λ was kept now. disk now was (kept (clean now)))
 
-  -- ---- what an opening answers
+  -- ---- what an opening returns
 
   pub opened_of : (old : StoredSite D g) (result : Result (StoredSite D g) (Unopened (StoredSite D g))) → IfOk result (OpensIn old.kept) → IfOk result (λ site. (r : Record) × MayBy old r × (shown_by site ≡ Some r))
   opened_of old (Ok site) h = (h.1, h.2, h.3)

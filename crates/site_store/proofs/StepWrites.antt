@@ -29,7 +29,7 @@ crash_leaves changes old new s t leads survives clean it db may =
 kept_leaves : (old new : Record) (t : State) → Keeps old t → LeavesOneOf old new t
 kept_leaves old new t it db may = inl (it.crash db may)
 
--- an error after which the old rows stand is want of memory, or one after which a crash leaves them
+-- an error after which the old rows stand is out of memory, or one after which a crash leaves them
 pub keeps_cause : (error : Error) (old new : Record) (t : State) → Keeps old t → KeepsWhereFailed old new t (cause_of error)
 keeps_cause error old new t it = by (is_of_memory error)
   where
@@ -50,7 +50,7 @@ rows_are changes =
     ap (λ k. c.event + length changes.part + (c.quarantine + c.outbox + c.seen + c.parent) + (c.signalled + c.left + c.recall) + k) (numbers_are changes.numbers)
     ∙ regroup c.event (length changes.part) (c.quarantine + c.outbox + c.seen + c.parent) (c.signalled + c.left + c.recall) c.numbers
 
--- the rows that were written are those that the step tells of, and the members of events
+-- the rows that were written are those that the step reports, and the members of events
 pub is_counted : (changes : RowChanges) (old new : Record) (told : Effects) (written : ℕ) → LeadsTo changes (rows_of old) (rows_of new) → counts_of changes ≡ counts_told told
     → written ≡ min 18_446_744_073_709_551_615 (0 + rows_written changes) → IsCounted old told new written
 is_counted changes old new told written leads counts is = (

@@ -35,7 +35,7 @@ is_of_memory other = false
 abbrev pub closing_fault : Error → KeepFault
 closing_fault error = if is_of_device error then Device else Store
 
--- a step was answered that memory ran out
+-- a step returned that memory ran out
 abbrev pub lacks_memory : Result Effects KeepFault → Bool
 lacks_memory (Err NoMemory) = true
 lacks_memory other = false

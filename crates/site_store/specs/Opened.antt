@@ -124,8 +124,8 @@ module _ {D : Type 0} {g : disk.Ghosts D} where
     pub finds : IsCleanAt (link_of site) → (r : Record) → ListsSite r name (file_state conn) → shown ≡ r
     pub kept : IsFound conn → IsKeptBy site shown
 
-  -- the connection was given up after a reading, which wrote nothing, and the tables tell why. Where they list the rows of
-  -- such a site, nothing but the machine hinders its opening.
+  -- the connection was given up after a reading, which wrote nothing, and the tables say why. Where they list the rows of
+  -- such a site, nothing but the machine prevents its opening.
   pub record IsNotOpened (conn : Held (FileStore D g)) (name : List ℕ) (fault : OpenFault) : Type 0 where
     pub last : Held (FileStore D g)
     pub crash : Survives (file_state conn) (file_state last) (λ _. ⊥)

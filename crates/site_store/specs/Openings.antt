@@ -1,4 +1,4 @@
--- What hinders an opening, and what an opening finds.
+-- What prevents an opening, and what an opening finds.
 use Rattle.std.specs.Prelude.{◌≡◌, ◌⊎◌, if◌then◌else◌, false, map}
 use Rattle.std.specs.List.{AllByRecursion}
 use Rattle.sqlite.specs.State.{State, IsUnchanged}

@@ -50,11 +50,11 @@ FailsToWrite old new (Failed error) = HasReason old new error
 abbrev pub cause_of : Error → Unwritten
 cause_of error = if is_of_memory error then NoMemory else Failed error
 
--- all rows that a step tells of
+-- all rows that a step reports
 abbrev pub total : Counts → ℕ
 total c = c.event + (c.quarantine + c.outbox + c.seen + c.parent) + (c.signalled + c.left + c.recall) + c.numbers
 
--- a step with these effects writes so many rows: those that it tells of, and the members of the lists of events
+-- a step with these effects writes so many rows: those that it reports, and the members of the lists of events
 pub record ChangesRows (old : Record) (told : Effects) (new : Record) (rows : ℕ) : Type 0 where
   pub parts : ℕ
   pub more : length (rows_of new).part ≡ length (rows_of old).part + parts

@@ -43,7 +43,7 @@ pub fn one_more(failures: u64) -> u64
     }
 }
 
-/// Whether a step was answered that memory ran out.
+/// Whether a step returned that memory ran out.
 pub fn lacks_memory(answer: &Result<Effects, KeepFault>) -> bool
     ensures { result ≡ lacks_memory answer.now }
 {

@@ -42,7 +42,7 @@ fn has_rows(alloc: Global, state: &SiteState, rows: &Rows) -> Result<bool, Alloc
 }
 
 impl Kept {
-    /// An open record that its tables hold already. Takes no memory.
+    /// An open record that its tables hold already. Does not allocate.
     pub fn new(alloc: Global, state: SiteState) -> Kept
         ensures pair { result.pair ≡ state }
         ensures is_open { result.is_open ≡ true }
@@ -58,7 +58,7 @@ impl Kept {
         }
     }
 
-    /// What hindered an opening, counted where the device failed.
+    /// What prevented an opening, counted where the device failed.
     pub fn hindered(&mut self, error: &Error) -> KeepFault
         ensures is { result ≡ opening_fault error.now }
         ensures kind { HindersOpening result }

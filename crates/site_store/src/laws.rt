@@ -1,5 +1,5 @@
 //! Laws of a site's tables, for proofs of the crates above. A law of all records is a function with an empty body whose
-//! contract is the law; one of a site, whose types tell it, goes through the site.
+//! contract is the law; one of a site, whose types say it, goes through the site.
 
 ghost use Rattle.site_store.specs.Laws.{RowsOfARecordRise};
 ghost use Rattle.site_store.specs.Opened.{MayBeFound};

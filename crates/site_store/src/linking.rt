@@ -11,7 +11,7 @@ use std::alloc::Global;
 /// Opens the files. Rows that its readers list are stored: a crash leaves these and no others.
 ///
 /// # Errors
-/// The files, with what hindered their opening. After a sync that failed they may not be opened.
+/// The files, with what prevented their opening. After a sync that failed they may not be opened.
 fn open_files_again<D: Disk + Drop>(
     alloc: Global,
     files: Files<D>,
@@ -36,7 +36,7 @@ fn open_files_again<D: Disk + Drop>(
 /// leaves these and no others.
 ///
 /// # Errors
-/// The files, with what hindered their closing or their opening.
+/// The files, with what prevented their closing or their opening.
 pub fn connect<D: Disk + Drop>(
     alloc: Global,
     link: Link<D>,

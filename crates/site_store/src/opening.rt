@@ -139,7 +139,7 @@ fn read_site<S: Alter>(
 /// As [`OpenFault`] says, and the connection is given up. Asked are, in this order: whether the tables are a site's and
 /// `store` has a row, whether its version is 1, whether `site` has a row of its number, whether that has the name, and
 /// whether the rows stand in a record's, table by table, a table's rows by key. A row with a text that isn't UTF-8 is
-/// told before any of these but the first, and an error of the database as soon as a call answers it.
+/// reported before any of these but the first, and an error of the database as soon as a call returns it.
 pub fn open_site<D: Disk + Drop>(
     alloc: Global,
     conn: Connection<FileStore<D>>,

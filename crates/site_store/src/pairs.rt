@@ -42,7 +42,7 @@ impl Model for Pair {
 }
 
 impl Pair {
-    /// A record alone. Takes no memory.
+    /// A record alone. Does not allocate.
     pub fn new(alloc: Global, state: SiteState) -> Pair
         ensures { result ≡ state }
     {
@@ -115,7 +115,7 @@ impl Pair {
         self.other = Other::Equal(equal);
     }
 
-    /// The record after an input stands in place of this one, which stays beside it. Takes no memory.
+    /// The record after an input stands in place of this one, which stays beside it. Does not allocate.
     pub fn advance(&mut self, next: SiteState, input: SiteInput)
         requires { (told : Told) × Does self.old input told next }
         ensures { self.new ≡ next }

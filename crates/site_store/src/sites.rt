@@ -55,7 +55,7 @@ impl<D: Disk + Drop> Drop for StoredSite<D> {
 }
 
 impl<D: Disk + Drop> StoredSite<D> {
-    /// An open site whose rows the tables hold already. Takes no memory.
+    /// An open site whose rows the tables hold already. Does not allocate.
     pub(crate) fn adopt(
         alloc: Global,
         conn: Connection<FileStore<D>>,
@@ -80,7 +80,7 @@ impl<D: Disk + Drop> StoredSite<D> {
     /// # Errors
     /// `NoMemory`, `Device` or `Store`, as the store of the database failed, for a cause that shows, or it refused a
     /// statement; the last also where the database isn't empty or in a transaction, which then is as
-    /// it was. The connection is handed back: while the tables are made, and after an error, a crash leaves what it would
+    /// it was. The connection is given back: while the tables are made, and after an error, a crash leaves what it would
     /// have left before, or all tables with the rows of the record and no others.
     pub fn create(
         alloc: Global,

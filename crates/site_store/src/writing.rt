@@ -21,7 +21,7 @@ pub enum Unwritten {
     Failed(Error),
 }
 
-/// Writes the rows that a step changes, in one transaction, and answers how many these are, at most 2^64 - 1.
+/// Writes the rows that a step changes, in one transaction, and returns how many these are, at most 2^64 - 1.
 ///
 /// # Errors
 /// As [`Unwritten`] says; the database's store failed for a cause that shows, or it refused a statement. A crash leaves the rows of the record before the step or of the one after it, and no others.

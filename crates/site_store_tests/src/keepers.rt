@@ -67,7 +67,7 @@ pub fn keeps_its_rows(alloc: Global, site: StoredSite<Memory>, name: &str) -> Re
     }
 }
 
-/// Whether the name of the site is told where that of another is asked for.
+/// Whether the name of the site is reported where that of another is asked for.
 fn tells_other_site(alloc: Global) -> Result<bool, Fail> {
     match opened(alloc, stored(alloc, false)?, "B") {
         Some(Err(OpenFault::OtherSite(found))) => Ok(found.as_str() == "A"),

@@ -88,7 +88,7 @@ fn both<T: Drop>(alloc: Global, first: T, second: T) -> Result<Vec<T>, Fail> {
     Ok(both)
 }
 
-/// What a world of these keepers answers to turns, and the keepers after them.
+/// What a world of these keepers returns to turns, and the keepers after them.
 fn run<K: SiteKeeper>(
     alloc: Global,
     keepers: Vec<K>,
@@ -104,7 +104,7 @@ fn run<K: SiteKeeper>(
     }
 }
 
-/// What sites in memory answer.
+/// What sites in memory return.
 fn answers_in_memory(alloc: Global, turns: &[Turn]) -> Result<Vec<Answer>, Fail> {
     let a = MemoryKeeper::new(fresh(alloc, false)?);
     let b = MemoryKeeper::new(fresh(alloc, true)?);
@@ -119,7 +119,7 @@ fn stored_sites(alloc: Global) -> Result<Vec<StoredSite<Memory>>, Fail> {
     both(alloc, a, b)
 }
 
-/// The sites, where these are the answers that were wanted.
+/// The sites, where these are the answers that were expected.
 fn only_if(
     sites: Vec<StoredSite<Memory>>,
     answers: &[Answer],

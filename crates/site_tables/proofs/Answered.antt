@@ -1,4 +1,4 @@
--- What a query over a whole table answers.
+-- What a query over a whole table returns.
 use Rattle.std.proofs.Common.{◌++◌, Bool, ◌≡◌, ℕ, ◌+◌, ◌<◌, length, get_or, arith, ◌^◌, ◌-◌, List, [], ◌∷◌, map, true, false, None, slice_get, unwrap_or, nat_le, if◌then◌else◌, refl, sym, ap, ap₂, subst, subst₂, suc, ◌∙◌}
 use Rattle.std.specs.List.{flat_map, filter, list_all}
 use Rattle.sqlite_sql.specs.Term.{holds}

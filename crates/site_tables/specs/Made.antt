@@ -45,7 +45,7 @@ abbrev pub AreEmpty : List Table → Trees → Type 0
 AreEmpty [] trees = Unit {0}
 AreEmpty (t ∷ tables) trees = (trees t.tree ≡ []) × AreEmpty tables trees
 
--- the tables of one schema become those of another, without rows, and the transaction goes on
+-- the tables of one schema become those of another, without rows, and the transaction continues
 pub record DoesMake (from to : Schema) (old new : State) : Type 0 where
   pub goes_on : GoesOn old new
   pub schema : old.now.schema ≡ from → new.now.schema ≡ to

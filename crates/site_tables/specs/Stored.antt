@@ -67,7 +67,7 @@ pub record IsStopped (before after : Contents) (s : State) : Type 0 where
 
 -- ---- inside a transaction
 
--- the rows are changed so, and the transaction goes on
+-- the rows are changed so, and the transaction continues
 pub record DoesAll (change : Contents → Contents) (old new : State) : Type 0 where
   pub goes_on : GoesOn old new
   pub schema : old.now.schema ≡ site_schema → new.now.schema ≡ site_schema

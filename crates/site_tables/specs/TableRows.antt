@@ -44,7 +44,7 @@ pub record Changes (table : Table) (change : List Row → List Row) (old new : D
 abbrev pub adds : List Row → List Row → List Row
 adds more rows = rows ++ more
 
--- the transaction goes on, or was not begun
+-- the transaction continues, or was not begun
 pub record GoesOn (old new : State) : Type 0 where
   pub is_open : new.is_open ≡ old.is_open
   pub committed : new.committed ≡ old.committed

@@ -1,3 +1,4 @@
+//! The count of rows written.
 ghost use Rattle.std.specs.Prelude.{◌≡◌, ◌+◌, min};
 
 /// Counts one row more. At 2^64 - 1 the count stays.

@@ -1,3 +1,4 @@
+//! Why the rows of a site couldn't be read.
 use site_rows::Table;
 use sqlite::Error;
 use std::alloc::AllocError;

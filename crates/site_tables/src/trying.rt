@@ -1,4 +1,4 @@
-//! A step that tells, where it fails, whether the connection is open still.
+//! A step that says, where it fails, whether the connection is open still.
 ghost use Rattle.std.specs.Prelude.{◌≡◌, ◌+◌, false, min, IsTrue, IfErr, OnOk};
 ghost use Rattle.sqlite.specs.Tree.{Trees};
 ghost use Rattle.sqlite.specs.State.{HasCleanDisk, IsUnchanged, Survives};

@@ -1,4 +1,4 @@
--- What is told of a keeper's answer.
+-- What is reported of a keeper's answer.
 use Rattle.std.proofs.Common.{◌≡◌, Bool, true, false, not, true≢false, Option, Some, None, is_some, Ok, Err, refl, sym, ap, ◌∙◌, subst}
 use Rattle.std.specs.Prelude.{IsSome}
 use Rattle.keeper_core.specs.Keeping.{Applies}

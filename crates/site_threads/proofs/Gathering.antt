@@ -1,4 +1,4 @@
--- The records that the sites may stand in fit together.
+-- The records that the sites may stand in are consistent.
 use Rattle.std.proofs.Common.{◌≡◌, ◌⊎◌, ⊎_elim, inl, inr, ℕ, zero, suc, ◌+◌, ◌<◌, ◌≤◌, Option, Some, None, List, [], ◌∷◌, ◌++◌, map, flat_map, drop, length, get_or, set, All, Contains, refl, sym, ap, ◌∙◌, subst, append_assoc, zero-add, arith}
 use Rattle.std.proofs.lemmas.List.Elements.{All-head, All-tail}
 use Rattle.std.specs.List.{AllZip, range_with_len}
@@ -98,7 +98,7 @@ holds_from (suc k) a (suc n) (x ∷ xs) is h =
 holds_all : (count : ℕ) (ls : List Log) → map (λ (x : Log). x.site) ls ≡ range_with_len 0 count → HoldsAll count ls
 holds_all count ls is site h = subst (λ k. Holds k ls) (zero-add site) (holds_from site 0 count ls is h)
 
--- what is quarantined under ended recalls, where the sites fit together
+-- what is quarantined under ended recalls, where the sites are consistent
 same_records : (rs : List Record) → world.records (record { sites = map (λ r. Up r) rs; sent = [] }) ≡ rs
 same_records [] = refl
 same_records (r ∷ rs) = ap (λ l. r ∷ l) (same_records rs)

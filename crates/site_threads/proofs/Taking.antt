@@ -1,4 +1,4 @@
--- A step of an open site, from what the keeper answered to the list of steps.
+-- A step of an open site, from what the keeper returned to the list of steps.
 use Rattle.std.proofs.Common.{◌≡◌, ◌≢◌, ◌⊎◌, inl, inr, ℕ, ◌+◌, ◌^◌, ◌<◌, Bool, true, false, Option, Some, None, is_none, true≢false, Result, Ok, Err, List, [], ◌∷◌, ◌++◌, length, refl, sym, ap, ◌∙◌, subst}
 use Rattle.std.specs.Prelude.{IsSome, IfSome, MatchOption}
 use Rattle.keeper_core.specs.declared.faults.KeepFault.{KeepFault}

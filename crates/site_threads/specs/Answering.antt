@@ -1,4 +1,4 @@
--- What a site's keeper was asked, and what is told of its answer.
+-- What a site's keeper was asked, and what is reported of its answer.
 use Rattle.std.specs.Prelude.{◌≡◌, ◌⊎◌, Option, Some, Result, Ok, IsSome}
 use Rattle.keeper_core.specs.Keeping.{Applies}
 use Rattle.keeper_core.specs.declared.faults.KeepFault.{KeepFault}
@@ -24,7 +24,7 @@ abbrev pub Opened : {K : Type 0} → (K → Option Record) → (K → Result K (
 Opened shown reopens old new = (IsSome (shown_in shown old) × (new ≡ old)) ⊎ OpenedAgain reopens old new
 
 module _ {K : Type 0} (shown : K → Option Record) (may : K → Record → Type 0) (applies : K → SiteInput → Result Effects KeepFault → K → Type 0) where
-  -- the keeper was asked for the step, answered as its kind promises, and the reply is what is told of that answer
+  -- the keeper was asked for the step, answered as its kind promises, and the reply is what is reported of that answer
   pub record Told (old : Option K) (input : SiteInput) (reply : Reply) (new : Option K) : Type 0 where
     pub was : K
     pub left : K

@@ -20,7 +20,7 @@ abbrev pub Handed : List Job → List Hand → Type 0
 Handed items views = (writer : ℕ) × (reader : ℕ) × (put : List Job) × (taken : List Job) × (put ≡ taken ++ items)
     × ((port : ℕ) (v : Hand) → get_elem? views port ≡ some v → IsHandOf writer reader put taken port v)
 
--- the job that a fault hands back
+-- the job that a fault gives back
 abbrev pub fault_job : DeskFault → Job
 fault_job (Spent job) = job
 fault_job (Gone job) = job

@@ -65,7 +65,7 @@ pub record HasEnd (d : DeskOut) (l : SiteList) : Type 0 where
   pub desk : receives_on l.out.from ≡ receives_on d.from
   pub limit : l.out.limit ≡ d.limit
 
--- The keepers that are handed back, and why the run has no answer.
+-- The keepers that are given back, and why the run has no answer.
 
 abbrev pub keepers_of : {K : Type 0} → Result (Gathered K) (GatherFault K) → List K
 keepers_of (Ok g) = g.keepers.items

@@ -1,4 +1,4 @@
--- What a site is asked by a job, what is answered, and what is said of a site's list of steps.
+-- What a site is asked by a job, what is returned, and what is said of a site's list of steps.
 use Rattle.std.specs.Prelude.{◌≡◌, ◌⊎◌, ℕ, Bool, true, false, IsTrue, IsFalse, if◌then◌else◌, not, List, [], ◌∷◌, All, map, flat_map, length, Contains, Option, Some, None, Result, Ok, Err}
 use Rattle.std.specs.List.{range_with_len}
 use Rattle.keeper_core.specs.declared.faults.KeepFault.{KeepFault}
@@ -29,7 +29,7 @@ abbrev pub is_delivery : SiteInput → Bool
 is_delivery (inputs.Deliver frame) = true
 is_delivery other = false
 
--- What is answered.
+-- What is returned.
 
 -- the numbers of the reasons for which a step is refused
 abbrev pub refusal_number : Refusal → ℕ
@@ -59,7 +59,7 @@ abbrev pub is_stop : Reply → Bool
 is_stop Stopped = true
 is_stop other = false
 
--- What a reply tells of the record after the step.
+-- What a reply says of the record after the step.
 
 -- it is the one after the input, or the old one where the input is refused
 abbrev pub AfterFrame : Record → SiteInput → Record → Type 0
@@ -72,7 +72,7 @@ Keeps Frame old input new = IsTrue (is_delivery input) × AfterFrame old input n
 Keeps (Refused number) old input new = IsFalse (is_delivery input) × ((why : Refusal) × IsRefusedFor old input why × (number ≡ refusal_number why)) × (new ≡ old)
 Keeps Stopped old input new = (new ≡ old) ⊎ IsAfter old input new
 
--- from the record old these steps lead to new, one after another, each as its reply tells
+-- from the record old these steps lead to new, one after another, each as its reply says
 abbrev pub Kept : Record → List Entry → Record → Type 0
 Kept old [] new = new ≡ old
 Kept old (x ∷ xs) new = (r : Record) × Keeps x.reply old x.input r × Kept r xs new
@@ -106,11 +106,11 @@ abbrev pub option_items : {X : Type 0} → Option X → List X
 option_items None = []
 option_items (Some x) = x ∷ []
 
--- the step that a receipt tells of
+-- the step that a receipt reports
 abbrev pub entry_of : Receipt → Entry
 entry_of x = record { number = x.number; input = input_of x.job; reply = x.reply }
 
--- the site is open after the step that a receipt tells of, and where there was no job
+-- the site is open after the step that a receipt reports, and where there was no job
 abbrev pub open_after : Option Receipt → Bool
 open_after None = true
 open_after (Some x) = not (is_stop x.reply)

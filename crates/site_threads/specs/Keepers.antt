@@ -1,4 +1,4 @@
--- A keeper that may have been handed out for a moment.
+-- A keeper that may have been taken out for a moment.
 use Rattle.std.specs.Prelude.{Option, Some, None}
 use Rattle.site_core.specs.Records.{Record}
 

@@ -74,7 +74,7 @@ pub record PostsFrames (me low high : ℕ) (shown : Option Record) (old new : Li
   pub each : All (IsSentBy me shown) gave
   pub many : length gave ≡ count
 
--- The same of a running site, and of its turn.
+-- The frames of a running site, and of its turn.
 module _ {K : Type 0} (shown : K → Option Record) where
   abbrev pub TakesOfEach : ℕ → ℕ → Site K → Site K → ℕ → Type 0
   TakesOfEach low high old new count =

@@ -31,7 +31,7 @@ pub record SameRun {K G : Type 0} (old new : SiteRun K G) : Type 0 where
   pub desk : receives_on new.out.from ≡ receives_on old.out.from
   pub limit : new.out.limit ≡ old.out.limit
 
--- the site goes on after the turn
+-- the site continues after the turn
 abbrev pub goes_on : Turned → Bool
 goes_on Changed = true
 goes_on Idle = true

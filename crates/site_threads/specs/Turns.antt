@@ -26,7 +26,7 @@ module _ {K : Type 0} (shown : K → Option Record) (reopens : K → Result K (U
     pub new_is : new ≡ Some left.keeper
     pub stays : shown_in shown new ≡ None
 
-  -- a lost site was refused that by something else than want of memory
+  -- a lost site was refused that by something else than out of memory
   pub record IsLost (fault : KeepFault) (old new : Option K) : Type 0 where
     pub hinders : HindersOpening fault
     pub other : fault ≢ faults.NoMemory

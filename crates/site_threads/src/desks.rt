@@ -107,7 +107,7 @@ pub enum DeskFault {
     /// As many jobs were put as the desk takes in its life.
     #[error("the desk takes no more jobs")]
     Spent(Job),
-    /// The channel told that the other end was dropped.
+    /// The channel reported that the other end was dropped.
     #[error("the site's end of the desk is gone")]
     Gone(Job),
 }
@@ -136,8 +136,8 @@ pub struct DeskOut {
     pub count: u64,
     /// How many there can be.
     pub limit: u64,
-    /// Whether this end counts the desk as gone: no job was ever to come, or the channel told that the other end was
-    /// dropped, and that no job is left.
+    /// Whether this end counts the desk as gone: no job was ever to come, or the channel reported that the other end
+    /// was dropped, and that no job is left.
     pub gone: bool,
 }
 
@@ -201,7 +201,7 @@ impl Desk {
         }
     }
 
-    /// The next receipt, waited for. `None` where the channel told that the other end was dropped.
+    /// The next receipt, waited for. `None` where the channel reported that the other end was dropped.
     pub fn receipt<R: Wait>(&mut self, rt: &R) -> Option<Receipt>
         requires { IsDesk self.old }
         ensures desk { IsDesk self.new × (self.new.limit ≡ self.old.limit) × (sends_on self.new.to ≡ sends_on self.old.to) × (puts self.new ≡ puts self.old) }

@@ -31,7 +31,7 @@ pub fn follow(
     now
 }
 
-/// The same for the record that is shown, if one is.
+/// Marks the step that led to the record that is shown, if one is.
 pub fn follow_shown<K: SiteKeeper>(
     keeper: &Option<K>,
     wire: &Wire,

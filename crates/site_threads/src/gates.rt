@@ -3,7 +3,7 @@ ghost use Rattle.std.specs.Prelude.{◌≡◌, ℕ};
 
 use event_json::SiteNo;
 
-/// What a gate answers.
+/// What a gate returns.
 #[derive(Clone, Copy)]
 pub enum Pass {
     /// The turn may begin.
@@ -24,7 +24,7 @@ pub trait Gate: Drop {
         ensures { result ≡ Pass.GiveUp → gives_up self.old site turn };
 
     /// Told, before it is asked, how many messages of the site wait for a signal; not while its keeper is closed. A gate
-    /// may tell a user how a run goes.
+    /// may show a user how a run goes.
     fn tell_open(&mut self, _site: SiteNo, _open: usize) {}
 }
 

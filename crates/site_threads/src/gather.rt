@@ -121,7 +121,7 @@ fn part<K: SiteKeeper, G: Gate>(
     )
 }
 
-/// Ends a run: whichever records the sites stand in, they fit together.
+/// Ends a run: whichever records the sites stand in, they are consistent.
 pub fn close_all<K: SiteKeeper, G: Gate>(
     wire: Wire,
     root: Seat,

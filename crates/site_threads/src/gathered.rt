@@ -1,4 +1,4 @@
-//! What a run of all sites hands back: receipts are confirmed, and desks settled, by the lists of steps.
+//! What a run of all sites gives back: receipts are confirmed, and desks settled, by the lists of steps.
 ghost use Rattle.std.specs.Prelude.{◌≡◌, ◌↔◌, IsTrue, is_ok, length, take};
 ghost use Rattle.site_threads.specs.Ends.{puts, IsDesk, AreEnds};
 ghost use Rattle.site_threads.specs.Gathering.{IsConfirmed, HasJobsOfEnd};

@@ -1,4 +1,4 @@
-//! What a site is given to do, and what it answered.
+//! What a site is given to do, and what it returned.
 ghost use Rattle.std.specs.Prelude.{◌≡◌, IfOk, IfErr, option_map};
 ghost use Rattle.site_threads.specs.Jobs.{input_of, is_delivery, refusal_number, reply_to, told};
 
@@ -28,7 +28,7 @@ pub enum Reply {
         known: u64,
         skipped: u64,
     },
-    /// The recall was started, and whether it has ended, since there was nobody to tell.
+    /// The recall was started, and whether it has ended, since there was nobody to notify.
     Started {
         recall: RecallId,
         ended: bool,
@@ -50,11 +50,11 @@ pub struct Entry {
     pub number: u64,
     /// What the site was asked.
     pub input: SiteInput,
-    /// What it answered.
+    /// What it returned.
     pub reply: Reply,
 }
 
-/// What a site answered to a job.
+/// What a site returned for a job.
 #[derive(Drop)]
 pub struct Receipt {
     /// The site.
@@ -63,12 +63,12 @@ pub struct Receipt {
     pub number: u64,
     /// The job.
     pub job: Job,
-    /// What was answered.
+    /// What was returned.
     pub reply: Reply,
 }
 
 impl Reply {
-    /// The same reply.
+    /// A copy of the reply.
     pub fn same(&self) -> Reply
         ensures { result ≡ self.now }
     {
@@ -177,7 +177,7 @@ fn refusal_number(why: &Refusal) -> u64
     }
 }
 
-/// What is entered of a step, by what the keeper answered. `None` where there was no memory.
+/// What is entered of a step, by what the keeper returned. `None` where there was no memory.
 pub(crate) fn answered(applied: Result<Effects, KeepFault>, frame: bool) -> Option<Reply>
     ensures { result ≡ reply_to frame applied }
 {

@@ -1,6 +1,6 @@
 //! Sites that run in threads of their own, and pass their frames over a wire.
 //!
-//! In a turn a site does a job, takes the frames that came for it, and posts what it has to tell. A step is marked on
+//! In a turn a site does a job, takes the frames that came for it, and posts what it has to send. A step is marked on
 //! the wire only once its keeper answered it, so a frame that is posted rests on a record that is kept.
 #![tactic(auto)]
 

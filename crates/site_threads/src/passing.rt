@@ -98,7 +98,7 @@ impl<K: SiteKeeper> Site<K> {
         count
     }
 
-    /// The same for the site of this number, if it is another.
+    /// Takes at most one frame from the site of this number, if it is another, applies it and enters it.
     fn receive_from(&mut self, wire: &Wire, alloc: Global, number: u64) -> u64
         requires seat { IsSeatOf wire.now self.old.seat }
         requires site { IsSite K.shown K.may self.old }
@@ -124,7 +124,7 @@ impl<K: SiteKeeper> Site<K> {
         }
     }
 
-    /// The same for the site of this number, if it is another.
+    /// Posts at most one frame to the site of this number, if it is another.
     fn send_to(&mut self, wire: &Wire, alloc: Global, number: u64) -> u64
         requires seat { IsSeatOf wire.now self.old.seat }
         requires site { IsSite K.shown K.may self.old }

@@ -30,13 +30,13 @@ use wire_core::Wire;
 pub struct SiteRun<K: SiteKeeper, G: Gate> {
     pub turn: SiteTurn<K, G>,
     pub out: DeskOut,
-    /// A job that a turn handed back.
+    /// A job that a turn gave back.
     pub pending: Option<Job>,
     /// Why the site ended its run.
     pub fault: Option<TurnCause>,
 }
 
-/// The job that was handed back, or the next one.
+/// The job that was given back, or the next one.
 fn next_job<R: Wait>(rt: &R, pending: Option<Job>, out: &mut DeskOut) -> Option<Job>
     requires { IsOut out.old }
     ensures out { IsOut out.new × (receives_on out.new.from ≡ receives_on out.old.from) × (out.new.limit ≡ out.old.limit) }
@@ -48,7 +48,7 @@ fn next_job<R: Wait>(rt: &R, pending: Option<Job>, out: &mut DeskOut) -> Option<
     }
 }
 
-/// Tells a gate how many messages of a site wait for a signal.
+/// Reports to a gate how many messages of a site wait for a signal.
 fn tell_open<K: SiteKeeper, G: Gate>(gate: &mut G, keeper: &Option<K>, me: SiteNo) {
     if let Some(state) = view_of(keeper) {
         gate.tell_open(me, state.outbox().len());

@@ -157,7 +157,7 @@ impl<K: SiteKeeper> Site<K> {
         }
     }
 
-    /// The same for a job that is there.
+    /// Does a job that is there, and gives its receipt.
     fn do_ready(&mut self, wire: &Wire, ready: Ready) -> Result<Receipt, Job>
         requires seat { IsSeatOf wire.now self.old.seat }
         requires site { IsSite K.shown K.may self.old }

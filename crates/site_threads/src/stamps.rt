@@ -1,4 +1,4 @@
-//! Counts by which a site tells whether a step changed its record.
+//! Counts by which a site says whether a step changed its record.
 ghost use Rattle.std.specs.Prelude.{◌≡◌};
 ghost use Rattle.site_threads.specs.Stamps.{stamp};
 

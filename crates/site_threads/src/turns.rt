@@ -69,7 +69,7 @@ pub struct SiteTurn<K: SiteKeeper, G: Gate> {
 
 impl<K: SiteKeeper, G: Gate> SiteTurn<K, G> {
     /// The site `me`, which the seat holds alone, with its keeper, open in the record last marked. Its list of steps is
-    /// empty. Takes no memory.
+    /// empty. Does not allocate.
     pub fn new(alloc: Global, keeper: K, gate: G, seat: Seat, me: SiteNo) -> SiteTurn<K, G>
         requires start { (r : Record) × (K.shown keeper ≡ Some r) × IsLastMarked seat.logs me r }
         ensures site { IsSite K.shown K.may result.site }
@@ -107,7 +107,7 @@ impl<K: SiteKeeper, G: Gate> SiteTurn<K, G> {
     ///
     /// # Errors
     /// `NoMemory`, `GaveUp` where the gate gave up, or `Lost` where the keeper was closed and an opening of it was refused;
-    /// each hands the job back, and nothing was done but the opening, and the mark that belongs to it.
+    /// each gives the job back, and nothing was done but the opening, and the mark that belongs to it.
     pub fn turn(&mut self, wire: &Wire, job: Option<Job>) -> Result<TurnReport, TurnFault>
         requires seat { IsSeatOf wire.now self.old.site.seat }
         requires site { IsSite K.shown K.may self.old.site }
@@ -169,7 +169,7 @@ impl<K: SiteKeeper, G: Gate> SiteTurn<K, G> {
         }
     }
 
-    /// What a turn goes on with: the job, and the frames.
+    /// What a turn continues with: the job, and the frames.
     fn go_on(&mut self, wire: &Wire, ready: Option<Ready>) -> Result<TurnReport, TurnFault>
         requires seat { IsSeatOf wire.now self.old.site.seat }
         requires site { IsSite K.shown K.may self.old.site }

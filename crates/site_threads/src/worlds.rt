@@ -100,7 +100,7 @@ fn run_each<K: SiteKeeper + Send, G: Gate + Send, R: Threads + Wait + Clock + Sy
     run_all(rt, wire, runs.as_mut_slice(), turns);
 }
 
-/// The same from the first opening to the last joining, for which there is room.
+/// Runs the sites from the first opening to the last joining, for which there is room.
 fn run_in<K: SiteKeeper + Send, G: Gate + Send, R: Threads + Wait + Clock + Sync>(
     rt: &R,
     alloc: Global,
@@ -142,7 +142,7 @@ fn run_in<K: SiteKeeper + Send, G: Gate + Send, R: Threads + Wait + Clock + Sync
     close_all(wire, root, runs, ended)
 }
 
-/// What is told of a run that has ended.
+/// What is reported of a run that has ended.
 fn told<K: SiteKeeper>(ended: Ended<K>) -> Result<Gathered<K>, GatherFault<K>>
     ensures ok { IfOk result (λ g. (ended.cause ≡ None) × (g.keepers ≡ ended.keepers) × (g.lists ≡ ended.lists)) }
     ensures err { IfErr result (λ e. (ended.cause ≡ Some e.cause) × (e.keepers ≡ ended.keepers)) }
@@ -159,7 +159,7 @@ fn told<K: SiteKeeper>(ended: Ended<K>) -> Result<Gathered<K>, GatherFault<K>>
     }
 }
 
-/// The same for keepers whose records fit together.
+/// Runs all sites of keepers whose records are consistent.
 fn run_sites<K: SiteKeeper + Send, G: Gate + Send, R: Threads + Wait + Clock + Sync>(
     rt: &R,
     alloc: Global,
@@ -197,16 +197,16 @@ fn run_sites<K: SiteKeeper + Send, G: Gate + Send, R: Threads + Wait + Clock + S
 /// After a turn in which a site did no job and its record didn't change it sleeps, 100 microseconds for each such turn
 /// one after another and at most 1,000, so that a run lasts while other sites begin or write. A run ends before its turns
 /// are made once nothing is left to do: each site has found its desk without a job, and the other end dropped, and each
-/// recall that a site began has ended. A site that isn't done makes all turns. So a gate that waits for other sites wants the other end of a desk to be kept. A
-/// desk that has taken as many jobs as it may isn't asked any more, and counts as kept; an end at which no job is ever
-/// put counts as dropped.
+/// recall that a site began has ended. A site that isn't done makes all turns. So a gate that waits for other sites needs
+/// the other end of a desk to be kept. A desk that has taken as many jobs as it may isn't asked any more, and counts as
+/// kept; an end at which no job is ever put counts as dropped.
 ///
-/// The keepers are of one list of sites, in the order of their numbers, open, and their records fit together; no job was
+/// The keepers are of one list of sites, in the order of their numbers, open, and their records are consistent; no job was
 /// taken from the desks. Afterwards each keeper is open in the record to which its list of steps leads from the one that
 /// it began with, and the jobs of the list are the first ones that were put at its desk; its gate was asked for just these
 /// turns, or for fewer where the site is done: its end counts the desk as gone, no job is in hand, no message waits for a
 /// signal, and each recall that it began has ended. Whether the run has an answer or not, in whichever records the keepers are open, or may be opened,
-/// they fit together, and what is quarantined under each recall that has ended is just what its root reaches.
+/// they are consistent, and what is quarantined under each recall that has ended is just what its root reaches.
 ///
 /// # Errors
 /// All with the keepers. `NotAWorld`, with the keepers as they were. `NoMemory`: before the first turn, when nothing has

@@ -57,7 +57,7 @@ fn are_ended(alloc: Global, keepers: &[MemoryKeeper]) -> bool {
     }
 }
 
-/// Whether the records of four keepers fit together.
+/// Whether the records of four keepers are consistent.
 fn fit(alloc: Global, keepers: &[MemoryKeeper]) -> bool {
     match records(alloc, keepers) {
         Ok(records) => {
@@ -179,7 +179,7 @@ fn four_sites_in_lockstep_end_their_recalls(rt: HostRuntime) -> Result<(), Fail>
     Ok(())
 }
 
-/// Whether a run ended since B's gate gave up, and its sites fit together.
+/// Whether a run ended since B's gate gave up, and its sites are consistent.
 fn gave_up(alloc: Global, run: Result<Gathered<MemoryKeeper>, GatherFault<MemoryKeeper>>) -> bool {
     match run {
         Ok(_) => false,

@@ -19,7 +19,7 @@ use std::sync::Wait;
 use std::test::Fail;
 use wire_core::{Seat, Wire};
 
-/// The wire between two sites whose records fit together, and a seat that holds both.
+/// The wire between two sites whose records are consistent, and a seat that holds both.
 fn between(alloc: Global, first: &SiteState, second: &SiteState) -> Result<(Wire, Seat), Fail>
     ensures wire { IfOk result (λ r. IsSeatOf r.0 r.1 × (r.0.sites ≡ 2) × (r.1.logs ≡ logs_from 0 (first.now ∷ second.now ∷ []))) }
     ensures numbers { OnOk result ((first.now.engagement.me ≡ 0) × (second.now.engagement.me ≡ 1)) }
@@ -75,8 +75,8 @@ fn has_ended(keeper: &Option<MemoryKeeper>) -> bool {
     false
 }
 
-/// The first site captures, starts a recall and tells of it; the second takes the message, and signals it; the signal
-/// ends the recall.
+/// The first site captures, starts a recall and announces it; the second takes the message, and signals it; the
+/// signal ends the recall.
 fn exchange(
     alloc: Global,
     wire: &Wire,
@@ -101,7 +101,7 @@ fn exchange(
     counts && signalled.1 == 1 && entries.len() == 3 && has_ended(&keeper)
 }
 
-/// The same over a wire of their own.
+/// Makes the turns over a wire of their own.
 fn by_turns(alloc: Global, first: SiteState, second: SiteState) -> Result<bool, Fail> {
     let b = second.me();
     let (wire, seat) = between(alloc, &first, &second)?;
@@ -117,7 +117,7 @@ fn a_recall_ends_by_turns(rt: HostRuntime) -> Result<(), Fail> {
     Ok(())
 }
 
-/// Whether a desk of one job takes one, and hands the second back.
+/// Whether a desk of one job takes one, and gives the second back.
 fn takes_one(rt: &impl Wait, desk: &mut Desk, one: Option<Job>, two: Option<Job>) -> bool
     requires { IsDesk desk.old }
 {

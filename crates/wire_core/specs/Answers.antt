@@ -1,4 +1,4 @@
--- What the calls on a seat may be asked, and what they answer.
+-- What the calls on a seat may be asked, and what they return.
 use Rattle.std.specs.Prelude.{◌≡◌, ◌≢◌, ℕ, ◌^◌, ◌<◌, List, length, Contains}
 use Rattle.frame_core.specs.declared.frames.Frame.{Frame}
 use Rattle.site_core.specs.Emitting.{emittable}

@@ -1,4 +1,4 @@
--- What a step changes in a view, and what it tells.
+-- What a step changes in a view, and what it says.
 use Rattle.std.specs.Prelude.{◌≡◌, ◌≢◌, ℕ, ◌+◌, ◌<◌, cond, nat_eq, nat_lt, not, List, [], ◌∷◌, ◌++◌, map, filter, length, All, Contains, Some, None, Option as Maybe}
 use Rattle.atomic_table.specs.Table.{Me}
 use Rattle.frame_core.specs.declared.frames.Frame.{Frame}

@@ -1,4 +1,4 @@
--- The laws that the rule rests on, one for each kind of step that changes what fits together; and what the rule comes to.
+-- The laws that the rule rests on, one for each kind of step that changes what is consistent; and what the rule comes to.
 use Rattle.std.specs.Prelude.{◌<◌, ℕ, List, [], ◌∷◌, ◌++◌, length, set, Contains, Option as Maybe}
 use Rattle.atomic_table.specs.Table.{State}
 use Rattle.frame_core.specs.declared.frames.Frame.{Frame}

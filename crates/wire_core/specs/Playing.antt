@@ -53,7 +53,7 @@ pub record MayGoOn (w : Line) (s : Held) (r : Record) (input : SiteInput) : Type
   pub noted : DeliversOneOf stands.log.noted input
   pub room : count < 2 ^ 62
 
--- a site goes on from one record to the next: the same sites, and the other records stand
+-- a site continues from one record to the next: the same sites, and the other records stand
 pub record GoesOn (old new : List Log) (r next : Record) : Type 0 where
   pub sites : SameSites old new
   pub same : next.engagement.me ≡ r.engagement.me

@@ -36,7 +36,7 @@ pub record Shared (views : List View) (seat : ℕ → ℕ) (logs : List Log) : T
   pub seated : (i : ℕ) → i < length logs → seat i < length views
   pub known : (id : ℕ) (v : View) → get_elem? views id ≡ some v → Knows seat logs id v
 
--- the words and the slots show what is known of the sites, and the sites fit together
+-- the words and the slots show what is known of the sites, and the sites are consistent
 pub record Wired (words : List ℕ) (homes : List (Option (Maybe Frame))) (logs : List Log) : Type 0 where
   pub progress : (i : ℕ) (e : Log) → get_elem? logs i ≡ some e → get_elem? words i ≡ some (length e.inputs)
   pub stands : (i : ℕ) (e : Log) → get_elem? logs i ≡ some e → Stands e.opening e.inputs e.last

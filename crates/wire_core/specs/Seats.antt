@@ -56,7 +56,7 @@ pub record AreAllOf (count : ℕ) (held all : List Log) : Type 0 where
 
 -- what the wire kept between all sites
 pub record Gathered (all : List Log) : Type 0 where
-  -- the records last marked fit together with all frames sent
+  -- the records last marked are consistent with all frames sent
   pub fit : SitesFit (records all) (frames all)
   -- each frame that a site noted is for it, and was sent
   pub noted : (e : Log) (f : Frame) → Contains all e → Contains e.noted f → (addressee f ≡ e.site) × Contains (frames all) f

@@ -74,7 +74,7 @@ pub fn mark_on(hub: &Hub, token: &mut Token, input: &SiteInput, new: &SiteState)
     mark::<Brand>(hub, token, input, new);
 }
 
-/// A cut, and the split there: the sites from `at` on go to the seat that is answered.
+/// A cut, and the split there: the sites from `at` on go to the seat that is returned.
 pub fn split_on(hub: &Hub, token: &mut Token, at: SiteNo) -> Token
     requires { (token.old.table_id ≡ hub.now.table_id) × (token.old.me.1 ≡ []) × (0 < hub.now.table_id.words) }
     ensures seats { (token.new.table_id ≡ token.old.table_id) × (token.new.me.1 ≡ []) × (result.table_id ≡ token.old.table_id) × (result.me.1 ≡ []) }

@@ -3,7 +3,7 @@
 ghost use Rattle.wire_core.specs.Standing.{OpeningRecordsStand, SplitsMarkNothing, JoinsMarkNothing, SentFramesMarkNothing, NotedFramesMarkNothing, MarksPutTheRecord, MarksLeaveOtherSites};
 ghost use Rattle.wire_core.specs.Laws.{MarksKeepTheFit, PostsKeepTheFit, FewerFramesFit, RuleHoldsBetween};
 
-/// A step of one site, by whatever input, leaves all fitting together, where a frame that it delivers was sent.
+/// A step of one site, by whatever input, leaves all consistent, where a frame that it delivers was sent.
 pub fn a_mark_keeps_the_fit()
     ensures { MarksKeepTheFit }
 {}
@@ -16,7 +16,7 @@ pub fn a_post_keeps_the_fit()
 
 /// Between any two steps of any seats: each site stands in one seat; a mailbox is full just where one frame more was sent
 /// that way than noted, and the frame in it is the last one sent; each noted frame was sent to that site; and the seats
-/// together show a world in which the records last marked fit together with all frames sent.
+/// together show a world in which the records last marked are consistent with all frames sent.
 pub fn the_rule_holds_between_steps()
     ensures { RuleHoldsBetween }
 {}

@@ -1,5 +1,5 @@
 //! Mailboxes between sites that run in threads of their own: between any two steps of any of them the records last
-//! marked, with all frames sent, fit together.
+//! marked, with all frames sent, are consistent.
 #![tactic(auto)]
 
 mod calls;

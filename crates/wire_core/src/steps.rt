@@ -45,7 +45,7 @@ impl Way for Brand {
     ghost to = { 0 };
 }
 
-/// What a claim tells.
+/// What a claim says.
 pub struct Claims<N> {
     marker: PhantomData<N>,
 }
@@ -67,7 +67,7 @@ pub fn claim<N: Way>(hub: &Hub, token: &mut Token, from: SiteNo, to: SiteNo) -> 
     hub.compare_exchange::<Claims<N>>(token, word_index(from, to), EMPTY, WRITING)
 }
 
-/// What a publishing tells.
+/// What a publishing says.
 pub struct Publishes;
 
 impl Play<Option<Frame>, View> for Publishes {
@@ -86,7 +86,7 @@ pub fn publish(hub: &Hub, token: &mut Token, from: SiteNo, to: SiteNo)
     hub.store::<Publishes>(token, word_index(from, to), FULL);
 }
 
-/// What a noting tells.
+/// What a noting says.
 pub struct Notes<N> {
     marker: PhantomData<N>,
 }
@@ -108,7 +108,7 @@ pub fn note<N: Way>(hub: &Hub, token: &mut Token, from: SiteNo, to: SiteNo) -> u
     hub.compare_exchange::<Notes<N>>(token, word_index(from, to), FULL, READING)
 }
 
-/// What a release tells.
+/// What a release says.
 pub struct Releases<N> {
     marker: PhantomData<N>,
 }
@@ -145,7 +145,7 @@ impl Marking for Brand {
     ghost change = { λ e. e };
 }
 
-/// What a mark tells.
+/// What a mark says.
 pub struct Marks<N> {
     marker: PhantomData<N>,
 }
@@ -175,7 +175,7 @@ impl Cutting for Brand {
     ghost at = { 0 };
 }
 
-/// What a cut tells.
+/// What a cut says.
 pub struct Cuts<N> {
     marker: PhantomData<N>,
 }

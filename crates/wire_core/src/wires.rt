@@ -13,7 +13,7 @@ pub type Mailboxes = Table<Option<Frame>, View, Opening, Joined, Global>;
 /// A mailbox of one frame for each ordered pair of sites, and a count of marked steps for each site.
 ///
 /// Threads share it, and none waits for another. Between any two of their steps the records last marked, with all
-/// frames sent, fit together.
+/// frames sent, are consistent.
 #[derive(Drop)]
 pub struct Wire {
     pub(crate) table: Mailboxes,

@@ -1,4 +1,4 @@
--- Over every run from sites at which nothing happened yet a log tells all that was ever told; so messages are counted.
+-- Over every run from sites at which nothing happened yet a log has all that was ever announced; so messages are counted.
 use Rattle.std.proofs.Common.{◌≡◌, ◌⊎◌, inl, inr, ℕ, zero, suc, ◌<◌, List, length, Some, None, refl, sym, ap, ◌∙◌, subst, Contains, arith}
 use Rattle.std.specs.FinMap.{get}
 use Rattle.std.specs.Prelude.{set}
@@ -31,7 +31,7 @@ use Rattle.site_recovery.proofs.OneSite.{SameElsewhere, set_elsewhere, set_here}
 use Rattle.site_recovery.proofs.OneStep.{one_world, put, put_elsewhere, put_here}
 use Rattle.world_core.proofs.Telling.{IsLog, log_adds}
 
--- there is a log of all that was told
+-- there is a log of all that was announced
 abbrev pub HasLog : World → Type 0
 HasLog W = (log : List (Message × Row)) × IsLog W log
 

@@ -1,4 +1,4 @@
--- After every run from sites at which nothing happened yet messages are as many as the shipments that they tell of.
+-- After every run from sites at which nothing happened yet messages are as many as the shipments that they announce.
 use Rattle.std.proofs.Common.{◌≡◌, inl, inr, ℕ, ◌<◌, true, false, Option, Some, None, List, [], ◌∷◌, length, map, refl, sym, ap, ◌∙◌, subst, Contains, slice_get, slice_set, cond}
 use Rattle.std.proofs.lemmas.List.{map-set, set-get_or}
 use Rattle.trace_core.proofs.Members.{contains_cases, contains_here, contains_none, contains_there}
@@ -66,7 +66,7 @@ nothing_told rs one new =
       },
     )
 
--- What a log tells of one recall: each message with its shipment.
+-- What a log says of one recall: each message with its shipment.
 
 abbrev shipment_of : Message → Row → Shipment
 shipment_of m x = record { from = m.site; item = x.item; to = x.dest }

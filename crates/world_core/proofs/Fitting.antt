@@ -1,4 +1,4 @@
--- Each turn keeps the records of all sites and the frames sent fitting together, and leaves each ended recall as it
+-- Each turn keeps the records of all sites and the frames sent consistent, and leaves each ended recall as it
 -- was: one of the laws of the records for each way in which a turn changes them.
 use Rattle.std.proofs.Common.{◌≡◌, ℕ, zero, suc, ◌<◌, Option, Some, None, List, [], ◌∷◌, ◌++◌, length, map, refl, sym, ◌∙◌, ap, subst, ⊎_elim, Contains, slice_get, slice_set}
 use Rattle.std.proofs.lemmas.List.{map-set, set-get_or}

@@ -1,4 +1,4 @@
--- Sites at which nothing happened yet fit together.
+-- Sites at which nothing happened yet are consistent.
 use Rattle.std.proofs.Common.{◌≡◌, refl, ℕ, ◌<◌, Some, List, [], length, sym, ap, ◌∙◌, subst, slice_get}
 use Rattle.std.proofs.lemmas.Option.{slice_get-get_or}
 use Rattle.event_json.specs.Sites.{Site}

@@ -79,7 +79,7 @@ module _ (old : Record) where
   stop_kept None last New NoFrame new k h = ap record_of h
   stop_kept found last keep answer new k h = absurd h
 
-  -- nothing is handed by the other events
+  -- nothing is given by the other events
   none_kept : (answer : Answer) (new : Record) → new ≡ old → StandsAfter old (handed answer None) new
   none_kept (Done effects) new h = h
   none_kept (Fault Device) new h = h
@@ -135,7 +135,7 @@ record Kept (old : WorldState) (event : WorldEvent) (answer : Answer) (new : Wor
   sent : new.sent ≡ old.sent ++ more
   stands : (site : ℕ) (r : Record) (rest : List Frame) → slice_get (records old) site ≡ Some r → Comes site r (cond (site_of event == site) (handed answer (input_told (old.sent ++ rest) event)) []) new
 
--- where there is no such site nothing is handed to one
+-- where there is no such site nothing is given to one
 no_site_kept : (old : Record) (found : Option SiteInput) (b : Bool) → StandsAfter old (cond b (handed NoSite found) []) old
 no_site_kept old found true = refl
 no_site_kept old found false = refl

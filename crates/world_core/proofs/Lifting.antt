@@ -68,7 +68,7 @@ module _ {K : Type 0} (shown : K → Option Record) (may : K → Record → Type
       subst (λ e. ComesFrom (MayBe shown may (record { keepers = keepers; sent = sent })) (MayBe shown may (record { keepers = changed; sent = now_sent })) (λ old new. Turns old e answer new)) (sym is)
       (turn_lifted keepers changed sent now_sent told answer (was, now, at, set, comes))
 
-  -- the same, where the frames sent were lent and stay
+  -- the same, where the frames sent were borrowed and stay
   pub turn_lent : (keepers changed : List K) (sent lent : List Frame) (event told : WorldEvent) (answer : Answer) (was now : K)
       → event ≡ told → lent ≡ sent → slice_get keepers (site_of told) ≡ Some was → changed ≡ slice_set keepers (site_of told) now
       → ComesFrom (StandsAs (shown was) (may was)) (StandsAs (shown now) (may now)) (λ old new. TurnsAt old lent told answer new lent)

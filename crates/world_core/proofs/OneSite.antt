@@ -46,7 +46,7 @@ steps_back old input (Err Store) (Some n) may h new s = absurd h
 steps_back old input (Err Closed) (Some n) may h new s = absurd h
 steps_back old input (Err Closed) None may h new s = absurd h
 
--- the record that an open keeper shows, from what looking at it told
+-- the record that an open keeper shows, from what looking at it showed
 pub shown_up : {X : Type 0} (f : X → Record) (lent : Option X) (shown : Option Record) (closed : Bool) → option_map f lent ≡ shown → is_some lent ≡ not closed → closed ≡ false → (r : Record) × (shown ≡ Some r)
 shown_up f None shown closed e n c = absurd (false≢true (n ∙ ap not c))
 shown_up f (Some x) shown closed e n c = (f x, sym e)
@@ -129,7 +129,7 @@ pub stays_closed : (shown : Option Record) (may : Record → Type 0) (P : Standi
 stays_closed shown may P e p (Up q) s = let o : None ≡ Some q = sym e ∙ s in cc
 stays_closed shown may P e p (Down q) s = (Down q, s, p q)
 
--- a keeper that shows none, from what looking at it told
+-- a keeper that shows none, from what looking at it showed
 pub shown_none : {X : Type 0} (f : X → Record) (lent : Option X) (shown : Option Record) (closed : Bool) → option_map f lent ≡ shown → is_some lent ≡ not closed → closed ≡ true → shown ≡ None
 shown_none f None shown closed e n c = sym e
 shown_none f (Some x) shown closed e n c = absurd (false≢true (sym (n ∙ ap not c)))

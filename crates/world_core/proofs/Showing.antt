@@ -99,7 +99,7 @@ module _ {K : Type 0} (shown : K → Option Record) (may : K → Record → Type
       let here : MakeAWorld (records world) = subst MakeAWorld (sym same) make in
       record { places = here.places; fits = subst (Fits (world_of (records world))) (sym (z.1 ∙ none)) here.fit }
 
-  -- nothing but want of memory hinders them
+  -- nothing but out of memory prevents them
   pub only_memory_hinders : (keepers : List K) (rs : List Record) → AllShow shown keepers rs → MakeAWorld rs → (fault : WorldFault) → HindersKeepers shown keepers fault → fault ≡ worlds.NoMemory
   only_memory_hinders keepers rs a make worlds.NoMemory h = refl
   only_memory_hinders keepers rs a make (worlds.Closed place) h =
@@ -109,7 +109,7 @@ module _ {K : Type 0} (shown : K → Option Record) (may : K → Record → Type
   only_memory_hinders keepers rs a make (worlds.OtherSites place) (ss, b, hinders) = memory_alone ss (subst MakeAWorld (shown_once keepers rs ss a b) make) (worlds.OtherSites place) hinders
   only_memory_hinders keepers rs a make (worlds.Misfit misfit) (ss, b, hinders) = memory_alone ss (subst MakeAWorld (shown_once keepers rs ss a b) make) (worlds.Misfit misfit) hinders
 
-  -- what is told of the records that all sites show holds of all that they show
+  -- what is reported of the records that all sites show holds of all that they show
   pub shown_exact : (sites : Sites K) (recall : Recall) (rs : List Record) (pairs : List Pair) → SitesFit shown may sites → AllShow shown sites.keepers rs → pairs ≡ quarantined recall rs
       → IsStrictlyAscending pairs × ((ss : List Record) → AllShow shown sites.keepers ss → AreExactOnceEnded recall ss pairs)
   shown_exact sites recall rs pairs fit a are =

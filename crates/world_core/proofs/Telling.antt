@@ -1,4 +1,4 @@
--- All that was ever told: a log of each message with its row as it was numbered, and how it grows.
+-- All that was ever announced: a log of each message with its row as it was numbered, and how it grows.
 use Rattle.std.proofs.Common.{◌≡◌, ◌⊎◌, ◌↔◌, inl, inr, ℕ, zero, suc, ◌+◌, ◌<◌, List, [], ◌∷◌, ◌++◌, Some, true, false, refl, sym, ap, ◌∙◌, subst, slice_get, Contains, arith}
 use Rattle.std.specs.FinMap.{get}
 use Rattle.std.specs.List.Sorted.{IsStrictlySortedBy}
@@ -91,7 +91,7 @@ each_once (x ∷ xs) up zero (suc k) p a b = absurd (not_below_itself x p (head_
 each_once (x ∷ xs) up (suc j) zero p a b = absurd (not_below_itself x p (head_below shipment_cmp x xs up p (member_there xs j p a)) (same_Some x p b))
 each_once (x ∷ xs) up (suc j) (suc k) p a b = ap suc (each_once xs (tail_ascends shipment_cmp x xs up) j k p a b)
 
--- A step that brings items under a recall, and tells of each of their shipments.
+-- A step that brings items under a recall, and announces each of their shipments.
 
 pub record Adds (V W : World) (s : ℕ) (r : Recall) (item : List ℕ) (out : List (ℕ × List ℕ)) : Type 0 where
   pub spreads : Spreads V W s r item
@@ -121,7 +121,7 @@ module _ (V W : World) (s : ℕ) (elsewhere : SameElsewhere V W s) (f : Fit V) (
   shipped_before : (t : ℕ) (i : List ℕ) (u : ℕ) → Ships W t i u → Ships V t i u
   shipped_before t i u h = subst (λ (z : SiteEvents). IsShipped z i (record { site = u; item = i })) (c.spreads.captured t) h
 
-  -- numbers told before are below those of this step
+  -- numbers announced before are below those of this step
   below : (m : Message) (x : Row) → Contains log (m, x) → m.number < next_message V m.site
   below m x h = elim (g.waits_or_seen m x h) as (λ _. m.number < next_message V m.site) [
     | inl stands ↦ f.rows_below m.site m.number x stands
@@ -133,7 +133,7 @@ module _ (V W : World) (s : ℕ) (elsewhere : SameElsewhere V W s) (f : Fit V) (
       let low : m.number < next_message V s = subst (λ z. m.number < next_message V z) (ap (λ z. z.site) w.number) (below m y h) in
       omega (arith, low, ap (λ z. z.number) w.number)
 
-  -- what was told now wasn't quarantined before
+  -- what was announced now wasn't quarantined before
   new_reason : (m : Message) (x : Row) → IsNew s (next_message V s) r out m x → Held W s r x.item × (Held V s r x.item → ⊥) × Ships V s x.item x.dest
   new_reason m x w = (c.exact x.dest x.item).0 (member_there out w.place (x.dest, x.item) w.message)
 

@@ -1,4 +1,4 @@
--- What a keeper's answers are told as.
+-- What a keeper's answers are reported as.
 use Rattle.std.specs.Prelude.{Result, Ok, Err}
 use Rattle.site_core.specs.declared.outcomes.Effects.{Effects}
 use Rattle.keeper_core.specs.declared.faults.KeepFault.{KeepFault}

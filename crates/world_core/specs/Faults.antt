@@ -45,7 +45,7 @@ pub record IsFirstOther (records : List Record) (place : ℕ) : Type 0 where
 abbrev pub AreFresh : List Record → Type 0
 AreFresh records = (place : ℕ) (r : Record) → slice_get records place ≡ Some r → r ≡ fresh r.sites r.engagement.me
 
--- they are of all sites, in their places, and fit together while no frame was sent
+-- they are of all sites, in their places, and are consistent while no frame was sent
 pub record MakeAWorld (records : List Record) : Type 0 where
   pub one : AreOneWorld records
   pub places : AreInPlace records
@@ -62,7 +62,7 @@ Hinders (worlds.OtherSites place) records = IsFirstOther records place
 Hinders (worlds.Misfit misfit) records = DontFit records misfit
 Hinders (worlds.Closed place) records = ⊥
 
--- why keepers make no world: one is closed, which is told first, or all show their records
+-- why keepers make no world: one is closed, which is reported first, or all show their records
 abbrev pub HindersKeepers : {K : Type 0} → (K → Option Record) → List K → WorldFault → Type 0
 HindersKeepers shown keepers worlds.NoMemory = ⊤
 HindersKeepers shown keepers (worlds.Closed place) = IsFirstClosed shown keepers place

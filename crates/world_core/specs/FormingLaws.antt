@@ -9,6 +9,6 @@ use Rattle.world_core.specs.declared.faults.WorldFault.TheVariants.{NoMemory}
 abbrev pub FreshSitesMakeAWorld : Type 0
 FreshSitesMakeAWorld = (records : List Record) → AreOneWorld records → AreFresh records → MakeAWorld records
 
--- Where records make a world, nothing but want of memory hinders them.
+-- Where records make a world, nothing but out of memory prevents them.
 abbrev pub OnlyMemoryHindersAWorld : Type 0
 OnlyMemoryHindersAWorld = (records : List Record) → MakeAWorld records → (fault : WorldFault) → Hinders fault records → fault ≡ NoMemory

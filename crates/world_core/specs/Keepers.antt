@@ -23,7 +23,7 @@ MayBe shown may sites world = AllZip (λ k standing. StandsAs (shown k) (may k) 
 abbrev pub ComesFrom : {W : Type 0} → (W → Type 0) → (W → Type 0) → (W → W → Type 0) → Type 0
 ComesFrom {W} was now change = (new : W) → now new → (old : W) × was old × change old new
 
--- whatever world the sites may be, it fits together
+-- whatever world the sites may be, it is consistent
 abbrev pub SitesFit : {K : Type 0} → (K → Option Record) → (K → Record → Type 0) → Sites K → Type 0
 SitesFit shown may sites = (world : WorldState) → MayBe shown may sites world → WorldFits world
 

@@ -26,13 +26,13 @@ StandsAfter old [] new = new ≡ old
 StandsAfter old (Answered input effects ∷ rest) new = (mid : Record) × Does old input effects mid × StandsAfter mid rest new
 StandsAfter old (Broken input ∷ rest) new = StandsAfter old rest new ⊎ ((mid : Record) × IsAfter old input mid × StandsAfter mid rest new)
 
--- what an event hands to its site
+-- what an event gives to its site
 abbrev pub input_told : List Frame → WorldEvent → Option SiteInput
 input_told sent (Step site input) = input_at sent site input
 input_told sent (Stop site input keep) = input_at sent site input
 input_told sent event = None
 
--- a refused input, and one without memory, was not handed
+-- a refused input, and one without memory, was not given
 abbrev pub handed : Answer → Option SiteInput → List Handed
 handed (Done effects) (Some input) = Answered input effects ∷ []
 handed (Fault Device) (Some input) = Broken input ∷ []
@@ -40,7 +40,7 @@ handed (Fault Store) (Some input) = Broken input ∷ []
 handed Stopped (Some input) = Broken input ∷ []
 handed answer found = []
 
--- what a run hands to a site. A frame keeps its place among those sent, so all that were sent by the end serve
+-- what a run gives to a site. A frame keeps its place among those sent, so all that were sent by the end serve
 abbrev pub handed_to : ℕ → List Frame → List WorldEvent → List Answer → List Handed
 handed_to site sent (event ∷ events) (answer ∷ answers) =
     (if site_of event == site then handed answer (input_told sent event) else []) ++ handed_to site sent events answers

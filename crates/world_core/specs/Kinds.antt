@@ -23,7 +23,7 @@ abbrev pub stop_answer : Bool → Answer
 stop_answer true = Stopped
 stop_answer false = NoMemory
 
--- what an opening gives back, and what it is answered
+-- what an opening gives back, and its answer
 abbrev pub opened : {K : Type 0} → Result K (Unopened K) → K
 opened (Ok keeper) = keeper
 opened (Err unopened) = unopened.keeper
@@ -32,7 +32,7 @@ abbrev pub opening_answer : {K : Type 0} → Result K (Unopened K) → Answer
 opening_answer (Ok keeper) = Reopened
 opening_answer (Err unopened) = hindrance unopened.fault
 
--- One keeper. Memory may run out while what it is handed is copied.
+-- One keeper. Memory may run out while what it is given is copied.
 
 abbrev pub KeeperSteps : {K : Type 0} → (K → SiteInput → Result Effects KeepFault → K → Type 0) → K → Option SiteInput → Answer → K → Type 0
 KeeperSteps applies old None answer new = (answer ≡ NoFrame) × (new ≡ old)

@@ -19,22 +19,22 @@ FramesStay = (old new : WorldState) (events : List WorldEvent) (answers : List A
 abbrev pub SitesStandAsKept : Type 0
 SitesStandAsKept = (old new : WorldState) (events : List WorldEvent) (answers : List Answer) → Runs old events answers new → SitesStand old events answers new
 
--- Sites at which nothing happened yet fit together, and no frame was sent.
+-- Sites at which nothing happened yet are consistent, and no frame was sent.
 abbrev pub FreshSitesFit : Type 0
 FreshSitesFit = (world : WorldState) → AreOneWorld (records world) → AreFresh (records world) → world.sent ≡ [] → WorldFits world
 
--- Each event, whatever it is answered, leaves the sites fitting together. So does every run.
+-- Each event, whatever its answer, leaves the sites consistent. So does every run.
 abbrev pub TurnsKeepTheFit : Type 0
 TurnsKeepTheFit = (old new : WorldState) (event : WorldEvent) (answer : Answer) → WorldFits old → Turns old event answer new → WorldFits new
 
 abbrev pub RunsKeepTheFit : Type 0
 RunsKeepTheFit = (old new : WorldState) (events : List WorldEvent) (answers : List Answer) → WorldFits old → Runs old events answers new → WorldFits new
 
--- In sites that fit together, what is quarantined under an ended recall is what its root reaches, neither more nor less.
+-- In sites that are consistent, what is quarantined under an ended recall is what its root reaches, neither more nor less.
 abbrev pub EndsAreExact : Type 0
 EndsAreExact = (world : WorldState) (recall : Recall) → WorldFits world → AreExactOnceEnded recall (records world) (quarantined recall (records world))
 
--- Each pair is told once, by site and then by item.
+-- Each pair is listed once, by site and then by item.
 abbrev pub QuarantinesAscend : Type 0
 QuarantinesAscend = (world : WorldState) (recall : Recall) → WorldFits world → IsStrictlyAscending (quarantined recall (records world))
 
@@ -44,19 +44,19 @@ EndedStays =
     (old new : WorldState) (events : List WorldEvent) (answers : List Answer) (recall : Recall) (root : List ℕ)
     → WorldFits old → Runs old events answers new → HasEnded recall root (records old) → StaysEnded recall root (records old) (records new)
 
--- What a run makes of sites that fit together.
+-- What a run makes of sites that are consistent.
 pub record ComesOut (old : WorldState) (events : List WorldEvent) (answers : List Answer) (new : WorldState) : Type 0 where
   -- each site stands as its answered steps in order, with each step that it went down in whole or absent
   pub stand : SitesStand old events answers new
   -- whenever the site that began a recall has recorded its end, what is quarantined under it, at all sites, is what its root
   -- reaches
   pub exact : (recall : Recall) → AreExactOnceEnded recall (records new) (quarantined recall (records new))
-  -- in which each pair is told once
+  -- in which each pair is listed once
   pub ascend : (recall : Recall) → IsStrictlyAscending (quarantined recall (records new))
   -- and a recall that has ended stays so, with the same pairs
   pub stay : (recall : Recall) (root : List ℕ) → HasEnded recall root (records old) → StaysEnded recall root (records old) (records new)
 
--- So it does whatever happens, in whatever order, and whatever it is answered: steps that are refused, lost, repeated or
+-- So it does whatever happens, in whatever order, and whatever its answer: steps that are refused, lost, repeated or
 -- late frames, sites that stop within a step and are opened again.
 abbrev pub RunsComeOut : Type 0
 RunsComeOut = (old new : WorldState) (events : List WorldEvent) (answers : List Answer) → WorldFits old → Runs old events answers new → ComesOut old events answers new

@@ -10,7 +10,7 @@ use Rattle.trace_core.specs.Chains.{Related}
 use Rattle.trace_core.specs.Relations.{Reaches}
 use Rattle.trace_core.specs.declared.pairs.Pair.{Pair}
 
--- whether the recall has ended, as the record of the site that began it tells; None where it tells of no such recall
+-- whether the recall has ended, as the record of the site that began it says; None where it has no such recall
 abbrev pub ended_in : Recall → Record → Option Bool
 ended_in recall r = option_map (λ own. own.ended) (get r.engagement.own recall.number)
 

@@ -1,4 +1,4 @@
--- What each event does to a world, and what it is answered.
+-- What each event does to a world, and its answer.
 use Rattle.std.specs.Prelude.{◌≡◌, ℕ, zero, suc, ◌==◌, ◌⊎◌, Option, Some, None, List, [], ◌∷◌, ◌++◌, length, slice_get, slice_set, if◌then◌else◌}
 use Rattle.frame_core.specs.declared.frames.Frame.{Frame}
 use Rattle.frame_core.specs.declared.frames.Frame.TheVariants as frames
@@ -19,7 +19,7 @@ use Rattle.world_core.specs.declared.events.Answer.{Answer}
 use Rattle.world_core.specs.declared.events.Answer.TheVariants.{Done, Fault, Sent, NoFrame, NoSite, Stopped, Reopened, NotReopened, NotClosed, NoMemory}
 use Rattle.world_core.specs.Worlds.{Standing, Up, Down, WorldState}
 
--- What an event hands to its site.
+-- What an event gives to its site.
 
 -- the site that a frame is for: a message's is named, and a signal goes to the sender of its message
 abbrev pub addressee : Frame → ℕ
@@ -35,7 +35,7 @@ abbrev pub input_of_frame : ℕ → Option Frame → Option SiteInput
 input_of_frame site None = None
 input_of_frame site (Some frame) = if addressee frame == site then Some (inputs.Deliver frame) else None
 
--- what a site is handed. None where a frame is named that wasn't sent, or is for another site
+-- what a site is given. None where a frame is named that wasn't sent, or is for another site
 abbrev pub input_at : List Frame → ℕ → WorldInput → Option SiteInput
 input_at sent site (Capture bytes) = Some (inputs.Capture bytes)
 input_at sent site (Start root) = Some (inputs.Start root)
@@ -63,7 +63,7 @@ Stops old (Some input) keep NoMemory new = new ≡ Up old
 Stops old None keep NoFrame new = new ≡ Up old
 Stops old input keep answer new = ⊥
 
--- the frame that the record makes emittable is added to those sent, and its place there is told
+-- the frame that the record makes emittable is added to those sent, and its place there is reported
 abbrev pub Sends : Option Frame → List Frame → Answer → List Frame → Type 0
 Sends (Some frame) sent (Sent place) now = (now ≡ sent ++ frame ∷ []) × (place ≡ length now)
 Sends (Some frame) sent NoMemory now = now ≡ sent

@@ -25,7 +25,7 @@ pub record WorldState : Type 0 where
 abbrev pub records : WorldState → List Record
 records world = map record_of world.sites
 
--- each record is in its site's place, and the records of all sites, up or down, fit together with all frames sent
+-- each record is in its site's place, and the records of all sites, up or down, are consistent with all frames sent
 pub record WorldFits (world : WorldState) : Type 0 where
   pub places : AreInPlace (records world)
   pub fits : Fits (world_of (records world)) world.sent

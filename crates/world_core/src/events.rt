@@ -1,3 +1,4 @@
+//! The events of a world, and their answers.
 ghost use Rattle.std.specs.Prelude.{◌≡◌};
 ghost use Rattle.world_core.specs.Turns.{site_of};
 
@@ -6,7 +7,7 @@ use event_json::{Sequence, SiteNo};
 use keeper_core::{Keep, KeepFault};
 use site_core::Effects;
 
-/// What a site is handed.
+/// What a site is given.
 #[derive(Debug, Drop)]
 pub enum WorldInput {
     /// To capture the events of a document, which has these bytes.
@@ -57,7 +58,7 @@ impl WorldEvent {
     }
 }
 
-/// What an event is answered. The tests come in this order: no such site, closed, no such frame, and then the step.
+/// The answer to an event. The tests come in this order: no such site, closed, no such frame, and then the step.
 #[derive(Debug, Drop, PartialEq, Eq)]
 pub enum Answer {
     /// The step was done, and is kept.
@@ -71,7 +72,7 @@ pub enum Answer {
     NoFrame,
     /// The world has no such site.
     NoSite,
-    /// The site is closed now, and nothing is told of the step.
+    /// The site is closed now, and nothing is reported of the step.
     Stopped,
     /// The site is open again.
     Reopened,

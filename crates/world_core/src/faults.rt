@@ -1,3 +1,4 @@
+//! Why records aren't shown, and why keepers make no world.
 ghost use Rattle.std.specs.Prelude.{◌≡◌};
 ghost use Rattle.world_core.specs.declared.faults.ViewFault.TheVariants.{NoMemory};
 
@@ -39,11 +40,11 @@ pub enum WorldFault {
     #[error("memory ran out")]
     NoMemory,
     /// The keeper at this place, from 0, has another list of sites than the first one or another number than its
-    /// place, or is wanting. 0 where there are no keepers.
+    /// place, or is missing. 0 where there are no keepers.
     #[error("the keeper at {0} is of other sites")]
     OtherSites(u64),
-    /// The records don't fit together while no frame is in flight: the least condition that fails, and the least
-    /// site that is charged with it.
+    /// The records aren't consistent while no frame is in flight: the least condition that fails, and the least
+    /// site that it is attributed to.
     #[error("the sites don't fit together")]
     Misfit(Misfit),
     /// The keeper at this place, from 0, is closed, and none before it.

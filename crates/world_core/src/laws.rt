@@ -5,7 +5,7 @@ ghost use Rattle.world_core.specs.FormingLaws.{FreshSitesMakeAWorld, OnlyMemoryH
 ghost use Rattle.world_core.specs.Laws.{EndedStays, EndsAreExact, FramesStay, FreshSitesFit, QuarantinesAscend, RunsComeOut, RunsFromTheStartComeOut, RunsKeepTheFit, SitesStandAsKept, TurnsKeepTheFit};
 ghost use Rattle.world_core.specs.SendingLaws.{FramesWereEmittable};
 
-/// The records of all sites in order, at which nothing happened yet, make a world; and only want of memory hinders records
+/// The records of all sites in order, at which nothing happened yet, make a world; and only out of memory prevents records
 /// that make one.
 pub fn records_make_a_world()
     ensures fresh { FreshSitesMakeAWorld }
@@ -18,7 +18,7 @@ pub fn sites_stand_as_their_kept_steps()
     ensures sites { SitesStandAsKept }
 {}
 
-/// Whatever happens, whatever it is answered, the records of all sites, up or down, fit together with all frames sent.
+/// Whatever happens, whatever its answer, the records of all sites, up or down, are consistent with all frames sent.
 pub fn runs_keep_the_fit()
     ensures fresh { FreshSitesFit }
     ensures turn { TurnsKeepTheFit }
@@ -37,7 +37,7 @@ pub fn an_ended_recall_stays()
     ensures { EndedStays }
 {}
 
-/// After any list of events, answered from sites that fit together, as those do at which nothing happened yet: each site
+/// After any list of events, answered from sites that are consistent, as those do at which nothing happened yet: each site
 /// stands as its answered steps in order, with each step that it went down in whole or absent; and whenever the site that
 /// began a recall has recorded its end, what is quarantined under it, at all sites, is what its root reaches, and stays so.
 pub fn the_headline()
@@ -51,7 +51,7 @@ pub fn frames_were_emittable()
 {}
 
 /// After every run from sites at which nothing happened yet a recall has as many messages as there are shipments of what
-/// is quarantined under it: each shipment is told by one message, however often its frame was sent.
+/// is quarantined under it: each shipment is announced by one message, however often its frame was sent.
 pub fn messages_are_counted()
     ensures { MessagesAreCounted }
 {}

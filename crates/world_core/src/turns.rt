@@ -39,7 +39,7 @@ pub fn step_at<K: SiteKeeper>(
     }
 }
 
-/// What the site is handed, or None where there is no such frame for it.
+/// What the site is given, or None where there is no such frame for it.
 fn input_for(
     alloc: Global,
     sent: &[Frame],
@@ -84,7 +84,7 @@ fn addressee(frame: &Frame) -> SiteNo
     }
 }
 
-/// What the keeper's answer is told as.
+/// What the keeper's answer is reported as.
 fn answered(applied: Result<Effects, KeepFault>) -> Answer
     ensures { result ≡ answer_of applied }
 {

@@ -1,3 +1,4 @@
+//! The world: all sites with their keepers, and the frames sent.
 ghost use Rattle.std.specs.Prelude.{◌≡◌, ℕ, List, [], IfOk, IfErr, OnOk, OnErr, option_map, option_and_then, slice_get};
 ghost use Rattle.frame_core.specs.Rows.{frame_of};
 ghost use Rattle.site_core.specs.Records.{Record};
@@ -41,16 +42,16 @@ impl<K: SiteKeeper> Model for World<K> {
 
     ghost view = { λ w. record { keepers = w.keepers.items; sent = w.sent.items } };
 
-    // In whatever records the closed sites are opened, all fit together.
+    // In whatever records the closed sites are opened, all are consistent.
     ghost invariant = { λ w. SitesFit K.shown K.may (record { keepers = w.keepers.items; sent = w.sent.items }) };
 }
 
 impl<K: SiteKeeper> World<K> {
     /// The world of these keepers, each open, one for each site of the list that all of them have, in order. Their
-    /// records fit together, as those do at which nothing happened yet, and no frame was sent.
+    /// records are consistent, as those do at which nothing happened yet, and no frame was sent.
     ///
     /// # Errors
-    /// In this order: `Closed`, `OtherSites`, `Misfit`; and `NoMemory`. The keepers are handed back as they were.
+    /// In this order: `Closed`, `OtherSites`, `Misfit`; and `NoMemory`. The keepers are given back as they were.
     pub fn new(alloc: Global, keepers: Vec<K>) -> Result<World<K>, NotAWorld<K>>
         ensures world { IfOk result (λ world. world ≡ record { keepers = keepers.items; sent = [] }) }
         ensures shown { OnOk result ((records : List Record) × AllShow K.shown keepers.items records × MakeAWorld records) }
@@ -67,7 +68,7 @@ impl<K: SiteKeeper> World<K> {
         }
     }
 
-    /// One event, and what it is answered.
+    /// One event, and its answer.
     pub fn turn(&mut self, event: WorldEvent) -> Answer
         ensures world { ComesFrom (MayBe K.shown K.may self.old) (MayBe K.shown K.may self.new) (λ old new. Turns old event result new) }
         // For a caller that knows what this kind of keeper promises.
@@ -76,7 +77,7 @@ impl<K: SiteKeeper> World<K> {
         take_turn(self.alloc, &mut self.keepers, &mut self.sent, event)
     }
 
-    /// Sends the frame of a name, and answers as a turn does that sends the frame at its place among those that the
+    /// Sends the frame of a name, and returns what a turn does that sends the frame at its place among those that the
     /// record of the site makes emittable; `NoFrame` where it makes none of that name so. It looks that frame up, and
     /// doesn't go through those before it.
     pub fn post(&mut self, site: SiteNo, name: FrameName) -> Answer
@@ -138,14 +139,14 @@ impl<K: SiteKeeper> World<K> {
     }
 
     /// Whether a recall has ended. None where the site that began it is closed, and where it has no such recall.
-    /// Takes no memory.
+    /// Does not allocate.
     pub fn ended(&self, recall: RecallId) -> Option<bool>
         ensures { result ≡ option_and_then (ended_in recall) (option_and_then K.shown (slice_get self.now.keepers recall.site)) }
     {
         ended_at(self.view(recall.site)?, recall)
     }
 
-    /// The sites may be some world: what is said of each that they may be isn't said of none. Each fits together.
+    /// The sites may be some world: what is said of each that they may be isn't said of none. Each is consistent.
     pub fn stands(&self)
         ensures some { (world : WorldState) × MayBe K.shown K.may self.now world }
         ensures fits { SitesFit K.shown K.may self.now }

@@ -22,13 +22,13 @@ use std::alloc::Global;
 use std::test::Fail;
 use std::thread;
 
-/// Whether the records of both sites fit together.
+/// Whether the records of both sites are consistent.
 pub fn fit(alloc: Global, first: &SiteState, second: &SiteState) -> bool {
     let states = [first, second];
     are_all_sites(&states) && check_world(alloc, &states).is_ok()
 }
 
-/// The wire between two sites whose records fit together, and a seat that holds both.
+/// The wire between two sites whose records are consistent, and a seat that holds both.
 pub fn between(alloc: Global, first: &SiteState, second: &SiteState) -> Result<(Wire, Seat), Fail>
     ensures wire { IfOk result (λ r. IsSeatOf r.0 r.1 × (r.0.sites ≡ 2) × (r.1.logs ≡ logs_from 0 (first.now ∷ second.now ∷ []))) }
     ensures numbers { OnOk result ((first.now.engagement.me ≡ 0) × (second.now.engagement.me ≡ 1)) }

@@ -63,7 +63,7 @@ fn hear(
     (seat, state, stepped && signalled == Some(Post::Posted))
 }
 
-/// The message is told twice and the signal once, between two threads.
+/// The message comes twice and the signal once, between two threads.
 fn over_two_seats<R: Threads>(
     rt: &R,
     alloc: Global,
