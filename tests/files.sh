@@ -1,5 +1,5 @@
 #!/usr/bin/env bash
-# Drives the program on a folder of files as a person would: each command, most refusals and faults (the README lists the
+# Drives the program on a folder of files as a person would: each command, most refusals and faults (docs/PROOFS.md lists the
 # others; another version, a bad row and a locked file only where `sqlite3` is installed), and stops by `kill -9` at moments
 # of a capture and a start, after each of which an audit finds the record before or after it.
 # Run by hand, and by the gate on the program that it built. RECALL names another program, STOPS how often it is
@@ -88,6 +88,20 @@ wants 0 'captured 1 known 0 skipped 0' '' capture chain plant led.json
 sed 's,"outside","https://id.gs1.org/414/9521321000032",' led.json >blocked.json
 wants 1 'refused Blocked plant#1 sgtin 09521321000117 tank-7 event 1' '' capture chain plant blocked.json
 
+echo "several documents"
+again="captured 0 known 2 skipped 0 $chain/shop-2.json"
+wants 1 "$(printf '%s\n' "$again" 'refused Doc Syntax event 0 field document bad.json' "$again" 'documents 3 captured 0 known 4 skipped 0 refused 1')" \
+    '' capture chain shop-2 "$chain/shop-2.json" bad.json "$chain/shop-2.json"
+wants 3 "$again" "$(printf 'fault Read\nfile none')" capture chain shop-2 "$chain/shop-2.json" none bad.json
+wants 1 'refused NoSite farm' '' capture chain farm none none
+printf '%s\n \r\n{' "$(tr -d '\n' <"$chain/shop-2.json")" >lines
+wants 1 "$(printf '%s\n' 'captured 0 known 2 skipped 0 lines:1' 'refused Doc Syntax event 0 field document lines:3' \
+    'documents 2 captured 0 known 2 skipped 0 refused 1')" '' capture chain shop-2 --lines lines
+"$recall" capture chain shop-2 - --lines <lines >out 2>err
+[ $? = 1 ] && [ "$(cat out err)" = "$("$recall" capture chain shop-2 lines --lines | sed 's/ lines:/ -:/')" ] || { echo "a pipe: $(cat out err)" >&2; failed=1; }
+"$recall" capture chain shop-2 - <"$chain/shop-2.json" >out 2>err
+[ $? = 0 ] && [ "$(cat out err)" = 'captured 0 known 2 skipped 0' ] || { echo "a document in a pipe: $(cat out err)" >&2; failed=1; }
+
 echo "faults"
 faults Read none capture chain dairy none
 # damaged: the chain again, to be spoilt
@@ -149,7 +163,7 @@ damaged
 "$recall" report damaged 'dairy#1' >/dev/full 2>err
 [ $? = 3 ] && [ "$(cat err)" = 'fault Write' ] || { echo "a full output: $(cat err)" >&2; failed=1; }
 
-echo "$stops stops of a capture and as many of a start"
+echo "$stops stops of a capture, as many of a start, and as many of a capture of many documents"
 rm -rf before stopped
 mkdir before
 wants 0 '' '' init before "$chain/sites"
@@ -193,5 +207,27 @@ for ((n = 0; n < stops; n++)); do
     esac
 done
 echo "  $old of the starts left the record before"
+# of many documents, those that were answered are kept, and a stopped one is kept whole or not at all
+for ((n = 1; n <= 200; n++)); do
+    printf '{"type":"ObjectEvent","eventID":"e%d","eventTime":"2024-05-02T08:00:00Z","eventTimeZoneOffset":"+00:00","action":"OBSERVE","epcList":["i%d"]}\n' "$n" "$n"
+done >many
+rm -rf stopped && cp -r before stopped
+begun=$(date +%s%N)
+"$recall" capture stopped dairy --lines many >out || failed=1
+spent=$((($(date +%s%N) - begun) / 1000))
+some=0
+for ((n = 0; n < stops; n++)); do
+    rm -rf stopped && cp -r before stopped
+    "$recall" capture stopped dairy --lines many >answered 2>/dev/null &
+    sleep "$(printf '%d.%06d' $((spent * n / stops / 1000000)) $((spent * n / stops % 1000000)))"
+    kill -9 $! 2>/dev/null
+    wait $! 2>/dev/null
+    lines=$(grep -c many: answered)
+    [ "$lines" -gt 0 ] && [ "$lines" -lt 200 ] && some=$((some + 1))
+    "$recall" capture stopped dairy --lines many >out 2>err
+    known=$(sed -n 's/^documents 200 captured [0-9]* known \([0-9]*\) skipped 0 refused 0$/\1/p' out)
+    [ "${known:--1}" -ge "$lines" ] && [ "$known" -le $((lines + 1)) ] || { echo "$lines documents were answered, and ${known:-none} kept" >&2; failed=1; }
+done
+echo "  $some of the captures of many documents stopped among them"
 [ "$failed" = 0 ] && echo "all as it should be"
 exit "$failed"
