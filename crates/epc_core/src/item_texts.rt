@@ -128,7 +128,7 @@ impl ItemText {
         self.compare_rests(other)
     }
 
-    /// How the bytes behind the first 30 compare. Not inlined, since it is seldom needed.
+    /// How the bytes behind the first 30 compare. Not inlined, to keep the comparison of the first ones small.
     #[inline(never)]
     fn compare_rests(&self, other: &ItemText) -> Ordering
         ensures { result ≡ slice_cmp nat_cmp (drop 30 self.now) (drop 30 other.now) }

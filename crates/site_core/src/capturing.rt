@@ -142,12 +142,6 @@ fn capture_fresh(
 
 /// The least item, and then the least recall, by which the event is blocked: it would lead from the item,
 /// which is quarantined under the recall, to a pair that isn't at this site and quarantined under it.
-///
-/// Where nothing is quarantined it does not allocate, and looks at no event. Else it looks at the event's
-/// items. Of a part of a transformation with an id it looks at what is quarantined too, or at the captured
-/// parts of the transformation where there are no more of them. A quarantined item
-/// that the event would lead to its own outputs alone costs a look at each of them for each recall of the
-/// item; one that it would lead elsewhere, or out of a quarantine, costs all that the item is related to.
 pub fn first_block(
     alloc: Global,
     captured: &Captured,

@@ -11,8 +11,7 @@ use frame_core::RecallId;
 use std::alloc::{AllocError, Global};
 use std::collections::BTreeSet;
 
-/// The recalls under which the item is quarantined, ascending and without repeats. It costs a look-up and
-/// these recalls, not all that hold something.
+/// The recalls under which the item is quarantined, ascending and without repeats.
 pub fn holders(
     alloc: Global,
     quarantine: &Quarantine,
@@ -39,7 +38,7 @@ fn in_order(alloc: Global, recalls: &BTreeSet<RecallId>) -> Result<Vec<RecallId>
     Ok(out)
 }
 
-/// Whether the item is quarantined under some recall. It costs a look-up.
+/// Whether the item is quarantined under some recall.
 pub fn is_held(quarantine: &Quarantine, item: &Epc) -> bool
     ensures { IsTrue result ↔ ((r : Recall) × IsTrue (held quarantine.now r item.now)) }
 {

@@ -45,8 +45,8 @@ pub fn plan_start(
 }
 
 /// What a message of a recall adds: what is new of the spread of its item, and the shipments of that. Where
-/// what is quarantined is closed inside the site, it costs what it adds; and the transformations that it goes
-/// through are seen afterwards, also after an error.
+/// what is quarantined is closed inside the site, the search stops at it, and the transformations that it goes
+/// through are seen afterwards.
 pub fn plan_message(
     alloc: Global,
     captured: &Captured,

@@ -18,7 +18,7 @@ use std::collections::{BTreeMap, BTreeSet};
 use std::marker::Model;
 
 /// The items that are quarantined at a site, by recall. A recall without items isn't kept. Beside them
-/// stands an index, so that to find the recalls of an item costs a look-up, however many recalls there are.
+/// stands an index of the recalls of each item.
 #[derive(Debug, Drop)]
 pub struct Quarantine {
     recalls: BTreeMap<RecallId, ItemSet>,
@@ -169,7 +169,7 @@ impl Quarantine {
         &self.index
     }
 
-    /// The recalls under which an item is quarantined, ascending. It costs a look-up.
+    /// The recalls under which an item is quarantined, ascending.
     pub(crate) fn recalls_of(&self, item: &Epc) -> Option<&BTreeSet<RecallId>>
         ensures { (r : Recall) → has (option_map (λ recalls. recalls.now) result) r ≡ held self.now r item.now }
     {

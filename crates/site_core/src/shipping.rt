@@ -35,7 +35,7 @@ pub fn shipments(
     told(alloc, keys_in_order(alloc, found)?)
 }
 
-/// Adds the shipments of an item. It costs the events that name it, not what they make of it.
+/// Adds the shipments of an item.
 fn add_shipments(
     captured: &Captured,
     item: &Epc,

@@ -1,4 +1,4 @@
-//! What is known of a site's quarantine beside it, so that a message costs what it adds.
+//! What is known of a site's quarantine beside it, so that a message's search may stop at what is held.
 ghost use Rattle.std.specs.Prelude.{◌≡◌, true};
 ghost use Rattle.std.specs.FinMap as finite;
 ghost use Rattle.trace_core.specs.Sites.{SiteEvents};

@@ -15,9 +15,9 @@ use std::alloc::{AllocError, Global};
 use std::collections::BTreeSet;
 use trace_core::Captured;
 
-/// All quarantined items from which the event would give new pairs, and maybe others, ascending. It costs
-/// the event's items; and of a part of a transformation with an id also what is quarantined, or the captured
-/// parts of the transformation where there are no more of them.
+/// All quarantined items from which the event would give new pairs, and maybe others, ascending. Of a part of
+/// a transformation with an id they are looked for among what is quarantined, or among the inputs of the
+/// captured parts of the transformation, whichever are fewer.
 pub fn sources(
     alloc: Global,
     captured: &Captured,
@@ -100,7 +100,7 @@ fn add_if_input(
     Ok(())
 }
 
-/// Adds what the captured parts of a transformation move. It costs these parts.
+/// Adds what the captured parts of a transformation move.
 fn add_parts(
     alloc: Global,
     captured: &Captured,

@@ -62,8 +62,8 @@ pub fn newly_held(
 }
 
 /// The same where what is quarantined is closed inside the site: the search ends at items that are quarantined
-/// under the recall, and leaves out transformations all of whose outputs are. It costs what is new, and the
-/// events that name it; those that the search goes through are seen afterwards, also after an error.
+/// under the recall, and leaves out transformations all of whose outputs are; those that it goes through are
+/// seen afterwards.
 pub(crate) fn newly_held_past(
     alloc: Global,
     captured: &Captured,
@@ -102,8 +102,7 @@ fn spread_past(
     }
 }
 
-/// Whether one of the captured events names the item, or it is quarantined under some recall. For an item
-/// that is named it costs a look-up, and goes through neither the events nor the recalls.
+/// Whether one of the captured events names the item, or it is quarantined under some recall.
 pub fn is_known(captured: &Captured, quarantine: &Quarantine, item: &Epc) -> bool
     ensures { IsTrue result ↔ IsKnownItem captured.now quarantine.now item.now }
 {

@@ -66,7 +66,7 @@ fn stepped_to(next: SiteState, effects: Effects) -> Stepped
 }
 
 impl SiteState {
-    /// The step of a site, in place: nothing that is kept is copied.
+    /// The step of a site, in place.
     ///
     /// # Errors
     /// As those of [`step`]. Nothing is changed then. `NoMemory` comes of no signal.

@@ -20,10 +20,7 @@ use std::collections::BTreeSet;
 impl Captured {
     /// The item, and what chains of related pairs lead to from it inside this site, ascending and without
     /// repeats; but chains end at items of `stop`, and transformations that were seen before are left out.
-    /// Those that the search comes to are seen afterwards, also after an error.
-    ///
-    /// It costs the events that name the items that are found and aren't in `stop`, and the outputs of the
-    /// transformations that are new.
+    /// Those that the search comes to are seen afterwards.
     pub fn spread_beyond(
         &self,
         item: &Epc,

@@ -82,7 +82,7 @@ impl Book {
         Ok(())
     }
 
-    /// Leaves the first events alone. It costs the events that go, and does not allocate.
+    /// Leaves the first events alone. Does not allocate.
     pub fn truncate(&mut self, kept: usize)
         ensures { self.new ≡ take kept self.old }
     {
@@ -143,7 +143,7 @@ impl Book {
         self.index.items.places_of(item)
     }
 
-    /// The sites that the item of a number was shipped to, in the order in which events first ship it there.
+    /// The sites that the item of a number was shipped to.
     pub fn sites_at(&self, number: usize) -> &[SiteNo]
         ensures { (i : List ℕ) → slice_get (numbered self.now) number ≡ Some i → (t : ℕ)
             → Contains result.now t ↔ IsSentTo self.now i t }
@@ -189,7 +189,7 @@ impl Book {
         places_of_id(&self.index.parts, id)
     }
 
-    /// How an event stands among these. It costs those of its eventID, and does not allocate.
+    /// How an event stands among these. Does not allocate.
     pub fn standing(&self, event: &Event) -> Standing
         ensures { result ≡ standing_among self.now event.now }
     {

@@ -71,7 +71,7 @@ impl Captured {
         self.book.get(place)
     }
 
-    /// Whether one of the captured events names the item. It costs a look-up, and does not allocate.
+    /// Whether one of the captured events names the item. Does not allocate.
     pub fn mentions(&self, item: &Epc) -> bool
         ensures { IsTrue result ↔ Any (λ e. Contains (items_of e.body) item.now) self.now.events }
     {
@@ -157,7 +157,7 @@ impl Captured {
     }
 
     /// The pairs at other sites that an item at this site is related to, ascending and without repeats:
-    /// the item at each other site that it was shipped to. It costs a look-up and these.
+    /// the item at each other site that it was shipped to.
     pub fn shipped(&self, item: &Epc) -> Result<Vec<Pair>, AllocError>
         ensures ascending { IfOk result (λ pairs. IsStrictlyAscending pairs.items) }
         ensures exact { IfOk result (λ pairs. (p : Pair)
@@ -171,7 +171,7 @@ impl Captured {
     }
 
     /// The places of the captured parts of a transformation: of the transformations that have this
-    /// transformationID, ascending. It costs these.
+    /// transformationID, ascending.
     pub fn parts_of(&self, id: &PlainText) -> Result<Vec<usize>, AllocError>
         ensures ascending { IfOk result (λ places. AllPairs (λ j k. j < k) places.items) }
         ensures exact { IfOk result (λ places. (k : ℕ) → Contains places.items k ↔ IsPartAt self.now.events id.now k) }

@@ -9,8 +9,8 @@ use epc_core::Epc;
 use std::alloc::{AllocError, Global};
 use std::collections::{BTreeMap, BTreeSet};
 
-/// The items of these numbers. Where they are many of a book's, they ascend: all its items are gone through
-/// in order then, which costs less than sorting those of the numbers.
+/// The items of these numbers. Where they are many of a book's, all its items are gone through in order,
+/// so that they ascend already.
 pub fn items_of_numbers<'a>(
     alloc: Global,
     book: &'a Book,
@@ -24,7 +24,7 @@ pub fn items_of_numbers<'a>(
     }
 }
 
-/// The items whose numbers are marked, ascending. It costs all that are known.
+/// The items whose numbers are marked, ascending.
 fn items_in_order<'a>(
     alloc: Global,
     known: &'a BTreeMap<Epc, usize>,

@@ -15,7 +15,7 @@ pub fn keys_in_order<K: Ord + Drop>(alloc: Global, set: BTreeSet<K>) -> Result<V
     set.into_iter().collect(alloc)
 }
 
-/// The keys, ascending and without repeats. It costs little where they are so already.
+/// The keys, ascending and without repeats.
 pub fn in_order<K: Ord + Drop>(keys: Vec<K>) -> Result<Vec<K>, AllocError>
     ensures ascending { IfOk result (λ ordered. IsStrictlySortedBy K.cmp ordered.items) }
     ensures same { IfOk result (λ ordered. ((a b : K) → K.cmp a b ≡ Equal → a ≡ b) → (k : K) → Contains ordered.items k ↔ Contains keys.items k) }

@@ -13,16 +13,14 @@ use epc_core::Epc;
 use event_json::{Body, PlainText};
 
 impl Captured {
-    /// How many captured parts a transformation has: transformations with this transformationID. It costs
-    /// a look-up, and does not allocate.
+    /// How many captured parts a transformation has: transformations with this transformationID. Does not allocate.
     pub fn part_count(&self, id: &PlainText) -> usize
         ensures { result ≡ length (places_where (has_part id.now) self.now.events) }
     {
         self.book().parts_of(Some(id)).len()
     }
 
-    /// Whether a captured part of a transformation takes the item in. It goes through the transformations that
-    /// take the item in, up to the first such part, and does not allocate.
+    /// Whether a captured part of a transformation takes the item in. Does not allocate.
     pub fn is_part_input(&self, id: &PlainText, item: &Epc) -> bool
         ensures { IsTrue result ↔ TakesInAsPart self.now.events id.now item.now }
     {

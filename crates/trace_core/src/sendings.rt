@@ -120,7 +120,7 @@ impl Sent {
         }
     }
 
-    /// Notes that an item was sent to a site. It costs the sites of the item. An `Err` changes nothing.
+    /// Notes that an item was sent to a site. An `Err` changes nothing.
     fn note(&mut self, item: usize, site: SiteNo) -> Result<(), AllocError>
         ensures ok { OnOk result (NotesSendings self.old self.new (record { item = item; site = site } ∷ [])) }
         ensures err { OnErr result (self.new ≡ self.old) }
@@ -169,7 +169,7 @@ impl Sent {
         }
     }
 
-    /// Leaves the first so many alone. It costs those that go, and does not allocate.
+    /// Leaves the first so many alone. Does not allocate.
     pub fn truncate(&mut self, kept: usize)
         ensures { self.new ≡ take kept self.old }
     {

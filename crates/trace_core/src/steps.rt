@@ -60,7 +60,7 @@ impl Steps {
         self.list.as_slice()
     }
 
-    /// The place of a pair's step, if there is one. It costs a look-up.
+    /// The place of a pair's step, if there is one.
     pub fn place_of(&self, pair: &Pair) -> Option<usize>
         ensures { IsPlaceOf self.now pair.now result }
     {

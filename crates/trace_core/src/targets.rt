@@ -17,8 +17,7 @@ use crate::visits::visit_item;
 use std::alloc::{AllocError, Global};
 
 /// The pairs that a pair is related to, but for those that transformations gave which were seen before,
-/// ascending. It costs the sites that the item was shipped to, the transformations that take it in, and the outputs of
-/// those that are new.
+/// ascending.
 pub fn unseen_targets(
     alloc: Global,
     sites: &[&Captured],

@@ -16,8 +16,7 @@ use std::alloc::{AllocError, Global};
 use std::collections::VecDeque;
 
 /// For each of the pairs, in their order, a chain of related pairs from the root to it, as `reach` follows
-/// them, without repeats, such that no chain has fewer pairs. `None` exactly where it isn't reached. One search
-/// serves all pairs, and comes to each transformation once.
+/// them, without repeats, such that no chain has fewer pairs. `None` exactly where it isn't reached.
 pub fn trails_to(
     alloc: Global,
     sites: &[&Captured],

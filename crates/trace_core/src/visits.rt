@@ -19,8 +19,7 @@ use event_json::{Body, SiteNo};
 use std::alloc::AllocError;
 
 /// Notes what the item of a number is related to at a site, at other sites where shipments are asked for, but
-/// for what transformations gave that were seen before. It costs the sites that the item was shipped to, the
-/// transformations that take it in, and the outputs of those that are new.
+/// for what transformations gave that were seen before. Each output of a transformation that is new is a look.
 pub fn visit_item(
     site: &Captured,
     number: usize,
