@@ -13,7 +13,7 @@ use Rattle.event_json.specs.declared.bodies.Body.{Body}
 use Rattle.trace_core.specs.declared.groups.Group.{Group}
 use Rattle.trace_core.specs.declared.pairs.Pair.{Pair}
 use Rattle.trace_core.specs.Gathering.{shipped_by, made_by, joined_by, related_by}
-use Rattle.trace_core.specs.Groups.{group_cmp, IsSeen, Sees, outs_of, Gives, IsGiven, AddsUnseen, SeesOnly, made_at, IsSought}
+use Rattle.trace_core.specs.Groups.{group_cmp, IsSeen, Sees, outs_of, Gives, IsGiven, AddsUnseen, SeesOnly, IsSeenAt, HasSeenTakers, StaysSeen, first_of, made_at, IsSought}
 use Rattle.trace_core.specs.Pairs.{make_id, IsShipped, IsMade}
 use Rattle.trace_core.specs.PairTests.{same_id, same_item, ships, takes_in, gives_out}
 use Rattle.trace_core.specs.Places.{at_place, places_where, takes_item}
@@ -21,10 +21,12 @@ use Rattle.trace_core.specs.Searches.{IsFound}
 use Rattle.trace_core.specs.Sites.{SiteEvents}
 use Rattle.trace_core.proofs.Booleans.{list_any-same}
 use Rattle.trace_core.proofs.GatheringSteps.{is_related-by_events}
-use Rattle.trace_core.proofs.Members.{list_any_member, list_any_witness}
+use Rattle.trace_core.proofs.Members.{contains_none, list_any_member, list_any_witness}
+use Rattle.trace_core.proofs.NumberLists.{some_is}
 use Rattle.trace_core.proofs.PairTestsDecide.{same_id_decides, related_decides}
-use Rattle.trace_core.proofs.PlaceLists.{place_passes, any_at_places}
+use Rattle.trace_core.proofs.PlaceLists.{place_there, place_passes, any_at_places}
 use Rattle.trace_core.proofs.RelatedPlaces.{slice_there, ins_listed}
+use Rattle.trace_core.proofs.SetMembers.{contains_more}
 
 module _ (events : List Content) (j : List ℕ) where
   or_same : (a b : Bool) → (a ≡ true → b ≡ true) → (a || b) ≡ b
@@ -134,6 +136,37 @@ sees_none site seen g h = inl h
 
 pub sees_both : (site : ℕ) (a b c : BTreeSet Group) → SeesOnly site a b → SeesOnly site b c → SeesOnly site a c
 sees_both site a b c one two g h = ⊎_elim (λ before. one g before) (λ own. inr own) (two g h)
+
+-- what was seen stays seen, and this transformation is seen now
+pub stays_seen : (g : Group) (seen seen' : BTreeSet Group) → Sees seen seen' g → StaysSeen seen seen'
+stays_seen g seen seen' upd h there = (upd h).1 (inl there)
+
+pub stays_both : (a b c : BTreeSet Group) → StaysSeen a b → StaysSeen b c → StaysSeen a c
+stays_both a b c one two g there = two g (one g there)
+
+pub seen_now : (site first place : ℕ) (events : List Content) (e : Content) (seen seen' : BTreeSet Group) → slice_get events place ≡ Some e → first ≡ first_of events place e.body → Sees seen seen' (record { site = site; first = first }) → IsSeenAt site events seen' place
+seen_now site first place events e seen seen' stands is upd f at =
+    let same : e ≡ f = some_is e f (sym stands ∙ at) in
+    subst (λ n. IsSeen seen' site n) (is ∙ ap (λ (g : Content). first_of events place g.body) same) ((upd (record { site = site; first = first })).1 (inr refl))
+
+module _ (site : ℕ) (events : List Content) (places : List ℕ) where
+  -- the transformations at the first so many places were seen
+  abbrev pub SeenSoFar : BTreeSet Group → ℕ → Type 0
+  SeenSoFar seen n = (k : ℕ) → Contains (take n places) k → IsSeenAt site events seen k
+
+  pub seen_nowhere : (seen : BTreeSet Group) → SeenSoFar seen 0
+  seen_nowhere seen k there = absurd (contains_none k there)
+
+  pub one_place_seen : (n place : ℕ) (a b : BTreeSet Group) → n < length places → place ≡ get_or places n place → StaysSeen a b → SeenSoFar a n → IsSeenAt site events b place → SeenSoFar b (n + 1)
+  one_place_seen n place a b below at stays so_far now k there e stands = ⊎_elim
+      (λ before. stays _ (so_far k before e stands))
+      (λ same. subst (λ j. IsSeenAt site events b j) same now e stands)
+      ((contains_more places n place below at k).0 there)
+
+  pub all_places_seen : (n : ℕ) (i : List ℕ) (seen : BTreeSet Group) → length places ≤ n → places ≡ places_where (takes_item i) events → SeenSoFar seen n → HasSeenTakers site events seen i
+  all_places_seen n i seen past are so_far k e stands takes =
+      let (below, at) = slice_there events k e stands in
+      so_far k (subst (λ ps. Contains ps k) (sym (take_all n places past ∙ are)) (place_there (takes_item i) events k e below at takes)) e stands
 
 -- a transformation that was seen before adds nothing
 adds_again : (s : SiteEvents) (site first : ℕ) (P : Pair → Type 0) (seen seen' : BTreeSet Group) (Old : Pair → Type 0) → Sees seen seen' (record { site = site; first = first }) → IsSeen seen site first

@@ -16,6 +16,7 @@ use Rattle.trace_core.specs.Found.{IsInBatch}
 use Rattle.trace_core.specs.Groups.{AddsUnseen}
 use Rattle.trace_core.specs.Looks.{one_look}
 use Rattle.trace_core.specs.Nodes.{Had, AreOnce, NotesNodes, destinations, Gains, ReachedFromNodes}
+use Rattle.trace_core.specs.Searches.{LooksAtAll}
 use Rattle.trace_core.proofs.ChainLaws.{reaches_itself, reaches_step, reached_holds}
 use Rattle.trace_core.proofs.GroupSteps.{HasMore, adds_none}
 use Rattle.trace_core.proofs.LookSteps.{one_look_cases}
@@ -134,7 +135,7 @@ module _ (S : Node → Pair → Type 0) where
       added = retold one.added;
     }
 
-module _ (S : Node → Pair → Type 0) (R : Pair → Pair → Type 0) (G : BTreeSet Group → Pair → Type 0) (starts : List Node) where
+module _ (S : Node → Pair → Type 0) (R : Pair → Pair → Type 0) (G H : BTreeSet Group → Pair → Type 0) (starts : List Node) where
   -- what holds of a search that has visited the nodes before a place
   pub record Searching (seen : BTreeSet Group) (nodes : List Node) (place : ℕ) : Type 0 where
     pub once : AreOnce nodes
@@ -143,6 +144,7 @@ module _ (S : Node → Pair → Type 0) (R : Pair → Pair → Type 0) (G : BTre
     pub sound : (q : Pair) → Had S nodes q → ReachedFromNodes S R starts q
     pub followed : (n : Node) (p q : Pair) → Contains (take place nodes) n → S n p → R p q → Had S nodes q
     pub given : (q : Pair) → G seen q → Had S nodes q
+    pub has_seen : (n : Node) → Contains (take place nodes) n → (p : Pair) → S n p → H seen p
     pub within : place ≤ length nodes
 
   -- the starts are noted
@@ -156,16 +158,19 @@ module _ (S : Node → Pair → Type 0) (R : Pair → Pair → Type 0) (G : BTre
         sound = λ q (n, found, stands). (n, q, new n found, stands, reaches_itself R q);
         followed = λ n p q h stands r. absurd (contains_none n h);
         given = λ q h. absurd (nothing q h);
+        has_seen = λ n h p stands. absurd (contains_none n h);
         within = omega arith;
       }
 
   -- a node is visited
   pub search_goes_on : (seen seen' : BTreeSet Group) (nodes nodes' : List Node) (place : ℕ) (node : Node) → place < length nodes → node ≡ get_or nodes place node → Searching seen nodes place → ((p : Pair) → S node p → Gains S G (R p) seen seen' nodes nodes')
-      → Searching seen' nodes' (place + 1)
-  search_goes_on seen seen' nodes nodes' place node below at so_far visited =
+      → ((p : Pair) → S node p → H seen' p) → ((p : Pair) → H seen p → H seen' p) → Searching seen' nodes' (place + 1)
+  search_goes_on seen seen' nodes nodes' place node below at so_far visited now stays =
       let here : Contains nodes node = (place, below, sym at) in
       let (p, stands) = so_far.stand node here in
       let gains = visited p stands in
+      let front : take (place + 1) nodes' ≡ take (place + 1) nodes = ap (take (place + 1)) gains.noted.appended ∙ take-append-le (place + 1) nodes gains.noted.more (omega (arith, below)) in
+      let taken : (n : Node) → Contains (take (place + 1) nodes') n → Contains (take place nodes) n ⊎ (node ≡ n) = λ n h. (contains_more nodes place node below at n).0 (subst (λ xs. Contains xs n) front h) in
       record {
         once = gains.noted.once so_far.once;
         starts_found = λ n h. node_stays nodes nodes' gains.nodes gains.noted n (so_far.starts_found n h);
@@ -174,15 +179,17 @@ module _ (S : Node → Pair → Type 0) (R : Pair → Pair → Type 0) (G : BTre
             (λ before. so_far.sound q before)
             (λ r. let (m, s, start, stood, reaches) = so_far.sound p (node, here, stands) in (m, s, start, stood, reaches_step R s p q reaches r))
             (gains.added.sound q h);
-        followed = λ n p' q h stood r.
-            let front : take (place + 1) nodes' ≡ take (place + 1) nodes = ap (take (place + 1)) gains.noted.appended ∙ take-append-le (place + 1) nodes gains.noted.more (omega (arith, below)) in
-            ⊎_elim
+        followed = λ n p' q h stood r. ⊎_elim
             (λ before. gains.added.stay q (so_far.followed n p' q before stood r))
             (λ same.
             let own = visited p' (subst (λ m. S m p') (sym same) stood) in
             ⊎_elim (λ there. there) (λ given. gains.added.stay q (so_far.given q given)) (own.added.complete q r))
-            ((contains_more nodes place node below at n).0 (subst (λ xs. Contains xs n) front h));
+            (taken n h);
         given = λ q h. ⊎_elim (λ before. gains.added.stay q (so_far.given q before)) (λ there. there) (gains.added.given q h);
+        has_seen = λ n h p' stood. ⊎_elim
+            (λ before. stays p' (so_far.has_seen n before p' stood))
+            (λ same. now p' (subst (λ m. S m p') (sym same) stood))
+            (taken n h);
         within = omega (arith, below, ap length gains.noted.appended, length-append nodes gains.noted.more);
       }
 
@@ -192,26 +199,42 @@ module _ (S : Node → Pair → Type 0) (R : Pair → Pair → Type 0) (G : BTre
       let closed : (y z : Pair) → Had S nodes y → R y z → Had S nodes z = λ y z (n, found, stands) r. so_far.followed n y z (subst (λ xs. Contains xs n) (sym (take_all place nodes past)) found) stands r in
       (so_far.sound q, λ (n, p, start, stands, reaches). reached_holds R (Had S nodes) closed p q reaches (n, so_far.starts_found n start, stands))
 
--- the nodes before a place were looked at, where the count didn't end; and where looks are bounded, the outputs that are left are within all
+-- the nodes before a place were looked at, where the count didn't end; and where looks are bounded, so were the outputs that aren't left
 pub record CountsLooks (Bounded : Type 0) (outputs unseen begun looks place : ℕ) : Type 0 where
   pub least : (place ≤ looks) ⊎ (2 ^ 64 - 1 ≤ looks)
   pub most : Bounded → looks + unseen ≤ begun + place + outputs
+  pub all : Bounded → (begun + place + outputs ≤ looks + unseen) ⊎ (2 ^ 64 - 1 ≤ looks)
 
 module _ (Bounded : Type 0) (outputs begun : ℕ) where
-  pub counts_begin : (unseen : ℕ) → (Bounded → unseen ≤ outputs) → CountsLooks Bounded outputs unseen begun begun 0
-  counts_begin unseen few = record { least = inl (omega arith); most = λ b. omega (arith, few b) }
+  pub counts_begin : (unseen : ℕ) → (Bounded → unseen ≡ outputs) → CountsLooks Bounded outputs unseen begun begun 0
+  counts_begin unseen as_many = record { least = inl (omega arith); most = λ b. omega (arith, as_many b); all = λ b. inl (omega (arith, as_many b)) }
 
-  pub counts_go_on : (unseen unseen' looks taken looks' place : ℕ) → CountsLooks Bounded outputs unseen begun looks place → taken ≡ one_look looks → taken ≤ looks' → (Bounded → looks' + unseen' ≤ taken + unseen) → CountsLooks Bounded outputs unseen' begun looks' (place + 1)
-  counts_go_on unseen unseen' looks taken looks' place so_far one more fewer = ⊎_elim
+  pub counts_go_on : (unseen unseen' looks taken looks' place : ℕ) → CountsLooks Bounded outputs unseen begun looks place → taken ≡ one_look looks → taken ≤ looks' → (Bounded → looks' + unseen' ≤ taken + unseen) → (Bounded → (taken + unseen ≤ looks' + unseen') ⊎ (2 ^ 64 - 1 ≤ looks'))
+      → CountsLooks Bounded outputs unseen' begun looks' (place + 1)
+  counts_go_on unseen unseen' looks taken looks' place so_far one more fewer all = ⊎_elim
       (λ counted. record {
         least = ⊎_elim (λ least. inl (omega (arith, least, one, counted, more))) (λ past. inr (omega (arith, past, one, counted, more))) so_far.least;
         most = λ b. omega (arith, so_far.most b, one, counted, fewer b);
+        all = λ b. ⊎_elim
+            (λ now. ⊎_elim (λ before. inl (omega (arith, before, now, one, counted))) (λ past. inr (omega (arith, past, one, counted, more))) (so_far.all b))
+            (λ past. inr past)
+            (all b);
       })
       (λ (same, past). record {
         least = inr (omega (arith, past, one, same, more));
         most = λ b. omega (arith, so_far.most b, one, same, fewer b);
+        all = λ b. inr (omega (arith, past, one, same, more));
       })
       (one_look_cases looks)
+
+-- once all nodes are visited
+pub looks_at_all : (S : Node → Pair → Type 0) (R : Pair → Pair → Type 0) (G H : BTreeSet Group → Pair → Type 0) (starts : List Node) (Bounded : Type 0) (outputs : ℕ) (unseen : BTreeSet Group → ℕ) (seen : BTreeSet Group) (nodes : List Node) (begun looks place : ℕ)
+    → length nodes ≤ place → Searching S R G H starts seen nodes place → CountsLooks Bounded outputs (unseen seen) begun looks place → Bounded → LooksAtAll (λ seen n. (p : Pair) → S n p → H seen p) outputs unseen nodes begun looks
+looks_at_all S R G H starts Bounded outputs unseen seen nodes begun looks place past so_far counts bounded = record {
+  seen = seen;
+  followed = λ n there. so_far.has_seen n (subst (λ xs. Contains xs n) (sym (take_all place nodes past)) there);
+  counted = ⊎_elim (λ counted. inl (omega (arith, past, counted))) (λ ended. inr ended) (counts.all bounded);
+}
 
 -- nodes made of the elements of a list, one more
 pub one_mapped : {X : Type 0} (a b c : List Node) (f : X → Node) (xs : List X) (n : ℕ) (x : X) → n < length xs → x ≡ get_or xs n x → NotesNodes a b (map f (take n xs)) → NotesNodes b c (f x ∷ []) → NotesNodes a c (map f (take (n + 1) xs))

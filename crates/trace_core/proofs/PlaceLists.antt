@@ -189,7 +189,7 @@ places_none p xs none = nothing (places_where p xs) (λ k h. let (x, below, at, 
     nothing [] h = refl
     nothing (k ∷ ks) h = absurd (h k (contains_here k ks))
 
-no_id : (o : Option (List ℕ)) → same_id o None ≡ false
+pub no_id : (o : Option (List ℕ)) → same_id o None ≡ false
 no_id None = refl
 no_id (Some a) = refl
 

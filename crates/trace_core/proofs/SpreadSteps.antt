@@ -1,5 +1,6 @@
 -- The spread of items, and its looks.
 use Rattle.std.proofs.Common.{◌≡◌, ℕ, zero, suc, ◌<◌, ◌≤◌, ◌+◌, ◌-◌, ◌^◌, true, false, Decides, List, [], ◌∷◌, ◌++◌, Option, None, Some, map, take, get_or, slice_get, unwrap_or, length, length-append, sum_by, ◌↔◌, refl, sym, ap, ◌∙◌, subst, inl, inr, ⊎_elim, arith}
+use mathlib.Core.Bool.{false≢true}
 use mathlib.Core.Logic.{◌⊎◌}
 use Rattle.std.specs.BTreeSet.{BTreeSet}
 use Rattle.std.specs.Cmp.{eq_by_cmp_equiv}
@@ -17,24 +18,26 @@ use Rattle.event_json.specs.Events.{Content}
 use Rattle.trace_core.specs.declared.groups.Group.{Group}
 use Rattle.trace_core.specs.declared.nodes.Node.{Node}
 use Rattle.trace_core.specs.declared.pairs.Pair.{Pair}
-use Rattle.trace_core.specs.Groups.{SeeksFrom, IsGiven, IsSought}
+use Rattle.trace_core.specs.Groups.{SeeksFrom, IsGiven, IsSought, HasSeenTakers, HasSeenFrom, StaysSeen, unseen_outputs, first_of}
 use Rattle.trace_core.specs.Nodes.{Stands, Had, AreOnce, Gains, ReachedFromNodes, HasItem, IsKnownNode}
 use Rattle.trace_core.specs.Numbers.{number_in, numbered}
 use Rattle.trace_core.specs.Pairs.{IsRelated}
-use Rattle.trace_core.specs.Places.{names_item}
+use Rattle.trace_core.specs.Places.{names_item, takes_item}
 use Rattle.trace_core.specs.Relations.{Reaches}
+use Rattle.trace_core.specs.Searches.{LooksAtAll}
 use Rattle.trace_core.specs.Sites.{SiteEvents}
 use Rattle.trace_core.specs.Spreads.{AreAscendingItems, Inside, IsSpread, items_of, output_count, HasEachItem, AreLooks}
 use Rattle.trace_core.proofs.ChainLaws.{reaches_itself, reaches_step, reached_holds}
 use Rattle.trace_core.proofs.GroupSteps.{adds_same}
 use Rattle.trace_core.specs.Looks.{one_look}
-use Rattle.trace_core.proofs.LookSteps.{one_look_cases}
-use Rattle.trace_core.proofs.Members.{contains-map, list_any_witness}
+use Rattle.trace_core.proofs.LookSteps.{one_look_cases, seen_with_id, seen_outputs}
+use Rattle.trace_core.proofs.Members.{contains-map, list_any_witness, list_any_member}
 use Rattle.trace_core.proofs.NodeOrder.{node_cmp, nodes_exact, nodes_total}
 use Rattle.trace_core.proofs.NodeSteps.{gains_none, gains_retold}
-use Rattle.trace_core.proofs.NumberLists.{some_is, none_is, number_stands, number_listed, numbered_apart, numbered_named}
+use Rattle.trace_core.proofs.NumberLists.{some_is, none_is, number_stands, number_listed, unnumbered, numbered_apart, numbered_named}
 use Rattle.trace_core.proofs.PairTestsDecide.{lists_decides}
 use Rattle.trace_core.proofs.ReachSteps.{one_stands, unrelated}
+use Rattle.trace_core.proofs.RelatedPlaces.{ins_listed, takes_named}
 use Rattle.trace_core.proofs.SetMembers.{contains_pushed, contains_more}
 
 module _ (s : SiteEvents) where
@@ -81,6 +84,24 @@ module _ (s : SiteEvents) where
 
   pub node_elsewhere : (node : Node) (at : ℕ) (a : BTreeSet Group) (x : List Node) → (node.at ≡ at → ⊥) → at ≡ s.me → (p : Pair) → Stands (s ∷ []) node p → Gains (Stands (s ∷ [])) (IsGiven s 0) (SeeksFrom false s p) a a x x
   node_elsewhere node at a x apart is p (t, at_t, item, place) = gains_none (Stands (s ∷ [])) (IsGiven s 0) (SeeksFrom false s p) a x (λ q h. apart (sym place ∙ sym h.0 ∙ sym is))
+
+  -- what was seen then
+  pub node_seen : (node : Node) (seen : BTreeSet Group) → ((i : List ℕ) → slice_get (numbered s.events) node.item ≡ Some i → HasSeenTakers 0 s.events seen i) → (p : Pair) → Stands (s ∷ []) node p → HasSeenFrom s seen p
+  node_seen node seen takers p stands own = takers p.item (its_item node p stands)
+
+  pub nothing_seen_elsewhere : (node : Node) (at : ℕ) (seen : BTreeSet Group) → (node.at ≡ at → ⊥) → at ≡ s.me → (p : Pair) → Stands (s ∷ []) node p → HasSeenFrom s seen p
+  nothing_seen_elsewhere node at seen apart is p (t, at_t, item, place) own = absurd (apart (sym place ∙ sym own ∙ sym is))
+
+  pub stays_seen_from : (a b : BTreeSet Group) → StaysSeen a b → (p : Pair) → HasSeenFrom s a p → HasSeenFrom s b p
+  stays_seen_from a b stays p before own place e stands takes = stays (record { site = 0; first = first_of s.events place e.body }) (before own place e stands takes)
+
+  -- an item that goes into a transformation is known
+  taken_known : (i : List ℕ) (e : Content) → Contains s.events e → takes_item i e ≡ true → number_in (numbered s.events) i ≡ None → ⊥
+  taken_known i e there takes none = false≢true (
+    sym (unnumbered (numbered s.events) i none)
+    ∙ numbered_named s.events i
+    ∙ list_any_member (names_item i) s.events e there (takes_named i e.body (sym (ins_listed i e.body) ∙ takes))
+  )
 
   module _ (items : List (List ℕ)) (starts list : List Node) (nodes : List Node) (are : (n : Node) → Contains starts n ↔ IsKnownNode s items n) (once : AreOnce nodes) (stand : (n : Node) → Contains nodes n → (q : Pair) × Stands (s ∷ []) n q)
       (reached : (q : Pair) → Had (Stands (s ∷ [])) nodes q ↔ ReachedFromNodes (Stands (s ∷ [])) (SeeksFrom false s) starts q) (same : list ≡ nodes) where
@@ -153,10 +174,32 @@ module _ (s : SiteEvents) where
         (parts i (Contains-from_any (tells_apart exact_bytes) i out there)))) in
         omega (arith, all, length-append unknown (map item_of list), length-map list item_of)
 
+    -- each transformation was seen that one of the found items goes into
+    out_seen : (unknown out : List (List ℕ)) (seen : BTreeSet Group) → ((i : List ℕ) → Contains unknown i → number_in (numbered s.events) i ≡ None) → ((i : List ℕ) → Contains out i → Contains unknown i ⊎ HasItem s.events list i)
+        → ((n : Node) → Contains list n → (p : Pair) → Stands (s ∷ []) n p → HasSeenFrom s seen p) → (i : List ℕ) (e : Content) → Contains out i → Contains s.events e → takes_item i e ≡ true → HasSeenTakers 0 s.events seen i
+    out_seen unknown out seen unnamed parts followed i e there among takes = ⊎_elim
+        (λ new. absurd (taken_known i e among takes (unnamed i new)))
+        (λ (n, at, is).
+        let found = subst (λ ns. Contains ns n) same at in
+        let (q, stands) = stand n found in
+        let (j, given, reaches) = from_given n q found stands in
+        subst (HasSeenTakers 0 s.events seen) (some_is q.item i (sym (its_item n q stands) ∙ is)) (followed n at q stands (sym (found_here j q reaches))))
+        (parts i there)
+
     -- the looks of a spread
-    pub looks_spread : (unknown found out : List (List ℕ)) (searched looks : ℕ) → length out < 2 ^ 64 → AreAscendingItems out → ((i : List ℕ) → Contains out i → Contains unknown i ⊎ HasItem s.events list i) → length list ≤ searched → searched ≤ 0 + length list + sum_by (λ e. output_count e.body) s.events
+    pub looks_spread : (unknown found out : List (List ℕ)) (searched looks : ℕ) → ((i : List ℕ) → Contains unknown i → number_in (numbered s.events) i ≡ None) → length out < 2 ^ 64 → AreAscendingItems out → ((i : List ℕ) → Contains out i → Contains unknown i ⊎ HasItem s.events list i) → length list ≤ searched → searched ≤ 0 + length list + sum_by (λ e. output_count e.body) s.events
+        → LooksAtAll (λ seen n. (p : Pair) → Stands (s ∷ []) n p → HasSeenFrom s seen p) (sum_by (λ e. output_count e.body) s.events) (λ seen. unseen_outputs 0 s.events seen) list 0 searched
         → (searched + length unknown ≤ looks) ⊎ (2 ^ 64 - 1 ≤ looks) → looks ≤ searched + length items → AreLooks s items out looks
-    looks_spread unknown found out searched looks fits ascending parts least most counted given = record {
+    looks_spread unknown found out searched looks unnamed fits ascending parts least most all counted given = record {
+      outputs =
+          let seen = seen_outputs 0 s.events out all.seen (seen_with_id 0 s.events out all.seen (out_seen unknown out all.seen unnamed parts all.followed)) in
+          ⊎_elim
+          (λ each. ⊎_elim
+          (λ searching. omega (arith, spread_le unknown out ascending parts, each, searching, seen))
+          (λ past. omega (arith, past, each))
+          all.counted)
+          (λ past. omega (arith, past))
+          counted;
       least = ⊎_elim (λ all. omega (arith, spread_le unknown out ascending parts, least, all)) (λ past. omega (arith, fits, past)) counted;
       most = λ known each. omega (arith, nodes_le known each, most, given);
     }

@@ -1,5 +1,5 @@
 -- Transformations that a search comes to once: all parts of one id at a site, or one without an id.
-use Rattle.std.specs.Prelude.{◌≡◌, ◌≤◌, ◌+◌, ◌==◌, ℕ, Bool, true, false, ◌&&◌, ◌||◌, cond, List, Option, None, Some, slice_get, sum_by, suc, ◌↔◌, [], ◌∷◌, ◌++◌, map}
+use Rattle.std.specs.Prelude.{◌≡◌, ◌≤◌, ◌+◌, ◌-◌, ◌^◌, ◌==◌, ℕ, Bool, true, false, ◌&&◌, ◌||◌, cond, List, Option, None, Some, slice_get, sum_by, suc, ◌↔◌, [], ◌∷◌, ◌++◌, map}
 use mathlib.Core.Logic.{◌⊎◌}
 use Rattle.std.specs.BTreeSet.{BTreeSet, contains}
 use Rattle.std.specs.List.{enumerate_from}
@@ -12,7 +12,7 @@ use Rattle.trace_core.specs.declared.pairs.Pair.{Pair}
 use Rattle.trace_core.specs.Gathering.{joined_by}
 use Rattle.trace_core.specs.Pairs.{make_id, IsMade, IsRelated}
 use Rattle.trace_core.specs.PairTests.{gives_out, same_id}
-use Rattle.trace_core.specs.Places.{at_place, places_where}
+use Rattle.trace_core.specs.Places.{at_place, places_where, takes_item}
 use Rattle.trace_core.specs.Searches.{IsFound}
 use Rattle.trace_core.specs.Sites.{SiteEvents}
 use Rattle.trace_core.specs.Spreads.{output_count}
@@ -86,10 +86,27 @@ group_outputs events b (Some id) = sum_by (λ k. outputs_at (slice_get events k)
 unfoldable pub unseen_outputs : ℕ → List Content → BTreeSet Group → ℕ
 unseen_outputs site events seen = sum_by (λ a. cond (contains group_cmp seen (record { site = site; first = first_of events a.0 a.1.body })) 0 (output_count a.1.body)) (enumerate_from 0 events)
 
--- each look is an output of a transformation that is seen now and wasn't before
+-- each look is an output of a transformation that is seen now and wasn't before; each such output is a look, where the count didn't end
 pub record LooksAtUnseen (site : ℕ) (events : List Content) (seen seen' : BTreeSet Group) (looks looks' : ℕ) : Type 0 where
   pub least : looks ≤ looks'
   pub most : looks' + unseen_outputs site events seen' ≤ looks + unseen_outputs site events seen
+  pub all : (looks + unseen_outputs site events seen ≤ looks' + unseen_outputs site events seen') ⊎ (2 ^ 64 - 1 ≤ looks')
+
+-- the transformation of the event at a place was seen
+abbrev pub IsSeenAt : ℕ → List Content → BTreeSet Group → ℕ → Type 0
+IsSeenAt site events seen place = (e : Content) → slice_get events place ≡ Some e → IsSeen seen site (first_of events place e.body)
+
+-- each transformation was seen that takes the item in
+abbrev pub HasSeenTakers : ℕ → List Content → BTreeSet Group → List ℕ → Type 0
+HasSeenTakers site events seen i = (place : ℕ) (e : Content) → slice_get events place ≡ Some e → takes_item i e ≡ true → IsSeen seen site (first_of events place e.body)
+
+-- so it was where the pair is at the site
+abbrev pub HasSeenFrom : SiteEvents → BTreeSet Group → Pair → Type 0
+HasSeenFrom s seen p = s.me ≡ p.site → HasSeenTakers 0 s.events seen p.item
+
+-- what was seen before is seen
+abbrev pub StaysSeen : BTreeSet Group → BTreeSet Group → Type 0
+StaysSeen seen seen' = (g : Group) → IsFound group_cmp seen g → IsFound group_cmp seen' g
 
 -- an output, at the own site, of the transformation whose part stands at the place
 abbrev pub made_at : ℕ → List Content → ℕ → Pair → Bool

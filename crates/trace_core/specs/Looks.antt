@@ -13,3 +13,9 @@ more_looks more looks = min (looks + more) (2 ^ 64 - 1)
 pub record LooksAtMost (more looks looks' : ℕ) : Type 0 where
   pub least : looks ≤ looks'
   pub most : looks' ≤ looks + more
+
+-- just so many looks more; at 2^64 - 1 the count stays
+pub record LooksAtEach (more looks looks' : ℕ) : Type 0 where
+  pub least : looks ≤ looks'
+  pub most : looks' ≤ looks + more
+  pub all : more_looks more looks ≤ looks'

@@ -1,5 +1,6 @@
 -- What is made of items inside one site, and what one more event adds.
-use Rattle.std.specs.Prelude.{◌≤◌, ◌+◌, ℕ, List, [], ◌∷◌, ◌++◌, length, Contains, sum_by}
+use Rattle.std.specs.Prelude.{◌≤◌, ◌+◌, ◌-◌, ◌^◌, ◌||◌, ℕ, Bool, cond, min, List, [], ◌∷◌, ◌++◌, length, Contains, sum_by}
+use Rattle.std.specs.List.{list_any}
 use Rattle.std.specs.List.Sorted.{IsStrictlySortedBy}
 use Rattle.std.specs.Ordering.{nat_cmp}
 use Rattle.std.specs.Cmp.Lexicographic.{slice_cmp}
@@ -7,7 +8,9 @@ use Rattle.event_json.specs.Events.{Content}
 use Rattle.event_json.specs.declared.bodies.Body.{Body}
 use Rattle.event_json.specs.declared.bodies.Body.TheVariants.{Note, Ship, Make}
 use Rattle.trace_core.specs.declared.pairs.Pair.{Pair}
+use Rattle.trace_core.specs.Gathering.{joins}
 use Rattle.trace_core.specs.Pairs.{IsRelated}
+use Rattle.trace_core.specs.PairTests.{takes_in}
 use Rattle.trace_core.specs.Relations.{ReachedFrom}
 use Rattle.trace_core.specs.Sites.{SiteEvents}
 
@@ -45,9 +48,19 @@ output_count (Make id ins outs) = length outs
 abbrev pub HasEachItem : SiteEvents → List (List ℕ) → Type 0
 HasEachItem s known = (e : Content) (i : List ℕ) → Contains s.events e → Contains (items_of e.body) i → Contains known i
 
--- looks are at least the items found, and at most the items given, the items known and all output members of all transformations
+-- one of the items goes into the event's transformation: it is an input of the event, or of one with its transformationID
+abbrev pub takes_some : List Content → List (List ℕ) → Body → Bool
+takes_some events items b = list_any (λ i. takes_in i b || joins events i b) items
+
+-- how many output members the transformations have that one of the items goes into, all parts together
+abbrev pub outputs_from : List Content → List (List ℕ) → ℕ
+outputs_from events items = sum_by (λ e. cond (takes_some events items e.body) (output_count e.body) 0) events
+
+-- looks are at least the items found, and each output member of what they go into, where the count didn't end at 2^64 - 1;
+-- at most the items given, the items known and all output members of all transformations
 pub record AreLooks (s : SiteEvents) (given found : List (List ℕ)) (looks : ℕ) : Type 0 where
   pub least : length found ≤ looks
+  pub outputs : min (length found + outputs_from s.events found) (2 ^ 64 - 1) ≤ looks
   pub most : (known : List (List ℕ)) → HasEachItem s known → looks ≤ length given + length known + sum_by (λ e. output_count e.body) s.events
 
 -- the site with one more event

@@ -4,7 +4,7 @@ ghost use Rattle.std.specs.List.{list_any};
 ghost use Rattle.event_json.specs.Contents.{same_content};
 ghost use Rattle.trace_core.specs.Adding.{standing_among};
 ghost use Rattle.trace_core.specs.Groups.{outputs_at};
-ghost use Rattle.trace_core.specs.Looks.{more_looks, LooksAtMost};
+ghost use Rattle.trace_core.specs.Looks.{more_looks, LooksAtEach};
 ghost use Rattle.trace_core.specs.Numbers.{IsNumbered, numbered, number_in, outs_at};
 ghost use Rattle.trace_core.specs.Pairs.{make_id};
 ghost use Rattle.trace_core.specs.PairTests.{same_id};
@@ -165,7 +165,7 @@ impl Book {
     pub fn outs_at(&self, place: usize, looks: &mut u64) -> &[usize]
         ensures outs { result.now ≡ outs_at self.now (slice_get self.now place) }
         ensures counted { looks.new ≡ more_looks (outputs_at (slice_get self.now place)) looks.old }
-        ensures bounded { LooksAtMost (outputs_at (slice_get self.now place)) looks.old looks.new }
+        ensures each { LooksAtEach (outputs_at (slice_get self.now place)) looks.old looks.new }
     {
         let outs = self.kept_outs(place);
         count_looks(looks, outs.len());

@@ -28,6 +28,7 @@ struct RelatedPairs<'a> {
 }
 
 impl Relation for RelatedPairs<'_> {
+    ghost use Rattle.std.specs.Prelude.{⊤};
     ghost use Rattle.trace_core.specs.Chains.{Related, sites_at};
     ghost use Rattle.trace_core.specs.Groups.{IsGivenBy};
     ghost use Rattle.trace_core.specs.Nodes.{Stands};
@@ -37,6 +38,8 @@ impl Relation for RelatedPairs<'_> {
     ghost relates = { λ r. Related (sites_at r.sites.now) };
 
     ghost gives = { λ r. IsGivenBy (sites_at r.sites.now) };
+
+    ghost has_seen = { λ r seen p. ⊤ };
 
     // nothing is claimed of how many looks several sites take
     ghost bounds_looks = { λ r. ⊥ };

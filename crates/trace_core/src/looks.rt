@@ -1,6 +1,6 @@
 //! The count of looks of a search.
 ghost use Rattle.std.specs.Prelude.{◌≡◌};
-ghost use Rattle.trace_core.specs.Looks.{one_look, more_looks, LooksAtMost};
+ghost use Rattle.trace_core.specs.Looks.{one_look, more_looks, LooksAtEach};
 
 /// Counts one look. At 2^64 - 1 the count stays.
 pub fn count_look(looks: &mut u64)
@@ -14,7 +14,7 @@ pub fn count_look(looks: &mut u64)
 /// Counts so many looks. At 2^64 - 1 the count stays.
 pub fn count_looks(looks: &mut u64, more: usize)
     ensures counted { looks.new ≡ more_looks more looks.old }
-    ensures bounded { LooksAtMost more looks.old looks.new }
+    ensures each { LooksAtEach more looks.old looks.new }
 {
     *looks = looks.saturating_add(more as u64);
 }

@@ -39,8 +39,8 @@ impl Captured {
     }
 
     /// The spread of the given items, and how many looks it took. A look is one item taken from the
-    /// work list, or one output member of a transformation that is looked at, which happens once to each.
-    /// At 2^64 - 1 the count stays.
+    /// work list, or one output member of a transformation that is looked at. Each item found is taken once,
+    /// and each output member of what it goes into is looked at once. At 2^64 - 1 the count stays.
     pub fn spread_counted(&self, items: &[Epc]) -> Result<(Vec<Epc>, u64), AllocError>
         ensures ascending { IfOk result (λ counted. AreAscendingItems counted.0.items) }
         ensures exact { IfOk result (λ counted. (j : List ℕ) → Contains counted.0.items j ↔ IsSpread self.now items.now j) }
@@ -88,7 +88,7 @@ struct SitePairs<'a> {
 
 impl Relation for SitePairs<'_> {
     ghost use Rattle.std.specs.Prelude.{⊤, ◌∷◌, [], false, sum_by};
-    ghost use Rattle.trace_core.specs.Groups.{SeeksFrom, unseen_outputs};
+    ghost use Rattle.trace_core.specs.Groups.{SeeksFrom, HasSeenFrom, unseen_outputs};
     ghost use Rattle.trace_core.specs.Nodes.{Stands};
     ghost use Rattle.trace_core.specs.Spreads.{output_count};
 
@@ -99,6 +99,8 @@ impl Relation for SitePairs<'_> {
     ghost use Rattle.trace_core.specs.Groups.{IsGiven};
 
     ghost gives = { λ r. IsGiven r.site.now 0 };
+
+    ghost has_seen = { λ r. HasSeenFrom r.site.now };
 
     ghost bounds_looks = { λ r. ⊤ };
 

@@ -2,8 +2,8 @@
 ghost use Rattle.std.specs.Prelude.{◌≡◌, ℕ, List, true, Some, OnOk, slice_get, sum_by};
 ghost use Rattle.std.specs.List.{flat_map};
 ghost use Rattle.event_json.specs.Events.{Content};
-ghost use Rattle.trace_core.specs.Groups.{IsGiven, SeesOnly, outputs_at, group_outputs, LooksAtUnseen, made_at, IsSought};
-ghost use Rattle.trace_core.specs.Looks.{LooksAtMost};
+ghost use Rattle.trace_core.specs.Groups.{IsGiven, SeesOnly, StaysSeen, HasSeenTakers, IsSeenAt, outputs_at, group_outputs, LooksAtUnseen, made_at, IsSought};
+ghost use Rattle.trace_core.specs.Looks.{LooksAtEach};
 ghost use Rattle.trace_core.specs.Nodes.{NotesNodes, NotesSent, part_nodes, group_nodes, Stands, Gains};
 ghost use Rattle.trace_core.specs.Numbers.{numbered};
 ghost use Rattle.trace_core.specs.Pairs.{make_id};
@@ -19,7 +19,8 @@ use event_json::{Body, SiteNo};
 use std::alloc::AllocError;
 
 /// Notes what the item of a number is related to at a site, at other sites where shipments are asked for, but
-/// for what transformations gave that were seen before. Each output of a transformation that is new is a look.
+/// for what transformations gave that were seen before. Each output of a transformation that is new is a look, and
+/// no other is.
 pub fn visit_item(
     site: &Captured,
     number: usize,
@@ -34,6 +35,9 @@ pub fn visit_item(
         → Gains (Stands sites) (λ groups q. IsGiven site.now number groups q)
         (λ q. IsSought ships site.now i q) seen.old seen.new nodes.old nodes.new) }
     ensures only { OnOk result (SeesOnly number seen.old seen.new) }
+    ensures stays { OnOk result (StaysSeen seen.old seen.new) }
+    ensures takers { OnOk result ((i : List ℕ) → slice_get (numbered site.now.events) item ≡ Some i
+        → HasSeenTakers number site.now.events seen.new i) }
     ensures looks { OnOk result (LooksAtUnseen number site.now.events seen.old seen.new looks.old looks.new) }
 {
     let book = site.book();
@@ -77,6 +81,8 @@ fn visit_make(
         → Gains (Stands sites) (λ groups q. IsGiven (record { me = me; events = book.now }) number groups q)
         (λ q. made_at me book.now place q ≡ true) seen.old seen.new nodes.old nodes.new) }
     ensures only { OnOk result (SeesOnly number seen.old seen.new) }
+    ensures stays { OnOk result (StaysSeen seen.old seen.new) }
+    ensures seen { OnOk result (IsSeenAt number book.now seen.new place) }
     ensures looks { OnOk result (LooksAtUnseen number book.now seen.old seen.new looks.old looks.new) }
 {
     if let Some(event) = book.get(place) {
@@ -100,7 +106,8 @@ fn note_group(
     looks: &mut u64,
 ) -> Result<(), AllocError>
     ensures noted { OnOk result (NotesNodes nodes.old nodes.new (group_nodes me book.now number place body.now (make_id body.now))) }
-    ensures looks { OnOk result ((e : Content) → slice_get book.now place ≡ Some e → e.body ≡ body.now → LooksAtMost (group_outputs book.now body.now (make_id body.now)) looks.old looks.new) }
+    ensures looks { OnOk result ((e : Content) → slice_get book.now place ≡ Some e → e.body ≡ body.now
+        → LooksAtEach (group_outputs book.now body.now (make_id body.now)) looks.old looks.new) }
 {
     match make_id(body) {
         Some(_) => note_parts(me, book, number, book.parts_of(make_id(body)), nodes, looks),
@@ -121,7 +128,7 @@ fn note_parts(
     looks: &mut u64,
 ) -> Result<(), AllocError>
     ensures noted { OnOk result (NotesNodes nodes.old nodes.new (flat_map (λ k. part_nodes me book.now number k) places.now)) }
-    ensures looks { OnOk result (LooksAtMost (sum_by (λ k. outputs_at (slice_get book.now k)) places.now) looks.old looks.new) }
+    ensures looks { OnOk result (LooksAtEach (sum_by (λ k. outputs_at (slice_get book.now k)) places.now) looks.old looks.new) }
 {
     for place in places {
         let outs = book.outs_at(*place, looks);

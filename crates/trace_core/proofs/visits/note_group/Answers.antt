@@ -1,6 +1,8 @@
-use Rattle.std.proofs.Common.{sym, ap, option_map, ◌∙◌}
+use Rattle.std.proofs.Common.{sym, ap, subst, option_map, ◌∙◌}
 use Rattle.std.proofs.lemmas.Result.{on_ok_weaker}
+use Rattle.trace_core.specs.Looks.{LooksAtEach}
 use Rattle.trace_core.specs.Nodes.{made_nodes}
+use Rattle.trace_core.proofs.LookSteps.{parts_outputs}
 use Rattle.trace_core.proofs.NodeSteps.{same_nodes}
 use Rattle.trace_core.proofs.RelatedPlaces.{parts_found}
 use Rattle.trace_core.proofs.VisitSteps.{parts_of_group, group_alone}
@@ -12,6 +14,13 @@ returns-in-Some-clause-noted c = on_ok_weaker c.note_parts.result
     (parts_of_group c.args.me c.args.book.now c.args.number c.args.place c.args.body.now c.in-Some.field-0.now c.parts_of.result.now (sym c.make_id.ensures ∙ ap (option_map (λ t. t.now)) c.in-Some.is)
     (parts_found c.args.book.now c.args.body.now c.parts_of.result.now _ c.parts_of.ensures c.make_id-in-Some.ensures)) noted)
     c.note_parts.ensures.noted
+
+pub returns-in-Some-clause-looks : goal.returns-in-Some-clause-looks
+returns-in-Some-clause-looks c = on_ok_weaker c.note_parts.result
+    (λ looks e stands is. subst (λ n. LooksAtEach n c.args.looks.now c.note_parts.new.looks)
+    (parts_outputs c.args.book.now c.args.body.now c.in-Some.field-0.now c.parts_of.result.now (sym c.make_id.ensures ∙ ap (option_map (λ t. t.now)) c.in-Some.is)
+    (parts_found c.args.book.now c.args.body.now c.parts_of.result.now _ c.parts_of.ensures c.make_id-in-Some.ensures)) looks)
+    c.note_parts.ensures.looks
 
 pub returns-in-None-clause-noted : goal.returns-in-None-clause-noted
 returns-in-None-clause-noted c = on_ok_weaker c.note_outputs.result

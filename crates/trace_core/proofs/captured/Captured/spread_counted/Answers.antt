@@ -27,7 +27,9 @@ pub returns-clause-looks : goal.returns-clause-looks
 returns-clause-looks c = looks_spread c.args.self.now c.args.items.now c.deref.result.now c.in_ok-nodes.nodes c.in_ok-nodes.nodes
     (λ n. subst (λ (ns : List Node). Contains ns n ↔ IsKnownNode c.args.self.now c.args.items.now n) (sym c.deref.ensures.value) (c.in_ok-starts.ensures n))
     c.in_ok-nodes.ensures.once c.in_ok-nodes.ensures.stand c.in_ok-nodes.ensures.reached refl c.in_ok-found.found.items c.push_items.new.found.items c.in_ok-items.items.items
-    c.closure.new.looks c.unknown_items.new.looks (omega (arith, c.in_ok-items.items.ok, c.in_ok-items.items.small)) c.in_ok-items.ensures.ascending
+    c.closure.new.looks c.unknown_items.new.looks
+    (λ i there. ((subst (λ (es : List Content). Contains c.in_ok-found.found.items i ↔ (Contains c.args.items.now i × (number_in (numbered es) i ≡ None))) c.book.ensures (c.in_ok-found.ensures.unknown i)).0 there).1)
+    (omega (arith, c.in_ok-items.items.ok, c.in_ok-items.items.small)) c.in_ok-items.ensures.ascending
     (λ i there. (subst (λ (es : List Content). Contains c.push_items.new.found.items i ↔ (Contains c.in_ok-found.found.items i ⊎ HasItem es c.in_ok-nodes.nodes i)) c.book-2.ensures (c.in_ok-push_items.ensures i)).0
     ((c.in_ok-items.ensures.same exact_bytes i).0 there))
-    (omega (arith, c.in_ok-nodes.ensures.least)) (omega (arith, c.in_ok-nodes.ensures.most tt)) c.in_ok-found.ensures.least c.in_ok-found.ensures.most
+    (omega (arith, c.in_ok-nodes.ensures.least)) (omega (arith, c.in_ok-nodes.ensures.most tt)) (c.in_ok-nodes.ensures.all tt) c.in_ok-found.ensures.least c.in_ok-found.ensures.most
