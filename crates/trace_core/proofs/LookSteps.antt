@@ -186,6 +186,20 @@ module _ (site : ℕ) (events : List Content) where
         one.all;
   }
 
+  -- an item is taken, and then outputs are looked at
+  module _ (seen seen' : BTreeSet Group) (looks looks' : ℕ) (looked : LooksAtUnseen site events seen seen' (one_look looks) looks') where
+    pub taken_least : looks ≤ looks'
+    taken_least = ⊎_elim (λ one. omega (arith, one, looked.least)) (λ (same, past). omega (arith, same, looked.least)) (one_look_cases looks)
+
+    pub taken_most : looks' + unseen_outputs site events seen' ≤ looks + 1 + unseen_outputs site events seen
+    taken_most = ⊎_elim (λ one. omega (arith, one, looked.most)) (λ (same, past). omega (arith, same, looked.most)) (one_look_cases looks)
+
+    pub taken_all : (looks + 1 + unseen_outputs site events seen ≤ looks' + unseen_outputs site events seen') ⊎ (2 ^ 64 - 1 ≤ looks')
+    taken_all = ⊎_elim
+        (λ one. ⊎_elim (λ each. inl (omega (arith, one, each))) (λ past. inr past) looked.all)
+        (λ (same, past). inr (omega (arith, same, past, looked.least)))
+        (one_look_cases looks)
+
   -- what is left to look at, at one place
   abbrev left_at : BTreeSet Group → ℕ × Content → ℕ
   left_at seen a = cond (contains group_cmp seen (record { site = site; first = first_of events a.0 a.1.body })) 0 (output_count a.1.body)

@@ -14,12 +14,10 @@ use Rattle.trace_core.specs.declared.nodes.Node.{Node}
 use Rattle.trace_core.specs.declared.pairs.Pair.{Pair}
 use Rattle.trace_core.specs.Found.{IsInBatch}
 use Rattle.trace_core.specs.Groups.{AddsUnseen}
-use Rattle.trace_core.specs.Looks.{one_look}
 use Rattle.trace_core.specs.Nodes.{Had, AreOnce, NotesNodes, destinations, Gains, ReachedFromNodes}
 use Rattle.trace_core.specs.Searches.{LooksAtAll}
 use Rattle.trace_core.proofs.ChainLaws.{reaches_itself, reaches_step, reached_holds}
 use Rattle.trace_core.proofs.GroupSteps.{HasMore, adds_none}
-use Rattle.trace_core.proofs.LookSteps.{one_look_cases}
 use Rattle.trace_core.proofs.Members.{contains_none, contains_cases}
 use Rattle.trace_core.proofs.SetMembers.{contains_more, contains_pushed}
 
@@ -199,33 +197,24 @@ module _ (S : Node → Pair → Type 0) (R : Pair → Pair → Type 0) (G H : BT
       let closed : (y z : Pair) → Had S nodes y → R y z → Had S nodes z = λ y z (n, found, stands) r. so_far.followed n y z (subst (λ xs. Contains xs n) (sym (take_all place nodes past)) found) stands r in
       (so_far.sound q, λ (n, p, start, stands, reaches). reached_holds R (Had S nodes) closed p q reaches (n, so_far.starts_found n start, stands))
 
--- the nodes before a place were looked at, where the count didn't end; and where looks are bounded, so were the outputs that aren't left
+-- where looks are told, they are the nodes before a place and the outputs that aren't left, where the count didn't end
 pub record CountsLooks (Bounded : Type 0) (outputs unseen begun looks place : ℕ) : Type 0 where
-  pub least : (place ≤ looks) ⊎ (2 ^ 64 - 1 ≤ looks)
   pub most : Bounded → looks + unseen ≤ begun + place + outputs
   pub all : Bounded → (begun + place + outputs ≤ looks + unseen) ⊎ (2 ^ 64 - 1 ≤ looks)
 
 module _ (Bounded : Type 0) (outputs begun : ℕ) where
   pub counts_begin : (unseen : ℕ) → (Bounded → unseen ≡ outputs) → CountsLooks Bounded outputs unseen begun begun 0
-  counts_begin unseen as_many = record { least = inl (omega arith); most = λ b. omega (arith, as_many b); all = λ b. inl (omega (arith, as_many b)) }
+  counts_begin unseen as_many = record { most = λ b. omega (arith, as_many b); all = λ b. inl (omega (arith, as_many b)) }
 
-  pub counts_go_on : (unseen unseen' looks taken looks' place : ℕ) → CountsLooks Bounded outputs unseen begun looks place → taken ≡ one_look looks → taken ≤ looks' → (Bounded → looks' + unseen' ≤ taken + unseen) → (Bounded → (taken + unseen ≤ looks' + unseen') ⊎ (2 ^ 64 - 1 ≤ looks'))
+  pub counts_go_on : (unseen unseen' looks looks' place : ℕ) → CountsLooks Bounded outputs unseen begun looks place → looks ≤ looks' → (Bounded → looks' + unseen' ≤ looks + 1 + unseen) → (Bounded → (looks + 1 + unseen ≤ looks' + unseen') ⊎ (2 ^ 64 - 1 ≤ looks'))
       → CountsLooks Bounded outputs unseen' begun looks' (place + 1)
-  counts_go_on unseen unseen' looks taken looks' place so_far one more fewer all = ⊎_elim
-      (λ counted. record {
-        least = ⊎_elim (λ least. inl (omega (arith, least, one, counted, more))) (λ past. inr (omega (arith, past, one, counted, more))) so_far.least;
-        most = λ b. omega (arith, so_far.most b, one, counted, fewer b);
-        all = λ b. ⊎_elim
-            (λ now. ⊎_elim (λ before. inl (omega (arith, before, now, one, counted))) (λ past. inr (omega (arith, past, one, counted, more))) (so_far.all b))
-            (λ past. inr past)
-            (all b);
-      })
-      (λ (same, past). record {
-        least = inr (omega (arith, past, one, same, more));
-        most = λ b. omega (arith, so_far.most b, one, same, fewer b);
-        all = λ b. inr (omega (arith, past, one, same, more));
-      })
-      (one_look_cases looks)
+  counts_go_on unseen unseen' looks looks' place so_far more fewer all = record {
+    most = λ b. omega (arith, so_far.most b, fewer b);
+    all = λ b. ⊎_elim
+        (λ now. ⊎_elim (λ before. inl (omega (arith, before, now))) (λ past. inr (omega (arith, past, more))) (so_far.all b))
+        (λ past. inr past)
+        (all b);
+  }
 
 -- once all nodes are visited
 pub looks_at_all : (S : Node → Pair → Type 0) (R : Pair → Pair → Type 0) (G H : BTreeSet Group → Pair → Type 0) (starts : List Node) (Bounded : Type 0) (outputs : ℕ) (unseen : BTreeSet Group → ℕ) (seen : BTreeSet Group) (nodes : List Node) (begun looks place : ℕ)

@@ -1,5 +1,5 @@
 -- The spread of items, and its looks.
-use Rattle.std.proofs.Common.{◌≡◌, ℕ, zero, suc, ◌<◌, ◌≤◌, ◌+◌, ◌-◌, ◌^◌, true, false, Decides, List, [], ◌∷◌, ◌++◌, Option, None, Some, map, take, get_or, slice_get, unwrap_or, length, length-append, sum_by, ◌↔◌, refl, sym, ap, ◌∙◌, subst, inl, inr, ⊎_elim, arith}
+use Rattle.std.proofs.Common.{◌≡◌, ℕ, zero, suc, ◌<◌, ◌≤◌, ◌+◌, ◌-◌, ◌^◌, true, false, min, Decides, List, [], ◌∷◌, ◌++◌, Option, None, Some, map, take, get_or, slice_get, unwrap_or, length, length-append, sum_by, ◌↔◌, refl, sym, ap, ◌∙◌, subst, inl, inr, ⊎_elim, arith}
 use mathlib.Core.Bool.{false≢true}
 use mathlib.Core.Logic.{◌⊎◌}
 use Rattle.std.specs.BTreeSet.{BTreeSet}
@@ -26,7 +26,7 @@ use Rattle.trace_core.specs.Places.{names_item, takes_item}
 use Rattle.trace_core.specs.Relations.{Reaches}
 use Rattle.trace_core.specs.Searches.{LooksAtAll}
 use Rattle.trace_core.specs.Sites.{SiteEvents}
-use Rattle.trace_core.specs.Spreads.{AreAscendingItems, Inside, IsSpread, items_of, output_count, HasEachItem, AreLooks}
+use Rattle.trace_core.specs.Spreads.{AreAscendingItems, Inside, IsSpread, items_of, output_count, HasEachItem, outputs_from, AreLooks}
 use Rattle.trace_core.proofs.ChainLaws.{reaches_itself, reaches_step, reached_holds}
 use Rattle.trace_core.proofs.GroupSteps.{adds_same}
 use Rattle.trace_core.specs.Looks.{one_look}
@@ -98,10 +98,10 @@ module _ (s : SiteEvents) where
   -- an item that goes into a transformation is known
   taken_known : (i : List ℕ) (e : Content) → Contains s.events e → takes_item i e ≡ true → number_in (numbered s.events) i ≡ None → ⊥
   taken_known i e there takes none = false≢true (
-    sym (unnumbered (numbered s.events) i none)
-    ∙ numbered_named s.events i
-    ∙ list_any_member (names_item i) s.events e there (takes_named i e.body (sym (ins_listed i e.body) ∙ takes))
-  )
+      sym (unnumbered (numbered s.events) i none)
+      ∙ numbered_named s.events i
+      ∙ list_any_member (names_item i) s.events e there (takes_named i e.body (sym (ins_listed i e.body) ∙ takes))
+      )
 
   module _ (items : List (List ℕ)) (starts list : List Node) (nodes : List Node) (are : (n : Node) → Contains starts n ↔ IsKnownNode s items n) (once : AreOnce nodes) (stand : (n : Node) → Contains nodes n → (q : Pair) × Stands (s ∷ []) n q)
       (reached : (q : Pair) → Had (Stands (s ∷ [])) nodes q ↔ ReachedFromNodes (Stands (s ∷ [])) (SeeksFrom false s) starts q) (same : list ≡ nodes) where
@@ -187,22 +187,25 @@ module _ (s : SiteEvents) where
         (parts i there)
 
     -- the looks of a spread
-    pub looks_spread : (unknown found out : List (List ℕ)) (searched looks : ℕ) → ((i : List ℕ) → Contains unknown i → number_in (numbered s.events) i ≡ None) → length out < 2 ^ 64 → AreAscendingItems out → ((i : List ℕ) → Contains out i → Contains unknown i ⊎ HasItem s.events list i) → length list ≤ searched → searched ≤ 0 + length list + sum_by (λ e. output_count e.body) s.events
+    pub looks_spread : (unknown found out : List (List ℕ)) (searched looks : ℕ) → ((i : List ℕ) → Contains unknown i → number_in (numbered s.events) i ≡ None) → length out < 2 ^ 64 → AreAscendingItems out
+        → ((i : List ℕ) → Contains out i → Contains unknown i ⊎ HasItem s.events list i) → searched ≤ 0 + length list + sum_by (λ e. output_count e.body) s.events
         → LooksAtAll (λ seen n. (p : Pair) → Stands (s ∷ []) n p → HasSeenFrom s seen p) (sum_by (λ e. output_count e.body) s.events) (λ seen. unseen_outputs 0 s.events seen) list 0 searched
         → (searched + length unknown ≤ looks) ⊎ (2 ^ 64 - 1 ≤ looks) → looks ≤ searched + length items → AreLooks s items out looks
-    looks_spread unknown found out searched looks unnamed fits ascending parts least most all counted given = record {
-      outputs =
-          let seen = seen_outputs 0 s.events out all.seen (seen_with_id 0 s.events out all.seen (out_seen unknown out all.seen unnamed parts all.followed)) in
-          ⊎_elim
-          (λ each. ⊎_elim
-          (λ searching. omega (arith, spread_le unknown out ascending parts, each, searching, seen))
-          (λ past. omega (arith, past, each))
-          all.counted)
-          (λ past. omega (arith, past))
-          counted;
-      least = ⊎_elim (λ all. omega (arith, spread_le unknown out ascending parts, least, all)) (λ past. omega (arith, fits, past)) counted;
-      most = λ known each. omega (arith, nodes_le known each, most, given);
-    }
+    looks_spread unknown found out searched looks unnamed fits ascending parts most all counted given =
+        let seen = seen_outputs 0 s.events out all.seen (seen_with_id 0 s.events out all.seen (out_seen unknown out all.seen unnamed parts all.followed)) in
+        let enough : min (length out + outputs_from s.events out) (2 ^ 64 - 1) ≤ looks =
+        ⊎_elim
+        (λ each. ⊎_elim
+        (λ searching. omega (arith, spread_le unknown out ascending parts, each, searching, seen))
+        (λ past. omega (arith, past, each))
+        all.counted)
+        (λ past. omega (arith, past))
+        counted in
+        record {
+          least = omega (arith, fits, enough);
+          outputs = enough;
+          most = λ known each. omega (arith, nodes_le known each, most, given);
+        }
 
   -- the nodes of the first so many items
   module _ (items : List (List ℕ)) (nodes : List Node) (k : ℕ) (i : List ℕ) (below : k < length items) (at : i ≡ get_or items k i) (so_far : (n : Node) → Contains nodes n ↔ IsKnownNode s (take k items) n) where

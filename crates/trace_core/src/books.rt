@@ -4,7 +4,7 @@ ghost use Rattle.std.specs.List.{list_any};
 ghost use Rattle.event_json.specs.Contents.{same_content};
 ghost use Rattle.trace_core.specs.Adding.{standing_among};
 ghost use Rattle.trace_core.specs.Groups.{outputs_at};
-ghost use Rattle.trace_core.specs.Looks.{more_looks, LooksAtEach};
+ghost use Rattle.trace_core.specs.Looks.{one_look, more_looks, LooksAtEach};
 ghost use Rattle.trace_core.specs.Numbers.{IsNumbered, numbered, number_in, outs_at};
 ghost use Rattle.trace_core.specs.Pairs.{make_id};
 ghost use Rattle.trace_core.specs.PairTests.{same_id};
@@ -14,7 +14,7 @@ ghost use Rattle.trace_core.specs.Sendings.{IsSentTo};
 use crate::adding::Standing;
 use crate::ids::places_of_id;
 use crate::indexes::Index;
-use crate::looks::count_looks;
+use crate::looks::{count_look, count_looks};
 use epc_core::Epc;
 use event_json::{Event, PlainText, SiteNo};
 use std::alloc::{AllocError, Global};
@@ -128,11 +128,13 @@ impl Book {
         self.index.items.numbers()
     }
 
-    /// The places of the transformations that take the item of a number in, ascending.
-    pub fn takers_at(&self, number: usize) -> &[usize]
-        ensures { (i : List ℕ) → slice_get (numbered self.now) number ≡ Some i
+    /// The places of the transformations that take the item of a number in, ascending. It is one look.
+    pub fn takers_at(&self, number: usize, looks: &mut u64) -> &[usize]
+        ensures takers { (i : List ℕ) → slice_get (numbered self.now) number ≡ Some i
             → result.now ≡ places_where (takes_item i) self.now }
+        ensures counted { looks.new ≡ one_look looks.old }
     {
+        count_look(looks);
         self.index.items.places_at(number)
     }
 

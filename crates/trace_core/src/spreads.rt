@@ -121,6 +121,8 @@ impl Relation for SitePairs<'_> {
     ) -> Result<(), AllocError> {
         if node.at == self.site.me() {
             visit_item(self.site, 0, false, node.item, seen, nodes, looks)?;
+        } else {
+            count_look(looks);
         }
         Ok(())
     }

@@ -3,7 +3,7 @@ ghost use Rattle.std.specs.Prelude.{◌≡◌, ℕ, List, true, Some, OnOk, slic
 ghost use Rattle.std.specs.List.{flat_map};
 ghost use Rattle.event_json.specs.Events.{Content};
 ghost use Rattle.trace_core.specs.Groups.{IsGiven, SeesOnly, StaysSeen, HasSeenTakers, IsSeenAt, outputs_at, group_outputs, LooksAtUnseen, made_at, IsSought};
-ghost use Rattle.trace_core.specs.Looks.{LooksAtEach};
+ghost use Rattle.trace_core.specs.Looks.{one_look, LooksAtEach};
 ghost use Rattle.trace_core.specs.Nodes.{NotesNodes, NotesSent, part_nodes, group_nodes, Stands, Gains};
 ghost use Rattle.trace_core.specs.Numbers.{numbered};
 ghost use Rattle.trace_core.specs.Pairs.{make_id};
@@ -19,8 +19,8 @@ use event_json::{Body, SiteNo};
 use std::alloc::AllocError;
 
 /// Notes what the item of a number is related to at a site, at other sites where shipments are asked for, but
-/// for what transformations gave that were seen before. Each output of a transformation that is new is a look, and
-/// no other is.
+/// for what transformations gave that were seen before. The item is a look, and so is each output of a
+/// transformation that is new.
 pub fn visit_item(
     site: &Captured,
     number: usize,
@@ -38,11 +38,12 @@ pub fn visit_item(
     ensures stays { OnOk result (StaysSeen seen.old seen.new) }
     ensures takers { OnOk result ((i : List ℕ) → slice_get (numbered site.now.events) item ≡ Some i
         → HasSeenTakers number site.now.events seen.new i) }
-    ensures looks { OnOk result (LooksAtUnseen number site.now.events seen.old seen.new looks.old looks.new) }
+    ensures looks { OnOk result (
+        LooksAtUnseen number site.now.events seen.old seen.new (one_look looks.old) looks.new) }
 {
     let book = site.book();
     note_sent(site.me(), book, number, ships, item, nodes)?;
-    for place in book.takers_at(item) {
+    for place in book.takers_at(item, looks) {
         visit_make(site.me(), book, number, *place, seen, nodes, looks)?;
     }
     Ok(())

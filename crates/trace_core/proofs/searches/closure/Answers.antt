@@ -14,8 +14,8 @@ pub loop-place-preserved : goal.loop-place-preserved
 loop-place-preserved g c = record {
   searches = search_goes_on (g.R.Relation.stands c.args.relation.now) (g.R.Relation.relates c.args.relation.now) (g.R.Relation.gives c.args.relation.now) (g.R.Relation.has_seen c.args.relation.now) c.args.starts.now c.loop-place.seen c.visit.new.seen c.loop-place.nodes c.visit.new.nodes c.loop-place.place
       c.index-as_slice-place.result (omega (arith, c.len.ensures, c.loop-place-test.true)) (c.index-as_slice-place.is ∙ ap (λ (ns : List Node). get_or ns c.loop-place.place c.index-as_slice-place.result) c.as_slice.ensures) c.loop-place.invariant.searches c.in_ok-visit.ensures.visited c.in_ok-visit.ensures.seen c.in_ok-visit.ensures.stays;
-  counts = counts_go_on (g.R.Relation.bounds_looks c.args.relation.now) (g.R.Relation.outputs c.args.relation.now) c.args.looks.now _ _ c.loop-place.looks c.count_look.new.looks _ c.loop-place.place c.loop-place.invariant.counts
-      c.count_look.ensures c.in_ok-visit.ensures.least c.in_ok-visit.ensures.most c.in_ok-visit.ensures.all;
+  counts = counts_go_on (g.R.Relation.bounds_looks c.args.relation.now) (g.R.Relation.outputs c.args.relation.now) c.args.looks.now _ _ c.loop-place.looks _ c.loop-place.place c.loop-place.invariant.counts
+      c.in_ok-visit.ensures.least c.in_ok-visit.ensures.most c.in_ok-visit.ensures.all;
 }
 
 pub returns-clause-reached : goal.returns-clause-reached

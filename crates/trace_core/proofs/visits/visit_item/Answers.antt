@@ -15,7 +15,8 @@ loop-place-init c = record {
   only = sees_none c.args.number c.args.seen.now;
   stays = λ g there. there;
   seen = seen_nowhere c.args.number c.args.site.now.events c.takers_at-place-items.result.now c.args.seen.now;
-  looks = looks_none c.args.number c.args.site.now.events c.args.seen.now c.args.looks.now;
+  looks = subst (λ n. LooksAtUnseen c.args.number c.args.site.now.events c.args.seen.now c.args.seen.now n c.takers_at-place-items.new.looks) c.takers_at-place-items.ensures.counted
+      (looks_none c.args.number c.args.site.now.events c.args.seen.now c.takers_at-place-items.new.looks);
 }
 
 pub loop-place-preserved : goal.loop-place-preserved
@@ -36,9 +37,9 @@ loop-place-preserved c = record {
 pub returns-clause-gains : goal.returns-clause-gains
 returns-clause-gains c = all_places c.args.ships c.args.site.now c.args.number c.args.item c.takers_at-place-items.result.now c.loop-place.place-index c.book-book.result.now
     c.args.seen.now c.loop-place.seen c.args.nodes.now c.loop-place.nodes (omega (arith, c.loop-place-test.false)) c.book-book.ensures
-    c.takers_at-place-items.ensures c.loop-place.invariant.gains
+    c.takers_at-place-items.ensures.takers c.loop-place.invariant.gains
 
 pub returns-clause-takers : goal.returns-clause-takers
 returns-clause-takers c i so = all_places_seen c.args.number c.args.site.now.events c.takers_at-place-items.result.now c.loop-place.place-index i c.loop-place.seen (omega (arith, c.loop-place-test.false))
-    (c.takers_at-place-items.ensures i (ap (λ (es : List Content). slice_get (numbered es) c.args.item) c.book-book.ensures ∙ so) ∙ ap (λ (es : List Content). places_where (takes_item i) es) c.book-book.ensures)
+    (c.takers_at-place-items.ensures.takers i (ap (λ (es : List Content). slice_get (numbered es) c.args.item) c.book-book.ensures ∙ so) ∙ ap (λ (es : List Content). places_where (takes_item i) es) c.book-book.ensures)
     c.loop-place.invariant.seen

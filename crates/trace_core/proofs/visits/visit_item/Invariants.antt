@@ -1,4 +1,5 @@
 use Rattle.trace_core.specs.Groups.{SeesOnly, StaysSeen, LooksAtUnseen}
+use Rattle.trace_core.specs.Looks.{one_look}
 use Rattle.trace_core.proofs.GainSteps.{GainsSoFar}
 use Rattle.trace_core.proofs.GroupSteps.{SeenSoFar}
 use Rattle.trace_core.proofs.visits.visit_item.Given as goal
@@ -10,5 +11,5 @@ invariant-loop-place l = record {
   only : SeesOnly l.number l.fn.seen l.seen;
   stays : StaysSeen l.fn.seen l.seen;
   seen : SeenSoFar l.number l.site.events l.place-items l.seen l.place-index;
-  looks : LooksAtUnseen l.number l.site.events l.fn.seen l.seen l.fn.looks l.looks;
+  looks : LooksAtUnseen l.number l.site.events l.fn.seen l.seen (one_look l.fn.looks) l.looks;
 }

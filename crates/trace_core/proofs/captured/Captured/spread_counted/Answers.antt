@@ -32,4 +32,4 @@ returns-clause-looks c = looks_spread c.args.self.now c.args.items.now c.deref.r
     (omega (arith, c.in_ok-items.items.ok, c.in_ok-items.items.small)) c.in_ok-items.ensures.ascending
     (λ i there. (subst (λ (es : List Content). Contains c.push_items.new.found.items i ↔ (Contains c.in_ok-found.found.items i ⊎ HasItem es c.in_ok-nodes.nodes i)) c.book-2.ensures (c.in_ok-push_items.ensures i)).0
     ((c.in_ok-items.ensures.same exact_bytes i).0 there))
-    (omega (arith, c.in_ok-nodes.ensures.least)) (omega (arith, c.in_ok-nodes.ensures.most tt)) (c.in_ok-nodes.ensures.all tt) c.in_ok-found.ensures.least c.in_ok-found.ensures.most
+    (omega (arith, c.in_ok-nodes.ensures.most tt)) (c.in_ok-nodes.ensures.all tt) c.in_ok-found.ensures.least c.in_ok-found.ensures.most
