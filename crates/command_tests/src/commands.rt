@@ -273,11 +273,14 @@ fn documents_are_answered_one_by_one(rt: HostRuntime) -> Result<(), Fail> {
             &mut files,
             &three,
             1,
-            "captured 2 known 0 skipped 0 made\nrefused Doc Syntax event 0 field document broken\ncaptured 2 known 0 skipped 0 made\ndocuments 3 captured 4 known 0 skipped 0 refused 1\n"
+            "captured 2 known 0 skipped 0 made\n\
+             refused Doc Syntax event 0 field document broken\n\
+             captured 2 known 0 skipped 0 made\n\
+             documents 3 captured 4 known 0 skipped 0 refused 1\n"
         )
     );
     let lines = Documents {
-        paths: &["lines"],
+        paths: &["made", "lines"],
         by_lines: true,
     };
     assert!(rt;
@@ -286,7 +289,10 @@ fn documents_are_answered_one_by_one(rt: HostRuntime) -> Result<(), Fail> {
             &mut files,
             &lines,
             1,
-            "refused Doc Syntax event 0 field document lines:1\nrefused Doc Syntax event 0 field document lines:3\ndocuments 2 captured 0 known 0 skipped 0 refused 2\n"
+            "captured 2 known 0 skipped 0 made:1\n\
+             refused Doc Syntax event 0 field document lines:1\n\
+             refused Doc Syntax event 0 field document lines:3\n\
+             documents 3 captured 2 known 0 skipped 0 refused 2\n"
         )
     );
     Ok(())

@@ -117,10 +117,10 @@ abbrev pub HelpHelps : {F : Type 0} → List (String Global) → F → F → Str
 HelpHelps words old new before after status =
     (name : List ℕ) → texts_of words ≡ name ∷ codes "--help" ∷ [] → Helps (texts_of words) old new before after status ⊎ LacksMemory old new before after status
 
--- a fault ended the capture of several documents: status 3, its line on the error stream, and the answers to those before
-pub record BreaksOff (output output_after errors errors_after : Option (List ℕ)) (status : ℕ) : Type 0 where
+-- a fault ended the capture of several documents: status 3, its line on the error stream, and what was written before
+pub record BreaksOff (Early : Type 0) (errors errors_after : Option (List ℕ)) (status : ℕ) : Type 0 where
   pub fault : Fault
-  pub early : EndsEarly output output_after
+  pub early : Early
   pub told : AppendsBeginning errors errors_after (fault_line fault)
   pub status_is : status ≡ 3
 
@@ -129,7 +129,7 @@ abbrev pub BatchEnds : {F K : Type 0} → (F → List ℕ → List ℕ → F →
     → Batch → F → F → Option (List ℕ) → Option (List ℕ) → Option (List ℕ) → Option (List ℕ) → ℕ → Type 0
 BatchEnds reads lines opens closes shown batch old new output output_after errors errors_after status =
     (CapturesAll reads lines opens closes shown batch.folder.now batch.site.now batch.by_lines (paths_of batch) old new output output_after status × Keeps errors errors_after)
-    ⊎ BreaksOff output output_after errors errors_after status
+    ⊎ BreaksOff (EndsEarly reads opens closes shown batch.folder.now batch.site.now old output output_after) errors errors_after status
 
 module _ {F K : Type 0} (reads : F → List ℕ → List ℕ → F → Type 0) (lines : F → List ℕ → Option (List ℕ) → F → Type 0) (finds : F → List ℕ → Bool → F → Type 0) (makes : F → List ℕ → Record → F → Type 0) (opens : F → List ℕ → List ℕ → K → F → Type 0) (closes : F → K → F → Type 0) (writes : F → List ℕ → List ℕ → F → Type 0) (shown : K → Option Record) where
   -- A command on files was asked for, and what came of it was reported: an answer, which is that of these calls of the files,

@@ -1,5 +1,5 @@
 -- Documents that are read and taken one after another.
-use Rattle.std.proofs.Common.{◌≡◌, ◌+◌, ℕ, Bool, true, false, List, [], ◌∷◌, ◌++◌, Option, Some, None, Result, Ok, Err, length, refl, sym, ap, ◌∙◌, subst, arith, append_assoc, append-nil, if◌then◌else◌}
+use Rattle.std.proofs.Common.{◌≡◌, ◌+◌, ℕ, Bool, true, false, List, [], ◌∷◌, ◌++◌, Option, Some, None, Result, Ok, Err, length, inl, inr, refl, sym, ap, ◌∙◌, subst, arith, append_assoc, append-nil, if◌then◌else◌}
 use Rattle.std.specs.Fmt.{decimal}
 use Rattle.std.specs.Prelude.{OnErr}
 use Rattle.std.proofs.KnownBytes.{Appends-nil}
@@ -15,7 +15,7 @@ use Rattle.site_core.specs.declared.inputs.SiteInput.TheVariants.{Capture}
 use Rattle.site_core.specs.declared.outcomes.Effects.{Effects}
 use Rattle.site_core.specs.declared.outcomes.Effects.TheVariants as told
 use Rattle.site_core.specs.declared.outcomes.Refusal.{Refusal}
-use Rattle.site_commands.specs.Captures.{ComesTo, Document, IsOfCapture, ReadsFile, ReadsFiles, ReadsSome, Standing, Takes, TakesOne, TakesSome, TakesThose, came_of, is_blank, of_lines}
+use Rattle.site_commands.specs.Captures.{ComesTo, Document, IsOfCapture, came_line, totals_line, ReadsFile, ReadsFiles, ReadsSome, Standing, Takes, TakesOne, TakesSome, TakesThose, came_of, is_blank, of_lines}
 use Rattle.site_commands.specs.declared.captures.Came.{Came}
 use Rattle.site_commands.specs.declared.captures.Came.TheVariants.{Refused}
 
@@ -127,9 +127,21 @@ on_err (Err e) p = p
 pub appends_none : (output : Option (List ℕ)) → AppendsBeginning output output []
 appends_none output = ([], [], refl, Appends-nil output)
 
--- no document was taken, and perhaps a beginning of what follows was written
-pub takes_none : (sites : List Site) (old : Standing) (after : Option (List ℕ)) (next : List ℕ) → AppendsBeginning old.output after next → TakesSome sites old after
-takes_none sites old after next told = record { documents = []; last = old; taken = refl; next = next; told = told }
+-- no document was taken, and nothing was written
+pub takes_none : (sites : List Site) (old : Standing) → TakesSome sites old old.output
+takes_none sites old = record { documents = []; last = old; taken = refl; next = []; is_next = inl refl; told = appends_none old.output }
+
+-- one was taken, and a beginning of its line was written
+pub takes_less : (sites : List Site) (old : Standing) (document : Document) (came : Came) (site : Record) (after : Option (List ℕ)) → ComesTo old.site document.bytes came site
+    → AppendsBeginning old.output after (came_line sites document.source came) → TakesSome sites old after
+takes_less sites old document came site after comes told = record {
+  documents = [];
+  last = old;
+  taken = refl;
+  next = came_line sites document.source came;
+  is_next = inr (inl (document, came, site, comes, refl));
+  told = told;
+}
 
 -- some documents more
 pub takes_more : (sites : List Site) (old mid : Standing) (first : List Document) (after : Option (List ℕ)) → Takes sites old first mid → TakesSome sites mid after → TakesSome sites old after
@@ -138,6 +150,7 @@ takes_more sites old mid first after taken some = record {
   last = some.last;
   taken = takes_both sites old mid some.last first some.documents taken some.taken;
   next = some.next;
+  is_next = some.is_next;
   told = some.told;
 }
 
@@ -180,6 +193,11 @@ takes_file reads lines by_lines old mid new paths path sites a b c some more = r
   taken = takes_both sites a b c some.documents more.documents some.taken more.taken;
 }
 
--- those were taken, and perhaps a beginning of what follows was written
-pub takes_those : (Are : List Document → Type 0) (sites : List Site) (old last : Standing) (after : Option (List ℕ)) (next : List ℕ) → TakesThose Are sites old last → AppendsBeginning last.output after next → TakesSome sites old after
-takes_those Are sites old last after next those told = record { documents = those.documents; last = last; taken = those.taken; next = next; told = told }
+-- those were taken, and nothing of the totals was written
+pub takes_those : (Are : List Document → Type 0) (sites : List Site) (old last : Standing) → TakesThose Are sites old last → TakesSome sites old last.output
+takes_those Are sites old last those = record { documents = those.documents; last = last; taken = those.taken; next = []; is_next = inl refl; told = appends_none last.output }
+
+-- or a beginning of them
+pub takes_totals : (Are : List Document → Type 0) (sites : List Site) (old last : Standing) (after : Option (List ℕ)) → TakesThose Are sites old last → AppendsBeginning last.output after (totals_line last.totals) → TakesSome sites old after
+takes_totals Are sites old last after those told =
+    record { documents = those.documents; last = last; taken = those.taken; next = totals_line last.totals; is_next = inr (inr refl); told = told }

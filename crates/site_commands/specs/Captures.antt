@@ -112,12 +112,20 @@ pub record TakesThose (Are : List Document → Type 0) (sites : List Site) (old 
   pub are : Are documents
   pub taken : Takes sites old documents new
 
--- some documents were taken, and perhaps a beginning of what follows was written
+-- what is written next: the line of one document more, or the line of totals, or nothing
+abbrev pub IsNext : List Site → Standing → List ℕ → Type 0
+IsNext sites last next =
+    (next ≡ [])
+    ⊎ (((document : Document) × (came : Came) × (site : Record) × ComesTo last.site document.bytes came site × (next ≡ came_line sites document.source came))
+    ⊎ (next ≡ totals_line last.totals))
+
+-- some documents were taken, and perhaps a beginning of what is written next
 pub record TakesSome (sites : List Site) (old : Standing) (after : Option (List ℕ)) : Type 0 where
   pub documents : List Document
   pub last : Standing
   pub taken : Takes sites old documents last
   pub next : List ℕ
+  pub is_next : IsNext sites last next
   pub told : AppendsBeginning last.output after next
 
 -- ---- where they come from
@@ -197,8 +205,32 @@ module _ {F K : Type 0} (reads : F → List ℕ → List ℕ → F → Type 0) (
     pub listed : ListsSites reads folder old mid sites
     pub taken : TakesWhere folder name sites (named sites name) by_lines paths mid new before after status
 
--- Where a fault ended it, the answers to the documents that were taken were written, and perhaps a beginning of what
--- follows; or nothing but a beginning of a refusal.
-abbrev pub EndsEarly : Option (List ℕ) → Option (List ℕ) → Type 0
-EndsEarly before after =
-    ((next : List ℕ) × AppendsBeginning before after next) ⊎ ((sites : List Site) × (site : Record) × TakesSome sites (standing site before none_yet) after)
+-- ---- where a fault ends it
+
+module _ {F K : Type 0} (reads : F → List ℕ → List ℕ → F → Type 0) (opens : F → List ℕ → List ℕ → K → F → Type 0) (closes : F → K → F → Type 0) (shown : K → Option Record) where
+  -- a site that isn't listed was to be refused, and perhaps a beginning of that was written
+  pub record RefusesEarly (folder name : List ℕ) (old : F) (before after : Option (List ℕ)) : Type 0 where
+    pub sites : List Site
+    pub mid : F
+    pub listed : ListsSites reads folder old mid sites
+    pub unknown : named sites name ≡ None
+    pub told : AppendsBeginning before after (refusal_line (codes "NoSite " ++ name))
+
+  -- The site's file was opened. What was written are the answers to some documents, taken one after another from the record
+  -- that it showed, and perhaps a beginning of the next line.
+  pub record TakesEarly (folder name : List ℕ) (old : F) (before after : Option (List ℕ)) : Type 0 where
+    pub sites : List Site
+    pub mid : F
+    pub listed : ListsSites reads folder old mid sites
+    pub site : ℕ
+    pub known : named sites name ≡ Some site
+    pub first : F
+    pub keeper : K
+    pub record_before : Record
+    pub opened : OpensSite opens closes shown folder sites site mid first keeper record_before
+    pub some : TakesSome sites (standing record_before before none_yet) after
+
+  -- what was written where a fault ended it: one of these, or nothing
+  abbrev pub EndsEarly : List ℕ → List ℕ → F → Option (List ℕ) → Option (List ℕ) → Type 0
+  EndsEarly folder name old before after =
+      Appends before after [] ⊎ (RefusesEarly folder name old before after ⊎ TakesEarly folder name old before after)

@@ -52,9 +52,10 @@ struct Given {
 /// program that ends so: 0, or 1 where a document or the site was refused. A document that is refused hinders no other.
 ///
 /// # Errors
-/// In this order, each without a change: those of the folder's list, and those of opening the site's file; and then the
-/// first of a document that can't be read, of a step, or `Write` where an answer can't be written. The documents before it
-/// stay captured.
+/// Those of the folder's list, those of opening the site's file, `Read` where a document can't be read, those of a step,
+/// and `Write` where an answer can't be written. The documents whose lines were written stay captured. After `NoMemory`,
+/// `Write`, `Device` or `Store` the one behind them may be kept, too: captured again, its events that have an eventID are
+/// known then, and those without one are captured twice.
 pub fn capture_documents<K: SiteKeeper, F: Files<K>, W: Write>(
     alloc: Global,
     files: &mut F,
@@ -66,7 +67,8 @@ pub fn capture_documents<K: SiteKeeper, F: Files<K>, W: Write>(
     ensures all { IfOk result (CapturesAll F.reads F.lines F.opens F.closes K.shown folder.now site.now
         documents.now.by_lines (map (λ p. p.now) documents.now.paths.now) files.old files.new
         (W.contents output.old) (W.contents output.new)) }
-    ensures early { OnErr result (EndsEarly (W.contents output.old) (W.contents output.new)) }
+    ensures early { OnErr result (EndsEarly F.reads F.opens F.closes K.shown folder.now site.now files.old
+        (W.contents output.old) (W.contents output.new)) }
 {
     let sites = sites_of(alloc, files, folder)?;
     let Some(number) = sites.find(site) else {
@@ -213,7 +215,7 @@ fn take_line<K: SiteKeeper, W: Write>(
         → IfOk result (λ after. (new : Record) × (K.shown keeper.new ≡ Some new)
         × Takes sites.now (standing old (W.contents output.old) totals)
         (of_lines path.now number (bytes.items ∷ [])) (standing new (W.contents output.new) after)) }
-    ensures early { (old : Record)
+    ensures early { (old : Record) → K.shown keeper.old ≡ Some old
         → OnErr result (TakesSome sites.now (standing old (W.contents output.old) totals) (W.contents output.new)) }
 {
     if is_blank(bytes.as_slice()) {
@@ -251,7 +253,7 @@ fn take<K: SiteKeeper, W: Write>(
         → IfOk result (λ after. (new : Record) × (K.shown keeper.new ≡ Some new)
         × TakesOne sites.now
         (standing old (W.contents output.old) totals) (document_of given) (standing new (W.contents output.new) after)) }
-    ensures early { (old : Record)
+    ensures early { (old : Record) → K.shown keeper.old ≡ Some old
         → OnErr result (TakesSome sites.now (standing old (W.contents output.old) totals) (W.contents output.new)) }
 {
     let came = captured(keeper, given.bytes)?;

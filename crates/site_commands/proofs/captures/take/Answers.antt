@@ -1,23 +1,25 @@
-use Rattle.std.proofs.Common.{[], ap, ◌∙◌, subst}
+use Rattle.std.proofs.Common.{ap, ◌∙◌, subst}
 use Rattle.std.specs.Io.KnownBytes.{Appends}
-use Rattle.site_commands.specs.Captures.{came_line, standing}
-use Rattle.site_commands.proofs.CaptureLemmas.{appends_none, on_err, takes_none}
+use Rattle.script_core.specs.Writing.{AppendsBeginning}
+use Rattle.site_commands.specs.Captures.{came_line, document_of, standing}
+use Rattle.site_commands.proofs.CaptureLemmas.{on_err, takes_less, takes_none}
 use Rattle.site_commands.proofs.captures.take.Goals as goal
 
 pub returns-in_err-came-clause-early : goal.returns-in_err-came-clause-early
-returns-in_err-came-clause-early g c = λ old.
-    let output = g.W.Write.contents c.args.output.now in
-    on_err c.from_residual.result (takes_none c.args.sites.now (standing old output c.args.totals) output [] (appends_none output))
+returns-in_err-came-clause-early g c = λ old shows. on_err c.from_residual.result (takes_none c.args.sites.now (standing old (g.W.Write.contents c.args.output.now) c.args.totals))
 
 pub returns-in_err-line-clause-early : goal.returns-in_err-line-clause-early
-returns-in_err-line-clause-early g c = λ old.
-    let output = g.W.Write.contents c.args.output.now in
-    on_err c.from_residual-in_err-line.result (takes_none c.args.sites.now (standing old output c.args.totals) output [] (appends_none output))
+returns-in_err-line-clause-early g c = λ old shows. on_err c.from_residual-in_err-line.result (takes_none c.args.sites.now (standing old (g.W.Write.contents c.args.output.now) c.args.totals))
 
 pub returns-in_err-write_line-clause-early : goal.returns-in_err-write_line-clause-early
-returns-in_err-write_line-clause-early g c = λ old.
+returns-in_err-write_line-clause-early g c = λ old shows.
+    let came = c.in_ok-came.ensures old shows in
+    let line = c.as_str-2.ensures.value ∙ c.in_ok-line.ensures ∙ ap (λ source. came_line c.args.sites.now source c.in_ok-came.came) c.as_str.ensures.value in
+    let output = g.W.Write.contents c.args.output.now in
+    let after = g.W.Write.contents c.write_line.new.output in
     on_err c.from_residual-in_err-write_line.result
-    (takes_none c.args.sites.now (standing old (g.W.Write.contents c.args.output.now) c.args.totals) (g.W.Write.contents c.write_line.new.output) _ c.in_err-write_line.ensures.err)
+    (takes_less c.args.sites.now (standing old output c.args.totals) (document_of c.args.given) c.in_ok-came.came came.0 after came.2
+    (subst (λ text. AppendsBeginning output after text) line c.in_err-write_line.ensures.err))
 
 pub returns-clause-taken : goal.returns-clause-taken
 returns-clause-taken g c = λ old shows.

@@ -1,7 +1,7 @@
-use Rattle.std.proofs.Common.{[], string_bytes, sym, ap, ◌∙◌}
+use Rattle.std.proofs.Common.{string_bytes, sym, ap, ◌∙◌}
 use Rattle.std.proofs.lemmas.Result.{IfOk-weaker}
 use Rattle.site_commands.specs.Captures.{is_blank, standing}
-use Rattle.site_commands.proofs.CaptureLemmas.{appends_none, on_err, takes_blank, takes_line, takes_none}
+use Rattle.site_commands.proofs.CaptureLemmas.{on_err, takes_blank, takes_line, takes_none}
 use Rattle.site_commands.proofs.captures.take_line.Goals as goal
 
 pub returns-then-is_blank-clause-taken : goal.returns-then-is_blank-clause-taken
@@ -10,9 +10,7 @@ returns-then-is_blank-clause-taken g c = λ old shows.
     (old, shows, takes_blank c.args.sites.now (standing old (g.W.Write.contents c.args.output.now) c.args.totals) c.args.path.now c.args.bytes.items c.args.number blank)
 
 pub returns-in_err-source-clause-early : goal.returns-in_err-source-clause-early
-returns-in_err-source-clause-early g c = λ old.
-    let output = g.W.Write.contents c.args.output.now in
-    on_err c.from_residual.result (takes_none c.args.sites.now (standing old output c.args.totals) output [] (appends_none output))
+returns-in_err-source-clause-early g c = λ old shows. on_err c.from_residual.result (takes_none c.args.sites.now (standing old (g.W.Write.contents c.args.output.now) c.args.totals))
 
 pub returns-clause-taken : goal.returns-clause-taken
 returns-clause-taken g c = λ old shows.

@@ -1,6 +1,6 @@
 use Rattle.std.proofs.Common.{◌≡◌, ◌+◌, ℕ, [], ◌∷◌, ◌++◌, length, refl, sym, subst, arith, length-append}
 use Rattle.site_commands.specs.Captures.{of_lines, standing}
-use Rattle.site_commands.proofs.CaptureLemmas.{appends_none, on_err, reads_line, takes_lines, takes_more, takes_none}
+use Rattle.site_commands.proofs.CaptureLemmas.{on_err, reads_line, takes_lines, takes_more, takes_none}
 use Rattle.site_commands.proofs.captures.take_lines.Goals as goal
 
 pub loop-number-init : goal.loop-number-init
@@ -13,7 +13,7 @@ returns-in_err-bytes-clause-early g c = λ old shows.
     let output = g.W.Write.contents c.loop-number.output in
     on_err c.from_residual.result
     (takes_more c.args.sites.now (standing old (g.W.Write.contents c.args.output.now) c.args.totals) (standing mid output c.loop-number.totals) (of_lines c.args.path.now 1 texts) output taken
-    (takes_none c.args.sites.now (standing mid output c.loop-number.totals) output [] (appends_none output)))
+    (takes_none c.args.sites.now (standing mid output c.loop-number.totals)))
 
 pub returns-in_default-clause-taken : goal.returns-in_default-clause-taken
 returns-in_default-clause-taken g c = λ old shows.
@@ -34,7 +34,7 @@ returns-in_err-totals-clause-early g c = λ old shows.
     let (mid, shown, taken) = so_far old shows in
     on_err c.from_residual-in_err-totals.result
     (takes_more c.args.sites.now (standing old (g.W.Write.contents c.args.output.now) c.args.totals) (standing mid (g.W.Write.contents c.loop-number.output) c.loop-number.totals) (of_lines c.args.path.now 1 texts)
-    (g.W.Write.contents c.take_line.new.output) taken (c.in_err-totals.ensures.early mid))
+    (g.W.Write.contents c.take_line.new.output) taken (c.in_err-totals.ensures.early mid shown))
 
 pub loop-number-preserved : goal.loop-number-preserved
 loop-number-preserved g c =
@@ -59,4 +59,4 @@ returns-clause-early g c = λ old shows.
     let (mid, shown, taken) = so_far old shows in
     let output = g.W.Write.contents c.loop-number.output in
     takes_more c.args.sites.now (standing old (g.W.Write.contents c.args.output.now) c.args.totals) (standing mid output c.loop-number.totals) (of_lines c.args.path.now 1 texts) output taken
-    (takes_none c.args.sites.now (standing mid output c.loop-number.totals) output [] (appends_none output))
+    (takes_none c.args.sites.now (standing mid output c.loop-number.totals))

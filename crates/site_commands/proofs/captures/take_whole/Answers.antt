@@ -1,21 +1,14 @@
-use Rattle.std.proofs.Common.{[], string_bytes}
+use Rattle.std.proofs.Common.{string_bytes}
 use Rattle.std.proofs.lemmas.Result.{IfOk-weaker}
 use Rattle.site_commands.specs.Captures.{standing}
-use Rattle.site_commands.proofs.CaptureLemmas.{appends_none, on_err, takes_document, takes_none}
+use Rattle.site_commands.proofs.CaptureLemmas.{on_err, takes_document, takes_none}
 use Rattle.site_commands.proofs.captures.take_whole.Goals as goal
 
 pub returns-in_err-bytes-clause-early : goal.returns-in_err-bytes-clause-early
-returns-in_err-bytes-clause-early g c = λ old shows.
-    let output = g.W.Write.contents c.args.output.now in
-    on_err c.from_residual.result (takes_none c.args.sites.now (standing old output c.args.totals) output [] (appends_none output))
+returns-in_err-bytes-clause-early g c = λ old shows. on_err c.from_residual.result (takes_none c.args.sites.now (standing old (g.W.Write.contents c.args.output.now) c.args.totals))
 
 pub returns-in_err-source-clause-early : goal.returns-in_err-source-clause-early
-returns-in_err-source-clause-early g c = λ old shows.
-    let output = g.W.Write.contents c.args.output.now in
-    on_err c.from_residual-in_err-source.result (takes_none c.args.sites.now (standing old output c.args.totals) output [] (appends_none output))
-
-pub returns-clause-early : goal.returns-clause-early
-returns-clause-early g c = λ old shows. c.take.ensures.early old
+returns-in_err-source-clause-early g c = λ old shows. on_err c.from_residual-in_err-source.result (takes_none c.args.sites.now (standing old (g.W.Write.contents c.args.output.now) c.args.totals))
 
 pub returns-clause-taken : goal.returns-clause-taken
 returns-clause-taken g c = λ old shows.
