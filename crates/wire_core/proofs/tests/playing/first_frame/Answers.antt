@@ -24,7 +24,8 @@ told_apart a b apart = (Decides-not _ (Decides-eqb a b)).0 apart
 
 pub returns-then-number-lt2 : goal.returns-then-number-lt2
 returns-then-number-lt2 c = record {
-    emitted = emitted _ _ c.in-Some.view c.args.state.now c.in-Ok.frame c.emittable.ensures c.in-Some.is c.in-Ok.ensures;
-    site = sym c.sender-from.ensures ∙ (eqb-true _ _ (sym c.eq.ensures ∙ c.if-eq.true) ∙ c.me.ensures.me);
-    other = λ same. told_apart _ _ (sym c.ne.ensures ∙ c.if-ne.true) (c.addressee-to.ensures ∙ (sym same ∙ sym c.sender-from.ensures));
-    there = subst (λ n. n < 2) (c.number.ensures.value ∙ c.addressee-to.ensures) c.if-number-lt2.true }
+  emitted = emitted _ _ c.in-Some.view c.args.state.now c.in-Ok.frame c.emittable.ensures c.in-Some.is c.in-Ok.ensures;
+  site = sym c.sender-from.ensures ∙ (eqb-true _ _ (sym c.eq.ensures ∙ c.if-eq.true) ∙ c.me.ensures.me);
+  other = λ same. told_apart _ _ (sym c.ne.ensures ∙ c.if-ne.true) (c.addressee-to.ensures ∙ (sym same ∙ sym c.sender-from.ensures));
+  there = subst (λ n. n < 2) (c.number.ensures.value ∙ c.addressee-to.ensures) c.if-number-lt2.true;
+}
