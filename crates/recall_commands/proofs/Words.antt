@@ -1,5 +1,5 @@
 -- what some command lines ask for
-use Rattle.std.proofs.Common.{◌≡◌, ◌↔◌, ℕ, Bool, Bor, true, false, List, [], ◌∷◌, Option, Some, None, Result, Ok, Err, IfOk, IfSome, arith, codes, length, map, get_or, refl, sym, ap, ◌∙◌, subst, ⊎_elim}
+use Rattle.std.proofs.Common.{◌≡◌, ◌↔◌, ℕ, Bool, Bor, true, false, List, [], ◌∷◌, Option, Some, None, Result, Ok, Err, IfOk, IfSome, arith, codes, length, map, get_or, refl, sym, ap, ◌∙◌, subst, ⊎_elim, inl, inr, ◌≢◌}
 use mathlib.Core.Bool.{false≢true}
 use Rattle.std.specs.Prelude.{IsTrue}
 use Rattle.std.specs.Option.{ok_or}
@@ -139,6 +139,11 @@ unset_where rows name none = (
 -- what isn't there
 pub not_set : {P : Type 0} (b : Bool) → b ≡ false → IsTrue b ↔ P → IsTrue false ↔ P
 not_set b e is = (λ t. absurd (false≢true t), λ p. sym e ∙ is.1 p)
+
+-- documents that aren't one file's one: there are lines, or not one file
+pub are_several : (one by_lines : Bool) (n : ℕ) → IsTrue one ↔ ((by_lines ≡ false) × (n ≡ 1)) → one ≡ false → (by_lines ≡ true) ⊎ (n ≢ 1)
+are_several one true n is other = inl refl
+are_several one false n is other = inr (λ n_is. false≢true (sym other ∙ is.1 (refl, n_is)))
 
 -- a list of one text
 pub one_text_alone : (texts : List (Bor Text)) (d : Bor Text) → length texts ≡ 1 → map (λ t. t.now) texts ≡ (get_or texts 0 d).now ∷ []

@@ -1,5 +1,6 @@
 -- What the words of a command line ask for, as `clap` reads them.
-use Rattle.std.specs.Prelude.{◌≡◌, ◌≢◌, ◌≤◌, ◌↔◌, ⊤, ℕ, Bool, true, false, IsTrue, List, [], ◌∷◌, Option, Some, codes, map, string_bytes}
+use Rattle.std.specs.Prelude.{◌≡◌, ◌≢◌, ◌≤◌, ◌↔◌, ⊤, ℕ, Bool, true, false, IsTrue, List, [], ◌∷◌, Option, Some, codes, length, map, string_bytes}
+use mathlib.Core.Logic.{◌⊎◌}
 use Rattle.std.specs.Global.{Global}
 use Rattle.std.specs.declared.string.String.{String}
 use Rattle.std.specs.Str.Parse.{digits_value, without_leading_plus}
@@ -118,8 +119,9 @@ IsCommand (Run folder turns) name rows =
 IsCommand (Report folder recall) name rows = (name ≡ codes "report") × Gives rows (codes "dir") folder.now × Gives rows (codes "recall") recall.now
 IsCommand (Audit folder) name rows = (name ≡ codes "audit") × Gives rows (codes "dir") folder.now
 
--- Several documents are captured: those of several files, or of the lines of some.
+-- Several documents are captured: those of several files, or of the lines of some. One file that is one document is none.
 pub record IsBatch (batch : Batch) (rows : List Row) : Type 0 where
+  pub several : (batch.by_lines ≡ true) ⊎ (length (paths_of batch) ≢ 1)
   pub folder : Gives rows (codes "dir") batch.folder.now
   pub site : Gives rows (codes "site") batch.site.now
   pub files : GivesFiles rows (paths_of batch) batch.by_lines

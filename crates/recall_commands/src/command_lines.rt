@@ -1,6 +1,6 @@
 //! What the words of a command line ask for.
 
-ghost use Rattle.std.specs.Prelude.{◌≡◌, ◌↔◌, false, IfOk, IfSome, IsTrue, codes};
+ghost use Rattle.std.specs.Prelude.{◌≡◌, ◌↔◌, false, IfOk, IfSome, IsTrue, codes, length};
 ghost use Rattle.clap.specs.Words.{app_of, found_of, kind_of, rows_of, rule_of, subcommand_rows_of};
 ghost use Rattle.recall_commands.specs.CommandLines.{audit, capture, files, init, lines, on_folder, recall, report, required, run, sim, start, texts_of, turns, AsksFor, AsksNamed, Gives, GivesNumber, IsCapture, IsCommand, IsSet, IsToldAs};
 
@@ -104,7 +104,7 @@ fn capture_command<'a>(alloc: Global, given: &ArgMatches<'a>) -> Option<Asked<'a
     let site = argument(given, "site")?;
     let paths = given.get_strs("file")?;
     let by_lines = is_set(given, "lines");
-    if paths.len() == 1 && !by_lines {
+    if is_one_document(paths, by_lines) {
         let file = paths[0];
         return Some(Asked::Files(FileCommand::Capture { folder, site, file }));
     }
@@ -115,6 +115,13 @@ fn capture_command<'a>(alloc: Global, given: &ArgMatches<'a>) -> Option<Asked<'a
         paths,
         by_lines,
     }))
+}
+
+/// Whether the files are one that is one document.
+fn is_one_document(paths: &[&str], by_lines: bool) -> bool
+    ensures { IsTrue result ↔ ((by_lines ≡ false) × (length paths.now ≡ 1)) }
+{
+    !by_lines && paths.len() == 1
 }
 
 /// A list of the same texts.
