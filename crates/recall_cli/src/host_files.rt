@@ -264,9 +264,27 @@ impl Files<FileSite> for HostFiles<'_> {
     }
 }
 
-/// Makes a file of these bytes, and syncs it.
-fn written(runtime: &HostRuntime, path: &str, bytes: &[u8]) -> std::io::Result<()> {
-    let mut file = File::create_new(runtime, path)?;
+/// Makes a file of these bytes, whole or not at all: it is written under another name, which is `.new` behind its own,
+/// synced, renamed, and then its folder is synced. An error comes where one of this path exists. After a crash the other
+/// name may be left over, which the next call writes over.
+fn written(runtime: &HostRuntime, path: &str, bytes: &[u8]) -> io::Result<()> {
+    if fs::exists(runtime, path)? {
+        return Err(Error::from(ErrorKind::AlreadyExists));
+    }
+    let mut new_path = String::from_str(runtime.alloc(), path)?;
+    new_path.push_str(".new")?;
+    let mut file = File::create(runtime, new_path.as_str())?;
     file.write_all(bytes)?;
-    file.sync_all()
+    file.sync_all()?;
+    fs::rename(runtime, new_path.as_str(), path)?;
+    File::open(runtime, folder_of(path))?.sync_all()
+}
+
+/// The folder that a path leads into.
+fn folder_of(path: &str) -> &str {
+    match path.rsplit_once('/') {
+        Some((folder, _)) if !folder.is_empty() => folder,
+        Some(_) => "/",
+        None => ".",
+    }
 }
