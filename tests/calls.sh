@@ -47,7 +47,8 @@ made() {
 stopped() {
     local call=$1 k=$2 how=$3
     shift 3
-    strace -f -qq -o trace -e "trace=$call" -e "inject=$call:$how:when=$k" "$recall" "$@" >out 2>err </dev/null
+    # The shell's word that a process was killed isn't wanted.
+    { strace -f -qq -o trace -e "trace=$call" -e "inject=$call:$how:when=$k" "$recall" "$@" >out 2>err </dev/null; } 2>/dev/null
 }
 
 # tries FOLDER CHECK WORD..: from this folder, each call of the program on these words is stopped and failed; the words name
