@@ -12,8 +12,6 @@
 #include <cstdio>
 #include <cstdlib>
 #include <cstring>
-#include <iostream>
-#include <iterator>
 #include <simdjson.h>
 #include <string>
 #include <string_view>
@@ -272,12 +270,23 @@ struct Trace {
     }
 };
 
+// The standard input to its end.
+string input() {
+    string all;
+    for (size_t size = 0, read = 1; read; size += read) {
+        all.resize(size + (1 << 20));
+        read = fread(all.data() + size, 1, 1 << 20, stdin);
+        all.resize(size + read);
+    }
+    return all;
+}
+
 double seconds() { return std::chrono::duration<double>(std::chrono::steady_clock::now().time_since_epoch()).count(); }
 
 } // namespace
 
 int main() {
-    string script((std::istreambuf_iterator<char>(std::cin)), std::istreambuf_iterator<char>());
+    string script = input();
     Trace trace;
     simdjson::ondemand::parser parser;
     string out;
