@@ -3,16 +3,19 @@ use Rattle.std.proofs.Common.{◌≡◌, ◌<◌, ◌≤◌, ◌+◌, ℕ, true,
 use mathlib.Core.Bool.{false≢true}
 use mathlib.Core.Logic.{◌⊎◌}
 use Rattle.std.specs.Borrow.{Bor}
+use Rattle.indexmap.specs.IndexMap.{IndexMap, IsUnique}
 use Rattle.std.specs.BTreeMap.{BTreeMap, IsOrdered, Updates, get}
 use Rattle.std.specs.Cmp.{eq_by_cmp_equiv}
-use Rattle.std.specs.Cmp.Lexicographic.{slice_cmp}
+use Rattle.std.specs.Cmp.Lexicographic.{nat_list_eq_equiv}
 use Rattle.std.specs.List.{Contains}
-use Rattle.std.specs.Ordering.{nat_cmp, eq_by_cmp}
+use Rattle.std.specs.Ordering.{eq_by_cmp}
 use Rattle.std.proofs.lemmas.Bool.{cases_Bool, cond-false}
-use Rattle.std.proofs.lemmas.Cmp.{nat_list_cmp_total}
 use Rattle.std.proofs.lemmas.List.{map-append, take_more}
-use Rattle.std.proofs.lemmas.Map.Lookups.{exact_bytes}
-use Rattle.std.proofs.lemmas.Map.Views.{btree_map_get_iff, tells_apart}
+use Rattle.std.proofs.lemmas.Map.Views.{btree_map_get_iff, hash_map_get_iff, tells_apart}
+use Rattle.std.proofs.lemmas.List.Sorted.{Contains-permutation, IsPermutation-map, IsPermutation-sym}
+use Rattle.std.specs.List.Sorted.{IsPermutation}
+use Rattle.std.proofs.lemmas.Slice.Eq.{bytes_eq-Decides}
+use Rattle.trace_core.specs.PairTests.{same_item}
 use Rattle.std.proofs.lemmas.Option.{slice_get_within}
 use Rattle.event_json.specs.Events.{Content}
 use Rattle.trace_core.specs.declared.nodes.Batch.{Batch}
@@ -41,19 +44,26 @@ abbrev pub HasNumbered : List Content → Batch × List ℕ → List ℕ → Typ
 HasNumbered events b i = HasNumber events b.1 i
 
 -- the marked items of a map
-pub marked_found : (known : BTreeMap (List ℕ) ℕ) (numbers : List ℕ) → IsOrdered (slice_cmp nat_cmp) known → (i : List ℕ) → FromSome (IsMarked numbers) known.entries i ↔ HasMark known numbers i
-marked_found known numbers ordered i = (
+pub marked_found : {S : Type 0} (known : IndexMap (List ℕ) ℕ S) (numbers : List ℕ) → IsUnique same_item known → (i : List ℕ) → FromSome (IsMarked numbers) known.entries i ↔ HasMark known numbers i
+marked_found known numbers unique i = (
   λ (e, there, (marked, same)).
-      let looked : number_found known e.0 ≡ Some e.1 = (btree_map_get_iff nat_list_cmp_total exact_bytes known ordered e.0 e.1).1 there in
+      let looked : number_found known e.0 ≡ Some e.1 = (hash_map_get_iff nat_list_eq_equiv (λ x y. (bytes_eq-Decides x y).0) known unique e.0 e.1).1 there in
       (e.1, subst (λ j. number_found known j ≡ Some e.1) same looked, marked),
-  λ (n, found, marked). ((i, n), (btree_map_get_iff nat_list_cmp_total exact_bytes known ordered i n).0 found, (marked, refl)),
+  λ (n, found, marked). ((i, n), (hash_map_get_iff nat_list_eq_equiv (λ x y. (bytes_eq-Decides x y).0) known unique i n).0 found, (marked, refl)),
 )
 
 -- the items whose numbers are marked are those of the numbers
-pub marked_items : (events : List Content) (known : BTreeMap (List ℕ) ℕ) (numbers : List ℕ) → IsNumbered known (numbered events) → (i : List ℕ) → HasMark known numbers i ↔ HasNumber events numbers i
+pub marked_items : {S : Type 0} (events : List Content) (known : IndexMap (List ℕ) ℕ S) (numbers : List ℕ) → IsNumbered known (numbered events) → (i : List ℕ) → HasMark known numbers i ↔ HasNumber events numbers i
 marked_items events known numbers is i = (
   λ (n, found, there). (n, there, number_stands (numbered events) i n (sym (is.known i) ∙ found)),
   λ (n, there, stands). (n, is.known i ∙ is.apart n i stands, there),
+)
+
+-- references in another order point to the same items
+pub refs_sorted : (refs refs' : List (Bor (List ℕ))) → IsPermutation refs refs' → (i : List ℕ) → Contains (items_at refs') i ↔ Contains (items_at refs) i
+refs_sorted refs refs' same i = (
+  Contains-permutation (items_at refs') (items_at refs) i (IsPermutation-map (λ (r : Bor (List ℕ)). r.now) refs' refs (IsPermutation-sym refs refs' same)),
+  Contains-permutation (items_at refs) (items_at refs') i (IsPermutation-map (λ (r : Bor (List ℕ)). r.now) refs refs' same),
 )
 
 -- the same numbers have the same items

@@ -1,14 +1,11 @@
 -- Items with their places, by number.
 use Rattle.std.proofs.Common.{◌≡◌, ◌<◌, ℕ, zero, suc, Bool, true, false, cond, ◌||◌, List, [], ◌∷◌, ◌++◌, Option, Some, None, length, get_or, slice_get, Result, Ok, Err, IfOk, OnOk, OnErr, option_map, refl, sym, ap, subst, ◌∙◌, inl, inr, ⊎_elim, arith}
 use mathlib.Core.Bool.{false≢true}
-use Rattle.std.specs.BTreeMap.{BTreeMap, UpdatesBy}
-use Rattle.std.specs.Cmp.Lexicographic.{slice_cmp}
-use Rattle.std.specs.Ordering.{nat_cmp}
+use Rattle.indexmap.specs.IndexMap.{IndexMap, UpdatesBy}
 use mathlib.Core.Logic.{◌⊎◌}
 use Rattle.std.proofs.Math.ListN.{set}
 use Rattle.std.proofs.lemmas.Bool.{cases_Bool, cond-true, cond-false}
 use Rattle.std.proofs.lemmas.List.{map-append, length-map}
-use Rattle.std.proofs.lemmas.Map.Text.{is_eq-slice_cmp}
 use Rattle.std.proofs.lemmas.Option.{slice_get-map}
 use Rattle.std.proofs.lemmas.Slice.Eq.{bytes_eq-Decides}
 use Rattle.trace_core.specs.declared.items.Named.{Named}
@@ -224,7 +221,7 @@ places_of_number named n x apart h = at named n (apart n x.name (name_at named n
         by_test false (Some m) there k = there m refl (subst (λ l. slice_get (y ∷ ys) l ≡ Some x) (sym (some_is (suc m) n k)) e)
 
 -- the numbers of names, as one more comes
-module _ (numbers numbers' : BTreeMap (List ℕ) ℕ) (names : List (List ℕ)) where
+module _ {S : Type 0} (numbers numbers' : IndexMap (List ℕ) ℕ S) (names : List (List ℕ)) where
   pub numbered_pushed : (i : List ℕ) → IsNumbered numbers names → lists names i ≡ false → ((j : List ℕ) → number_found numbers' j ≡ cond (same_item i j) (Some (length names)) (number_found numbers j)) → IsNumbered numbers' (names ++ i ∷ [])
   numbered_pushed i is new updated = record {
     known = λ j. updated j ∙ ap (λ o. cond (same_item i j) (Some (length names)) o) (is.known j) ∙ at j (number_in names j) refl;
@@ -260,15 +257,15 @@ module _ (numbers numbers' : BTreeMap (List ℕ) ℕ) (names : List (List ℕ)) 
           (cases_Bool (same_item i j))
 
 -- what a look-up of a number finds after a change
-pub number_updated : (old new : BTreeMap (List ℕ) ℕ) (k : List ℕ) (w : Option ℕ) → UpdatesBy (slice_cmp nat_cmp) (slice_cmp nat_cmp k) old new w → (i : List ℕ) → number_found new i ≡ cond (same_item k i) w (number_found old i)
-number_updated old new k w upd i = upd.0 i ∙ ap (λ b. cond b w (number_found old i)) (is_eq-slice_cmp k i)
+pub number_updated : {S : Type 0} (old new : IndexMap (List ℕ) ℕ S) (k : List ℕ) (w : Option ℕ) → UpdatesBy same_item (same_item k) old new w → (i : List ℕ) → number_found new i ≡ cond (same_item k i) w (number_found old i)
+number_updated old new k w upd i = upd.0 i
 
 pub by_outcome : {A E P Q : Type 0} (r : Result A E) → OnOk r P → OnErr r Q → P ⊎ Q
 by_outcome (Ok a) p q = inl p
 by_outcome (Err e) p q = inr q
 
 -- what adding an item keeps
-module _ {A E : Type 0} (numbers numbers' : BTreeMap (List ℕ) ℕ) (named named' : List Named) where
+module _ {A E S : Type 0} (numbers numbers' : IndexMap (List ℕ) ℕ S) (named named' : List Named) where
   pub note_added : (i places : List ℕ) (r : Result A E) → IsNumbered numbers (names_of named) → None ≡ number_in (names_of named) i
       → OnOk r (named' ≡ named ++ record { name = i; places = places } ∷ []) → OnOk r ((j : List ℕ) → number_found numbers' j ≡ cond (same_item i j) (Some (length named)) (number_found numbers j))
       → OnOk r (IsNumbered numbers' (names_of named'))

@@ -1,6 +1,7 @@
 -- Found nodes as an answer: in batches, and the items of a batch by their numbers.
 use Rattle.std.specs.Prelude.{◌≡◌, ℕ, List, Some, map, slice_get, Contains}
 use Rattle.std.specs.Borrow.{Bor}
+use Rattle.indexmap.specs.IndexMap.{IndexMap}
 use Rattle.std.specs.BTreeMap.{BTreeMap, get}
 use Rattle.std.specs.declared.cmp.Ordering.{Ordering}
 use Rattle.std.specs.Ordering.{nat_cmp, ordering_then}
@@ -18,7 +19,7 @@ abbrev pub items_at : List (Bor (List ℕ)) → List (List ℕ)
 items_at refs = map (λ r. r.now) refs
 
 -- the item's number is marked
-abbrev pub HasMark : BTreeMap (List ℕ) ℕ → List ℕ → List ℕ → Type 0
+abbrev pub HasMark : {S : Type 0} → IndexMap (List ℕ) ℕ S → List ℕ → List ℕ → Type 0
 HasMark known numbers i = (n : ℕ) × (number_found known i ≡ Some n) × Contains numbers n
 
 -- the item has one of the numbers

@@ -1,9 +1,8 @@
 -- Items by number: each item that events name has a number, in the order in which they are first named.
-use Rattle.std.specs.Prelude.{◌≡◌, ℕ, zero, suc, cond, List, [], ◌∷◌, ◌++◌, Option, Some, None, map, length, take, slice_get, option_map, unwrap_or}
-use Rattle.std.specs.BTreeMap.{BTreeMap, get}
+use Rattle.std.specs.Prelude.{◌≡◌, ℕ, zero, suc, cond, List, [], ◌∷◌, ◌++◌, nat_eq, Option, Some, None, map, length, take, slice_get, option_map, unwrap_or}
+use Rattle.indexmap.specs.IndexMap.{IndexMap, get}
 use Rattle.std.specs.List.{flat_map}
-use Rattle.std.specs.Cmp.Lexicographic.{slice_cmp}
-use Rattle.std.specs.Ordering.{nat_cmp}
+use Rattle.std.specs.Cmp.Lexicographic.{pointwise}
 use Rattle.event_json.specs.Events.{Content}
 use Rattle.event_json.specs.declared.bodies.Body.{Body}
 use Rattle.event_json.specs.declared.bodies.Body.TheVariants.{Note, Ship, Make}
@@ -38,11 +37,11 @@ abbrev pub names_of : List Named → List (List ℕ)
 names_of named = map (λ x. x.name) named
 
 -- what is looked up in a map of numbers
-abbrev pub number_found : BTreeMap (List ℕ) ℕ → List ℕ → Option ℕ
-number_found numbers i = get (slice_cmp nat_cmp) numbers i
+abbrev pub number_found : {S : Type 0} → IndexMap (List ℕ) ℕ S → List ℕ → Option ℕ
+number_found numbers i = get (pointwise nat_eq) numbers i
 
 -- the map has the number of each name, and no other
-pub record IsNumbered (numbers : BTreeMap (List ℕ) ℕ) (names : List (List ℕ)) : Type 0 where
+pub record IsNumbered {S : Type 0} (numbers : IndexMap (List ℕ) ℕ S) (names : List (List ℕ)) : Type 0 where
   pub known : (i : List ℕ) → number_found numbers i ≡ number_in names i
   pub apart : AreApart names
 

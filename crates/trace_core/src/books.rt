@@ -18,7 +18,8 @@ use crate::looks::{count_look, count_looks};
 use epc_core::Epc;
 use event_json::{Event, PlainText, SiteNo};
 use std::alloc::{AllocError, Global};
-use std::collections::BTreeMap;
+use indexmap::IndexMap;
+use std::hash::{BuildHasherDefault, DefaultHasher};
 use std::marker::Model;
 
 /// Events in the order in which they came, and an index of what they name.
@@ -122,7 +123,7 @@ impl Book {
     }
 
     /// The items that events name with their numbers, in the order of items.
-    pub fn numbers(&self) -> &BTreeMap<Epc, usize>
+    pub fn numbers(&self) -> &IndexMap<Epc, usize, BuildHasherDefault<DefaultHasher>>
         ensures { IsNumbered result.now (numbered self.now) }
     {
         self.index.items.numbers()

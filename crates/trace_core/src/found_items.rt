@@ -7,7 +7,9 @@ use crate::books::Book;
 use crate::marks::Marks;
 use epc_core::Epc;
 use std::alloc::{AllocError, Global};
-use std::collections::{BTreeMap, BTreeSet};
+use indexmap::IndexMap;
+use std::collections::BTreeSet;
+use std::hash::{BuildHasherDefault, DefaultHasher};
 
 /// The items of these numbers. Where they are many of a book's, all its items are gone through in order,
 /// so that they ascend already.
@@ -27,7 +29,7 @@ pub fn items_of_numbers<'a>(
 /// The items whose numbers are marked, ascending.
 fn items_in_order<'a>(
     alloc: Global,
-    known: &'a BTreeMap<Epc, usize>,
+    known: &'a IndexMap<Epc, usize, BuildHasherDefault<DefaultHasher>>,
     numbers: &Marks,
 ) -> Result<Vec<&'a Epc>, AllocError>
     ensures { IfOk result (λ items. (i : List ℕ) → Contains (items_at items.items) i ↔ HasMark known.now numbers.now i) }
@@ -36,6 +38,7 @@ fn items_in_order<'a>(
     for (name, number) in known {
         push_if_marked(name, *number, numbers, &mut items)?;
     }
+    items.sort()?;
     Ok(items)
 }
 

@@ -7,7 +7,8 @@ ghost use Rattle.trace_core.specs.Places.{or_none, with_last, without_last};
 use crate::places::Places;
 use epc_core::Epc;
 use std::alloc::{AllocError, Global};
-use std::collections::BTreeMap;
+use indexmap::IndexMap;
+use std::hash::{BuildHasherDefault, DefaultHasher};
 use std::marker::Model;
 
 /// An item that events name.
@@ -23,7 +24,7 @@ pub struct Named {
 /// map, so that no choice of texts makes a look-up slow.
 #[derive(Debug, Drop)]
 pub struct Items {
-    numbers: BTreeMap<Epc, usize>,
+    numbers: IndexMap<Epc, usize, BuildHasherDefault<DefaultHasher>>,
     named: Vec<Named>,
 }
 
@@ -45,7 +46,7 @@ impl Items {
         ensures { result ≡ [] }
     {
         Items {
-            numbers: BTreeMap::new(alloc),
+            numbers: IndexMap::with_hasher(alloc, BuildHasherDefault::new()),
             named: Vec::new(alloc),
         }
     }
@@ -65,7 +66,7 @@ impl Items {
     }
 
     /// The items with their numbers, in the order of items.
-    pub fn numbers(&self) -> &BTreeMap<Epc, usize>
+    pub fn numbers(&self) -> &IndexMap<Epc, usize, BuildHasherDefault<DefaultHasher>>
         ensures { IsNumbered result.now (names_of self.now) }
     {
         &self.numbers
@@ -166,7 +167,7 @@ impl Items {
         ensures { self.new ≡ take (length self.old - 1) self.old }
     {
         if let Some(last) = self.named.pop() {
-            self.numbers.remove(&last.name);
+            self.numbers.swap_remove(&last.name);
         }
     }
 }
@@ -174,7 +175,7 @@ impl Items {
 /// Adds a new item with its places, and returns its number. An `Err` changes nothing.
 fn add(
     alloc: Global,
-    numbers: &mut BTreeMap<Epc, usize>,
+    numbers: &mut IndexMap<Epc, usize, BuildHasherDefault<DefaultHasher>>,
     named: &mut Vec<Named>,
     item: &Epc,
     places: Places,

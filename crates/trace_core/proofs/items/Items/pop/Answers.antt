@@ -6,6 +6,6 @@ use Rattle.trace_core.proofs.NamedLists.{numbered_popped, number_updated}
 use Rattle.trace_core.proofs.items.Items.pop.Goals as goal
 
 pub invariant_of-self : goal.invariant_of-self
-invariant_of-self c = numbered_popped c.self.inside.numbers c.remove.new.self (names_of c.pop.new.self.items) c.in-Some.last.name
+invariant_of-self c = numbered_popped c.self.inside.numbers c.swap_remove.new.self (names_of c.pop.new.self.items) c.in-Some.last.name
     (subst (λ ns. IsNumbered c.self.inside.numbers ns) (ap names_of c.in-Some.ensures.items ∙ map-append (λ (x : Named). x.name) c.pop.new.self.items _) c.self.invariant)
-    (λ j. number_updated c.self.inside.numbers c.remove.new.self c.in-Some.last.name None c.remove.ensures.updates j)
+    (λ j. number_updated c.self.inside.numbers c.swap_remove.new.self c.in-Some.last.name None c.swap_remove.ensures.updates j)
