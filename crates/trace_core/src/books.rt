@@ -17,9 +17,9 @@ use crate::indexes::Index;
 use crate::looks::{count_look, count_looks};
 use epc_core::Epc;
 use event_json::{Event, PlainText, SiteNo};
-use std::alloc::{AllocError, Global};
 use indexmap::IndexMap;
-use std::hash::{BuildHasherDefault, DefaultHasher};
+use std::alloc::{AllocError, Global};
+use std::hash::RandomState;
 use std::marker::Model;
 
 /// Events in the order in which they came, and an index of what they name.
@@ -42,13 +42,14 @@ impl Model for Book {
 }
 
 impl Book {
-    /// No events. Does not allocate.
-    pub fn new(alloc: Global) -> Book
+    /// No events, with the keys of the hash by which items are numbered, drawn at random, so that nobody can choose
+    /// texts that collide. Does not allocate.
+    pub fn new(alloc: Global, keys: RandomState) -> Book
         ensures { result ≡ [] }
     {
         Book {
             events: Vec::new(alloc),
-            index: Index::new(alloc),
+            index: Index::new(alloc, keys),
         }
     }
 
@@ -123,7 +124,7 @@ impl Book {
     }
 
     /// The items that events name with their numbers, in the order of items.
-    pub fn numbers(&self) -> &IndexMap<Epc, usize, BuildHasherDefault<DefaultHasher>>
+    pub fn numbers(&self) -> &IndexMap<Epc, usize, RandomState>
         ensures { IsNumbered result.now (numbered self.now) }
     {
         self.index.items.numbers()
@@ -230,11 +231,11 @@ impl Book {
         self.number_of(item).is_some()
     }
 
-    /// An equal book.
+    /// An equal book, with the same keys.
     pub fn copy(&self, alloc: Global) -> Result<Book, AllocError>
         ensures { IfOk result (λ b. b ≡ self.now) }
     {
-        let mut copy = Book::new(alloc);
+        let mut copy = Book::new(alloc, self.index.items.keys());
         for event in &self.events {
             copy.push(event.copy(alloc)?)?;
         }

@@ -6,10 +6,10 @@ ghost use Rattle.trace_core.specs.Numbers.{numbered};
 use crate::books::Book;
 use crate::marks::Marks;
 use epc_core::Epc;
-use std::alloc::{AllocError, Global};
 use indexmap::IndexMap;
+use std::alloc::{AllocError, Global};
 use std::collections::BTreeSet;
-use std::hash::{BuildHasherDefault, DefaultHasher};
+use std::hash::RandomState;
 
 /// The items of these numbers. Where they are many of a book's, all its items are gone through in order,
 /// so that they ascend already.
@@ -29,7 +29,7 @@ pub fn items_of_numbers<'a>(
 /// The items whose numbers are marked, ascending.
 fn items_in_order<'a>(
     alloc: Global,
-    known: &'a IndexMap<Epc, usize, BuildHasherDefault<DefaultHasher>>,
+    known: &'a IndexMap<Epc, usize, RandomState>,
     numbers: &Marks,
 ) -> Result<Vec<&'a Epc>, AllocError>
     ensures { IfOk result (λ items. (i : List ℕ) → Contains (items_at items.items) i ↔ HasMark known.now numbers.now i) }

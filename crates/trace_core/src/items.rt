@@ -6,9 +6,9 @@ ghost use Rattle.trace_core.specs.Places.{or_none, with_last, without_last};
 
 use crate::places::Places;
 use epc_core::Epc;
-use std::alloc::{AllocError, Global};
 use indexmap::IndexMap;
-use std::hash::{BuildHasherDefault, DefaultHasher};
+use std::alloc::{AllocError, Global};
+use std::hash::RandomState;
 use std::marker::Model;
 
 /// An item that events name.
@@ -20,11 +20,10 @@ pub struct Named {
     pub places: Places,
 }
 
-/// Items by number, in the order in which they were first named. What is looked up stands in an ordered
-/// map, so that no choice of texts makes a look-up slow.
+/// Items by number, in the order in which they were first named.
 #[derive(Debug, Drop)]
 pub struct Items {
-    numbers: IndexMap<Epc, usize, BuildHasherDefault<DefaultHasher>>,
+    numbers: IndexMap<Epc, usize, RandomState>,
     named: Vec<Named>,
 }
 
@@ -41,14 +40,20 @@ impl Model for Items {
 }
 
 impl Items {
-    /// No items. Does not allocate.
-    pub fn new(alloc: Global) -> Items
+    /// No items, with the keys of the hash by which they are numbered, drawn at random, so that nobody can choose
+    /// texts that collide. Does not allocate.
+    pub fn new(alloc: Global, keys: RandomState) -> Items
         ensures { result ≡ [] }
     {
         Items {
-            numbers: IndexMap::with_hasher(alloc, BuildHasherDefault::new()),
+            numbers: IndexMap::with_hasher(alloc, keys),
             named: Vec::new(alloc),
         }
+    }
+
+    /// The keys of the hash.
+    pub fn keys(&self) -> RandomState {
+        *self.numbers.hasher()
     }
 
     /// How many items there are.
@@ -66,7 +71,7 @@ impl Items {
     }
 
     /// The items with their numbers, in the order of items.
-    pub fn numbers(&self) -> &IndexMap<Epc, usize, BuildHasherDefault<DefaultHasher>>
+    pub fn numbers(&self) -> &IndexMap<Epc, usize, RandomState>
         ensures { IsNumbered result.now (names_of self.now) }
     {
         &self.numbers
@@ -175,7 +180,7 @@ impl Items {
 /// Adds a new item with its places, and returns its number. An `Err` changes nothing.
 fn add(
     alloc: Global,
-    numbers: &mut IndexMap<Epc, usize, BuildHasherDefault<DefaultHasher>>,
+    numbers: &mut IndexMap<Epc, usize, RandomState>,
     named: &mut Vec<Named>,
     item: &Epc,
     places: Places,
