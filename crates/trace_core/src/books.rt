@@ -5,7 +5,7 @@ ghost use Rattle.event_json.specs.Contents.{same_content};
 ghost use Rattle.trace_core.specs.Adding.{standing_among};
 ghost use Rattle.trace_core.specs.Groups.{outputs_at};
 ghost use Rattle.trace_core.specs.Looks.{one_look, more_looks, LooksAtEach};
-ghost use Rattle.trace_core.specs.Numbers.{IsNumbered, numbered, number_in, outs_at};
+ghost use Rattle.trace_core.specs.Numbers.{numbered, number_in, outs_at};
 ghost use Rattle.trace_core.specs.Pairs.{make_id};
 ghost use Rattle.trace_core.specs.PairTests.{same_id};
 ghost use Rattle.trace_core.specs.Places.{at_place, names_item, takes_item, places_where};
@@ -17,7 +17,6 @@ use crate::indexes::Index;
 use crate::looks::{count_look, count_looks};
 use epc_core::Epc;
 use event_json::{Event, PlainText, SiteNo};
-use indexmap::IndexMap;
 use std::alloc::{AllocError, Global};
 use std::hash::RandomState;
 use std::marker::Model;
@@ -121,13 +120,6 @@ impl Book {
         ensures { result ≡ length (numbered self.now) }
     {
         self.index.items.len()
-    }
-
-    /// The items that events name with their numbers, in the order of items.
-    pub fn numbers(&self) -> &IndexMap<Epc, usize, RandomState>
-        ensures { IsNumbered result.now (numbered self.now) }
-    {
-        self.index.items.numbers()
     }
 
     /// The places of the transformations that take the item of a number in, ascending. It is one look.
