@@ -1,5 +1,5 @@
 -- Items with their places, by number.
-use Rattle.std.proofs.Common.{◌≡◌, ◌<◌, ◌+◌, tests, not, nat_lt, position, ℕ, zero, suc, Bool, true, false, cond, ◌||◌, List, [], ◌∷◌, ◌++◌, Option, Some, None, length, get_or, slice_get, Result, Ok, Err, IfOk, OnOk, OnErr, option_map, refl, sym, ap, subst, ◌∙◌, inl, inr, ⊎_elim, arith}
+use Rattle.std.proofs.Common.{◌≡◌, ◌+◌, tests, not, nat_lt, position, ℕ, zero, suc, Bool, true, false, cond, ◌||◌, List, [], ◌∷◌, ◌++◌, Option, Some, None, length, slice_get, Result, Ok, Err, IfOk, OnOk, option_map, refl, sym, ap, subst, ◌∙◌, ⊎_elim, arith}
 use mathlib.Core.Bool.{false≢true}
 use Rattle.std.specs.Cmp.Lexicographic.{nat_list_eq_equiv}
 use Rattle.std.specs.List.{position_or_len}
