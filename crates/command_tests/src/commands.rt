@@ -161,7 +161,12 @@ enum Asked {
     Audit(&'static str),
 }
 
-fn answer(alloc: Global, keys: RandomState, files: &mut MemoryFiles, asked: Asked) -> Result<Answer, Fault> {
+fn answer(
+    alloc: Global,
+    keys: RandomState,
+    files: &mut MemoryFiles,
+    asked: Asked,
+) -> Result<Answer, Fault> {
     match asked {
         Asked::Init(folder, list) => init(alloc, keys, files, folder, list),
         Asked::Capture(site, file) => capture(alloc, files, "d", site, file),
@@ -172,7 +177,14 @@ fn answer(alloc: Global, keys: RandomState, files: &mut MemoryFiles, asked: Aske
 }
 
 /// Whether a command has this status and this text; the text of a fault is its line.
-fn gives(alloc: Global, keys: RandomState, files: &mut MemoryFiles, asked: Asked, status: u8, text: &str) -> bool {
+fn gives(
+    alloc: Global,
+    keys: RandomState,
+    files: &mut MemoryFiles,
+    asked: Asked,
+    status: u8,
+    text: &str,
+) -> bool {
     match answer(alloc, keys, files, asked) {
         Ok(answer) => answer.status() == status && answer.text() == text,
         Err(fault) => status == 3 && fault.line() == text,
@@ -181,7 +193,8 @@ fn gives(alloc: Global, keys: RandomState, files: &mut MemoryFiles, asked: Asked
 
 /// The place of the first of some commands that doesn't have its status and text, from 0.
 fn first_other(
-    alloc: Global, keys: RandomState,
+    alloc: Global,
+    keys: RandomState,
     files: &mut MemoryFiles,
     table: &[(Asked, u8, &str)],
 ) -> Option<usize> {
@@ -265,7 +278,16 @@ fn takes_documents(
 fn documents_are_answered_one_by_one(rt: HostRuntime) -> Result<(), Fail> {
     let keys = RandomState::new(&rt)?;
     let mut files = files(rt.alloc())?;
-    assert!(rt; gives(rt.alloc(), keys, &mut files, Asked::Init("d", "list"), 0, ""));
+    assert!(rt;
+        gives(
+            rt.alloc(),
+            keys,
+            &mut files,
+            Asked::Init("d", "list"),
+            0,
+            ""
+        )
+    );
     let three = Documents {
         paths: &["made", "broken", "made"],
         by_lines: false,

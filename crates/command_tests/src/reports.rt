@@ -97,7 +97,12 @@ fn goes_on(alloc: Global, state: &mut SiteState, short: Short) -> Result<(), Fai
 }
 
 /// The site after these inputs.
-fn after(alloc: Global, keys: RandomState, me: SiteNo, inputs: &[Short]) -> Result<SiteState, Fail> {
+fn after(
+    alloc: Global,
+    keys: RandomState,
+    me: SiteNo,
+    inputs: &[Short],
+) -> Result<SiteState, Fail> {
     let mut state = fresh(alloc, keys, me)?;
     for short in inputs {
         goes_on(alloc, &mut state, *short)?;
@@ -114,7 +119,12 @@ const WHOLE: [Short; 4] = [
 ];
 
 /// What an audit of A#1 returns where A and B went through this.
-fn audited(alloc: Global, keys: RandomState, a: &[Short], b: &[Short]) -> Result<Result<Verdict, ReportFault>, Fail> {
+fn audited(
+    alloc: Global,
+    keys: RandomState,
+    a: &[Short],
+    b: &[Short],
+) -> Result<Result<Verdict, ReportFault>, Fail> {
     let a = after(alloc, keys, site(0), a)?;
     let b = after(alloc, keys, site(1), b)?;
     if are_all_sites(&[&a, &b]) {
@@ -125,7 +135,11 @@ fn audited(alloc: Global, keys: RandomState, a: &[Short], b: &[Short]) -> Result
 }
 
 /// What the report of A#1 is where A went through this, and B through nothing.
-fn reported(alloc: Global, keys: RandomState, a: &[Short]) -> Result<Result<RecallReport, ReportFault>, Fail> {
+fn reported(
+    alloc: Global,
+    keys: RandomState,
+    a: &[Short],
+) -> Result<Result<RecallReport, ReportFault>, Fail> {
     let a = after(alloc, keys, site(0), a)?;
     let b = fresh(alloc, keys, site(1))?;
     if are_all_sites(&[&a, &b]) {

@@ -80,7 +80,12 @@ impl Files<MemoryKeeper> for OneFile {
 type Row = (&'static str, &'static str, u8, &'static str, &'static str);
 
 /// Whether a command line ends so.
-fn ends<R: Threads + Wait + Clock + Sync>(rt: &R, alloc: Global, keys: RandomState, row: &Row) -> Result<bool, Fail> {
+fn ends<R: Threads + Wait + Clock + Sync>(
+    rt: &R,
+    alloc: Global,
+    keys: RandomState,
+    row: &Row,
+) -> Result<bool, Fail> {
     let (line, input, status, output, errors) = *row;
     let words = words_of(alloc, line)?;
     let mut input = input.as_bytes();
@@ -88,7 +93,8 @@ fn ends<R: Threads + Wait + Clock + Sync>(rt: &R, alloc: Global, keys: RandomSta
     let mut told = Vec::new(alloc);
     let ended = run_command(
         rt,
-        alloc, keys,
+        alloc,
+        keys,
         &mut OneFile,
         FreeGate,
         words.as_slice(),
@@ -106,7 +112,8 @@ fn begins(bytes: &[u8], text: &str) -> bool {
 /// The place of the first row that ends otherwise, from 0.
 fn first_other<R: Threads + Wait + Clock + Sync>(
     rt: &R,
-    alloc: Global, keys: RandomState,
+    alloc: Global,
+    keys: RandomState,
     rows: &[Row],
 ) -> Result<Option<usize>, Fail> {
     for place in 0..rows.len() {
@@ -218,7 +225,8 @@ impl Write for Broken {
 /// Whether a command line ends with status 3 where its output fails, and reports that.
 fn fails<R: Threads + Wait + Clock + Sync>(
     rt: &R,
-    alloc: Global, keys: RandomState,
+    alloc: Global,
+    keys: RandomState,
     line: &str,
     input: &str,
 ) -> Result<bool, Fail> {
@@ -227,7 +235,8 @@ fn fails<R: Threads + Wait + Clock + Sync>(
     let mut told = Vec::new(alloc);
     let ended = run_command(
         rt,
-        alloc, keys,
+        alloc,
+        keys,
         &mut OneFile,
         FreeGate,
         words.as_slice(),
@@ -239,8 +248,15 @@ fn fails<R: Threads + Wait + Clock + Sync>(
 }
 
 /// Whether a script and help end with status 3 where the output fails.
-fn outputs_fail<R: Threads + Wait + Clock + Sync>(rt: &R, alloc: Global, keys: RandomState) -> Result<bool, Fail> {
-    Ok(fails(rt, alloc, keys, "recall sim", "reach A x\n")? && fails(rt, alloc, keys, "recall --help", "")?)
+fn outputs_fail<R: Threads + Wait + Clock + Sync>(
+    rt: &R,
+    alloc: Global,
+    keys: RandomState,
+) -> Result<bool, Fail> {
+    Ok(
+        fails(rt, alloc, keys, "recall sim", "reach A x\n")?
+            && fails(rt, alloc, keys, "recall --help", "")?,
+    )
 }
 
 #[test]
@@ -251,13 +267,18 @@ fn an_output_that_fails_ends_with_3(rt: HostRuntime) -> Result<(), Fail> {
 }
 
 /// Whether a script ends with status 3 where its input fails, and reports that.
-fn input_fails<R: Threads + Wait + Clock + Sync>(rt: &R, alloc: Global, keys: RandomState) -> Result<bool, Fail> {
+fn input_fails<R: Threads + Wait + Clock + Sync>(
+    rt: &R,
+    alloc: Global,
+    keys: RandomState,
+) -> Result<bool, Fail> {
     let words = words_of(alloc, "recall sim")?;
     let mut written = Vec::new(alloc);
     let mut told = Vec::new(alloc);
     let ended = run_command(
         rt,
-        alloc, keys,
+        alloc,
+        keys,
         &mut OneFile,
         FreeGate,
         words.as_slice(),

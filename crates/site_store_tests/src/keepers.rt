@@ -31,7 +31,11 @@ fn connected(alloc: Global) -> Result<Connection<FileStore<Memory>>, Fail> {
 }
 
 /// A site kept in files in memory.
-pub fn stored(alloc: Global, keys: RandomState, is_second: bool) -> Result<StoredSite<Memory>, Fail> {
+pub fn stored(
+    alloc: Global,
+    keys: RandomState,
+    is_second: bool,
+) -> Result<StoredSite<Memory>, Fail> {
     let state = fresh(alloc, keys, is_second)?;
     match StoredSite::create(alloc, connected(alloc)?, Options::new(1), state) {
         Ok(site) => Ok(site),
@@ -41,7 +45,8 @@ pub fn stored(alloc: Global, keys: RandomState, is_second: bool) -> Result<Store
 
 /// The site of a name, opened from the tables of a site.
 fn opened(
-    alloc: Global, keys: RandomState,
+    alloc: Global,
+    keys: RandomState,
     site: StoredSite<Memory>,
     name: &str,
 ) -> Option<Result<StoredSite<Memory>, OpenFault>> {
@@ -60,7 +65,12 @@ fn rows_shown<K: SiteKeeper>(alloc: Global, site: &K) -> Result<Rows, Fail> {
 }
 
 /// Whether the tables of a site hold the rows of what it shows: opened again from them, it shows the same.
-pub fn keeps_its_rows(alloc: Global, keys: RandomState, site: StoredSite<Memory>, name: &str) -> Result<bool, Fail> {
+pub fn keeps_its_rows(
+    alloc: Global,
+    keys: RandomState,
+    site: StoredSite<Memory>,
+    name: &str,
+) -> Result<bool, Fail> {
     let shown = rows_shown(alloc, &site)?;
     match opened(alloc, keys, site, name) {
         Some(Ok(site)) => Ok(rows_shown(alloc, &site)? == shown),

@@ -106,7 +106,11 @@ fn run<K: SiteKeeper>(
 }
 
 /// What sites in memory return.
-fn answers_in_memory(alloc: Global, keys: RandomState, turns: &[Turn]) -> Result<Vec<Answer>, Fail> {
+fn answers_in_memory(
+    alloc: Global,
+    keys: RandomState,
+    turns: &[Turn],
+) -> Result<Vec<Answer>, Fail> {
     let a = MemoryKeeper::new(fresh(alloc, keys, false)?);
     let b = MemoryKeeper::new(fresh(alloc, keys, true)?);
     let (answers, _) = run(alloc, both(alloc, a, b)?, turns)?;
@@ -130,7 +134,11 @@ fn only_if(
 }
 
 /// Both sites kept in files, where they answer the turns as sites in memory do.
-fn after(alloc: Global, keys: RandomState, turns: &[Turn]) -> Result<Option<Vec<StoredSite<Memory>>>, Fail> {
+fn after(
+    alloc: Global,
+    keys: RandomState,
+    turns: &[Turn],
+) -> Result<Option<Vec<StoredSite<Memory>>>, Fail> {
     let wanted = answers_in_memory(alloc, keys, turns)?;
     let (answers, sites) = run(alloc, stored_sites(alloc, keys)?, turns)?;
     Ok(only_if(sites, &answers, &wanted))
@@ -139,7 +147,8 @@ fn after(alloc: Global, keys: RandomState, turns: &[Turn]) -> Result<Option<Vec<
 /// Whether the last step of the last of these sites ran so many statements, and its tables hold the rows of what it
 /// shows.
 fn last_keeps(
-    alloc: Global, keys: RandomState,
+    alloc: Global,
+    keys: RandomState,
     sites: &mut Vec<StoredSite<Memory>>,
     name: &str,
     statements: u64,
@@ -152,10 +161,17 @@ fn last_keeps(
 
 /// Whether the sites answer the turns as sites in memory do, their last steps ran so many statements, and their tables
 /// hold the rows of what they show.
-fn holds(alloc: Global, keys: RandomState, turns: &[Turn], of_a: u64, of_b: u64) -> Result<bool, Fail> {
+fn holds(
+    alloc: Global,
+    keys: RandomState,
+    turns: &[Turn],
+    of_a: u64,
+    of_b: u64,
+) -> Result<bool, Fail> {
     match after(alloc, keys, turns)? {
         Some(mut sites) => Ok(
-            last_keeps(alloc, keys, &mut sites, "B", of_b)? && last_keeps(alloc, keys, &mut sites, "A", of_a)?,
+            last_keeps(alloc, keys, &mut sites, "B", of_b)?
+                && last_keeps(alloc, keys, &mut sites, "A", of_a)?,
         ),
         None => Ok(false),
     }

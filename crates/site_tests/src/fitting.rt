@@ -152,7 +152,12 @@ fn three(alloc: Global, keys: RandomState, given: [&[Given]; 3]) -> Result<Vec<S
 }
 
 /// Adds the three sites.
-fn add_all(alloc: Global, keys: RandomState, sites: &mut Vec<SiteState>, given: [&[Given]; 3]) -> Result<(), Fail> {
+fn add_all(
+    alloc: Global,
+    keys: RandomState,
+    sites: &mut Vec<SiteState>,
+    given: [&[Given]; 3],
+) -> Result<(), Fail> {
     let [a, b, c] = given;
     add(alloc, keys, sites, A, a)?;
     add(alloc, keys, sites, B, b)?;
@@ -160,13 +165,24 @@ fn add_all(alloc: Global, keys: RandomState, sites: &mut Vec<SiteState>, given: 
 }
 
 /// Adds a site that was given this.
-fn add(alloc: Global, keys: RandomState, sites: &mut Vec<SiteState>, me: At, given: &[Given]) -> Result<(), Fail> {
+fn add(
+    alloc: Global,
+    keys: RandomState,
+    sites: &mut Vec<SiteState>,
+    me: At,
+    given: &[Given],
+) -> Result<(), Fail> {
     sites.push(site(alloc, keys, me, given)?)?;
     Ok(())
 }
 
 /// Whether the check of sites A, B and C, which were given this, says this; None where they are consistent.
-fn is_charged(alloc: Global, keys: RandomState, given: [&[Given]; 3], wanted: Option<Misfit>) -> Result<bool, Fail> {
+fn is_charged(
+    alloc: Global,
+    keys: RandomState,
+    given: [&[Given]; 3],
+    wanted: Option<Misfit>,
+) -> Result<bool, Fail> {
     let sites = three(alloc, keys, given)?;
     Ok(says(alloc, &sites)? == wanted)
 }

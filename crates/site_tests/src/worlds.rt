@@ -211,8 +211,17 @@ fn sees_places(alloc: Global, keys: RandomState) -> Result<bool, Fail> {
     let twice = WorldFault::OtherSites(1);
     let swapped = WorldFault::OtherSites(0);
     Ok(
-        are_refused(alloc, keeper(alloc, keys, false)?, keeper(alloc, keys, false)?, twice)?
-            && are_refused(alloc, keeper(alloc, keys, true)?, keeper(alloc, keys, false)?, swapped)?,
+        are_refused(
+            alloc,
+            keeper(alloc, keys, false)?,
+            keeper(alloc, keys, false)?,
+            twice,
+        )? && are_refused(
+            alloc,
+            keeper(alloc, keys, true)?,
+            keeper(alloc, keys, false)?,
+            swapped,
+        )?,
     )
 }
 

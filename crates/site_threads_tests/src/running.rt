@@ -141,7 +141,8 @@ fn wrong_in(
 /// A run of the four sites, and their desks.
 fn ran<G: Gate + Send, R: Threads + Wait + Clock + Sync>(
     rt: &R,
-    alloc: Global, keys: RandomState,
+    alloc: Global,
+    keys: RandomState,
     gates: Vec<G>,
     turns: u64,
 ) -> Result<

@@ -45,7 +45,8 @@ impl Read for Pieces<'_> {
 /// Whether the script ends so and leaves these answers, where it comes in such pieces and the read
 /// after so many fails.
 fn ends_in_pieces(
-    rt: &HostRuntime, keys: RandomState,
+    rt: &HostRuntime,
+    keys: RandomState,
     size: usize,
     reads: u64,
     outcome: Result<Tally, ScriptFault>,
@@ -117,7 +118,8 @@ impl Write for Full {
 /// Whether the script ends so where the writer has such room, and leaves as much of its answers; and
 /// how often the writer was asked after that is `asked`.
 fn ends_in_room(
-    rt: &HostRuntime, keys: RandomState,
+    rt: &HostRuntime,
+    keys: RandomState,
     room: usize,
     then: Option<ErrorKind>,
     outcome: Result<Tally, ScriptFault>,

@@ -63,7 +63,12 @@ fn is_overcome(alloc: Global, keys: RandomState, place: usize, stop: &str) -> Re
 }
 
 /// Whether the recall comes to its end with each of these stops.
-fn are_overcome(alloc: Global, keys: RandomState, place: usize, stops: &[&str]) -> Result<bool, Fail> {
+fn are_overcome(
+    alloc: Global,
+    keys: RandomState,
+    place: usize,
+    stops: &[&str],
+) -> Result<bool, Fail> {
     for stop in stops {
         if !is_overcome(alloc, keys, place, stop)? {
             return Ok(false);

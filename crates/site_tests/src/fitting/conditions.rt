@@ -45,14 +45,23 @@ fn b_of(alloc: Global, one: &SiteState, other: &SiteState) -> Result<SiteState, 
 }
 
 /// Site B, which captured this, and quarantined and sent what it would after these steps.
-fn b_after(alloc: Global, keys: RandomState, captured: &[Given], steps: &[Given]) -> Result<SiteState, Fail> {
+fn b_after(
+    alloc: Global,
+    keys: RandomState,
+    captured: &[Given],
+    steps: &[Given],
+) -> Result<SiteState, Fail> {
     let one = site(alloc, keys, B, captured)?;
     let other = site(alloc, keys, B, steps)?;
     b_of(alloc, &one, &other)
 }
 
 /// A, which was given this, such a site B, and an empty C.
-fn with_joined(alloc: Global, keys: RandomState, given: [&[Given]; 3]) -> Result<Vec<SiteState>, Fail> {
+fn with_joined(
+    alloc: Global,
+    keys: RandomState,
+    given: [&[Given]; 3],
+) -> Result<Vec<SiteState>, Fail> {
     let mut sites = Vec::new(alloc);
     let [a, captured, steps] = given;
     add(alloc, keys, &mut sites, A, a)?;
@@ -62,7 +71,12 @@ fn with_joined(alloc: Global, keys: RandomState, given: [&[Given]; 3]) -> Result
 }
 
 /// Whether just this condition is attributed to such a site B, beside A, which was given this, and an empty C.
-fn charges_joined(alloc: Global, keys: RandomState, given: [&[Given]; 3], condition: u64) -> Result<bool, Fail> {
+fn charges_joined(
+    alloc: Global,
+    keys: RandomState,
+    given: [&[Given]; 3],
+    condition: u64,
+) -> Result<bool, Fail> {
     let sites = with_joined(alloc, keys, given)?;
     Ok(says(alloc, &sites)? == misfit(condition, B))
 }
@@ -70,7 +84,14 @@ fn charges_joined(alloc: Global, keys: RandomState, given: [&[Given]; 3], condit
 #[test]
 fn what_is_made_of_a_quarantined_item_is_missed(rt: HostRuntime) -> Result<(), Fail> {
     let keys = RandomState::new(&rt)?;
-    assert!(rt; charges_joined(rt.alloc(), keys, [&ENDED, &[Made("y", "z")], &[Told(A, "y")]], 1)?);
+    assert!(rt;
+        charges_joined(
+            rt.alloc(),
+            keys,
+            [&ENDED, &[Made("y", "z")], &[Told(A, "y")]],
+            1
+        )?
+    );
     Ok(())
 }
 
@@ -93,7 +114,8 @@ fn each_condition_is_charged_alone(rt: HostRuntime) -> Result<(), Fail> {
     let root = [Shipped("w", "c"), Recalled("w"), Signalled(C)];
     assert!(rt;
         is_charged(
-            alloc, keys,
+            alloc,
+            keys,
             [&root, &[Told(A, "y")], &[Told(A, "w")]],
             misfit(3, B)
         )?
@@ -101,7 +123,8 @@ fn each_condition_is_charged_alone(rt: HostRuntime) -> Result<(), Fail> {
     // A's message to B is gone, though it is B's parent.
     assert!(rt;
         is_charged(
-            alloc, keys,
+            alloc,
+            keys,
             [&ENDED, &[Shipped("y", "a"), Told(A, "y")], &[]],
             misfit(5, B)
         )?
