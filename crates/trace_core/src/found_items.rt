@@ -9,8 +9,8 @@ use epc_core::Epc;
 use std::alloc::{AllocError, Global};
 use std::collections::BTreeSet;
 
-/// The items of these numbers. Where they are many of a book's, all its items are gone through in order,
-/// so that they ascend already.
+/// The items of these numbers. Where they are many of a book's, all its numbers are gone through, and the items
+/// are sorted.
 pub fn items_of_numbers<'a>(
     alloc: Global,
     book: &'a Book,
