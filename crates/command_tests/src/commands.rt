@@ -10,6 +10,7 @@ use site_commands::{
 use site_core::{SiteInput, SiteState};
 use site_threads::FreeGate;
 use std::alloc::Global;
+use std::hash::RandomState;
 use std::sync::Wait;
 use std::test::Fail;
 use std::thread::Threads;
@@ -160,9 +161,14 @@ enum Asked {
     Audit(&'static str),
 }
 
-fn answer(alloc: Global, files: &mut MemoryFiles, asked: Asked) -> Result<Answer, Fault> {
+fn answer(
+    alloc: Global,
+    keys: RandomState,
+    files: &mut MemoryFiles,
+    asked: Asked,
+) -> Result<Answer, Fault> {
     match asked {
-        Asked::Init(folder, list) => init(alloc, files, folder, list),
+        Asked::Init(folder, list) => init(alloc, keys, files, folder, list),
         Asked::Capture(site, file) => capture(alloc, files, "d", site, file),
         Asked::Start(site, item) => start(alloc, files, "d", site, item),
         Asked::Report(recall) => report_recall(alloc, files, "d", recall),
@@ -171,8 +177,15 @@ fn answer(alloc: Global, files: &mut MemoryFiles, asked: Asked) -> Result<Answer
 }
 
 /// Whether a command has this status and this text; the text of a fault is its line.
-fn gives(alloc: Global, files: &mut MemoryFiles, asked: Asked, status: u8, text: &str) -> bool {
-    match answer(alloc, files, asked) {
+fn gives(
+    alloc: Global,
+    keys: RandomState,
+    files: &mut MemoryFiles,
+    asked: Asked,
+    status: u8,
+    text: &str,
+) -> bool {
+    match answer(alloc, keys, files, asked) {
         Ok(answer) => answer.status() == status && answer.text() == text,
         Err(fault) => status == 3 && fault.line() == text,
     }
@@ -181,11 +194,12 @@ fn gives(alloc: Global, files: &mut MemoryFiles, asked: Asked, status: u8, text:
 /// The place of the first of some commands that doesn't have its status and text, from 0.
 fn first_other(
     alloc: Global,
+    keys: RandomState,
     files: &mut MemoryFiles,
     table: &[(Asked, u8, &str)],
 ) -> Option<usize> {
     for (place, (asked, status, text)) in table.iter().enumerate() {
-        if !gives(alloc, files, *asked, *status, text) {
+        if !gives(alloc, keys, files, *asked, *status, text) {
             return Some(place);
         }
     }
@@ -194,6 +208,7 @@ fn first_other(
 
 #[test]
 fn commands_are_answered(rt: HostRuntime) -> Result<(), Fail> {
+    let keys = RandomState::new(&rt)?;
     let mut files = files(rt.alloc())?;
     let table = [
         (Asked::Audit("d"), 3, "fault Read\n"),
@@ -240,7 +255,7 @@ fn commands_are_answered(rt: HostRuntime) -> Result<(), Fail> {
         (Asked::Report("C#1"), 1, "refused NoSite C\n"),
         (Asked::Report("A1"), 1, "refused BadLine\n"),
     ];
-    assert!(rt; first_other(rt.alloc(), &mut files, table.as_slice()).is_none());
+    assert!(rt; first_other(rt.alloc(), keys, &mut files, table.as_slice()).is_none());
     Ok(())
 }
 
@@ -261,8 +276,18 @@ fn takes_documents(
 
 #[test]
 fn documents_are_answered_one_by_one(rt: HostRuntime) -> Result<(), Fail> {
+    let keys = RandomState::new(&rt)?;
     let mut files = files(rt.alloc())?;
-    assert!(rt; gives(rt.alloc(), &mut files, Asked::Init("d", "list"), 0, ""));
+    assert!(rt;
+        gives(
+            rt.alloc(),
+            keys,
+            &mut files,
+            Asked::Init("d", "list"),
+            0,
+            ""
+        )
+    );
     let three = Documents {
         paths: &["made", "broken", "made"],
         by_lines: false,
@@ -335,11 +360,12 @@ fn takes(files: &mut MemoryFiles, input: SiteInput) -> bool {
 
 #[test]
 fn a_record_from_before_is_found(rt: HostRuntime) -> Result<(), Fail> {
+    let keys = RandomState::new(&rt)?;
     let mut files = files(rt.alloc())?;
-    assert!(rt; first_other(rt.alloc(), &mut files, STARTED.as_slice()).is_none());
+    assert!(rt; first_other(rt.alloc(), keys, &mut files, STARTED.as_slice()).is_none());
     assert!(rt; takes(&mut files, signal()));
     let after = [(Asked::Audit("d"), 4, "misfit 2 B\n")];
-    assert!(rt; first_other(rt.alloc(), &mut files, after.as_slice()).is_none());
+    assert!(rt; first_other(rt.alloc(), keys, &mut files, after.as_slice()).is_none());
     Ok(())
 }
 
@@ -364,10 +390,11 @@ fn ends_in_runs<R: Threads + Wait + Clock + Sync>(
 
 #[test]
 fn sites_run_until_a_recall_has_ended(rt: HostRuntime) -> Result<(), Fail> {
+    let keys = RandomState::new(&rt)?;
     let mut files = files(rt.alloc())?;
-    assert!(rt; first_other(rt.alloc(), &mut files, STARTED.as_slice()).is_none());
+    assert!(rt; first_other(rt.alloc(), keys, &mut files, STARTED.as_slice()).is_none());
     assert!(rt; ends_in_runs(&rt, rt.alloc(), &mut files));
     let after = [(Asked::Audit("d"), 0, "equal A#1 pairs 3\n")];
-    assert!(rt; first_other(rt.alloc(), &mut files, after.as_slice()).is_none());
+    assert!(rt; first_other(rt.alloc(), keys, &mut files, after.as_slice()).is_none());
     Ok(())
 }

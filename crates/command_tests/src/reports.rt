@@ -10,6 +10,7 @@ use report_core::{OutsideShipment, RecallReport, ReportFault, Verdict, audit, re
 use site_core::{SiteInput, SiteState};
 use site_recovery::are_all_sites;
 use std::alloc::Global;
+use std::hash::RandomState;
 use std::test::Fail;
 use trace_core::Pair;
 
@@ -80,10 +81,10 @@ fn two_sites(alloc: Global) -> Result<Sites, Fail> {
 }
 
 /// One of the sites, which keeps nothing.
-fn fresh(alloc: Global, me: SiteNo) -> Result<SiteState, Fail> {
+fn fresh(alloc: Global, keys: RandomState, me: SiteNo) -> Result<SiteState, Fail> {
     let sites = two_sites(alloc)?;
     if me.number() < sites.len() as u64 {
-        Ok(SiteState::new(alloc, sites, me))
+        Ok(SiteState::new(alloc, keys, sites, me))
     } else {
         Err("no such site".into())
     }
@@ -96,8 +97,13 @@ fn goes_on(alloc: Global, state: &mut SiteState, short: Short) -> Result<(), Fai
 }
 
 /// The site after these inputs.
-fn after(alloc: Global, me: SiteNo, inputs: &[Short]) -> Result<SiteState, Fail> {
-    let mut state = fresh(alloc, me)?;
+fn after(
+    alloc: Global,
+    keys: RandomState,
+    me: SiteNo,
+    inputs: &[Short],
+) -> Result<SiteState, Fail> {
+    let mut state = fresh(alloc, keys, me)?;
     for short in inputs {
         goes_on(alloc, &mut state, *short)?;
     }
@@ -113,9 +119,14 @@ const WHOLE: [Short; 4] = [
 ];
 
 /// What an audit of A#1 returns where A and B went through this.
-fn audited(alloc: Global, a: &[Short], b: &[Short]) -> Result<Result<Verdict, ReportFault>, Fail> {
-    let a = after(alloc, site(0), a)?;
-    let b = after(alloc, site(1), b)?;
+fn audited(
+    alloc: Global,
+    keys: RandomState,
+    a: &[Short],
+    b: &[Short],
+) -> Result<Result<Verdict, ReportFault>, Fail> {
+    let a = after(alloc, keys, site(0), a)?;
+    let b = after(alloc, keys, site(1), b)?;
     if are_all_sites(&[&a, &b]) {
         Ok(audit(alloc, &[&a, &b], recall()))
     } else {
@@ -124,9 +135,13 @@ fn audited(alloc: Global, a: &[Short], b: &[Short]) -> Result<Result<Verdict, Re
 }
 
 /// What the report of A#1 is where A went through this, and B through nothing.
-fn reported(alloc: Global, a: &[Short]) -> Result<Result<RecallReport, ReportFault>, Fail> {
-    let a = after(alloc, site(0), a)?;
-    let b = fresh(alloc, site(1))?;
+fn reported(
+    alloc: Global,
+    keys: RandomState,
+    a: &[Short],
+) -> Result<Result<RecallReport, ReportFault>, Fail> {
+    let a = after(alloc, keys, site(0), a)?;
+    let b = fresh(alloc, keys, site(1))?;
     if are_all_sites(&[&a, &b]) {
         Ok(report(alloc, &[&a, &b], recall()))
     } else {
@@ -157,16 +172,17 @@ fn differs_at_b(verdict: &Result<Verdict, ReportFault>, wanted: bool) -> bool {
 
 #[test]
 fn an_audit_tells_what_differs(rt: HostRuntime) -> Result<(), Fail> {
-    let equal = audited(rt.alloc(), &WHOLE, &[Short::Told])?;
+    let keys = RandomState::new(&rt)?;
+    let equal = audited(rt.alloc(), keys, &WHOLE, &[Short::Told])?;
     assert!(rt; equal == Ok(Verdict::Equal(3)));
     // B's record is from before the recall.
-    let missing = audited(rt.alloc(), &WHOLE, &[])?;
+    let missing = audited(rt.alloc(), keys, &WHOLE, &[])?;
     assert!(rt; differs_at_b(&missing, true));
     // A's record has lost the shipment.
     let lost = [Short::Made('x', 'y'), Short::Start];
-    let extra = audited(rt.alloc(), &lost, &[Short::Told])?;
+    let extra = audited(rt.alloc(), keys, &lost, &[Short::Told])?;
     assert!(rt; differs_at_b(&extra, false));
-    let unknown = audited(rt.alloc(), &[], &[])?;
+    let unknown = audited(rt.alloc(), keys, &[], &[])?;
     assert!(rt; unknown == Err(ReportFault::UnknownRecall));
     Ok(())
 }
@@ -224,11 +240,12 @@ fn tells(report: &Result<RecallReport, ReportFault>, late: bool) -> bool {
 
 #[test]
 fn a_report_has_trails_and_shipments_outside(rt: HostRuntime) -> Result<(), Fail> {
-    let first = reported(rt.alloc(), &WHOLE[..3])?;
+    let keys = RandomState::new(&rt)?;
+    let first = reported(rt.alloc(), keys, &WHOLE[..3])?;
     assert!(rt; tells(&first, false));
     // What is shipped outside once the recall began is captured, and reported.
     let late = [WHOLE[0], WHOLE[1], WHOLE[2], Short::Shipped('x', 'z')];
-    let late = reported(rt.alloc(), &late)?;
+    let late = reported(rt.alloc(), keys, &late)?;
     assert!(rt; tells(&late, true));
     Ok(())
 }

@@ -6,6 +6,7 @@ use site_commands::{Fault, Files};
 use site_core::SiteState;
 use site_threads::FreeGate;
 use std::alloc::Global;
+use std::hash::RandomState;
 use std::io::{self, Error, ErrorKind, Read, Write};
 use std::sync::Wait;
 use std::test::Fail;
@@ -79,7 +80,12 @@ impl Files<MemoryKeeper> for OneFile {
 type Row = (&'static str, &'static str, u8, &'static str, &'static str);
 
 /// Whether a command line ends so.
-fn ends<R: Threads + Wait + Clock + Sync>(rt: &R, alloc: Global, row: &Row) -> Result<bool, Fail> {
+fn ends<R: Threads + Wait + Clock + Sync>(
+    rt: &R,
+    alloc: Global,
+    keys: RandomState,
+    row: &Row,
+) -> Result<bool, Fail> {
     let (line, input, status, output, errors) = *row;
     let words = words_of(alloc, line)?;
     let mut input = input.as_bytes();
@@ -88,6 +94,7 @@ fn ends<R: Threads + Wait + Clock + Sync>(rt: &R, alloc: Global, row: &Row) -> R
     let ended = run_command(
         rt,
         alloc,
+        keys,
         &mut OneFile,
         FreeGate,
         words.as_slice(),
@@ -106,10 +113,11 @@ fn begins(bytes: &[u8], text: &str) -> bool {
 fn first_other<R: Threads + Wait + Clock + Sync>(
     rt: &R,
     alloc: Global,
+    keys: RandomState,
     rows: &[Row],
 ) -> Result<Option<usize>, Fail> {
     for place in 0..rows.len() {
-        if !ends(rt, alloc, &rows[place])? {
+        if !ends(rt, alloc, keys, &rows[place])? {
             return Ok(Some(place));
         }
     }
@@ -118,6 +126,7 @@ fn first_other<R: Threads + Wait + Clock + Sync>(
 
 #[test]
 fn a_script_ends_with_0_or_1(rt: HostRuntime) -> Result<(), Fail> {
+    let keys = RandomState::new(&rt)?;
     let rows = [
         (
             "recall sim",
@@ -134,12 +143,13 @@ fn a_script_ends_with_0_or_1(rt: HostRuntime) -> Result<(), Fail> {
             "",
         ),
     ];
-    assert!(rt; first_other(&rt, rt.alloc(), &rows)? == None);
+    assert!(rt; first_other(&rt, rt.alloc(), keys, &rows)? == None);
     Ok(())
 }
 
 #[test]
 fn a_bad_command_line_ends_with_2(rt: HostRuntime) -> Result<(), Fail> {
+    let keys = RandomState::new(&rt)?;
     let rows = [
         ("recall bogus", "", 2, "", "error:"),
         ("recall", "", 2, "", "error:"),
@@ -156,12 +166,13 @@ fn a_bad_command_line_ends_with_2(rt: HostRuntime) -> Result<(), Fail> {
         ),
         ("recall run d --turns x", "", 2, "", "error: invalid value"),
     ];
-    assert!(rt; first_other(&rt, rt.alloc(), &rows)? == None);
+    assert!(rt; first_other(&rt, rt.alloc(), keys, &rows)? == None);
     Ok(())
 }
 
 #[test]
 fn commands_on_files_are_told(rt: HostRuntime) -> Result<(), Fail> {
+    let keys = RandomState::new(&rt)?;
     let rows = [
         (
             "recall init d list",
@@ -176,17 +187,18 @@ fn commands_on_files_are_told(rt: HostRuntime) -> Result<(), Fail> {
         ("recall run d", "", 3, "", "fault Read\n"),
         ("recall run d --turns 1000000", "", 3, "", "fault Read\n"),
     ];
-    assert!(rt; first_other(&rt, rt.alloc(), &rows)? == None);
+    assert!(rt; first_other(&rt, rt.alloc(), keys, &rows)? == None);
     Ok(())
 }
 
 #[test]
 fn help_is_an_answer(rt: HostRuntime) -> Result<(), Fail> {
+    let keys = RandomState::new(&rt)?;
     let rows = [
         ("recall sim --help", "", 0, "Runs a script", ""),
         ("recall -hx", "", 0, "Traces recalled", ""),
     ];
-    assert!(rt; first_other(&rt, rt.alloc(), &rows)? == None);
+    assert!(rt; first_other(&rt, rt.alloc(), keys, &rows)? == None);
     Ok(())
 }
 
@@ -214,6 +226,7 @@ impl Write for Broken {
 fn fails<R: Threads + Wait + Clock + Sync>(
     rt: &R,
     alloc: Global,
+    keys: RandomState,
     line: &str,
     input: &str,
 ) -> Result<bool, Fail> {
@@ -223,6 +236,7 @@ fn fails<R: Threads + Wait + Clock + Sync>(
     let ended = run_command(
         rt,
         alloc,
+        keys,
         &mut OneFile,
         FreeGate,
         words.as_slice(),
@@ -234,24 +248,37 @@ fn fails<R: Threads + Wait + Clock + Sync>(
 }
 
 /// Whether a script and help end with status 3 where the output fails.
-fn outputs_fail<R: Threads + Wait + Clock + Sync>(rt: &R, alloc: Global) -> Result<bool, Fail> {
-    Ok(fails(rt, alloc, "recall sim", "reach A x\n")? && fails(rt, alloc, "recall --help", "")?)
+fn outputs_fail<R: Threads + Wait + Clock + Sync>(
+    rt: &R,
+    alloc: Global,
+    keys: RandomState,
+) -> Result<bool, Fail> {
+    Ok(
+        fails(rt, alloc, keys, "recall sim", "reach A x\n")?
+            && fails(rt, alloc, keys, "recall --help", "")?,
+    )
 }
 
 #[test]
 fn an_output_that_fails_ends_with_3(rt: HostRuntime) -> Result<(), Fail> {
-    assert!(rt; outputs_fail(&rt, rt.alloc())?);
+    let keys = RandomState::new(&rt)?;
+    assert!(rt; outputs_fail(&rt, rt.alloc(), keys)?);
     Ok(())
 }
 
 /// Whether a script ends with status 3 where its input fails, and reports that.
-fn input_fails<R: Threads + Wait + Clock + Sync>(rt: &R, alloc: Global) -> Result<bool, Fail> {
+fn input_fails<R: Threads + Wait + Clock + Sync>(
+    rt: &R,
+    alloc: Global,
+    keys: RandomState,
+) -> Result<bool, Fail> {
     let words = words_of(alloc, "recall sim")?;
     let mut written = Vec::new(alloc);
     let mut told = Vec::new(alloc);
     let ended = run_command(
         rt,
         alloc,
+        keys,
         &mut OneFile,
         FreeGate,
         words.as_slice(),
@@ -264,6 +291,7 @@ fn input_fails<R: Threads + Wait + Clock + Sync>(rt: &R, alloc: Global) -> Resul
 
 #[test]
 fn an_input_that_fails_ends_with_3(rt: HostRuntime) -> Result<(), Fail> {
-    assert!(rt; input_fails(&rt, rt.alloc())?);
+    let keys = RandomState::new(&rt)?;
+    assert!(rt; input_fails(&rt, rt.alloc(), keys)?);
     Ok(())
 }

@@ -22,6 +22,8 @@ type FileSite = StoredSite<FileFrom<Wary>>;
 #[derive(Drop)]
 pub(crate) struct HostFiles<'a> {
     runtime: &'a HostRuntime,
+    /// The keys of the hash by which sites number items.
+    keys: RandomState,
     /// The file of which lines are read, until its end.
     lines: Option<LineFile>,
     /// The path of the last file of which a call failed.
@@ -29,10 +31,11 @@ pub(crate) struct HostFiles<'a> {
 }
 
 impl<'a> HostFiles<'a> {
-    /// The files that a runtime gives.
-    pub(crate) fn new(runtime: &'a HostRuntime) -> HostFiles<'a> {
+    /// The files that a runtime gives, with the keys of the hash by which sites number items.
+    pub(crate) fn new(runtime: &'a HostRuntime, keys: RandomState) -> HostFiles<'a> {
         HostFiles {
             runtime,
+            keys,
             lines: None,
             failed: None,
         }
@@ -124,7 +127,7 @@ impl<'a> HostFiles<'a> {
         }
         let options = self.options()?;
         let conn = self.connect(path)?;
-        match site_store::open_site(alloc, conn, options, name) {
+        match site_store::open_site(alloc, self.keys, conn, options, name) {
             Ok(site) => Ok(site),
             Err(fault) => Err(unfound(fault)),
         }

@@ -12,6 +12,7 @@ use host_files::HostFiles;
 use progress::{Progress, TellingGate};
 use recall_commands::{BAD_COMMAND_LINE, FAULT, run_command};
 use std::env;
+use std::hash::RandomState;
 use std::io::{self, ErrorKind};
 use std::process::ExitCode;
 
@@ -28,11 +29,16 @@ fn main(rt: HostRuntime) -> ExitCode {
             return ExitCode::from(BAD_COMMAND_LINE);
         }
     };
-    let mut files = HostFiles::new(&rt);
+    let Ok(keys) = RandomState::new(&rt) else {
+        let _ = rt.eprintln("fault Device");
+        return ExitCode::from(FAULT);
+    };
+    let mut files = HostFiles::new(&rt, keys);
     let progress = Progress::new(&rt);
     let status = run_command(
         &rt,
         alloc,
+        keys,
         &mut files,
         TellingGate::new(&rt, &progress),
         words.as_slice(),

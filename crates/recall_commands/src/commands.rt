@@ -19,6 +19,7 @@ use site_commands::{
 };
 use site_threads::Gate;
 use std::alloc::Global;
+use std::hash::RandomState;
 use std::io::{Read, Write};
 use std::sync::Wait;
 use std::thread::Threads;
@@ -31,7 +32,8 @@ use std::time::Clock;
 /// The words begin with the program's name. Answers, refusals and help go to `output`, faults and
 /// what is wrong with a command line to `errors`. An answer of a command on the sites' files is that of
 /// the calls of `files` that lead to it; without such a command `files` isn't asked. What stands in the
-/// files no contract says. In a run each site has a copy of the gate to its turns.
+/// files no contract says. In a run each site has a copy of the gate to its turns. The keys are those of the hash
+/// by which items are numbered, drawn at random, so that nobody can choose texts that collide.
 pub fn run_command<
     R: Threads + Wait + Clock + Sync,
     K: SiteKeeper + Send,
@@ -43,6 +45,7 @@ pub fn run_command<
 >(
     rt: &R,
     alloc: Global,
+    keys: RandomState,
     files: &mut F,
     gate: G,
     words: &[String],
@@ -59,9 +62,9 @@ pub fn run_command<
         (record { input = I.remaining input.new; output = W.contents output.new; errors = E.contents errors.new }) result }
 {
     match command_lines::read(alloc, words) {
-        Ok(Asked::Sim) => sim(alloc, input, output, errors),
+        Ok(Asked::Sim) => sim(alloc, keys, input, output, errors),
         Ok(Asked::Files(command)) => {
-            let outcome = on_files(rt, alloc, files, gate, &command);
+            let outcome = on_files(rt, alloc, keys, files, gate, &command);
             tell(&outcome, output, errors)
         }
         Ok(Asked::Batch(batch)) => capture_batch(alloc, files, &batch, output, errors),
@@ -77,6 +80,7 @@ pub fn run_command<
 /// Runs a script.
 fn sim<I: Read, W: Write, E: Write>(
     alloc: Global,
+    keys: RandomState,
     input: &mut I,
     output: &mut W,
     errors: &mut E,
@@ -84,7 +88,7 @@ fn sim<I: Read, W: Write, E: Write>(
     ensures { RunsScript (record { input = I.remaining input.old; output = W.contents output.old; errors = E.contents errors.old })
         (record { input = I.remaining input.new; output = W.contents output.new; errors = E.contents errors.new }) result }
 {
-    match run_script(alloc, input, output) {
+    match run_script(alloc, keys, input, output) {
         Ok(tally) => status_of(tally),
         Err(cause) => {
             say(errors, script_fault_line(cause));
@@ -123,13 +127,20 @@ fn on_files<
     K: SiteKeeper + Send,
     F: Files<K>,
     G: Gate + Copy + Send,
->(rt: &R, alloc: Global, files: &mut F, gate: G, command: &FileCommand<'_>) -> Result<Answer, Fault>
+>(
+    rt: &R,
+    alloc: Global,
+    keys: RandomState,
+    files: &mut F,
+    gate: G,
+    command: &FileCommand<'_>,
+) -> Result<Answer, Fault>
     requires { HasTurns command.now }
     ensures led { IfOk result (LeadsTo F.reads F.finds F.makes F.opens F.closes F.writes K.shown command.now files.old files.new) }
     ensures sound { IfOk result IsAnswer }
 {
     match command {
-        FileCommand::Init { folder, list } => init(alloc, files, folder, list),
+        FileCommand::Init { folder, list } => init(alloc, keys, files, folder, list),
         FileCommand::Capture { folder, site, file } => capture(alloc, files, folder, site, file),
         FileCommand::Start { folder, site, item } => start(alloc, files, folder, site, item),
         FileCommand::Run { folder, turns } => run_sites(rt, alloc, files, gate, folder, *turns),

@@ -9,6 +9,7 @@ use crate::sessions::Session;
 use crate::streams::fault_of_kind;
 use crate::tallies::Tally;
 use std::alloc::Global;
+use std::hash::RandomState;
 use std::io::{Read, Write};
 
 /// How often a reader is asked for a piece of a script.
@@ -18,7 +19,8 @@ const MOST_READS: u64 = 16_777_216;
 const PIECE: usize = 8_192;
 
 /// Runs a script: reads it in pieces to its end, and writes the answer to each line as the line is
-/// done. The tally counts its lines and the refusals that were printed.
+/// done. The tally counts its lines and the refusals that were printed. The keys are those of the hash by which
+/// items are numbered, drawn at random, so that nobody can choose texts that collide.
 ///
 /// A script is lines ended by LF or CR LF; the last may lack it. A line has at most 16,777,216
 /// bytes before its LF. The reader is asked at most 16,777,216 times, interrupted reads among them,
@@ -35,6 +37,7 @@ const PIECE: usize = 8_192;
 /// - [`ScriptFault::Write`] leaves a beginning of the answers' text.
 pub fn run_script<R: Read, W: Write>(
     alloc: Global,
+    keys: RandomState,
     reader: &mut R,
     writer: &mut W,
 ) -> Result<Tally, ScriptFault>
@@ -46,7 +49,7 @@ pub fn run_script<R: Read, W: Write>(
         Leaves fault input (R.remaining reader.new) (W.contents writer.old) (W.contents writer.new))) }
 {
     let mut buffer = vec![in alloc; 0u8; PIECE]?;
-    let session = Session::new(alloc)?;
+    let session = Session::new(alloc, keys)?;
     run_pieces(alloc, session, reader, writer, buffer.as_mut_slice())
 }
 

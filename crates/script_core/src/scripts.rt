@@ -11,6 +11,7 @@ use crate::running::Running;
 use crate::tasks::Task;
 use event_json::Sites;
 use std::alloc::{AllocError, Global};
+use std::hash::RandomState;
 use std::mem;
 
 /// What the lines of a script so far left.
@@ -37,9 +38,14 @@ impl Script {
         Script::Gathering(Sites::new(alloc))
     }
 
-    /// Takes a line, without its line ending. Only a line that allocates can end in `Err`; nothing
-    /// is said of the script then.
-    pub(crate) fn take_line(&mut self, alloc: Global, line: &[u8]) -> Result<Answer, AllocError>
+    /// Takes a line, without its line ending. Sites number items by a hash with these keys. Only a line that
+    /// allocates can end in `Err`; nothing is said of the script then.
+    pub(crate) fn take_line(
+        &mut self,
+        alloc: Global,
+        keys: RandomState,
+        line: &[u8],
+    ) -> Result<Answer, AllocError>
         ensures ok { IfOk result (λ a. Takes (state_of self.old) line.now (answer_of a) (state_of self.new)) }
         ensures err { IfErr result (λ _. TakesMemory (state_of self.old) line.now) }
     {
@@ -47,7 +53,7 @@ impl Script {
             Line::Silent => Ok(Answer::Silent),
             Line::Unreadable => Ok(Answer::bad_line()),
             Line::Site { name, addresses } => self.add_site(alloc, name, addresses),
-            Line::Task(task) => self.pass(alloc, task),
+            Line::Task(task) => self.pass(alloc, keys, task),
         }
     }
 
@@ -63,11 +69,16 @@ impl Script {
     }
 
     /// The check of all lines that ask something of the world.
-    fn pass(&mut self, alloc: Global, task: Task<'_>) -> Result<Answer, AllocError>
+    fn pass(
+        &mut self,
+        alloc: Global,
+        keys: RandomState,
+        task: Task<'_>,
+    ) -> Result<Answer, AllocError>
         ensures ok { IfOk result (λ a. Passes (begun (state_of self.old)) (task_of task.entry) (answer_of a) (state_of self.new)) }
         ensures err { IfErr result (λ _. TaskTakesMemory (state_of self.old) (task_of task.entry)) }
     {
-        self.begin(alloc)?;
+        self.begin(alloc, keys)?;
         match self {
             Script::Gathering(_) => Ok(Answer::no_world()),
             Script::Running(world) => world.answer(alloc, task),
@@ -76,14 +87,14 @@ impl Script {
 
     /// Begins the world, once two sites stand. Only that allocates.
     #[tactic(auto, unfolding(crate::specs::State::begun))]
-    fn begin(&mut self, alloc: Global) -> Result<(), AllocError>
+    fn begin(&mut self, alloc: Global, keys: RandomState) -> Result<(), AllocError>
         ensures ok { OnOk result (state_of self.new ≡ begun (state_of self.old)) }
         ensures err { OnErr result (BeginningTakesMemory (state_of self.old)) }
     {
         match mem::replace(self, Script::new(alloc)) {
             Script::Gathering(sites) => {
                 *self = if sites.ready() {
-                    Script::Running(begin_world(alloc, sites)?)
+                    Script::Running(begin_world(alloc, keys, sites)?)
                 } else {
                     Script::Gathering(sites)
                 };

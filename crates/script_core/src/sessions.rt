@@ -9,11 +9,14 @@ use crate::scripts::Script;
 use crate::tallies::Tally;
 use crate::writing::write_text;
 use std::alloc::{AllocError, Global};
+use std::hash::RandomState;
 use std::io::Write;
 
 /// A script that is being read: what its lines so far left, and the beginning of the next line.
 #[derive(Drop)]
 pub(crate) struct Session {
+    /// The keys of the hash by which sites number items.
+    pub(crate) keys: RandomState,
     pub(crate) script: Script,
     pub(crate) lines: u64,
     pub(crate) refused: u64,
@@ -25,11 +28,12 @@ impl Session {
     ghost use Rattle.script_core.specs.Kept.{state_of};
     ghost use Rattle.script_core.specs.Session.{IsNew, AnswersOne, FailsInOne, GoesOn, EndsEarly, Finishes, EndsInLast};
 
-    /// A session of which nothing was read.
-    pub(crate) fn new(alloc: Global) -> Result<Session, AllocError>
+    /// A session of which nothing was read, with the keys of the hash by which sites number items.
+    pub(crate) fn new(alloc: Global, keys: RandomState) -> Result<Session, AllocError>
         ensures { IfOk result IsNew }
     {
         Ok(Session {
+            keys,
             script: Script::new(alloc),
             lines: 0,
             refused: 0,
@@ -152,7 +156,7 @@ impl Session {
         ensures refused { self.new.refused ≤ self.new.lines }
     {
         let line = &self.pending.as_slice()[..end];
-        let answer = self.script.take_line(alloc, line)?;
+        let answer = self.script.take_line(alloc, self.keys, line)?;
         write_text(writer, answer.text().as_bytes())?;
         self.pending.clear();
         self.lines += 1;

@@ -14,6 +14,7 @@ use script_core::telling::name_of;
 use script_core::{SiteList, read_sites};
 use site_core::SiteState;
 use std::alloc::{AllocError, Global};
+use std::hash::RandomState;
 
 /// Makes a file for each site of a list, and last the folder's own list.
 ///
@@ -24,6 +25,7 @@ use std::alloc::{AllocError, Global};
 /// `Read` where the list can't be read, and the faults of the files. Those of some sites may have been made then.
 pub fn init<K: SiteKeeper, F: Files<K>>(
     alloc: Global,
+    keys: RandomState,
     files: &mut F,
     folder: &str,
     list: &str,
@@ -33,12 +35,13 @@ pub fn init<K: SiteKeeper, F: Files<K>>(
 {
     let text = files.read(alloc, list)?;
     let list = read_sites(alloc, text.as_slice())?;
-    make_listed(alloc, files, folder, text.as_slice(), &list)
+    make_listed(alloc, keys, files, folder, text.as_slice(), &list)
 }
 
 /// Makes the files of the sites that a text lists, where nothing is refused.
 fn make_listed<K: SiteKeeper, F: Files<K>>(
     alloc: Global,
+    keys: RandomState,
     files: &mut F,
     folder: &str,
     text: &[u8],
@@ -52,7 +55,7 @@ fn make_listed<K: SiteKeeper, F: Files<K>>(
     push_existing(alloc, files, folder, sites, &mut refusals)?;
     push_list(alloc, files, folder, &mut refusals)?;
     if refusals.as_str().is_empty() {
-        make_folder(alloc, files, folder, text, sites)?;
+        make_folder(alloc, keys, files, folder, text, sites)?;
         Ok(Answer::Done(String::new(alloc)))
     } else {
         Ok(Answer::Refused(refusals))
@@ -134,6 +137,7 @@ fn push_exists(alloc: Global, name: &str, refusals: &mut String) -> Result<(), A
 /// Makes the files of all sites, and then the folder's list.
 fn make_folder<K: SiteKeeper, F: Files<K>>(
     alloc: Global,
+    keys: RandomState,
     files: &mut F,
     folder: &str,
     text: &[u8],
@@ -141,7 +145,7 @@ fn make_folder<K: SiteKeeper, F: Files<K>>(
 ) -> Result<(), Fault>
     ensures { OnOk result (MakesAll F.reads F.finds F.makes F.writes folder.now sites.now text.now files.old files.new) }
 {
-    make_all(alloc, files, folder, sites)?;
+    make_all(alloc, keys, files, folder, sites)?;
     let path = list_path(alloc, folder)?;
     files.write_new(path.as_str(), text)
 }
@@ -149,6 +153,7 @@ fn make_folder<K: SiteKeeper, F: Files<K>>(
 /// Makes the files of all sites.
 fn make_all<K: SiteKeeper, F: Files<K>>(
     alloc: Global,
+    keys: RandomState,
     files: &mut F,
     folder: &str,
     sites: &Sites,
@@ -160,7 +165,7 @@ fn make_all<K: SiteKeeper, F: Files<K>>(
             return Err(Fault::BadSites);
         };
         let path = file_path(alloc, folder, sites, site)?;
-        let state = SiteState::new(alloc, sites.copy(alloc)?, site);
+        let state = SiteState::new(alloc, keys, sites.copy(alloc)?, site);
         files.create_site(alloc, path.as_str(), state)?;
     }
     Ok(())

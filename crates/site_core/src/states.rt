@@ -15,6 +15,7 @@ use frame_core::{MsgId, RecallId, Row, RowView};
 use scholten_core::{Diffusion, Own};
 use std::alloc::{AllocError, Global};
 use std::collections::BTreeMap;
+use std::hash::RandomState;
 use std::marker::Model;
 use trace_core::Captured;
 
@@ -64,8 +65,9 @@ impl Model for SiteState {
 }
 
 impl SiteState {
-    /// The site `me` of these sites, which has captured nothing yet. Does not allocate.
-    pub fn new(alloc: Global, sites: Sites, me: SiteNo) -> SiteState
+    /// The site `me` of these sites, which has captured nothing yet, with the keys of the hash by which items are
+    /// numbered, drawn at random, so that nobody can choose texts that collide. Does not allocate.
+    pub fn new(alloc: Global, keys: RandomState, sites: Sites, me: SiteNo) -> SiteState
         requires of_the_list { me < length sites }
         ensures { result ≡ fresh sites me }
     {
@@ -73,7 +75,7 @@ impl SiteState {
         let shortcuts = Shortcuts::new(alloc, &quarantine);
         SiteState {
             sites,
-            captured: Captured::new(alloc, me),
+            captured: Captured::new(alloc, keys, me),
             quarantine,
             diffusion: Diffusion::new(alloc, me),
             shortcuts,

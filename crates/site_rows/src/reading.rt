@@ -22,6 +22,7 @@ use event_json::{SiteNo, Sites};
 use scholten_core::Diffusion;
 use site_core::SiteState;
 use std::alloc::{AllocError, Global};
+use std::hash::RandomState;
 use trace_core::Captured;
 
 /// A row that stands in no record's rows.
@@ -52,24 +53,25 @@ impl From<AllocError> for StateFault {
     }
 }
 
-/// The record whose rows these are.
+/// The record whose rows these are, with the keys of the hash by which items are numbered, drawn at random, so that
+/// nobody can choose texts that collide.
 ///
 /// # Errors
 /// A bad row of the first table that has one, in the order of [`Table`]: the first bad one of that table. A row that is
 /// missing is named by the place where it would stand. And out of memory, which alone comes where the rows are those of
 /// a record.
-pub fn state_of(alloc: Global, rows: &Rows) -> Result<SiteState, StateFault>
+pub fn state_of(alloc: Global, keys: RandomState, rows: &Rows) -> Result<SiteState, StateFault>
     ensures read { IfOk result (λ state. rows_of state ≡ rows.now) }
     ensures bad { IfErr result (λ fault. IsStateFault rows.now fault) }
     ensures kept { IfOk result (λ state. IsKept state) }
     ensures items { IfOk result (λ state. HoldsItems state) }
     ensures same { (s : Record) → IsKept s → HoldsItems s → rows_of s ≡ rows.now → MatchResult result (λ state. state ≡ s) (λ fault. fault ≡ NoMemory) }
 {
-    read_state(alloc, rows)
+    read_state(alloc, keys, rows)
 }
 
 /// The record whose rows these are, which a site may keep.
-fn read_state(alloc: Global, rows: &Rows) -> Result<SiteState, StateFault>
+fn read_state(alloc: Global, keys: RandomState, rows: &Rows) -> Result<SiteState, StateFault>
     ensures read { IfOk result (λ state. rows_of state ≡ rows.now) }
     ensures kept { IfOk result (λ state. IsKept state) }
     ensures items { IfOk result (λ state. HoldsItems state) }
@@ -80,7 +82,7 @@ fn read_state(alloc: Global, rows: &Rows) -> Result<SiteState, StateFault>
         Err(fault) => return Err(in_table(Table::Store, fault)),
     };
     let sites = sites_of(alloc, rows)?;
-    let captured = events_of(alloc, numbers.me, &sites, rows)?;
+    let captured = events_of(alloc, keys, numbers.me, &sites, rows)?;
     let quarantine = match quarantine_of(alloc, sites.len(), rows.quarantine.as_slice()) {
         Ok(quarantine) => quarantine,
         Err(fault) => return Err(in_table(Table::Quarantine, fault)),
@@ -120,7 +122,13 @@ fn sites_of(alloc: Global, rows: &Rows) -> Result<Sites, StateFault>
 }
 
 /// The captured events.
-fn events_of(alloc: Global, me: SiteNo, sites: &Sites, rows: &Rows) -> Result<Captured, StateFault>
+fn events_of(
+    alloc: Global,
+    keys: RandomState,
+    me: SiteNo,
+    sites: &Sites,
+    rows: &Rows,
+) -> Result<Captured, StateFault>
     requires read { rows.now.site ≡ map site_row (enumerate_from 0 sites.now) }
     requires good { HaveNoBadRow rows.now (Table.Store ∷ Table.Site ∷ Table.Address ∷ []) }
     ensures me { IfOk result (λ c. c.me ≡ me) }
@@ -135,6 +143,7 @@ fn events_of(alloc: Global, me: SiteNo, sites: &Sites, rows: &Rows) -> Result<Ca
     }
     match captured_of(
         alloc,
+        keys,
         me,
         sites,
         rows.event.as_slice(),

@@ -16,18 +16,21 @@ use crate::rows::{EventRow, PartRow};
 use crate::texts::Text;
 use event_json::{Body, Event, PlainText, SiteNo, Sites};
 use std::alloc::{AllocError, Global};
+use std::hash::RandomState;
 use trace_core::Captured;
 
 /// A second has as many nanoseconds.
 const NANOS: i128 = 1_000_000_000;
 
-/// The events of the rows, whose lists are these rows, at a site.
+/// The events of the rows, whose lists are these rows, at a site, with the keys of the hash by which items are
+/// numbered.
 ///
 /// # Errors
 /// The first row with which the rows are no longer those of the lists of these events, or the place behind the last row
 /// where one is missing; and out of memory.
 pub(crate) fn captured_of(
     alloc: Global,
+    keys: RandomState,
     me: SiteNo,
     sites: &Sites,
     events: &[EventRow],
@@ -40,7 +43,7 @@ pub(crate) fn captured_of(
     ensures among { IfOk result (λ c. All (IsEventAmong (length sites.now)) c.events) }
     ensures bad { IfErr result (λ fault. IsFaultOf (IsPartTable sites.now events.now) parts.now fault) }
 {
-    let mut captured = Captured::new(alloc, me);
+    let mut captured = Captured::new(alloc, keys, me);
     let mut at = 0;
     for (place, row) in events.iter().enumerate() {
         match event_at(alloc, sites, parts, &mut at, place, row)? {

@@ -16,6 +16,7 @@ use site_tables::{ReadFault, read_rows, settled};
 use sqlite::{Alter, Connection, FileStore, Options};
 use sqlite_disk::Disk;
 use std::alloc::Global;
+use std::hash::RandomState;
 
 /// The version of the tables.
 const VERSION: i64 = 1;
@@ -101,14 +102,19 @@ fn check_name(alloc: Global, rows: &Rows, name: &str) -> Result<(), OpenFault>
 }
 
 /// The record of these rows, where it is that of a site of this name.
-fn record_of(alloc: Global, rows: &Rows, name: &str) -> Result<SiteState, OpenFault>
+fn record_of(
+    alloc: Global,
+    keys: RandomState,
+    rows: &Rows,
+    name: &str,
+) -> Result<SiteState, OpenFault>
     ensures read { IfOk result (λ state. rows_of state ≡ rows.now) }
     ensures named { IfOk result (λ state. own_name state ≡ name.now) }
     ensures refused { IfErr result (IsRefused name.now rows.now) }
     ensures same { (r : Record) → IsKept r → HoldsItems r → own_name r ≡ name.now → rows.now ≡ rows_of r → MatchResult result (λ state. state ≡ r) (λ fault. fault ≡ OpenFault.NoMemory) }
 {
     check_name(alloc, rows, name)?;
-    match state_of(alloc, rows) {
+    match state_of(alloc, keys, rows) {
         Ok(state) => Ok(state),
         Err(StateFault::NoMemory) => Err(OpenFault::NoMemory),
         Err(StateFault::BadRow(bad)) => Err(OpenFault::BadRow(bad)),
@@ -118,6 +124,7 @@ fn record_of(alloc: Global, rows: &Rows, name: &str) -> Result<SiteState, OpenFa
 /// The record whose rows the tables list, where it is that of a site of this name. Nothing is written.
 fn read_site<S: Alter>(
     alloc: Global,
+    keys: RandomState,
     conn: &mut Connection<S>,
     name: &str,
 ) -> Result<SiteState, OpenFault>
@@ -128,12 +135,13 @@ fn read_site<S: Alter>(
     ensures crash { Survives (state S.Store conn.old) (state S.Store conn.new) (λ _. ⊥) }
 {
     match read_rows(alloc, conn) {
-        Ok(rows) => record_of(alloc, &rows, name),
+        Ok(rows) => record_of(alloc, keys, &rows, name),
         Err(fault) => Err(unread(fault)),
     }
 }
 
-/// Opens the site of this name, whose tables the database has. Nothing is written.
+/// Opens the site of this name, whose tables the database has, with the keys of the hash by which items are numbered,
+/// drawn at random, so that nobody can choose texts that collide. Nothing is written.
 ///
 /// # Errors
 /// As [`OpenFault`] says, and the connection is given up. Asked are, in this order: whether the tables are a site's and
@@ -142,6 +150,7 @@ fn read_site<S: Alter>(
 /// reported before any of these but the first, and an error of the database as soon as a call returns it.
 pub fn open_site<D: Disk + Drop>(
     alloc: Global,
+    keys: RandomState,
     conn: Connection<FileStore<D>>,
     options: Options,
     name: &str,
@@ -153,7 +162,7 @@ pub fn open_site<D: Disk + Drop>(
     // What is known of the connection before anything is read.
     let _schema = conn.schema();
     settled(&conn);
-    match read_site(alloc, &mut conn, name) {
+    match read_site(alloc, keys, &mut conn, name) {
         Ok(state) => {
             settled(&conn);
             Ok(StoredSite::adopt(alloc, conn, options, state))

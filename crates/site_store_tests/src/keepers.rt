@@ -7,14 +7,15 @@ use site_store::{Link, OpenFault, StoredSite, open_site};
 use sqlite::{Connection, FileStore, Files, Options};
 use sqlite_disk::Memory;
 use std::alloc::Global;
+use std::hash::RandomState;
 use std::test::Fail;
 
 /// Site A or site B, that has captured nothing.
-pub fn fresh(alloc: Global, is_second: bool) -> Result<SiteState, Fail> {
+pub fn fresh(alloc: Global, keys: RandomState, is_second: bool) -> Result<SiteState, Fail> {
     let mut sites = Sites::new(alloc);
     let a = sites.add("A", &["a", "z"])?;
     let b = sites.add("B", &["b"])?;
-    Ok(SiteState::new(alloc, sites, if is_second { b } else { a }))
+    Ok(SiteState::new(alloc, keys, sites, if is_second { b } else { a }))
 }
 
 /// A connection to an empty database in memory.
@@ -30,8 +31,12 @@ fn connected(alloc: Global) -> Result<Connection<FileStore<Memory>>, Fail> {
 }
 
 /// A site kept in files in memory.
-pub fn stored(alloc: Global, is_second: bool) -> Result<StoredSite<Memory>, Fail> {
-    let state = fresh(alloc, is_second)?;
+pub fn stored(
+    alloc: Global,
+    keys: RandomState,
+    is_second: bool,
+) -> Result<StoredSite<Memory>, Fail> {
+    let state = fresh(alloc, keys, is_second)?;
     match StoredSite::create(alloc, connected(alloc)?, Options::new(1), state) {
         Ok(site) => Ok(site),
         Err(left) => Err(left.fault.into()),
@@ -41,11 +46,12 @@ pub fn stored(alloc: Global, is_second: bool) -> Result<StoredSite<Memory>, Fail
 /// The site of a name, opened from the tables of a site.
 fn opened(
     alloc: Global,
+    keys: RandomState,
     site: StoredSite<Memory>,
     name: &str,
 ) -> Option<Result<StoredSite<Memory>, OpenFault>> {
     match site.release() {
-        Link::Connected(conn) => Some(open_site(alloc, conn, Options::new(1), name)),
+        Link::Connected(conn) => Some(open_site(alloc, keys, conn, Options::new(1), name)),
         Link::Unconnected(_) => None,
     }
 }
@@ -59,17 +65,22 @@ fn rows_shown<K: SiteKeeper>(alloc: Global, site: &K) -> Result<Rows, Fail> {
 }
 
 /// Whether the tables of a site hold the rows of what it shows: opened again from them, it shows the same.
-pub fn keeps_its_rows(alloc: Global, site: StoredSite<Memory>, name: &str) -> Result<bool, Fail> {
+pub fn keeps_its_rows(
+    alloc: Global,
+    keys: RandomState,
+    site: StoredSite<Memory>,
+    name: &str,
+) -> Result<bool, Fail> {
     let shown = rows_shown(alloc, &site)?;
-    match opened(alloc, site, name) {
+    match opened(alloc, keys, site, name) {
         Some(Ok(site)) => Ok(rows_shown(alloc, &site)? == shown),
         _ => Ok(false),
     }
 }
 
 /// Whether the name of the site is reported where that of another is asked for.
-fn tells_other_site(alloc: Global) -> Result<bool, Fail> {
-    match opened(alloc, stored(alloc, false)?, "B") {
+fn tells_other_site(alloc: Global, keys: RandomState) -> Result<bool, Fail> {
+    match opened(alloc, keys, stored(alloc, keys, false)?, "B") {
         Some(Err(OpenFault::OtherSite(found))) => Ok(found.as_str() == "A"),
         _ => Ok(false),
     }
@@ -77,6 +88,7 @@ fn tells_other_site(alloc: Global) -> Result<bool, Fail> {
 
 #[test]
 fn a_site_is_opened_by_its_name_alone(rt: HostRuntime) -> Result<(), Fail> {
-    assert!(rt; tells_other_site(rt.alloc())?);
+    let keys = RandomState::new(&rt)?;
+    assert!(rt; tells_other_site(rt.alloc(), keys)?);
     Ok(())
 }

@@ -8,6 +8,7 @@ use keeper_core::{Keep, MemoryKeeper, SiteKeeper};
 use site_store::StoredSite;
 use sqlite_disk::Memory;
 use std::alloc::Global;
+use std::hash::RandomState;
 use std::test::Fail;
 use world_core::{Answer, World, WorldEvent, WorldInput};
 
@@ -105,17 +106,21 @@ fn run<K: SiteKeeper>(
 }
 
 /// What sites in memory return.
-fn answers_in_memory(alloc: Global, turns: &[Turn]) -> Result<Vec<Answer>, Fail> {
-    let a = MemoryKeeper::new(fresh(alloc, false)?);
-    let b = MemoryKeeper::new(fresh(alloc, true)?);
+fn answers_in_memory(
+    alloc: Global,
+    keys: RandomState,
+    turns: &[Turn],
+) -> Result<Vec<Answer>, Fail> {
+    let a = MemoryKeeper::new(fresh(alloc, keys, false)?);
+    let b = MemoryKeeper::new(fresh(alloc, keys, true)?);
     let (answers, _) = run(alloc, both(alloc, a, b)?, turns)?;
     Ok(answers)
 }
 
 /// Sites A and B, kept in files.
-fn stored_sites(alloc: Global) -> Result<Vec<StoredSite<Memory>>, Fail> {
-    let a = stored(alloc, false)?;
-    let b = stored(alloc, true)?;
+fn stored_sites(alloc: Global, keys: RandomState) -> Result<Vec<StoredSite<Memory>>, Fail> {
+    let a = stored(alloc, keys, false)?;
+    let b = stored(alloc, keys, true)?;
     both(alloc, a, b)
 }
 
@@ -129,9 +134,13 @@ fn only_if(
 }
 
 /// Both sites kept in files, where they answer the turns as sites in memory do.
-fn after(alloc: Global, turns: &[Turn]) -> Result<Option<Vec<StoredSite<Memory>>>, Fail> {
-    let wanted = answers_in_memory(alloc, turns)?;
-    let (answers, sites) = run(alloc, stored_sites(alloc)?, turns)?;
+fn after(
+    alloc: Global,
+    keys: RandomState,
+    turns: &[Turn],
+) -> Result<Option<Vec<StoredSite<Memory>>>, Fail> {
+    let wanted = answers_in_memory(alloc, keys, turns)?;
+    let (answers, sites) = run(alloc, stored_sites(alloc, keys)?, turns)?;
     Ok(only_if(sites, &answers, &wanted))
 }
 
@@ -139,22 +148,30 @@ fn after(alloc: Global, turns: &[Turn]) -> Result<Option<Vec<StoredSite<Memory>>
 /// shows.
 fn last_keeps(
     alloc: Global,
+    keys: RandomState,
     sites: &mut Vec<StoredSite<Memory>>,
     name: &str,
     statements: u64,
 ) -> Result<bool, Fail> {
     match sites.pop() {
-        Some(site) if site.statements() == statements => keeps_its_rows(alloc, site, name),
+        Some(site) if site.statements() == statements => keeps_its_rows(alloc, keys, site, name),
         _ => Ok(false),
     }
 }
 
 /// Whether the sites answer the turns as sites in memory do, their last steps ran so many statements, and their tables
 /// hold the rows of what they show.
-fn holds(alloc: Global, turns: &[Turn], of_a: u64, of_b: u64) -> Result<bool, Fail> {
-    match after(alloc, turns)? {
+fn holds(
+    alloc: Global,
+    keys: RandomState,
+    turns: &[Turn],
+    of_a: u64,
+    of_b: u64,
+) -> Result<bool, Fail> {
+    match after(alloc, keys, turns)? {
         Some(mut sites) => Ok(
-            last_keeps(alloc, &mut sites, "B", of_b)? && last_keeps(alloc, &mut sites, "A", of_a)?,
+            last_keeps(alloc, keys, &mut sites, "B", of_b)?
+                && last_keeps(alloc, keys, &mut sites, "A", of_a)?,
         ),
         None => Ok(false),
     }
@@ -205,20 +222,22 @@ fn stopped(keep: Keep) -> [Turn; 10] {
 /// The last signal writes two rows, and a repeat none.
 #[test]
 fn a_recall_ends_over_files(rt: HostRuntime) -> Result<(), Fail> {
-    assert!(rt; holds(rt.alloc(), &RECALL, 4, 0)?);
-    assert!(rt; holds(rt.alloc(), &REPEATS, 0, 0)?);
+    let keys = RandomState::new(&rt)?;
+    assert!(rt; holds(rt.alloc(), keys, &RECALL, 4, 0)?);
+    assert!(rt; holds(rt.alloc(), keys, &REPEATS, 0, 0)?);
     Ok(())
 }
 
 /// Whether the recall ends after the stop, and the message that comes again takes B so many statements.
-fn ends_after_stop(alloc: Global, keep: Keep, of_b: u64) -> Result<bool, Fail> {
-    holds(alloc, &stopped(keep), 4, of_b)
+fn ends_after_stop(alloc: Global, keys: RandomState, keep: Keep, of_b: u64) -> Result<bool, Fail> {
+    holds(alloc, keys, &stopped(keep), 4, of_b)
 }
 
 /// The message that comes again writes two rows where B stopped before it took it, and none where it had taken it.
 #[test]
 fn a_recall_ends_after_a_stop(rt: HostRuntime) -> Result<(), Fail> {
-    assert!(rt; ends_after_stop(rt.alloc(), Keep::Old, 4)?);
-    assert!(rt; ends_after_stop(rt.alloc(), Keep::New, 0)?);
+    let keys = RandomState::new(&rt)?;
+    assert!(rt; ends_after_stop(rt.alloc(), keys, Keep::Old, 4)?);
+    assert!(rt; ends_after_stop(rt.alloc(), keys, Keep::New, 0)?);
     Ok(())
 }

@@ -10,6 +10,7 @@ use frame_core::{Frame, MsgId, RecallId};
 use site_core::{SiteInput, SiteState};
 use site_recovery::{CheckFault, Misfit, are_all_sites, check_world};
 use std::alloc::Global;
+use std::hash::RandomState;
 use std::test::Fail;
 
 /// The times of an event.
@@ -67,7 +68,7 @@ fn first_of(site: At) -> MsgId {
 }
 
 /// A site with an address, as each of the others, which keeps nothing.
-fn empty(alloc: Global, me: At) -> Result<SiteState, Fail> {
+fn empty(alloc: Global, keys: RandomState, me: At) -> Result<SiteState, Fail> {
     let mut sites = Sites::new(alloc);
     sites.add("A", &["a"])?;
     sites.add("B", &["b"])?;
@@ -76,7 +77,7 @@ fn empty(alloc: Global, me: At) -> Result<SiteState, Fail> {
     if me.number() >= sites.len() {
         return Err(Fail::new("no such site"));
     }
-    Ok(SiteState::new(alloc, sites, me))
+    Ok(SiteState::new(alloc, keys, sites, me))
 }
 
 /// What the site is given.
@@ -111,8 +112,8 @@ fn input(alloc: Global, me: At, given: Given) -> Result<SiteInput, Fail> {
 }
 
 /// A site once it was given all this, one after another.
-fn site(alloc: Global, me: At, given: &[Given]) -> Result<SiteState, Fail> {
-    let mut state = empty(alloc, me)?;
+fn site(alloc: Global, keys: RandomState, me: At, given: &[Given]) -> Result<SiteState, Fail> {
+    let mut state = empty(alloc, keys, me)?;
     for each in given {
         state.apply(&input(alloc, me, *each)?)?;
     }
@@ -144,29 +145,45 @@ fn misfit(condition: u64, at: At) -> Option<Misfit> {
 }
 
 /// Sites A, B and C, each of which was given this.
-fn three(alloc: Global, given: [&[Given]; 3]) -> Result<Vec<SiteState>, Fail> {
+fn three(alloc: Global, keys: RandomState, given: [&[Given]; 3]) -> Result<Vec<SiteState>, Fail> {
     let mut sites = Vec::new(alloc);
-    add_all(alloc, &mut sites, given)?;
+    add_all(alloc, keys, &mut sites, given)?;
     Ok(sites)
 }
 
 /// Adds the three sites.
-fn add_all(alloc: Global, sites: &mut Vec<SiteState>, given: [&[Given]; 3]) -> Result<(), Fail> {
+fn add_all(
+    alloc: Global,
+    keys: RandomState,
+    sites: &mut Vec<SiteState>,
+    given: [&[Given]; 3],
+) -> Result<(), Fail> {
     let [a, b, c] = given;
-    add(alloc, sites, A, a)?;
-    add(alloc, sites, B, b)?;
-    add(alloc, sites, C, c)
+    add(alloc, keys, sites, A, a)?;
+    add(alloc, keys, sites, B, b)?;
+    add(alloc, keys, sites, C, c)
 }
 
 /// Adds a site that was given this.
-fn add(alloc: Global, sites: &mut Vec<SiteState>, me: At, given: &[Given]) -> Result<(), Fail> {
-    sites.push(site(alloc, me, given)?)?;
+fn add(
+    alloc: Global,
+    keys: RandomState,
+    sites: &mut Vec<SiteState>,
+    me: At,
+    given: &[Given],
+) -> Result<(), Fail> {
+    sites.push(site(alloc, keys, me, given)?)?;
     Ok(())
 }
 
 /// Whether the check of sites A, B and C, which were given this, says this; None where they are consistent.
-fn is_charged(alloc: Global, given: [&[Given]; 3], wanted: Option<Misfit>) -> Result<bool, Fail> {
-    let sites = three(alloc, given)?;
+fn is_charged(
+    alloc: Global,
+    keys: RandomState,
+    given: [&[Given]; 3],
+    wanted: Option<Misfit>,
+) -> Result<bool, Fail> {
+    let sites = three(alloc, keys, given)?;
     Ok(says(alloc, &sites)? == wanted)
 }
 
@@ -186,26 +203,28 @@ const ENDED: [Given; 4] = [
 
 #[test]
 fn sites_fit_before_and_after_a_recall(rt: HostRuntime) -> Result<(), Fail> {
+    let keys = RandomState::new(&rt)?;
     let alloc = rt.alloc();
-    assert!(rt; is_charged(alloc, [&FIRST_RUN, &[], &[]], None)?);
-    assert!(rt; is_charged(alloc, [&BEGUN, &[], &[]], None)?);
-    assert!(rt; is_charged(alloc, [&ENDED, &[Told(A, "y")], &[]], None)?);
+    assert!(rt; is_charged(alloc, keys, [&FIRST_RUN, &[], &[]], None)?);
+    assert!(rt; is_charged(alloc, keys, [&BEGUN, &[], &[]], None)?);
+    assert!(rt; is_charged(alloc, keys, [&ENDED, &[Told(A, "y")], &[]], None)?);
     Ok(())
 }
 
 #[test]
 fn states_of_different_days_do_not_fit(rt: HostRuntime) -> Result<(), Fail> {
+    let keys = RandomState::new(&rt)?;
     let alloc = rt.alloc();
     // A knows that the recall has ended, and B was never notified.
-    assert!(rt; is_charged(alloc, [&ENDED, &[], &[]], misfit(2, B))?);
+    assert!(rt; is_charged(alloc, keys, [&ENDED, &[], &[]], misfit(2, B))?);
     // B was notified of a recall that A never began.
-    assert!(rt; is_charged(alloc, [&[], &[Told(A, "y")], &[]], misfit(3, B))?);
+    assert!(rt; is_charged(alloc, keys, [&[], &[Told(A, "y")], &[]], misfit(3, B))?);
     Ok(())
 }
 
 /// Whether the sites are seen to be out of order, and two of three to be too few.
-fn sees_places(alloc: Global) -> Result<bool, Fail> {
-    let sites = three(alloc, [&[], &[], &[]])?;
+fn sees_places(alloc: Global, keys: RandomState) -> Result<bool, Fail> {
+    let sites = three(alloc, keys, [&[], &[], &[]])?;
     if sites.len() != 3 {
         return Ok(false);
     }
@@ -215,6 +234,7 @@ fn sees_places(alloc: Global) -> Result<bool, Fail> {
 
 #[test]
 fn sites_out_of_order_are_seen(rt: HostRuntime) -> Result<(), Fail> {
-    assert!(rt; sees_places(rt.alloc())?);
+    let keys = RandomState::new(&rt)?;
+    assert!(rt; sees_places(rt.alloc(), keys)?);
     Ok(())
 }

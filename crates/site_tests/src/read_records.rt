@@ -4,6 +4,7 @@ use site_rows::{
     AddressRow, EventRow, PartRow, Rows, SiteRow, StateFault, StoreRow, Table, Text, state_of,
 };
 use std::alloc::{AllocError, Global};
+use std::hash::RandomState;
 use std::test::Fail;
 
 /// One text that is changed in the rows of a shipment from site A to site B and outside.
@@ -168,9 +169,9 @@ fn rows(alloc: Global, changed: Changed) -> Result<Rows, Fail> {
 }
 
 /// The table and the place of the bad row, `None` where no row is bad; out of memory is no answer.
-fn bad(alloc: Global, changed: Changed) -> Result<Option<(Table, u64)>, Fail> {
+fn bad(alloc: Global, keys: RandomState, changed: Changed) -> Result<Option<(Table, u64)>, Fail> {
     let rows = rows(alloc, changed)?;
-    match state_of(alloc, &rows) {
+    match state_of(alloc, keys, &rows) {
         Ok(_) => Ok(None),
         Err(StateFault::BadRow(bad)) => Ok(Some((bad.table, bad.row))),
         Err(StateFault::NoMemory) => Err("memory ran out".into()),
@@ -179,10 +180,11 @@ fn bad(alloc: Global, changed: Changed) -> Result<Option<(Table, u64)>, Fail> {
 
 #[test]
 fn reads_a_record_or_names_the_bad_row(rt: HostRuntime) -> Result<(), Fail> {
-    assert!(rt; bad(rt.alloc(), Changed::Nothing)? == None);
-    assert!(rt; bad(rt.alloc(), Changed::Address)? == Some((Table::Address, 1)));
-    assert!(rt; bad(rt.alloc(), Changed::Item)? == Some((Table::Part, 2)));
-    assert!(rt; bad(rt.alloc(), Changed::Destination)? == Some((Table::Part, 3)));
-    assert!(rt; bad(rt.alloc(), Changed::LastPart)? == Some((Table::Part, 4)));
+    let keys = RandomState::new(&rt)?;
+    assert!(rt; bad(rt.alloc(), keys, Changed::Nothing)? == None);
+    assert!(rt; bad(rt.alloc(), keys, Changed::Address)? == Some((Table::Address, 1)));
+    assert!(rt; bad(rt.alloc(), keys, Changed::Item)? == Some((Table::Part, 2)));
+    assert!(rt; bad(rt.alloc(), keys, Changed::Destination)? == Some((Table::Part, 3)));
+    assert!(rt; bad(rt.alloc(), keys, Changed::LastPart)? == Some((Table::Part, 4)));
     Ok(())
 }

@@ -12,6 +12,7 @@ use event_json::{Sequence, SiteNo, Sites};
 use frame_core::{Frame, FrameView, MsgId, RecallId};
 use site_core::{Effects, Refusal, SiteInput, SiteState, Stepped, emittable, step};
 use std::alloc::Global;
+use std::hash::RandomState;
 use std::test::Fail;
 
 /// The times of an event.
@@ -155,10 +156,10 @@ fn three_sites(alloc: Global) -> Result<Sites, Fail> {
 }
 
 /// One of the sites, which has captured nothing.
-fn fresh(alloc: Global, me: SiteNo) -> Result<SiteState, Fail> {
+fn fresh(alloc: Global, keys: RandomState, me: SiteNo) -> Result<SiteState, Fail> {
     let sites = three_sites(alloc)?;
     if me.number() < sites.len() as u64 {
-        Ok(SiteState::new(alloc, sites, me))
+        Ok(SiteState::new(alloc, keys, sites, me))
     } else {
         Err("no such site".into())
     }
@@ -200,7 +201,8 @@ fn tells_b(a: &SiteState, y: &Epc) -> bool {
 
 #[test]
 fn a_start_tells_where_the_goods_went(rt: HostRuntime) -> Result<(), Fail> {
-    let mut a = fresh(rt.alloc(), site(0))?;
+    let keys = RandomState::new(&rt)?;
+    let mut a = fresh(rt.alloc(), keys, site(0))?;
     assert!(rt; recalls(rt.alloc(), &mut a)?);
     let y = Epc::read(rt.alloc(), "y")?;
     assert!(rt; tells_b(&a, &y));
@@ -232,7 +234,8 @@ fn takes_once(alloc: Global, b: &mut SiteState) -> Result<bool, Fail> {
 
 #[test]
 fn a_message_is_taken_once(rt: HostRuntime) -> Result<(), Fail> {
-    let mut b = fresh(rt.alloc(), site(1))?;
+    let keys = RandomState::new(&rt)?;
+    let mut b = fresh(rt.alloc(), keys, site(1))?;
     assert!(rt; takes_once(rt.alloc(), &mut b)?);
     Ok(())
 }
@@ -258,7 +261,8 @@ fn follows_steps(alloc: Global, a: &mut SiteState) -> Result<bool, Fail> {
 
 #[test]
 fn a_record_follows_the_one_after_it(rt: HostRuntime) -> Result<(), Fail> {
-    let mut a = fresh(rt.alloc(), site(0))?;
+    let keys = RandomState::new(&rt)?;
+    let mut a = fresh(rt.alloc(), keys, site(0))?;
     assert!(rt; follows_steps(rt.alloc(), &mut a)?);
     Ok(())
 }
@@ -289,7 +293,8 @@ fn goes_on(alloc: Global, a: &SiteState) -> Result<bool, Fail> {
 
 #[test]
 fn the_last_signal_ends_the_recall(rt: HostRuntime) -> Result<(), Fail> {
-    let mut a = fresh(rt.alloc(), site(0))?;
+    let keys = RandomState::new(&rt)?;
+    let mut a = fresh(rt.alloc(), keys, site(0))?;
     assert!(rt; recalls(rt.alloc(), &mut a)?);
     assert!(rt; goes_on(rt.alloc(), &a)?);
     Ok(())
@@ -317,7 +322,8 @@ fn recalls_what_is_held(alloc: Global, b: &mut SiteState) -> Result<bool, Fail> 
 
 #[test]
 fn what_is_quarantined_may_be_recalled(rt: HostRuntime) -> Result<(), Fail> {
-    let mut b = fresh(rt.alloc(), site(1))?;
+    let keys = RandomState::new(&rt)?;
+    let mut b = fresh(rt.alloc(), keys, site(1))?;
     assert!(rt; recalls_what_is_held(rt.alloc(), &mut b)?);
     Ok(())
 }

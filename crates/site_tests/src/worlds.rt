@@ -7,6 +7,7 @@ use keeper_core::{Keep, KeepFault, MemoryKeeper, SiteKeeper};
 use site_core::{Effects, SiteInput, SiteState};
 use site_recovery::Misfit;
 use std::alloc::{AllocError, Global};
+use std::hash::RandomState;
 use std::test::Fail;
 use trace_core::Pair;
 use world_core::{Answer, World, WorldEvent, WorldFault, WorldInput};
@@ -39,18 +40,18 @@ fn recall() -> RecallId {
 }
 
 /// An open keeper of the first or the second of two sites.
-fn keeper(alloc: Global, second: bool) -> Result<MemoryKeeper, Fail> {
+fn keeper(alloc: Global, keys: RandomState, second: bool) -> Result<MemoryKeeper, Fail> {
     let mut sites = Sites::new(alloc);
     let a = sites.add("A", &["a"])?;
     let b = sites.add("B", &["b"])?;
     let me = if second { b } else { a };
-    Ok(MemoryKeeper::new(SiteState::new(alloc, sites, me)))
+    Ok(MemoryKeeper::new(SiteState::new(alloc, keys, sites, me)))
 }
 
-fn two_sites(alloc: Global) -> Result<World<MemoryKeeper>, Fail> {
+fn two_sites(alloc: Global, keys: RandomState) -> Result<World<MemoryKeeper>, Fail> {
     let mut keepers = Vec::new(alloc);
-    keepers.push(keeper(alloc, false)?)?;
-    keepers.push(keeper(alloc, true)?)?;
+    keepers.push(keeper(alloc, keys, false)?)?;
+    keepers.push(keeper(alloc, keys, true)?)?;
     Ok(World::new(alloc, keepers).map_err(|_| "no world")?)
 }
 
@@ -175,8 +176,8 @@ fn has_ended(world: &World<MemoryKeeper>) -> bool {
 
 /// Whether the answers are those expected, and the world says what is quarantined, that the recall has ended,
 /// and which frames were sent.
-fn spreads(alloc: Global) -> Result<bool, Fail> {
-    let mut world = two_sites(alloc)?;
+fn spreads(alloc: Global, keys: RandomState) -> Result<bool, Fail> {
+    let mut world = two_sites(alloc, keys)?;
     let answers = spread(alloc, &mut world)?;
     let told = are_answers(&answers) && has_ended(&world);
     Ok(told && are_x_at_both(&world.quarantined(recall())?))
@@ -184,7 +185,8 @@ fn spreads(alloc: Global) -> Result<bool, Fail> {
 
 #[test]
 fn a_recall_spreads_and_ends(rt: HostRuntime) -> Result<(), Fail> {
-    assert!(rt; spreads(rt.alloc())?);
+    let keys = RandomState::new(&rt)?;
+    assert!(rt; spreads(rt.alloc(), keys)?);
     Ok(())
 }
 
@@ -205,24 +207,34 @@ fn are_refused(
 }
 
 /// Whether keepers of one site, or of sites out of order, make no world.
-fn sees_places(alloc: Global) -> Result<bool, Fail> {
+fn sees_places(alloc: Global, keys: RandomState) -> Result<bool, Fail> {
     let twice = WorldFault::OtherSites(1);
     let swapped = WorldFault::OtherSites(0);
     Ok(
-        are_refused(alloc, keeper(alloc, false)?, keeper(alloc, false)?, twice)?
-            && are_refused(alloc, keeper(alloc, true)?, keeper(alloc, false)?, swapped)?,
+        are_refused(
+            alloc,
+            keeper(alloc, keys, false)?,
+            keeper(alloc, keys, false)?,
+            twice,
+        )? && are_refused(
+            alloc,
+            keeper(alloc, keys, true)?,
+            keeper(alloc, keys, false)?,
+            swapped,
+        )?,
     )
 }
 
 #[test]
 fn a_world_is_of_all_sites_in_order(rt: HostRuntime) -> Result<(), Fail> {
-    assert!(rt; sees_places(rt.alloc())?);
+    let keys = RandomState::new(&rt)?;
+    assert!(rt; sees_places(rt.alloc(), keys)?);
     Ok(())
 }
 
 /// Site B, which was notified of a recall that A never began.
-fn told_of_nothing(alloc: Global) -> Result<MemoryKeeper, Fail> {
-    let mut told = keeper(alloc, true)?;
+fn told_of_nothing(alloc: Global, keys: RandomState) -> Result<MemoryKeeper, Fail> {
+    let mut told = keeper(alloc, keys, true)?;
     told.apply(SiteInput::Deliver(Frame::Recall {
         id: MsgId {
             site: a(),
@@ -236,17 +248,18 @@ fn told_of_nothing(alloc: Global) -> Result<MemoryKeeper, Fail> {
 }
 
 /// Whether it makes no world with A: the check names what doesn't fit.
-fn sees_misfit(alloc: Global) -> Result<bool, Fail> {
+fn sees_misfit(alloc: Global, keys: RandomState) -> Result<bool, Fail> {
     let misfit = WorldFault::Misfit(Misfit {
         condition: 3,
         site: b(),
     });
-    let told = told_of_nothing(alloc)?;
-    Ok(are_refused(alloc, keeper(alloc, false)?, told, misfit)?)
+    let told = told_of_nothing(alloc, keys)?;
+    Ok(are_refused(alloc, keeper(alloc, keys, false)?, told, misfit)?)
 }
 
 #[test]
 fn keepers_that_do_not_fit_are_handed_back(rt: HostRuntime) -> Result<(), Fail> {
-    assert!(rt; sees_misfit(rt.alloc())?);
+    let keys = RandomState::new(&rt)?;
+    assert!(rt; sees_misfit(rt.alloc(), keys)?);
     Ok(())
 }

@@ -17,6 +17,7 @@ use site_core::SiteState;
 use site_recovery::{are_all_sites, check_world};
 use site_threads::{Desk, Gate, GatherCause, GatherFault, Gathered, Receipt, SiteList, run_world};
 use std::alloc::{AllocError, Global};
+use std::hash::RandomState;
 use std::sync::Wait;
 use std::sync::atomic::AtomicU64;
 use std::test::Fail;
@@ -141,6 +142,7 @@ fn wrong_in(
 fn ran<G: Gate + Send, R: Threads + Wait + Clock + Sync>(
     rt: &R,
     alloc: Global,
+    keys: RandomState,
     gates: Vec<G>,
     turns: u64,
 ) -> Result<
@@ -153,7 +155,7 @@ fn ran<G: Gate + Send, R: Threads + Wait + Clock + Sync>(
     requires turns { turns ≤ 1000000 }
     ensures { IfOk result (λ r. IfOk r.0 (λ gathered. AllZip Settles r.1.items gathered.lists.items)) }
 {
-    let keepers = keepers(alloc)?;
+    let keepers = keepers(alloc, keys)?;
     let (desks, outs) = desks(rt, alloc)?;
     if keepers.len() != 4 || outs.len() != 4 || gates.len() != 4 {
         return Err("there aren't four of them".into());
@@ -163,6 +165,7 @@ fn ran<G: Gate + Send, R: Threads + Wait + Clock + Sync>(
 
 #[test]
 fn four_sites_in_lockstep_end_their_recalls(rt: HostRuntime) -> Result<(), Fail> {
+    let keys = RandomState::new(&rt)?;
     let turns = [
         AtomicU64::new(0),
         AtomicU64::new(0),
@@ -170,7 +173,7 @@ fn four_sites_in_lockstep_end_their_recalls(rt: HostRuntime) -> Result<(), Fail>
         AtomicU64::new(0),
     ];
     let gates = in_lockstep(rt.alloc(), &turns)?;
-    let (run, desks) = ran(&rt, rt.alloc(), gates, 2_000)?;
+    let (run, desks) = ran(&rt, rt.alloc(), keys, gates, 2_000)?;
     let wrong = match run {
         Ok(gathered) => wrong_in(&rt, rt.alloc(), gathered, desks),
         Err(_) => Some("the run"),
@@ -195,7 +198,8 @@ fn gave_up(alloc: Global, run: Result<Gathered<MemoryKeeper>, GatherFault<Memory
 
 #[test]
 fn a_gate_that_gives_up_leaves_sites_that_fit(rt: HostRuntime) -> Result<(), Fail> {
-    let (run, _desks) = ran(&rt, rt.alloc(), without_b(rt.alloc())?, 20)?;
+    let keys = RandomState::new(&rt)?;
+    let (run, _desks) = ran(&rt, rt.alloc(), keys, without_b(rt.alloc())?, 20)?;
     assert!(rt; gave_up(rt.alloc(), run));
     Ok(())
 }

@@ -15,6 +15,7 @@ use site_core::SiteState;
 use site_recovery::{are_all_sites, check_world};
 use site_threads::{Desk, DeskFault, DeskOut, FreeGate, Gate, Job, Reply, SiteTurn, TurnReport};
 use std::alloc::Global;
+use std::hash::RandomState;
 use std::sync::Wait;
 use std::test::Fail;
 use wire_core::{Seat, Wire};
@@ -111,8 +112,9 @@ fn by_turns(alloc: Global, first: SiteState, second: SiteState) -> Result<bool, 
 
 #[test]
 fn a_recall_ends_by_turns(rt: HostRuntime) -> Result<(), Fail> {
-    let first = fresh(rt.alloc(), false)?;
-    let second = fresh(rt.alloc(), true)?;
+    let keys = RandomState::new(&rt)?;
+    let first = fresh(rt.alloc(), keys, false)?;
+    let second = fresh(rt.alloc(), keys, true)?;
     assert!(rt; by_turns(rt.alloc(), first, second)?);
     Ok(())
 }

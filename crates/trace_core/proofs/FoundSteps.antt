@@ -1,36 +1,35 @@
 -- Found nodes are listed in batches, and the items of a batch by their numbers.
-use Rattle.std.proofs.Common.{◌≡◌, ◌<◌, ◌≤◌, ◌+◌, ℕ, true, false, List, [], ◌∷◌, ◌++◌, Option, None, Some, take, get_or, slice_get, length, ◌↔◌, refl, sym, ap, ◌∙◌, subst, inl, inr, ⊎_elim, arith}
+use Rattle.std.proofs.Common.{◌≡◌, ◌<◌, ◌≤◌, ◌+◌, ltb, ltb-true, ltb-false, ℕ, true, false, List, [], ◌∷◌, ◌++◌, Option, None, Some, take, get_or, slice_get, length, ◌↔◌, refl, sym, ap, ◌∙◌, subst, inl, inr, ⊎_elim, arith}
 use mathlib.Core.Bool.{false≢true}
 use mathlib.Core.Logic.{◌⊎◌}
 use Rattle.std.specs.Borrow.{Bor}
 use Rattle.std.specs.BTreeMap.{BTreeMap, IsOrdered, Updates, get}
 use Rattle.std.specs.Cmp.{eq_by_cmp_equiv}
-use Rattle.std.specs.Cmp.Lexicographic.{slice_cmp}
 use Rattle.std.specs.List.{Contains}
-use Rattle.std.specs.Ordering.{nat_cmp, eq_by_cmp}
+use Rattle.std.specs.Ordering.{eq_by_cmp}
 use Rattle.std.proofs.lemmas.Bool.{cases_Bool, cond-false}
-use Rattle.std.proofs.lemmas.Cmp.{nat_list_cmp_total}
 use Rattle.std.proofs.lemmas.List.{map-append, take_more}
-use Rattle.std.proofs.lemmas.Map.Lookups.{exact_bytes}
 use Rattle.std.proofs.lemmas.Map.Views.{btree_map_get_iff, tells_apart}
+use Rattle.std.proofs.lemmas.List.Sorted.{Contains-permutation, IsPermutation-map, IsPermutation-sym}
+use Rattle.std.specs.List.Sorted.{IsPermutation}
 use Rattle.std.proofs.lemmas.Option.{slice_get_within}
 use Rattle.event_json.specs.Events.{Content}
 use Rattle.trace_core.specs.declared.nodes.Batch.{Batch}
 use Rattle.trace_core.specs.declared.nodes.Node.{Node}
 use Rattle.trace_core.specs.declared.pairs.Pair.{Pair}
-use Rattle.trace_core.specs.Found.{items_at, HasMark, HasNumber, batch_cmp, IsInBatch, Gives, IsPairOf}
-use Rattle.trace_core.specs.Numbers.{IsNumbered, numbered, number_found}
+use Rattle.trace_core.specs.Found.{items_at, HasNumber, batch_cmp, IsInBatch, Gives, IsPairOf}
+use Rattle.trace_core.specs.Numbers.{numbered}
 use Rattle.trace_core.specs.Places.{or_none}
 use Rattle.trace_core.specs.Sites.{SiteEvents}
 use Rattle.trace_core.proofs.BatchOrder.{batches_exact, batches_total}
 use Rattle.trace_core.proofs.Gathered.{FromSome}
 use Rattle.trace_core.proofs.Members.{contains_none}
-use Rattle.trace_core.proofs.NumberLists.{some_is, number_stands}
+use Rattle.trace_core.proofs.NumberLists.{some_is}
 use Rattle.trace_core.proofs.SetMembers.{contains_pushed}
 
--- an item whose number is marked
-abbrev pub IsMarked : List ℕ → List ℕ × ℕ → List ℕ → Type 0
-IsMarked numbers e i = Contains numbers e.1 × (e.0 ≡ i)
+-- the item has one of the numbers below
+abbrev pub HasNumberBelow : List Content → List ℕ → ℕ → List ℕ → Type 0
+HasNumberBelow events numbers k i = (n : ℕ) × (n < k) × Contains numbers n × (slice_get (numbered events) n ≡ Some i)
 
 -- the item of the number
 abbrev pub HasThisNumber : List Content → ℕ → List ℕ → Type 0
@@ -40,20 +39,11 @@ HasThisNumber events n i = slice_get (numbered events) n ≡ Some i
 abbrev pub HasNumbered : List Content → Batch × List ℕ → List ℕ → Type 0
 HasNumbered events b i = HasNumber events b.1 i
 
--- the marked items of a map
-pub marked_found : (known : BTreeMap (List ℕ) ℕ) (numbers : List ℕ) → IsOrdered (slice_cmp nat_cmp) known → (i : List ℕ) → FromSome (IsMarked numbers) known.entries i ↔ HasMark known numbers i
-marked_found known numbers ordered i = (
-  λ (e, there, (marked, same)).
-      let looked : number_found known e.0 ≡ Some e.1 = (btree_map_get_iff nat_list_cmp_total exact_bytes known ordered e.0 e.1).1 there in
-      (e.1, subst (λ j. number_found known j ≡ Some e.1) same looked, marked),
-  λ (n, found, marked). ((i, n), (btree_map_get_iff nat_list_cmp_total exact_bytes known ordered i n).0 found, (marked, refl)),
-)
-
--- the items whose numbers are marked are those of the numbers
-pub marked_items : (events : List Content) (known : BTreeMap (List ℕ) ℕ) (numbers : List ℕ) → IsNumbered known (numbered events) → (i : List ℕ) → HasMark known numbers i ↔ HasNumber events numbers i
-marked_items events known numbers is i = (
-  λ (n, found, there). (n, there, number_stands (numbered events) i n (sym (is.known i) ∙ found)),
-  λ (n, there, stands). (n, is.known i ∙ is.apart n i stands, there),
+-- references in another order point to the same items
+pub refs_sorted : (refs refs' : List (Bor (List ℕ))) → IsPermutation refs refs' → (i : List ℕ) → Contains (items_at refs') i ↔ Contains (items_at refs) i
+refs_sorted refs refs' same i = (
+  Contains-permutation (items_at refs') (items_at refs) i (IsPermutation-map (λ (r : Bor (List ℕ)). r.now) refs' refs (IsPermutation-sym refs refs' same)),
+  Contains-permutation (items_at refs) (items_at refs') i (IsPermutation-map (λ (r : Bor (List ℕ)). r.now) refs refs' same),
 )
 
 -- the same numbers have the same items
@@ -244,3 +234,30 @@ either_then one two = (λ a. ⊎_elim (λ b. inl b) (λ d. inr (two.0 d)) (one.0
 -- what some of the elements give is all that is there
 pub all_given : {A B C : Type 0} → A ↔ (⊥ ⊎ B) → B ↔ C → A ↔ C
 all_given one two = (λ a. two.0 (⊎_elim (λ none. absurd none) (λ b. b) (one.0 a)), λ d. one.1 (inr (two.1 d)))
+
+-- the items of the marked numbers, one number after another
+module _ (events : List Content) (numbers : List ℕ) where
+  pub none_below : (xs : List (List ℕ)) → xs ≡ [] → (i : List ℕ) → Contains xs i ↔ HasNumberBelow events numbers 0 i
+  none_below xs none i = (λ h. absurd (contains_none i (subst (λ ys. Contains ys i) none h)), λ (n, below, there, stands). absurd (omega (arith, below)))
+
+  pub below_more : (k : ℕ) (xs ys : List (List ℕ)) → ((i : List ℕ) → Contains ys i ↔ (Contains xs i ⊎ (Contains numbers k × (slice_get (numbered events) k ≡ Some i)))) → ((i : List ℕ) → Contains xs i ↔ HasNumberBelow events numbers k i)
+      → (i : List ℕ) → Contains ys i ↔ HasNumberBelow events numbers (k + 1) i
+  below_more k xs ys more so_far i = (
+    λ h. ⊎_elim
+        (λ before. let (n, below, there, stands) = (so_far i).0 before in (n, omega (arith, below), there, stands))
+        (λ (there, stands). (k, omega arith, there, stands))
+        ((more i).0 h),
+    λ (n, below, there, stands). (more i).1 (⊎_elim
+        (λ yes. inl ((so_far i).1 (n, ltb-true n k yes, there, stands)))
+        (λ no.
+        let same : n ≡ k = omega (arith, below, ltb-false n k no) in
+        inr (subst (λ m. Contains numbers m) same there, subst (λ m. slice_get (numbered events) m ≡ Some i) same stands))
+        (cases_Bool (ltb n k))),
+  )
+
+  pub all_below : (k : ℕ) (xs ys : List (List ℕ)) → length (numbered events) ≤ k → ((i : List ℕ) → Contains ys i ↔ Contains xs i) → ((i : List ℕ) → Contains xs i ↔ HasNumberBelow events numbers k i)
+      → (i : List ℕ) → Contains ys i ↔ HasNumber events numbers i
+  all_below k xs ys past same so_far i = iff_then (same i) (iff_then (so_far i) (
+    λ (n, below, there, stands). (n, there, stands),
+    λ (n, there, stands). (n, omega (arith, past, slice_get_within (numbered events) n i stands), there, stands),
+  ))

@@ -14,11 +14,10 @@ use Rattle.std.proofs.lemmas.Option.{slice_get_within}
 use Rattle.event_json.specs.Events.{Content}
 use Rattle.event_json.specs.declared.bodies.Body.{Body}
 use Rattle.event_json.specs.declared.bodies.Body.TheVariants.{Note, Ship, Make}
-use Rattle.trace_core.specs.declared.items.Named.{Named}
 use Rattle.trace_core.specs.declared.event_items.Members.{Members}
 use Rattle.trace_core.specs.declared.indexes.Index.{Index}
 use Rattle.trace_core.specs.Indexes.{HasPlaces, NotesItems, ForgetsItems, KeepsItems}
-use Rattle.trace_core.specs.Numbers.{with_names, numbered, names_of, item_places, outs_in, numbers_of, HasMembers}
+use Rattle.trace_core.specs.Numbers.{Named, with_names, numbered, names_of, item_places, outs_in, numbers_of, HasMembers}
 use Rattle.trace_core.specs.PairTests.{lists}
 use Rattle.trace_core.specs.Places.{kept, places_where, names_item, takes_item, IsIndex}
 use Rattle.trace_core.specs.Spreads.{items_of, ins_in}
@@ -44,7 +43,7 @@ untaken events i new = none (places_where (takes_item i) events) (some_place (ta
 -- the items that were new are taken back
 module _ (events : List Content) (left new : List Named) (n : ℕ) (more : List (List ℕ)) (names : names_of left ≡ numbered events ++ more) (taken : new ≡ take n left) (known : length (numbered events) ≡ n) where
   pub names_back : names_of new ≡ numbered events
-  names_back = ap names_of taken ∙ sym (take-map (λ (x : Named). x.name) n left) ∙ ap (take n) names ∙ take_at (numbered events) more n known
+  names_back = ap names_of taken ∙ sym (take-map (λ (x : Named). x.0) n left) ∙ ap (take n) names ∙ take_at (numbered events) more n known
 
   pub items_back : IsIndex (item_places left) takes_item events → IsIndex (item_places new) takes_item events
   items_back is i = ⊎_elim
@@ -115,7 +114,7 @@ pub some_members : (events : List Content) (e : Content) (members : List Members
 some_members events e members none has = omega (arith, none, has.count, length-append events (e ∷ []))
 
 pub count_names : (named : List Named) (events : List Content) → names_of named ≡ numbered events → length (numbered events) ≡ length named
-count_names named events names = ap length (sym names) ∙ length-map named (λ (x : Named). x.name)
+count_names named events names = ap length (sym names) ∙ length-map named (λ (x : Named). x.0)
 
 module _ (old : List Named) (events : List Content) (place : ℕ) (last : place ≡ length events) (names : names_of old ≡ numbered events) (items : IsIndex (item_places old) takes_item events) where
   -- an event's items are noted

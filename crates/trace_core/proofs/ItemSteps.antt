@@ -2,9 +2,8 @@
 use Rattle.std.proofs.Common.{◌≡◌, ◌<◌, ◌≤◌, ◌+◌, ℕ, true, ◌||◌, List, [], ◌∷◌, ◌++◌, length, take, get_or, Some, unwrap_or, refl, sym, ap, subst, ◌∙◌, append-nil, append_assoc}
 use Rattle.std.specs.List.{Contains}
 use Rattle.std.proofs.lemmas.List.{take_all, take_more, map-append}
-use Rattle.trace_core.specs.declared.items.Named.{Named}
 use Rattle.trace_core.specs.Indexes.{KnowsItems, KnowsSomeItems, NotesItems, NotesSomeItems, ForgetsPlace, ForgetsItems, KeepsItems}
-use Rattle.trace_core.specs.Numbers.{with_names, names_of, number_in, numbers_of, item_places, changed, known_too, noted}
+use Rattle.trace_core.specs.Numbers.{Named, with_names, names_of, number_in, numbers_of, item_places, changed, known_too, noted}
 use Rattle.trace_core.specs.Places.{with_last, without_last, or_none}
 use Rattle.trace_core.specs.PairTests.{lists, same_item}
 use Rattle.trace_core.proofs.Booleans.{or_true}

@@ -9,17 +9,13 @@ use Rattle.trace_core.specs.declared.nodes.Batch.{Batch}
 use Rattle.trace_core.specs.declared.nodes.Node.{Node}
 use Rattle.trace_core.specs.declared.pairs.Pair.{Pair}
 use Rattle.trace_core.specs.Nodes.{Stands}
-use Rattle.trace_core.specs.Numbers.{numbered, number_found}
+use Rattle.trace_core.specs.Numbers.{numbered}
 use Rattle.trace_core.specs.Places.{or_none}
 use Rattle.trace_core.specs.Sites.{SiteEvents}
 
 -- the items that references point to
 abbrev pub items_at : List (Bor (List ℕ)) → List (List ℕ)
 items_at refs = map (λ r. r.now) refs
-
--- the item's number is marked
-abbrev pub HasMark : BTreeMap (List ℕ) ℕ → List ℕ → List ℕ → Type 0
-HasMark known numbers i = (n : ℕ) × (number_found known i ≡ Some n) × Contains numbers n
 
 -- the item has one of the numbers
 abbrev pub HasNumber : List Content → List ℕ → List ℕ → Type 0

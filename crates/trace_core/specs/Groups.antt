@@ -86,7 +86,8 @@ group_outputs events b (Some id) = sum_by (λ k. outputs_at (slice_get events k)
 unfoldable pub unseen_outputs : ℕ → List Content → BTreeSet Group → ℕ
 unseen_outputs site events seen = sum_by (λ a. cond (contains group_cmp seen (record { site = site; first = first_of events a.0 a.1.body })) 0 (output_count a.1.body)) (enumerate_from 0 events)
 
--- each look is an output of a transformation that is seen now and wasn't before; each such output is a look, where the count didn't end
+-- each look is an output of a transformation that is seen now and wasn't before, and each such output is a look,
+-- where the count didn't end at 2^64 - 1
 pub record LooksAtUnseen (site : ℕ) (events : List Content) (seen seen' : BTreeSet Group) (looks looks' : ℕ) : Type 0 where
   pub least : looks ≤ looks'
   pub most : looks' + unseen_outputs site events seen' ≤ looks + unseen_outputs site events seen
@@ -98,9 +99,11 @@ IsSeenAt site events seen place = (e : Content) → slice_get events place ≡ S
 
 -- each transformation was seen that takes the item in
 abbrev pub HasSeenTakers : ℕ → List Content → BTreeSet Group → List ℕ → Type 0
-HasSeenTakers site events seen i = (place : ℕ) (e : Content) → slice_get events place ≡ Some e → takes_item i e ≡ true → IsSeen seen site (first_of events place e.body)
+HasSeenTakers site events seen i =
+    (place : ℕ) (e : Content) → slice_get events place ≡ Some e → takes_item i e ≡ true
+    → IsSeen seen site (first_of events place e.body)
 
--- so it was where the pair is at the site
+-- each transformation of the site was seen that the pair's item goes into, where the pair is at the site
 abbrev pub HasSeenFrom : SiteEvents → BTreeSet Group → Pair → Type 0
 HasSeenFrom s seen p = s.me ≡ p.site → HasSeenTakers 0 s.events seen p.item
 

@@ -6,8 +6,7 @@ use Rattle.std.specs.declared.alloc.Global.{Global}
 use Rattle.event_json.specs.Events.{Content}
 use Rattle.trace_core.specs.declared.indexes.Index.{Index}
 use Rattle.trace_core.specs.declared.event_items.Members.{Members}
-use Rattle.trace_core.specs.declared.items.Named.{Named}
-use Rattle.trace_core.specs.Numbers.{numbered, with_names, names_of, item_places, HasMembers}
+use Rattle.trace_core.specs.Numbers.{Named, numbered, with_names, names_of, item_places, HasMembers}
 use Rattle.trace_core.specs.PairTests.{lists}
 use Rattle.trace_core.specs.Sendings.{HasSent}
 use Rattle.trace_core.specs.Places.{text_places, takes_item, has_id, has_part, IsIndex, Notes, NotesSome, Forgets, KeepsNone}

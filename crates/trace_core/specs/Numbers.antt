@@ -1,13 +1,9 @@
 -- Items by number: each item that events name has a number, in the order in which they are first named.
 use Rattle.std.specs.Prelude.{◌≡◌, ℕ, zero, suc, cond, List, [], ◌∷◌, ◌++◌, Option, Some, None, map, length, take, slice_get, option_map, unwrap_or}
-use Rattle.std.specs.BTreeMap.{BTreeMap, get}
 use Rattle.std.specs.List.{flat_map}
-use Rattle.std.specs.Cmp.Lexicographic.{slice_cmp}
-use Rattle.std.specs.Ordering.{nat_cmp}
 use Rattle.event_json.specs.Events.{Content}
 use Rattle.event_json.specs.declared.bodies.Body.{Body}
 use Rattle.event_json.specs.declared.bodies.Body.TheVariants.{Note, Ship, Make}
-use Rattle.trace_core.specs.declared.items.Named.{Named}
 use Rattle.trace_core.specs.declared.event_items.Members.{Members}
 use Rattle.trace_core.specs.PairTests.{lists, same_item}
 use Rattle.trace_core.specs.Places.{kept, with_last}
@@ -34,41 +30,36 @@ numbered events = with_names [] (flat_map (λ e. items_of e.body) events)
 abbrev pub AreApart : List (List ℕ) → Type 0
 AreApart names = (n : ℕ) (i : List ℕ) → slice_get names n ≡ Some i → number_in names i ≡ Some n
 
+-- an item, and the places of the transformations that take it in
+abbrev pub Named : Type 0
+Named = List ℕ × List ℕ
+
 abbrev pub names_of : List Named → List (List ℕ)
-names_of named = map (λ x. x.name) named
-
--- what is looked up in a map of numbers
-abbrev pub number_found : BTreeMap (List ℕ) ℕ → List ℕ → Option ℕ
-number_found numbers i = get (slice_cmp nat_cmp) numbers i
-
--- the map has the number of each name, and no other
-pub record IsNumbered (numbers : BTreeMap (List ℕ) ℕ) (names : List (List ℕ)) : Type 0 where
-  pub known : (i : List ℕ) → number_found numbers i ≡ number_in names i
-  pub apart : AreApart names
+names_of named = map (λ x. x.0) named
 
 -- the places of an item; one without places is as good as unknown
 abbrev pub item_places : List Named → List ℕ → Option (List ℕ)
 item_places [] i = None
-item_places (x ∷ xs) i = cond (same_item x.name i) (kept x.places) (item_places xs i)
+item_places (x ∷ xs) i = cond (same_item x.0 i) (kept x.1) (item_places xs i)
 
 -- with other places of an item
 abbrev pub changed : (List ℕ → List ℕ) → List ℕ → List Named → List Named
 changed f i [] = []
-changed f i (x ∷ xs) = cond (same_item x.name i) (record x { places = f x.places } ∷ xs) (x ∷ changed f i xs)
+changed f i (x ∷ xs) = cond (same_item x.0 i) ((x.0, f x.1) ∷ xs) (x ∷ changed f i xs)
 
 -- with other places at a number
 abbrev pub changed_at : (List ℕ → List ℕ) → ℕ → List Named → List Named
 changed_at f n [] = []
-changed_at f zero (x ∷ xs) = record x { places = f x.places } ∷ xs
+changed_at f zero (x ∷ xs) = (x.0, f x.1) ∷ xs
 changed_at f (suc n) (x ∷ xs) = x ∷ changed_at f n xs
 
 -- with this item, which is new if it isn't known
 abbrev pub known_too : List ℕ → List Named → List Named
-known_too i named = cond (lists (names_of named) i) named (named ++ record { name = i; places = [] } ∷ [])
+known_too i named = cond (lists (names_of named) i) named (named ++ (i, []) ∷ [])
 
 -- with this place of an item, which is new if it isn't known
 abbrev pub noted : ℕ → List ℕ → List Named → List Named
-noted place i named = cond (lists (names_of named) i) (changed (with_last place) i named) (named ++ record { name = i; places = place ∷ [] } ∷ [])
+noted place i named = cond (lists (names_of named) i) (changed (with_last place) i named) (named ++ (i, place ∷ []) ∷ [])
 
 -- the outputs of a transformation
 abbrev pub outs_in : Body → List (List ℕ)

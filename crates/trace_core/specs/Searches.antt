@@ -13,7 +13,8 @@ pub record AreUnseen {K S : Type 0} (R : K → Type 0) (G : S → K → Type 0) 
   pub complete : (n : K) → R n → Contains nodes n ⊎ G seen n
   pub given : (n : K) → G seen' n → G seen n ⊎ Contains nodes n
 
--- each node was followed, by what is seen at the end; looks are all nodes and all outputs but those that are left then, where the count didn't end
+-- each node was followed, by what is seen at the end; looks are at least all nodes, and all outputs but those that are
+-- left then, where the count didn't end at 2^64 - 1
 pub record LooksAtAll {N S : Type 0} (Followed : S → N → Type 0) (outputs : ℕ) (left : S → ℕ) (nodes : List N) (begun looks : ℕ) : Type 0 where
   pub seen : S
   pub followed : (n : N) → Contains nodes n → Followed seen n

@@ -5,7 +5,7 @@ ghost use Rattle.event_json.specs.Contents.{same_content};
 ghost use Rattle.trace_core.specs.Adding.{standing_among};
 ghost use Rattle.trace_core.specs.Groups.{outputs_at};
 ghost use Rattle.trace_core.specs.Looks.{one_look, more_looks, LooksAtEach};
-ghost use Rattle.trace_core.specs.Numbers.{IsNumbered, numbered, number_in, outs_at};
+ghost use Rattle.trace_core.specs.Numbers.{numbered, number_in, outs_at};
 ghost use Rattle.trace_core.specs.Pairs.{make_id};
 ghost use Rattle.trace_core.specs.PairTests.{same_id};
 ghost use Rattle.trace_core.specs.Places.{at_place, names_item, takes_item, places_where};
@@ -18,7 +18,7 @@ use crate::looks::{count_look, count_looks};
 use epc_core::Epc;
 use event_json::{Event, PlainText, SiteNo};
 use std::alloc::{AllocError, Global};
-use std::collections::BTreeMap;
+use std::hash::RandomState;
 use std::marker::Model;
 
 /// Events in the order in which they came, and an index of what they name.
@@ -41,13 +41,14 @@ impl Model for Book {
 }
 
 impl Book {
-    /// No events. Does not allocate.
-    pub fn new(alloc: Global) -> Book
+    /// No events, with the keys of the hash by which items are numbered, drawn at random, so that nobody can choose
+    /// texts that collide. Does not allocate.
+    pub fn new(alloc: Global, keys: RandomState) -> Book
         ensures { result ≡ [] }
     {
         Book {
             events: Vec::new(alloc),
-            index: Index::new(alloc),
+            index: Index::new(alloc, keys),
         }
     }
 
@@ -119,13 +120,6 @@ impl Book {
         ensures { result ≡ length (numbered self.now) }
     {
         self.index.items.len()
-    }
-
-    /// The items that events name with their numbers, in the order of items.
-    pub fn numbers(&self) -> &BTreeMap<Epc, usize>
-        ensures { IsNumbered result.now (numbered self.now) }
-    {
-        self.index.items.numbers()
     }
 
     /// The places of the transformations that take the item of a number in, ascending. It is one look.
@@ -229,11 +223,11 @@ impl Book {
         self.number_of(item).is_some()
     }
 
-    /// An equal book.
+    /// An equal book, with the same keys.
     pub fn copy(&self, alloc: Global) -> Result<Book, AllocError>
         ensures { IfOk result (λ b. b ≡ self.now) }
     {
-        let mut copy = Book::new(alloc);
+        let mut copy = Book::new(alloc, self.index.items.keys());
         for event in &self.events {
             copy.push(event.copy(alloc)?)?;
         }

@@ -17,6 +17,7 @@ use epc_core::Epc;
 use event_json::{Event, PlainText, Sequence, SiteNo};
 use std::alloc::{AllocError, Global};
 use std::collections::BTreeSet;
+use std::hash::RandomState;
 use std::marker::Model;
 
 /// The events that a site has captured, in the order in which they came.
@@ -42,11 +43,12 @@ impl Model for Captured {
 }
 
 impl Captured {
-    /// A site without events. Does not allocate.
-    pub fn new(alloc: Global, me: SiteNo) -> Captured
+    /// A site without events, with the keys of the hash by which items are numbered, drawn at random, so that nobody
+    /// can choose texts that collide. Does not allocate.
+    pub fn new(alloc: Global, keys: RandomState, me: SiteNo) -> Captured
         ensures { result ≡ record { me = me; events = [] } }
     {
-        let book = Book::new(alloc);
+        let book = Book::new(alloc, keys);
         Captured { me, book }
     }
 

@@ -14,10 +14,11 @@ use crate::sendings::Sent;
 use event_json::Event;
 use std::alloc::{AllocError, Global};
 use std::collections::BTreeMap;
+use std::hash::RandomState;
 
 /// Which items a list of events names, the transformations that take each of them in and the sites that it was sent
-/// to; at which places eventIDs and the ids of transformations stand, and which outputs each event has. What is
-/// looked up by text stands in ordered maps, so that no choice of texts makes a look-up slow.
+/// to; at which places eventIDs and the ids of transformations stand, and which outputs each event has. No choice of
+/// texts makes a look-up slow: ids stand in ordered maps, and the hash by which items are numbered has random keys.
 #[derive(Debug, Drop)]
 pub struct Index {
     /// By item: its number, and the transformations that take it in.
@@ -35,12 +36,13 @@ pub struct Index {
 }
 
 impl Index {
-    /// The index of no events. Does not allocate.
-    pub fn new(alloc: Global) -> Index
+    /// The index of no events, with the keys of the hash by which items are numbered, drawn at random, so that
+    /// nobody can choose texts that collide. Does not allocate.
+    pub fn new(alloc: Global, keys: RandomState) -> Index
         ensures { HasPlaces result [] }
     {
         Index {
-            items: Items::new(alloc),
+            items: Items::new(alloc, keys),
             members: Vec::new(alloc),
             ids: BTreeMap::new(alloc),
             parts: BTreeMap::new(alloc),

@@ -25,7 +25,7 @@ pub trait Relation {
     /// Whether each transformation was seen that a pair goes into.
     ghost has_seen: { Self → BTreeSet Group → Pair → Type 0 };
 
-    /// Whether it is told how many looks there are.
+    /// Whether the looks are told.
     ghost bounds_looks: { Self → Type 0 };
 
     /// How many outputs all transformations have.

@@ -129,7 +129,8 @@ fn note_parts(
     looks: &mut u64,
 ) -> Result<(), AllocError>
     ensures noted { OnOk result (NotesNodes nodes.old nodes.new (flat_map (λ k. part_nodes me book.now number k) places.now)) }
-    ensures looks { OnOk result (LooksAtEach (sum_by (λ k. outputs_at (slice_get book.now k)) places.now) looks.old looks.new) }
+    ensures looks { OnOk result (
+        LooksAtEach (sum_by (λ k. outputs_at (slice_get book.now k)) places.now) looks.old looks.new) }
 {
     for place in places {
         let outs = book.outs_at(*place, looks);

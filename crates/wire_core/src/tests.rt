@@ -11,6 +11,7 @@ use crate::{Post, Seat, Wire};
 use frame_core::RecallId;
 use site_core::{Effects, SiteState};
 use std::alloc::Global;
+use std::hash::RandomState;
 use std::test::Fail;
 
 /// What the second site does with the message.
@@ -41,8 +42,9 @@ fn over_one_seat(alloc: Global, first: SiteState, second: SiteState) -> Result<b
 
 #[test]
 fn a_recall_ends_over_one_seat(rt: HostRuntime) -> Result<(), Fail> {
-    let first = recalling(rt.alloc())?;
-    let second = fresh(rt.alloc(), true)?;
+    let keys = RandomState::new(&rt)?;
+    let first = recalling(rt.alloc(), keys)?;
+    let second = fresh(rt.alloc(), keys, true)?;
     assert!(rt; over_one_seat(rt.alloc(), first, second)?);
     Ok(())
 }

@@ -1,6 +1,7 @@
 //! What a script answers, line by line.
 
 use script_core::run_script;
+use std::hash::RandomState;
 use std::test::Fail;
 
 /// Whether a script has these answers, and so many of them are refusals.
@@ -13,7 +14,8 @@ pub(crate) fn answers(
     let alloc = rt.alloc();
     let mut written = Vec::new(alloc);
     let mut reader = script.as_bytes();
-    let tally = run_script(alloc, &mut reader, &mut written)?;
+    let keys = RandomState::new(rt)?;
+    let tally = run_script(alloc, keys, &mut reader, &mut written)?;
     Ok(written.as_slice() == expected.as_bytes() && tally.refused == refused)
 }
 

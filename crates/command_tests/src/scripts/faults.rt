@@ -1,6 +1,7 @@
 //! Readers and writers that fail, and limits.
 
 use script_core::{ScriptFault, Tally, run_script};
+use std::hash::RandomState;
 use std::io::{self, Error, ErrorKind, Read, Write};
 use std::test::Fail;
 
@@ -45,6 +46,7 @@ impl Read for Pieces<'_> {
 /// after so many fails.
 fn ends_in_pieces(
     rt: &HostRuntime,
+    keys: RandomState,
     size: usize,
     reads: u64,
     outcome: Result<Tally, ScriptFault>,
@@ -56,20 +58,22 @@ fn ends_in_pieces(
         size,
         reads_left: reads,
     };
-    run_script(rt.alloc(), &mut reader, &mut written) == outcome
+    run_script(rt.alloc(), keys, &mut reader, &mut written) == outcome
         && written.as_slice() == answers.as_bytes()
 }
 
 #[test]
 fn a_script_may_come_in_any_pieces(rt: HostRuntime) -> Result<(), Fail> {
+    let keys = RandomState::new(&rt)?;
     for size in 1..47 {
-        assert!(rt; ends_in_pieces(&rt, size, 100, DONE, ALL));
+        assert!(rt; ends_in_pieces(&rt, keys, size, 100, DONE, ALL));
     }
     Ok(())
 }
 
 #[test]
 fn a_failing_reader_leaves_the_answers_of_whole_lines(rt: HostRuntime) -> Result<(), Fail> {
+    let keys = RandomState::new(&rt)?;
     for reads in 0..45 {
         let answers = match reads {
             0..28 => "",
@@ -77,7 +81,7 @@ fn a_failing_reader_leaves_the_answers_of_whole_lines(rt: HostRuntime) -> Result
             34..44 => SECOND,
             _ => ALL,
         };
-        assert!(rt; ends_in_pieces(&rt, 1, reads, Err(ScriptFault::Read), answers));
+        assert!(rt; ends_in_pieces(&rt, keys, 1, reads, Err(ScriptFault::Read), answers));
     }
     Ok(())
 }
@@ -115,6 +119,7 @@ impl Write for Full {
 /// how often the writer was asked after that is `asked`.
 fn ends_in_room(
     rt: &HostRuntime,
+    keys: RandomState,
     room: usize,
     then: Option<ErrorKind>,
     outcome: Result<Tally, ScriptFault>,
@@ -128,26 +133,28 @@ fn ends_in_room(
     };
     let mut reader = SCRIPT.as_bytes();
     let (front, _) = ALL.as_bytes().split_at(room.min(ALL.len()));
-    run_script(rt.alloc(), &mut reader, &mut writer) == outcome
+    run_script(rt.alloc(), keys, &mut reader, &mut writer) == outcome
         && writer.written.as_slice() == front
         && writer.asked == asked
 }
 
 #[test]
 fn a_failing_writer_keeps_a_beginning_of_the_answers(rt: HostRuntime) -> Result<(), Fail> {
+    let keys = RandomState::new(&rt)?;
     for room in 0..58 {
         let outcome = Err(ScriptFault::Write);
-        assert!(rt; ends_in_room(&rt, room, Some(ErrorKind::Other), outcome, 1));
+        assert!(rt; ends_in_room(&rt, keys, room, Some(ErrorKind::Other), outcome, 1));
     }
-    assert!(rt; ends_in_room(&rt, 58, Some(ErrorKind::Other), DONE, 0));
+    assert!(rt; ends_in_room(&rt, keys, 58, Some(ErrorKind::Other), DONE, 0));
     Ok(())
 }
 
 #[test]
 fn a_writer_that_takes_nothing_is_asked_1024_times(rt: HostRuntime) -> Result<(), Fail> {
+    let keys = RandomState::new(&rt)?;
     let outcome = Err(ScriptFault::Write);
-    assert!(rt; ends_in_room(&rt, 20, None, outcome, 1_024));
-    assert!(rt; ends_in_room(&rt, 20, Some(ErrorKind::Interrupted), outcome, 1_024));
+    assert!(rt; ends_in_room(&rt, keys, 20, None, outcome, 1_024));
+    assert!(rt; ends_in_room(&rt, keys, 20, Some(ErrorKind::Interrupted), outcome, 1_024));
     Ok(())
 }
 
@@ -177,20 +184,21 @@ impl Read for Spaces {
 }
 
 /// What a script is answered that is one line of so many spaces.
-fn run_spaces(rt: &HostRuntime, left: usize) -> Result<Tally, ScriptFault> {
+fn run_spaces(rt: &HostRuntime, keys: RandomState, left: usize) -> Result<Tally, ScriptFault> {
     let mut written = Vec::new(rt.alloc());
     let mut reader = Spaces { left, ended: false };
-    run_script(rt.alloc(), &mut reader, &mut written)
+    run_script(rt.alloc(), keys, &mut reader, &mut written)
 }
 
 #[test]
 fn a_line_has_a_limit(rt: HostRuntime) -> Result<(), Fail> {
+    let keys = RandomState::new(&rt)?;
     let one = Tally {
         lines: 1,
         refused: 0,
     };
-    assert!(rt; run_spaces(&rt, 16_777_216) == Ok(one));
-    assert!(rt; run_spaces(&rt, 16_777_217) == Err(ScriptFault::LineTooLong));
+    assert!(rt; run_spaces(&rt, keys, 16_777_216) == Ok(one));
+    assert!(rt; run_spaces(&rt, keys, 16_777_217) == Err(ScriptFault::LineTooLong));
     Ok(())
 }
 
@@ -250,18 +258,20 @@ fn halting(rt: &HostRuntime, always: bool) -> Interrupted<'static> {
 
 #[test]
 fn interrupted_reads_and_writes_are_made_again(rt: HostRuntime) -> Result<(), Fail> {
+    let keys = RandomState::new(&rt)?;
     let mut reader = halting(&rt, false);
     let mut writer = halting(&rt, false);
-    assert!(rt; run_script(rt.alloc(), &mut reader, &mut writer) == DONE);
+    assert!(rt; run_script(rt.alloc(), keys, &mut reader, &mut writer) == DONE);
     assert!(rt; writer.written.as_slice() == ALL.as_bytes());
     Ok(())
 }
 
 #[test]
 fn a_reader_is_asked_a_limited_number_of_times(rt: HostRuntime) -> Result<(), Fail> {
+    let keys = RandomState::new(&rt)?;
     let mut reader = halting(&rt, true);
     let mut written = Vec::new(rt.alloc());
-    let outcome = run_script(rt.alloc(), &mut reader, &mut written);
+    let outcome = run_script(rt.alloc(), keys, &mut reader, &mut written);
     assert!(rt; outcome == Err(ScriptFault::TurnsSpent));
     assert!(rt; reader.asked == 16_777_216);
     assert!(rt; written.is_empty());

@@ -2,6 +2,7 @@
 
 use script_core::run_script;
 use std::alloc::{AllocError, Global};
+use std::hash::RandomState;
 use std::test::Fail;
 
 /// Sites in a diamond with a tail, each with what it shipped on.
@@ -53,18 +54,23 @@ fn script_with(alloc: Global, place: usize, stop: &str) -> Result<String, AllocE
 }
 
 /// Whether the recall comes to its end, whatever a stop before this line left undone.
-fn is_overcome(alloc: Global, place: usize, stop: &str) -> Result<bool, Fail> {
+fn is_overcome(alloc: Global, keys: RandomState, place: usize, stop: &str) -> Result<bool, Fail> {
     let script = script_with(alloc, place, stop)?;
     let mut reader = script.as_bytes();
     let mut written = Vec::new(alloc);
-    run_script(alloc, &mut reader, &mut written)?;
+    run_script(alloc, keys, &mut reader, &mut written)?;
     Ok(written.as_slice().ends_with(END.as_bytes()))
 }
 
 /// Whether the recall comes to its end with each of these stops.
-fn are_overcome(alloc: Global, place: usize, stops: &[&str]) -> Result<bool, Fail> {
+fn are_overcome(
+    alloc: Global,
+    keys: RandomState,
+    place: usize,
+    stops: &[&str],
+) -> Result<bool, Fail> {
     for stop in stops {
-        if !is_overcome(alloc, place, stop)? {
+        if !is_overcome(alloc, keys, place, stop)? {
             return Ok(false);
         }
     }
@@ -73,6 +79,7 @@ fn are_overcome(alloc: Global, place: usize, stops: &[&str]) -> Result<bool, Fai
 
 #[test]
 fn a_stop_at_any_step_of_any_site_is_overcome(rt: HostRuntime) -> Result<(), Fail> {
+    let keys = RandomState::new(&rt)?;
     let stops = [
         "stop A old\n",
         "stop A new\n",
@@ -87,7 +94,7 @@ fn a_stop_at_any_step_of_any_site_is_overcome(rt: HostRuntime) -> Result<(), Fai
     ];
     // The recall has to be begun, so no stop stands before its first line.
     for place in 1..=LINES.len() {
-        assert!(rt; are_overcome(rt.alloc(), place, stops.as_slice())?);
+        assert!(rt; are_overcome(rt.alloc(), keys, place, stops.as_slice())?);
     }
     Ok(())
 }

@@ -2,6 +2,7 @@
 
 use script_core::run_script;
 use std::cell::Cell;
+use std::hash::RandomState;
 use std::io::{self, Read, Write};
 use std::test::Fail;
 
@@ -68,7 +69,8 @@ fn answers_in_time(rt: &HostRuntime) -> Result<bool, Fail> {
         early: false,
     };
     let mut writer = Counting { written: &written };
-    run_script(rt.alloc(), &mut reader, &mut writer)?;
+    let keys = RandomState::new(rt)?;
+    run_script(rt.alloc(), keys, &mut reader, &mut writer)?;
     Ok(reader.place == 6 && !reader.early)
 }
 

@@ -10,6 +10,7 @@ use scholten_core::Diffusion;
 use site_core::SiteState;
 use std::alloc::{AllocError, Global};
 use std::collections::BTreeMap;
+use std::hash::RandomState;
 use std::test::Fail;
 
 /// A site that captured what the one did, and quarantined and sent what the other did. It has seen no message, and has
@@ -44,52 +45,77 @@ fn b_of(alloc: Global, one: &SiteState, other: &SiteState) -> Result<SiteState, 
 }
 
 /// Site B, which captured this, and quarantined and sent what it would after these steps.
-fn b_after(alloc: Global, captured: &[Given], steps: &[Given]) -> Result<SiteState, Fail> {
-    let one = site(alloc, B, captured)?;
-    let other = site(alloc, B, steps)?;
+fn b_after(
+    alloc: Global,
+    keys: RandomState,
+    captured: &[Given],
+    steps: &[Given],
+) -> Result<SiteState, Fail> {
+    let one = site(alloc, keys, B, captured)?;
+    let other = site(alloc, keys, B, steps)?;
     b_of(alloc, &one, &other)
 }
 
 /// A, which was given this, such a site B, and an empty C.
-fn with_joined(alloc: Global, given: [&[Given]; 3]) -> Result<Vec<SiteState>, Fail> {
+fn with_joined(
+    alloc: Global,
+    keys: RandomState,
+    given: [&[Given]; 3],
+) -> Result<Vec<SiteState>, Fail> {
     let mut sites = Vec::new(alloc);
     let [a, captured, steps] = given;
-    add(alloc, &mut sites, A, a)?;
-    sites.push(b_after(alloc, captured, steps)?)?;
-    add(alloc, &mut sites, C, &[])?;
+    add(alloc, keys, &mut sites, A, a)?;
+    sites.push(b_after(alloc, keys, captured, steps)?)?;
+    add(alloc, keys, &mut sites, C, &[])?;
     Ok(sites)
 }
 
 /// Whether just this condition is attributed to such a site B, beside A, which was given this, and an empty C.
-fn charges_joined(alloc: Global, given: [&[Given]; 3], condition: u64) -> Result<bool, Fail> {
-    let sites = with_joined(alloc, given)?;
+fn charges_joined(
+    alloc: Global,
+    keys: RandomState,
+    given: [&[Given]; 3],
+    condition: u64,
+) -> Result<bool, Fail> {
+    let sites = with_joined(alloc, keys, given)?;
     Ok(says(alloc, &sites)? == misfit(condition, B))
 }
 
 #[test]
 fn what_is_made_of_a_quarantined_item_is_missed(rt: HostRuntime) -> Result<(), Fail> {
-    assert!(rt; charges_joined(rt.alloc(), [&ENDED, &[Made("y", "z")], &[Told(A, "y")]], 1)?);
+    let keys = RandomState::new(&rt)?;
+    assert!(rt;
+        charges_joined(
+            rt.alloc(),
+            keys,
+            [&ENDED, &[Made("y", "z")], &[Told(A, "y")]],
+            1
+        )?
+    );
     Ok(())
 }
 
 #[test]
 fn a_message_that_waits_at_a_neutral_site_is_seen(rt: HostRuntime) -> Result<(), Fail> {
+    let keys = RandomState::new(&rt)?;
     let shipped = [Shipped("y", "a")];
     let steps = [Shipped("y", "a"), Told(A, "y")];
-    assert!(rt; charges_joined(rt.alloc(), [&BEGUN, &shipped, &steps], 4)?);
+    assert!(rt; charges_joined(rt.alloc(), keys, [&BEGUN, &shipped, &steps], 4)?);
     Ok(())
 }
 
 #[test]
 fn each_condition_is_charged_alone(rt: HostRuntime) -> Result<(), Fail> {
+    let keys = RandomState::new(&rt)?;
     let alloc = rt.alloc();
     // B was notified of nothing, though A shipped y to it.
-    assert!(rt; is_charged(alloc, [&ENDED, &[], &[]], misfit(2, B))?);
+    assert!(rt; is_charged(alloc, keys, [&ENDED, &[], &[]], misfit(2, B))?);
     // B holds y, which w doesn't lead to.
     let root = [Shipped("w", "c"), Recalled("w"), Signalled(C)];
     assert!(rt;
         is_charged(
             alloc,
+            keys,
             [&root, &[Told(A, "y")], &[Told(A, "w")]],
             misfit(3, B)
         )?
@@ -98,6 +124,7 @@ fn each_condition_is_charged_alone(rt: HostRuntime) -> Result<(), Fail> {
     assert!(rt;
         is_charged(
             alloc,
+            keys,
             [&ENDED, &[Shipped("y", "a"), Told(A, "y")], &[]],
             misfit(5, B)
         )?
@@ -105,7 +132,7 @@ fn each_condition_is_charged_alone(rt: HostRuntime) -> Result<(), Fail> {
     // B and C are each other's parents.
     let b = [Shipped("y", "c"), Told(C, "y")];
     let c = [Shipped("y", "b"), Told(B, "y")];
-    assert!(rt; is_charged(alloc, [&BEGUN, &b, &c], misfit(6, B))?);
+    assert!(rt; is_charged(alloc, keys, [&BEGUN, &b, &c], misfit(6, B))?);
     // A has seen a message that B hasn't numbered.
     let a = [
         Made("x", "y"),
@@ -113,6 +140,6 @@ fn each_condition_is_charged_alone(rt: HostRuntime) -> Result<(), Fail> {
         Recalled("x"),
         Told(B, "y"),
     ];
-    assert!(rt; is_charged(alloc, [&a, &[Shipped("y", "a")], &[]], misfit(10, B))?);
+    assert!(rt; is_charged(alloc, keys, [&a, &[Shipped("y", "a")], &[]], misfit(10, B))?);
     Ok(())
 }

@@ -7,6 +7,7 @@ use event_json::SiteNo;
 use frame_core::{FrameView, MsgId};
 use site_core::{Effects, SiteState, emittable};
 use std::alloc::Global;
+use std::hash::RandomState;
 use std::test::Fail;
 
 /// A message of this number from another site.
@@ -67,8 +68,9 @@ fn are_in_order(a: &SiteState, v: &Epc, w: &Epc) -> bool {
 
 #[test]
 fn frames_go_by_number_and_then_by_sender(rt: HostRuntime) -> Result<(), Fail> {
+    let keys = RandomState::new(&rt)?;
     let (v, w) = (Epc::read(rt.alloc(), "v")?, Epc::read(rt.alloc(), "w")?);
-    let mut a = fresh(rt.alloc(), site(0))?;
+    let mut a = fresh(rt.alloc(), keys, site(0))?;
     assert!(rt; recalls_both(rt.alloc(), &mut a)?);
     assert!(rt; are_in_order(&a, &v, &w));
     Ok(())

@@ -6,6 +6,7 @@ use event_json::{DocFaultKind, Sequence};
 use frame_core::MsgId;
 use site_core::{Effects, Refusal, SiteInput, SiteState};
 use std::alloc::Global;
+use std::hash::RandomState;
 use std::test::Fail;
 
 // A shipment of y to C leads out, and to B it doesn't, for that pair is there. What is made of y leads out,
@@ -22,7 +23,8 @@ fn leads_out(alloc: Global, a: &mut SiteState) -> Result<bool, Fail> {
 
 #[test]
 fn a_capture_leads_out_of_no_quarantine(rt: HostRuntime) -> Result<(), Fail> {
-    let mut a = fresh(rt.alloc(), site(0))?;
+    let keys = RandomState::new(&rt)?;
+    let mut a = fresh(rt.alloc(), keys, site(0))?;
     assert!(rt; recalls(rt.alloc(), &mut a)?);
     assert!(rt; leads_out(rt.alloc(), &mut a)?);
     Ok(())
@@ -63,7 +65,8 @@ fn refuses_no_document(alloc: Global, a: &mut SiteState) -> bool {
 
 #[test]
 fn unknown_items_and_frames_of_others_are_refused(rt: HostRuntime) -> Result<(), Fail> {
-    let mut a = fresh(rt.alloc(), site(0))?;
+    let keys = RandomState::new(&rt)?;
+    let mut a = fresh(rt.alloc(), keys, site(0))?;
     assert!(rt; recalls(rt.alloc(), &mut a)?);
     assert!(rt; refuses(rt.alloc(), &mut a)?);
     assert!(rt; refuses_no_document(rt.alloc(), &mut a));

@@ -8,6 +8,7 @@ use scholten_core::{Diffusion, Own};
 use site_core::{Effects, Quarantine, SiteState};
 use std::alloc::Global;
 use std::collections::BTreeMap;
+use std::hash::RandomState;
 use std::test::Fail;
 
 /// What is kept of recalls beside the events of A.
@@ -70,8 +71,8 @@ fn engagement(alloc: Global, kept: Kept) -> Result<Diffusion, Fail> {
 }
 
 /// Site A, which shipped y to B and keeps this of recalls, where that makes a record.
-fn restored(alloc: Global, kept: Kept) -> Result<Option<SiteState>, Fail> {
-    let mut a = fresh(alloc, site(0))?;
+fn restored(alloc: Global, keys: RandomState, kept: Kept) -> Result<Option<SiteState>, Fail> {
+    let mut a = fresh(alloc, keys, site(0))?;
     if !gives(
         alloc,
         &mut a,
@@ -87,8 +88,8 @@ fn restored(alloc: Global, kept: Kept) -> Result<Option<SiteState>, Fail> {
 }
 
 /// Whether such a site gives this answer.
-fn answers(alloc: Global, kept: Kept, row: Row) -> Result<bool, Fail> {
-    match restored(alloc, kept)? {
+fn answers(alloc: Global, keys: RandomState, kept: Kept, row: Row) -> Result<bool, Fail> {
+    match restored(alloc, keys, kept)? {
         Some(mut a) => gives(alloc, &mut a, row),
         None => Ok(false),
     }
@@ -105,6 +106,7 @@ fn taken(owed: bool) -> Effects {
 
 #[test]
 fn records_to_which_no_run_leads_follow_the_rules(rt: HostRuntime) -> Result<(), Fail> {
+    let keys = RandomState::new(&rt)?;
     let from_b = MsgId {
         site: site(1),
         number: 1,
@@ -119,15 +121,16 @@ fn records_to_which_no_run_leads_follow_the_rules(rt: HostRuntime) -> Result<(),
         (Ended, (told, Done(taken(true)))),
     ];
     for (kept, row) in rows {
-        assert!(rt; answers(rt.alloc(), kept, row)?);
+        assert!(rt; answers(rt.alloc(), keys, kept, row)?);
     }
     Ok(())
 }
 
 #[test]
 fn parts_that_do_not_fit_make_no_record(rt: HostRuntime) -> Result<(), Fail> {
+    let keys = RandomState::new(&rt)?;
     for kept in [OfB, Zeroth] {
-        assert!(rt; restored(rt.alloc(), kept)?.is_none());
+        assert!(rt; restored(rt.alloc(), keys, kept)?.is_none());
     }
     Ok(())
 }

@@ -11,6 +11,7 @@ use keeper_core::MemoryKeeper;
 use site_core::SiteState;
 use site_threads::{Desk, DeskOut, Job};
 use std::alloc::{AllocError, Global};
+use std::hash::RandomState;
 use std::sync::Wait;
 use std::test::Fail;
 
@@ -27,22 +28,22 @@ const TO_A: &str =
     "{\"type\":\"ObjectEvent\",\"eventTime\":\"2024-05-01T08:00:00Z\",\"eventTimeZoneOffset\":\"+00:00\",\"action\":\"OBSERVE\",\"epcList\":[\"w\"],\"destinationList\":[{\"type\":\"location\",\"destination\":\"a\"}]}";
 
 /// The site of this place, which has captured nothing.
-fn fresh(alloc: Global, place: u64) -> Result<SiteState, Fail> {
+fn fresh(alloc: Global, keys: RandomState, place: u64) -> Result<SiteState, Fail> {
     let mut sites = Sites::new(alloc);
     for (name, address) in [("A", "a"), ("B", "b"), ("C", "c"), ("D", "d")] {
         sites.add(name, &[address])?;
     }
     match SiteNo::of(place) {
-        Some(me) if me.number() < sites.len() => Ok(SiteState::new(alloc, sites, me)),
+        Some(me) if me.number() < sites.len() => Ok(SiteState::new(alloc, keys, sites, me)),
         _ => Err("no such site".into()),
     }
 }
 
 /// The keepers of the four sites.
-pub fn keepers(alloc: Global) -> Result<Vec<MemoryKeeper>, Fail> {
+pub fn keepers(alloc: Global, keys: RandomState) -> Result<Vec<MemoryKeeper>, Fail> {
     let mut keepers = Vec::with_capacity(alloc, 4)?;
     for place in 0..4 {
-        keepers.push(MemoryKeeper::new(fresh(alloc, place)?))?;
+        keepers.push(MemoryKeeper::new(fresh(alloc, keys, place)?))?;
     }
     Ok(keepers)
 }

@@ -3,6 +3,7 @@
 use epc_core::Epc;
 use event_json::{Doc, SiteNo, Sites, read_document};
 use std::alloc::{AllocError, Global};
+use std::hash::RandomState;
 use std::test::Fail;
 use trace_core::{Captured, Pair, Standing, reach};
 
@@ -15,8 +16,8 @@ fn site() -> SiteNo {
 }
 
 /// Site A, which captured nothing.
-fn fresh(alloc: Global) -> Captured {
-    Captured::new(alloc, site())
+fn fresh(alloc: Global, keys: RandomState) -> Captured {
+    Captured::new(alloc, keys, site())
 }
 
 /// Reads a document of events, which are parted by commas.
@@ -50,7 +51,7 @@ fn told(alloc: Global, site: &mut Captured, members: (&str, &str)) -> Result<Str
 }
 
 /// Whether each two events have the answer beside them.
-pub fn are_told(alloc: Global) -> Result<bool, Fail> {
+pub fn are_told(alloc: Global, keys: RandomState) -> Result<bool, Fail> {
     let (x, y, without) = (
         r#""eventID":"e","epcList":["x"]"#,
         r#""eventID":"e","epcList":["y"]"#,
@@ -63,7 +64,7 @@ pub fn are_told(alloc: Global) -> Result<bool, Fail> {
         ((without, y), "the eventID of event 2 is taken"),
         ((y, y), "the eventID of event 1 is taken"),
     ];
-    let mut site = fresh(alloc);
+    let mut site = fresh(alloc, keys);
     for (members, want) in rows {
         if told(alloc, &mut site, members)?.as_str() != want {
             return Ok(false);
@@ -94,8 +95,8 @@ fn reached(alloc: Global, site: &Captured, item: &str) -> Result<usize, Fail> {
 }
 
 /// Whether the first item of a chain of so many steps reaches all of its items.
-pub fn reaches_so_many(alloc: Global, steps: u64) -> Result<bool, Fail> {
-    let mut site = fresh(alloc);
+pub fn reaches_so_many(alloc: Global, keys: RandomState, steps: u64) -> Result<bool, Fail> {
+    let mut site = fresh(alloc, keys);
     for step in 0..steps {
         let event = link(alloc, step)?;
         capture(alloc, &mut site, event.as_str())?;
@@ -105,8 +106,8 @@ pub fn reaches_so_many(alloc: Global, steps: u64) -> Result<bool, Fail> {
 }
 
 /// Whether a, of which c was made together with b, reaches itself and c alone.
-pub fn reaches_what_was_made_alone(alloc: Global) -> Result<bool, Fail> {
-    let mut site = fresh(alloc);
+pub fn reaches_what_was_made_alone(alloc: Global, keys: RandomState) -> Result<bool, Fail> {
+    let mut site = fresh(alloc, keys);
     let event = format!(in alloc;
         r#"{{"type":"TransformationEvent",{TIMES},"inputEPCList":["a","b"],"outputEPCList":["c"]}}"#
     )?;
@@ -149,7 +150,7 @@ fn stand(alloc: Global, site: &mut Captured, rows: &[(Ends, Standing)]) -> Resul
 
 /// Whether eventIDs, transformationIDs and items are told apart that differ in their last byte alone. The events 3
 /// and 4 are parts of one transformation, so a reaches b, c, d and e.
-pub fn long_texts_are_told_apart(alloc: Global) -> Result<bool, Fail> {
+pub fn long_texts_are_told_apart(alloc: Global, keys: RandomState) -> Result<bool, Fail> {
     let rows = [
         (('1', 'p', 'a', 'b'), Standing::Fresh),
         (('2', 'q', 'b', 'c'), Standing::Fresh),
@@ -160,7 +161,7 @@ pub fn long_texts_are_told_apart(alloc: Global) -> Result<bool, Fail> {
         (('6', 'p', 'a', 'b'), Standing::Fresh),
         (('1', 'p', 'a', 'c'), Standing::Taken),
     ];
-    let mut site = fresh(alloc);
+    let mut site = fresh(alloc, keys);
     let stand = stand(alloc, &mut site, &rows)?;
     let first = format!(in alloc; "{LONG}a")?;
     Ok(stand && reached(alloc, &site, first.as_str())? == 5)
@@ -184,8 +185,8 @@ fn spreads_to_all_outputs(alloc: Global, site: &Captured) -> Result<bool, Fail> 
 
 /// Whether so it is at a site with a transformation that is reported in parts: 1,000 of one input, and 1,000 of one
 /// output.
-pub fn parts_are_looked_at_once(alloc: Global) -> Result<bool, Fail> {
-    let mut site = fresh(alloc);
+pub fn parts_are_looked_at_once(alloc: Global, keys: RandomState) -> Result<bool, Fail> {
+    let mut site = fresh(alloc, keys);
     for item in 0..1000 {
         capture_part(alloc, &mut site, "inputEPCList", item)?;
         capture_part(alloc, &mut site, "outputEPCList", item)?;

@@ -5,6 +5,7 @@ use epc_core::Epc;
 use event_json::{Sequence, SiteNo, Sites};
 use site_core::{Effects, SiteInput, SiteState, emittable};
 use std::alloc::Global;
+use std::hash::RandomState;
 use std::test::Fail;
 
 /// x was made into y, and y was shipped to B.
@@ -12,11 +13,11 @@ const DOCUMENT: &str =
     "{\"type\":\"EPCISDocument\",\"epcisBody\":{\"eventList\":[{\"type\":\"TransformationEvent\",\"eventTime\":\"2024-05-01T08:00:00Z\",\"eventTimeZoneOffset\":\"+00:00\",\"inputEPCList\":[\"x\"],\"outputEPCList\":[\"y\"]},{\"type\":\"ObjectEvent\",\"eventTime\":\"2024-05-01T09:00:00Z\",\"eventTimeZoneOffset\":\"+00:00\",\"action\":\"OBSERVE\",\"epcList\":[\"y\"],\"destinationList\":[{\"destination\":\"b\"}]}]}}";
 
 /// Site A or B, which has captured nothing.
-pub fn fresh(alloc: Global, second: bool) -> Result<SiteState, Fail> {
+pub fn fresh(alloc: Global, keys: RandomState, second: bool) -> Result<SiteState, Fail> {
     let mut sites = Sites::new(alloc);
     let a = sites.add("A", &["a"])?;
     let b = sites.add("B", &["b"])?;
-    Ok(SiteState::new(alloc, sites, if second { b } else { a }))
+    Ok(SiteState::new(alloc, keys, sites, if second { b } else { a }))
 }
 
 /// Whether the site captures the document, and starts a recall of x.
@@ -30,8 +31,8 @@ fn starts(state: &mut SiteState, document: &SiteInput, start: &SiteInput) -> boo
 }
 
 /// Site A once it has captured the document and started a recall of x.
-pub fn recalling(alloc: Global) -> Result<SiteState, Fail> {
-    let mut state = fresh(alloc, false)?;
+pub fn recalling(alloc: Global, keys: RandomState) -> Result<SiteState, Fail> {
+    let mut state = fresh(alloc, keys, false)?;
     let document = SiteInput::Capture(Sequence::from_vec(DOCUMENT.as_bytes().to_vec(alloc)?));
     let start = SiteInput::Start(Epc::read(alloc, "x")?);
     if starts(&mut state, &document, &start) {

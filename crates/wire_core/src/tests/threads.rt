@@ -12,6 +12,7 @@ use event_json::SiteNo;
 use frame_core::RecallId;
 use site_core::{Effects, SiteState};
 use std::alloc::Global;
+use std::hash::RandomState;
 use std::test::Fail;
 use std::thread;
 use std::thread::Threads;
@@ -92,8 +93,9 @@ fn over_two_seats<R: Threads>(
 
 #[test]
 fn a_recall_ends_between_two_threads(rt: HostRuntime) -> Result<(), Fail> {
-    let first = recalling(rt.alloc())?;
-    let second = fresh(rt.alloc(), true)?;
+    let keys = RandomState::new(&rt)?;
+    let first = recalling(rt.alloc(), keys)?;
+    let second = fresh(rt.alloc(), keys, true)?;
     assert!(rt; over_two_seats(&rt, rt.alloc(), first, second)?);
     Ok(())
 }
