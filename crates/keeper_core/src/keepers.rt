@@ -14,7 +14,8 @@ use site_core::{Effects, SiteInput, SiteState};
 use std::alloc::AllocError;
 
 /// What keeps the record of one site. It is open and shows the record, or closed, by a stop or by a failure,
-/// until it is opened again. A step that was answered stands after every stop and every opening.
+/// until it is opened again. A step that was answered stands after every stop and every opening. So it does on its
+/// device: what a crash leaves there is handed on from call to call, also by a call that fails.
 pub trait SiteKeeper: Drop {
     /// The record that it shows. None while it is closed.
     ghost shown: { Self → Option Record };
@@ -24,6 +25,10 @@ pub trait SiteKeeper: Drop {
 
     /// How often the device has failed.
     ghost failed: { Self → ℕ };
+
+    /// A crash leaves on the device the record that it shows, or, while it is closed, one of those in which it may be
+    /// opened, and no other. A keeper without a device has none to lose.
+    ghost stored: { Self → Type 0 };
 
     /// What a step, a stop and an opening do to a keeper of this kind, for a caller that knows the kind. A kind
     /// that promises no more than the clauses below promises nothing here.
@@ -54,6 +59,7 @@ pub trait SiteKeeper: Drop {
         ensures closed { shown self.old ≡ None → (result ≡ Err KeepFault.Closed) × (self.new ≡ self.old) }
         ensures cause { result ≡ Err KeepFault.Device → Rises (failed self.old) (failed self.new) }
         ensures count { failed self.old ≤ failed self.new }
+        ensures stored { stored self.old → stored self.new }
         ensures kind { applies self.old input result self.new };
 
     /// A step of which nothing is reported, since the site stops in it: the keeper is closed then. On a closed
@@ -65,6 +71,7 @@ pub trait SiteKeeper: Drop {
         ensures open { (old : Record) → shown self.old ≡ Some old → Stops old input keep (is_ok result) (shown self.new) (may self.new) }
         ensures closed { shown self.old ≡ None → self.new ≡ self.old }
         ensures count { failed self.old ≤ failed self.new }
+        ensures stored { stored self.old → stored self.new }
         ensures kind { stops self.old input keep (is_ok result) self.new };
 
     /// Opens a closed keeper, in one of the records that the stop may have left. An open one is given back as it
@@ -79,6 +86,7 @@ pub trait SiteKeeper: Drop {
         ensures unopened { IfErr result (λ u. HindersOpening u.fault × StaysClosed (may self) (shown u.keeper) (may u.keeper)) }
         ensures cause { IfErr result (λ u. u.fault ≡ KeepFault.Device → Rises (failed self) (failed u.keeper)) }
         ensures count { MatchResult result (λ keeper. failed self ≤ failed keeper) (λ u. failed self ≤ failed u.keeper) }
+        ensures stored { stored self → MatchResult result stored (λ u. stored u.keeper) }
         ensures kind { reopens self result };
 
     /// A closed keeper may be opened in some record: what is said of each such record isn't said of none.

@@ -1,5 +1,5 @@
 //! A keeper in memory.
-ghost use Rattle.std.specs.Prelude.{◌≡◌, ◌≤◌, true, Some, None, Ok, Err, IfOk, IfErr, MatchResult, is_ok};
+ghost use Rattle.std.specs.Prelude.{◌≡◌, ◌≤◌, ⊤, true, Some, None, Ok, Err, IfOk, IfErr, MatchResult, is_ok};
 ghost use Rattle.site_core.specs.Records.{Record};
 ghost use Rattle.site_core.specs.Steps.{CopiesRecord};
 ghost use Rattle.keeper_core.specs.Keeping.{Applies, Stops, StaysClosed, HindersOpening, Rises};
@@ -107,6 +107,9 @@ impl SiteKeeper for MemoryKeeper {
 
     ghost failed = { λ k. k.failures };
 
+    // Nothing of it outlives a crash.
+    ghost stored = { λ _. ⊤ };
+
     // What a keeper in memory does is settled: nothing fails but an armed step, which leaves the record that it was
     // armed with; a stop leaves the record that it is to keep; and an opening is never prevented.
     ghost applies = { λ k. AppliesIn k.is_open k.armed k };
@@ -133,6 +136,7 @@ impl SiteKeeper for MemoryKeeper {
         ensures closed { shown_in self.old ≡ None → (result ≡ Err KeepFault.Closed) × (self.new ≡ self.old) }
         ensures cause { result ≡ Err KeepFault.Device → Rises self.old.failures self.new.failures }
         ensures count { self.old.failures ≤ self.new.failures }
+        ensures stored { ⊤ → ⊤ }
         ensures kind { AppliesIn self.old.is_open self.old.armed self.old input result self.new }
     {
         if !self.is_open {
@@ -148,6 +152,7 @@ impl SiteKeeper for MemoryKeeper {
         ensures open { (old : Record) → shown_in self.old ≡ Some old → Stops old input keep (is_ok result) (shown_in self.new) (MayIn self.new) }
         ensures closed { shown_in self.old ≡ None → self.new ≡ self.old }
         ensures count { self.old.failures ≤ self.new.failures }
+        ensures stored { ⊤ → ⊤ }
         ensures kind { StopsWhereOpen self.old.is_open self.old input keep (is_ok result) self.new }
     {
         if !self.is_open {
@@ -162,6 +167,7 @@ impl SiteKeeper for MemoryKeeper {
         ensures unopened { IfErr result (λ u. HindersOpening u.fault × StaysClosed (MayIn self) (shown_in u.keeper) (MayIn u.keeper)) }
         ensures cause { IfErr result (λ u. u.fault ≡ KeepFault.Device → Rises self.failures u.keeper.failures) }
         ensures count { MatchResult result (λ keeper. self.failures ≤ keeper.failures) (λ u. self.failures ≤ u.keeper.failures) }
+        ensures stored { ⊤ → MatchResult result (λ _. ⊤) (λ _. ⊤) }
         ensures kind { ReopensIn self result }
     {
         let mut keeper = self;

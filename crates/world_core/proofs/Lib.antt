@@ -1,10 +1,12 @@
 pub mod Emitted
 pub mod EndedRecalls
+pub mod Ends
 pub mod Fitting
 pub mod FreshSites
 pub mod InPlace
 pub mod KeeperKinds
 pub mod KeptSteps
+pub mod Pins
 pub mod Lifting
 pub mod OneSite
 pub mod Posted

@@ -2,7 +2,7 @@
 use Rattle.std.proofs.Common.{◌≡◌, ℕ, zero, suc, ◌<◌, ◌≤◌, Option, Some, None, List, [], ◌∷◌, length, get_or, refl, sym, ◌∙◌, ap, subst, arith, ◌++◌, take, drop, slice_get, slice_set}
 use Rattle.std.specs.List.{AllZip, insert, remove}
 use Rattle.std.proofs.lemmas.List.{length-take-le, take_at, drop_at, set_split}
-use Rattle.std.proofs.lemmas.Option.{slice_get_read}
+use Rattle.std.proofs.lemmas.Option.{same_Some, slice_get_read}
 use Rattle.site_core.specs.Records.{Record}
 use Rattle.frame_core.specs.declared.frames.Frame.{Frame}
 use Rattle.world_core.specs.declared.events.WorldEvent.{WorldEvent}
@@ -11,6 +11,7 @@ use Rattle.world_core.specs.declared.events.Answer.TheVariants.{NoSite}
 use Rattle.world_core.specs.Worlds.{Standing, WorldState}
 use Rattle.world_core.specs.Turns.{Turns, TurnsFrom, TurnsAt, site_of}
 use Rattle.world_core.specs.Keepers.{StandsAs, MayBe, ComesFrom, ChangesAt}
+use Rattle.world_core.specs.Restarting.{AreStored}
 
 -- the standing of one site, and what a list of standings is with another one there
 record Site {K : Type 0} (R : K → Standing → Type 0) (keepers : List K) (site : ℕ) (was now : K) (new : List Standing) : Type 0 where
@@ -95,3 +96,17 @@ put_back xs i x h =
     ap (λ front. front ++ x ∷ drop i (remove xs i)) (take_at (take i xs) (drop (suc i) xs) i n)
     ∙ ap (λ rest. take i xs ++ x ∷ rest) (drop_at (take i xs) (drop (suc i) xs) i n)
     ∙ sym (set_split xs i x h)
+
+-- ---- what is stored of each keeper
+
+module _ {K : Type 0} (P : K → Type 0) where
+  pub set_stored : (xs : List K) (i : ℕ) (x : K) → AreStored P xs → P x → AreStored P (slice_set xs i x)
+  set_stored [] i x h p s k e = let n : None ≡ Some k = e in cc
+  set_stored (y ∷ ys) zero x h p zero k e = subst P (same_Some x k e) p
+  set_stored (y ∷ ys) zero x h p (suc s) k e = h (suc s) k e
+  set_stored (y ∷ ys) (suc i) x h p zero k e = h 0 k e
+  set_stored (y ∷ ys) (suc i) x h p (suc s) k e = set_stored ys i x (λ t q at. h (suc t) q at) p s k e
+
+  -- one keeper keeps it, and the others stay as they are
+  pub turn_stored : (keepers changed : List K) (site : ℕ) → ChangesAt keepers site changed (λ was now. P was → P now) → AreStored P keepers → AreStored P changed
+  turn_stored keepers changed site (was, now, at, is, keeps) h = subst (AreStored P) (sym is) (set_stored keepers site now h (keeps (h site was at)))

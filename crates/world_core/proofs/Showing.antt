@@ -14,6 +14,7 @@ use Rattle.world_core.specs.Faults.{HindersKeepers, MakeAWorld}
 use Rattle.world_core.specs.declared.faults.WorldFault.{WorldFault}
 use Rattle.world_core.specs.declared.faults.WorldFault.TheVariants as worlds
 use Rattle.world_core.specs.Keepers.{AllShow, Sites, SitesFit, StandsAs}
+use Rattle.world_core.specs.Restarting.{AreOfOneList}
 use Rattle.world_core.specs.Recalls.{AreExactOnceEnded, quarantined}
 use Rattle.world_core.specs.Worlds.{Standing, Up, Down, WorldState, record_of, records}
 use Rattle.world_core.proofs.EndedRecalls.{ended_is_exact, quarantines_ascend}
@@ -98,6 +99,12 @@ module _ {K : Type 0} (shown : K → Option Record) (may : K → Record → Type
       let same = shown_records keepers rs world.sites a z.0 in
       let here : MakeAWorld (records world) = subst MakeAWorld (sym same) make in
       record { places = here.places; fits = subst (Fits (world_of (records world))) (sym (z.1 ∙ none)) here.fit }
+
+  -- they are of one list of sites
+  pub one_shown : (keepers : List K) (sent : List Frame) (rs : List Record) → AllShow shown keepers rs → MakeAWorld rs → AreOfOneList shown may (record { keepers = keepers; sent = sent })
+  one_shown keepers sent rs a make world z =
+      let here : MakeAWorld (records world) = subst MakeAWorld (sym (shown_records keepers rs world.sites a z.0)) make in
+      here.one
 
   -- nothing but out of memory prevents them
   pub only_memory_hinders : (keepers : List K) (rs : List Record) → AllShow shown keepers rs → MakeAWorld rs → (fault : WorldFault) → HindersKeepers shown keepers fault → fault ≡ worlds.NoMemory

@@ -6,8 +6,10 @@ pub mod Keepers
 pub mod KeptSteps
 pub mod Kinds
 pub mod Laws
+pub mod PinLaws
 pub mod Posting
 pub mod Recalls
+pub mod Restarting
 pub mod SendingLaws
 pub mod Turns
 pub mod Worlds

@@ -3,6 +3,7 @@
 ghost use Rattle.world_core.specs.Counting.{MessagesAreCounted};
 ghost use Rattle.world_core.specs.FormingLaws.{FreshSitesMakeAWorld, OnlyMemoryHindersAWorld};
 ghost use Rattle.world_core.specs.Laws.{EndedStays, EndsAreExact, FramesStay, FreshSitesFit, QuarantinesAscend, RunsComeOut, RunsFromTheStartComeOut, RunsKeepTheFit, SitesStandAsKept, TurnsKeepTheFit};
+ghost use Rattle.world_core.specs.PinLaws.{AnsweredEndsStand, EndsAreTold, NothingElseEnds, RunsMakeAWorldAgain, StartsTellTheEnd};
 ghost use Rattle.world_core.specs.SendingLaws.{FramesWereEmittable};
 
 /// The records of all sites in order, at which nothing happened yet, make a world; and only out of memory prevents records
@@ -54,4 +55,18 @@ pub fn frames_were_emittable()
 /// is quarantined under it: each shipment is announced by one message, however often its frame was sent.
 pub fn messages_are_counted()
     ensures { MessagesAreCounted }
+{}
+
+/// The end that is told is the one that the headline speaks of. It comes by a step that is answered by it, or by a start whose
+/// answer says so, and by no other.
+pub fn an_end_is_told()
+    ensures told { EndsAreTold }
+    ensures answered { AnsweredEndsStand }
+    ensures started { StartsTellTheEnd }
+    ensures others { NothingElseEnds }
+{}
+
+/// The records that a run leaves, of sites up or down, make a world again once no frame is in flight.
+pub fn runs_make_a_world_again()
+    ensures { RunsMakeAWorldAgain }
 {}

@@ -9,6 +9,7 @@ ghost use Rattle.world_core.specs.Keepers.{StandsAs, ComesFrom, MayBe, ChangesAt
 ghost use Rattle.world_core.specs.Posting.{IsPlaceAt, IsPlaceOf};
 ghost use Rattle.world_core.specs.Kinds.{KeeperReopens, KeeperTurns, KeepersTurn};
 ghost use Rattle.world_core.specs.Answers.{answer_of, hindrance};
+ghost use Rattle.world_core.specs.Restarting.{AreStored};
 
 use crate::events::{Answer, WorldEvent, WorldInput};
 use event_json::SiteNo;
@@ -27,6 +28,7 @@ pub fn step_at<K: SiteKeeper>(
 ) -> Answer
     ensures world { ComesFrom (StandsAs (K.shown keeper.old) (K.may keeper.old)) (StandsAs (K.shown keeper.new) (K.may keeper.new))
         (λ old new. TurnsAt old sent.now (WorldEvent.Step site input) result new sent.now) }
+    ensures stored { K.stored keeper.old → K.stored keeper.new }
     ensures kind { KeeperTurns K.applies K.stops K.reopens (K.shown keeper.old) keeper.old sent.now (WorldEvent.Step site input) result keeper.new sent.now }
 {
     if keeper.view().is_none() {
@@ -106,6 +108,7 @@ pub fn stop_at<K: SiteKeeper>(
 ) -> Answer
     ensures world { ComesFrom (StandsAs (K.shown keeper.old) (K.may keeper.old)) (StandsAs (K.shown keeper.new) (K.may keeper.new))
         (λ old new. TurnsAt old sent.now (WorldEvent.Stop site input keep) result new sent.now) }
+    ensures stored { K.stored keeper.old → K.stored keeper.new }
     ensures kind { KeeperTurns K.applies K.stops K.reopens (K.shown keeper.old) keeper.old sent.now (WorldEvent.Stop site input keep) result keeper.new sent.now }
 {
     if keeper.view().is_none() {
@@ -209,6 +212,7 @@ pub fn reopen_at<K: SiteKeeper>(keepers: &mut Vec<K>, sent: &[Frame], site: Site
     requires { site < vec_len keepers.old }
     ensures world { ChangesAt keepers.old.items site keepers.new.items (λ was now. ComesFrom (StandsAs (K.shown was) (K.may was)) (StandsAs (K.shown now) (K.may now))
         (λ old new. TurnsAt old sent.now (WorldEvent.Reopen site) result new sent.now)) }
+    ensures stored { ChangesAt keepers.old.items site keepers.new.items (λ was now. K.stored was → K.stored now) }
     ensures kind { ChangesAt keepers.old.items site keepers.new.items (λ was now. KeeperTurns K.applies K.stops K.reopens (K.shown was) was sent.now (WorldEvent.Reopen site) result now sent.now) }
 {
     let place = site.number() as usize;
@@ -226,6 +230,7 @@ fn reopened<K: SiteKeeper>(keeper: K) -> (K, Answer)
     requires { K.shown keeper ≡ None }
     ensures world { ComesFrom (StandsAs (K.shown keeper) (K.may keeper)) (StandsAs (K.shown result.0) (K.may result.0))
         (λ old new. ReopensTo old result.1 new) }
+    ensures stored { K.stored keeper → K.stored result.0 }
     ensures kind { KeeperReopens K.reopens keeper result.1 result.0 }
 {
     match keeper.reopen() {
@@ -253,6 +258,7 @@ pub fn take_turn<K: SiteKeeper>(
 ) -> Answer
     ensures world { ComesFrom (MayBe K.shown K.may (record { keepers = keepers.old.items; sent = sent.old.items })) (MayBe K.shown K.may (record { keepers = keepers.new.items; sent = sent.new.items }))
         (λ old new. Turns old event result new) }
+    ensures stored { AreStored K.stored keepers.old.items → AreStored K.stored keepers.new.items }
     ensures kind { KeepersTurn K.shown K.applies K.stops K.reopens (record { keepers = keepers.old.items; sent = sent.old.items }) event result (record { keepers = keepers.new.items; sent = sent.new.items }) }
 {
     let place = event.site().number() as usize;

@@ -9,6 +9,7 @@ ghost use Rattle.world_core.specs.Kinds.{KeepersTurn};
 ghost use Rattle.world_core.specs.Laws.{ComesOut};
 ghost use Rattle.world_core.specs.Posting.{IsPlaceAt};
 ghost use Rattle.world_core.specs.Recalls.{AreExactOnceEnded, ended_in, quarantined};
+ghost use Rattle.world_core.specs.Restarting.{AreStored, MakeAWorldAgain};
 ghost use Rattle.world_core.specs.Turns.{Turns, Runs, frame_at};
 ghost use Rattle.world_core.specs.Worlds.{WorldState};
 
@@ -37,13 +38,15 @@ pub struct World<K: SiteKeeper> {
 
 impl<K: SiteKeeper> Model for World<K> {
     ghost use Rattle.world_core.specs.Keepers.{Sites, SitesFit};
+    ghost use Rattle.world_core.specs.Restarting.{AreOfOneList};
 
     ghost Value = { Sites K };
 
     ghost view = { λ w. record { keepers = w.keepers.items; sent = w.sent.items } };
 
-    // In whatever records the closed sites are opened, all are consistent.
-    ghost invariant = { λ w. SitesFit K.shown K.may (record { keepers = w.keepers.items; sent = w.sent.items }) };
+    // In whatever records the closed sites are opened, all are consistent, and of one list of sites.
+    ghost invariant = { λ w. SitesFit K.shown K.may (record { keepers = w.keepers.items; sent = w.sent.items })
+        × AreOfOneList K.shown K.may (record { keepers = w.keepers.items; sent = w.sent.items }) };
 }
 
 impl<K: SiteKeeper> World<K> {
@@ -71,6 +74,7 @@ impl<K: SiteKeeper> World<K> {
     /// One event, and its answer.
     pub fn turn(&mut self, event: WorldEvent) -> Answer
         ensures world { ComesFrom (MayBe K.shown K.may self.old) (MayBe K.shown K.may self.new) (λ old new. Turns old event result new) }
+        ensures stored { AreStored K.stored self.old.keepers → AreStored K.stored self.new.keepers }
         // For a caller that knows what this kind of keeper promises.
         ensures kind { KeepersTurn K.shown K.applies K.stops K.reopens self.old event result self.new }
     {
@@ -90,13 +94,15 @@ impl<K: SiteKeeper> World<K> {
 
     /// A list of events, one after another, and the answer to each. Each site stands then as its answered steps in
     /// order, with each step that it went down in whole or absent; and whenever the site that began a recall has recorded
-    /// its end, what is quarantined under it, at all sites, is what its root reaches, and stays so.
+    /// its end, what is quarantined under it, at all sites, is what its root reaches, and stays so. A crash leaves on the
+    /// sites' devices what they show, or may be opened in, as before.
     ///
     /// # Errors
     /// Where there is no room for all answers: before the first event, and nothing changes.
     pub fn run(&mut self, events: Vec<WorldEvent>) -> Result<Vec<Answer>, AllocError>
         ensures run { IfOk result (λ answers. ComesFrom (MayBe K.shown K.may self.old) (MayBe K.shown K.may self.new) (λ old new. Runs old events.items answers.items new)) }
         ensures out { IfOk result (λ answers. ComesFrom (MayBe K.shown K.may self.old) (MayBe K.shown K.may self.new) (λ old new. ComesOut old events.items answers.items new)) }
+        ensures stored { AreStored K.stored self.old.keepers → AreStored K.stored self.new.keepers }
         ensures err { OnErr result (self.new ≡ self.old) }
     {
         let mut answers = Vec::with_capacity(self.alloc, events.len())?;
@@ -146,10 +152,12 @@ impl<K: SiteKeeper> World<K> {
         ended_at(self.view(recall.site)?, recall)
     }
 
-    /// The sites may be some world: what is said of each that they may be isn't said of none. Each is consistent.
+    /// The sites may be some world: what is said of each that they may be isn't said of none. Each is consistent, and
+    /// its records make a world again once the sites are started again, when no frame is in flight.
     pub fn stands(&self)
         ensures some { (world : WorldState) × MayBe K.shown K.may self.now world }
         ensures fits { SitesFit K.shown K.may self.now }
+        ensures again { MakeAWorldAgain K.shown K.may self.now }
     {
         each_stands(&self.keepers);
     }

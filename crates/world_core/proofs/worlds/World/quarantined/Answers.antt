@@ -12,7 +12,7 @@ returns-clause-ascending g c =
     let rs = map (λ s. s.now) c.in_ok-states.states.items in
     let all = subst (λ ks. AllShow shown ks rs) (c.deref.ensures.value ∙ ap (λ s. s.keepers) c.self.view_is) c.in_ok-states.ensures.ok in
     let are = c.in_ok-quarantined.ensures.list ∙ ap (λ l. quarantined c.args.recall (map (λ s. s.now) l)) c.deref-2.ensures.value in
-    (shown_exact shown may c.args.self.now c.args.recall rs c.in_ok-quarantined.field-0.items (subst (SitesFit shown may) c.self.view_is c.self.invariant) all are).0
+    (shown_exact shown may c.args.self.now c.args.recall rs c.in_ok-quarantined.field-0.items (subst (SitesFit shown may) c.self.view_is c.self.invariant.0) all are).0
 
 pub returns-clause-exact : goal.returns-clause-exact
 returns-clause-exact g c =
@@ -21,4 +21,4 @@ returns-clause-exact g c =
     let rs = map (λ s. s.now) c.in_ok-states.states.items in
     let all = subst (λ ks. AllShow shown ks rs) (c.deref.ensures.value ∙ ap (λ s. s.keepers) c.self.view_is) c.in_ok-states.ensures.ok in
     let are = c.in_ok-quarantined.ensures.list ∙ ap (λ l. quarantined c.args.recall (map (λ s. s.now) l)) c.deref-2.ensures.value in
-    (shown_exact shown may c.args.self.now c.args.recall rs c.in_ok-quarantined.field-0.items (subst (SitesFit shown may) c.self.view_is c.self.invariant) all are).1
+    (shown_exact shown may c.args.self.now c.args.recall rs c.in_ok-quarantined.field-0.items (subst (SitesFit shown may) c.self.view_is c.self.invariant.0) all are).1

@@ -1,0 +1,100 @@
+-- What pins the words that a run's contract speaks in, and that what a run leaves is a world again.
+use Rattle.std.proofs.Common.{◌≡◌, ◌↔◌, ℕ, ◌<◌, ◌⊎◌, ⊎_elim, true, Option, Some, None, List, [], ◌∷◌, length, refl, sym, ◌∙◌, ap, subst, slice_get, Contains}
+use Rattle.std.specs.FinMap.{get}
+use Rattle.std.specs.Option.{option_map}
+use Rattle.std.proofs.lemmas.List.{length-map}
+use Rattle.std.proofs.lemmas.Option.{same_Some, slice_get-get_or, slice_get_within, get_or_from_slice_get}
+use Rattle.frame_core.specs.Numbers.{Recall}
+use Rattle.frame_core.specs.declared.frames.Frame.{Frame}
+use Rattle.frame_core.specs.declared.frames.Frame.TheVariants as frames
+use Rattle.scholten_core.specs.declared.own_recalls.Own.{Own}
+use Rattle.site_core.specs.Records.{Record, fresh}
+use Rattle.site_core.specs.Steps.{Does}
+use Rattle.site_core.specs.declared.inputs.SiteInput.{SiteInput}
+use Rattle.site_core.specs.declared.inputs.SiteInput.TheVariants.{Capture, Start, Deliver}
+use Rattle.site_core.specs.declared.outcomes.Effects.{Effects}
+use Rattle.site_core.specs.declared.outcomes.Effects.TheVariants as effects
+use Rattle.site_recovery.specs.Looks.{world_of}
+use Rattle.site_recovery.proofs.Worlds.{fewer_frames_fit}
+use Rattle.trace_core.proofs.Members.{contains_none}
+use Rattle.world_core.specs.Faults.{AreOneWorld, MakeAWorld}
+use Rattle.world_core.specs.KeptSteps.{Handed, Answered, Broken, StandsAfter, handed_to}
+use Rattle.world_core.specs.PinLaws.{EndsAreTold, RunsMakeAWorldAgain}
+use Rattle.world_core.specs.Recalls.{HasEnded, ended_in}
+use Rattle.world_core.specs.Turns.{Turns, Runs}
+use Rattle.world_core.specs.Worlds.{WorldState, WorldFits, records, record_of}
+use Rattle.world_core.specs.declared.events.Answer.{Answer}
+use Rattle.world_core.specs.declared.events.WorldEvent.{WorldEvent}
+use Rattle.world_core.proofs.Ends.{told}
+use Rattle.world_core.proofs.Fitting.{runs_keep_the_fit}
+use Rattle.world_core.proofs.KeptSteps.{sites_stand}
+
+pub ends_are_told : EndsAreTold
+ends_are_told rs recall initiator at = (
+  λ e. let t = told (get initiator.engagement.own recall.number) e in
+      (t.0.root, record { initiator = initiator; there = at; own = t.0; begun = t.1; from = refl; ended = t.2 }),
+  λ h.
+      let same : h.1.initiator ≡ initiator = same_Some h.1.initiator initiator (sym h.1.there ∙ at) in
+      subst (λ (r : Record). ended_in recall r ≡ Some true) same (ap (option_map (λ own. own.ended)) h.1.begun ∙ ap Some h.1.ended),
+)
+
+-- A step leaves the list of sites.
+
+does_sites : (s t : Record) (input : SiteInput) (e : Effects) → Does s input e t → t.sites ≡ s.sites
+does_sites s t (Capture bytes) (effects.Captured fresh known skipped) h = ap (λ (r : Record). r.sites) h.rest
+does_sites s t (Start root) (effects.Started recall quarantined numbered ended) h = ap (λ (r : Record). r.sites) h.after
+does_sites s t (Deliver (frames.Recall m dest r i)) (effects.Received quarantined numbered owed) h = ap (λ (r : Record). r.sites) h.after
+does_sites s t (Deliver (frames.Recall m dest r i)) effects.Repeat h = ap (λ (r : Record). r.sites) h.1
+does_sites s t (Deliver (frames.Signal m by)) effects.Stale h = ap (λ (r : Record). r.sites) h.1
+does_sites s t (Deliver (frames.Signal m by)) effects.Cleared h = ap (λ (r : Record). r.sites) h.after
+does_sites s t (Deliver (frames.Signal m by)) (effects.ParentDue parent) h = ap (λ (r : Record). r.sites) h.after
+does_sites s t (Deliver (frames.Signal m by)) (effects.Ended recall) h = ap (λ (r : Record). r.sites) h.after
+does_sites s t input e h = absurd h
+
+stands_sites : (old : Record) (hs : List Handed) (new : Record) → StandsAfter old hs new → new.sites ≡ old.sites
+stands_sites old [] new h = ap (λ (r : Record). r.sites) h
+stands_sites old (Answered input e ∷ rest) new h = stands_sites h.0 rest new h.2 ∙ does_sites old h.0 input e h.1
+stands_sites old (Broken input ∷ rest) new h = ⊎_elim
+    (λ k. stands_sites old rest new k)
+    (λ k. stands_sites k.0 rest new k.2 ∙ does_sites old k.0 input k.1.0 k.1.1)
+    h
+
+pub runs_make_a_world_again : RunsMakeAWorldAgain
+runs_make_a_world_again old new events answers fits one run =
+    let rs = records old in
+    let now = records new in
+    let fit = runs_keep_the_fit old new events answers fits run in
+    let stand = sites_stand old new events answers run in
+    let first = one.0 in
+    let stands = stand.each 0 first one.1 in
+    let count : length now ≡ length rs = length-map new.sites record_of ∙ (stand.count ∙ sym (length-map old.sites record_of)) in
+    let same_first : stands.now.sites ≡ first.sites = stands_sites first (handed_to 0 new.sent events answers) stands.now stands.kept in
+    record {
+      one = (
+        stands.now,
+        stands.there,
+        record {
+          number = count ∙ (one.2.number ∙ ap length (sym same_first));
+          each = λ place r at.
+              let below : place < length now = slice_get_within now place r at in
+              let was = world_of rs place in
+              let there : slice_get rs place ≡ Some was = slice_get-get_or rs place (fresh [] place) (subst (λ n. place < n) count below) in
+              let k = stand.each place was there in
+              let same : k.now ≡ r = same_Some k.now r (sym k.there ∙ at) in
+              let right = one.2.each place was there in
+              let sites : k.now.sites ≡ stands.now.sites = stands_sites was (handed_to place new.sent events answers) k.now k.kept ∙ (right.0 ∙ sym same_first) in
+              (ap (λ (x : Record). x.sites) (sym same) ∙ sites, ap (λ (x : Record). x.engagement.me) (sym (get_or_from_slice_get now place r (fresh [] place) at)) ∙ (fit.places place below).engagement);
+        },
+      );
+      places = fit.places;
+      fit = fewer_frames_fit now new.sent [] fit.fits (λ f c. absurd (contains_none f c));
+    }
+
+-- ---- one event
+
+pub turns_stay_one : (old new : WorldState) (event : WorldEvent) (answer : Answer) → WorldFits old → AreOneWorld (records old) → Turns old event answer new → AreOneWorld (records new)
+turns_stay_one old new event answer fits one turn = (runs_make_a_world_again old new (event ∷ []) (answer ∷ []) fits one (new, turn, refl)).one
+
+-- records that are consistent with frames are so without them
+pub made_again : (world : WorldState) → WorldFits world → AreOneWorld (records world) → MakeAWorld (records world)
+made_again world fits one = record { one = one; places = fits.places; fit = fewer_frames_fit (records world) world.sent [] fits.fits (λ f c. absurd (contains_none f c)) }
