@@ -12,6 +12,7 @@ ghost use Rattle.site_threads.specs.Gathering.{Began, Explains, FitAfter, HasEnd
 ghost use Rattle.site_threads.specs.Parting.{IsRoomFor};
 ghost use Rattle.site_threads.specs.Runs.{IsReady, Ran};
 
+use crate::counts::RunCounts;
 use crate::desks::DeskOut;
 use crate::gates::Gate;
 use crate::gather::{Ended, GatherCause, close_all};
@@ -89,6 +90,7 @@ fn room_for<K: SiteKeeper, G: Gate>(alloc: Global, keepers: &[K]) -> Result<Room
 fn run_each<K: SiteKeeper + Send, G: Gate + Send, R: Threads + Wait + Clock + Sync>(
     rt: &R,
     wire: &Wire,
+    counts: &RunCounts,
     runs: &mut Vec<SiteRun<K, G>>,
     turns: u64,
 )
@@ -97,13 +99,14 @@ fn run_each<K: SiteKeeper + Send, G: Gate + Send, R: Threads + Wait + Clock + Sy
     requires turns { turns ≤ 1000000 }
     ensures { AllZip (Ran K.shown K.may K.reopens G.gives_up wire.now turns) runs.old.items runs.new.items }
 {
-    run_all(rt, wire, runs.as_mut_slice(), turns);
+    run_all(rt, wire, counts, runs.as_mut_slice(), turns);
 }
 
 /// Runs the sites from the first opening to the last joining, for which there is room.
 fn run_in<K: SiteKeeper + Send, G: Gate + Send, R: Threads + Wait + Clock + Sync>(
     rt: &R,
     alloc: Global,
+    counts: &RunCounts,
     room: Room<K, G>,
     keepers: Vec<K>,
     desks: Vec<DeskOut>,
@@ -138,12 +141,12 @@ fn run_in<K: SiteKeeper + Send, G: Gate + Send, R: Threads + Wait + Clock + Sync
     };
     let (root, all) = wire.split(seat, first);
     let mut runs = begin_all(alloc, &wire, all, keepers, desks, gates, runs);
-    run_each(rt, &wire, &mut runs, turns);
+    run_each(rt, &wire, counts, &mut runs, turns);
     close_all(wire, root, runs, ended)
 }
 
-/// What is reported of a run that has ended.
-fn told<K: SiteKeeper>(ended: Ended<K>) -> Result<Gathered<K>, GatherFault<K>>
+/// What is reported of a run that has ended, in which sites shared threads or not.
+fn told<K: SiteKeeper>(ended: Ended<K>, shared: bool) -> Result<Gathered<K>, GatherFault<K>>
     ensures ok { IfOk result (λ g. (ended.cause ≡ None) × (g.keepers ≡ ended.keepers) × (g.lists ≡ ended.lists)) }
     ensures err { IfErr result (λ e. (ended.cause ≡ Some e.cause) × (e.keepers ≡ ended.keepers)) }
     ensures back { keepers_of result ≡ ended.keepers.items }
@@ -154,7 +157,11 @@ fn told<K: SiteKeeper>(ended: Ended<K>) -> Result<Gathered<K>, GatherFault<K>>
         cause,
     } = ended;
     match cause {
-        None => Ok(Gathered { keepers, lists }),
+        None => Ok(Gathered {
+            keepers,
+            lists,
+            shared,
+        }),
         Some(cause) => Err(GatherFault { keepers, cause }),
     }
 }
@@ -188,25 +195,29 @@ fn run_sites<K: SiteKeeper + Send, G: Gate + Send, R: Threads + Wait + Clock + S
             cause: GatherCause::NoMemory,
         });
     };
-    told(run_in(rt, alloc, room, keepers, desks, gates, turns))
+    let counts = RunCounts::new(keepers.len() as u64);
+    let ended = run_in(rt, alloc, &counts, room, keepers, desks, gates, turns);
+    told(ended, counts.are_shared())
 }
 
 /// Runs all sites, each in a thread of its own, where one can be made: so many turns, each asked for at the site's gate,
 /// with at most one job a turn from the site's end of its desk, and a last opening of each keeper that is closed then.
+/// Where the system gives fewer threads than sites, sites that share one take turns, so that recalls end then, too.
 ///
 /// After a turn in which a site did no job and its record didn't change it sleeps, 100 microseconds for each such turn
-/// one after another and at most 1,000, so that a run lasts while other sites begin or write. A run ends before its turns
-/// are made once nothing is left to do: each site has found its desk without a job, and the other end dropped, and each
-/// recall that a site began has ended. A site that isn't done makes all turns. So a gate that waits for other sites needs
-/// the other end of a desk to be kept. A desk that has taken as many jobs as it may isn't asked any more, and counts as
-/// kept; an end at which no job is ever put counts as dropped.
+/// one after another and at most 1,000, so that a run lasts while other sites begin or write; where sites share threads,
+/// it leaves its thread to others. A run ends before its turns are made once nothing is left to do: each desk counts as
+/// gone, and each recall that a site began has ended. A site that isn't done makes all turns. So a gate that waits for
+/// other sites needs the other end of a desk to be kept, and a desk that would take one job more; and it needs a thread
+/// for each site.
 ///
 /// The keepers are of one list of sites, in the order of their numbers, open, and their records are consistent; no job was
 /// taken from the desks. Afterwards each keeper is open in the record to which its list of steps leads from the one that
 /// it began with, and the jobs of the list are the first ones that were put at its desk; its gate was asked for just these
 /// turns, or for fewer where the site is done: its end counts the desk as gone, no job is in hand, no message waits for a
-/// signal, and each recall that it began has ended. Whether the run has an answer or not, in whichever records the keepers are open, or may be opened,
-/// they are consistent, and what is quarantined under each recall that has ended is just what its root reaches.
+/// signal, and each recall that it began has ended. Whether the run has an answer or not, in whichever records the keepers
+/// are open, or may be opened, they are consistent, and what is quarantined under each recall that has ended is just what
+/// its root reaches.
 ///
 /// # Errors
 /// All with the keepers. `NotAWorld`, with the keepers as they were. `NoMemory`: before the first turn, when nothing has

@@ -122,7 +122,7 @@ fn wrong_in(
 {
     let receipt = receipt_of_b(rt, &mut desks);
     let confirmed = is_confirmed(&gathered, receipt);
-    let Gathered { keepers, lists } = gathered;
+    let Gathered { keepers, lists, .. } = gathered;
     let made = made(lists.as_slice(), 2_000);
     let settled = are_settled(desks, lists, &[2, 1, 1, 2]);
     if !are_ended(alloc, &keepers) {

@@ -1,26 +1,39 @@
-use Rattle.std.proofs.Common.{slice_index_or, sym, subst}
-use Rattle.std.proofs.lemmas.List.Elements.{All-get_or}
-use denote.Param.Send.{sendable}
-use Rattle.site_threads.specs.declared.runs.SiteRun.{SiteRun}
-use Rattle.site_threads.specs.Runs.{IsReady, Ran}
-use Rattle.site_threads.proofs.Sending.{run_send}
+use Rattle.std.proofs.Common.{◌∙◌, sym, arith}
+use Rattle.site_threads.specs.Runs.{IsBetween, IsSliced}
+use Rattle.site_threads.proofs.Slices.{HasGone, all_begun, all_gone_on, all_ran, all_spent}
+use Rattle.site_threads.proofs.Zips.{all_right, as_long, zip_from}
 use Rattle.site_threads.proofs.runs.run_all.Goals as goal
 
-pub for_each_mut-requires-send-T : goal.for_each_mut-requires-send-T
-for_each_mut-requires-send-T g c κs within =
-    let k = c.type_bounds.send-K in
-    let h = c.type_bounds.send-G in
-    search (run_send, sendable) depth 20
+pub loop-init : goal.loop-init
+loop-init g c = all_begun g.K.SiteKeeper.shown g.K.SiteKeeper.may g.K.SiteKeeper.reopens g.G.Gate.gives_up c.args.wire.now c.args.turns c.args.runs.now c.requires.ready
 
-pub for_each_mut-requires-clause-accepts : goal.for_each_mut-requires-clause-accepts
-for_each_mut-requires-clause-accepts g c κs within i p h is =
-    let ready = IsReady g.K.SiteKeeper.shown g.K.SiteKeeper.may c.args.wire.now in
-    (subst ready (sym is) (All-get_or ready c.args.runs.now i p.now h c.requires.ready), c.requires.turns)
+pub run_slices-requires-clause-count : goal.run_slices-requires-clause-count
+run_slices-requires-clause-count g c =
+    let long = as_long (HasGone {G = g.row.G.Denot} g.K.SiteKeeper.shown g.K.SiteKeeper.may g.K.SiteKeeper.reopens g.G.Gate.gives_up c.args.wire.now c.args.turns c.loop.counter) c.args.runs.now c.loop.runs c.loop.invariant in
+    let some = c.requires.count in
+    omega (arith, long, some)
 
-pub returns-clause-each : goal.returns-clause-each
-returns-clause-each g c i d h =
-    let r = (c.for_each_mut.ensures i d h).1 in
-    let ran = Ran g.K.SiteKeeper.shown g.K.SiteKeeper.may g.K.SiteKeeper.reopens g.G.Gate.gives_up c.args.wire.now c.args.turns in
-    let old = slice_index_or c.args.runs.now i d in
-    let new = slice_index_or c.for_each_mut.new.s i d in
-    subst (λ (o : SiteRun g.row.K.Denot g.row.G.Denot). ran o new) r.argument_is (subst (λ (n : SiteRun g.row.K.Denot g.row.G.Denot). ran r.argument.now n) r.left r.call)
+pub run_slices-requires-clause-between : goal.run_slices-requires-clause-between
+run_slices-requires-clause-between g c κs within =
+    all_right (HasGone {G = g.row.G.Denot} g.K.SiteKeeper.shown g.K.SiteKeeper.may g.K.SiteKeeper.reopens g.G.Gate.gives_up c.args.wire.now c.args.turns c.loop.counter)
+    (IsBetween {G = g.row.G.Denot} g.K.SiteKeeper.shown g.K.SiteKeeper.may g.K.SiteKeeper.reopens g.G.Gate.gives_up c.args.wire.now c.args.turns)
+    c.args.runs.now c.loop.runs (λ x y h. h.between) c.loop.invariant
+
+pub loop-preserved : goal.loop-preserved
+loop-preserved g c =
+    let sliced = IsSliced {G = g.row.G.Denot} g.K.SiteKeeper.shown g.K.SiteKeeper.may g.K.SiteKeeper.reopens g.G.Gate.gives_up c.args.wire.now c.args.turns in
+    all_gone_on g.K.SiteKeeper.shown g.K.SiteKeeper.may g.K.SiteKeeper.reopens g.G.Gate.gives_up c.args.wire.now c.args.turns c.loop.counter c.args.runs.now c.loop.runs c.run_slices.new.runs c.loop.invariant
+    (zip_from sliced c.loop.runs c.run_slices.new.runs c.run_slices.ensures.count c.run_slices.ensures.each)
+
+pub returns-after-loop : goal.returns-after-loop
+returns-after-loop g c =
+    all_spent g.K.SiteKeeper.shown g.K.SiteKeeper.may g.K.SiteKeeper.reopens g.G.Gate.gives_up c.args.wire.now c.args.turns c.loop.counter c.args.runs.now c.loop.runs
+    (let past = c.loop-test.false in omega (arith, past)) c.loop.invariant
+
+pub returns-then-have_run : goal.returns-then-have_run
+returns-then-have_run g c =
+    let sliced = IsSliced {G = g.row.G.Denot} g.K.SiteKeeper.shown g.K.SiteKeeper.may g.K.SiteKeeper.reopens g.G.Gate.gives_up c.args.wire.now c.args.turns in
+    all_ran g.K.SiteKeeper.shown g.K.SiteKeeper.may g.K.SiteKeeper.reopens g.G.Gate.gives_up c.args.wire.now c.args.turns _ c.args.runs.now c.run_slices.new.runs
+    (all_gone_on g.K.SiteKeeper.shown g.K.SiteKeeper.may g.K.SiteKeeper.reopens g.G.Gate.gives_up c.args.wire.now c.args.turns c.loop.counter c.args.runs.now c.loop.runs c.run_slices.new.runs c.loop.invariant
+    (zip_from sliced c.loop.runs c.run_slices.new.runs c.run_slices.ensures.count c.run_slices.ensures.each))
+    (sym c.have_run.ensures ∙ c.if-have_run.true)
