@@ -1,7 +1,8 @@
 #!/usr/bin/env bash
 # Drives `recall run` on folders of files as a person would: a recall over sixteen sites to its end, stops by `kill -9`
 # at moments of the run, after each of which an audit finds the files in order and further runs end the recall, and two
-# runs of one folder at once, of which one is refused; and it looks what a terminal is told of a run.
+# runs of one folder at once, of which one is refused; it looks what a terminal is told of a run, and runs sites that
+# share threads, where it is root.
 # Run by hand, and by the gate on the program that it built. RECALL names another program, STOPS how often it is
 # stopped. It ends with status 0 where all is as it should be, and takes less than two minutes.
 set -u
@@ -81,6 +82,21 @@ cp -r started few
 wants 0 's0#1 open' '' run few --turns 1
 ended few
 
+# As another user, who may have so many processes: then the sites share threads. Only root can become another user.
+if [ "$(id -u)" = 0 ] && command -v setpriv >/dev/null && command -v prlimit >/dev/null; then
+    user=54321
+    chmod 711 "$work"
+    cp "$recall" alone && chmod 755 alone
+    for processes in 1 5; do
+        echo "a run of $processes threads"
+        rm -rf shared && cp -r started shared && chown -R "$user" shared
+        setpriv --reuid="$user" --clear-groups prlimit --nproc="$processes" ./alone run shared >out 2>err </dev/null
+        [ "$?:$(cat out)" = '0:s0#1 ended' ] || complain "a run of $processes threads: $(cat out err)"
+        chown -R 0 shared
+        wants 0 "equal s0#1 pairs $sites" '' audit shared
+    done
+fi
+
 # items FROM TO: their texts, as the members of a list
 items() {
     awk -v from="$1" -v to="$2" 'BEGIN { for (i = from; i < to; i++) printf "%s\"i%d\"", (i > from ? "," : ""), i }'
@@ -141,8 +157,8 @@ for ((n = 0; n < 10; n++)); do
     first=$?
     case "$first $second" in
     '0 0') ;;
-    '0 3') refused=$((refused + 1)); grep -q '^file twice/' err2 || complain "the refused run: $(cat out2 err2)" ;;
-    '3 0') refused=$((refused + 1)); grep -q '^file twice/' err1 || complain "the refused run: $(cat out1 err1)" ;;
+    '0 3') refused=$((refused + 1)); grep -q '^file twice/.*: in use by another program$' err2 || complain "the refused run: $(cat out2 err2)" ;;
+    '3 0') refused=$((refused + 1)); grep -q '^file twice/.*: in use by another program$' err1 || complain "the refused run: $(cat out1 err1)" ;;
     '3 3') refused=$((refused + 1)) ;;
     *) complain "two runs: $first $second; $(cat out1 err1 out2 err2)" ;;
     esac
