@@ -14,6 +14,7 @@ pub mod Passed
 mod Refusing
 mod Sending
 mod Settling
+mod Slices
 mod Stamping
 mod Starting
 mod Steps

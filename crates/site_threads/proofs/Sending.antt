@@ -41,4 +41,4 @@ turn_send : (K G : RattleType) → IsSend K → IsSend G → IsSend (SiteTurn.th
 turn_send K G s t = declared_send (SiteTurn.the_type K G) (running_send K s, (search sendable depth 12, (search sendable depth 12, (heap_send, tt))))
 
 pub run_send : (K G : RattleType) → IsSend K → IsSend G → IsSend (SiteRun.the_row K G)
-run_send K G s t = declared_send (SiteRun.the_type K G) (turn_send K G s t, (out_send, (option_send Job.the_row job_send, (option_send TurnCause.the_row cause_send, tt))))
+run_send K G s t = declared_send (SiteRun.the_type K G) (turn_send K G s t, (out_send, (option_send Job.the_row job_send, (option_send TurnCause.the_row cause_send, (search sendable depth 12, (search sendable depth 12, tt))))))

@@ -1,5 +1,5 @@
 -- What clauses say of the two ends of a desk.
-use Rattle.std.specs.Prelude.{◌≡◌, ◌≤◌, true, List, [], length}
+use Rattle.std.specs.Prelude.{◌≡◌, ◌≤◌, true, IsTrue, List, [], length}
 use Rattle.crossbeam_channel.specs.Claims.{view, IsSeatAt}
 use Rattle.crossbeam_channel.specs.Ends.{sends_on, receives_on}
 use Rattle.site_threads.specs.declared.jobs.Job.{Job}
@@ -22,7 +22,7 @@ pub record IsDesk (d : Desk) : Type 0 where
   pub within : d.count ≤ d.limit
   pub few : d.limit ≤ 1000
 
--- the end that takes
+-- the end that takes, which counts the desk as gone once it took as many jobs as there can be
 pub record IsOut (o : DeskOut) : Type 0 where
   pub seat : IsSeatAt (receives_on o.from) o.pass
   pub may : (view o.pass).takes ≡ true
@@ -30,6 +30,7 @@ pub record IsOut (o : DeskOut) : Type 0 where
   pub count : o.count ≡ length (view o.pass).taken
   pub within : o.count ≤ o.limit
   pub few : o.limit ≤ 1000
+  pub spent : o.count ≡ o.limit → IsTrue o.gone
 
 -- the two ends of one desk
 abbrev pub AreEnds : Desk → DeskOut → Type 0

@@ -1,5 +1,5 @@
 -- What clauses say of the sites of a run.
-use Rattle.std.specs.Prelude.{◌≡◌, ◌⊎◌, ℕ, ◌+◌, ◌≤◌, ◌++◌, Bool, true, false, Option, None, Result, IsSome, IfSome}
+use Rattle.std.specs.Prelude.{◌≡◌, ◌⊎◌, ℕ, ◌+◌, ◌*◌, ◌<◌, ◌≤◌, ◌++◌, Bool, true, false, Option, None, Result, IsSome, IfSome}
 use Rattle.crossbeam_channel.specs.Ends.{receives_on}
 use Rattle.site_core.specs.Records.{Record}
 use Rattle.wire_core.specs.Seats.{Line, IsSeatOf}
@@ -44,6 +44,7 @@ module _ {K G : Type 0} (shown : K → Option Record) (may : K → Record → Ty
     pub unmarked : marks_in r.turn.site.seat.logs ≡ 0
     pub going : r.fault ≡ None
     pub unasked : r.turn.turns ≡ 0
+    pub begins : r.ended ≡ false
 
 -- why the site ended its run: what kept it from a turn that its gate was asked for, or from being open at the end
 pub record EndedBy {K G : Type 0} (shown : K → Option Record) (reopens : K → Result K (Unopened K) → Type 0) (gives_up : G → ℕ → ℕ → Type 0) (r : SiteRun K G) (cause : TurnCause) : Type 0 where
@@ -62,3 +63,32 @@ module _ {K G : Type 0} (shown : K → Option Record) (may : K → Record → Ty
     pub all : new.fault ≡ None → (new.turn.turns ≡ turns) ⊎ IsDone shown new.turn.site.keeper new.out new.pending
     pub is_open : new.fault ≡ None → IsSome (shown_in shown new.turn.site.keeper)
     pub why : IfSome new.fault (EndedBy shown reopens gives_up new)
+
+-- Between two slices of its turns.
+
+module _ {K G : Type 0} (shown : K → Option Record) (may : K → Record → Type 0) (wire : Line) where
+  -- a site that goes on in a run of at most so many turns was marked at most 18 times in each
+  pub record GoesOn (turns : ℕ) (r : SiteRun K G) : Type 0 where
+    pub run : IsRun shown may wire r
+    pub marks : marks_in r.turn.site.seat.logs ≤ 18 * r.turn.turns
+    pub fine : r.fault ≡ None
+    pub asked : r.turn.turns ≤ turns
+
+module _ {K G : Type 0} (shown : K → Option Record) (may : K → Record → Type 0) (reopens : K → Result K (Unopened K) → Type 0) (gives_up : G → ℕ → ℕ → Type 0) (wire : Line) (turns : ℕ) where
+  -- a site that has ended its run: without a fault it is open, and made all of so many turns unless it is done
+  pub record IsOver (r : SiteRun K G) : Type 0 where
+    pub run : IsRun shown may wire r
+    pub asked : r.turn.turns ≤ turns
+    pub all : r.fault ≡ None → (r.turn.turns ≡ turns) ⊎ IsDone shown r.turn.site.keeper r.out r.pending
+    pub is_open : r.fault ≡ None → IsSome (shown_in shown r.turn.site.keeper)
+    pub why : IfSome r.fault (EndedBy shown reopens gives_up r)
+
+  pub record IsBetween (r : SiteRun K G) : Type 0 where
+    pub on : r.ended ≡ false → GoesOn shown may wire turns r
+    pub over : r.ended ≡ true → IsOver r
+
+  -- after a slice of its turns: where the site goes on, it went on before, and made a turn at least
+  pub record IsSliced (old new : SiteRun K G) : Type 0 where
+    pub same : SameRun old new
+    pub between : IsBetween new
+    pub turned : new.ended ≡ false → (old.ended ≡ false) × (old.turn.turns < new.turn.turns)

@@ -136,8 +136,8 @@ pub struct DeskOut {
     pub count: u64,
     /// How many there can be.
     pub limit: u64,
-    /// Whether this end counts the desk as gone: no job was ever to come, or the channel reported that the other end
-    /// was dropped, and that no job is left.
+    /// Whether this end counts the desk as gone, so that no job comes from it any more: as many were taken as there can
+    /// be, or the channel reported that the other end was dropped, and that no job is left.
     pub gone: bool,
 }
 
@@ -233,14 +233,16 @@ impl DeskOut {
         })
     }
 
-    /// The next job, if one is there. Where none is, the desk may count as gone from then on.
+    /// The next job, if one is there. With the last one that there can be the desk counts as gone; where none is there
+    /// it may count as gone from then on.
     pub fn next<R: Wait>(&mut self, rt: &R) -> Option<Job>
         requires { IsOut self.old }
         ensures out { IsOut self.new × (receives_on self.new.from ≡ receives_on self.old.from) }
         ensures limit { self.new.limit ≡ self.old.limit }
         ensures taken { takes self.new ≡ takes self.old ++ option_items result }
-        ensures held { IfSome result (λ _. self.new.gone ≡ self.old.gone) }
+        ensures held { IfSome result (λ _. length (takes self.new) < self.new.limit → self.new.gone ≡ self.old.gone) }
         ensures gone { IsTrue self.old.gone → IsTrue self.new.gone }
+        ensures spent { length (takes self.new) ≡ self.new.limit → IsTrue self.new.gone }
     {
         if self.count == self.limit {
             return None;
@@ -248,6 +250,7 @@ impl DeskOut {
         match self.from.try_recv_as::<Takes, R>(rt, &mut self.pass) {
             Ok(job) => {
                 self.count += 1;
+                self.gone = self.gone || self.count == self.limit;
                 Some(job)
             }
             Err(why) => {

@@ -86,6 +86,7 @@ fn part<K: SiteKeeper, G: Gate>(
             out,
             pending,
             fault,
+            ..
         } = run;
         let SiteTurn { site, turns, .. } = turn;
         let Site {

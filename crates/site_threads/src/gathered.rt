@@ -19,6 +19,8 @@ pub struct Gathered<K: SiteKeeper> {
     pub keepers: Vec<K>,
     /// The steps of each, and its end of its desk.
     pub lists: Vec<SiteList>,
+    /// Whether the system gave fewer threads than sites, so that sites shared threads.
+    pub shared: bool,
 }
 
 /// A run of all sites that has no answer, and the keepers, in the order of their sites.

@@ -4,6 +4,7 @@
 //! the wire only once its keeper answered it, so a frame that is posted rests on a record that is kept.
 #![tactic(auto)]
 
+mod counts;
 mod desks;
 mod following;
 mod gates;

@@ -1,14 +1,16 @@
 //! The sites of a run, each in a thread of its own.
-ghost use Rattle.std.specs.Prelude.{◌≡◌, ◌↔◌, ◌+◌, ◌-◌, ◌++◌, ◌^◌, ◌<◌, ◌≤◌, ℕ, List, None, true, All, IfSome, IsSome, IsTrue, is_none, length, min, slice_index_or};
+ghost use Rattle.std.specs.Prelude.{◌≡◌, ◌↔◌, ◌+◌, ◌-◌, ◌++◌, ◌^◌, ◌<◌, ◌≤◌, List, None, true, All, IfSome, IsSome, IsTrue, is_none, length, min};
+ghost use Rattle.std.specs.List.{AllZip, list_all};
 ghost use Rattle.crossbeam_channel.specs.Ends.{receives_on};
 ghost use Rattle.site_threads.specs.Ends.{takes, IsOut};
 ghost use Rattle.site_threads.specs.Jobs.{option_items};
 ghost use Rattle.site_threads.specs.Resting.{HaveEnded, IsAtRest, IsDone};
-ghost use Rattle.site_threads.specs.Runs.{IsRun, IsReady, SameRun, EndedBy, Ran, goes_on};
+ghost use Rattle.site_threads.specs.Runs.{IsRun, IsReady, SameRun, EndedBy, IsBetween, IsSliced, Ran, goes_on};
 ghost use Rattle.site_threads.specs.Running.{marks_in};
 ghost use Rattle.site_threads.specs.declared.jobs.Job.{Job};
 ghost use Rattle.site_threads.specs.declared.runs.SiteRun.{SiteRun};
 
+use crate::counts::RunCounts;
 use crate::desks::DeskOut;
 use crate::following::{are_same, view_of};
 use crate::gates::Gate;
@@ -19,11 +21,13 @@ use event_json::SiteNo;
 use keeper_core::SiteKeeper;
 use site_core::SiteState;
 use std::sync::Wait;
-use std::sync::atomic::{AtomicU64, Ordering};
 use std::thread;
 use std::thread::Threads;
 use std::time::{Clock, Duration};
 use wire_core::Wire;
+
+/// How many turns a site makes at most before it leaves its thread to the next site, where sites share threads.
+const SLICE: u64 = 50;
 
 /// A site with the desk that it takes its jobs from.
 #[derive(Drop)]
@@ -32,8 +36,12 @@ pub struct SiteRun<K: SiteKeeper, G: Gate> {
     pub out: DeskOut,
     /// A job that a turn gave back.
     pub pending: Option<Job>,
-    /// Why the site ended its run.
+    /// Why the site ended its run before its time.
     pub fault: Option<TurnCause>,
+    /// Whether it counts among the sites that may have an open recall of their own, or begin one.
+    pub counted: bool,
+    /// Whether it has ended its run, and makes no further turn.
+    pub ended: bool,
 }
 
 /// The job that was given back, or the next one.
@@ -177,61 +185,116 @@ impl<K: SiteKeeper, G: Gate> SiteRun<K, G> {
         }
     }
 
-    /// The turns of a run, and a last opening. After a turn in which nothing was done the site sleeps, so that a run doesn't
-    /// end while other sites write.
-    ///
-    /// `open` counts the sites of the run that may have an open recall of their own, or begin one. A site takes itself
-    /// off once it is done; where none is left, a site that is done makes no further turn.
-    pub fn go<R: Wait + Clock>(&mut self, rt: &R, wire: &Wire, open: &AtomicU64, turns: u64)
-        requires ready { IsReady K.shown K.may wire.now self.old }
-        requires turns { turns ≤ 1000000 }
-        ensures ran { Ran K.shown K.may K.reopens G.gives_up wire.now turns self.old self.new }
+    /// Ends the run of the site, with a last opening of a keeper that is closed.
+    fn end(&mut self, wire: &Wire)
+        requires run { IsRun K.shown K.may wire.now self.old }
+        requires few { marks_in self.old.turn.site.seat.logs < 2 ^ 61 }
+        requires fine { self.old.fault ≡ None }
+        ensures run { IsRun K.shown K.may wire.now self.new }
+        ensures same { SameRun self.old self.new }
+        ensures ended { self.new.ended ≡ true }
+        ensures turns { self.new.turn.turns ≡ self.old.turn.turns }
+        ensures done { IsDone K.shown self.old.turn.site.keeper self.old.out self.old.pending → IsDone K.shown self.new.turn.site.keeper self.new.out self.new.pending }
+        ensures open { self.new.fault ≡ None → IsSome (shown_in K.shown self.new.turn.site.keeper) }
+        ensures why { IfSome self.new.fault (EndedBy K.shown K.reopens G.gives_up self.new) }
     {
-        let mut micros = 0;
-        let mut done = false;
-        for _ in 0..turns {
-            pause(rt, micros);
-            if open.load(Ordering::SeqCst) == 0 && self.is_done() {
-                break;
-            }
-            match self.one_turn(rt, wire) {
-                Turned::Ended => return,
-                Turned::Changed => micros = 0,
-                Turned::Idle => micros = longer(micros),
-            }
-            if !done && self.is_done() {
-                done = true;
-                open.fetch_sub(1, Ordering::SeqCst);
-            }
-        }
+        self.ended = true;
         if let Err(fault) = self.turn.site.open_again(wire) {
             self.fault = Some(lost(fault));
         }
     }
+
+    /// A slice of the turns of a run, and with the last one the end of it. After a turn in which nothing was done the site
+    /// sleeps, so that a run doesn't end while other sites write; or leaves its thread to others, where sites share
+    /// threads. A site that has ended its run does nothing.
+    ///
+    /// A site takes itself off the open ones once it is done; where none is left, a site that is done makes no further
+    /// turn.
+    pub fn go<R: Wait + Clock>(&mut self, rt: &R, wire: &Wire, counts: &RunCounts, turns: u64)
+        requires between { IsBetween K.shown K.may K.reopens G.gives_up wire.now turns self.old }
+        requires turns { turns ≤ 1000000 }
+        ensures sliced { IsSliced K.shown K.may K.reopens G.gives_up wire.now turns self.old self.new }
+    {
+        if self.ended {
+            return;
+        }
+        counts.begin(rt);
+        let until = self.turn.turns.saturating_add(SLICE);
+        let mut micros = 0;
+        for _ in self.turn.turns..turns {
+            pause(rt, micros);
+            if counts.none_open() && self.is_done() {
+                break;
+            }
+            match self.one_turn(rt, wire) {
+                Turned::Ended => {
+                    self.ended = true;
+                    return;
+                }
+                Turned::Changed => micros = 0,
+                Turned::Idle => micros = longer(micros),
+            }
+            let done = self.counted && self.is_done();
+            counts.take_off(done, &mut self.counted);
+            if counts.are_shared() && (micros > 0 || self.turn.turns >= until) {
+                return;
+            }
+        }
+        self.end(wire);
+    }
 }
 
-/// Each site takes its turns in a thread of its own, where one can be made.
+/// A slice of the turns of each site, in a thread of its own where one can be made.
+fn run_slices<K: SiteKeeper + Send, G: Gate + Send, R: Threads + Wait + Clock + Sync>(
+    rt: &R,
+    wire: &Wire,
+    counts: &RunCounts,
+    runs: &mut [SiteRun<K, G>],
+    turns: u64,
+)
+    requires count { 0 < length runs.old }
+    requires between { All (IsBetween K.shown K.may K.reopens G.gives_up wire.now turns) runs.old }
+    requires turns { turns ≤ 1000000 }
+    ensures { AllZip (IsSliced K.shown K.may K.reopens G.gives_up wire.now turns) runs.old runs.new }
+{
+    let threads = runs.len();
+    thread::for_each_mut(
+        rt,
+        runs,
+        threads,
+        &|_, run: &mut SiteRun<K, G>|
+            requires { IsBetween K.shown K.may K.reopens G.gives_up wire.now turns run.now × (turns ≤ 1000000) }
+            ensures { IsSliced K.shown K.may K.reopens G.gives_up wire.entry.now turns run.entry.now run.exit.now }
+        { run.go(rt, wire, counts, turns) },
+    );
+}
+
+/// Whether each site has ended its run.
+fn have_run<K: SiteKeeper, G: Gate>(runs: &[SiteRun<K, G>]) -> bool
+    ensures { result ≡ list_all (λ r. r.ended) runs.now }
+{
+    runs.iter().all(|run| run.ended)
+}
+
+/// Each site takes its turns in a thread of its own, where one can be made. Where sites share threads, they take them in
+/// slices, one site after another, until each has ended its run.
 pub fn run_all<K: SiteKeeper + Send, G: Gate + Send, R: Threads + Wait + Clock + Sync>(
     rt: &R,
     wire: &Wire,
+    counts: &RunCounts,
     runs: &mut [SiteRun<K, G>],
     turns: u64,
 )
     requires count { 0 < length runs.old }
     requires ready { All (IsReady K.shown K.may wire.now) runs.old }
     requires turns { turns ≤ 1000000 }
-    ensures count { length runs.new ≡ length runs.old }
-    ensures each { (i : ℕ) (d : SiteRun K G) → i < length runs.old → Ran K.shown K.may K.reopens G.gives_up wire.now turns (slice_index_or runs.old i d) (slice_index_or runs.new i d) }
+    ensures { AllZip (Ran K.shown K.may K.reopens G.gives_up wire.now turns) runs.old runs.new }
 {
-    let threads = runs.len();
-    let open = AtomicU64::new(threads as u64);
-    thread::for_each_mut(
-        rt,
-        runs,
-        threads,
-        &|_, run: &mut SiteRun<K, G>|
-            requires { IsReady K.shown K.may wire.now run.now × (turns ≤ 1000000) }
-            ensures { Ran K.shown K.may K.reopens G.gives_up wire.entry.now turns run.entry.now run.exit.now }
-        { run.go(rt, wire, &open, turns) },
-    );
+    // A site that goes on made a turn in each slice.
+    for _ in 0..turns + 1 {
+        run_slices(rt, wire, counts, runs, turns);
+        if have_run(runs) {
+            break;
+        }
+    }
 }

@@ -44,6 +44,8 @@ fn begin<K: SiteKeeper, G: Gate>(
         out,
         pending: None,
         fault: None,
+        counted: true,
+        ended: false,
     }
 }
 

@@ -12,6 +12,7 @@ ghost use Rattle.site_threads.specs.Gathering.{Began, Explains, FitAfter, HasEnd
 ghost use Rattle.site_threads.specs.Parting.{IsRoomFor};
 ghost use Rattle.site_threads.specs.Runs.{IsReady, Ran};
 
+use crate::counts::RunCounts;
 use crate::desks::DeskOut;
 use crate::gates::Gate;
 use crate::gather::{Ended, GatherCause, close_all};
@@ -89,6 +90,7 @@ fn room_for<K: SiteKeeper, G: Gate>(alloc: Global, keepers: &[K]) -> Result<Room
 fn run_each<K: SiteKeeper + Send, G: Gate + Send, R: Threads + Wait + Clock + Sync>(
     rt: &R,
     wire: &Wire,
+    counts: &RunCounts,
     runs: &mut Vec<SiteRun<K, G>>,
     turns: u64,
 )
@@ -97,13 +99,14 @@ fn run_each<K: SiteKeeper + Send, G: Gate + Send, R: Threads + Wait + Clock + Sy
     requires turns { turns ≤ 1000000 }
     ensures { AllZip (Ran K.shown K.may K.reopens G.gives_up wire.now turns) runs.old.items runs.new.items }
 {
-    run_all(rt, wire, runs.as_mut_slice(), turns);
+    run_all(rt, wire, counts, runs.as_mut_slice(), turns);
 }
 
 /// Runs the sites from the first opening to the last joining, for which there is room.
 fn run_in<K: SiteKeeper + Send, G: Gate + Send, R: Threads + Wait + Clock + Sync>(
     rt: &R,
     alloc: Global,
+    counts: &RunCounts,
     room: Room<K, G>,
     keepers: Vec<K>,
     desks: Vec<DeskOut>,
@@ -138,12 +141,12 @@ fn run_in<K: SiteKeeper + Send, G: Gate + Send, R: Threads + Wait + Clock + Sync
     };
     let (root, all) = wire.split(seat, first);
     let mut runs = begin_all(alloc, &wire, all, keepers, desks, gates, runs);
-    run_each(rt, &wire, &mut runs, turns);
+    run_each(rt, &wire, counts, &mut runs, turns);
     close_all(wire, root, runs, ended)
 }
 
-/// What is reported of a run that has ended.
-fn told<K: SiteKeeper>(ended: Ended<K>) -> Result<Gathered<K>, GatherFault<K>>
+/// What is reported of a run that has ended, in which sites shared threads or not.
+fn told<K: SiteKeeper>(ended: Ended<K>, shared: bool) -> Result<Gathered<K>, GatherFault<K>>
     ensures ok { IfOk result (λ g. (ended.cause ≡ None) × (g.keepers ≡ ended.keepers) × (g.lists ≡ ended.lists)) }
     ensures err { IfErr result (λ e. (ended.cause ≡ Some e.cause) × (e.keepers ≡ ended.keepers)) }
     ensures back { keepers_of result ≡ ended.keepers.items }
@@ -154,7 +157,11 @@ fn told<K: SiteKeeper>(ended: Ended<K>) -> Result<Gathered<K>, GatherFault<K>>
         cause,
     } = ended;
     match cause {
-        None => Ok(Gathered { keepers, lists }),
+        None => Ok(Gathered {
+            keepers,
+            lists,
+            shared,
+        }),
         Some(cause) => Err(GatherFault { keepers, cause }),
     }
 }
@@ -188,7 +195,9 @@ fn run_sites<K: SiteKeeper + Send, G: Gate + Send, R: Threads + Wait + Clock + S
             cause: GatherCause::NoMemory,
         });
     };
-    told(run_in(rt, alloc, room, keepers, desks, gates, turns))
+    let counts = RunCounts::new(keepers.len() as u64);
+    let ended = run_in(rt, alloc, &counts, room, keepers, desks, gates, turns);
+    told(ended, counts.are_shared())
 }
 
 /// Runs all sites, each in a thread of its own, where one can be made: so many turns, each asked for at the site's gate,

@@ -15,7 +15,9 @@ use keeper_core::{MemoryKeeper, SiteKeeper};
 use report_core::{Verdict, audit};
 use site_core::SiteState;
 use site_recovery::{are_all_sites, check_world};
-use site_threads::{Desk, Gate, GatherCause, GatherFault, Gathered, Receipt, SiteList, run_world};
+use site_threads::{
+    Desk, FreeGate, Gate, GatherCause, GatherFault, Gathered, Receipt, SiteList, run_world,
+};
 use std::alloc::{AllocError, Global};
 use std::hash::RandomState;
 use std::sync::Wait;
@@ -122,7 +124,7 @@ fn wrong_in(
 {
     let receipt = receipt_of_b(rt, &mut desks);
     let confirmed = is_confirmed(&gathered, receipt);
-    let Gathered { keepers, lists } = gathered;
+    let Gathered { keepers, lists, .. } = gathered;
     let made = made(lists.as_slice(), 2_000);
     let settled = are_settled(desks, lists, &[2, 1, 1, 2]);
     if !are_ended(alloc, &keepers) {
@@ -138,7 +140,7 @@ fn wrong_in(
     }
 }
 
-/// A run of the four sites, and their desks.
+/// A run of the four sites, and their desks, which would take one job more at least.
 fn ran<G: Gate + Send, R: Threads + Wait + Clock + Sync>(
     rt: &R,
     alloc: Global,
@@ -156,7 +158,7 @@ fn ran<G: Gate + Send, R: Threads + Wait + Clock + Sync>(
     ensures { IfOk result (λ r. IfOk r.0 (λ gathered. AllZip Settles r.1.items gathered.lists.items)) }
 {
     let keepers = keepers(alloc, keys)?;
-    let (desks, outs) = desks(rt, alloc)?;
+    let (desks, outs) = desks(rt, alloc, 3)?;
     if keepers.len() != 4 || outs.len() != 4 || gates.len() != 4 {
         return Err("there aren't four of them".into());
     }
@@ -201,5 +203,35 @@ fn a_gate_that_gives_up_leaves_sites_that_fit(rt: HostRuntime) -> Result<(), Fai
     let keys = RandomState::new(&rt)?;
     let (run, _desks) = ran(&rt, rt.alloc(), keys, without_b(rt.alloc())?, 20)?;
     assert!(rt; gave_up(rt.alloc(), run));
+    Ok(())
+}
+
+/// A run of the four sites whose desks are dropped before it. Two of them are spent then: they took as many jobs as they
+/// take in their lives.
+fn ran_alone<R: Threads + Wait + Clock + Sync>(
+    rt: &R,
+    alloc: Global,
+    keys: RandomState,
+) -> Result<Result<Gathered<MemoryKeeper>, GatherFault<MemoryKeeper>>, Fail> {
+    let keepers = keepers(alloc, keys)?;
+    let (desks, outs) = desks(rt, alloc, 2)?;
+    drop(desks);
+    if keepers.len() != 4 || outs.len() != 4 {
+        return Err("there aren't four of them".into());
+    }
+    let gates = Vec::from_array(alloc, [FreeGate; 4])?;
+    Ok(run_world(rt, alloc, keepers, outs, gates, 2_000))
+}
+
+#[test]
+fn a_run_ends_early_at_spent_desks(rt: HostRuntime) -> Result<(), Fail> {
+    let keys = RandomState::new(&rt)?;
+    let early = match ran_alone(&rt, rt.alloc(), keys)? {
+        Ok(Gathered { keepers, lists, .. }) => {
+            fit(rt.alloc(), &keepers) && lists.iter().all(|list| list.turns < 2_000)
+        }
+        Err(_) => false,
+    };
+    assert!(rt; early);
     Ok(())
 }

@@ -76,11 +76,12 @@ fn put_jobs(rt: &impl Wait, alloc: Global, desk: &mut Desk, place: usize) -> boo
     }
 }
 
-/// A desk at which the jobs of a site were put, and its other end.
-fn desk_of(rt: &impl Wait, alloc: Global, place: usize) -> Option<(Desk, DeskOut)>
+/// A desk that takes so many jobs, at which those of a site were put, and its other end.
+fn desk_of(rt: &impl Wait, alloc: Global, limit: u64, place: usize) -> Option<(Desk, DeskOut)>
+    requires { (1 ≤ limit) × (limit ≤ 1000) }
     ensures { IfSome result (λ r. Serves r.0 r.1 × IsUnused r.1) }
 {
-    let Ok((mut desk, out)) = Desk::new(alloc, 2) else {
+    let Ok((mut desk, out)) = Desk::new(alloc, limit) else {
         return None;
     };
     if put_jobs(rt, alloc, &mut desk, place) {
@@ -99,14 +100,20 @@ fn add<T: Drop>(items: &mut Vec<T>, item: T)
     let _ = items.push(item);
 }
 
-/// The desks of the four sites, with their jobs, and the other ends. Fewer where there was no memory for one.
-pub fn desks(rt: &impl Wait, alloc: Global) -> Result<(Vec<Desk>, Vec<DeskOut>), AllocError>
+/// The desks of the four sites, each of which takes so many jobs, with the jobs of its site, and the other ends. Fewer
+/// where there was no memory for one.
+pub fn desks(
+    rt: &impl Wait,
+    alloc: Global,
+    limit: u64,
+) -> Result<(Vec<Desk>, Vec<DeskOut>), AllocError>
+    requires { (1 ≤ limit) × (limit ≤ 1000) }
     ensures { IfOk result (λ r. AllZip Serves r.0.items r.1.items × All IsUnused r.1.items) }
 {
     let mut desks = Vec::with_capacity(alloc, 4)?;
     let mut outs = Vec::with_capacity(alloc, 4)?;
     for place in 0..4 {
-        let Some((desk, out)) = desk_of(rt, alloc, place) else {
+        let Some((desk, out)) = desk_of(rt, alloc, limit, place) else {
             break;
         };
         add(&mut desks, desk);

@@ -1,26 +1,5 @@
-use Rattle.std.proofs.Common.{slice_index_or, sym, subst}
-use Rattle.std.proofs.lemmas.List.Elements.{All-get_or}
-use denote.Param.Send.{sendable}
-use Rattle.site_threads.specs.declared.runs.SiteRun.{SiteRun}
-use Rattle.site_threads.specs.Runs.{IsReady, Ran}
-use Rattle.site_threads.proofs.Sending.{run_send}
+use Rattle.std.proofs.Common.{arith}
+use Rattle.site_threads.specs.Runs.{IsBetween, Ran}
+use Rattle.site_threads.proofs.Slices.{HasGone, all_begun, all_gone_on, all_ran, all_spent}
+use Rattle.site_threads.proofs.Zips.{all_right, as_long}
 use Rattle.site_threads.proofs.runs.run_all.Goals as goal
-
-pub for_each_mut-requires-send-T : goal.for_each_mut-requires-send-T
-for_each_mut-requires-send-T g c κs within =
-    let k = c.type_bounds.send-K in
-    let h = c.type_bounds.send-G in
-    search (run_send, sendable) depth 20
-
-pub for_each_mut-requires-clause-accepts : goal.for_each_mut-requires-clause-accepts
-for_each_mut-requires-clause-accepts g c κs within i p h is =
-    let ready = IsReady g.K.SiteKeeper.shown g.K.SiteKeeper.may c.args.wire.now in
-    (subst ready (sym is) (All-get_or ready c.args.runs.now i p.now h c.requires.ready), c.requires.turns)
-
-pub returns-clause-each : goal.returns-clause-each
-returns-clause-each g c i d h =
-    let r = (c.for_each_mut.ensures i d h).1 in
-    let ran = Ran g.K.SiteKeeper.shown g.K.SiteKeeper.may g.K.SiteKeeper.reopens g.G.Gate.gives_up c.args.wire.now c.args.turns in
-    let old = slice_index_or c.args.runs.now i d in
-    let new = slice_index_or c.for_each_mut.new.s i d in
-    subst (λ (o : SiteRun g.row.K.Denot g.row.G.Denot). ran o new) r.argument_is (subst (λ (n : SiteRun g.row.K.Denot g.row.G.Denot). ran r.argument.now n) r.left r.call)

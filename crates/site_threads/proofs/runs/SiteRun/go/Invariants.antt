@@ -1,4 +1,4 @@
-use Rattle.std.proofs.Common.{◌≡◌, ◌*◌, ◌≤◌, None}
+use Rattle.std.proofs.Common.{◌≡◌, ◌*◌, ◌≤◌, false, None}
 use Rattle.site_threads.specs.Running.{marks_in}
 use Rattle.site_threads.specs.Runs.{IsRun, SameRun}
 use Rattle.site_threads.proofs.runs.SiteRun.go.Given as goal
@@ -11,4 +11,6 @@ invariant-loop g l = record {
   going : l.self.fault ≡ None;
   asked : l.self.turn.turns ≡ l.counter;
   within : l.counter ≤ l.turns;
+  since : l.fn.self.turn.turns ≤ l.counter;
+  on : l.self.ended ≡ false;
 }

@@ -1,0 +1,78 @@
+-- Slices of their turns lead sites that have not begun to sites that have run.
+use Rattle.std.proofs.Common.{◌≡◌, ◌∙◌, ℕ, ◌+◌, ◌≤◌, Bool, true, false, true≢false, Option, Result, List, [], ◌∷◌, All, sym, refl, arith}
+use Rattle.std.proofs.lemmas.List.Elements.{All-head, All-tail}
+use Rattle.std.proofs.lemmas.List.Sums.{AllPass-from_list_all}
+use Rattle.std.specs.List.{AllZip, list_all}
+use Rattle.keeper_core.specs.declared.faults.Unopened.{Unopened}
+use Rattle.site_core.specs.Records.{Record}
+use Rattle.wire_core.specs.Seats.{Line}
+use Rattle.site_threads.specs.declared.runs.SiteRun.{SiteRun}
+use Rattle.site_threads.specs.Runs.{IsBetween, IsReady, IsSliced, Ran, SameRun}
+use Rattle.site_threads.proofs.Zips.{zip_through}
+
+module _ {K G : Type 0} (shown : K → Option Record) (may : K → Record → Type 0) (reopens : K → Result K (Unopened K) → Type 0) (gives_up : G → ℕ → ℕ → Type 0) (wire : Line) (turns : ℕ) where
+  -- what is known after so many slices
+  pub record HasGone (slices : ℕ) (old new : SiteRun K G) : Type 0 where
+    pub same : SameRun old new
+    pub between : IsBetween shown may reopens gives_up wire turns new
+    pub turned : new.ended ≡ false → slices ≤ new.turn.turns
+
+  begun : (r : SiteRun K G) → IsReady shown may wire r → HasGone 0 r r
+  begun r ready = record {
+    same = record { me = refl; start = refl; desk = refl; limit = refl };
+    between = record {
+      on = λ _. record {
+        run = ready.run;
+        marks = let none = ready.unmarked in omega (arith, none);
+        fine = ready.going;
+        asked = let none = ready.unasked in omega (arith, none);
+      };
+      over = λ e. absurd (true≢false (sym e ∙ ready.begins));
+    };
+    turned = λ _. omega arith;
+  }
+
+  pub all_begun : (rs : List (SiteRun K G)) → All (IsReady shown may wire) rs → AllZip (HasGone 0) rs rs
+  all_begun [] ready = tt
+  all_begun (r ∷ rs) ready = (begun r (All-head (IsReady shown may wire) r rs ready), all_begun rs (All-tail (IsReady shown may wire) r rs ready))
+
+  gone_on : (n : ℕ) (old mid new : SiteRun K G) → HasGone n old mid → IsSliced shown may reopens gives_up wire turns mid new → HasGone (n + 1) old new
+  gone_on n old mid new gone more = record {
+    same = record { me = more.same.me ∙ gone.same.me; start = more.same.start ∙ gone.same.start; desk = more.same.desk ∙ gone.same.desk; limit = more.same.limit ∙ gone.same.limit };
+    between = more.between;
+    turned = λ on. let t = more.turned on in let before = gone.turned t.0 in let after = t.1 in omega (arith, before, after);
+  }
+
+  pub all_gone_on : (n : ℕ) (olds mids news : List (SiteRun K G)) → AllZip (HasGone n) olds mids → AllZip (IsSliced shown may reopens gives_up wire turns) mids news → AllZip (HasGone (n + 1)) olds news
+  all_gone_on n olds mids news gone more =
+      zip_through (HasGone n) (IsSliced shown may reopens gives_up wire turns) (HasGone (n + 1)) olds mids news (λ old mid new g m. gone_on n old mid new g m) gone more
+
+  has_ran : (n : ℕ) (old new : SiteRun K G) → HasGone n old new → new.ended ≡ true → Ran shown may reopens gives_up wire turns old new
+  has_ran n old new gone ended =
+      let over = gone.between.over ended in
+      record { run = over.run; same = gone.same; asked = let few = over.asked in omega (arith, few); all = over.all; is_open = over.is_open; why = over.why }
+
+  each_ran : (n : ℕ) (olds news : List (SiteRun K G)) → AllZip (HasGone n) olds news → All (λ (r : SiteRun K G). r.ended ≡ true) news → AllZip (Ran shown may reopens gives_up wire turns) olds news
+  each_ran n [] [] gone ended = tt
+  each_ran n (o ∷ os) (r ∷ rs) gone ended =
+      (has_ran n o r gone.0 (All-head (λ (x : SiteRun K G). x.ended ≡ true) r rs ended), each_ran n os rs gone.1 (All-tail (λ (x : SiteRun K G). x.ended ≡ true) r rs ended))
+  each_ran n [] (r ∷ rs) gone ended = absurd gone
+  each_ran n (o ∷ os) [] gone ended = absurd gone
+
+  -- where each has ended
+  pub all_ran : (n : ℕ) (olds news : List (SiteRun K G)) → AllZip (HasGone n) olds news → list_all (λ (r : SiteRun K G). r.ended) news ≡ true → AllZip (Ran shown may reopens gives_up wire turns) olds news
+  all_ran n olds news gone ended = each_ran n olds news gone (AllPass-from_list_all (λ (r : SiteRun K G). r.ended) news ended)
+
+  -- a site makes no more slices than it has turns
+  spent : (old new : SiteRun K G) → HasGone (turns + 1) old new → new.ended ≡ true
+  spent old new gone = elim new.ended as (λ e. new.ended ≡ e → new.ended ≡ true) [
+    | true ↦ λ e. e
+    | false ↦ λ e. absurd (let many = gone.turned e in let few = (gone.between.on e).asked in omega (arith, many, few))
+  ] refl
+
+  -- after as many slices as turns, and one more
+  pub all_spent : (olds news : List (SiteRun K G)) → AllZip (HasGone (turns + 1)) olds news → AllZip (Ran shown may reopens gives_up wire turns) olds news
+  all_spent [] [] gone = tt
+  all_spent (o ∷ os) (r ∷ rs) gone = (has_ran (turns + 1) o r gone.0 (spent o r gone.0), all_spent os rs gone.1)
+  all_spent [] (r ∷ rs) gone = absurd gone
+  all_spent (o ∷ os) [] gone = absurd gone
