@@ -5,6 +5,7 @@ pub mod Captures
 pub mod Faults
 pub mod Folders
 pub mod Making
+pub mod Notes
 pub mod Reports
 pub mod Runs
 pub mod Steps

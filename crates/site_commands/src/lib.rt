@@ -9,12 +9,13 @@ mod captures;
 mod faults;
 mod folders;
 mod making;
+mod notes;
 mod reports;
 mod runs;
 mod steps;
 mod totals;
 
-pub use answers::Answer;
+pub use answers::{Answer, Output};
 pub use audits::{audit_of, audit_sites};
 pub use captures::{Documents, capture_documents};
 pub use faults::Fault;

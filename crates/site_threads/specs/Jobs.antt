@@ -1,6 +1,6 @@
 -- What a site is asked by a job, what is returned, and what is said of a site's list of steps.
 use Rattle.std.specs.Prelude.{◌≡◌, ◌⊎◌, ℕ, Bool, true, false, IsTrue, IsFalse, if◌then◌else◌, not, List, [], ◌∷◌, All, map, flat_map, length, Contains, Option, Some, None, Result, Ok, Err}
-use Rattle.std.specs.List.{range_with_len}
+use Rattle.std.specs.List.{range_with_len, count_by}
 use Rattle.keeper_core.specs.declared.faults.KeepFault.{KeepFault}
 use Rattle.keeper_core.specs.declared.faults.KeepFault.TheVariants as faults
 use Rattle.keeper_core.specs.Keeping.{IsAfter, IsRefusedFor}
@@ -101,6 +101,10 @@ ComesTo before (x ∷ xs) after = IsTrue before × ComesTo (not (is_stop x.reply
 -- each step is that of a frame
 abbrev pub AreOfFrames : List Entry → Type 0
 AreOfFrames entries = All (λ x. IsTrue (is_delivery x.input)) entries
+
+-- in how many steps the site stopped
+abbrev pub stops_in : List Entry → ℕ
+stops_in entries = count_by (λ x. is_stop x.reply) entries
 
 abbrev pub option_items : {X : Type 0} → Option X → List X
 option_items None = []

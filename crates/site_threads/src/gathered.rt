@@ -2,11 +2,11 @@
 ghost use Rattle.std.specs.Prelude.{◌≡◌, ◌↔◌, IsTrue, is_ok, length, take};
 ghost use Rattle.site_threads.specs.Ends.{puts, IsDesk, AreEnds};
 ghost use Rattle.site_threads.specs.Gathering.{IsConfirmed, HasJobsOfEnd};
-ghost use Rattle.site_threads.specs.Jobs.{IsEntered, entry_of, input_of, jobs_in};
+ghost use Rattle.site_threads.specs.Jobs.{IsEntered, entry_of, input_of, jobs_in, stops_in};
 
 use crate::desks::{Desk, taken_of};
 use crate::gather::GatherCause;
-use crate::jobs::{Entry, Job, Receipt};
+use crate::jobs::{Entry, Job, Receipt, is_stop};
 use crate::lists::SiteList;
 use keeper_core::SiteKeeper;
 use site_core::SiteInput;
@@ -69,6 +69,16 @@ impl SiteList {
             None => false,
             Some(entry) => is_step_of(entry, receipt),
         }
+    }
+
+    /// In how many steps of the list the site stopped.
+    pub fn stops(&self) -> usize
+        ensures { result ≡ stops_in self.now.entries.items }
+    {
+        self.entries
+            .iter()
+            .filter(|entry| is_stop(entry.reply.same()))
+            .count()
     }
 
     /// How many jobs of a desk stand in the list: the first ones that were put.

@@ -1,6 +1,6 @@
 //! What a site is given to do, and what it returned.
 ghost use Rattle.std.specs.Prelude.{◌≡◌, IfOk, IfErr, option_map};
-ghost use Rattle.site_threads.specs.Jobs.{input_of, is_delivery, refusal_number, reply_to, told};
+ghost use Rattle.site_threads.specs.Jobs.{input_of, is_delivery, is_stop, refusal_number, reply_to, told};
 
 use epc_core::Epc;
 use event_json::{Sequence, SiteNo};
@@ -141,6 +141,13 @@ pub(crate) fn is_delivery(input: &SiteInput) -> bool
         SiteInput::Deliver(_) => true,
         _ => false,
     }
+}
+
+/// Whether the site stopped in the step.
+pub(crate) fn is_stop(reply: Reply) -> bool
+    ensures { result ≡ is_stop reply }
+{
+    matches!(reply, Reply::Stopped)
 }
 
 /// What is entered of a step that had these effects.
