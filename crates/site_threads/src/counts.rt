@@ -5,7 +5,7 @@ use std::thread;
 use std::time::{Clock, Duration};
 
 /// How often a site looks, 100 microseconds apart, whether each site of its run has begun.
-const LOOKS: u64 = 1_000;
+const LOOKS: u64 = 5_000;
 
 /// What the sites of a run count together. Other threads change it at any time, so no contract speaks of it.
 #[derive(Drop)]
@@ -31,8 +31,8 @@ impl RunCounts {
         }
     }
 
-    /// Begins a slice of a site's turns. Before the first one the site waits until each site of the run has begun, some
-    /// 100 milliseconds at most: where one has not, it has no thread of its own, and sites share threads from then on.
+    /// Begins a slice of a site's turns. Before the first one the site waits until each site of the run has begun, for a
+    /// second at most: where one has not, it has no thread of its own, and sites share threads from then on.
     pub fn begin<R: Clock>(&self, rt: &R) {
         self.begun.fetch_add(1, Ordering::SeqCst);
         for _ in 0..LOOKS {

@@ -202,20 +202,22 @@ fn run_sites<K: SiteKeeper + Send, G: Gate + Send, R: Threads + Wait + Clock + S
 
 /// Runs all sites, each in a thread of its own, where one can be made: so many turns, each asked for at the site's gate,
 /// with at most one job a turn from the site's end of its desk, and a last opening of each keeper that is closed then.
+/// Where the system gives fewer threads than sites, sites that share one take turns, so that recalls end then, too.
 ///
 /// After a turn in which a site did no job and its record didn't change it sleeps, 100 microseconds for each such turn
-/// one after another and at most 1,000, so that a run lasts while other sites begin or write. A run ends before its turns
-/// are made once nothing is left to do: each site has found its desk without a job, and the other end dropped, and each
-/// recall that a site began has ended. A site that isn't done makes all turns. So a gate that waits for other sites needs
-/// the other end of a desk to be kept. A desk that has taken as many jobs as it may isn't asked any more, and counts as
-/// kept; an end at which no job is ever put counts as dropped.
+/// one after another and at most 1,000, so that a run lasts while other sites begin or write; where sites share threads,
+/// it leaves its thread to others. A run ends before its turns are made once nothing is left to do: each desk counts as
+/// gone, and each recall that a site began has ended. A site that isn't done makes all turns. So a gate that waits for
+/// other sites needs the other end of a desk to be kept, and a desk that would take one job more; and it needs a thread
+/// for each site.
 ///
 /// The keepers are of one list of sites, in the order of their numbers, open, and their records are consistent; no job was
 /// taken from the desks. Afterwards each keeper is open in the record to which its list of steps leads from the one that
 /// it began with, and the jobs of the list are the first ones that were put at its desk; its gate was asked for just these
 /// turns, or for fewer where the site is done: its end counts the desk as gone, no job is in hand, no message waits for a
-/// signal, and each recall that it began has ended. Whether the run has an answer or not, in whichever records the keepers are open, or may be opened,
-/// they are consistent, and what is quarantined under each recall that has ended is just what its root reaches.
+/// signal, and each recall that it began has ended. Whether the run has an answer or not, in whichever records the keepers
+/// are open, or may be opened, they are consistent, and what is quarantined under each recall that has ended is just what
+/// its root reaches.
 ///
 /// # Errors
 /// All with the keepers. `NotAWorld`, with the keepers as they were. `NoMemory`: before the first turn, when nothing has
