@@ -145,6 +145,10 @@ damaged
 [ $? = 3 ] && [ "$(head -1 err)" = 'fault Device' ] || { echo "a full disk: $(cat out err)" >&2; failed=1; }
 wants 0 "$("$recall" audit chain)" '' audit damaged
 damaged
+(trap '' XFSZ; ulimit -f 1; "$recall" run damaged --turns 40 >out 2>err)
+[ $? = 0 ] && grep -q ' open$' out && grep -qE '^site [a-z0-9-]+ stops [0-9]+ Device$' err \
+    && [ "$(tail -1 err)" = 'a further `recall run` goes on with the recalls that are open' ] || { echo "a run on a full disk: $(cat out err)" >&2; failed=1; }
+damaged
 cp chain/plant.db damaged/dairy.db
 cp chain/plant.db-wal damaged/dairy.db-wal
 faults OtherSite damaged/dairy.db audit damaged

@@ -78,8 +78,24 @@ for turns in 0 1000001 x; do
     [ $? = 2 ] && [ ! -s out ] && [ -s err ] || complain "turns $turns: $(cat out err)"
 done
 cp -r started few
-wants 0 's0#1 open' '' run few --turns 1
+wants 0 's0#1 open' 'a further `recall run` goes on with the recalls that are open' run few --turns 1
 ended few
+
+# As another user, who may have so many processes: then the sites share threads. Only root can become another user.
+if [ "$(id -u)" = 0 ] && command -v setpriv >/dev/null && command -v prlimit >/dev/null; then
+    user=54321
+    chmod 711 "$work"
+    cp "$recall" alone && chmod 755 alone
+    for processes in 1 5; do
+        echo "a run of $processes threads"
+        rm -rf shared && cp -r started shared && chown -R "$user" shared
+        setpriv --reuid="$user" --clear-groups prlimit --nproc="$processes" ./alone run shared >out 2>err </dev/null
+        [ "$?:$(cat out)" = '0:s0#1 ended' ] || complain "a run of $processes threads: $(cat out err)"
+        [ "$(cat err)" = 'the system gave fewer threads than sites, so sites took turns' ] || complain "a run of $processes threads: $(cat err)"
+        chown -R 0 shared
+        wants 0 "equal s0#1 pairs $sites" '' audit shared
+    done
+fi
 
 # items FROM TO: their texts, as the members of a list
 items() {

@@ -1,8 +1,9 @@
 //! The commands on files and sites in memory.
+ghost use Rattle.std.specs.Prelude.{◌≤◌};
 
 use crate::numbers::site;
 use frame_core::{Frame, MsgId};
-use keeper_core::{MemoryKeeper, SiteKeeper};
+use keeper_core::{Keep, MemoryKeeper, SiteKeeper};
 use site_commands::{
     Answer, Documents, Fault, Files, audit_sites, capture, capture_documents, init, report_recall,
     run_sites, start,
@@ -377,9 +378,9 @@ fn ends_in_runs<R: Threads + Wait + Clock + Sync>(
 ) -> bool {
     for _ in 0..20 {
         match run_sites(rt, alloc, files, FreeGate, "d", 2000) {
-            Ok(answer) => {
-                if answer.text() == "A#1 ended\n" {
-                    return answer.status() == 0;
+            Ok(output) => {
+                if output.answer.text() == "A#1 ended\n" {
+                    return output.answer.status() == 0;
                 }
             }
             Err(_) => return false,
@@ -396,5 +397,47 @@ fn sites_run_until_a_recall_has_ended(rt: HostRuntime) -> Result<(), Fail> {
     assert!(rt; ends_in_runs(&rt, rt.alloc(), &mut files));
     let after = [(Asked::Audit("d"), 0, "equal A#1 pairs 3\n")];
     assert!(rt; first_other(rt.alloc(), keys, &mut files, after.as_slice()).is_none());
+    Ok(())
+}
+
+/// Whether a run of so many turns has notes that begin and end so.
+fn notes_are<R: Threads + Wait + Clock + Sync>(
+    rt: &R,
+    alloc: Global,
+    files: &mut MemoryFiles,
+    turns: u64,
+    first: &str,
+    last: &str,
+) -> bool
+    requires { turns ≤ 1000000 }
+{
+    let Ok(output) = run_sites(rt, alloc, files, FreeGate, "d", turns) else {
+        return false;
+    };
+    match &output.notes {
+        Some(notes) => notes.as_str().starts_with(first) && notes.as_str().ends_with(last),
+        None => false,
+    }
+}
+
+/// Makes the next step of B a failure of its device.
+fn arm_b(files: &mut MemoryFiles) {
+    let Some(kept) = files.sites.get_mut(1) else {
+        return;
+    };
+    if let Some(keeper) = &mut kept.keeper {
+        keeper.arm(Keep::Old);
+    }
+}
+
+#[test]
+fn a_run_tells_what_hinders_it(rt: HostRuntime) -> Result<(), Fail> {
+    let keys = RandomState::new(&rt)?;
+    let mut files = files(rt.alloc())?;
+    assert!(rt; first_other(rt.alloc(), keys, &mut files, STARTED.as_slice()).is_none());
+    let on = "a further `recall run` goes on with the recalls that are open\n";
+    assert!(rt; notes_are(&rt, rt.alloc(), &mut files, 1, "", on));
+    arm_b(&mut files);
+    assert!(rt; notes_are(&rt, rt.alloc(), &mut files, 2000, "site B stops 1 Device\n", ""));
     Ok(())
 }
