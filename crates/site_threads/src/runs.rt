@@ -1,5 +1,5 @@
 //! The sites of a run, each in a thread of its own.
-ghost use Rattle.std.specs.Prelude.{◌≡◌, ◌↔◌, ◌+◌, ◌-◌, ◌++◌, ◌^◌, ◌<◌, ◌≤◌, List, None, true, All, IfSome, IsSome, IsTrue, is_none, length, min};
+ghost use Rattle.std.specs.Prelude.{◌≡◌, ◌↔◌, ◌+◌, ◌-◌, ◌++◌, ◌^◌, ◌<◌, ◌≤◌, ℕ, List, None, true, All, IfSome, IsSome, IsTrue, is_none, length, min, slice_index_or};
 ghost use Rattle.std.specs.List.{AllZip, list_all};
 ghost use Rattle.crossbeam_channel.specs.Ends.{receives_on};
 ghost use Rattle.site_threads.specs.Ends.{takes, IsOut};
@@ -255,7 +255,8 @@ fn run_slices<K: SiteKeeper + Send, G: Gate + Send, R: Threads + Wait + Clock + 
     requires count { 0 < length runs.old }
     requires between { All (IsBetween K.shown K.may K.reopens G.gives_up wire.now turns) runs.old }
     requires turns { turns ≤ 1000000 }
-    ensures { AllZip (IsSliced K.shown K.may K.reopens G.gives_up wire.now turns) runs.old runs.new }
+    ensures count { length runs.new ≡ length runs.old }
+    ensures each { (i : ℕ) (d : SiteRun K G) → i < length runs.old → IsSliced K.shown K.may K.reopens G.gives_up wire.now turns (slice_index_or runs.old i d) (slice_index_or runs.new i d) }
 {
     let threads = runs.len();
     thread::for_each_mut(

@@ -4,7 +4,6 @@ use denote.Param.Send.{sendable}
 use Rattle.site_threads.specs.declared.runs.SiteRun.{SiteRun}
 use Rattle.site_threads.specs.Runs.{IsBetween, IsSliced}
 use Rattle.site_threads.proofs.Sending.{run_send}
-use Rattle.site_threads.proofs.Zips.{zip_from}
 use Rattle.site_threads.proofs.runs.run_slices.Goals as goal
 
 pub for_each_mut-requires-send-T : goal.for_each_mut-requires-send-T
@@ -18,11 +17,10 @@ for_each_mut-requires-clause-accepts g c κs within i p h is =
     let between = IsBetween g.K.SiteKeeper.shown g.K.SiteKeeper.may g.K.SiteKeeper.reopens g.G.Gate.gives_up c.args.wire.now c.args.turns in
     (subst between (sym is) (All-get_or between c.args.runs.now i p.now h c.requires.between), c.requires.turns)
 
-pub returns : goal.returns
-returns g c =
+pub returns-clause-each : goal.returns-clause-each
+returns-clause-each g c i d h =
+    let r = (c.for_each_mut.ensures i d h).1 in
     let sliced = IsSliced g.K.SiteKeeper.shown g.K.SiteKeeper.may g.K.SiteKeeper.reopens g.G.Gate.gives_up c.args.wire.now c.args.turns in
-    zip_from sliced c.args.runs.now c.for_each_mut.new.s c.for_each_mut.ensures-length (λ i d h.
-        let r = (c.for_each_mut.ensures i d h).1 in
-        let old = slice_index_or c.args.runs.now i d in
-        let new = slice_index_or c.for_each_mut.new.s i d in
-        subst (λ (o : SiteRun g.row.K.Denot g.row.G.Denot). sliced o new) r.argument_is (subst (λ (n : SiteRun g.row.K.Denot g.row.G.Denot). sliced r.argument.now n) r.left r.call))
+    let old = slice_index_or c.args.runs.now i d in
+    let new = slice_index_or c.for_each_mut.new.s i d in
+    subst (λ (o : SiteRun g.row.K.Denot g.row.G.Denot). sliced o new) r.argument_is (subst (λ (n : SiteRun g.row.K.Denot g.row.G.Denot). sliced r.argument.now n) r.left r.call)
