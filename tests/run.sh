@@ -1,7 +1,8 @@
 #!/usr/bin/env bash
 # Drives `recall run` on folders of files as a person would: a recall over sixteen sites to its end, stops by `kill -9`
 # at moments of the run, after each of which an audit finds the files in order and further runs end the recall, and two
-# runs of one folder at once, of which one is refused; and it looks what a terminal is told of a run.
+# runs of one folder at once, of which one is refused; it looks what a terminal is told of a run, and runs sites that
+# share threads, where it is root.
 # Run by hand, and by the gate on the program that it built. RECALL names another program, STOPS how often it is
 # stopped. It ends with status 0 where all is as it should be, and takes less than two minutes.
 set -u
