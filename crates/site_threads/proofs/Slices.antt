@@ -1,5 +1,5 @@
 -- Slices of their turns lead sites that have not begun to sites that have run.
-use Rattle.std.proofs.Common.{◌≡◌, ◌∙◌, ℕ, ◌+◌, ◌≤◌, Bool, true, false, true≢false, Option, Result, List, [], ◌∷◌, All, sym, refl, arith}
+use Rattle.std.proofs.Common.{◌≡◌, ◌∙◌, ℕ, ◌+◌, ◌*◌, ◌<◌, ◌≤◌, Bool, true, false, true≢false, Option, None, Result, List, [], ◌∷◌, All, sym, refl, arith}
 use Rattle.std.proofs.lemmas.List.Elements.{All-head, All-tail}
 use Rattle.std.proofs.lemmas.List.Sums.{AllPass-from_list_all}
 use Rattle.std.specs.List.{AllZip, list_all}
@@ -7,10 +7,28 @@ use Rattle.keeper_core.specs.declared.faults.Unopened.{Unopened}
 use Rattle.site_core.specs.Records.{Record}
 use Rattle.wire_core.specs.Seats.{Line}
 use Rattle.site_threads.specs.declared.runs.SiteRun.{SiteRun}
-use Rattle.site_threads.specs.Runs.{IsBetween, IsReady, IsSliced, Ran, SameRun}
+use Rattle.site_threads.specs.Running.{marks_in}
+use Rattle.site_threads.specs.Runs.{IsBetween, IsOver, IsReady, IsRun, IsSliced, Ran, SameRun}
 use Rattle.site_threads.proofs.Zips.{zip_through}
 
 module _ {K G : Type 0} (shown : K → Option Record) (may : K → Record → Type 0) (reopens : K → Result K (Unopened K) → Type 0) (gives_up : G → ℕ → ℕ → Type 0) (wire : Line) (turns : ℕ) where
+  -- a slice after which a site goes on, and one after which it has ended its run
+
+  pub went_on : (old new : SiteRun K G) → SameRun old new → IsRun shown may wire new → marks_in new.turn.site.seat.logs ≤ 18 * new.turn.turns → new.fault ≡ None → new.turn.turns ≤ turns
+      → new.ended ≡ false → old.ended ≡ false → old.turn.turns < new.turn.turns → IsSliced shown may reopens gives_up wire turns old new
+  went_on old new same run marks fine asked on before more = record {
+    same = same;
+    between = record { on = λ _. record { run = run; marks = marks; fine = fine; asked = asked }; over = λ e. absurd (true≢false (sym e ∙ on)) };
+    turned = λ _. (before, more);
+  }
+
+  pub went_over : (old new : SiteRun K G) → SameRun old new → IsOver shown may reopens gives_up wire turns new → new.ended ≡ true → IsSliced shown may reopens gives_up wire turns old new
+  went_over old new same over ended = record {
+    same = same;
+    between = record { on = λ e. absurd (true≢false (sym ended ∙ e)); over = λ _. over };
+    turned = λ e. absurd (true≢false (sym ended ∙ e));
+  }
+
   -- what is known after so many slices
   pub record HasGone (slices : ℕ) (old new : SiteRun K G) : Type 0 where
     pub same : SameRun old new
