@@ -1,9 +1,8 @@
 //! What is told of a run beside its recalls: which sites stopped in it, and that a further run goes on.
 
-ghost use Rattle.std.specs.Prelude.{◌≡◌, ◌≤◌, ◌++◌, IfOk, OnOk, length, map, string_bytes};
+ghost use Rattle.std.specs.Prelude.{◌≡◌, ◌++◌, IfOk, OnOk, map, not, string_bytes};
 ghost use Rattle.std.specs.List.{list_any};
 ghost use Rattle.site_commands.specs.Notes.{AreOfSites, open_note, run_notes, shared_note, stop_texts, stop_word, stops_text};
-ghost use Rattle.site_threads.specs.Jobs.{stops_in};
 
 use crate::audits::StartedRecall;
 use event_json::{SiteNo, Sites};

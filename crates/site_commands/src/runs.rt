@@ -214,13 +214,13 @@ fn push_recall(
     alloc: Global,
     text: &mut String,
     sites: &Sites,
-    begun: &StartedRecall,
+    started: &StartedRecall,
 ) -> Result<(), AllocError>
-    ensures { OnOk result (string_bytes text.new ≡ string_bytes text.old ++ ran_text sites.now begun.now) }
+    ensures { OnOk result (string_bytes text.new ≡ string_bytes text.old ++ ran_text sites.now started.now) }
 {
-    let recall = recall_text(alloc, sites, begun.recall)?;
+    let recall = recall_text(alloc, sites, started.recall)?;
     let recall = recall.as_str();
-    let word = ended_word(begun.ended);
+    let word = ended_word(started.ended);
     let line = format!(in alloc; "{recall} {word}\n")?;
     text.push_str(line.as_str())
 }
