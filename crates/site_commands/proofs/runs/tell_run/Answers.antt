@@ -1,22 +1,31 @@
-use Rattle.std.proofs.Common.{ap, ◌∙◌}
+use Rattle.std.proofs.Common.{All, IsSome, List, ap, sym, subst, ◌∙◌}
+use Rattle.std.specs.List.{flat_map}
 use Rattle.site_recovery.specs.Checking.{records_at}
-use Rattle.site_commands.specs.Runs.{ran_texts}
-use Rattle.site_commands.proofs.CallsInTurn.{ok_so}
+use Rattle.world_core.specs.Keepers.{AllShow}
+use Rattle.site_commands.specs.Audits.{begun}
+use Rattle.site_commands.specs.Notes.{run_notes}
+use Rattle.site_commands.specs.Runs.{ran_text}
 use Rattle.site_commands.proofs.RunLemmas.{are_shown, shown_stand}
-use Rattle.site_commands.proofs.runs.tell_recalls.Goals as goal
+use Rattle.site_commands.proofs.runs.tell_run.Goals as goal
+
+pub open_records-records-requires : goal.open_records-records-requires
+open_records-records-requires g c =
+    let shown = g.K.SiteKeeper.shown in
+    subst (λ ks. All (λ (k : g.row.K.Denot). IsSome (shown k)) ks) (sym c.as_slice.ensures.value) c.requires.open
 
 pub returns : goal.returns
 returns g c =
     let shown = g.K.SiteKeeper.shown in
     let may = g.K.SiteKeeper.may in
-    let keepers = c.args.keepers.now in
+    let keepers = c.args.run.now.keepers.items in
     let records = records_at c.in_ok-records.records.items in
-    let shows = c.in_ok-records.ensures in
-    ok_so c.recalls_text.result
-    (λ t is. record {
-      records = records;
-      shows = are_shown shown keepers records shows;
-      together = shown_stand shown may keepers records c.requires.fit shows;
-      text_is = is ∙ ap (λ refs. ran_texts c.args.sites.now (records_at refs)) c.as_slice.ensures.value;
-    })
-    c.recalls_text.ensures
+    let shows = subst (λ ks. AllShow shown ks records) c.as_slice.ensures.value c.in_ok-records.ensures in
+    let recalls = c.as_slice-recalls.ensures.value ∙ (c.in_ok-recalls.ensures ∙ ap (λ refs. begun (records_at refs)) c.as_slice-records.ensures.value) in (
+      record {
+        records = records;
+        shows = are_shown shown keepers records shows;
+        together = shown_stand shown may keepers records c.requires.fit shows;
+        text_is = c.in_ok-text.ensures ∙ ap (flat_map (ran_text c.args.sites.now)) recalls;
+      },
+      c.in_ok-notes.ensures ∙ ap (run_notes g.K.SiteKeeper.failed c.args.sites.now c.args.before.now keepers c.args.run.now.lists.items c.args.run.now.shared) recalls,
+    )
