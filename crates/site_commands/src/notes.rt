@@ -67,10 +67,10 @@ fn shared_note(shared: bool) -> &'static str
 }
 
 /// That a further run goes on, where a recall is open.
-fn open_note(open: bool) -> &'static str
-    ensures { result.now ≡ open_note open }
+fn open_note(some_open: bool) -> &'static str
+    ensures { result.now ≡ open_note some_open }
 {
-    if open {
+    if some_open {
         "a further `recall run` goes on with the recalls that are open\n"
     } else {
         ""

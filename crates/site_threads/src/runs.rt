@@ -4,6 +4,7 @@ ghost use Rattle.std.specs.List.{AllZip, list_all};
 ghost use Rattle.crossbeam_channel.specs.Ends.{receives_on};
 ghost use Rattle.site_threads.specs.Ends.{takes, IsOut};
 ghost use Rattle.site_threads.specs.Jobs.{option_items};
+ghost use Rattle.site_threads.specs.Keepers.{shown_in};
 ghost use Rattle.site_threads.specs.Resting.{HaveEnded, IsAtRest, IsDone};
 ghost use Rattle.site_threads.specs.Runs.{IsRun, IsReady, SameRun, EndedBy, IsBetween, IsSliced, Ran, goes_on};
 ghost use Rattle.site_threads.specs.Running.{marks_in};
