@@ -139,6 +139,7 @@ impl<K: SiteKeeper, G: Gate> SiteRun<K, G> {
         ensures marks { marks_in self.new.turn.site.seat.logs ≤ marks_in self.old.turn.site.seat.logs + 18 }
         ensures turns { self.new.turn.turns ≡ min (self.old.turn.turns + 1) (2 ^ 64 - 1) }
         ensures going { goes_on result ≡ is_none self.new.fault }
+        ensures on { self.new.ended ≡ self.old.ended }
         ensures why { IfSome self.new.fault (EndedBy K.shown K.reopens G.gives_up self.new) }
     {
         tell_open(

@@ -216,10 +216,10 @@ fn ran_alone<R: Threads + Wait + Clock + Sync>(
     let keepers = keepers(alloc, keys)?;
     let (desks, outs) = desks(rt, alloc, 2)?;
     drop(desks);
-    if keepers.len() != 4 || outs.len() != 4 {
+    let gates = Vec::from_array(alloc, [FreeGate; 4])?;
+    if keepers.len() != 4 || outs.len() != 4 || gates.len() != 4 {
         return Err("there aren't four of them".into());
     }
-    let gates = Vec::from_array(alloc, [FreeGate; 4])?;
     Ok(run_world(rt, alloc, keepers, outs, gates, 2_000))
 }
 
