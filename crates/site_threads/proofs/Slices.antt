@@ -81,16 +81,16 @@ module _ {K G : Type 0} (shown : K → Option Record) (may : K → Record → Ty
   pub all_ran : (n : ℕ) (olds news : List (SiteRun K G)) → AllZip (HasGone n) olds news → list_all (λ (r : SiteRun K G). r.ended) news ≡ true → AllZip (Ran shown may reopens gives_up wire turns) olds news
   all_ran n olds news gone ended = each_ran n olds news gone (AllPass-from_list_all (λ (r : SiteRun K G). r.ended) news ended)
 
-  -- a site makes no more slices than it has turns
-  spent : (old new : SiteRun K G) → HasGone (turns + 1) old new → new.ended ≡ true
-  spent old new gone = elim new.ended as (λ e. new.ended ≡ e → new.ended ≡ true) [
+  -- a site goes on for no more slices than it has turns
+  spent : (n : ℕ) (old new : SiteRun K G) → turns < n → HasGone n old new → new.ended ≡ true
+  spent n old new past gone = elim new.ended as (λ e. new.ended ≡ e → new.ended ≡ true) [
     | true ↦ λ e. e
-    | false ↦ λ e. absurd (let many = gone.turned e in let few = (gone.between.on e).asked in omega (arith, many, few))
+    | false ↦ λ e. absurd (let many = gone.turned e in let few = (gone.between.on e).asked in omega (arith, past, many, few))
   ] refl
 
-  -- after as many slices as turns, and one more
-  pub all_spent : (olds news : List (SiteRun K G)) → AllZip (HasGone (turns + 1)) olds news → AllZip (Ran shown may reopens gives_up wire turns) olds news
-  all_spent [] [] gone = tt
-  all_spent (o ∷ os) (r ∷ rs) gone = (has_ran (turns + 1) o r gone.0 (spent o r gone.0), all_spent os rs gone.1)
-  all_spent [] (r ∷ rs) gone = absurd gone
-  all_spent (o ∷ os) [] gone = absurd gone
+  -- after more slices than turns
+  pub all_spent : (n : ℕ) (olds news : List (SiteRun K G)) → turns < n → AllZip (HasGone n) olds news → AllZip (Ran shown may reopens gives_up wire turns) olds news
+  all_spent n [] [] past gone = tt
+  all_spent n (o ∷ os) (r ∷ rs) past gone = (has_ran n o r gone.0 (spent n o r past gone.0), all_spent n os rs past gone.1)
+  all_spent n [] (r ∷ rs) past gone = absurd gone
+  all_spent n (o ∷ os) [] past gone = absurd gone

@@ -6,7 +6,7 @@ use Rattle.site_threads.proofs.worlds.run_sites.Goals as goal
 pub returns-in_default-clause-err : goal.returns-in_default-clause-err
 returns-in_default-clause-err g c = let w = c.requires.world in (tt, fit_before g.K.SiteKeeper.shown g.K.SiteKeeper.may c.args.keepers.items w.0 w.1 w.2)
 
-pub run_in-requires-clause-world : goal.run_in-requires-clause-world
-run_in-requires-clause-world g c κs within =
+pub run_in-ended-requires-clause-world : goal.run_in-ended-requires-clause-world
+run_in-ended-requires-clause-world g c κs within =
     let w = c.requires.world in
     (w.0, w.1, w.2.places, c.in-Ok.ensures.seat w.0 (subst (λ ks. AllShow g.K.SiteKeeper.shown ks w.0) (sym c.deref.ensures.value) w.1))

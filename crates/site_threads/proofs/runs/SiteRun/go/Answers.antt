@@ -1,4 +1,4 @@
-use Rattle.std.proofs.Common.{◌≡◌, ◌∙◌, refl, arith}
+use Rattle.std.proofs.Common.{◌∙◌, refl, rules, arith}
 use Rattle.site_threads.proofs.Slices.{went_on}
 use Rattle.site_threads.proofs.runs.SiteRun.go.Goals as goal
 
@@ -14,4 +14,20 @@ loop-init g c =
       within = on.asked;
       since = omega arith;
       on = c.if-self.false;
+    }
+
+pub returns-then-self-until : goal.returns-then-self-until
+returns-then-self-until g c =
+    let t = c.one_turn.ensures in
+    let i = c.loop.invariant in
+    let marks = t.marks in
+    let few = i.few in
+    let turns = t.turns in
+    let asked = i.asked in
+    let since = i.since in
+    record {
+      sliced = went_on g.K.SiteKeeper.shown g.K.SiteKeeper.may g.K.SiteKeeper.reopens g.G.Gate.gives_up c.args.wire.now c.args.turns c.args.self.now _
+          (record { me = t.same.me ∙ i.same.me; start = t.same.start ∙ i.same.start; desk = t.same.desk ∙ i.same.desk; limit = t.same.limit ∙ i.same.limit })
+          (record { seat = t.run.seat; site = t.run.site; out = t.run.out; jobs = t.run.jobs })
+          (omega (arith, marks, few, turns, asked)) (search rules) (omega (arith, turns, asked)) (t.on ∙ i.on) c.if-self.false (omega (arith, turns, asked, since));
     }
