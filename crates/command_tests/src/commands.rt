@@ -438,6 +438,15 @@ fn a_run_tells_what_hinders_it(rt: HostRuntime) -> Result<(), Fail> {
     let on = "a further `recall run` goes on with the recalls that are open\n";
     assert!(rt; notes_are(&rt, rt.alloc(), &mut files, 1, "", on));
     arm_b(&mut files);
-    assert!(rt; notes_are(&rt, rt.alloc(), &mut files, 2000, "site B stops 1 Device\n", ""));
+    assert!(rt;
+        notes_are(
+            &rt,
+            rt.alloc(),
+            &mut files,
+            2000,
+            "site B stops 1 Device\n",
+            ""
+        )
+    );
     Ok(())
 }

@@ -223,15 +223,29 @@ fn ran_alone<R: Threads + Wait + Clock + Sync>(
     Ok(run_world(rt, alloc, keepers, outs, gates, 2_000))
 }
 
+/// Whether a run ended before its 2,000 turns, and its sites are consistent.
+fn ended_early(
+    alloc: Global,
+    run: Result<Gathered<MemoryKeeper>, GatherFault<MemoryKeeper>>,
+) -> bool {
+    match run {
+        Ok(gathered) => {
+            let Gathered { keepers, lists, .. } = gathered;
+            fit(alloc, &keepers) && made_fewer(lists.as_slice(), 2_000)
+        }
+        Err(_) => false,
+    }
+}
+
+/// Whether each site made fewer turns.
+fn made_fewer(lists: &[SiteList], turns: u64) -> bool {
+    lists.iter().all(|list| list.turns < turns)
+}
+
 #[test]
 fn a_run_ends_early_at_spent_desks(rt: HostRuntime) -> Result<(), Fail> {
     let keys = RandomState::new(&rt)?;
-    let early = match ran_alone(&rt, rt.alloc(), keys)? {
-        Ok(Gathered { keepers, lists, .. }) => {
-            fit(rt.alloc(), &keepers) && lists.iter().all(|list| list.turns < 2_000)
-        }
-        Err(_) => false,
-    };
-    assert!(rt; early);
+    let run = ran_alone(&rt, rt.alloc(), keys)?;
+    assert!(rt; ended_early(rt.alloc(), run));
     Ok(())
 }
