@@ -129,7 +129,7 @@ impl<'a> HostFiles<'a> {
         let conn = self.connect(path)?;
         match site_store::open_site(alloc, self.keys, conn, options, name) {
             Ok(site) => Ok(site),
-            Err(fault) => Err(unfound(fault)),
+            Err(left) => Err(unfound(left.fault)),
         }
     }
 }

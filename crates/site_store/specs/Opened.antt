@@ -124,10 +124,9 @@ module _ {D : Type 0} {g : disk.Ghosts D} where
     pub finds : IsCleanAt (link_of site) → (r : Record) → ListsSite r name (file_state conn) → shown ≡ r
     pub kept : IsFound conn → IsKeptBy site shown
 
-  -- the connection was given up after a reading, which wrote nothing, and the tables say why. Where they list the rows of
+  -- the connection is given back after a reading, which wrote nothing, and the tables say why. Where they list the rows of
   -- such a site, nothing but the machine prevents its opening.
-  pub record IsNotOpened (conn : Held (FileStore D g)) (name : List ℕ) (fault : OpenFault) : Type 0 where
-    pub last : Held (FileStore D g)
-    pub crash : Survives (file_state conn) (file_state last) (λ _. ⊥)
-    pub cause : HasCleanDisk (file_state last) → IsOpenFault (file_state conn) (file_state last) name fault
-    pub finds : HasCleanDisk (file_state last) → (r : Record) → ListsSite r name (file_state conn) → IsOfMachine (file_state conn) fault
+  pub record IsNotOpened (conn : Held (FileStore D g)) (name : List ℕ) (left : Held (FileStore D g)) (fault : OpenFault) : Type 0 where
+    pub crash : Survives (file_state conn) (file_state left) (λ _. ⊥)
+    pub cause : HasCleanDisk (file_state left) → IsOpenFault (file_state conn) (file_state left) name fault
+    pub finds : HasCleanDisk (file_state left) → (r : Record) → ListsSite r name (file_state conn) → IsOfMachine (file_state conn) fault

@@ -12,6 +12,6 @@ mod pairs;
 mod sites;
 mod writing;
 
-pub use opening::{OpenFault, open_site};
+pub use opening::{OpenFault, Unfound, open_site};
 pub use sites::{Link, StoredSite, Unmade};
 pub use writing::{Unwritten, write_step};

@@ -21,7 +21,7 @@ use std::hash::RandomState;
 /// The version of the tables.
 const VERSION: i64 = 1;
 
-/// Why no site was opened. The database is as it was, and the connection is given up.
+/// Why no site was opened. The database is as it was.
 #[derive(Debug, Drop)]
 pub enum OpenFault {
     /// Memory ran out.
@@ -38,6 +38,13 @@ pub enum OpenFault {
     Device,
     /// The database refused for a cause of its own.
     Store,
+}
+
+/// Why no site was opened, and the connection, over which nothing was written.
+#[derive(Drop)]
+pub struct Unfound<D: Disk> {
+    pub conn: Connection<FileStore<D>>,
+    pub fault: OpenFault,
 }
 
 /// Why the tables couldn't be read.
@@ -144,19 +151,20 @@ fn read_site<S: Alter>(
 /// drawn at random, so that nobody can choose texts that collide. Nothing is written.
 ///
 /// # Errors
-/// As [`OpenFault`] says, and the connection is given up. Asked are, in this order: whether the tables are a site's and
-/// `store` has a row, whether its version is 1, whether `site` has a row of its number, whether that has the name, and
-/// whether the rows stand in a record's, table by table, a table's rows by key. A row with a text that isn't UTF-8 is
-/// reported before any of these but the first, and an error of the database as soon as a call returns it.
+/// As [`OpenFault`] says. The connection is given back, and a crash leaves what it would have left before. Asked are, in
+/// this order: whether the tables are a site's and `store` has a row, whether its version is 1, whether `site` has a row of
+/// its number, whether that has the name, and whether the rows stand in a record's, table by table, a table's rows by key.
+/// A row with a text that isn't UTF-8 is reported before any of these but the first, and an error of the database as soon
+/// as a call returns it.
 pub fn open_site<D: Disk + Drop>(
     alloc: Global,
     keys: RandomState,
     conn: Connection<FileStore<D>>,
     options: Options,
     name: &str,
-) -> Result<StoredSite<D>, OpenFault>
+) -> Result<StoredSite<D>, Unfound<D>>
     ensures opened { IfOk result (IsOpenedAs conn name.now) }
-    ensures refused { IfErr result (IsNotOpened conn name.now) }
+    ensures refused { IfErr result (λ left. IsNotOpened conn name.now left.conn left.fault) }
 {
     let mut conn = conn;
     // What is known of the connection before anything is read.
@@ -167,6 +175,6 @@ pub fn open_site<D: Disk + Drop>(
             settled(&conn);
             Ok(StoredSite::adopt(alloc, conn, options, state))
         }
-        Err(fault) => Err(fault),
+        Err(fault) => Err(Unfound { conn, fault }),
     }
 }

@@ -3,7 +3,7 @@ use event_json::Sites;
 use keeper_core::SiteKeeper;
 use site_core::SiteState;
 use site_rows::{Rows, rows_of};
-use site_store::{Link, OpenFault, StoredSite, open_site};
+use site_store::{Link, OpenFault, StoredSite, Unfound, open_site};
 use sqlite::{Connection, FileStore, Files, Options};
 use sqlite_disk::Memory;
 use std::alloc::Global;
@@ -49,7 +49,7 @@ fn opened(
     keys: RandomState,
     site: StoredSite<Memory>,
     name: &str,
-) -> Option<Result<StoredSite<Memory>, OpenFault>> {
+) -> Option<Result<StoredSite<Memory>, Unfound<Memory>>> {
     match site.release() {
         Link::Connected(conn) => Some(open_site(alloc, keys, conn, Options::new(1), name)),
         Link::Unconnected(_) => None,
@@ -81,7 +81,10 @@ pub fn keeps_its_rows(
 /// Whether the name of the site is reported where that of another is asked for.
 fn tells_other_site(alloc: Global, keys: RandomState) -> Result<bool, Fail> {
     match opened(alloc, keys, stored(alloc, keys, false)?, "B") {
-        Some(Err(OpenFault::OtherSite(found))) => Ok(found.as_str() == "A"),
+        Some(Err(left)) => match &left.fault {
+            OpenFault::OtherSite(found) => Ok(found.as_str() == "A"),
+            _ => Ok(false),
+        },
         _ => Ok(false),
     }
 }
