@@ -6,7 +6,9 @@ pub mod KeptSteps
 pub mod KeptStops
 pub mod Named
 pub mod OpeningReads
+pub mod OwnSteps
 pub mod ReadableRows
+pub mod Reopenings
 pub mod RisingParts
 pub mod RisingRows
 pub mod SameRows

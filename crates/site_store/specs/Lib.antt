@@ -1,8 +1,10 @@
 pub mod Faults
 pub mod Kept
 pub mod Laws
+pub mod Leavings
 pub mod Opened
 pub mod Openings
 pub mod Pairs
+pub mod Reopened
 pub mod Sites
 pub mod StepWritten

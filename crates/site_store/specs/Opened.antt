@@ -29,6 +29,7 @@ use Rattle.site_store.specs.declared.opening.OpenFault.TheVariants.{NoMemory, No
 use Rattle.site_store.specs.declared.sites.Link.{Link}
 use Rattle.site_store.specs.declared.sites.Link.TheVariants.{Connected, Unconnected}
 use Rattle.site_store.specs.declared.sites.StoredSite.{StoredSite}
+use Rattle.site_store.specs.Leavings.{KeepsOwn}
 use Rattle.site_store.specs.Openings.{ListsRecord, ListsRows, TextsAreUtf8}
 use Rattle.site_store.specs.Sites.{shown_by, failed_by, statements_by, link_of, IsKeptBy}
 
@@ -123,6 +124,7 @@ module _ {D : Type 0} {g : disk.Ghosts D} where
     pub reads : ReadsAt conn shown (link_of site)
     pub finds : IsCleanAt (link_of site) → (r : Record) → ListsSite r name (file_state conn) → shown ≡ r
     pub kept : IsFound conn → IsKeptBy site shown
+    pub own : IsFound conn → KeepsOwn site
 
   -- the connection is given back after a reading, which wrote nothing, and the tables say why. Where they list the rows of
   -- such a site, nothing but the machine prevents its opening.

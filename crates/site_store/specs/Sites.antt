@@ -21,6 +21,7 @@ use Rattle.site_store.specs.declared.sites.Link.TheVariants.{Connected, Unconnec
 use Rattle.site_store.specs.declared.sites.StoredSite.{StoredSite}
 use Rattle.site_store.specs.Kept.{shown_in, MayIn, AppliesKept, StopsKept, KeepsAfter, KeepsStopped, is_idle}
 use Rattle.site_store.specs.Openings.{StaysAs, ListsRows}
+use Rattle.site_store.specs.Reopened.{IsReopened}
 use Rattle.site_store.specs.StepWritten.{Keeps}
 
 module _ {D : Type 0} {g : disk.Ghosts D} where
@@ -110,4 +111,4 @@ module _ {D : Type 0} {g : disk.Ghosts D} where
 
   abbrev pub ReopensBy : StoredSite D g → Result (StoredSite D g) (Unopened (StoredSite D g)) → Type 0
   ReopensBy old (Ok site) = shown_by old ≡ None → OpensIn old.kept site
-  ReopensBy old (Err left) = StaysShut old.kept left × NoneListed old.kept left.fault left.keeper.link
+  ReopensBy old (Err left) = StaysShut old.kept left × NoneListed old.kept left.fault left.keeper.link × IsReopened old.link left.keeper.link

@@ -1,5 +1,6 @@
 //! A connection made again.
-ghost use Rattle.std.specs.Prelude.{◌≡◌, None, IfOk};
+ghost use Rattle.std.specs.Prelude.{◌≡◌, None, IfOk, IfErr};
+ghost use Rattle.site_store.specs.Reopened.{AreBehind, IsMadeTo, AreLeftOf, IsReopened};
 ghost use Rattle.site_store.specs.Sites.{StoresListed};
 
 use crate::sites::Link;
@@ -7,6 +8,17 @@ use site_tables::settled;
 use sqlite::{Connection, Error, ErrorCode, FileStore, Files, Options};
 use sqlite_disk::Disk;
 use std::alloc::Global;
+
+/// The files behind a link. A connection is closed, whether it is open still or a failure shut it. What is in the log
+/// stays there.
+fn files_behind<D: Disk + Drop>(link: Link<D>) -> Files<D>
+    ensures { AreBehind link result }
+{
+    match link {
+        Link::Connected(conn) => conn.into_store().close(),
+        Link::Unconnected(files) => files,
+    }
+}
 
 /// Opens the files. Rows that its readers list are stored: a crash leaves these and no others.
 ///
@@ -19,6 +31,8 @@ fn open_files_again<D: Disk + Drop>(
 ) -> Result<Connection<FileStore<D>>, (Error, Files<D>)>
     ensures stores { IfOk result StoresListed }
     ensures unlimited { IfOk result (λ conn. conn.step_limit ≡ None) }
+    ensures made { IfOk result (IsMadeTo files) }
+    ensures left { IfErr result (λ left. AreLeftOf D.Disk files left.1) }
 {
     if !files.may_be_used() {
         return Err((Error::SqliteFailure(ErrorCode::CannotOpen), files));
@@ -32,11 +46,11 @@ fn open_files_again<D: Disk + Drop>(
     }
 }
 
-/// Closes the connection, if there is one, and opens its files again. Rows that its readers list are stored: a crash
-/// leaves these and no others.
+/// Closes the connection, if there is one, also one that a failure shut, and opens its files again. Rows that its
+/// readers list are stored: a crash leaves these and no others.
 ///
 /// # Errors
-/// The files, with what prevented their closing or their opening.
+/// The files, with what prevented their opening.
 pub fn connect<D: Disk + Drop>(
     alloc: Global,
     link: Link<D>,
@@ -44,13 +58,9 @@ pub fn connect<D: Disk + Drop>(
 ) -> Result<Connection<FileStore<D>>, (Error, Files<D>)>
     ensures stores { IfOk result StoresListed }
     ensures unlimited { IfOk result (λ conn. conn.step_limit ≡ None) }
+    ensures again { IfOk result (λ conn. IsReopened link (Link.Connected conn)) }
+    ensures left { IfErr result (λ left. IsReopened link (Link.Unconnected left.1)) }
 {
-    let files = match link {
-        Link::Connected(conn) => match conn.close_files() {
-            Ok(files) => files,
-            Err((error, store)) => return Err((error, store.close())),
-        },
-        Link::Unconnected(files) => files,
-    };
+    let files = files_behind(link);
     open_files_again(alloc, files, options)
 }

@@ -6,6 +6,8 @@ ghost use Rattle.site_core.specs.Records.{Record};
 ghost use Rattle.site_core.specs.Steps.{CopiesRecord};
 ghost use Rattle.keeper_core.specs.Keeping.{Applies, Stops, StaysClosed, HindersOpening, Rises};
 ghost use Rattle.site_store.specs.Sites.{shown_by, MayBy, failed_by, statements_by, link_of, IsKeptOver, IsKeptBy, StoresListed, OpensIn, StaysShut, NoneListed, AppliesBy, StopsBy, ReopensBy};
+ghost use Rattle.site_store.specs.Leavings.{StillLeaves, KeepsOwn, KeepsOwnBy};
+ghost use Rattle.site_store.specs.Reopened.{IsReopened, IsOnlyRead};
 ghost use Rattle.site_store.specs.Openings.{FailsToBegin};
 ghost use Rattle.site_store.specs.StepWritten.{IsInUse, BeginsAs};
 ghost use Rattle.site_tables.specs.Tables.{no_schema};
@@ -91,6 +93,7 @@ impl<D: Disk + Drop> StoredSite<D> {
         ensures shown { IfOk result (λ site. shown_by site ≡ Some state) }
         ensures fresh { IfOk result (λ site. (failed_by site ≡ 0) × (statements_by site ≡ 0)) }
         ensures stored { IfOk result (λ site. IsKeptBy site state) }
+        ensures own { IfOk result KeepsOwn }
         ensures kind { IfErr result (λ left. HindersOpening left.fault) }
         ensures cause { (file_state conn).in_transaction ≡ false → (file_state conn).now.schema ≡ no_schema
             → IfErr result (λ left. HasCleanDisk (file_state left.conn) → FailsToBegin (file_state conn) (file_state left.conn) left.fault) }
@@ -152,6 +155,7 @@ impl<D: Disk + Drop> StoredSite<D> {
         ensures kind { IfErr result (λ left. HindersOpening left.fault) }
         ensures unopened { IfErr result (StaysShut self.kept) }
         ensures unfound { IfErr result (λ left. NoneListed self.kept left.fault left.keeper.link) }
+        ensures reopened { IfErr result (λ left. IsReopened self.link left.keeper.link) }
     {
         let StoredSite {
             mut kept,
@@ -198,7 +202,7 @@ impl<D: Disk + Drop> SiteKeeper for StoredSite<D> {
         self.kept.failures
     }
 
-    #[tactic(auto, using(crate::proofs::SiteSteps::open_by, crate::proofs::SiteSteps::memory_by, crate::proofs::SiteSteps::closed_by, crate::proofs::SiteSteps::cause_by, crate::proofs::SiteSteps::count_by))]
+    #[tactic(auto, using(crate::proofs::SiteSteps::open_by, crate::proofs::SiteSteps::memory_by, crate::proofs::SiteSteps::closed_by, crate::proofs::SiteSteps::cause_by, crate::proofs::SiteSteps::count_by, crate::proofs::OwnSteps::applied))]
     fn apply(&mut self, input: SiteInput) -> Result<Effects, KeepFault>
         ensures open { (old : Record) → shown_by self.old ≡ Some old → Applies old input result (shown_by self.new) (MayBy self.new) }
         ensures memory { (old : Record) → shown_by self.old ≡ Some old → result ≡ Err KeepFault.NoMemory → CopiesRecord old input }
@@ -206,16 +210,18 @@ impl<D: Disk + Drop> SiteKeeper for StoredSite<D> {
         ensures cause { result ≡ Err KeepFault.Device → Rises (failed_by self.old) (failed_by self.new) }
         ensures count { failed_by self.old ≤ failed_by self.new }
         ensures kind { AppliesBy self.old input result self.new }
+        ensures own { KeepsOwn self.old → KeepsOwn self.new }
     {
         self.take(input)
     }
 
-    #[tactic(auto, using(crate::proofs::SiteSteps::stop_open_by, crate::proofs::SiteSteps::stop_closed_by, crate::proofs::SiteSteps::stop_count_by))]
+    #[tactic(auto, using(crate::proofs::SiteSteps::stop_open_by, crate::proofs::SiteSteps::stop_closed_by, crate::proofs::SiteSteps::stop_count_by, crate::proofs::OwnSteps::stopped))]
     fn stop(&mut self, input: SiteInput, keep: Keep) -> Result<(), AllocError>
         ensures open { (old : Record) → shown_by self.old ≡ Some old → Stops old input keep (is_ok result) (shown_by self.new) (MayBy self.new) }
         ensures closed { shown_by self.old ≡ None → self.new ≡ self.old }
         ensures count { failed_by self.old ≤ failed_by self.new }
         ensures kind { StopsBy self.old input keep (is_ok result) self.new }
+        ensures own { KeepsOwn self.old → KeepsOwn self.new }
     {
         self.stop_in(input, keep)
     }
@@ -228,6 +234,8 @@ impl<D: Disk + Drop> SiteKeeper for StoredSite<D> {
         ensures cause { IfErr result (λ u. u.fault ≡ KeepFault.Device → Rises (failed_by self) (failed_by u.keeper)) }
         ensures count { MatchResult result (λ keeper. failed_by self ≤ failed_by keeper) (λ u. failed_by self ≤ failed_by u.keeper) }
         ensures kind { ReopensBy self result }
+        ensures leaves { IfErr result (λ u. StillLeaves (MayBy self) (link_of self) (link_of u.keeper)) }
+        ensures own { KeepsOwn self → KeepsOwnBy result }
     {
         if self.view().is_some() {
             return Ok(self);
@@ -254,6 +262,7 @@ fn find_over<D: Disk + Drop>(
     ensures kind { IfErr result (λ left. HindersOpening left.fault) }
     ensures unopened { IfErr result (StaysShut kept) }
     ensures unfound { IfErr result (λ left. NoneListed kept left.fault left.keeper.link) }
+    ensures read { IfErr result (λ left. IsOnlyRead conn left.keeper.link) }
 {
     let mut kept = kept;
     let mut conn = conn;
