@@ -44,7 +44,7 @@ module _ {D : Type 0} {g : disk.Ghosts D} where
   closed_own (Connected conn) kept shown own = subst (λ b. KeepsOwnAt b (Connected conn) kept) (shown_closed kept shown) own
   closed_own (Unconnected files) kept shown own = at kept.is_open own
     where
-      at : (b : Bool) → KeepsOwnAt b (Unconnected files) kept → (failed : ℕ) × LeavesSince failed (MayIn kept) (Unconnected files)
+      at : (b : Bool) → KeepsOwnAt {D} {g} b (Unconnected files) kept → (failed : ℕ) × LeavesSince {D} {g} failed (MayIn kept) (Unconnected files)
       at true never = absurd never
       at false it = it
 

@@ -77,7 +77,7 @@ module _ {D : Type 0} {g : disk.Ghosts D} where
         let it = behind honest in
         ∥∥₁_map (it.1 (image_of g files) (stays files.log, stays files.db)) (λ x. (x.0, x.1, leaves it.0 x.0 x.2))
     held (Unconnected before) files behind leaves honest =
-        let it = subst (λ (f : Files D). LinkLeaves may (Unconnected f)) (sym behind) leaves honest in
+        let it = (subst (λ (f : Files D). LinkLeaves {D} {g} may (Unconnected f)) (sym behind) leaves) honest in
         ∥∥₁_map (it (image_of g files) (stays files.log, stays files.db)) (λ x. (x.0, x.1, ∣ x.2 ∣₁))
 
     still_leaves : (old new : Link D g) → IsReopened old new → StillLeaves may old new
