@@ -35,7 +35,7 @@ module _ {D : Type 0} {g : disk.Ghosts D} where
       let none : IsClean (store.view last) = no_doubt _ (clean_is last.pool ∙ sure) in (
         omega (arith, quiet.clean, none),
         λ image may. ∥∥₁_map (opens_again last (numbered none) (sound none) image (may_leave_is last.pool image sure (subst (λ (p : D × D). outcomes g p.0 p.1 image) same may)))
-        (λ it. (it.0, it.2, quiet.outcomes it.0 it.1)),
+            (λ it. (it.0, it.2, quiet.outcomes it.0 it.1)),
       )
 
   pub are_behind : (link : Link D g) (conn : Held (FileStore D g)) (last : FileStore D g) (files : Files D) → link ≡ Connected conn → (IsClean (store.view last) → IsTrue (store.view last).is_numbered)

@@ -10,7 +10,7 @@ pub returns-in-Ok-clause-opened : goal.returns-in-Ok-clause-opened
 returns-in-Ok-clause-opened g c =
     let it = c.in-Ok.ensures in
     let kept : IsFound c.args.conn → IsKeptBy c.adopt.result c.in-Ok.state =
-        λ found. c.adopt.ensures.stored (found_kept c.in-Ok.state c.args.conn c.read_site.new.conn (found_stores c.args.conn found c.schema-schema.ensures.live c.settled.ensures) it.crash it.read c.settled-in-Ok.ensures)
+    λ found. c.adopt.ensures.stored (found_kept c.in-Ok.state c.args.conn c.read_site.new.conn (found_stores c.args.conn found c.schema-schema.ensures.live c.settled.ensures) it.crash it.read c.settled-in-Ok.ensures)
     in
     record {
       shown = c.in-Ok.state;
