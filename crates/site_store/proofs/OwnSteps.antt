@@ -30,6 +30,9 @@ pub shows_nothing : {A : Type 0} (f : A → Record) (seen : Option A) (shown : O
 shows_nothing f None shown is e = sym e
 shows_nothing f (Some a) shown is e = let x : true ≡ false = is in absurd cc
 
+open_flag : (old new : Kept) → old.is_open ≡ true → new.is_open ≡ old.is_open → new.is_open ≡ true
+open_flag old new is same = same ∙ is
+
 module _ {D : Type 0} {g : disk.Ghosts D} where
   -- ---- openings
 
@@ -44,7 +47,7 @@ module _ {D : Type 0} {g : disk.Ghosts D} where
   closed_own (Connected conn) kept shown own = subst (λ b. KeepsOwnAt b (Connected conn) kept) (shown_closed kept shown) own
   closed_own (Unconnected files) kept shown own = at kept.is_open own
     where
-      at : (b : Bool) → KeepsOwnAt {D} {g} b (Unconnected files) kept → (failed : ℕ) × LeavesSince {D} {g} failed (MayIn kept) (Unconnected files)
+      at : (b : Bool) → KeepsOwnAt {g = g} b (Unconnected files) kept → (failed : ℕ) × LeavesSince {g = g} failed (MayIn kept) (Unconnected files)
       at true never = absurd never
       at false it = it
 
@@ -56,9 +59,6 @@ module _ {D : Type 0} {g : disk.Ghosts D} where
       subst (λ (k : Kept). KeepsOwnAt k.is_open left.keeper.link k) (sym shut) (suc it.0, (old.link, it.1, reopened))
 
   -- ---- steps
-
-  open_flag : (old new : Kept) → old.is_open ≡ true → new.is_open ≡ old.is_open → new.is_open ≡ true
-  open_flag old new is same = same ∙ is
 
   -- open, with the rows of its record
   stays_own : (after : Held (FileStore D g)) (new : Kept) → new.is_open ≡ true → IsKeptOver after new.pair → KeepsOwnAt new.is_open (Connected after) new
