@@ -29,7 +29,7 @@ use Rattle.site_core.proofs.Ascending.{head_least, tail_ascends}
 use Rattle.site_core.proofs.Held.{none_held}
 use Rattle.site_core.proofs.SourcesFound.{parts_relate}
 
-list_all_member : {X : Type 0} (p : X → Bool) (xs : List X) (x : X) → Contains xs x → list_all p xs ≡ true → p x ≡ true
+pub list_all_member : {X : Type 0} (p : X → Bool) (xs : List X) (x : X) → Contains xs x → list_all p xs ≡ true → p x ≡ true
 list_all_member p xs x (k, lt, at) all = elim (p x) as (λ b. p x ≡ b → p x ≡ true) [
   | true ↦ λ passes. passes
   | false ↦ λ fails. absurd (false≢true (sym (list_all_at p xs k x lt (ap p at ∙ fails)) ∙ all))

@@ -5,6 +5,7 @@ pub mod Changes
 pub mod ChangesTold
 pub mod Clearings
 pub mod Closed
+pub mod ClosedSets
 pub mod Closures
 pub mod CopiedRest
 pub mod Deliveries

@@ -10,11 +10,17 @@ use Rattle.trace_core.specs.Sites.{SiteEvents}
 use Rattle.trace_core.specs.Spreads.{Inside, IsSpread}
 use Rattle.trace_core.specs.declared.groups.Group.{Group}
 use Rattle.site_core.specs.declared.shortcuts.Shortcuts.{Shortcuts}
+use Rattle.site_core.specs.ItemSets as set
+use Rattle.site_core.specs.ItemSets.{Items}
 use Rattle.site_core.specs.Quarantines.{Quarantine, held}
 
 -- what is made of a quarantined item at the site is quarantined under the same recall
 abbrev pub IsClosedInside : SiteEvents → Quarantine → Type 0
 IsClosedInside s q = (r : Recall) (i j : List ℕ) → IsTrue (held q r i) → Inside s i j → IsTrue (held q r j)
+
+-- what is made at the site of an item of the set is in the set
+abbrev pub IsClosedSet : SiteEvents → Items → Type 0
+IsClosedSet s items = (i j : List ℕ) → IsTrue (set.contains items i) → Inside s i j → IsTrue (set.contains items j)
 
 -- the transformations that were seen give out nothing but items that are quarantined under the recall
 abbrev pub GivesHeld : SiteEvents → Quarantine → Recall → BTreeSet Group → Type 0

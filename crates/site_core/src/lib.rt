@@ -3,6 +3,7 @@
 
 mod capturing;
 pub mod capturing_laws;
+mod closing;
 mod emitting;
 mod every;
 mod following;
@@ -35,6 +36,6 @@ pub use naming::{FrameName, frame_named};
 pub use outcomes::{Effects, Refusal};
 pub use quarantines::Quarantine;
 pub use shipping::shipments;
-pub use spreading::{is_known, newly_held};
+pub use spreading::is_known;
 pub use states::SiteState;
 pub use steps::{Stepped, step};

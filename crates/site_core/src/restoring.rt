@@ -21,7 +21,8 @@ use trace_core::Captured;
 impl SiteState {
     /// A site that keeps just this, exactly where every site number in it is of the list, every message and
     /// recall number is 1 to 2^62, and the events are those of the site itself; else `None`. For parts that
-    /// come from elsewhere. It goes through all of them once, and does not allocate.
+    /// come from elsewhere. It goes through all of them once, which does not allocate, and then does what
+    /// [`SiteState::restore`] does.
     pub fn restore_if_sound(
         alloc: Global,
         sites: Sites,

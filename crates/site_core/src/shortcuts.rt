@@ -5,17 +5,18 @@ ghost use Rattle.trace_core.specs.Sites.{SiteEvents};
 ghost use Rattle.site_core.specs.Quarantines.{Quarantine as Held};
 ghost use Rattle.site_core.specs.Shortcuts.{AreShortcuts, GivesHeld, IsClosedInside};
 
+use crate::closing::is_found_closed;
 use crate::quarantines::Quarantine;
 use frame_core::{RecallId, tables};
 use std::alloc::Global;
 use std::collections::BTreeMap;
-use trace_core::Seen;
+use trace_core::{Captured, Seen};
 
 /// Whether what is quarantined is known to be closed inside its site: what is made there of a quarantined
 /// item is quarantined under the same recall. And by recall the transformations that its messages went
 /// through: all that these make is quarantined under it.
 ///
-/// A record that begins empty is closed, and each step keeps it so. Of one that was read back it isn't known.
+/// A record that begins empty is closed, and each step keeps it so. Of one that was read back it is found out.
 #[derive(Debug, Drop)]
 pub struct Shortcuts {
     is_closed: bool,
@@ -29,6 +30,17 @@ impl Shortcuts {
     {
         Shortcuts {
             is_closed: quarantine.is_empty(),
+            seen: BTreeMap::new(alloc),
+        }
+    }
+
+    /// What is known where this is quarantined at a site: whether it is closed, by a search for each recall. Where
+    /// memory runs out, that isn't known. No transformation is.
+    pub fn found(alloc: Global, captured: &Captured, quarantine: &Quarantine) -> Shortcuts
+        ensures { AreShortcuts captured.now quarantine.now result }
+    {
+        Shortcuts {
+            is_closed: is_found_closed(alloc, captured, quarantine),
             seen: BTreeMap::new(alloc),
         }
     }

@@ -48,7 +48,7 @@ pub(crate) fn not_held(
 
 /// The items that the site's pairs lead to from the item inside the site, itself among them, that aren't
 /// quarantined under the recall yet, ascending and without repeats.
-pub fn newly_held(
+pub(crate) fn newly_held(
     alloc: Global,
     captured: &Captured,
     quarantine: &Quarantine,

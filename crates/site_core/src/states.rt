@@ -83,7 +83,9 @@ impl SiteState {
         }
     }
 
-    /// A site that keeps just this. Does not allocate.
+    /// A site that keeps just this. Whether what is quarantined is closed inside the site is found out here, by a
+    /// search for each recall. Memory may run out in it: then that isn't known, and messages of recalls are found
+    /// by searches that don't stop at what is quarantined, with the same answers.
     pub fn restore(
         alloc: Global,
         sites: Sites,
@@ -94,7 +96,7 @@ impl SiteState {
         requires sound { IsSound (record { sites = sites; captured = captured; quarantine = quarantine; engagement = diffusion }) }
         ensures { result ≡ record { sites = sites; captured = captured; quarantine = quarantine; engagement = diffusion } }
     {
-        let shortcuts = Shortcuts::new(alloc, &quarantine);
+        let shortcuts = Shortcuts::found(alloc, &captured, &quarantine);
         SiteState {
             sites,
             captured,

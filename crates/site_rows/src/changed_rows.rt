@@ -19,7 +19,7 @@ use epc_core::Epc;
 use event_json::Sequence;
 use frame_core::{MsgId, RecallId, Row, tables};
 use scholten_core::Own;
-use site_core::{SiteState, newly_held};
+use site_core::SiteState;
 use std::alloc::{AllocError, Global};
 
 /// The rows of items that come under a recall.
@@ -52,7 +52,7 @@ pub fn newly_held_rows(
 ) -> Result<Sequence<QuarantineRow>, AllocError>
     ensures { (items : List (List ℕ)) → AreNewlyHeld state.now.captured state.now.quarantine recall item.now items → IfOk result (λ rows. rows ≡ map (quarantine_row recall) items) }
 {
-    let items = newly_held(alloc, state.captured(), state.quarantine(), recall, item)?;
+    let items = state.newly_held(alloc, recall, item)?;
     rows_held(alloc, recall, &items)
 }
 
