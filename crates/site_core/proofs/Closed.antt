@@ -26,7 +26,7 @@ use Rattle.site_core.specs.Capturing.{IsCaptured}
 use Rattle.site_core.specs.ItemSets as set
 use Rattle.site_core.specs.ItemSets.{Items, item_cmp}
 use Rattle.site_core.specs.Quarantines.{Quarantine, or_none, held, with_items}
-use Rattle.site_core.specs.Shortcuts.{IsClosedInside, GivesHeld, AreShortcuts, IsSpreadPast}
+use Rattle.site_core.specs.Shortcuts.{IsClosedInside, GivesHeld, MayPass, AreShortcuts, IsSpreadPast}
 use Rattle.site_core.specs.Spreading.{AreNewlyHeld}
 use Rattle.site_core.proofs.Growths.{captures_lead_no_further}
 use Rattle.site_core.proofs.Held.{none_held}
@@ -105,7 +105,7 @@ module _ (s : SiteEvents) (q : Quarantine) (known : Shortcuts) (are : AreShortcu
   pub shortcuts_with : (r : Recall) (i : List ℕ) (new : List (List ℕ)) (q' : Quarantine) → q' ≡ with_items q r new → AreNewlyHeld s q r i new → AreShortcuts s q' known
   shortcuts_with r i new q' is added = subst (λ (p : Quarantine). AreShortcuts s p known) (sym is) (record {
     closed = λ told. closed_with s q r i new added (are.closed told);
-    seen = λ t groups at. gives_more s q t groups r new (are.seen t groups at);
+    seen = λ t groups at. (gives_more s q t groups r new (are.seen t groups at).0, (are.seen t groups at).1);
   })
 
   -- events come that are captured
@@ -153,13 +153,13 @@ module _ (s : SiteEvents) (q : Quarantine) (r : Recall) (known known' : Shortcut
         (one_key recall_total recall_exact t r);
   }
 
-  pub put_in : (groups : BTreeSet Group) → GivesHeld s q r groups → as_map recall_cmp known'.seen ≡ insert (as_map recall_cmp known.seen) r groups → AreShortcuts s q known'
-  put_in seen gives is = record {
+  pub put_in : (groups : BTreeSet Group) → MayPass s q r groups → as_map recall_cmp known'.seen ≡ insert (as_map recall_cmp known.seen) r groups → AreShortcuts s q known'
+  put_in seen may is = record {
     closed = λ told. are.closed (sym same ∙ told);
     seen = λ t groups at. ⊎_elim
         (λ here.
         let found : Some seen ≡ Some groups = sym (ap (λ m. get m t) is ∙ subst (λ u. get (insert (as_map recall_cmp known.seen) r seen) u ≡ Some seen) (sym here) (get_here recall_total recall_exact (as_map recall_cmp known.seen) r seen)) ∙ at in
-        subst (λ u. GivesHeld s q u groups) (sym here) (subst (GivesHeld s q r) (the_same seen groups found) gives))
+        subst (λ u. MayPass s q u groups) (sym here) (subst (MayPass s q r) (the_same seen groups found) may))
         (λ apart. are.seen t groups (sym (ap (λ m. get m t) is ∙ get_apart recall_total recall_exact (as_map recall_cmp known.seen) r seen t apart) ∙ at))
         (one_key recall_total recall_exact t r);
   }
@@ -174,4 +174,4 @@ module _ (s : SiteEvents) (q : Quarantine) (r : Recall) (known known' : Shortcut
   }
 
 pub taken_gives : (s : SiteEvents) (q : Quarantine) (r : Recall) (known : Shortcuts) (groups : BTreeSet Group) → AreShortcuts s q known → Some groups ≡ get (as_map recall_cmp known.seen) r → GivesHeld s q r groups
-taken_gives s q r known groups are at = are.seen r groups (sym at)
+taken_gives s q r known groups are at = (are.seen r groups (sym at)).0

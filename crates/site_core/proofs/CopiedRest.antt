@@ -22,7 +22,7 @@ use Rattle.site_core.proofs.Places.{taken_more, nothing_there}
 
 -- What is captured comes behind what was.
 
-captured_behind : (s : SiteEvents) (q : Quarantine) (given : List Content) (a : Addition) → IsCaptured s q given a → take (length s.events) a.events ≡ s.events
+pub captured_behind : (s : SiteEvents) (q : Quarantine) (given : List Content) (a : Addition) → IsCaptured s q given a → take (length s.events) a.events ≡ s.events
 captured_behind s q given a c = ap (λ (x : Addition). take (length s.events) x.events) c.kept ∙ take-append_seam s.events _
 
 captured_more : (s t : Record) (bytes : List ℕ) (fresh known skipped : ℕ) → Captures s bytes fresh known skipped t → CapturesMore s t

@@ -21,6 +21,7 @@ pub mod Holders
 pub mod InputOutcomes
 pub mod ItemOrder
 pub mod ItemSets
+pub mod KeptSeen
 pub mod NamedFrames
 pub mod Newly
 pub mod OneAfterAnother

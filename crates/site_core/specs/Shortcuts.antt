@@ -1,11 +1,14 @@
 -- What is known of a quarantine beside it: that it is closed inside its site, and which transformations make nothing that isn't quarantined.
-use Rattle.std.specs.Prelude.{◌≡◌, ◌⊎◌, ℕ, true, List, [], ◌∷◌, Contains, IsTrue, Some}
+use Rattle.std.specs.Prelude.{◌≡◌, ◌⊎◌, ◌<◌, ◌≤◌, ℕ, true, List, [], ◌∷◌, length, slice_get, Contains, IsTrue, Some, None}
 use Rattle.std.specs.BTreeSet.{BTreeSet}
 use Rattle.std.specs.FinMap.{get}
+use Rattle.event_json.specs.Events.{Content}
 use Rattle.frame_core.specs.Identifiers.{recall_cmp}
 use Rattle.frame_core.specs.Numbers.{Recall}
 use Rattle.frame_core.specs.Tables.{as_map}
 use Rattle.trace_core.specs.Beyond.{GivesInside}
+use Rattle.trace_core.specs.Groups.{IsSeen}
+use Rattle.trace_core.specs.Pairs.{make_id}
 use Rattle.trace_core.specs.Sites.{SiteEvents}
 use Rattle.trace_core.specs.Spreads.{Inside, IsSpread}
 use Rattle.trace_core.specs.declared.groups.Group.{Group}
@@ -26,10 +29,22 @@ IsClosedSet s items = (i j : List ℕ) → IsTrue (set.contains items i) → Ins
 abbrev pub GivesHeld : SiteEvents → Quarantine → Recall → BTreeSet Group → Type 0
 GivesHeld s q r seen = (j : List ℕ) → GivesInside s seen j → IsTrue (held q r j)
 
+-- they are among the site's events
+abbrev pub AreAmong : SiteEvents → BTreeSet Group → Type 0
+AreAmong s seen = (first : ℕ) → IsSeen seen 0 first → first < length s.events
+
+-- no event of the site from this place on has a transformationID
+abbrev pub HasNoPartFrom : SiteEvents → ℕ → Type 0
+HasNoPartFrom s from = (place : ℕ) (e : Content) → from ≤ place → slice_get s.events place ≡ Some e → make_id e.body ≡ None
+
+-- a search of the recall may leave out the transformations, also once more events without transformationIDs are captured
+abbrev pub MayPass : SiteEvents → Quarantine → Recall → BTreeSet Group → Type 0
+MayPass s q r seen = GivesHeld s q r seen × AreAmong s seen
+
 -- both, where they are reported
 pub record AreShortcuts (s : SiteEvents) (q : Quarantine) (known : Shortcuts) : Type 0 where
   pub closed : known.is_closed ≡ true → IsClosedInside s q
-  pub seen : (r : Recall) (groups : BTreeSet Group) → get (as_map recall_cmp known.seen) r ≡ Some groups → GivesHeld s q r groups
+  pub seen : (r : Recall) (groups : BTreeSet Group) → get (as_map recall_cmp known.seen) r ≡ Some groups → MayPass s q r groups
 
 -- the item, and items of its spread: with each of them that isn't quarantined under the recall all that it is related to, but for what
 -- transformations give that were seen before; and all that the transformations give that are seen now

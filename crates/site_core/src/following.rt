@@ -5,7 +5,6 @@ ghost use Rattle.site_core.specs.Steps.{Does, TakesMemory};
 ghost use Rattle.site_core.specs.declared.outcomes.Effects.{Effects as Told};
 
 use crate::inputs::SiteInput;
-use crate::shortcuts::Shortcuts;
 use crate::states::SiteState;
 use crate::step_laws::an_input_has_one_outcome;
 use std::alloc::{AllocError, Global};
@@ -38,7 +37,9 @@ impl SiteState {
         let kept = self.captured.len();
         match copy_rest(self.alloc, &mut self.captured, &after.captured) {
             Ok(()) => {
-                self.shortcuts = Shortcuts::begun(self.alloc, &after.shortcuts);
+                let is_closed = after.shortcuts.is_closed();
+                self.shortcuts
+                    .capture(self.alloc, is_closed, &self.captured, kept);
                 Ok(())
             }
             Err(_) => {

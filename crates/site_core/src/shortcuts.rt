@@ -1,12 +1,16 @@
 //! What is known of a site's quarantine beside it, so that a message's search may stop at what is held.
-ghost use Rattle.std.specs.Prelude.{◌≡◌, true};
+ghost use Rattle.std.specs.Prelude.{◌≡◌, true, length, slice_get, IsTrue, Some, None};
 ghost use Rattle.std.specs.FinMap as finite;
+ghost use Rattle.event_json.specs.Events.{Content};
+ghost use Rattle.trace_core.specs.Pairs.{make_id};
 ghost use Rattle.trace_core.specs.Sites.{SiteEvents};
+ghost use Rattle.site_core.specs.Following.{BeginsWith};
 ghost use Rattle.site_core.specs.Quarantines.{Quarantine as Held};
-ghost use Rattle.site_core.specs.Shortcuts.{AreShortcuts, GivesHeld, IsClosedInside};
+ghost use Rattle.site_core.specs.Shortcuts.{AreShortcuts, GivesHeld, HasNoPartFrom, IsClosedInside};
 
 use crate::closing::is_found_closed;
 use crate::quarantines::Quarantine;
+use crate::sources::part_id;
 use frame_core::{RecallId, tables};
 use std::alloc::Global;
 use std::collections::BTreeMap;
@@ -77,10 +81,50 @@ impl Shortcuts {
 
     /// Keeps the transformations that a recall's messages went through, unless memory runs out: then they
     /// are gone through again.
-    pub fn keep_seen(&mut self, recall: RecallId, seen: Seen)
-        ensures { (s : SiteEvents) (q : Held) → AreShortcuts s q self.old → GivesHeld s q recall seen
-            → AreShortcuts s q self.new }
+    pub fn keep_seen(&mut self, captured: &Captured, recall: RecallId, seen: Seen)
+        ensures { (q : Held) → AreShortcuts captured.now q self.old → GivesHeld captured.now q recall seen
+            → AreShortcuts captured.now q self.new }
     {
+        // They always are: the look shows the proof that events that come later change nothing of them.
+        if !seen.are_among(0, captured.len()) {
+            return;
+        }
         let _ = tables::put(&mut self.seen, recall, seen);
+    }
+
+    /// What is known of a site that has captured events from a place on. The transformations that messages went
+    /// through stay known, unless one of these events has a transformationID, by which it may be a part of one.
+    pub fn capture(&mut self, alloc: Global, is_closed: bool, captured: &Captured, from: usize)
+        ensures { (s : SiteEvents) (q : Held) → AreShortcuts s q self.old → from ≡ length s.events
+            → BeginsWith captured.now s → (is_closed ≡ true → IsClosedInside captured.now q)
+            → AreShortcuts captured.now q self.new }
+    {
+        self.is_closed = is_closed;
+        if has_no_part_from(captured, from) {
+            return;
+        }
+        self.seen = BTreeMap::new(alloc);
+    }
+}
+
+/// Whether no event from a place on has a transformationID.
+fn has_no_part_from(captured: &Captured, from: usize) -> bool
+    ensures { IsTrue result → HasNoPartFrom captured.now from }
+{
+    for place in from..captured.len() {
+        if !is_no_part(captured, place) {
+            return false;
+        }
+    }
+    true
+}
+
+/// Whether the event at a place has no transformationID.
+fn is_no_part(captured: &Captured, place: usize) -> bool
+    ensures { IsTrue result → (e : Content) → slice_get captured.now.events place ≡ Some e → make_id e.body ≡ None }
+{
+    match captured.event(place) {
+        Some(event) => part_id(event.body()).is_none(),
+        None => true,
     }
 }

@@ -9,7 +9,6 @@ use crate::inputs::SiteInput;
 use crate::looks::look;
 use crate::outcomes::{Effects, Refusal};
 use crate::plans::{begin_planned, plan_message, plan_start, receive_planned};
-use crate::shortcuts::Shortcuts;
 use crate::states::SiteState;
 use epc_core::Epc;
 use event_json::{SiteNo, read_document};
@@ -114,8 +113,11 @@ impl SiteState {
         let doc = read_document(self.alloc, bytes, &self.sites)?;
         let skipped = doc.skipped;
         let events = doc.events.into_vec();
+        let kept = self.captured.len();
         let added = capture_all(self.alloc, &mut self.captured, &self.quarantine, events)?;
-        self.shortcuts = Shortcuts::begun(self.alloc, &self.shortcuts);
+        let is_closed = self.shortcuts.is_closed();
+        self.shortcuts
+            .capture(self.alloc, is_closed, &self.captured, kept);
         Ok(Effects::Captured {
             fresh: added.fresh,
             known: added.known,
@@ -181,7 +183,7 @@ impl SiteState {
             recall,
             &plan,
         )?;
-        self.shortcuts.keep_seen(recall, seen);
+        self.shortcuts.keep_seen(&self.captured, recall, seen);
         Ok(Effects::Received {
             quarantined: plan.new.len() as u64,
             numbered: plan.out.len() as u64,

@@ -4,10 +4,12 @@ use mathlib.Core.Bool.{false≢true}
 use mathlib.Core.Logic.{◌⊎◌}
 use Rattle.std.proofs.Math.ListN.{set, replicate}
 use Rattle.std.specs.BTreeSet.{BTreeSet, Updates, contains}
-use Rattle.std.specs.List.{Contains}
-use Rattle.std.specs.Ordering.{nat_cmp}
+use Rattle.std.specs.List.{All, Contains}
+use Rattle.std.specs.Ordering.{is_lt, nat_cmp}
+use Rattle.std.specs.declared.cmp.Ordering.{Ordering}
+use Rattle.std.specs.declared.cmp.Ordering.TheVariants.{Less, Equal, Greater}
 use Rattle.std.proofs.lemmas.Bool.{cases_eq, cases_lt}
-use Rattle.std.proofs.lemmas.Cmp.{nat_cmp_total}
+use Rattle.std.proofs.lemmas.Cmp.{nat_cmp_total, ranked}
 use Rattle.std.proofs.lemmas.List.{get_or-replicate, get_or-set_same, get_or-set_other, length-replicate, length-set, get_or_past, get_or_default, take_at}
 use Rattle.std.proofs.lemmas.List.Elements.{Contains-append_left, Contains-append_right, Contains-append_cases}
 use Rattle.std.proofs.lemmas.Map.Lookups.{exact_unsigned}
@@ -115,6 +117,27 @@ few_told many few n past = (
   λ h. (marks_have many few.keys n).1 (inr ((few_have few n).0 h)),
   λ h. ⊎_elim (λ marked. absurd (omega (arith, set_within many n marked, past))) (λ listed. (few_have few n).1 listed) ((marks_have many few.keys n).0 h),
 )
+
+-- numbers below a count
+not_above : (k n : ℕ) → is_lt (nat_cmp k n) ≡ false → n ≤ k
+not_above k n h = by (nat_cmp k n) refl h
+  where
+    by : (o : Ordering) → o ≡ nat_cmp k n → is_lt o ≡ false → n ≤ k
+    by Less is h = absurd (false≢true (sym h))
+    by Equal is h = let same : k ≡ n = ranked k n Equal is in omega (arith, same)
+    by Greater is h = let low : n < k = ranked k n Greater is in omega (arith, low)
+
+module _ (many : List Bool) (few : List ℕ) (count : ℕ) (within : length many ≤ count) where
+  all_below : ((n : ℕ) → Contains few n → n < count) → (n : ℕ) → Contains (set_marks many ++ few) n → n < count
+  all_below low n there = ⊎_elim (λ marked. omega (arith, set_within many n marked, within)) (λ listed. low n listed) ((marks_have many few n).0 there)
+
+  pub below_none : (0 < length few → ⊥) → (n : ℕ) → Contains (set_marks many ++ few) n → n < count
+  below_none none = all_below (λ n (k, lt, at). absurd (none (omega (arith, lt))))
+
+  pub below_last : (last : ℕ) → All (λ n. is_lt (nat_cmp last n) ≡ false) few → last < count → (n : ℕ) → Contains (set_marks many ++ few) n → n < count
+  below_last last all low = all_below (λ n (k, lt, at).
+      let up : n ≤ last = not_above last n (subst (λ (m : ℕ). is_lt (nat_cmp last m) ≡ false) at (all k n lt)) in
+      omega (arith, up, low))
 
 -- a number that has a mark is marked
 module _ (many many' : List Bool) (few : List ℕ) (number : ℕ) (below : number < length many) (is : many' ≡ set many number true) where

@@ -10,7 +10,7 @@ use Rattle.std.proofs.lemmas.List.Elements.{Contains-append_left, Contains-appen
 use Rattle.std.proofs.lemmas.Map.Views.{btree_set_contains_iff}
 use Rattle.std.proofs.lemmas.Option.{slice_get-get_or, slice_get_cases}
 use Rattle.trace_core.specs.declared.groups.Group.{Group}
-use Rattle.trace_core.specs.Groups.{group_cmp, groups_from, Sees}
+use Rattle.trace_core.specs.Groups.{group_cmp, groups_from, IsSeen, Sees}
 use Rattle.trace_core.specs.Places.{or_none}
 use Rattle.trace_core.specs.Searches.{IsFound}
 use Rattle.trace_core.proofs.GroupOrder.{groups_total, groups_exact}
@@ -68,6 +68,15 @@ none_seen_at sites site first past = ⊎_elim
   where
     none : slice_get sites site ≡ None
     none = ⊎_elim (λ (x, lt, is, at). absurd (omega (arith, lt, past))) (λ (far, is). is) (slice_get_cases sites site).1
+
+-- transformations among so many events
+pub seen_among : (sites : List (List ℕ)) (site count : ℕ) (firsts : List ℕ) → site < length sites → firsts ≡ get_or sites site firsts → ((n : ℕ) → Contains firsts n → n < count) → (first : ℕ) → IsSeen (groups_at sites) site first → first < count
+seen_among sites site count firsts below at low first seen =
+    let stands : slice_get sites site ≡ Some firsts = slice_get-get_or sites site firsts below ∙ ap Some (sym at) in
+    low first (subst (λ o. Contains (or_none o) first) stands ((seen_at sites (record { site = site; first = first })).0 seen))
+
+pub none_among : (sites : List (List ℕ)) (site first : ℕ) → length sites ≤ site → IsSeen (groups_at sites) site first → ⊥
+none_among sites site first past seen = false≢true (none_seen_at sites site first past ∙ seen)
 
 -- a site without transformations more
 pub room_made : (sites : List (List ℕ)) (j : ℕ) → or_none (slice_get (sites ++ [] ∷ []) j) ≡ or_none (slice_get sites j)

@@ -58,6 +58,19 @@ impl Marks {
         }
     }
 
+    /// Whether all numbers are known to be below a count.
+    pub fn are_below(&self, count: usize) -> bool
+        ensures { IsTrue result → (n : ℕ) → Contains self.now n → n < count }
+    {
+        if count < self.many.len() {
+            return false;
+        }
+        match self.few.last() {
+            Some(last) => *last < count,
+            None => true,
+        }
+    }
+
     /// Marks a number, where there are so many in all. Tells whether it is new. An `Err` changes nothing.
     pub fn mark(&mut self, alloc: Global, number: usize, all: usize) -> Result<bool, AllocError>
         ensures marked { OnOk result ((n : ℕ) → Contains self.new n ↔ (Contains self.old n ⊎ (number ≡ n))) }

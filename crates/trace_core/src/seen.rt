@@ -1,8 +1,8 @@
 //! The transformations that a search has come to.
-ghost use Rattle.std.specs.Prelude.{◌≡◌, ◌<◌, ℕ, not, [], IfOk, OnOk, slice_get};
+ghost use Rattle.std.specs.Prelude.{◌≡◌, ◌<◌, ℕ, not, [], IfOk, IsTrue, OnOk, slice_get};
 ghost use Rattle.std.specs.BTreeSet.{contains};
 ghost use Rattle.std.specs.Vec.{vec_len};
-ghost use Rattle.trace_core.specs.Groups.{group_cmp, Sees};
+ghost use Rattle.trace_core.specs.Groups.{group_cmp, IsSeen, Sees};
 ghost use Rattle.trace_core.specs.Places.{or_none};
 
 use crate::marks::Marks;
@@ -43,6 +43,16 @@ impl Seen {
             return self.sites[site].has(first);
         }
         false
+    }
+
+    /// Whether the transformations of a site that were seen are known to be among its first so many events.
+    pub fn are_among(&self, site: usize, count: usize) -> bool
+        ensures { IsTrue result → (first : ℕ) → IsSeen self.now site first → first < count }
+    {
+        if site < self.sites.len() {
+            return self.sites[site].are_below(count);
+        }
+        true
     }
 
     /// A transformation of a site that has so many events is seen now. Tells whether it is new.

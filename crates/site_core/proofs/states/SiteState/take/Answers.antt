@@ -20,7 +20,7 @@ invariant_of-self-2 c =
     c.in_ok-plan.ensures.newly c.in_ok-plan.ensures.shipped c.in_ok-owed.ensures.held c.in_ok-owed.ensures.answer c.in_ok-owed.ensures.enough (c.len.ensures ∙ c.in_ok-plan.plan.new.ok.0) (c.len-2.ensures ∙ c.in_ok-plan.plan.out.ok.0)) in
     let taken = c.take_seen-seen.ensures s.captured s.quarantine c.self.invariant.1 in (
       sound,
-      c.keep_seen.ensures s.captured q
+      c.keep_seen.ensures q
           (shortcuts_with s.captured s.quarantine c.take_seen-seen.new.self taken.0 c.args.recall c.args.item.now c.in_ok-plan.plan.new.items q c.in_ok-owed.ensures.held c.in_ok-plan.ensures.newly)
           (subst (λ (p : Quarantine). GivesHeld s.captured p c.args.recall c.plan_message.new.seen) (sym c.in_ok-owed.ensures.held) c.in_ok-plan.ensures.seen),
     )
