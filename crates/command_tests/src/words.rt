@@ -165,6 +165,9 @@ fn a_bad_command_line_ends_with_2(rt: HostRuntime) -> Result<(), Fail> {
             "error: invalid value",
         ),
         ("recall run d --turns x", "", 2, "", "error: invalid value"),
+        // The folder is the empty word.
+        ("recall audit ", "", 2, "", "error:"),
+        ("recall init  list", "", 2, "", "error:"),
     ];
     assert!(rt; first_other(&rt, rt.alloc(), keys, &rows)? == None);
     Ok(())

@@ -6,7 +6,7 @@ use Rattle.std.specs.declared.string.String.{String}
 use Rattle.std.specs.Str.Parse.{digits_value, without_leading_plus}
 use Rattle.clap.specs.Words.{App, Row, Rule, Text, new_app, new_rule, with_rule, with_subcommand, first_of, one_of, subcommand_of, all_of, Kinds, IsAmong, fault_of}
 use Rattle.clap.specs.declared.builder.action.ArgAction.TheVariants.{Append, SetTrue}
-use Rattle.clap.specs.declared.builder.value_parser.ValueParser.TheVariants.{Unsigned}
+use Rattle.clap.specs.declared.builder.value_parser.ValueParser.TheVariants.{NonEmptyString, Unsigned}
 use Rattle.clap.specs.declared.error.ErrorKind.{ErrorKind}
 use Rattle.clap.specs.declared.error.ErrorKind.TheVariants.{DisplayHelp, OutOfMemory}
 use Rattle.recall_commands.specs.declared.command_lines.Asked.{Asked}
@@ -28,8 +28,12 @@ texts_of words = map string_bytes words
 abbrev pub required : Text → Rule
 required name = record (new_rule name) { required = true }
 
+-- the folder, which isn't the empty word
+abbrev pub folder : Rule
+folder = record (required (codes "dir")) { parser = Some NonEmptyString }
+
 abbrev pub on_folder : Text → App
-on_folder name = with_rule (new_app name) (required (codes "dir"))
+on_folder name = with_rule (new_app name) folder
 
 abbrev pub sim : App
 sim = new_app (codes "sim")

@@ -2,9 +2,10 @@
 
 ghost use Rattle.std.specs.Prelude.{◌≡◌, ◌↔◌, false, IfOk, IfSome, IsTrue, codes, length};
 ghost use Rattle.clap.specs.Words.{app_of, found_of, kind_of, rows_of, rule_of, subcommand_rows_of};
-ghost use Rattle.recall_commands.specs.CommandLines.{audit, capture, files, init, lines, on_folder, recall, report, required, run, sim, start, texts_of, turns, AsksFor, AsksNamed, Gives, GivesNumber, IsCapture, IsCommand, IsSet, IsToldAs};
+ghost use Rattle.recall_commands.specs.CommandLines.{audit, capture, files, folder, init, lines, on_folder, recall, report, required, run, sim, start, texts_of, turns, AsksFor, AsksNamed, Gives, GivesNumber, IsCapture, IsCommand, IsSet, IsToldAs};
 
 use crate::helps;
+use clap::builder::ValueParser;
 use clap::error::ErrorKind;
 use clap::{Arg, ArgAction, ArgMatches, Command, Error, value_parser};
 use std::alloc::{AllocError, Global};
@@ -233,6 +234,15 @@ fn required<'a>(alloc: Global, name: &'a str, help: &'a str) -> Arg<'a>
     Arg::new(alloc, name).required(true).help(help)
 }
 
+/// The folder. The empty word is none: it comes of a variable of the shell that isn't set, and `/sites` would be read.
+fn folder<'a>(alloc: Global) -> Arg<'a>
+    ensures rule { rule_of result ≡ folder }
+    ensures local { result.global ≡ false }
+{
+    required(alloc, "dir", "The folder of the sites' files")
+        .value_parser(ValueParser::NonEmptyString)
+}
+
 /// A command on a folder.
 fn on_folder<'a>(
     alloc: Global,
@@ -245,7 +255,7 @@ fn on_folder<'a>(
     Command::new(alloc, name)
         .about(about)
         .after_help(example)
-        .arg(required(alloc, "dir", "The folder of the sites' files"))
+        .arg(folder(alloc))
 }
 
 fn sim<'a>(alloc: Global) -> Command<'a>

@@ -7,5 +7,5 @@ use Rattle.recall_commands.proofs.command_lines.on_folder.Goals as goal
 pub returns : goal.returns
 returns c =
     IfOk-weaker c.arg.result _ _
-    (λ command adds. adds_rule _ _ command _ _ adds c.required.ensures.local (ap app_of_fields c.after_help.ensures ∙ ap app_of_fields c.about.ensures ∙ c.new.ensures.app) c.required.ensures.rule)
+    (λ command adds. adds_rule _ _ command _ _ adds c.folder.ensures.local (ap app_of_fields c.after_help.ensures ∙ ap app_of_fields c.about.ensures ∙ c.new.ensures.app) c.folder.ensures.rule)
     c.arg.ensures
