@@ -71,6 +71,9 @@ pub trait Files<K: SiteKeeper> {
     /// Makes a file of these bytes. `Write` where one of this path exists, or it can't be made.
     fn write_new(&mut self, path: &str, bytes: &[u8]) -> Result<(), Fault>
         ensures { OnOk result (writes self.old path.now bytes.now self.new) };
+
+    /// Is told which file a fault is about that no call of the files returned, before that fault is reported.
+    fn blame(&mut self, _path: &str) {}
 }
 
 /// The path of a folder's list of sites.
@@ -107,6 +110,7 @@ pub(crate) fn sites_of<K: SiteKeeper, F: Files<K>>(
     if list.refusals.as_str().is_empty() && list.sites.ready() {
         Ok(list.sites)
     } else {
+        files.blame(path.as_str());
         Err(Fault::BadSites)
     }
 }
@@ -126,6 +130,7 @@ pub(crate) fn open_site<K: SiteKeeper, F: Files<K>>(
     if keeps_site(&keeper, sites, site) {
         Ok(keeper)
     } else {
+        files.blame(path.as_str());
         Err(Fault::OtherSites)
     }
 }
