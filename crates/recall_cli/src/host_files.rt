@@ -1,22 +1,20 @@
 //! The files of the machine.
 
+use crate::causes::{Failure, Known, Trouble};
 use crate::line_files::{INPUT, LineFile};
-use keeper_core::KeepFault;
+use crate::stores::{
+    FileConnection, FileSite, close, close_connection, known_of_step, unfound, unmade, unopened,
+};
+use keeper_core::SiteKeeper;
 use site_commands::{Fault, Files};
 use site_core::SiteState;
-use site_store::{Link, OpenFault, StoredSite};
-use sqlite::{Connection, Error as DatabaseError, ErrorCode, FileFrom, FileStore, Options, Wary};
+use site_store::StoredSite;
+use sqlite::{Connection, Options, Wary};
 use std::alloc::Global;
+use std::collections::VecDeque;
 use std::fs::{self, File};
 use std::hash::{BuildHasher, RandomState};
 use std::io::{self, Error, ErrorKind, Read, Write};
-
-/// A connection to a database in a file. A write that was torn by a crash may have left any bytes, so each commit syncs
-/// twice.
-type FileConnection = Connection<FileStore<FileFrom<Wary>>>;
-
-/// A site kept in a file.
-type FileSite = StoredSite<FileFrom<Wary>>;
 
 /// The files of the machine on which the program runs.
 #[derive(Drop)]
@@ -26,8 +24,10 @@ pub(crate) struct HostFiles<'a> {
     keys: RandomState,
     /// The file of which lines are read, until its end.
     lines: Option<LineFile>,
-    /// The path of the last file of which a call failed.
-    failed: Option<String>,
+    /// The paths of the sites that are open, in the order in which they were opened, in which they are closed, too.
+    opened: VecDeque<String>,
+    /// The last file of which a call failed.
+    failure: Option<Failure>,
 }
 
 impl<'a> HostFiles<'a> {
@@ -37,21 +37,37 @@ impl<'a> HostFiles<'a> {
             runtime,
             keys,
             lines: None,
-            failed: None,
+            opened: VecDeque::new(runtime.alloc()),
+            failure: None,
         }
     }
 
-    /// The path of the last file of which a call failed, where one did and there was memory to keep it.
-    pub(crate) fn failed(&self) -> Option<&str> {
-        match &self.failed {
-            Some(path) => Some(path.as_str()),
-            None => None,
-        }
+    /// The last file of which a call failed, where one did and there was memory to keep its path.
+    pub(crate) fn failure(&self) -> Option<&Failure> {
+        self.failure.as_ref()
     }
 
-    /// Keeps the path of a file of which a call failed.
-    fn note(&mut self, path: &str) {
-        self.failed = String::from_str(self.runtime.alloc(), path).ok();
+    /// Keeps the path of a file that a fault is about, and what is known of it.
+    fn keep(&mut self, path: &str, of_log: bool, known: Known) {
+        self.failure = match String::from_str(self.runtime.alloc(), path) {
+            Ok(path) => Some(Failure {
+                path,
+                of_log,
+                known,
+            }),
+            Err(_) => None,
+        };
+    }
+
+    /// Keeps the path of a file of which a call failed, and returns the fault.
+    fn note(&mut self, path: &str, trouble: Trouble) -> Fault {
+        let Trouble {
+            fault,
+            known,
+            of_log,
+        } = trouble;
+        self.keep(path, of_log, known);
+        fault
     }
 
     /// The bytes of a file, or of the standard input to its end.
@@ -78,36 +94,36 @@ impl<'a> HostFiles<'a> {
     }
 
     /// Opens a database, and makes it where there is no file or an empty one.
-    fn connect(&self, path: &str) -> Result<FileConnection, Fault> {
+    fn connect(&self, path: &str) -> Result<FileConnection, Trouble> {
         match Connection::open_from(self.runtime, path, false, Wary) {
             Ok(conn) => Ok(conn),
             Err((error, left)) => {
                 if let Some(left) = left {
                     drop(left.into_files());
                 }
-                Err(unopened(&error))
+                Err(unopened(self.runtime, path, &error))
             }
         }
     }
 
     /// The options with which a database is opened again, with a seed drawn at random.
-    fn options(&self) -> Result<Options, Fault> {
+    fn options(&self) -> Result<Options, Trouble> {
         match RandomState::new(self.runtime) {
             Ok(state) => Ok(Options::new(state.hash_one(&0u8))),
-            Err(error) => Err(fault_of(&error, Fault::Device)),
+            Err(error) => Err(Trouble::of_error(&error, Fault::Device)),
         }
     }
 
     /// Whether there is a file.
-    fn finds(&self, path: &str) -> Result<bool, Fault> {
+    fn finds(&self, path: &str) -> Result<bool, Trouble> {
         match fs::exists(self.runtime, path) {
             Ok(exists) => Ok(exists),
-            Err(error) => Err(fault_of(&error, Fault::Read)),
+            Err(error) => Err(Trouble::of_error(&error, Fault::Read)),
         }
     }
 
     /// Makes the file of a site.
-    fn make(&self, alloc: Global, path: &str, state: SiteState) -> Result<(), Fault> {
+    fn make(&self, alloc: Global, path: &str, state: SiteState) -> Result<(), Trouble> {
         let options = self.options()?;
         let conn = self.connect(path)?;
         match StoredSite::create(alloc, conn, options, state) {
@@ -115,72 +131,39 @@ impl<'a> HostFiles<'a> {
                 close(site);
                 Ok(())
             }
-            Err(left) => Err(unmade(left.fault)),
+            Err(left) => Err(unmade(left.fault, close_connection(left.conn))),
         }
     }
 
     /// Opens the file of a site of this name.
-    fn open(&self, alloc: Global, path: &str, name: &str) -> Result<FileSite, Fault> {
+    fn open(&self, alloc: Global, path: &str, name: &str) -> Result<FileSite, Trouble> {
         // Connecting would make a file.
         if !self.finds(path)? {
-            return Err(Fault::Read);
+            return Err(Trouble::new(Fault::Read, Known::Missing));
         }
         let options = self.options()?;
         let conn = self.connect(path)?;
         match site_store::open_site(alloc, self.keys, conn, options, name) {
             Ok(site) => Ok(site),
-            Err(left) => Err(unfound(left.fault)),
+            Err(left) => Err(unfound(alloc, left)),
         }
     }
-}
 
-/// Out of memory, or else the fault that is given.
-fn fault_of(error: &Error, fault: Fault) -> Fault {
-    if error.kind() == ErrorKind::OutOfMemory {
-        Fault::NoMemory
-    } else {
-        fault
-    }
-}
-
-/// Why a file wasn't opened as a database.
-fn unopened(error: &DatabaseError) -> Fault {
-    match error {
-        DatabaseError::SqliteFailure(ErrorCode::OutOfMemory) => Fault::NoMemory,
-        DatabaseError::SqliteFailure(ErrorCode::NotADatabase) => Fault::NotAStore,
-        _ => Fault::Device,
-    }
-}
-
-/// Why a site wasn't made.
-fn unmade(fault: KeepFault) -> Fault {
-    match fault {
-        KeepFault::NoMemory => Fault::NoMemory,
-        KeepFault::Device => Fault::Device,
-        KeepFault::Store | KeepFault::Closed | KeepFault::Refused(_) => Fault::Store,
-    }
-}
-
-/// Why a site wasn't opened.
-fn unfound(fault: OpenFault) -> Fault {
-    match fault {
-        OpenFault::NotAStore => Fault::NotAStore,
-        OpenFault::Version(_) => Fault::Version,
-        OpenFault::OtherSite(_) => Fault::OtherSite,
-        OpenFault::BadRow(_) => Fault::BadRow,
-        OpenFault::Device => Fault::Device,
-        OpenFault::Store => Fault::Store,
-        OpenFault::NoMemory => Fault::NoMemory,
-    }
-}
-
-/// Closes the file of a site. What was committed stands in it or in its log, also where this fails.
-fn close(site: FileSite) {
-    match site.release() {
-        Link::Connected(conn) => {
-            let _ = conn.close();
+    /// Opens the file of a site of this name, and keeps its path.
+    fn keep_open(&mut self, alloc: Global, path: &str, name: &str) -> Result<FileSite, Trouble> {
+        let Ok(kept) = String::from_str(alloc, path) else {
+            return Err(Trouble::new(Fault::NoMemory, Known::Nothing));
+        };
+        if self.opened.push_back(kept).is_err() {
+            return Err(Trouble::new(Fault::NoMemory, Known::Nothing));
         }
-        Link::Unconnected(files) => drop(files),
+        match self.open(alloc, path, name) {
+            Ok(site) => Ok(site),
+            Err(trouble) => {
+                self.opened.pop_back();
+                Err(trouble)
+            }
+        }
     }
 }
 
@@ -205,65 +188,61 @@ impl Files<FileSite> for HostFiles<'_> {
     fn read(&mut self, _: Global, path: &str) -> Result<Vec<u8>, Fault> {
         match self.bytes(path) {
             Ok(bytes) => Ok(bytes),
-            Err(error) => {
-                self.note(path);
-                Err(fault_of(&error, Fault::Read))
-            }
+            Err(error) => Err(self.note(path, Trouble::of_error(&error, Fault::Read))),
         }
     }
 
     fn read_line(&mut self, alloc: Global, path: &str) -> Result<Option<Vec<u8>>, Fault> {
         match self.next_line(alloc, path) {
             Ok(line) => Ok(line),
-            Err(error) => {
-                self.note(path);
-                Err(fault_of(&error, Fault::Read))
-            }
+            Err(error) => Err(self.note(path, Trouble::of_error(&error, Fault::Read))),
         }
     }
 
     fn exists(&mut self, path: &str) -> Result<bool, Fault> {
         match self.finds(path) {
             Ok(exists) => Ok(exists),
-            Err(fault) => {
-                self.note(path);
-                Err(fault)
-            }
+            Err(trouble) => Err(self.note(path, trouble)),
         }
     }
 
     fn create_site(&mut self, alloc: Global, path: &str, state: SiteState) -> Result<(), Fault> {
         match self.make(alloc, path, state) {
             Ok(()) => Ok(()),
-            Err(fault) => {
-                self.note(path);
-                Err(fault)
-            }
+            Err(trouble) => Err(self.note(path, trouble)),
         }
     }
 
     fn open_site(&mut self, alloc: Global, path: &str, name: &str) -> Result<FileSite, Fault> {
-        match self.open(alloc, path, name) {
+        match self.keep_open(alloc, path, name) {
             Ok(site) => Ok(site),
-            Err(fault) => {
-                self.note(path);
-                Err(fault)
-            }
+            Err(trouble) => Err(self.note(path, trouble)),
         }
     }
 
+    // A site that a step left closed is what the command's fault is about.
     fn close_site(&mut self, keeper: FileSite) {
-        close(keeper);
+        let path = self.opened.pop_front();
+        let is_open = keeper.view().is_some();
+        let failures = keeper.failures();
+        let tally = close(keeper);
+        if is_open || self.failure.is_some() {
+            return;
+        }
+        if let Some(path) = path {
+            self.keep(path.as_str(), false, known_of_step(failures, tally));
+        }
     }
 
     fn write_new(&mut self, path: &str, bytes: &[u8]) -> Result<(), Fault> {
         match written(self.runtime, path, bytes) {
             Ok(()) => Ok(()),
-            Err(error) => {
-                self.note(path);
-                Err(fault_of(&error, Fault::Write))
-            }
+            Err(error) => Err(self.note(path, Trouble::of_error(&error, Fault::Write))),
         }
+    }
+
+    fn blame(&mut self, path: &str) {
+        self.keep(path, false, Known::Nothing);
     }
 }
 

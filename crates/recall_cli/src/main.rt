@@ -4,9 +4,13 @@
 //! status that it returns.
 #![tactic(auto)]
 
+mod causes;
 mod host_files;
 mod line_files;
+mod looks;
 mod progress;
+mod schemas;
+mod stores;
 
 use host_files::HostFiles;
 use progress::{Progress, TellingGate};
@@ -52,11 +56,10 @@ fn main(rt: HostRuntime) -> ExitCode {
     ExitCode::from(status)
 }
 
-/// Names the file of which a call failed, behind the fault.
+/// Names the file of which a call failed, behind the fault, and says what is known of it.
 fn name_file(rt: &HostRuntime, files: &HostFiles<'_>) {
-    if let Some(path) = files.failed() {
-        let _ = rt.eprint("file ");
-        let _ = rt.eprintln(path);
+    if let Some(failure) = files.failure() {
+        let _ = eprintln!(rt; "{failure}");
     }
 }
 

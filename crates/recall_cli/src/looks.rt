@@ -1,0 +1,123 @@
+//! Looks at the files of a database that wasn't opened, for what the database's error doesn't tell.
+
+use crate::causes::{Known, Trouble};
+use site_commands::Fault;
+use sqlite::{Error as DatabaseError, ErrorCode};
+use std::fs::{self, File, OpenOptions};
+use std::io::{self, ErrorKind, Read};
+use std::os::unix::fs::MetadataExt;
+
+/// How many bytes of a database's head are looked at.
+const HEAD: usize = 32;
+
+/// What a database begins with.
+const MAGIC: &[u8] = b"SQLite format 3\0";
+
+/// Why a database couldn't be opened or made at a path, which may lead to it by links.
+pub(crate) fn hindrance(rt: &HostRuntime, path: &str) -> Trouble {
+    match found_hindrance(rt, path) {
+        Ok(Some(trouble)) => trouble,
+        Ok(None) => {
+            let error = DatabaseError::SqliteFailure(ErrorCode::CannotOpen);
+            Trouble::new(Fault::Device, Known::Database(error))
+        }
+        Err(error) => Trouble::of_error(&error, Fault::Device),
+    }
+}
+
+/// The first of the files beside which a database lies that can't be opened, where a look finds one.
+fn found_hindrance(rt: &HostRuntime, path: &str) -> io::Result<Option<Trouble>> {
+    let Ok(real) = fs::canonicalize(rt, path) else {
+        return Ok(at_file(rt, path, false)?);
+    };
+    let real = real.as_str();
+    if let Some(trouble) = at_file(rt, real, false)? {
+        return Ok(Some(trouble));
+    }
+    let journal = format!(in rt.alloc(); "{real}-journal")?;
+    if fs::exists(rt, journal.as_str())? {
+        return Ok(Some(Trouble::new(Fault::Device, Known::Journal)));
+    }
+    let log = format!(in rt.alloc(); "{real}-wal")?;
+    at_file(rt, log.as_str(), true)
+}
+
+/// What keeps a file from being opened or made.
+fn at_file(rt: &HostRuntime, path: &str, of_log: bool) -> io::Result<Option<Trouble>> {
+    match known_of_file(rt, path)? {
+        Some(known) => Ok(Some(Trouble {
+            fault: Fault::Device,
+            known,
+            of_log,
+        })),
+        None => Ok(None),
+    }
+}
+
+fn known_of_file(rt: &HostRuntime, path: &str) -> io::Result<Option<Known>> {
+    match fs::symlink_metadata(rt, path) {
+        Ok(found) if !found.is_file() => Ok(Some(Known::NotAFile)),
+        Ok(found) if found.nlink() != 1 => Ok(Some(Known::HardLink)),
+        Ok(_) => Ok(known_of_opening(rt, path)),
+        Err(error) if error.kind() == ErrorKind::NotFound => known_of_making(rt, path),
+        Err(error) => Ok(Some(Known::of_error(&error))),
+    }
+}
+
+/// What keeps a file that is there from being opened.
+fn known_of_opening(rt: &HostRuntime, path: &str) -> Option<Known> {
+    match OpenOptions::new().read(true).write(true).open(rt, path) {
+        Ok(_) => None,
+        Err(error) => Some(Known::of_error(&error)),
+    }
+}
+
+/// What keeps a file from being made. One of another name is tried, so that no other program finds this one and writes to
+/// it.
+fn known_of_making(rt: &HostRuntime, path: &str) -> io::Result<Option<Known>> {
+    let other = format!(in rt.alloc(); "{path}.new")?;
+    match OpenOptions::new()
+        .write(true)
+        .create_new(true)
+        .open(rt, other.as_str())
+    {
+        Ok(_) => {
+            fs::remove_file(rt, other.as_str())?;
+            Ok(None)
+        }
+        Err(error) => Ok(Some(Known::of_error(&error))),
+    }
+}
+
+/// The head of a file.
+fn head(rt: &HostRuntime, path: &str) -> io::Result<[u8; HEAD]> {
+    let mut head = [0; HEAD];
+    File::open(rt, path)?.read_exact(&mut head)?;
+    Ok(head)
+}
+
+/// Whether a file begins as a database.
+pub(crate) fn begins_as_database(rt: &HostRuntime, path: &str) -> bool {
+    match head(rt, path) {
+        Ok(head) => head.as_slice().starts_with(MAGIC),
+        Err(_) => false,
+    }
+}
+
+/// Whether a database's file is shorter than the pages that its head counts.
+pub(crate) fn is_cut(rt: &HostRuntime, path: &str) -> bool {
+    match (head(rt, path), fs::metadata(rt, path)) {
+        (Ok(head), Ok(found)) => found.len() < counted_bytes(&head),
+        _ => false,
+    }
+}
+
+/// How many bytes the head of a database counts: its pages, at byte 28, of the size at byte 16, where 1 stands for 65,536.
+fn counted_bytes(head: &[u8; HEAD]) -> u64 {
+    let size = match u16::from_be_bytes([head[16], head[17]]) {
+        1 => 65_536,
+        size => size as u64,
+    };
+    let pages = u32::from_be_bytes([head[28], head[29], head[30], head[31]]);
+    size.saturating_mul(pages as u64)
+}
