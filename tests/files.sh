@@ -33,7 +33,7 @@ wants() {
     fi
 }
 
-# faults NAME FILE WORD..: the program ends on these words with this fault of this file
+# faults NAME FILE WORD..: the program ends on these words with this fault of this file, behind which stands what is known
 faults() {
     local name=$1 file=$2
     shift 2
@@ -50,8 +50,8 @@ fresh() {
 }
 
 echo "commands"
-faults Read none/sites audit none
-faults Read none init chain none
+faults Read 'none/sites: no such file or folder' audit none
+faults Read 'none: no such file or folder' init chain none
 fresh chain
 wants 1 "$(printf 'refused Exists %s\n' dairy plant shop-1 shop-2)" '' init chain "$chain/sites"
 wants 0 'captured 2 known 0 skipped 0' '' capture chain shop-1 "$chain/shop-1.json"
@@ -92,7 +92,7 @@ echo "several documents"
 again="captured 0 known 2 skipped 0 $chain/shop-2.json"
 wants 1 "$(printf '%s\n' "$again" 'refused Doc Syntax event 0 field document bad.json' "$again" 'documents 3 captured 0 known 4 skipped 0 refused 1')" \
     '' capture chain shop-2 "$chain/shop-2.json" bad.json "$chain/shop-2.json"
-wants 3 "$again" "$(printf 'fault Read\nfile none')" capture chain shop-2 "$chain/shop-2.json" none bad.json
+wants 3 "$again" "$(printf 'fault Read\nfile none: no such file or folder')" capture chain shop-2 "$chain/shop-2.json" none bad.json
 wants 1 'refused NoSite farm' '' capture chain farm none none
 printf '%s\n \r\n{' "$(tr -d '\n' <"$chain/shop-2.json")" >lines
 wants 1 "$(printf '%s\n' 'captured 0 known 2 skipped 0 lines:1' 'refused Doc Syntax event 0 field document lines:3' \
@@ -103,7 +103,7 @@ wants 1 "$(printf '%s\n' 'captured 0 known 2 skipped 0 lines:1' 'refused Doc Syn
 [ $? = 0 ] && [ "$(cat out err)" = 'captured 0 known 2 skipped 0' ] || { echo "a document in a pipe: $(cat out err)" >&2; failed=1; }
 
 echo "faults"
-faults Read none capture chain dairy none
+faults Read 'none: no such file or folder' capture chain dairy none
 # damaged: the chain again, to be spoilt
 damaged() {
     rm -rf damaged
@@ -111,48 +111,48 @@ damaged() {
 }
 damaged
 rm damaged/shop-2.db damaged/shop-2.db-wal
-faults Read damaged/shop-2.db audit damaged
+faults Read 'damaged/shop-2.db: no such file or folder' audit damaged
 [ -e damaged/shop-2.db ] && { echo "a missing file was made" >&2; failed=1; }
 damaged
 rm damaged/plant.db-wal
 printf 'this is no database, and never was one' >damaged/plant.db
-faults NotAStore damaged/plant.db audit damaged
+faults NotAStore 'damaged/plant.db: no sqlite database' audit damaged
 damaged
 rm damaged/plant.db-wal
 : >damaged/plant.db
-faults NotAStore damaged/plant.db audit damaged
+faults NotAStore 'damaged/plant.db: the table store is missing' audit damaged
 damaged
 truncate -s 8192 damaged/plant.db
-faults Device damaged/plant.db audit damaged
+faults Device 'damaged/plant.db: damaged' audit damaged
 touch no-folder
-faults Read no-folder/sites audit no-folder
+faults Read 'no-folder/sites: Not a directory (os error 20)' audit no-folder
 if command -v sqlite3 >/dev/null; then
     damaged
     sqlite3 damaged/plant.db 'update store set version = 2' || failed=1
-    faults Version damaged/plant.db audit damaged
+    faults Version 'damaged/plant.db: version 2' audit damaged
     damaged
     sqlite3 damaged/plant.db 'update event set kind = 9 where no = 2' || failed=1
-    faults BadRow damaged/plant.db audit damaged
+    faults BadRow 'damaged/plant.db: row 2 of the table event' audit damaged
     damaged
     printf 'begin exclusive;\n.shell touch held; sleep 2\n' | sqlite3 damaged/plant.db &
     while [ ! -e held ]; do sleep 0.01; done
-    faults Device damaged/plant.db audit damaged
+    faults Device 'damaged/plant.db: in use by another program' audit damaged
     wait
     wants 0 "$("$recall" audit chain)" '' audit damaged
 fi
 damaged
 (trap '' XFSZ; ulimit -f 1; "$recall" start damaged dairy "$tank" >out 2>err)
-[ $? = 3 ] && [ "$(head -1 err)" = 'fault Device' ] || { echo "a full disk: $(cat out err)" >&2; failed=1; }
+[ $? = 3 ] && [ "$(cat err)" = "$(printf 'fault Device\nfile damaged/dairy.db: disk I/O error')" ] || { echo "a full disk: $(cat out err)" >&2; failed=1; }
 wants 0 "$("$recall" audit chain)" '' audit damaged
 damaged
 cp chain/plant.db damaged/dairy.db
 cp chain/plant.db-wal damaged/dairy.db-wal
-faults OtherSite damaged/dairy.db audit damaged
+faults OtherSite 'damaged/dairy.db: the file of plant' audit damaged
 damaged
 echo 'site late z' >>damaged/sites
-wants 3 '' 'fault OtherSites' start damaged dairy "$tank"
+faults OtherSites damaged/dairy.db start damaged dairy "$tank"
 echo 'reach dairy x' >>damaged/sites
-wants 3 '' 'fault BadSites' audit damaged
+faults BadSites damaged/sites audit damaged
 damaged
 wants 0 "$(printf '%s ended\n' 'dairy#1' 'plant#1')" '' run damaged
 wants 0 "$(printf '%s\n' 'equal dairy#1 pairs 8' 'equal plant#1 pairs 7')" '' audit damaged

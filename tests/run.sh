@@ -141,8 +141,8 @@ for ((n = 0; n < 10; n++)); do
     first=$?
     case "$first $second" in
     '0 0') ;;
-    '0 3') refused=$((refused + 1)); grep -q '^file twice/' err2 || complain "the refused run: $(cat out2 err2)" ;;
-    '3 0') refused=$((refused + 1)); grep -q '^file twice/' err1 || complain "the refused run: $(cat out1 err1)" ;;
+    '0 3') refused=$((refused + 1)); grep -q '^file twice/.*: in use by another program$' err2 || complain "the refused run: $(cat out2 err2)" ;;
+    '3 0') refused=$((refused + 1)); grep -q '^file twice/.*: in use by another program$' err1 || complain "the refused run: $(cat out1 err1)" ;;
     '3 3') refused=$((refused + 1)) ;;
     *) complain "two runs: $first $second; $(cat out1 err1 out2 err2)" ;;
     esac
