@@ -100,7 +100,10 @@ impl fmt::Display for Known {
             Known::NoDatabase => f.write_str("no sqlite database"),
             Known::Unsound => f.write_str("a row breaks a rule of its table, or a declaration isn't read"),
             Known::TableMissing(name) => write!(f, "the table {name} is missing"),
-            Known::Foreign(name) => write!(f, "{name} isn't of a site"),
+            Known::Foreign(name) => {
+                let name = name.as_str();
+                write!(f, "{name} isn't of a site")
+            }
             Known::OtherTables => f.write_str("a table is declared otherwise"),
             Known::NoStoreRow => f.write_str("the table store is empty"),
             Known::Row(bad) => {
@@ -109,7 +112,10 @@ impl fmt::Display for Known {
                 write!(f, "row {row} of the table {table}")
             }
             Known::Version(version) => write!(f, "version {version}"),
-            Known::Site(name) => write!(f, "the file of {name}"),
+            Known::Site(name) => {
+                let name = name.as_str();
+                write!(f, "the file of {name}")
+            }
             Known::System(error) => write!(f, "{error}"),
             Known::Database(error) => write!(f, "{error}"),
         }

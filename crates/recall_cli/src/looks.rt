@@ -7,9 +7,6 @@ use std::fs::{self, File, OpenOptions};
 use std::io::{self, ErrorKind, Read};
 use std::os::unix::fs::MetadataExt;
 
-/// How many bytes of a database's head are looked at.
-const HEAD: usize = 32;
-
 /// What a database begins with.
 const MAGIC: &[u8] = b"SQLite format 3\0";
 
@@ -28,7 +25,7 @@ pub(crate) fn hindrance(rt: &HostRuntime, path: &str) -> Trouble {
 /// The first of the files beside which a database lies that can't be opened, where a look finds one.
 fn found_hindrance(rt: &HostRuntime, path: &str) -> io::Result<Option<Trouble>> {
     let Ok(real) = fs::canonicalize(rt, path) else {
-        return Ok(at_file(rt, path, false)?);
+        return at_file(rt, path, false);
     };
     let real = real.as_str();
     if let Some(trouble) = at_file(rt, real, false)? {
@@ -89,9 +86,9 @@ fn known_of_making(rt: &HostRuntime, path: &str) -> io::Result<Option<Known>> {
     }
 }
 
-/// The head of a file.
-fn head(rt: &HostRuntime, path: &str) -> io::Result<[u8; HEAD]> {
-    let mut head = [0; HEAD];
+/// The first bytes of a file.
+fn head(rt: &HostRuntime, path: &str) -> io::Result<[u8; 32]> {
+    let mut head = [0; 32];
     File::open(rt, path)?.read_exact(&mut head)?;
     Ok(head)
 }
@@ -113,7 +110,7 @@ pub(crate) fn is_cut(rt: &HostRuntime, path: &str) -> bool {
 }
 
 /// How many bytes the head of a database counts: its pages, at byte 28, of the size at byte 16, where 1 stands for 65,536.
-fn counted_bytes(head: &[u8; HEAD]) -> u64 {
+fn counted_bytes(head: &[u8; 32]) -> u64 {
     let size = match u16::from_be_bytes([head[16], head[17]]) {
         1 => 65_536,
         size => size as u64,

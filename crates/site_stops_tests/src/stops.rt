@@ -174,7 +174,10 @@ fn stops(
         match run(rt.alloc(), keys, Blow { file, calls }, leaves, records) {
             Ok(Ended::Unmade) => {}
             Ok(Ended::Stopped) => stops = stops.saturating_add(1),
-            Ok(Ended::Whole) => return Ok(stops),
+            Ok(Ended::Whole) => {
+                println!(rt; "file {file}: {stops} stops")?;
+                return Ok(stops);
+            }
             Err(fail) => {
                 println!(rt; "file {file}, after {calls} calls")?;
                 return Err(fail);
@@ -198,7 +201,6 @@ fn stops_everywhere(rt: &HostRuntime, leaves: Leaves) -> Result<[u64; 4], Fail> 
 #[test]
 fn a_stop_leaves_what_was_synced(rt: HostRuntime) -> Result<(), Fail> {
     let stops = stops_everywhere(&rt, Leaves::Synced)?;
-    println!(rt; "stops {stops:?}")?;
     assert!(rt; stops.iter().all(|stops| *stops > 0));
     Ok(())
 }
