@@ -98,7 +98,9 @@ impl fmt::Display for Known {
             Known::Journal => f.write_str("sqlite left a journal of it, which sqlite3 plays back"),
             Known::Damaged => f.write_str("damaged"),
             Known::NoDatabase => f.write_str("no sqlite database"),
-            Known::Unsound => f.write_str("a row breaks a rule of its table, or a declaration isn't read"),
+            Known::Unsound => f.write_str(
+                "a row breaks a rule of its table, or a declaration isn't read",
+            ),
             Known::TableMissing(name) => write!(f, "the table {name} is missing"),
             Known::Foreign(name) => {
                 let name = name.as_str();

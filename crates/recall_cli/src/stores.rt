@@ -1,8 +1,7 @@
 //! What is told of the databases in which the machine keeps sites, where they fail.
 
 use crate::causes::{Known, Trouble};
-use crate::looks;
-use crate::schemas;
+use crate::{looks, schemas};
 use keeper_core::KeepFault;
 use site_commands::Fault;
 use site_store::{Link, OpenFault, StoredSite, Unfound};

@@ -239,8 +239,9 @@ fn folder<'a>(alloc: Global) -> Arg<'a>
     ensures rule { rule_of result ≡ folder }
     ensures local { result.global ≡ false }
 {
-    required(alloc, "dir", "The folder of the sites' files")
-        .value_parser(ValueParser::NonEmptyString)
+    required(alloc, "dir", "The folder of the sites' files").value_parser(
+        ValueParser::NonEmptyString,
+    )
 }
 
 /// A command on a folder.

@@ -35,7 +35,11 @@ fn fused(
     of_log: bool,
     calls: u64,
 ) -> Result<Files<Fused>, Fail> {
-    let (log, db) = if of_log { (calls, u64::MAX) } else { (u64::MAX, calls) };
+    let (log, db) = if of_log {
+        (calls, u64::MAX)
+    } else {
+        (u64::MAX, calls)
+    };
     let log = holding(alloc, files.log.inner().bytes(), log)?;
     let db = holding(alloc, files.db.inner().bytes(), db)?;
     Ok(Files { log, db })
@@ -82,11 +86,7 @@ fn failures(
 }
 
 /// Whether the opening fails at some calls of each file, and leaves the same rows at each.
-fn all_leave_the_record(
-    alloc: Global,
-    keys: RandomState,
-    leaves: Leaves,
-) -> Result<bool, Fail> {
+fn all_leave_the_record(alloc: Global, keys: RandomState, leaves: Leaves) -> Result<bool, Fail> {
     let (files, rows) = after_recall(alloc, keys)?;
     let of_log = failures(alloc, keys, true, leaves, &files, &rows)?;
     let of_db = failures(alloc, keys, false, leaves, &files, &rows)?;

@@ -56,11 +56,7 @@ pub fn rounds<K: SiteKeeper>(alloc: Global, world: &mut World<K>, count: u64) ->
 }
 
 /// Whether each recall that A began has ended, with just so many pairs, and A began one at least.
-pub fn all_ended<K: SiteKeeper>(
-    alloc: Global,
-    world: &World<K>,
-    pairs: u64,
-) -> Result<bool, Fail> {
+pub fn all_ended<K: SiteKeeper>(alloc: Global, world: &World<K>, pairs: u64) -> Result<bool, Fail> {
     match (world.view(site(0)), world.view(site(1))) {
         (Some(a), Some(b)) => recalls_ended(alloc, a, b, pairs),
         _ => Ok(false),

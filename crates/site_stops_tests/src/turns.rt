@@ -57,10 +57,8 @@ pub fn site(number: u64) -> SiteNo
 
 /// The site at which a turn happens.
 pub fn site_of(turn: Turn) -> SiteNo {
-    match turn {
-        Turn::Captures | Turn::Begins | Turn::Sends | Turn::Returns(_) | Turn::Reopens(0) => site(0),
-        Turn::Comes(_) | Turn::Signals | Turn::Reopens(_) => site(1),
-    }
+    let is_second = matches!(turn, Turn::Comes(_) | Turn::Signals | Turn::Reopens(1));
+    site(if is_second { 1 } else { 0 })
 }
 
 /// What a site is given in a turn, where it is a step.
