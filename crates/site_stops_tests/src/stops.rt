@@ -179,7 +179,7 @@ fn stops(
                 return Ok(stops);
             }
             Err(fail) => {
-                println!(rt; "file {file}, after {calls} calls")?;
+                let _ = println!(rt; "file {file}, after {calls} calls");
                 return Err(fail);
             }
         }
