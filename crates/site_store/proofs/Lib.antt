@@ -4,6 +4,7 @@ pub mod InOrder
 pub mod KeptFailures
 pub mod KeptSteps
 pub mod KeptStops
+pub mod LeftRows
 pub mod Named
 pub mod OpeningReads
 pub mod OwnSteps
