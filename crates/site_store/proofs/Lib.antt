@@ -1,3 +1,5 @@
+pub mod CallsLeave
+pub mod Crashes
 pub mod Findings
 pub mod Found
 pub mod InOrder
