@@ -45,6 +45,11 @@ may_be : (may : Record → Type 0) (r : Record) → Stands None may r → may r
 may_be may r (inl e) = absurd (let f : None ≡ Some r = e in cc)
 may_be may r (inr it) = it.1
 
+-- what shows a record stands for that alone
+one_shown : (shown : Option Record) (may : Record → Type 0) (s r : Record) → shown ≡ Some s → Stands shown may r → s ≡ r
+one_shown shown may s r is (inl e) = same_Some s r (sym is ∙ e)
+one_shown shown may s r is (inr none) = absurd (let f : None ≡ Some s = sym none.0 ∙ is in cc)
+
 abbrev OldOrNew : Record → SiteInput → Record → Type 0
 OldOrNew old input r = (r ≡ old) ⊎ IsAfter old input r
 
@@ -104,11 +109,9 @@ module _ {D : Type 0} {g : disk.Ghosts D} where
 
   reopened_in : (old : StoredSite D g) (result : Reopening g) → shown_by old ≡ None → ReopensBy old result
       → MatchResult result (λ site. AreAmong site old) (λ left. AreAmong left.keeper old)
-  reopened_in old (Ok site) shown opens = λ r stands. inr (shown, subst (MayIn old.kept) (same_Some _ r (sym (opens shown).3 ∙ is_shown site r (opens shown).1 (opens shown).3 stands)) (opens shown).2)
-    where
-      is_shown : (site : StoredSite D g) (r s : Record) → shown_by site ≡ Some s → StandsFor site r → shown_by site ≡ Some r
-      is_shown site r s shows_it (inl e) = e
-      is_shown site r s shows_it (inr none) = absurd (let f : None ≡ Some s = sym none.0 ∙ shows_it in cc)
+  reopened_in old (Ok site) shown opens = λ r stands.
+      let it = opens shown in
+      inr (shown, subst (MayIn old.kept) (one_shown (shown_by site) (MayIn site.kept) it.1 r it.3 stands) it.2)
   reopened_in old (Err left) shown it = λ r stands.
       let closed = stays_closed old left it.0 in
       inr (shown, closed.1 r (may_be (MayIn left.keeper.kept) r (subst (λ o. Stands o (MayIn left.keeper.kept) r) closed.0 stands)))
