@@ -27,7 +27,7 @@ pub trait SiteKeeper: Drop {
     ghost failed: { Self → ℕ };
 
     /// A crash leaves on the device the record that it shows, or, while it is closed, one of those in which it may be
-    /// opened, and no other. A keeper without a device has none to lose.
+    /// opened, and no other: now, or before the openings that failed since. A keeper without a device has none to lose.
     ghost stored: { Self → Type 0 };
 
     /// What a step, a stop and an opening do to a keeper of this kind, for a caller that knows the kind. A kind

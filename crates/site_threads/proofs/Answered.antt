@@ -8,7 +8,8 @@ use Rattle.site_core.specs.declared.inputs.SiteInput.{SiteInput}
 use Rattle.site_core.specs.declared.outcomes.Effects.{Effects}
 use Rattle.site_core.specs.declared.outcomes.Effects.TheVariants as effects
 use Rattle.site_threads.specs.Answering.{Told}
-use Rattle.site_threads.specs.Jobs.{is_delivery, is_stop, reply_to, told}
+use Rattle.site_threads.specs.Inputs.{is_delivery}
+use Rattle.site_threads.specs.Jobs.{is_stop, reply_to, told}
 use Rattle.site_threads.specs.Keepers.{shown_in, may_in}
 use Rattle.site_threads.specs.declared.jobs.Reply.{Reply}
 use Rattle.site_threads.proofs.Taking.{Answer, none≢some, the, shown_up}

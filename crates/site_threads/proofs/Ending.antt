@@ -6,8 +6,8 @@ use Rattle.std.proofs.lemmas.List.Elements.{All-head, All-tail}
 use Rattle.std.specs.List.{AllZip, range_with_len}
 use Rattle.std.specs.Option.{option_or}
 use Rattle.site_core.specs.Records.{Record}
+use Rattle.world_core.specs.Faults.{AreOneWorld, MakeAWorld}
 use Rattle.world_core.specs.Keepers.{IsFirstClosed}
-use Rattle.wire_core.specs.Fitting.{SitesFit}
 use Rattle.wire_core.specs.Seats.{Line}
 use Rattle.crossbeam_channel.specs.Ends.{receives_on}
 use Rattle.site_threads.specs.declared.desks.DeskOut.{DeskOut}
@@ -28,7 +28,7 @@ use Rattle.site_threads.specs.Parting.{HasKeeper, LeavesList, cause_of, first_ca
 use Rattle.site_threads.specs.Running.{Holding}
 use Rattle.site_threads.specs.Runs.{EndedBy, IsReady, Ran}
 use Rattle.site_threads.proofs.Gathering.{exact_when_fit}
-use Rattle.site_threads.proofs.Zips.{zip_through}
+use Rattle.site_threads.proofs.Zips.{all_carried, zip_through}
 
 shown_record : (o : Option Record) → IsSome o → (r : Record) × (o ≡ Some r)
 shown_record (Some r) h = (r, refl)
@@ -80,13 +80,13 @@ module _ {K : Type 0} (shown : K → Option Record) where
   named_fits may olds ks p (SiteLost site) n fit = fit
   named_fits may olds ks p (GaveUp site) n fit = fit
 
-module _ {K G : Type 0} (shown : K → Option Record) (may : K → Record → Type 0) (reopens : K → Result K (Unopened K) → Type 0) (gives_up : G → ℕ → ℕ → Type 0) (wire : Line) (most : ℕ) where
+module _ {K G : Type 0} (shown : K → Option Record) (may : K → Record → Type 0) (stored : K → Type 0) (reopens : K → Result K (Unopened K) → Type 0) (gives_up : G → ℕ → ℕ → Type 0) (wire : Line) (most : ℕ) where
   -- Where no site ended its run.
 
-  opened : (old run : SiteRun K G) (k : K) → Ran shown may reopens gives_up wire most old run → HasKeeper run k → run.fault ≡ None → (r : Record) × (shown k ≡ Some r)
+  opened : (old run : SiteRun K G) (k : K) → Ran shown may stored reopens gives_up wire most old run → HasKeeper run k → run.fault ≡ None → (r : Record) × (shown k ≡ Some r)
   opened old run k ran is fine = shown_record (shown k) (subst (λ (o : Option K). IsSome (shown_in shown o)) is (ran.is_open fine))
 
-  kept_one : (old run : SiteRun K G) (k : K) (l : SiteList) → Ran shown may reopens gives_up wire most old run → HasKeeper run k → LeavesList run l → run.fault ≡ None → IsKept shown k l
+  kept_one : (old run : SiteRun K G) (k : K) (l : SiteList) → Ran shown may stored reopens gives_up wire most old run → HasKeeper run k → LeavesList run l → run.fault ≡ None → IsKept shown k l
   kept_one old run k l ran is left fine =
       let o = opened old run k ran is fine in
       let h = subst (λ (x : Option Record). Holding x (may_in may run.turn.site.keeper) run.turn.site.start.value run.turn.site.entries.items ran.run.site.runs.log) (ap (shown_in shown) is ∙ o.1) ran.run.site.runs.holding in
@@ -100,7 +100,7 @@ module _ {K G : Type 0} (shown : K → Option Record) (may : K → Record → Ty
         };
       }
 
-  pub kept_all : (olds runs : List (SiteRun K G)) (ks : List K) (ls : List SiteList) → AllZip (Ran shown may reopens gives_up wire most) olds runs → AllZip HasKeeper runs ks → AllZip LeavesList runs ls → first_cause runs ≡ None → AllZip (IsKept shown) ks ls
+  pub kept_all : (olds runs : List (SiteRun K G)) (ks : List K) (ls : List SiteList) → AllZip (Ran shown may stored reopens gives_up wire most) olds runs → AllZip HasKeeper runs ks → AllZip LeavesList runs ls → first_cause runs ≡ None → AllZip (IsKept shown) ks ls
   kept_all [] [] [] [] a b c none = tt
   kept_all (o ∷ os) (r ∷ rs) (k ∷ ks) (l ∷ ls) a b c none =
       let n = neither (cause_of r.turn.site.me r.fault) (first_cause rs) none in
@@ -112,7 +112,7 @@ module _ {K G : Type 0} (shown : K → Option Record) (may : K → Record → Ty
   kept_all (o ∷ os) (r ∷ rs) [] ls a b c none = absurd b
   kept_all (o ∷ os) (r ∷ rs) (k ∷ ks) [] a b c none = absurd c
 
-  turned_one : (old run : SiteRun K G) (k : K) (l : SiteList) → IsReady shown may wire old → Ran shown may reopens gives_up wire most old run → HasKeeper run k → LeavesList run l → run.fault ≡ None → HasTurned shown most k l
+  turned_one : (old run : SiteRun K G) (k : K) (l : SiteList) → IsReady shown may wire old → Ran shown may stored reopens gives_up wire most old run → HasKeeper run k → LeavesList run l → run.fault ≡ None → HasTurned shown most k l
   turned_one old run k l ready ran is left fine = record {
     asked = let few : run.turn.turns ≤ most = let none = ready.unasked in let more = ran.asked in omega (arith, none, more) in subst (λ (n : ℕ). n ≤ most) (sym left.turns) few;
     all = elim (ran.all fine) [
@@ -127,7 +127,7 @@ module _ {K G : Type 0} (shown : K → Option Record) (may : K → Record → Ty
     ];
   }
 
-  pub turned_all : (olds runs : List (SiteRun K G)) (ks : List K) (ls : List SiteList) → All (IsReady shown may wire) olds → AllZip (Ran shown may reopens gives_up wire most) olds runs → AllZip HasKeeper runs ks → AllZip LeavesList runs ls → first_cause runs ≡ None → AllZip (HasTurned shown most) ks ls
+  pub turned_all : (olds runs : List (SiteRun K G)) (ks : List K) (ls : List SiteList) → All (IsReady shown may wire) olds → AllZip (Ran shown may stored reopens gives_up wire most) olds runs → AllZip HasKeeper runs ks → AllZip LeavesList runs ls → first_cause runs ≡ None → AllZip (HasTurned shown most) ks ls
   turned_all [] [] [] [] ready a b c none = tt
   turned_all (o ∷ os) (r ∷ rs) (k ∷ ks) (l ∷ ls) ready a b c none =
       let n = neither (cause_of r.turn.site.me r.fault) (first_cause rs) none in (
@@ -143,7 +143,7 @@ module _ {K G : Type 0} (shown : K → Option Record) (may : K → Record → Ty
 
   -- Where one did.
 
-  first_hinders : (a : ℕ) (olds runs : List (SiteRun K G)) (ks : List K) (cause : GatherCause) → AllZip (Ran shown may reopens gives_up wire most) olds runs → AllZip HasKeeper runs ks → map (λ (r : SiteRun K G). r.turn.site.me) runs ≡ range_with_len a (length runs) → first_cause runs ≡ Some cause
+  first_hinders : (a : ℕ) (olds runs : List (SiteRun K G)) (ks : List K) (cause : GatherCause) → AllZip (Ran shown may stored reopens gives_up wire most) olds runs → AllZip HasKeeper runs ks → map (λ (r : SiteRun K G). r.turn.site.me) runs ≡ range_with_len a (length runs) → first_cause runs ≡ Some cause
       → (p : ℕ) × Names shown ks a p cause
   unfolding Names
   first_hinders a [] [] [] cause x y order is = let n : None ≡ Some cause = is in cc
@@ -180,7 +180,7 @@ module _ {K G : Type 0} (shown : K → Option Record) (may : K → Record → Ty
   explains_more a k ks (SiteLost site) e = (suc e.0, e.1 ∙ (let z : a + 1 + e.0 ≡ a + suc e.0 = omega arith in z), e.2, e.3, e.4)
   explains_more a k ks (GaveUp site) e = e
 
-  explained : (a : ℕ) (olds runs : List (SiteRun K G)) (ks : List K) (cause : GatherCause) → All (IsReady shown may wire) olds → AllZip (Ran shown may reopens gives_up wire most) olds runs → AllZip HasKeeper runs ks
+  explained : (a : ℕ) (olds runs : List (SiteRun K G)) (ks : List K) (cause : GatherCause) → All (IsReady shown may wire) olds → AllZip (Ran shown may stored reopens gives_up wire most) olds runs → AllZip HasKeeper runs ks
       → map (λ (r : SiteRun K G). r.turn.site.me) runs ≡ range_with_len a (length runs) → first_cause runs ≡ Some cause → ExplainsFrom a ks cause
   unfolding ExplainsFrom
   explained a [] [] [] cause ready x y order is = let n : None ≡ Some cause = is in cc
@@ -215,28 +215,32 @@ module _ {K G : Type 0} (shown : K → Option Record) (may : K → Record → Ty
   explains ks (SiteLost site) e = (e.2, ap (slice_get ks) (e.1 ∙ (let z : 0 + e.0 ≡ e.0 = omega arith in z)) ∙ e.3, e.4)
   explains ks (GaveUp site) e = e
 
-  pub explains_all : (olds runs : List (SiteRun K G)) (ks : List K) (cause : Option GatherCause) → All (IsReady shown may wire) olds → AllZip (Ran shown may reopens gives_up wire most) olds runs → AllZip HasKeeper runs ks
+  pub explains_all : (olds runs : List (SiteRun K G)) (ks : List K) (cause : Option GatherCause) → All (IsReady shown may wire) olds → AllZip (Ran shown may stored reopens gives_up wire most) olds runs → AllZip HasKeeper runs ks
       → map (λ (r : SiteRun K G). r.turn.site.me) runs ≡ range_with_len 0 (length runs) → cause ≡ first_cause runs → IfSome cause (Explains shown reopens gives_up most ks)
   explains_all olds runs ks None ready x y order is = tt
   explains_all olds runs ks (Some cause) ready x y order is = explains ks cause (explained 0 olds runs ks cause ready x y order (sym is))
 
-  pub hinders_all : (firsts : List K) (olds runs : List (SiteRun K G)) (ks : List K) (cause : Option GatherCause) → AllZip (Ran shown may reopens gives_up wire most) olds runs → AllZip HasKeeper runs ks → map (λ (r : SiteRun K G). r.turn.site.me) runs ≡ range_with_len 0 (length runs)
+  pub hinders_all : (firsts : List K) (olds runs : List (SiteRun K G)) (ks : List K) (cause : Option GatherCause) → AllZip (Ran shown may stored reopens gives_up wire most) olds runs → AllZip HasKeeper runs ks → map (λ (r : SiteRun K G). r.turn.site.me) runs ≡ range_with_len 0 (length runs)
       → cause ≡ first_cause runs → KeepersFit shown may ks → IfSome cause (λ c. Hinders shown ks c × FitAfter shown may firsts c ks)
   hinders_all firsts olds runs ks None x y order is fit = tt
   hinders_all firsts olds runs ks (Some cause) x y order is fit = let n = first_hinders 0 olds runs ks cause x y order (sym is) in (named_hinders shown ks n.0 cause n.1, named_fits shown may firsts ks n.0 cause n.1 fit)
 
-module _ {K G : Type 0} (shown : K → Option Record) (may : K → Record → Type 0) (reopens : K → Result K (Unopened K) → Type 0) (gives_up : G → ℕ → ℕ → Type 0) (wire : Line) (most : ℕ) (olds runs : List (SiteRun K G)) (ls : List SiteList) (ran : AllZip (Ran shown may reopens gives_up wire most) olds runs) (left : AllZip LeavesList runs ls) where
+module _ {K G : Type 0} (shown : K → Option Record) (may : K → Record → Type 0) (stored : K → Type 0) (reopens : K → Result K (Unopened K) → Type 0) (gives_up : G → ℕ → ℕ → Type 0) (wire : Line) (most : ℕ) (olds runs : List (SiteRun K G)) (ls : List SiteList) (ran : AllZip (Ran shown may stored reopens gives_up wire most) olds runs) (left : AllZip LeavesList runs ls) where
   -- each list is of the site that began so, and has its end of the desk
 
+  StartedIn : K → SiteRun K G → Type 0
+  StartedIn k run = shown k ≡ Some run.turn.site.start.value
+
   pub began_all : (ks : List K) → AllZip (BeganIn shown) ks olds → AllZip (Began shown) ks ls
+  unfolding StartedIn
   began_all ks start =
-      zip_through (BeganIn {G = G} shown) LeavesList (Began shown) ks runs ls (λ k r l b z. b ∙ ap Some (sym z.start))
-      (zip_through (BeganIn {G = G} shown) (Ran shown may reopens gives_up wire most) (BeganIn shown) ks olds runs (λ k o r b z. b ∙ ap Some (sym z.same.start)) start ran) left
+      zip_through StartedIn LeavesList (Began shown) ks runs ls (λ k r l b z. b ∙ ap Some (sym z.start))
+      (zip_through (BeganIn {G = G} shown) (Ran shown may stored reopens gives_up wire most) StartedIn ks olds runs (λ k o r b z. b.start ∙ ap Some (sym z.same.start)) start ran) left
 
   pub ends_all : (ds : List DeskOut) → AllZip (TookEnd {K = K} {G = G}) ds olds → AllZip HasEnd ds ls
   ends_all ds took =
       zip_through (TookEnd {K = K} {G = G}) LeavesList HasEnd ds runs ls (λ d r l t z. record { desk = ap (λ (o : DeskOut). receives_on o.from) z.out ∙ t.desk; limit = ap (λ (o : DeskOut). o.limit) z.out ∙ t.limit })
-      (zip_through (TookEnd {K = K} {G = G}) (Ran shown may reopens gives_up wire most) TookEnd ds olds runs (λ d o r t z. record { desk = z.same.desk ∙ t.desk; limit = z.same.limit ∙ t.limit }) took ran) left
+      (zip_through (TookEnd {K = K} {G = G}) (Ran shown may stored reopens gives_up wire most) TookEnd ds olds runs (λ d o r t z. record { desk = z.same.desk ∙ t.desk; limit = z.same.limit ∙ t.limit }) took ran) left
 
 -- before the first turn, where all are open
 only_shown : {K : Type 0} (shown : K → Option Record) (may : K → Record → Type 0) (ks : List K) (rs qs : List Record) → AllZip (λ k r. shown k ≡ Some r) ks rs → AllZip (λ k r. Opens (shown k) (may k) r) ks qs → qs ≡ rs
@@ -247,5 +251,31 @@ only_shown shown may (k ∷ ks) [] qs a b = absurd a
 only_shown shown may [] [] (q ∷ qs) a b = absurd b
 only_shown shown may (k ∷ ks) (r ∷ rs) [] a b = absurd b
 
-pub fit_before : {K : Type 0} (shown : K → Option Record) (may : K → Record → Type 0) (ks : List K) (rs : List Record) → AllZip (λ k r. shown k ≡ Some r) ks rs → SitesFit rs [] → KeepersFit shown may ks
-fit_before shown may ks rs a fit qs b = let f = subst (λ l. SitesFit l []) (sym (only_shown shown may ks rs qs a b)) fit in record { fit = f; exact = exact_when_fit qs f }
+pub fit_before : {K : Type 0} (shown : K → Option Record) (may : K → Record → Type 0) (ks : List K) (rs : List Record) → AllZip (λ k r. shown k ≡ Some r) ks rs → MakeAWorld rs → KeepersFit shown may ks
+fit_before shown may ks rs a world qs b = let w = subst MakeAWorld (sym (only_shown shown may ks rs qs a b)) world in record { world = w; exact = exact_when_fit qs record { places = w.places; fits = w.fit } }
+
+-- What the keepers store.
+
+module _ {K G : Type 0} (shown : K → Option Record) (may : K → Record → Type 0) (stored : K → Type 0) (reopens : K → Result K (Unopened K) → Type 0) (gives_up : G → ℕ → ℕ → Type 0) (wire : Line) (most : ℕ) where
+  -- a site's keeper stores what it did as the site began, whose keeper it is still
+  pub stored_all : (firsts : List K) (olds runs : List (SiteRun K G)) (ks : List K) → AllZip (BeganIn shown) firsts olds → AllZip (Ran shown may stored reopens gives_up wire most) olds runs → AllZip HasKeeper runs ks → All stored firsts → All stored ks
+  stored_all firsts olds runs ks began ran has all =
+      let begun = all_carried (BeganIn {G = G} shown) stored (λ (r : SiteRun K G). IfSome r.turn.site.keeper stored) firsts olds (λ k r s b. subst (λ (o : Option K). IfSome o stored) (sym b.keeper) s) all began in
+      let ended = all_carried (Ran shown may stored reopens gives_up wire most) (λ (r : SiteRun K G). IfSome r.turn.site.keeper stored) (λ (r : SiteRun K G). IfSome r.turn.site.keeper stored) olds runs (λ o r s z. z.same.keeps s) begun ran in
+      all_carried (HasKeeper {K = K} {G = G}) (λ (r : SiteRun K G). IfSome r.turn.site.keeper stored) stored runs ks (λ r k s h. subst (λ (o : Option K). IfSome o stored) h s) ended has
+
+  -- the records that the sites began with are those that the keepers showed
+  starts_are : (ks : List K) (olds runs : List (SiteRun K G)) (rs : List Record) → AllZip (BeganIn shown) ks olds → AllZip (Ran shown may stored reopens gives_up wire most) olds runs → AllZip (λ k r. shown k ≡ Some r) ks rs → map (λ (r : SiteRun K G). r.turn.site.start.value) runs ≡ rs
+  starts_are [] [] [] [] b z s = refl
+  starts_are (k ∷ ks) (o ∷ os) (x ∷ xs) (r ∷ rs) b z s =
+      let same : x.turn.site.start.value ≡ r = z.0.same.start ∙ same_Some o.turn.site.start.value r (sym b.0.start ∙ s.0) in
+      λ i. same i ∷ starts_are ks os xs rs b.1 z.1 s.1 i
+  starts_are [] (o ∷ os) runs rs b z s = absurd b
+  starts_are (k ∷ ks) [] runs rs b z s = absurd b
+  starts_are [] [] (x ∷ xs) rs b z s = absurd z
+  starts_are [] [] [] (r ∷ rs) b z s = absurd s
+  starts_are (k ∷ ks) (o ∷ os) [] rs b z s = absurd z
+  starts_are (k ∷ ks) (o ∷ os) (x ∷ xs) [] b z s = absurd s
+
+  pub starts_one : (ks : List K) (olds runs : List (SiteRun K G)) (rs : List Record) → AllZip (BeganIn shown) ks olds → AllZip (Ran shown may stored reopens gives_up wire most) olds runs → AllZip (λ k r. shown k ≡ Some r) ks rs → AreOneWorld rs → AreOneWorld (map (λ (r : SiteRun K G). r.turn.site.start.value) runs)
+  starts_one ks olds runs rs b z s one = subst AreOneWorld (sym (starts_are ks olds runs rs b z s)) one

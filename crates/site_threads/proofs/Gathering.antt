@@ -12,6 +12,7 @@ use Rattle.site_core.specs.declared.inputs.SiteInput.{SiteInput}
 use Rattle.site_recovery.specs.Fit.{Fits}
 use Rattle.site_recovery.specs.Laws.{AreInPlace}
 use Rattle.site_recovery.specs.Looks.{world_of}
+use Rattle.world_core.specs.Faults.{AreOneWorld}
 use Rattle.world_core.specs.Recalls.{AreExactOnceEnded, quarantined}
 use Rattle.world_core.specs.Worlds as world
 use Rattle.world_core.specs.Worlds.{Up, WorldState, WorldFits}
@@ -30,6 +31,7 @@ use Rattle.site_threads.specs.Keepers.{shown_in, may_in}
 use Rattle.site_threads.specs.Parting.{HasKeeper}
 use Rattle.site_threads.specs.Runs.{IsRun}
 use Rattle.site_threads.specs.Running.{Holding}
+use Rattle.site_threads.proofs.OneList.{IsSameSite, holding_same, one_again}
 use Rattle.site_threads.proofs.Zips.{zip_through}
 
 -- the record last marked, or the one after a step that may be marked
@@ -133,6 +135,20 @@ module _ {K G : Type 0} (shown : K → Option Record) (may : K → Record → Ty
   any_fit sent done (e ∷ es) [] rs fit noted z s = absurd z
   any_fit sent done (e ∷ es) (l ∷ ls) [] fit noted z s = absurd s
 
+  -- a site that ends in a record is the one that began
+  end_same : (wire : Line) (run : SiteRun K G) (r : Record) → IsRun shown may wire run → Stands shown may run r → IsSameSite run.turn.site.start.value r
+  unfolding Stands
+  end_same wire run r is stands =
+      let h = is.site.runs in
+      holding_same (shown_in shown run.turn.site.keeper) (may_in may run.turn.site.keeper) run.turn.site.start.value run.turn.site.entries.items h.log r h.holding stands
+
+  all_same : (wire : Line) (runs : List (SiteRun K G)) (rs : List Record) → All (IsRun shown may wire) runs → AllZip (Stands shown may) runs rs → AllZip IsSameSite (map (λ (r : SiteRun K G). r.turn.site.start.value) runs) rs
+  all_same wire [] [] all s = tt
+  all_same wire (run ∷ runs) (r ∷ rs) all s =
+      (end_same wire run r (All-head (IsRun shown may wire) run runs all) s.0, all_same wire runs rs (All-tail (IsRun shown may wire) run runs all) s.1)
+  all_same wire [] (r ∷ rs) all s = absurd s
+  all_same wire (run ∷ runs) [] all s = absurd s
+
   all_fit : (runs : List (SiteRun K G)) (ls : List Log) (rs : List Record) → Gathered ls → AllZip (IsEnd shown may) runs ls → AllZip (Stands shown may) runs rs → SitesFit rs []
   all_fit runs ls rs all z s = fewer_fit rs (frames ls) [] (any_fit (frames ls) [] runs ls rs all.fit (λ e f c d. (all.noted e f c d).1) z s) (λ f c. let h = c.1 in absurd (omega arith))
 
@@ -164,9 +180,11 @@ module _ {K G : Type 0} (shown : K → Option Record) (may : K → Record → Ty
     pub all_there : HoldsAll wire.sites logs
     all_there = holds_all wire.sites logs sites_are
 
-    pub keepers_fit : (everyone : List Log) → AreAllOf wire.sites logs everyone → Gathered everyone → (keepers : List K) → AllZip HasKeeper runs keepers → KeepersFit shown may keepers
-    keepers_fit everyone are gathered keepers have rs stand =
+    pub keepers_fit : (everyone : List Log) → AreAllOf wire.sites logs everyone → Gathered everyone → AreOneWorld (map (λ (r : SiteRun K G). r.turn.site.start.value) runs) → (keepers : List K) → AllZip HasKeeper runs keepers → KeepersFit shown may keepers
+    keepers_fit everyone are gathered one keepers have rs stand =
         let e = ends_of wire runs all in
         let same = all_held wire.sites logs everyone sites_are are ∙ joined ∙ e.1 in
-        let fit = all_fit runs e.0 rs (subst Gathered same gathered) e.2 (runs_stand runs keepers rs have stand) in
-        record { fit = fit; exact = exact_when_fit rs fit }
+        let stands = runs_stand runs keepers rs have stand in
+        let fit = all_fit runs e.0 rs (subst Gathered same gathered) e.2 stands in
+        let again = one_again (map (λ (r : SiteRun K G). r.turn.site.start.value) runs) rs (all_same wire runs rs all stands) one in
+        record { world = record { one = again; places = fit.places; fit = fit.fits }; exact = exact_when_fit rs fit }

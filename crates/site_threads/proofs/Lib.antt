@@ -8,6 +8,7 @@ mod Looping
 pub mod NoJobs
 mod Numbers
 mod Offering
+mod OneList
 mod OneLog
 mod Parting
 pub mod Passed
@@ -18,6 +19,7 @@ mod Slices
 mod Stamping
 mod Starting
 mod Steps
+mod Stops
 mod Taking
 mod Wired
 mod Zips

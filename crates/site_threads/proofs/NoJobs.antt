@@ -13,7 +13,8 @@ use Rattle.site_threads.specs.declared.jobs.Job.TheVariants as jobs
 use Rattle.site_threads.specs.declared.lists.SiteList.{SiteList}
 use Rattle.site_threads.specs.Ends.{takes}
 use Rattle.site_threads.specs.Gathering.{HasEnd, HasJobsOfEnd, IsKept}
-use Rattle.site_threads.specs.Jobs.{AreOfFrames, is_delivery, job_of, jobs_in, option_items}
+use Rattle.site_threads.specs.Inputs.{is_delivery}
+use Rattle.site_threads.specs.Jobs.{AreOfFrames, job_of, jobs_in, option_items}
 use Rattle.site_threads.proofs.Zips.{all_carried, all_right}
 
 neither_has : {A : Type 0} (xs ys : List A) → xs ++ ys ≡ [] → (xs ≡ []) × (ys ≡ [])

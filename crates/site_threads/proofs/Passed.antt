@@ -13,7 +13,8 @@ use Rattle.wire_core.specs.declared.calls.Post.TheVariants.{Posted, Full}
 use Rattle.wire_core.specs.Changes.{on, posts, notes}
 use Rattle.wire_core.specs.Frames.{sender}
 use Rattle.wire_core.specs.declared.views.Log.{Log}
-use Rattle.site_threads.specs.Jobs.{entry_of, input_of, is_delivery, job_of, jobs_in, open_after, option_items}
+use Rattle.site_threads.specs.Inputs.{input_of, is_delivery}
+use Rattle.site_threads.specs.Jobs.{entry_of, job_of, jobs_in, open_after, option_items}
 use Rattle.site_threads.specs.Offers.{IsFor}
 use Rattle.site_threads.specs.Passing.{EntersFrames, TakesFrames}
 use Rattle.site_threads.specs.Running.{Holding, StandsOpen, Runs, MayDeliver}

@@ -15,7 +15,8 @@ use Rattle.site_threads.specs.declared.jobs.Entry.{Entry}
 use Rattle.site_threads.specs.declared.jobs.Reply.{Reply}
 use Rattle.site_threads.specs.declared.jobs.Reply.TheVariants.{Stopped}
 use Rattle.site_threads.specs.declared.stamps.Stamp.{Stamp}
-use Rattle.site_threads.specs.Jobs.{Keeps, Kept, AreNumbered, is_delivery, reply_to, told}
+use Rattle.site_threads.specs.Inputs.{is_delivery}
+use Rattle.site_threads.specs.Jobs.{Keeps, Kept, AreNumbered, reply_to, told}
 use Rattle.site_threads.specs.Running.{Holding, StandsOpen, Runs, MayFollow, MayDeliver, Follows, marks_in}
 use Rattle.site_threads.specs.Stamps.{stamp}
 use Rattle.site_threads.proofs.Numbers.{numbered_push}

@@ -13,7 +13,8 @@ use Rattle.wire_core.specs.declared.calls.Post.{Post}
 use Rattle.wire_core.specs.declared.calls.Post.TheVariants.{Posted, Full}
 use Rattle.wire_core.specs.declared.views.Log.{Log}
 use Rattle.world_core.specs.Turns.{addressee}
-use Rattle.site_threads.specs.Jobs.{ComesTo, entry_of, is_delivery, is_stop, open_after, option_items}
+use Rattle.site_threads.specs.Inputs.{is_delivery}
+use Rattle.site_threads.specs.Jobs.{ComesTo, entry_of, is_stop, open_after, option_items}
 use Rattle.site_threads.specs.Offers.{IsFor}
 use Rattle.site_threads.specs.Passing.{noted_by, sent_by, PassNothing, Rise, Notes, AreDelivered, EntersFrames, TakesFrames, IsSentBy, PostsFrames}
 use Rattle.site_threads.specs.Running.{Follows, Runs}
@@ -134,10 +135,6 @@ kept_back B new old now was (Err e) h = (h.1, ap is_some h.2)
 
 pub takes_none : (me low high : ℕ) (fs : List Frame) (before : Bool) (xs : List Entry) → low ≤ high → TakesFrames me low high fs fs before before xs xs 0
 takes_none me low high fs before xs h = record { took = []; notes = notes_none me low high fs h; enters = enters_none before [] xs }
-
--- a frame that was noted, and not entered
-pub takes_lost : (me other : ℕ) (old new : List Frame) (f : Frame) (before : Bool) (xs : List Entry) → new ≡ old ++ f ∷ [] → sender f ≡ other → addressee f ≡ me → other ≢ me → TakesFrames me other (other + 1) old new before before xs xs 0
-takes_lost me other old new f before xs is from to apart = record { took = f ∷ []; notes = notes_one me other old new f is from to apart; enters = enters_none before (f ∷ []) xs }
 
 pub takes_one : (me other : ℕ) (old mid new : List Frame) (f : Frame) (before after : Bool) (xs ys : List Entry) (n : ℕ) → mid ≡ old ++ f ∷ [] → new ≡ mid → sender f ≡ other → addressee f ≡ me → other ≢ me → EntersFrames before after (f ∷ []) xs ys n
     → TakesFrames me other (other + 1) old new before after xs ys n

@@ -6,7 +6,8 @@ use Rattle.keeper_core.specs.declared.faults.Unopened.{Unopened}
 use Rattle.site_core.specs.Records.{Record}
 use Rattle.site_core.specs.declared.inputs.SiteInput.{SiteInput}
 use Rattle.site_core.specs.declared.outcomes.Effects.{Effects}
-use Rattle.site_threads.specs.Jobs.{input_of, is_delivery, reply_to}
+use Rattle.site_threads.specs.Inputs.{input_of, is_delivery}
+use Rattle.site_threads.specs.Jobs.{reply_to}
 use Rattle.site_threads.specs.Keepers.{shown_in}
 use Rattle.site_threads.specs.declared.jobs.Receipt.{Receipt}
 use Rattle.site_threads.specs.declared.jobs.Reply.{Reply}

@@ -5,10 +5,9 @@ use Rattle.crossbeam_channel.specs.Ends.{receives_on}
 use Rattle.frame_core.specs.Numbers.{Recall}
 use Rattle.keeper_core.specs.declared.faults.Unopened.{Unopened}
 use Rattle.site_core.specs.Records.{Record}
-use Rattle.world_core.specs.Faults.{HindersKeepers}
+use Rattle.world_core.specs.Faults.{HindersKeepers, MakeAWorld}
 use Rattle.world_core.specs.Keepers.{IsFirstClosed}
 use Rattle.world_core.specs.Recalls.{AreExactOnceEnded, quarantined}
-use Rattle.wire_core.specs.Fitting.{SitesFit}
 use Rattle.site_threads.specs.declared.desks.DeskOut.{DeskOut}
 use Rattle.site_threads.specs.declared.gathered.Gathered.{Gathered}
 use Rattle.site_threads.specs.declared.gather.GatherCause.{GatherCause}
@@ -29,9 +28,9 @@ Opens None may r = may r
 abbrev pub EndsAreExact : List Record → Type 0
 EndsAreExact records = (recall : Recall) → AreExactOnceEnded recall records (quarantined recall records)
 
--- the sites stand together
+-- the sites stand together: started again, with no frame in flight, they make a world
 pub record StandTogether (records : List Record) : Type 0 where
-  pub fit : SitesFit records []
+  pub world : MakeAWorld records
   pub exact : EndsAreExact records
 
 module _ {K : Type 0} (shown : K → Option Record) (may : K → Record → Type 0) where

@@ -1,4 +1,4 @@
--- What a site is asked by a job, what is returned, and what is said of a site's list of steps.
+-- What is returned for a job, and what is said of a site's list of steps.
 use Rattle.std.specs.Prelude.{◌≡◌, ◌⊎◌, ℕ, Bool, true, false, IsTrue, IsFalse, if◌then◌else◌, not, List, [], ◌∷◌, All, map, flat_map, length, Contains, Option, Some, None, Result, Ok, Err}
 use Rattle.std.specs.List.{range_with_len, count_by}
 use Rattle.keeper_core.specs.declared.faults.KeepFault.{KeepFault}
@@ -12,22 +12,13 @@ use Rattle.site_core.specs.declared.outcomes.Effects.{Effects}
 use Rattle.site_core.specs.declared.outcomes.Effects.TheVariants as effects
 use Rattle.site_core.specs.declared.outcomes.Refusal.{Refusal}
 use Rattle.site_core.specs.declared.outcomes.Refusal.TheVariants as refusals
+use Rattle.site_threads.specs.Inputs.{input_of, is_delivery}
 use Rattle.site_threads.specs.declared.jobs.Job.{Job}
 use Rattle.site_threads.specs.declared.jobs.Job.TheVariants as jobs
 use Rattle.site_threads.specs.declared.jobs.Reply.{Reply}
 use Rattle.site_threads.specs.declared.jobs.Reply.TheVariants.{Captured, Started, Frame, Refused, Stopped}
 use Rattle.site_threads.specs.declared.jobs.Entry.{Entry}
 use Rattle.site_threads.specs.declared.jobs.Receipt.{Receipt}
-
--- what a site is asked by a job
-abbrev pub input_of : Job → SiteInput
-input_of (jobs.Capture bytes) = inputs.Capture bytes
-input_of (jobs.Start item) = inputs.Start item
-
--- the input delivers a frame
-abbrev pub is_delivery : SiteInput → Bool
-is_delivery (inputs.Deliver frame) = true
-is_delivery other = false
 
 -- What is returned.
 

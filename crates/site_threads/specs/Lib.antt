@@ -3,6 +3,7 @@ pub mod Beginning
 pub mod Desks
 pub mod Ends
 pub mod Gathering
+pub mod Inputs
 pub mod Jobs
 pub mod Keepers
 pub mod Offers

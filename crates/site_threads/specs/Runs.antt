@@ -24,12 +24,13 @@ module _ {K G : Type 0} (shown : K → Option Record) (may : K → Record → Ty
     pub out : IsOut r.out
     pub jobs : jobs_in r.turn.site.entries.items ++ option_items r.pending ≡ takes r.out
 
--- the same site of the same run, with the same desk, which takes no more jobs than before
-pub record SameRun {K G : Type 0} (old new : SiteRun K G) : Type 0 where
+-- the same site of the same run, with the same desk, which takes no more jobs than before; what its keeper stores stays so
+pub record SameRun {K G : Type 0} (stored : K → Type 0) (old new : SiteRun K G) : Type 0 where
   pub me : new.turn.site.me ≡ old.turn.site.me
   pub start : new.turn.site.start.value ≡ old.turn.site.start.value
   pub desk : receives_on new.out.from ≡ receives_on old.out.from
   pub limit : new.out.limit ≡ old.out.limit
+  pub keeps : IfSome old.turn.site.keeper stored → IfSome new.turn.site.keeper stored
 
 -- the site continues after the turn
 abbrev pub goes_on : Turned → Bool
@@ -54,11 +55,11 @@ pub record EndedBy {K G : Type 0} (shown : K → Option Record) (reopens : K →
   pub asked : turn ≤ r.turn.turns
   pub hinders : HindersTurn shown reopens gives_up cause gate r.turn.site.me turn before r.turn.site.keeper
 
-module _ {K G : Type 0} (shown : K → Option Record) (may : K → Record → Type 0) (reopens : K → Result K (Unopened K) → Type 0) (gives_up : G → ℕ → ℕ → Type 0) (wire : Line) where
+module _ {K G : Type 0} (shown : K → Option Record) (may : K → Record → Type 0) (stored : K → Type 0) (reopens : K → Result K (Unopened K) → Type 0) (gives_up : G → ℕ → ℕ → Type 0) (wire : Line) where
   -- what is known after at most so many turns: a site without a fault is open, and made all of them unless it is done
   pub record Ran (turns : ℕ) (old new : SiteRun K G) : Type 0 where
     pub run : IsRun shown may wire new
-    pub same : SameRun old new
+    pub same : SameRun stored old new
     pub asked : new.turn.turns ≤ old.turn.turns + turns
     pub all : new.fault ≡ None → (new.turn.turns ≡ turns) ⊎ IsDone shown new.turn.site.keeper new.out new.pending
     pub is_open : new.fault ≡ None → IsSome (shown_in shown new.turn.site.keeper)
@@ -74,7 +75,7 @@ module _ {K G : Type 0} (shown : K → Option Record) (may : K → Record → Ty
     pub fine : r.fault ≡ None
     pub asked : r.turn.turns ≤ turns
 
-module _ {K G : Type 0} (shown : K → Option Record) (may : K → Record → Type 0) (reopens : K → Result K (Unopened K) → Type 0) (gives_up : G → ℕ → ℕ → Type 0) (wire : Line) (turns : ℕ) where
+module _ {K G : Type 0} (shown : K → Option Record) (may : K → Record → Type 0) (stored : K → Type 0) (reopens : K → Result K (Unopened K) → Type 0) (gives_up : G → ℕ → ℕ → Type 0) (wire : Line) (turns : ℕ) where
   -- a site that has ended its run: without a fault it is open, and made all of so many turns unless it is done
   pub record IsOver (r : SiteRun K G) : Type 0 where
     pub run : IsRun shown may wire r
@@ -89,6 +90,6 @@ module _ {K G : Type 0} (shown : K → Option Record) (may : K → Record → Ty
 
   -- after a slice of its turns: where the site goes on, it went on before, and made a turn at least
   pub record IsSliced (old new : SiteRun K G) : Type 0 where
-    pub same : SameRun old new
+    pub same : SameRun stored old new
     pub between : IsBetween new
     pub turned : new.ended ≡ false → (old.ended ≡ false) × (old.turn.turns < new.turn.turns)

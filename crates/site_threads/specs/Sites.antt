@@ -1,5 +1,5 @@
 -- What clauses say of a running site.
-use Rattle.std.specs.Prelude.{◌≡◌, ℕ, ◌+◌, ◌≤◌, Option, IsSome}
+use Rattle.std.specs.Prelude.{◌≡◌, ℕ, ◌+◌, ◌≤◌, Option, IfSome, IsSome}
 use Rattle.site_core.specs.Records.{Record}
 use Rattle.wire_core.specs.Seats.{Line, IsSeatOf}
 use Rattle.site_threads.specs.declared.sites.Site.{Site}
@@ -12,9 +12,10 @@ module _ {K : Type 0} (shown : K → Option Record) (may : K → Record → Type
     pub there : IsSome s.keeper
     pub runs : Runs (shown_in shown s.keeper) (may_in may s.keeper) s.seat.logs s.me s.stamp s.entries.items s.start.value
 
--- the same site of the same run, marked at most n times since
-pub record Continues {K : Type 0} (n : ℕ) (wire : Line) (old new : Site K) : Type 0 where
+-- the same site of the same run, marked at most n times since; what its keeper stores stays so
+pub record Continues {K : Type 0} (stored : K → Type 0) (n : ℕ) (wire : Line) (old new : Site K) : Type 0 where
   pub seat : IsSeatOf wire new.seat
   pub me : new.me ≡ old.me
   pub start : new.start.value ≡ old.start.value
   pub marks : marks_in new.seat.logs ≤ marks_in old.seat.logs + n
+  pub keeps : IfSome old.keeper stored → IfSome new.keeper stored

@@ -31,8 +31,8 @@ impl RunCounts {
         }
     }
 
-    /// Begins a slice of a site's turns. Before the first one the site waits until each site of the run has begun, for a
-    /// second at most: where one has not, it has no thread of its own, and sites share threads from then on.
+    /// Begins a slice of a site's turns. Before the first one the site waits until each site of the run has begun, for
+    /// a second at most: where one has not, it has no thread of its own, and sites share threads from then on.
     pub fn begin<R: Clock>(&self, rt: &R) {
         self.begun.fetch_add(1, Ordering::SeqCst);
         for _ in 0..LOOKS {

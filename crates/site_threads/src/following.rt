@@ -8,6 +8,7 @@ ghost use Rattle.site_threads.specs.Stamps.{stamp};
 use crate::stamps::{Stamp, stamp_of};
 use keeper_core::SiteKeeper;
 use site_core::{SiteInput, SiteState};
+use std::snapshot::Snapshot;
 use wire_core::{Seat, Wire};
 
 /// Marks the step that led to the record, where that is another than the one last marked. Gives the record's stamp.
@@ -15,11 +16,11 @@ pub fn follow(
     wire: &Wire,
     seat: &mut Seat,
     kept: Stamp,
-    input: &SiteInput,
+    input: &Snapshot<SiteInput>,
     state: &SiteState,
 ) -> Stamp
     requires seat { IsSeatOf wire.now seat.old }
-    requires may { MayFollow seat.old.logs kept input.now state.now }
+    requires may { MayFollow seat.old.logs kept input.now.value state.now }
     ensures seat { IsSeatOf wire.now seat.new }
     ensures stamped { result ≡ stamp state.now }
     ensures follows { Follows seat.old.logs state.now seat.new.logs }
@@ -37,10 +38,10 @@ pub fn follow_shown<K: SiteKeeper>(
     wire: &Wire,
     seat: &mut Seat,
     kept: Stamp,
-    input: &SiteInput,
+    input: &Snapshot<SiteInput>,
 ) -> Stamp
     requires seat { IsSeatOf wire.now seat.old }
-    requires may { IfSome (shown_in K.shown keeper.now) (MayFollow seat.old.logs kept input.now) }
+    requires may { IfSome (shown_in K.shown keeper.now) (MayFollow seat.old.logs kept input.now.value) }
     ensures seat { IsSeatOf wire.now seat.new }
     ensures follows { MatchOption (shown_in K.shown keeper.now)
         ((result ≡ kept) × (seat.new.logs ≡ seat.old.logs))

@@ -23,8 +23,8 @@ pub trait Gate: Drop {
     fn enter(&mut self, site: SiteNo, turn: u64) -> Pass
         ensures { result ≡ Pass.GiveUp → gives_up self.old site turn };
 
-    /// Told, before it is asked, how many messages of the site wait for a signal; not while its keeper is closed. A gate
-    /// may show a user how a run goes.
+    /// Told, before it is asked, how many messages of the site wait for a signal; not while its keeper is closed. A
+    /// gate may show a user how a run goes.
     fn tell_open(&mut self, _site: SiteNo, _open: usize) {}
 }
 

@@ -1,6 +1,7 @@
 //! The seats of all sites joined again, and what is known then.
 ghost use Rattle.std.specs.Prelude.{◌≡◌, [], All, flat_map, length, map};
 ghost use Rattle.std.specs.List.{range_with_len, AllZip};
+ghost use Rattle.world_core.specs.Faults.{AreOneWorld};
 ghost use Rattle.wire_core.specs.Seats.{IsSeatOf};
 ghost use Rattle.site_threads.specs.Gathering.{KeepersFit};
 ghost use Rattle.site_threads.specs.Parting.{HasKeeper, LeavesList, IsRoomFor, cause_of, first_cause};
@@ -132,6 +133,7 @@ pub fn close_all<K: SiteKeeper, G: Gate>(
     requires root { IsSeatOf wire root × (root.logs ≡ []) }
     requires runs { All (IsRun K.shown K.may wire) runs.items }
     requires all { map (λ r. r.turn.site.me) runs.items ≡ range_with_len 0 wire.sites }
+    requires one { AreOneWorld (map (λ r. r.turn.site.start.value) runs.items) }
     requires room { IsRoomFor (length runs.items) room }
     ensures fit { KeepersFit K.shown K.may result.keepers.items }
     ensures keepers { AllZip HasKeeper runs.items result.keepers.items }

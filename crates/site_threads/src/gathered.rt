@@ -1,15 +1,15 @@
 //! What a run of all sites gives back: receipts are confirmed, and desks settled, by the lists of steps.
-ghost use Rattle.std.specs.Prelude.{◌≡◌, ◌↔◌, IsTrue, is_ok, length, take};
+ghost use Rattle.std.specs.Prelude.{◌≡◌, ◌↔◌, ◌≤◌, IsTrue, cond, is_ok, length, take};
 ghost use Rattle.site_threads.specs.Ends.{puts, IsDesk, AreEnds};
 ghost use Rattle.site_threads.specs.Gathering.{IsConfirmed, HasJobsOfEnd};
-ghost use Rattle.site_threads.specs.Jobs.{IsEntered, entry_of, input_of, jobs_in, stops_in};
+ghost use Rattle.site_threads.specs.Inputs.{input_of};
+ghost use Rattle.site_threads.specs.Jobs.{IsEntered, entry_of, is_stop, jobs_in, stops_in};
 
 use crate::desks::{Desk, taken_of};
 use crate::gather::GatherCause;
-use crate::jobs::{Entry, Job, Receipt, is_stop};
+use crate::jobs::{Entry, Receipt, Reply, is_stop};
 use crate::lists::SiteList;
 use keeper_core::SiteKeeper;
-use site_core::SiteInput;
 use thiserror::Error;
 
 /// The sites after a run of all of them, in the order of their numbers.
@@ -37,24 +37,32 @@ pub struct GatherFault<K> {
 #[error("the list has no such step")]
 pub struct Stranger;
 
-/// Whether the input is that of the job.
-fn is_input_of(input: &SiteInput, job: &Job) -> bool
-    ensures { IsTrue result ↔ (input.now ≡ input_of job.now) }
-{
-    match (input, job) {
-        (SiteInput::Capture(bytes), Job::Capture(given)) => bytes == given,
-        (SiteInput::Start(item), Job::Start(given)) => item == given,
-        _ => false,
-    }
-}
-
 /// Whether the step is the one that the receipt names.
 fn is_step_of(entry: &Entry, receipt: &Receipt) -> bool
     ensures { IsTrue result ↔ (entry.now ≡ entry_of receipt.now) }
 {
     entry.number == receipt.number
         && entry.reply == receipt.reply
-        && is_input_of(&entry.input, &receipt.job)
+        && entry.input.is_of(&receipt.job)
+}
+
+/// In how many of these steps the site stopped.
+fn stops_among(entries: &[Entry]) -> usize
+    ensures { result ≡ stops_in entries.now }
+{
+    let mut stops = 0;
+    for entry in entries {
+        stops += stops_of(entry.reply.same());
+    }
+    stops
+}
+
+/// 1 where the site stopped in the step, and else 0.
+fn stops_of(reply: Reply) -> usize
+    ensures one { result ≡ cond (is_stop reply) 1 0 }
+    ensures few { result ≤ 1 }
+{
+    if is_stop(reply) { 1 } else { 0 }
 }
 
 impl SiteList {
@@ -75,10 +83,7 @@ impl SiteList {
     pub fn stops(&self) -> usize
         ensures { result ≡ stops_in self.now.entries.items }
     {
-        self.entries
-            .iter()
-            .filter(|entry| is_stop(entry.reply.same()))
-            .count()
+        stops_among(self.entries.as_slice())
     }
 
     /// How many jobs of a desk stand in the list: the first ones that were put.

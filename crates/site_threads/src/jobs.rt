@@ -1,7 +1,9 @@
 //! What a site is given to do, and what it returned.
 ghost use Rattle.std.specs.Prelude.{◌≡◌, IfOk, IfErr, option_map};
-ghost use Rattle.site_threads.specs.Jobs.{input_of, is_delivery, is_stop, refusal_number, reply_to, told};
+ghost use Rattle.site_threads.specs.Inputs.{input_of, is_delivery};
+ghost use Rattle.site_threads.specs.Jobs.{is_stop, refusal_number, reply_to, told};
 
+use crate::asked::Asked;
 use epc_core::Epc;
 use event_json::{Sequence, SiteNo};
 use frame_core::RecallId;
@@ -49,7 +51,7 @@ pub struct Entry {
     /// Its number among the steps of this run, from 1.
     pub number: u64,
     /// What the site was asked.
-    pub input: SiteInput,
+    pub input: Asked,
     /// What it returned.
     pub reply: Reply,
 }

@@ -4,6 +4,7 @@
 //! the wire only once its keeper answered it, so a frame that is posted rests on a record that is kept.
 #![tactic(auto)]
 
+mod asked;
 mod counts;
 mod desks;
 mod following;
@@ -23,6 +24,7 @@ mod starts;
 mod turns;
 mod worlds;
 
+pub use asked::Asked;
 pub use desks::{Desk, DeskFault, DeskOut};
 pub use gates::{FreeGate, Gate, Pass};
 pub use gather::GatherCause;

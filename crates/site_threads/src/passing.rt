@@ -9,6 +9,7 @@ ghost use Rattle.site_threads.specs.Passing.{noted_by, sent_by, EntersFrames, Pa
 ghost use Rattle.site_threads.specs.Running.{marks_in, MayDeliver};
 ghost use Rattle.site_threads.specs.Sites.{IsSite, Continues};
 
+use crate::asked::Asked;
 use crate::following::view_of;
 use crate::jobs::Reply;
 use crate::offers::offer;
@@ -23,15 +24,15 @@ use wire_core::{Post, Wire};
 
 impl<K: SiteKeeper> Site<K> {
     /// Takes at most one frame from another site, applies it and enters it. How many were entered. Nothing is taken
-    /// while the keeper is closed; a frame whose copy or step finds no memory is lost.
-    pub fn receive(&mut self, wire: &Wire, alloc: Global, other: SiteNo) -> u64
+    /// while the keeper is closed; a frame whose step finds no memory is lost.
+    pub fn receive(&mut self, wire: &Wire, other: SiteNo) -> u64
         requires seat { IsSeatOf wire.now self.old.seat }
         requires site { IsSite K.shown K.may self.old }
         requires few { marks_in self.old.seat.logs < 2 ^ 62 }
         requires other { (other ≢ self.old.me) × (other < wire.now.sites) }
         requires room { vec_len self.old.entries < vec_capacity self.old.entries }
         ensures site { IsSite K.shown K.may self.new }
-        ensures same { Continues 1 wire.now self.old self.new }
+        ensures same { Continues K.stored 1 wire.now self.old self.new }
         ensures frames { TakesOfEach K.shown other (other + 1) self.old self.new result }
         ensures sent { sent_by self.new.seat.logs ≡ sent_by self.old.seat.logs }
         ensures room { (vec_capacity self.old.entries ≤ vec_capacity self.new.entries) × (vec_len self.new.entries ≤ vec_len self.old.entries + 1) }
@@ -44,29 +45,27 @@ impl<K: SiteKeeper> Site<K> {
             return 0;
         };
         self.owed[other.number() as usize] = message_of(&frame);
-        let Ok(copy) = frame.copy(alloc) else {
-            return 0;
-        };
-        self.enter(wire, frame, copy)
+        self.enter(wire, frame)
     }
 
     /// Applies a frame that was taken, and enters it. How many steps were entered.
-    fn enter(&mut self, wire: &Wire, frame: Frame, copy: Frame) -> u64
+    fn enter(&mut self, wire: &Wire, frame: Frame) -> u64
         requires seat { IsSeatOf wire.now self.old.seat }
         requires site { IsSite K.shown K.may self.old }
         requires few { marks_in self.old.seat.logs < 2 ^ 62 }
         requires open { IsSome (shown_in K.shown self.old.keeper) }
-        requires copy { copy ≡ frame }
         requires noted { MayDeliver (Deliver frame) self.old.seat.logs }
         requires room { vec_len self.old.entries < vec_capacity self.old.entries }
         ensures site { IsSite K.shown K.may self.new }
-        ensures same { Continues 1 wire.now self.old self.new }
+        ensures same { Continues K.stored 1 wire.now self.old self.new }
         ensures frames { EntersFrames (is_some (shown_in K.shown self.old.keeper)) (is_some (shown_in K.shown self.new.keeper)) (frame ∷ []) self.old.entries.items self.new.entries.items result }
         ensures passes { PassNothing self.old.seat.logs self.new.seat.logs }
         ensures room { (vec_capacity self.old.entries ≤ vec_capacity self.new.entries) × (vec_len self.new.entries ≤ vec_len self.old.entries + 1) }
         ensures count { result ≤ 1 }
     {
-        let taken = self.take_in(wire, SiteInput::Deliver(frame), SiteInput::Deliver(copy));
+        let input = SiteInput::Deliver(frame);
+        let asked = Asked::of(&input, None);
+        let taken = self.take_in(wire, input, asked);
         count_entered(taken)
     }
 
@@ -76,7 +75,7 @@ impl<K: SiteKeeper> Site<K> {
         requires site { IsSite K.shown K.may self.old }
         requires other { (to ≢ self.old.me) × (to < wire.now.sites) }
         ensures site { IsSite K.shown K.may self.new }
-        ensures same { Continues 0 wire.now self.old self.new }
+        ensures same { Continues K.stored 0 wire.now self.old self.new }
         ensures entries { (self.new.entries ≡ self.old.entries) × (self.new.keeper ≡ self.old.keeper) }
         ensures posted { PostsToEach K.shown to (to + 1) self.old self.new result }
         ensures noted { noted_by self.new.seat.logs ≡ noted_by self.old.seat.logs }
@@ -99,14 +98,14 @@ impl<K: SiteKeeper> Site<K> {
     }
 
     /// Takes at most one frame from the site of this number, if it is another, applies it and enters it.
-    fn receive_from(&mut self, wire: &Wire, alloc: Global, number: u64) -> u64
+    fn receive_from(&mut self, wire: &Wire, number: u64) -> u64
         requires seat { IsSeatOf wire.now self.old.seat }
         requires site { IsSite K.shown K.may self.old }
         requires few { marks_in self.old.seat.logs < 2 ^ 62 }
         requires there { number < wire.now.sites }
         requires room { vec_len self.old.entries < vec_capacity self.old.entries }
         ensures site { IsSite K.shown K.may self.new }
-        ensures same { Continues 1 wire.now self.old self.new }
+        ensures same { Continues K.stored 1 wire.now self.old self.new }
         ensures frames { TakesOfEach K.shown number (number + 1) self.old self.new result }
         ensures sent { sent_by self.new.seat.logs ≡ sent_by self.old.seat.logs }
         ensures room { (vec_capacity self.old.entries ≤ vec_capacity self.new.entries) × (vec_len self.new.entries ≤ vec_len self.old.entries + 1) }
@@ -118,7 +117,7 @@ impl<K: SiteKeeper> Site<K> {
                 if other == self.me {
                     0
                 } else {
-                    self.receive(wire, alloc, other)
+                    self.receive(wire, other)
                 }
             }
         }
@@ -130,7 +129,7 @@ impl<K: SiteKeeper> Site<K> {
         requires site { IsSite K.shown K.may self.old }
         requires there { number < wire.now.sites }
         ensures site { IsSite K.shown K.may self.new }
-        ensures same { Continues 0 wire.now self.old self.new }
+        ensures same { Continues K.stored 0 wire.now self.old self.new }
         ensures entries { (self.new.entries ≡ self.old.entries) × (self.new.keeper ≡ self.old.keeper) }
         ensures posted { PostsToEach K.shown number (number + 1) self.old self.new result }
         ensures noted { noted_by self.new.seat.logs ≡ noted_by self.old.seat.logs }
@@ -149,20 +148,20 @@ impl<K: SiteKeeper> Site<K> {
     }
 
     /// Takes and applies at most one frame from each other site. How many were entered.
-    pub fn receive_all(&mut self, wire: &Wire, alloc: Global) -> u64
+    pub fn receive_all(&mut self, wire: &Wire) -> u64
         requires seat { IsSeatOf wire.now self.old.seat }
         requires site { IsSite K.shown K.may self.old }
         requires few { marks_in self.old.seat.logs < 2 ^ 61 + 18 }
         requires room { vec_len self.old.entries + wire.now.sites ≤ vec_capacity self.old.entries }
         ensures site { IsSite K.shown K.may self.new }
-        ensures same { Continues 16 wire.now self.old self.new }
+        ensures same { Continues K.stored 16 wire.now self.old self.new }
         ensures frames { TakesOfEach K.shown 0 wire.now.sites self.old self.new result }
         ensures sent { sent_by self.new.seat.logs ≡ sent_by self.old.seat.logs }
     {
         self.owed = nothing_owed();
         let mut entered = 0;
         for number in 0..wire.sites() {
-            entered += self.receive_from(wire, alloc, number as u64);
+            entered += self.receive_from(wire, number as u64);
         }
         entered
     }
@@ -172,7 +171,7 @@ impl<K: SiteKeeper> Site<K> {
         requires seat { IsSeatOf wire.now self.old.seat }
         requires site { IsSite K.shown K.may self.old }
         ensures site { IsSite K.shown K.may self.new }
-        ensures same { Continues 0 wire.now self.old self.new }
+        ensures same { Continues K.stored 0 wire.now self.old self.new }
         ensures entries { (self.new.entries ≡ self.old.entries) × (self.new.keeper ≡ self.old.keeper) }
         ensures posted { PostsToEach K.shown 0 wire.now.sites self.old self.new result }
         ensures noted { noted_by self.new.seat.logs ≡ noted_by self.old.seat.logs }
@@ -211,13 +210,13 @@ fn offered(
 }
 
 /// How many steps were entered.
-fn count_entered(taken: Result<Reply, SiteInput>) -> u64
+fn count_entered(taken: Result<Reply, Asked>) -> u64
     ensures { result ≡ cond (is_ok taken) 1 0 }
 {
     match taken {
         Ok(_) => 1,
-        Err(input) => {
-            drop(input);
+        Err(asked) => {
+            drop(asked);
             0
         }
     }

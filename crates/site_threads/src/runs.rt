@@ -135,7 +135,7 @@ impl<K: SiteKeeper, G: Gate> SiteRun<K, G> {
         requires few { marks_in self.old.turn.site.seat.logs < 2 ^ 61 }
         requires going { self.old.fault ≡ None }
         ensures run { IsRun K.shown K.may wire.now self.new }
-        ensures same { SameRun self.old self.new }
+        ensures same { SameRun K.stored self.old self.new }
         ensures marks { marks_in self.new.turn.site.seat.logs ≤ marks_in self.old.turn.site.seat.logs + 18 }
         ensures turns { self.new.turn.turns ≡ min (self.old.turn.turns + 1) (2 ^ 64 - 1) }
         ensures going { goes_on result ≡ is_none self.new.fault }
@@ -193,10 +193,11 @@ impl<K: SiteKeeper, G: Gate> SiteRun<K, G> {
         requires few { marks_in self.old.turn.site.seat.logs < 2 ^ 61 }
         requires fine { self.old.fault ≡ None }
         ensures run { IsRun K.shown K.may wire.now self.new }
-        ensures same { SameRun self.old self.new }
+        ensures same { SameRun K.stored self.old self.new }
         ensures ended { self.new.ended ≡ true }
         ensures turns { self.new.turn.turns ≡ self.old.turn.turns }
-        ensures done { IsDone K.shown self.old.turn.site.keeper self.old.out self.old.pending → IsDone K.shown self.new.turn.site.keeper self.new.out self.new.pending }
+        ensures done { IsDone K.shown self.old.turn.site.keeper self.old.out self.old.pending
+            → IsDone K.shown self.new.turn.site.keeper self.new.out self.new.pending }
         ensures open { self.new.fault ≡ None → IsSome (shown_in K.shown self.new.turn.site.keeper) }
         ensures why { IfSome self.new.fault (EndedBy K.shown K.reopens G.gives_up self.new) }
     {
@@ -206,16 +207,16 @@ impl<K: SiteKeeper, G: Gate> SiteRun<K, G> {
         }
     }
 
-    /// A slice of the turns of a run, and with the last one the end of it. After a turn in which nothing was done the site
-    /// sleeps, so that a run doesn't end while other sites write; or leaves its thread to others, where sites share
-    /// threads. A site that has ended its run does nothing.
+    /// A slice of the turns of a run, and with the last one the end of it. After a turn in which nothing was done the
+    /// site sleeps, so that a run doesn't end while other sites write; or leaves its thread to others, where sites
+    /// share threads. A site that has ended its run does nothing.
     ///
     /// A site takes itself off the open ones once it is done; where none is left, a site that is done makes no further
     /// turn.
     pub fn go<R: Wait + Clock>(&mut self, rt: &R, wire: &Wire, counts: &RunCounts, turns: u64)
-        requires between { IsBetween K.shown K.may K.reopens G.gives_up wire.now turns self.old }
+        requires between { IsBetween K.shown K.may K.stored K.reopens G.gives_up wire.now turns self.old }
         requires turns { turns ≤ 1000000 }
-        ensures sliced { IsSliced K.shown K.may K.reopens G.gives_up wire.now turns self.old self.new }
+        ensures sliced { IsSliced K.shown K.may K.stored K.reopens G.gives_up wire.now turns self.old self.new }
     {
         if self.ended {
             return;
@@ -255,10 +256,11 @@ fn run_slices<K: SiteKeeper + Send, G: Gate + Send, R: Threads + Wait + Clock + 
     turns: u64,
 )
     requires count { 0 < length runs.old }
-    requires between { All (IsBetween K.shown K.may K.reopens G.gives_up wire.now turns) runs.old }
+    requires between { All (IsBetween K.shown K.may K.stored K.reopens G.gives_up wire.now turns) runs.old }
     requires turns { turns ≤ 1000000 }
     ensures count { length runs.new ≡ length runs.old }
-    ensures each { (i : ℕ) (d : SiteRun K G) → i < length runs.old → IsSliced K.shown K.may K.reopens G.gives_up wire.now turns (slice_index_or runs.old i d) (slice_index_or runs.new i d) }
+    ensures each { (i : ℕ) (d : SiteRun K G) → i < length runs.old
+        → IsSliced K.shown K.may K.stored K.reopens G.gives_up wire.now turns (slice_index_or runs.old i d) (slice_index_or runs.new i d) }
 {
     let threads = runs.len();
     thread::for_each_mut(
@@ -266,8 +268,8 @@ fn run_slices<K: SiteKeeper + Send, G: Gate + Send, R: Threads + Wait + Clock + 
         runs,
         threads,
         &|_, run: &mut SiteRun<K, G>|
-            requires { IsBetween K.shown K.may K.reopens G.gives_up wire.now turns run.now × (turns ≤ 1000000) }
-            ensures { IsSliced K.shown K.may K.reopens G.gives_up wire.entry.now turns run.entry.now run.exit.now }
+            requires { IsBetween K.shown K.may K.stored K.reopens G.gives_up wire.now turns run.now × (turns ≤ 1000000) }
+            ensures { IsSliced K.shown K.may K.stored K.reopens G.gives_up wire.entry.now turns run.entry.now run.exit.now }
         { run.go(rt, wire, counts, turns) },
     );
 }
@@ -279,8 +281,8 @@ fn have_run<K: SiteKeeper, G: Gate>(runs: &[SiteRun<K, G>]) -> bool
     runs.iter().all(|run| run.ended)
 }
 
-/// Each site takes its turns in a thread of its own, where one can be made. Where sites share threads, they take them in
-/// slices, one site after another, until each has ended its run.
+/// Each site takes its turns in a thread of its own, where one can be made. Where sites share threads, they take them
+/// in slices, one site after another, until each has ended its run.
 pub fn run_all<K: SiteKeeper + Send, G: Gate + Send, R: Threads + Wait + Clock + Sync>(
     rt: &R,
     wire: &Wire,
@@ -291,7 +293,7 @@ pub fn run_all<K: SiteKeeper + Send, G: Gate + Send, R: Threads + Wait + Clock +
     requires count { 0 < length runs.old }
     requires ready { All (IsReady K.shown K.may wire.now) runs.old }
     requires turns { turns ≤ 1000000 }
-    ensures { AllZip (Ran K.shown K.may K.reopens G.gives_up wire.now turns) runs.old runs.new }
+    ensures { AllZip (Ran K.shown K.may K.stored K.reopens G.gives_up wire.now turns) runs.old runs.new }
 {
     // A site that goes on made a turn in each slice.
     for _ in 0..turns + 1 {

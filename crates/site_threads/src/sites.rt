@@ -4,13 +4,15 @@ ghost use Rattle.keeper_core.specs.Keeping.{Applies, HindersOpening};
 ghost use Rattle.site_core.specs.Records.{Record};
 ghost use Rattle.wire_core.specs.Seats.{IsSeatOf};
 ghost use Rattle.site_threads.specs.Answering.{Opened, Told};
-ghost use Rattle.site_threads.specs.Jobs.{entry_of, input_of, is_stop, open_after, option_items};
+ghost use Rattle.site_threads.specs.Inputs.{input_of};
+ghost use Rattle.site_threads.specs.Jobs.{entry_of, is_stop, open_after, option_items};
 ghost use Rattle.site_threads.specs.Keepers.{shown_in, may_in};
 ghost use Rattle.site_threads.specs.Passing.{PassNothing};
 ghost use Rattle.site_threads.specs.Running.{MayDeliver, marks_in};
 ghost use Rattle.site_threads.specs.Sites.{IsSite, Continues};
 ghost use Rattle.site_threads.specs.Turns.{IsRefused};
 
+use crate::asked::Asked;
 use crate::following::{follow, follow_shown, view_of};
 use crate::jobs::{Entry, Job, Ready, Receipt, Reply, answered, is_delivery};
 use crate::rounds::Round;
@@ -53,7 +55,7 @@ impl<K: SiteKeeper> Site<K> {
         requires site { IsSite K.shown K.may self.old }
         requires few { marks_in self.old.seat.logs < 2 ^ 62 }
         ensures site { IsSite K.shown K.may self.new }
-        ensures same { Continues 1 wire.now self.old self.new }
+        ensures same { Continues K.stored 1 wire.now self.old self.new }
         ensures entries { self.new.entries ≡ self.old.entries }
         ensures passes { PassNothing self.old.seat.logs self.new.seat.logs }
         ensures open { IfOk result (λ _. IsSome (shown_in K.shown self.new.keeper)) }
@@ -79,50 +81,57 @@ impl<K: SiteKeeper> Site<K> {
                 let Some(entry) = self.entries.last() else {
                     unreachable!()
                 };
-                self.stamp = follow(wire, &mut self.seat, self.stamp, &entry.input, record);
+                self.stamp = follow(
+                    wire,
+                    &mut self.seat,
+                    self.stamp,
+                    entry.input.input(),
+                    record,
+                );
                 self.keeper = Some(keeper);
                 Ok(())
             }
         }
     }
 
-    /// Applies an input, marks the step and enters it.
+    /// Applies an input, marks the step and enters it, with what is kept of the input.
     ///
     /// # Errors
-    /// The copy, where there is no memory: nothing was done.
-    pub fn take_in(
-        &mut self,
-        wire: &Wire,
-        input: SiteInput,
-        copy: SiteInput,
-    ) -> Result<Reply, SiteInput>
+    /// What was to be kept, where there is no memory: nothing was done.
+    pub fn take_in(&mut self, wire: &Wire, input: SiteInput, asked: Asked) -> Result<Reply, Asked>
         requires seat { IsSeatOf wire.now self.old.seat }
         requires site { IsSite K.shown K.may self.old }
         requires few { marks_in self.old.seat.logs < 2 ^ 62 }
         requires open { IsSome (shown_in K.shown self.old.keeper) }
-        requires copy { copy ≡ input }
+        requires asked { asked ≡ input }
         requires noted { MayDeliver input self.old.seat.logs }
         requires room { vec_len self.old.entries < vec_capacity self.old.entries }
         ensures site { IsSite K.shown K.may self.new }
-        ensures same { Continues 1 wire.now self.old self.new }
-        ensures entered { IfOk result (λ reply. self.new.entries.items ≡ self.old.entries.items ++ (record { number = vec_len self.old.entries + 1; input = copy; reply = reply }) ∷ []) }
+        ensures same { Continues K.stored 1 wire.now self.old self.new }
+        ensures entered { IfOk result (λ reply. self.new.entries.items ≡ self.old.entries.items ++ (record { number = vec_len self.old.entries + 1; input = asked; reply = reply }) ∷ []) }
         ensures told { IfOk result (λ reply. Told K.shown K.may K.applies self.old.keeper input reply self.new.keeper) }
         ensures stopped { IfOk result (λ reply. is_some (shown_in K.shown self.new.keeper) ≡ not (is_stop reply)) }
         ensures passes { PassNothing self.old.seat.logs self.new.seat.logs }
         ensures room { (vec_capacity self.old.entries ≤ vec_capacity self.new.entries) × (vec_len self.new.entries ≤ vec_len self.old.entries + 1) }
-        ensures back { IfErr result (λ back. (back ≡ copy) × (self.new.entries ≡ self.old.entries) × (shown_in K.shown self.new.keeper ≡ shown_in K.shown self.old.keeper)) }
+        ensures back { IfErr result (λ back. (back ≡ asked) × (self.new.entries ≡ self.old.entries) × (shown_in K.shown self.new.keeper ≡ shown_in K.shown self.old.keeper)) }
     {
-        let frame = is_delivery(&copy);
+        let frame = is_delivery(&input);
         let Some(reply) = answered(apply_to(&mut self.keeper, input), frame) else {
-            return Err(copy);
+            return Err(asked);
         };
-        self.stamp = follow_shown(&self.keeper, wire, &mut self.seat, self.stamp, &copy);
+        self.stamp = follow_shown(
+            &self.keeper,
+            wire,
+            &mut self.seat,
+            self.stamp,
+            asked.input(),
+        );
         let number = self.entries.len() as u64 + 1;
         let entered = reply.same();
         // There is room for it.
         let _ = self.entries.push(Entry {
             number,
-            input: copy,
+            input: asked,
             reply: entered,
         });
         Ok(reply)
@@ -139,7 +148,7 @@ impl<K: SiteKeeper> Site<K> {
         requires open { IsSome (shown_in K.shown self.old.keeper) }
         requires room { vec_len self.old.entries < vec_capacity self.old.entries }
         ensures site { IsSite K.shown K.may self.new }
-        ensures same { Continues 1 wire.now self.old self.new }
+        ensures same { Continues K.stored 1 wire.now self.old self.new }
         ensures job { IfOk result (λ receipt. (option_map (λ x. x.job) receipt ≡ option_map (λ x. x.job) ready) × IfSome receipt (λ x. x.site ≡ self.old.me)) }
         ensures entered { IfOk result (λ receipt. self.new.entries.items ≡ self.old.entries.items ++ map entry_of (option_items receipt)) }
         ensures told { IfOk result (λ receipt. IfSome receipt (λ x. Told K.shown K.may K.applies self.old.keeper (input_of x.job) x.reply self.new.keeper)) }
@@ -165,7 +174,7 @@ impl<K: SiteKeeper> Site<K> {
         requires open { IsSome (shown_in K.shown self.old.keeper) }
         requires room { vec_len self.old.entries < vec_capacity self.old.entries }
         ensures site { IsSite K.shown K.may self.new }
-        ensures same { Continues 1 wire.now self.old self.new }
+        ensures same { Continues K.stored 1 wire.now self.old self.new }
         ensures job { IfOk result (λ receipt. (receipt.job ≡ ready.job) × (receipt.site ≡ self.old.me)) }
         ensures entered { IfOk result (λ receipt. self.new.entries.items ≡ self.old.entries.items ++ entry_of receipt ∷ []) }
         ensures told { IfOk result (λ receipt. Told K.shown K.may K.applies self.old.keeper (input_of receipt.job) receipt.reply self.new.keeper) }
@@ -181,9 +190,11 @@ impl<K: SiteKeeper> Site<K> {
         } = ready;
         let site = self.me;
         let number = self.entries.len() as u64 + 1;
-        match self.take_in(wire, job.into_input(), entry.into_input()) {
-            Err(copy) => {
-                drop(copy);
+        let input = job.into_input();
+        let asked = Asked::of(&input, Some(entry));
+        match self.take_in(wire, input, asked) {
+            Err(asked) => {
+                drop(asked);
                 Err(receipt)
             }
             Ok(reply) => Ok(Receipt {
@@ -202,6 +213,7 @@ fn apply_to<K: SiteKeeper>(keeper: &mut Option<K>, input: SiteInput) -> Result<E
     ensures step { (old : Record) → shown_in K.shown keeper.old ≡ Some old → Applies old input result (shown_in K.shown keeper.new) (may_in K.may keeper.new) }
     ensures asked { (k : K) → keeper.old ≡ Some k → (left : K) × (keeper.new ≡ Some left) × K.applies k input result left }
     ensures there { IsSome keeper.new }
+    ensures stored { IfSome keeper.old K.stored → IfSome keeper.new K.stored }
 {
     match keeper {
         None => Err(KeepFault::Closed),

@@ -3,7 +3,8 @@ ghost use Rattle.std.specs.Prelude.{◌≡◌, ◌≢◌, ◌+◌, ◌-◌, ◌+
 ghost use Rattle.site_core.specs.Records.{Record};
 ghost use Rattle.wire_core.specs.Seats.{IsSeatOf};
 ghost use Rattle.site_threads.specs.Answering.{DidJob, Opened, Told};
-ghost use Rattle.site_threads.specs.Jobs.{jobs_in, input_of, option_items};
+ghost use Rattle.site_threads.specs.Inputs.{input_of};
+ghost use Rattle.site_threads.specs.Jobs.{jobs_in, option_items};
 ghost use Rattle.site_threads.specs.Keepers.{shown_in};
 ghost use Rattle.site_threads.specs.Passing.{PassNothing, PostsToEach, TakesAfterJob};
 ghost use Rattle.site_threads.specs.Running.{marks_in};
@@ -106,14 +107,14 @@ impl<K: SiteKeeper, G: Gate> SiteTurn<K, G> {
     /// shows, or, while it is closed, the one before the step in which it stopped. The site is marked at most 18 times.
     ///
     /// # Errors
-    /// `NoMemory`, `GaveUp` where the gate gave up, or `Lost` where the keeper was closed and an opening of it was refused;
-    /// each gives the job back, and nothing was done but the opening, and the mark that belongs to it.
+    /// `NoMemory`, `GaveUp` where the gate gave up, or `Lost` where the keeper was closed and an opening of it was
+    /// refused; each gives the job back, and nothing was done but the opening, and the mark that belongs to it.
     pub fn turn(&mut self, wire: &Wire, job: Option<Job>) -> Result<TurnReport, TurnFault>
         requires seat { IsSeatOf wire.now self.old.site.seat }
         requires site { IsSite K.shown K.may self.old.site }
         requires few { marks_in self.old.site.seat.logs < 2 ^ 61 }
         ensures site { IsSite K.shown K.may self.new.site }
-        ensures same { Continues 18 wire.now self.old.site self.new.site }
+        ensures same { Continues K.stored 18 wire.now self.old.site self.new.site }
         ensures turns { self.new.turns ≡ min (self.old.turns + 1) (2 ^ 64 - 1) }
         ensures job { IfOk result (λ report. (option_map (λ x. x.job) report.receipt ≡ job) × IfSome report.receipt (λ x. x.site ≡ self.old.site.me)) }
         ensures entered { IfOk result (TakesAfterJob K.shown wire.now.sites self.old.site self.new.site) }
@@ -150,7 +151,7 @@ impl<K: SiteKeeper, G: Gate> SiteTurn<K, G> {
         requires site { IsSite K.shown K.may self.old.site }
         requires few { marks_in self.old.site.seat.logs < 2 ^ 62 }
         ensures site { IsSite K.shown K.may self.new.site }
-        ensures same { Continues 1 wire.now self.old.site self.new.site }
+        ensures same { Continues K.stored 1 wire.now self.old.site self.new.site }
         ensures turns { self.new.turns ≡ min (self.old.turns + 1) (2 ^ 64 - 1) }
         ensures entries { self.new.site.entries ≡ self.old.site.entries }
         ensures passes { PassNothing self.old.site.seat.logs self.new.site.seat.logs }
@@ -177,7 +178,7 @@ impl<K: SiteKeeper, G: Gate> SiteTurn<K, G> {
         requires open { IsSome (shown_in K.shown self.old.site.keeper) }
         requires room { vec_len self.old.site.entries + (wire.now.sites + 1) ≤ vec_capacity self.old.site.entries }
         ensures site { IsSite K.shown K.may self.new.site }
-        ensures same { Continues 17 wire.now self.old.site self.new.site }
+        ensures same { Continues K.stored 17 wire.now self.old.site self.new.site }
         ensures turns { self.new.turns ≡ self.old.turns }
         ensures job { IfOk result (λ report. (option_map (λ x. x.job) report.receipt ≡ option_map (λ x. x.job) ready) × IfSome report.receipt (λ x. x.site ≡ self.old.site.me)) }
         ensures entered { IfOk result (TakesAfterJob K.shown wire.now.sites self.old.site self.new.site) }
@@ -192,7 +193,7 @@ impl<K: SiteKeeper, G: Gate> SiteTurn<K, G> {
                 job: Some(job),
             }),
             Ok(receipt) => {
-                let applied = self.site.receive_all(wire, self.alloc);
+                let applied = self.site.receive_all(wire);
                 let posted = self.site.send_all(wire, self.alloc);
                 Ok(TurnReport {
                     receipt,

@@ -2,9 +2,8 @@
 ghost use Rattle.std.specs.Prelude.{◌≡◌, ◌<◌, ◌≤◌, List, [], Some, None, All, IfOk, IfErr, IfSome, IsSome, length, map, vec_capacity};
 ghost use Rattle.std.specs.List.{AllZip};
 ghost use Rattle.site_core.specs.Records.{Record};
-ghost use Rattle.site_recovery.specs.Laws.{AreInPlace};
+ghost use Rattle.world_core.specs.Faults.{MakeAWorld};
 ghost use Rattle.world_core.specs.Keepers.{AllShow};
-ghost use Rattle.wire_core.specs.Fitting.{SitesFit};
 ghost use Rattle.wire_core.specs.Rule.{logs_from};
 ghost use Rattle.wire_core.specs.Seats.{IsSeatOf};
 ghost use Rattle.site_threads.specs.Ends.{IsUnused};
@@ -46,7 +45,7 @@ fn records_of<K: SiteKeeper>(alloc: Global, keepers: &[K]) -> Result<Vec<&SiteSt
 
 /// The wire between the sites of these keepers, and a seat that holds all of them.
 fn wire_between<K: SiteKeeper>(alloc: Global, keepers: &[K]) -> Result<(Wire, Seat), AllocError>
-    requires world { (rs : List Record) × AllShow K.shown keepers.now rs × SitesFit rs [] }
+    requires world { (rs : List Record) × AllShow K.shown keepers.now rs × MakeAWorld rs }
     requires count { (2 ≤ length keepers.now) × (length keepers.now ≤ 16) }
     ensures wire { IfOk result (λ r. IsSeatOf r.0 r.1 × (r.0.sites ≡ length keepers.now)) }
     ensures seat { (rs : List Record) → AllShow K.shown keepers.now rs → IfOk result (λ r. r.1.logs ≡ logs_from 0 rs) }
@@ -65,7 +64,7 @@ struct Room<K: SiteKeeper, G: Gate> {
 
 /// The room for a run of the sites of these keepers.
 fn room_for<K: SiteKeeper, G: Gate>(alloc: Global, keepers: &[K]) -> Result<Room<K, G>, AllocError>
-    requires world { (rs : List Record) × AllShow K.shown keepers.now rs × SitesFit rs [] }
+    requires world { (rs : List Record) × AllShow K.shown keepers.now rs × MakeAWorld rs }
     requires count { (2 ≤ length keepers.now) × (length keepers.now ≤ 16) }
     ensures wire { IfOk result (λ r. IsSeatOf r.wire r.seat × (r.wire.sites ≡ length keepers.now)) }
     ensures seat { (rs : List Record) → AllShow K.shown keepers.now rs → IfOk result (λ r. r.seat.logs ≡ logs_from 0 rs) }
@@ -97,7 +96,7 @@ fn run_each<K: SiteKeeper + Send, G: Gate + Send, R: Threads + Wait + Clock + Sy
     requires count { 0 < length runs.old.items }
     requires ready { All (IsReady K.shown K.may wire.now) runs.old.items }
     requires turns { turns ≤ 1000000 }
-    ensures { AllZip (Ran K.shown K.may K.reopens G.gives_up wire.now turns) runs.old.items runs.new.items }
+    ensures { AllZip (Ran K.shown K.may K.stored K.reopens G.gives_up wire.now turns) runs.old.items runs.new.items }
 {
     run_all(rt, wire, counts, runs.as_mut_slice(), turns);
 }
@@ -113,7 +112,7 @@ fn run_in<K: SiteKeeper + Send, G: Gate + Send, R: Threads + Wait + Clock + Sync
     gates: Vec<G>,
     turns: u64,
 ) -> Ended<K>
-    requires world { (rs : List Record) × AllShow K.shown keepers.items rs × AreInPlace rs × (room.seat.logs ≡ logs_from 0 rs) }
+    requires world { (rs : List Record) × AllShow K.shown keepers.items rs × MakeAWorld rs × (room.seat.logs ≡ logs_from 0 rs) }
     requires count { (2 ≤ length keepers.items) × (length keepers.items ≤ 16) }
     requires wire { IsSeatOf room.wire room.seat × (room.wire.sites ≡ length keepers.items) }
     requires runs { (room.runs.items ≡ []) × (length keepers.items ≤ vec_capacity room.runs) }
@@ -126,6 +125,7 @@ fn run_in<K: SiteKeeper + Send, G: Gate + Send, R: Threads + Wait + Clock + Sync
     ensures ends { AllZip HasEnd desks.items result.lists.items }
     ensures turns { result.cause ≡ None → AllZip (HasTurned K.shown turns) result.keepers.items result.lists.items }
     ensures fit { KeepersFit K.shown K.may result.keepers.items }
+    ensures stored { All K.stored keepers.items → All K.stored result.keepers.items }
     ensures back { length result.keepers.items ≡ length keepers.items }
     ensures cause { IfSome result.cause (λ cause. Hinders K.shown result.keepers.items cause × FitAfter K.shown K.may keepers.items cause result.keepers.items) }
     ensures why { IfSome result.cause (Explains K.shown K.reopens G.gives_up turns result.keepers.items) }
@@ -175,7 +175,7 @@ fn run_sites<K: SiteKeeper + Send, G: Gate + Send, R: Threads + Wait + Clock + S
     gates: Vec<G>,
     turns: u64,
 ) -> Result<Gathered<K>, GatherFault<K>>
-    requires world { (rs : List Record) × AllShow K.shown keepers.items rs × SitesFit rs [] }
+    requires world { (rs : List Record) × AllShow K.shown keepers.items rs × MakeAWorld rs }
     requires count { (2 ≤ length keepers.items) × (length keepers.items ≤ 16) }
     requires desks { (length desks.items ≡ length keepers.items) × All IsUnused desks.items }
     requires gates { length gates.items ≡ length keepers.items }
@@ -185,6 +185,7 @@ fn run_sites<K: SiteKeeper + Send, G: Gate + Send, R: Threads + Wait + Clock + S
     ensures ends { IfOk result (λ g. AllZip HasEnd desks.items g.lists.items) }
     ensures turns { IfOk result (λ g. AllZip (HasTurned K.shown turns) g.keepers.items g.lists.items) }
     ensures fit { IfOk result (λ g. KeepersFit K.shown K.may g.keepers.items) }
+    ensures stored { All K.stored keepers.items → All K.stored (keepers_of result) }
     ensures back { length (keepers_of result) ≡ length keepers.items }
     ensures err { IfErr result (λ e. Hinders K.shown e.keepers.items e.cause × FitAfter K.shown K.may keepers.items e.cause e.keepers.items) }
     ensures why { IfErr result (λ e. Explains K.shown K.reopens G.gives_up turns e.keepers.items e.cause) }
@@ -200,30 +201,32 @@ fn run_sites<K: SiteKeeper + Send, G: Gate + Send, R: Threads + Wait + Clock + S
     told(ended, counts.are_shared())
 }
 
-/// Runs all sites, each in a thread of its own, where one can be made: so many turns, each asked for at the site's gate,
-/// with at most one job a turn from the site's end of its desk, and a last opening of each keeper that is closed then.
-/// Where the system gives fewer threads than sites, sites that share one take turns, so that recalls end then, too.
+/// Runs all sites, each in a thread of its own, where one can be made: so many turns, each asked for at the site's
+/// gate, with at most one job a turn from the site's end of its desk, and a last opening of each keeper that is closed
+/// then. Where the system gives fewer threads than sites, sites that share one take turns, so that recalls end then,
+/// too.
 ///
 /// After a turn in which a site did no job and its record didn't change it sleeps, 100 microseconds for each such turn
-/// one after another and at most 1,000, so that a run lasts while other sites begin or write; where sites share threads,
-/// it leaves its thread to others. A run ends before its turns are made once nothing is left to do: each desk counts as
-/// gone, and each recall that a site began has ended. A site that isn't done makes all turns. So a gate that waits for
-/// other sites needs the other end of a desk to be kept, and a desk that would take one job more; and it needs a thread
-/// for each site.
+/// one after another and at most 1,000, so that a run lasts while other sites begin or write; where sites share
+/// threads, it leaves its thread to others. A run ends before its turns are made once nothing is left to do: each desk
+/// counts as gone, and each recall that a site began has ended. A site that isn't done makes all turns. So a gate that
+/// waits for other sites needs the other end of a desk to be kept, and a desk that would take one job more; and it
+/// needs a thread for each site.
 ///
-/// The keepers are of one list of sites, in the order of their numbers, open, and their records are consistent; no job was
-/// taken from the desks. Afterwards each keeper is open in the record to which its list of steps leads from the one that
-/// it began with, and the jobs of the list are the first ones that were put at its desk; its gate was asked for just these
-/// turns, or for fewer where the site is done: its end counts the desk as gone, no job is in hand, no message waits for a
-/// signal, and each recall that it began has ended. Whether the run has an answer or not, in whichever records the keepers
-/// are open, or may be opened, they are consistent, and what is quarantined under each recall that has ended is just what
-/// its root reaches.
+/// The keepers are of one list of sites, in the order of their numbers, open, and their records are consistent; no job
+/// was taken from the desks. Afterwards each keeper is open in the record to which its list of steps leads from the one
+/// that it began with, and the jobs of the list are the first ones that were put at its desk; its gate was asked for
+/// just these turns, or for fewer where the site is done: its end counts the desk as gone, no job is in hand, no
+/// message waits for a signal, and each recall that it began has ended. Whether the run has an answer or not, in
+/// whichever records the keepers are open, or may be opened, these make a world again, which [`World::new`] takes, and
+/// what is quarantined under each recall that has ended is just what its root reaches. What the keepers stored before,
+/// they store.
 ///
 /// # Errors
-/// All with the keepers. `NotAWorld`, with the keepers as they were. `NoMemory`: before the first turn, when nothing has
-/// changed, or where a keeper couldn't be opened at the end. `SiteLost` where a keeper is closed and an opening of it was
-/// refused, and `GaveUp` where a gate, asked for one of these turns, gave up: the other sites went on. Of several sites
-/// that ended their runs the least is named; the keepers before it are open.
+/// All with the keepers. `NotAWorld`, with the keepers as they were. `NoMemory`: before the first turn, when nothing
+/// has changed, or where a keeper couldn't be opened at the end. `SiteLost` where a keeper is closed and an opening of
+/// it was refused, and `GaveUp` where a gate, asked for one of these turns, gave up: the other sites went on. Of
+/// several sites that ended their runs the least is named; the keepers before it are open.
 pub fn run_world<K: SiteKeeper + Send, G: Gate + Send, R: Threads + Wait + Clock + Sync>(
     rt: &R,
     alloc: Global,
@@ -241,6 +244,7 @@ pub fn run_world<K: SiteKeeper + Send, G: Gate + Send, R: Threads + Wait + Clock
     ensures ends { IfOk result (λ g. AllZip HasEnd desks.items g.lists.items) }
     ensures turns { IfOk result (λ g. AllZip (HasTurned K.shown turns) g.keepers.items g.lists.items) }
     ensures fit { IfOk result (λ g. KeepersFit K.shown K.may g.keepers.items) }
+    ensures stored { All K.stored keepers.items → All K.stored (keepers_of result) }
     ensures back { length (keepers_of result) ≡ length keepers.items }
     ensures err { IfErr result (λ e. Hinders K.shown e.keepers.items e.cause × FitAfter K.shown K.may keepers.items e.cause e.keepers.items) }
     ensures why { IfErr result (λ e. Explains K.shown K.reopens G.gives_up turns e.keepers.items e.cause) }

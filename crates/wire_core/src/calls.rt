@@ -14,6 +14,7 @@ use event_json::SiteNo;
 use frame_core::Frame;
 use site_core::{SiteInput, SiteState};
 use std::marker::Brand;
+use std::snapshot::Snapshot;
 
 /// What became of a frame that was to be posted.
 #[derive(Debug, Drop, PartialEq, Eq)]
@@ -65,11 +66,11 @@ pub fn take_on(hub: &Hub, token: &mut Token, to: SiteNo, from: SiteNo) -> Option
 }
 
 /// One mark.
-pub fn mark_on(hub: &Hub, token: &mut Token, input: &SiteInput, new: &SiteState)
+pub fn mark_on(hub: &Hub, token: &mut Token, input: &Snapshot<SiteInput>, new: &SiteState)
     requires seat { (token.old.table_id ≡ hub.now.table_id) × (token.old.me.1 ≡ []) × (new.now.engagement.me < hub.now.table_id.words) }
-    requires step { MayMark input.now new.now token.old.me.0.sites }
+    requires step { MayMark input.now.value new.now token.old.me.0.sites }
     ensures seat { (token.new.table_id ≡ token.old.table_id) × (token.new.me.1 ≡ []) }
-    ensures marked { token.new.me.0.sites ≡ on new.now.engagement.me (marks input.now new.now) token.old.me.0.sites }
+    ensures marked { token.new.me.0.sites ≡ on new.now.engagement.me (marks input.now.value new.now) token.old.me.0.sites }
 {
     mark::<Brand>(hub, token, input, new);
 }

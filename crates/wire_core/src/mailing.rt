@@ -76,13 +76,13 @@ impl Wire {
         take_on(&self.table.shared, &mut seat.token, me, other)
     }
 
-    /// Marks a step of the site that the record names: from now on this is its record. A site is marked at most 2^62
-    /// times.
-    pub fn mark(&self, seat: &mut Seat, input: &SiteInput, new: &SiteState)
+    /// Marks a step of the site that the record names, by an input that is looked at by proofs alone: from now on this
+    /// is its record. A site is marked at most 2^62 times.
+    pub fn mark(&self, seat: &mut Seat, input: &Snapshot<SiteInput>, new: &SiteState)
         requires seat { IsSeatOf self.now seat.old }
-        requires may { MayMark input.now new.now seat.old.logs }
+        requires may { MayMark input.now.value new.now seat.old.logs }
         ensures seat { IsSeatOf self.now seat.new }
-        ensures marked { seat.new.logs ≡ on new.now.engagement.me (marks input.now new.now) seat.old.logs }
+        ensures marked { seat.new.logs ≡ on new.now.engagement.me (marks input.now.value new.now) seat.old.logs }
     {
         mark_on(&self.table.shared, &mut seat.token, input, new);
     }

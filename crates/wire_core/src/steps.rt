@@ -19,6 +19,7 @@ use event_json::SiteNo;
 use frame_core::Frame;
 use site_core::{SiteInput, SiteState};
 use std::marker::{Brand, PhantomData};
+use std::snapshot::Snapshot;
 
 /// Nothing lies in the mailbox.
 pub const EMPTY: u64 = 0;
@@ -155,12 +156,12 @@ impl<N: Marking> Play<Option<Frame>, View> for Marks<N> {
 }
 
 /// One more input of the site is marked, with the record after it.
-pub fn mark<N: Marking>(hub: &Hub, token: &mut Token, input: &SiteInput, new: &SiteState)
-    requires marking { (N.site ≡ new.now.engagement.me) × (N.change ≡ marks input.now new.now) }
+pub fn mark<N: Marking>(hub: &Hub, token: &mut Token, input: &Snapshot<SiteInput>, new: &SiteState)
+    requires marking { (N.site ≡ new.now.engagement.me) × (N.change ≡ marks input.now.value new.now) }
     requires seat { (token.old.table_id ≡ hub.now.table_id) × (token.old.me.1 ≡ []) × (new.now.engagement.me < hub.now.table_id.words) }
-    requires step { MayMark input.now new.now token.old.me.0.sites }
+    requires step { MayMark input.now.value new.now token.old.me.0.sites }
     ensures seat { token.new.table_id ≡ token.old.table_id }
-    ensures told { Marked new.now.engagement.me (marks input.now new.now) token.old.me token.new.me }
+    ensures told { Marked new.now.engagement.me (marks input.now.value new.now) token.old.me token.new.me }
 {
     let _ = input;
     hub.fetch_add::<Marks<N>>(token, new.me().number() as usize, 1);

@@ -40,7 +40,7 @@ ends_are_told rs recall initiator at = (
 
 -- A step leaves the list of sites.
 
-does_sites : (s t : Record) (input : SiteInput) (e : Effects) → Does s input e t → t.sites ≡ s.sites
+pub does_sites : (s t : Record) (input : SiteInput) (e : Effects) → Does s input e t → t.sites ≡ s.sites
 does_sites s t (Capture bytes) (effects.Captured fresh known skipped) h = ap (λ (r : Record). r.sites) h.rest
 does_sites s t (Start root) (effects.Started recall quarantined numbered ended) h = ap (λ (r : Record). r.sites) h.after
 does_sites s t (Deliver (frames.Recall m dest r i)) (effects.Received quarantined numbered owed) h = ap (λ (r : Record). r.sites) h.after

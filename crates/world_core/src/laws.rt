@@ -6,8 +6,8 @@ ghost use Rattle.world_core.specs.Laws.{EndedStays, EndsAreExact, FramesStay, Fr
 ghost use Rattle.world_core.specs.PinLaws.{AnsweredEndsStand, EndsAreTold, NothingElseEnds, RunsMakeAWorldAgain, StartsTellTheEnd};
 ghost use Rattle.world_core.specs.SendingLaws.{FramesWereEmittable};
 
-/// The records of all sites in order, at which nothing happened yet, make a world; and only out of memory prevents records
-/// that make one.
+/// The records of all sites in order, at which nothing happened yet, make a world; and only out of memory prevents
+/// records that make one.
 pub fn records_make_a_world()
     ensures fresh { FreshSitesMakeAWorld }
     ensures memory { OnlyMemoryHindersAWorld }
@@ -26,8 +26,8 @@ pub fn runs_keep_the_fit()
     ensures run { RunsKeepTheFit }
 {}
 
-/// Whenever the site that began a recall has recorded its end, what is quarantined under it, at all sites, is what chains
-/// of made and shipped items lead to from its root: neither more nor less.
+/// Whenever the site that began a recall has recorded its end, what is quarantined under it, at all sites, is what
+/// chains of made and shipped items lead to from its root: neither more nor less.
 pub fn an_end_is_exact()
     ensures ascending { QuarantinesAscend }
     ensures exact { EndsAreExact }
@@ -38,9 +38,10 @@ pub fn an_ended_recall_stays()
     ensures { EndedStays }
 {}
 
-/// After any list of events, answered from sites that are consistent, as those do at which nothing happened yet: each site
-/// stands as its answered steps in order, with each step that it went down in whole or absent; and whenever the site that
-/// began a recall has recorded its end, what is quarantined under it, at all sites, is what its root reaches, and stays so.
+/// After any list of events, answered from sites that are consistent, as those do at which nothing happened yet: each
+/// site stands as its answered steps in order, with each step that it went down in whole or absent; and whenever the
+/// site that began a recall has recorded its end, what is quarantined under it, at all sites, is what its root reaches,
+/// and stays so.
 pub fn the_headline()
     ensures runs { RunsComeOut }
     ensures start { RunsFromTheStartComeOut }
@@ -51,14 +52,14 @@ pub fn frames_were_emittable()
     ensures { FramesWereEmittable }
 {}
 
-/// After every run from sites at which nothing happened yet a recall has as many messages as there are shipments of what
-/// is quarantined under it: each shipment is announced by one message, however often its frame was sent.
+/// After every run from sites at which nothing happened yet a recall has as many messages as there are shipments of
+/// what is quarantined under it: each shipment is announced by one message, however often its frame was sent.
 pub fn messages_are_counted()
     ensures { MessagesAreCounted }
 {}
 
-/// The end that is told is the one that the headline speaks of. It comes by a step that is answered by it, or by a start whose
-/// answer says so, and by no other.
+/// The end that is told is the one that the headline speaks of. It comes by a step that is answered by it, or by a
+/// start whose answer says so, and by no other.
 pub fn an_end_is_told()
     ensures told { EndsAreTold }
     ensures answered { AnsweredEndsStand }

@@ -93,9 +93,9 @@ impl<K: SiteKeeper> World<K> {
     }
 
     /// A list of events, one after another, and the answer to each. Each site stands then as its answered steps in
-    /// order, with each step that it went down in whole or absent; and whenever the site that began a recall has recorded
-    /// its end, what is quarantined under it, at all sites, is what its root reaches, and stays so. A crash leaves on the
-    /// sites' devices what they show, or may be opened in, as before.
+    /// order, with each step that it went down in whole or absent; and whenever the site that began a recall has
+    /// recorded its end, what is quarantined under it, at all sites, is what its root reaches, and stays so. A crash
+    /// leaves on the sites' devices what they show, or may be opened in, as before.
     ///
     /// # Errors
     /// Where there is no room for all answers: before the first event, and nothing changes.
@@ -129,8 +129,8 @@ impl<K: SiteKeeper> World<K> {
     }
 
     /// What is quarantined under a recall, at all sites: each pair once, by site, and then by item. Once the site that
-    /// began the recall has recorded its end, these are just the pairs that chains of made and shipped items reach from its
-    /// root, through the events that all sites captured.
+    /// began the recall has recorded its end, these are just the pairs that chains of made and shipped items reach from
+    /// its root, through the events that all sites captured.
     ///
     /// # Errors
     /// `Closed` with the least site that is closed.

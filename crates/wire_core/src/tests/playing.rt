@@ -19,6 +19,7 @@ use frame_core::Frame;
 use site_core::{Effects, SiteInput, SiteState, Stepped, emittable, step};
 use site_recovery::{are_all_sites, check_world};
 use std::alloc::Global;
+use std::snapshot::Snapshot;
 use std::test::Fail;
 use std::thread;
 
@@ -157,7 +158,7 @@ fn go_on(
     let Some(next) = next else {
         return (state, effects);
     };
-    wire.mark(seat, &input, &next);
+    wire.mark(seat, &Snapshot::of(&input), &next);
     (next, effects)
 }
 

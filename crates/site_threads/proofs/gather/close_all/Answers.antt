@@ -10,4 +10,4 @@ pub returns-clause-fit : goal.returns-clause-fit
 returns-clause-fit g c =
     let p = c.part-seat.ensures in
     let all = c.close.ensures in
-    keepers_fit g.K.SiteKeeper.shown g.K.SiteKeeper.may c.args.wire c.args.runs.items c.part-seat.result.0.logs c.requires.runs p.logs c.requires.all all.0 all.1 all.2 c.part-seat.result.1.keepers.items p.keepers
+    keepers_fit g.K.SiteKeeper.shown g.K.SiteKeeper.may c.args.wire c.args.runs.items c.part-seat.result.0.logs c.requires.runs p.logs c.requires.all all.0 all.1 all.2 c.requires.one c.part-seat.result.1.keepers.items p.keepers

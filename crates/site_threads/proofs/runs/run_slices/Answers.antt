@@ -14,13 +14,13 @@ for_each_mut-requires-send-T g c κs within =
 
 pub for_each_mut-requires-clause-accepts : goal.for_each_mut-requires-clause-accepts
 for_each_mut-requires-clause-accepts g c κs within i p h is =
-    let between = IsBetween g.K.SiteKeeper.shown g.K.SiteKeeper.may g.K.SiteKeeper.reopens g.G.Gate.gives_up c.args.wire.now c.args.turns in
+    let between = IsBetween g.K.SiteKeeper.shown g.K.SiteKeeper.may g.K.SiteKeeper.stored g.K.SiteKeeper.reopens g.G.Gate.gives_up c.args.wire.now c.args.turns in
     (subst between (sym is) (All-get_or between c.args.runs.now i p.now h c.requires.between), c.requires.turns)
 
 pub returns-clause-each : goal.returns-clause-each
 returns-clause-each g c i d h =
     let r = (c.for_each_mut.ensures i d h).1 in
-    let sliced = IsSliced g.K.SiteKeeper.shown g.K.SiteKeeper.may g.K.SiteKeeper.reopens g.G.Gate.gives_up c.args.wire.now c.args.turns in
+    let sliced = IsSliced g.K.SiteKeeper.shown g.K.SiteKeeper.may g.K.SiteKeeper.stored g.K.SiteKeeper.reopens g.G.Gate.gives_up c.args.wire.now c.args.turns in
     let old = slice_index_or c.args.runs.now i d in
     let new = slice_index_or c.for_each_mut.new.s i d in
     subst (λ (o : SiteRun g.row.K.Denot g.row.G.Denot). sliced o new) r.argument_is (subst (λ (n : SiteRun g.row.K.Denot g.row.G.Denot). sliced r.argument.now n) r.left r.call)

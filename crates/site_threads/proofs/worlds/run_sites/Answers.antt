@@ -1,4 +1,4 @@
-use Rattle.std.proofs.Common.{sym, subst}
+use Rattle.std.proofs.Common.{All, sym, subst}
 use Rattle.world_core.specs.Keepers.{AllShow}
 use Rattle.site_threads.proofs.Ending.{fit_before}
 use Rattle.site_threads.proofs.worlds.run_sites.Goals as goal
@@ -9,4 +9,7 @@ returns-in_default-clause-err g c = let w = c.requires.world in (tt, fit_before 
 pub run_in-ended-requires-clause-world : goal.run_in-ended-requires-clause-world
 run_in-ended-requires-clause-world g c κs within =
     let w = c.requires.world in
-    (w.0, w.1, w.2.places, c.in-Ok.ensures.seat w.0 (subst (λ ks. AllShow g.K.SiteKeeper.shown ks w.0) (sym c.deref.ensures.value) w.1))
+    (w.0, w.1, w.2, c.in-Ok.ensures.seat w.0 (subst (λ ks. AllShow g.K.SiteKeeper.shown ks w.0) (sym c.deref.ensures.value) w.1))
+
+pub returns-clause-stored : goal.returns-clause-stored
+returns-clause-stored g c all = subst (All g.K.SiteKeeper.stored) (sym c.told.ensures.back) (c.run_in-ended.ensures.stored all)

@@ -18,7 +18,7 @@ new-requires-clause-fit g c =
     let shown = g.K.SiteKeeper.shown in
     let w = c.requires.world in
     let same = shown_once shown g.K.SiteKeeper.may c.args.keepers.now w.0 (records_at c.in_ok-states.states.items) w.1 c.in_ok-states.ensures in
-    subst (λ l. SitesFit l []) (same ∙ sym (ap records_at c.deref.ensures.value)) w.2
+    subst (λ l. SitesFit l []) (same ∙ sym (ap records_at c.deref.ensures.value)) record { places = w.2.places; fits = w.2.fit }
 
 pub new-requires-clause-count : goal.new-requires-clause-count
 new-requires-clause-count g c =

@@ -6,7 +6,7 @@ use Rattle.site_threads.proofs.runs.SiteRun.go.Given as goal
 abbrev pub invariant-loop : goal.invariant-loop
 invariant-loop g l = record {
   run : IsRun g.K.SiteKeeper.shown g.K.SiteKeeper.may l.wire l.self;
-  same : SameRun l.fn.self l.self;
+  same : SameRun g.K.SiteKeeper.stored l.fn.self l.self;
   few : marks_in l.self.turn.site.seat.logs ≤ 18 * l.counter;
   going : l.self.fault ≡ None;
   asked : l.self.turn.turns ≡ l.counter;

@@ -2,7 +2,7 @@ use Rattle.std.proofs.Common.{◌≡◌, ◌-◌, length, Some, None, refl, sym,
 use Rattle.std.specs.Prelude.{slice_get}
 use Rattle.keeper_core.specs.Keeping.{StaysClosed}
 use Rattle.site_threads.specs.Keepers.{shown_in, may_in}
-use Rattle.site_threads.specs.Running.{Follows}
+use Rattle.site_threads.specs.Running.{Follows, MayFollow}
 use Rattle.site_threads.specs.Stamps.{stamp}
 use Rattle.site_threads.proofs.Wired.{follows_pass}
 use Rattle.site_threads.proofs.Steps.{opened_follows, opened_runs, unopened_runs}
@@ -17,7 +17,8 @@ follow-self-requires-clause-may g c =
     let same : c.in-Some-view.record.now ≡ m.0 = search rules in
     let kept = subst (λ k. may_in g.K.SiteKeeper.may k c.in-Some-view.record.now) c.in-Some.ensures.value (subst (g.K.SiteKeeper.may c.in-Some.keeper) (sym same) m.1) in
     let at : Some c.in-Some-last.entry.now ≡ slice_get s.entries.items (length s.entries.items - 1) = search rules in
-    opened_follows _ _ _ _ _ _ _ c.requires.site.runs c.in-Some-last.entry.now c.in-Some-view.record.now closed c.requires.few at kept
+    subst (λ i. MayFollow s.seat.logs s.stamp i c.in-Some-view.record.now) (sym c.input.ensures)
+    (opened_follows _ _ _ _ _ _ _ c.requires.site.runs c.in-Some-last.entry.now c.in-Some-view.record.now closed c.requires.few at kept)
 
 pub returns-in-Err-clause-site : goal.returns-in-Err-clause-site
 returns-in-Err-clause-site g c =

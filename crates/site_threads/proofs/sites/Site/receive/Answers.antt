@@ -1,7 +1,7 @@
 use Rattle.std.proofs.Common.{◌+◌, is_some, sym, ap, ◌∙◌, subst, arith}
 use Rattle.site_threads.specs.Keepers.{shown_in}
 use Rattle.site_threads.specs.Passing.{TakesFrames, noted_by, sent_by}
-use Rattle.site_threads.proofs.Wired.{noted_one, takes_none, takes_lost, takes_one}
+use Rattle.site_threads.proofs.Wired.{noted_one, takes_none, takes_one}
 use Rattle.site_threads.proofs.Passed.{may_take, same_runs, noted_runs, taken_delivers}
 use Rattle.site_threads.proofs.sites.Site.receive.Goals as goal
 
@@ -10,9 +10,6 @@ take-requires-clause-may g c = may_take _ _ _ _ _ _ _ c.requires.site.runs _ _ c
 
 pub returns-in_default-clause-site : goal.returns-in_default-clause-site
 returns-in_default-clause-site g c = record { there = c.requires.site.there; runs = same_runs _ _ _ _ _ _ _ c.requires.site.runs _ c.in_default.ensures.answer.0 }
-
-pub returns-in_default-copy-clause-site : goal.returns-in_default-copy-clause-site
-returns-in_default-copy-clause-site g c = record { there = c.requires.site.there; runs = noted_runs _ _ _ _ _ _ _ c.requires.site.runs c.in-Some.frame _ c.in-Some.ensures.answer.0 }
 
 pub enter-requires-clause-site : goal.enter-requires-clause-site
 enter-requires-clause-site g c = record { there = c.requires.site.there; runs = noted_runs _ _ _ _ _ _ _ c.requires.site.runs c.in-Some.frame _ c.in-Some.ensures.answer.0 }
@@ -31,15 +28,6 @@ returns-in_default-clause-frames g c =
 
 pub returns-in_default-clause-sent : goal.returns-in_default-clause-sent
 returns-in_default-clause-sent g c = ap sent_by c.in_default.ensures.answer.0
-
-pub returns-in_default-copy-clause-frames : goal.returns-in_default-copy-clause-frames
-returns-in_default-copy-clause-frames g c =
-    let h = c.requires.site.runs in
-    let a = c.in-Some.ensures.answer in
-    takes_lost _ _ _ _ c.in-Some.frame _ _ (noted_one h.log _ _ c.in-Some.frame _ h.alone h.own.site a.0).0 a.1 a.2 c.requires.other.0
-
-pub returns-in_default-copy-clause-sent : goal.returns-in_default-copy-clause-sent
-returns-in_default-copy-clause-sent g c = let h = c.requires.site.runs in (noted_one h.log _ _ c.in-Some.frame _ h.alone h.own.site c.in-Some.ensures.answer.0).1
 
 pub returns-clause-frames : goal.returns-clause-frames
 returns-clause-frames g c =

@@ -14,7 +14,7 @@ loop-number-preserved g c =
     let sum = i.count in
     record {
       site = t.site;
-      same = record { seat = t.same.seat; me = t.same.me ∙ i.same.me; start = t.same.start ∙ i.same.start; marks = omega (arith, marks, marked) };
+      same = record { seat = t.same.seat; me = t.same.me ∙ i.same.me; start = t.same.start ∙ i.same.start; marks = omega (arith, marks, marked); keeps = λ s. t.same.keeps (i.same.keeps s) };
       frames = takes_more _ _ _ _ _ _ _ _ _ _ _ _ _ _ _ i.frames (takes_as _ _ _ _ _ _ _ _ _ _ _ _ _ _ _ _ _ i.same.me refl refl refl refl refl refl t.frames);
       sent = t.sent ∙ i.sent;
       room = omega (arith, room, more);

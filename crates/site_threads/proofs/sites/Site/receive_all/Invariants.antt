@@ -7,7 +7,7 @@ use Rattle.site_threads.proofs.sites.Site.receive_all.Given as goal
 abbrev pub invariant-loop-number : goal.invariant-loop-number
 invariant-loop-number g l = record {
   site : IsSite g.K.SiteKeeper.shown g.K.SiteKeeper.may l.self;
-  same : Continues l.number l.wire l.fn.self l.self;
+  same : Continues g.K.SiteKeeper.stored l.number l.wire l.fn.self l.self;
   frames : TakesOfEach g.K.SiteKeeper.shown 0 l.number l.fn.self l.self l.entered;
   sent : sent_by l.self.seat.logs ≡ sent_by l.fn.self.seat.logs;
   room : vec_len l.self.entries + l.wire.sites ≤ vec_capacity l.self.entries + l.number;

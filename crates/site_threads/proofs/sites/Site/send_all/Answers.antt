@@ -13,7 +13,7 @@ loop-number-preserved g c =
     let sum = i.count in
     record {
       site = t.site;
-      same = record { seat = t.same.seat; me = t.same.me ∙ i.same.me; start = t.same.start ∙ i.same.start; marks = omega (arith, marks, marked) };
+      same = record { seat = t.same.seat; me = t.same.me ∙ i.same.me; start = t.same.start ∙ i.same.start; marks = omega (arith, marks, marked); keeps = λ s. t.same.keeps (i.same.keeps s) };
       entries = t.entries.0 ∙ i.entries;
       keeper = t.entries.1 ∙ i.keeper;
       posted = posts_more _ _ _ _ _ _ _ _ _ _ (posts_as _ _ _ _ _ _ _ _ _ _ _ refl (sym (ap (shown_in g.K.SiteKeeper.shown) t.entries.1)) refl refl i.posted) (posts_as _ _ _ _ _ _ _ _ _ _ _ i.same.me refl refl refl t.posted);

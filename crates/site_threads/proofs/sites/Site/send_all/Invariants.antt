@@ -6,7 +6,7 @@ use Rattle.site_threads.proofs.sites.Site.send_all.Given as goal
 abbrev pub invariant-loop-number : goal.invariant-loop-number
 invariant-loop-number g l = record {
   site : IsSite g.K.SiteKeeper.shown g.K.SiteKeeper.may l.self;
-  same : Continues 0 l.wire l.fn.self l.self;
+  same : Continues g.K.SiteKeeper.stored 0 l.wire l.fn.self l.self;
   entries : l.self.entries ≡ l.fn.self.entries;
   keeper : l.self.keeper ≡ l.fn.self.keeper;
   posted : PostsToEach g.K.SiteKeeper.shown 0 l.number l.fn.self l.self l.posted;

@@ -1,9 +1,10 @@
 use Rattle.std.proofs.Common.{◌≡◌, ◌+◌, ◌∷◌, ◌++◌, [], Some, refl, sym, ap, ◌∙◌, subst, arith, rules}
-use Rattle.std.specs.Prelude.{vec_len}
+use Rattle.std.specs.Prelude.{IfSome, vec_len}
 use Rattle.keeper_core.specs.Keeping.{Applies}
-use Rattle.site_threads.specs.Jobs.{is_delivery, reply_to}
+use Rattle.site_threads.specs.Inputs.{is_delivery}
+use Rattle.site_threads.specs.Jobs.{reply_to}
 use Rattle.site_threads.specs.Keepers.{shown_in, may_in}
-use Rattle.site_threads.specs.Running.{MayDeliver}
+use Rattle.site_threads.specs.Running.{MayDeliver, MayFollow}
 use Rattle.site_threads.proofs.Answered.{told_so, stays_open}
 use Rattle.site_threads.proofs.Wired.{may_follow_pass}
 use Rattle.site_threads.proofs.Taking.{no_memory, may_follow, took_in}
@@ -21,28 +22,29 @@ returns-in_default-clause-back g c =
 
 pub follow_shown-self-requires-clause-may : goal.follow_shown-self-requires-clause-may
 follow_shown-self-requires-clause-may g c =
-    let same = sym c.requires.copy in
-    may_follow _ _ _ _ _ _ _ c.requires.site.runs c.requires.open c.args.copy c.apply_to.result c.is_delivery-frame.result _ (may_in g.K.SiteKeeper.may c.apply_to.new.keeper)
+    let same = sym c.requires.asked in
+    subst (λ i. IfSome (shown_in g.K.SiteKeeper.shown c.apply_to.new.keeper) (MayFollow c.args.self.now.seat.logs c.args.self.now.stamp i)) (sym c.input.ensures)
+    (may_follow _ _ _ _ _ _ _ c.requires.site.runs c.requires.open c.args.asked c.apply_to.result c.is_delivery-frame.result _ (may_in g.K.SiteKeeper.may c.apply_to.new.keeper)
     (λ old is. subst (λ i. Applies old i c.apply_to.result (shown_in g.K.SiteKeeper.shown c.apply_to.new.keeper) (may_in g.K.SiteKeeper.may c.apply_to.new.keeper)) same (c.apply_to.ensures.step old is)) c.requires.few
-    (subst (λ i. MayDeliver i c.args.self.now.seat.logs) same c.requires.noted)
+    (subst (λ i. MayDeliver i c.args.self.now.seat.logs) same c.requires.noted))
 
 pub returns-clause-site : goal.returns-clause-site
 returns-clause-site g c =
-    let same = sym c.requires.copy in
+    let same = sym c.requires.asked in
     let p = c.in-Some.reply in
     let e : Some p ≡ reply_to c.is_delivery-frame.result c.apply_to.result = sym c.in-Some.is ∙ c.answered.ensures in
-    let items : c.push.new.self.items ≡ c.args.self.now.entries.items ++ (record { number = vec_len c.args.self.now.entries + 1; input = c.args.copy; reply = p }) ∷ [] = search rules in
+    let items : c.push.new.self.items ≡ c.args.self.now.entries.items ++ (record { number = vec_len c.args.self.now.entries + 1; input = c.args.asked; reply = p }) ∷ [] = search rules in
     record {
       there = c.apply_to.ensures.there;
-      runs = took_in _ _ _ _ _ _ _ c.requires.site.runs c.requires.open c.args.copy c.apply_to.result c.is_delivery-frame.result _ (may_in g.K.SiteKeeper.may c.apply_to.new.keeper)
+      runs = took_in _ _ _ _ _ _ _ c.requires.site.runs c.requires.open c.args.asked c.apply_to.result c.is_delivery-frame.result _ (may_in g.K.SiteKeeper.may c.apply_to.new.keeper)
           (λ old is. subst (λ i. Applies old i c.apply_to.result (shown_in g.K.SiteKeeper.shown c.apply_to.new.keeper) (may_in g.K.SiteKeeper.may c.apply_to.new.keeper)) same (c.apply_to.ensures.step old is))
-          p _ _ _ _ c.is_delivery-frame.ensures e (subst (λ i. MayDeliver i c.args.self.now.seat.logs) same c.requires.noted) c.follow_shown-self.ensures.follows (let l = c.args.self.now.entries.ok.0 in omega arith) items;
+          p _ _ _ _ (c.is_delivery-frame.ensures ∙ ap is_delivery same) e (subst (λ i. MayDeliver i c.args.self.now.seat.logs) same c.requires.noted) c.follow_shown-self.ensures.follows (let l = c.args.self.now.entries.ok.0 in omega arith) items;
     }
 
 pub returns-clause-told : goal.returns-clause-told
 returns-clause-told g c =
     told_so g.K.SiteKeeper.shown g.K.SiteKeeper.may g.K.SiteKeeper.applies c.args.self.now.keeper c.apply_to.new.keeper c.args.input c.apply_to.result c.is_delivery-frame.result c.in-Some.reply c.requires.open c.apply_to.ensures.asked c.apply_to.ensures.step
-    (c.is_delivery-frame.ensures ∙ ap is_delivery c.requires.copy) (sym c.in-Some.is ∙ c.answered.ensures)
+    c.is_delivery-frame.ensures (sym c.in-Some.is ∙ c.answered.ensures)
 
 pub returns-clause-stopped : goal.returns-clause-stopped
 returns-clause-stopped g c =
