@@ -9,6 +9,9 @@ use std::alloc::Global;
 use std::hash::RandomState;
 use std::test::Fail;
 
+/// The last number of a message.
+const LAST: u64 = 1 << 62;
+
 // A shipment of y to C leads out, and to B it doesn't, for that pair is there. What is made of y leads out,
 // unless it is quarantined too.
 fn leads_out(alloc: Global, a: &mut SiteState) -> Result<bool, Fail> {
@@ -31,7 +34,8 @@ fn a_capture_leads_out_of_no_quarantine(rt: HostRuntime) -> Result<(), Fail> {
 }
 
 // A known event changes nothing, and another with its eventID is refused for that before it is blocked. The site
-// doesn't know v. Not for A are a message for B, a signal by A, and a message with a number past the last.
+// doesn't know v. Not for A are a message for B, one of A itself, a signal by A, and numbers below the first and past the
+// last.
 fn refuses(alloc: Global, a: &mut SiteState) -> Result<bool, Fail> {
     let known = Effects::Captured {
         fresh: 0,
@@ -40,7 +44,11 @@ fn refuses(alloc: Global, a: &mut SiteState) -> Result<bool, Fail> {
     };
     let past = MsgId {
         site: site(1),
-        number: u64::MAX,
+        number: LAST + 1,
+    };
+    let none = MsgId {
+        site: site(1),
+        number: 0,
     };
     let rows = [
         (Short::Shipped('z', 'b', true), Done(FRESH)),
@@ -49,7 +57,12 @@ fn refuses(alloc: Global, a: &mut SiteState) -> Result<bool, Fail> {
         (Short::Start('v'), UnknownItem),
         (Short::Told(message(1), site(1)), NotMine),
         (Short::Signal(message(1), site(0)), NotMine),
+        (Short::Told(message(1), site(0)), NotMine),
         (Short::Told(past, site(0)), NotMine),
+        (Short::Told(none, site(0)), NotMine),
+        (Short::Signal(message(0), site(1)), NotMine),
+        (Short::Signal(message(LAST + 1), site(1)), NotMine),
+        (Short::Signal(message(LAST), site(1)), Done(Effects::Stale)),
         (Short::Signal(message(2), site(0)), Done(Effects::Stale)),
     ];
     give(alloc, a, &rows)

@@ -1,0 +1,211 @@
+#!/usr/bin/env bash
+# Runs scripts at the limits of items, documents and lists of sites, and compares each answer: what a definition says by a
+# number or a character is told here a second time, by each character and by the last case on either side of each number.
+# Run by hand, and by the gate on the program that it built. RECALL names another program. It takes a few seconds.
+# It ends with status 0 where all is as it should be.
+set -u
+export LC_ALL=C
+here=$(cd "$(dirname "$0")/.." && pwd) || exit 2
+recall=${RECALL:-}
+if [ -z "$recall" ]; then
+    "$here/recall" --help >/dev/null || exit 2
+    recall="$here/crates/recall_cli/out/recall_cli"
+fi
+work=$(mktemp -d) || exit 2
+trap 'rm -rf "$work"' EXIT
+failed=0
+rows=0
+
+# row LINE ANSWER..: a line of the script, and the lines that it prints
+row() {
+    printf '%s\n' "$1" >>"$work/script"
+    shift
+    [ $# -eq 0 ] || printf '%s\n' "$@" >>"$work/wanted"
+    rows=$((rows + 1))
+}
+
+# begins LINE..: a new script, of these lines, which print nothing
+begins() {
+    : >"$work/wanted"
+    printf '%s\n' "$@" >"$work/script"
+}
+
+# ends NAME: the script prints what is wanted, with status 1 where a line of it is refused
+ends() {
+    local status=0
+    ! grep -q '^refused' "$work/wanted" || status=1
+    "$recall" sim <"$work/script" >"$work/printed"
+    [ $? -eq $status ] || failed=1
+    if ! diff -u --label 'as it should be' --label "$1" "$work/wanted" "$work/printed"; then
+        failed=1
+    fi
+}
+
+# repeated COUNT WORD: the word so many times, with commas between
+repeated() {
+    local all
+    all=$(printf "%0.s$2," $(seq "$1"))
+    printf '%s' "${all%,}"
+}
+
+# one KEY TEXT: a line that asks for an item at A, and what it prints where its key is this
+one() {
+    row "reach A $2" "pair A $1" 'pairs 1'
+}
+
+# Serials: each byte, written as an escape in both forms of an SGTIN.
+
+begins 'site A a' 'site B b'
+serial='0123456789ABCDEFGHIJKLMNOPQRSTUVWXYZabcdefghijklmnopqrstuvwxyz_!"%&'"'"'()*+,-./:;<=>?'
+[ ${#serial} -eq 82 ] || exit 2
+urn=urn:epc:id:sgtin:0614141.112345
+link=https://id.gs1.org/01/10614141123459/21
+key='sgtin 10614141123459'
+for byte in $(seq 0 255); do
+    escape=$(printf '%%%02X' "$byte")
+    small=$(printf '%%%02x' "$byte")
+    is_one=0
+    if [ "$byte" -gt 32 ] && [ "$byte" -lt 127 ]; then
+        char=$(printf %b "\\x$(printf %02x "$byte")")
+        case $serial in *"$char"*) is_one=1 ;; esac
+    fi
+    if [ $is_one -eq 1 ]; then
+        one "$key 4$char" "$urn.4$escape"
+        one "$key 4$char" "$link/4$small"
+    else
+        one "uri $urn.4$escape" "$urn.4$escape"
+        one "uri $link/4$small" "$link/4$small"
+    fi
+done
+# By themselves, and how many of them.
+one "uri $urn.4\$" "$urn.4\$"
+one "uri $urn.4@" "$urn.4@"
+one "uri $urn.4[" "$urn.4["
+one "uri $urn.4\`" "$urn.4\`"
+one "uri $urn.4^" "$urn.4^"
+one "uri $urn.4{" "$urn.4{"
+one "uri $urn." "$urn."
+one "uri $link/" "$link/"
+for form in "$urn." "$link/"; do
+    one "$key 1" "${form}1"
+    one "$key 1234567890123456789" "${form}1234567890123456789"
+    one "$key 12345678901234567890" "${form}12345678901234567890"
+    one "uri ${form}123456789012345678901" "${form}123456789012345678901"
+    one "$key ////////////////////" "$form$(printf '%%2F%.0s' $(seq 20))"
+done
+# Company prefixes of 6 to 12 digits; check digits.
+one 'sgtin 10614141123459 4' urn:epc:id:sgtin:061414.1112345.4
+one 'sgtin 10614141123459 4' urn:epc:id:sgtin:061414112345.1.4
+one 'uri urn:epc:id:sgtin:06141.11412345.4' urn:epc:id:sgtin:06141.11412345.4
+one 'uri urn:epc:id:sgtin:0614141123451..4' urn:epc:id:sgtin:0614141123451..4
+one 'uri https://id.gs1.org/01/10614141123458/21/4' https://id.gs1.org/01/10614141123458/21/4
+one 'sscc 106141412345678908' urn:epc:id:sscc:0614141.1234567890
+one 'uri https://id.gs1.org/00/106141412345678909' https://id.gs1.org/00/106141412345678909
+# A text has 512 bytes at most.
+long=$(printf 'x%.0s' $(seq 512))
+one "uri $long" "$long"
+row "reach A x$long" 'refused BadEpc'
+ends 'serials'
+
+# Offsets of times.
+
+begins 'site A a' 'site B b'
+# offset TEXT ANSWER: a document whose event has this offset
+offset() {
+    row "capture A {\"type\":\"ObjectEvent\",\"eventTime\":\"2024-05-01T08:00:00Z\",\"eventTimeZoneOffset\":\"$1\",\"action\":\"OBSERVE\",\"epcList\":[\"x\"]}" "$2"
+}
+for good in +00:00 -00:00 +01:00 -01:30 +09:59 +10:00 +13:00 +14:00 -14:00 -05:45; do
+    offset "$good" 'captured 1 known 0 skipped 0'
+done
+for bad in '' +00.00 +00x00 x00:00 '.00:00' ' 00:00' +00:60 +00:99 +00:0 +00:000 +000:00 +0:00 +0000 +00: :00 00:00 Z z -15:00 +15:00 +24:00 +0a:00 +00:0a +00:a0 '+00:00 ' ' +00:00' ++0:00 +-1:00 +00:-1; do
+    offset "$bad" 'refused Doc Offset event 1 field eventTimeZoneOffset'
+done
+ends 'offsets'
+
+# The order of checks: a document with two faults has the first.
+
+begins 'site A a' 'site B b'
+# made MEMBERS ANSWER: a transformation with these members
+made() {
+    row "capture A {\"type\":\"TransformationEvent\",\"eventTime\":\"2024-05-01T08:00:00Z\",\"eventTimeZoneOffset\":\"+00:00\",$1}" "$2"
+}
+made '"outputEPCList":5,"inputEPCList":5' 'refused Doc WrongShape event 1 field inputEPCList'
+made '"transformationID":5,"inputEPCList":5' 'refused Doc WrongShape event 1 field inputEPCList'
+made '"transformationID":5,"outputEPCList":5' 'refused Doc WrongShape event 1 field outputEPCList'
+made '"transformationID":5,"inputEPCList":["x"]' 'refused Doc WrongShape event 1 field transformationID'
+# seen MEMBERS ANSWER: an object event with these members
+seen() {
+    row "capture A {\"type\":\"ObjectEvent\",$1}" "$2"
+}
+at='"eventTime":"2024-05-01T08:00:00Z","eventTimeZoneOffset":"+00:00"'
+seen "\"errorDeclaration\":{},\"quantityList\":5,\"eventID\":5" 'refused Doc ErrorDeclared event 1 field errorDeclaration'
+seen "\"quantityList\":5,\"eventID\":5" 'refused Doc WrongShape event 1 field quantityList'
+seen "\"eventID\":5,\"eventTime\":5" 'refused Doc WrongShape event 1 field eventID'
+seen "\"eventTime\":5,\"eventTimeZoneOffset\":5" 'refused Doc WrongShape event 1 field eventTime'
+seen "\"eventTime\":\"2024-05-01T08:00:00Z\",\"eventTimeZoneOffset\":5,\"action\":5" 'refused Doc WrongShape event 1 field eventTimeZoneOffset'
+seen "$at,\"action\":5,\"epcList\":5" 'refused Doc WrongShape event 1 field action'
+seen "$at,\"action\":\"OBSERVE\",\"epcList\":5,\"destinationList\":5" 'refused Doc WrongShape event 1 field epcList'
+seen "$at,\"action\":\"OBSERVE\",\"epcList\":[],\"destinationList\":5" 'refused Doc WrongShape event 1 field destinationList'
+ends 'the order of checks'
+
+# How much a document holds.
+
+begins 'site A a' 'site B b'
+epcs=$(repeated 1000 '"x"')
+to=$(repeated 1000 '{"destination":"b"}')
+event="{\"type\":\"ObjectEvent\",$at,\"action\":\"OBSERVE\",\"epcList\":[\"x\"]}"
+events=$(repeated 999 "$event")
+seen "$at,\"action\":\"OBSERVE\",\"epcList\":[$epcs],\"destinationList\":[$to]" 'captured 1 known 0 skipped 0'
+seen "$at,\"action\":\"OBSERVE\",\"epcList\":[$epcs,\"x\"]" 'refused Doc TooManyEpcs event 1 field epcList'
+seen "$at,\"action\":\"OBSERVE\",\"epcList\":[$epcs],\"destinationList\":[$to,5]" 'refused Doc TooManyEpcs event 1 field destinationList'
+made "\"inputEPCList\":[$epcs],\"outputEPCList\":[$epcs]" 'captured 1 known 0 skipped 0'
+made "\"inputEPCList\":[$epcs,\"x\"],\"outputEPCList\":[$epcs]" 'refused Doc TooManyEpcs event 1 field inputEPCList'
+made "\"inputEPCList\":[$epcs],\"outputEPCList\":[$epcs,\"x\"]" 'refused Doc TooManyEpcs event 1 field outputEPCList'
+row "capture B {\"type\":\"EPCISDocument\",\"epcisBody\":{\"eventList\":[$events,$event]}}" 'captured 1000 known 0 skipped 0'
+row "capture B {\"type\":\"EPCISDocument\",\"epcisBody\":{\"eventList\":[$events,$event,5]}}" 'refused Doc TooManyEvents event 0 field eventList'
+ends 'how much a document holds'
+
+# Lists of sites.
+
+begins
+sixteen=$(printf ' a%d' $(seq 16))
+row 'site abcdefghijklmnop a'
+row 'site abcdefghijklmnopq b' 'refused BadSite BadName'
+row 'site a.b b' 'refused BadSite BadName'
+row 'site a/b b' 'refused BadSite BadName'
+row 'site abcdefghijklmnop b' 'refused BadSite NameTaken'
+row 'site -_9Z b a' 'refused BadSite AddressTaken'
+row 'site -_9Z b b' 'refused BadSite AddressTaken'
+row "site M$sixteen a17" 'refused BadSite TooMany'
+row "site M$sixteen"
+row "site N $long"
+row "site O x$long" 'refused BadSite BadAddress'
+for number in $(seq 4 16); do
+    row "site S$number"
+done
+row 'site S17' 'refused BadSite TooMany'
+row 'reach S16 x' 'pair S16 uri x' 'pairs 1'
+row 'site S17' 'refused Late'
+ends 'lists of sites'
+
+# Pairs come by site and then by item; the least item and then the least recall are named that block.
+
+begins 'site A a' 'site B b' 'site C c'
+# goes ITEMS SITE ANSWER: a shipment
+goes() {
+    seen "$at,\"action\":\"OBSERVE\",\"epcList\":[$1],\"destinationList\":[{\"destination\":\"$2\"}]" "$3"
+}
+made '"inputEPCList":["r"],"outputEPCList":["y","x"]' 'captured 1 known 0 skipped 0'
+goes '"y"' b 'captured 1 known 0 skipped 0'
+goes '"x"' b 'captured 1 known 0 skipped 0'
+row 'reach A r' 'pair A uri r' 'pair A uri x' 'pair A uri y' 'pair B uri x' 'pair B uri y' 'pairs 5'
+row 'recall A r' 'recall A#1 new 3 messages 2 open'
+row 'recall A r' 'recall A#2 new 3 messages 2 open'
+goes '"y","x"' c 'refused Blocked A#1 uri x event 1'
+row 'quarantine A#2' 'pair A uri r' 'pair A uri x' 'pair A uri y' 'quarantined 3 open'
+row 'pump 2' 'ended A#1' 'ended A#2' 'pumped 2 frames 8'
+row 'quarantine A#1' 'pair A uri r' 'pair A uri x' 'pair A uri y' 'pair B uri x' 'pair B uri y' 'quarantined 5 ended'
+ends 'pairs'
+
+[ $failed -eq 0 ] && echo "$rows rows"
+exit $failed
