@@ -1,23 +1,26 @@
-use Rattle.site_commands.proofs.CallsInTurn.{ok_so}
+use Rattle.std.proofs.Common.{IfOk, subst}
+use Rattle.site_commands.specs.Runs.{AnswersRun}
 use Rattle.site_commands.proofs.runs.run_sites.Goals as goal
 
 pub returns-clause-calls : goal.returns-clause-calls
 returns-clause-calls g c =
     let opened = c.in_ok-keepers.ensures.opened in
-    ok_so c.run_of-after.result.1
-    (λ a told. record {
+    let keepers = c.in_ok-keepers.keepers.items in
+    let after = c.run_of-after.result.0.items in
+    record {
       sites = c.in_ok-sites.sites;
       mid = c.sites_of.new.files;
       listed = c.in_ok-sites.ensures;
       told = record {
         mid = c.open_all.new.files;
-        keepers = c.in_ok-keepers.keepers.items;
+        keepers = keepers;
         records = opened.0;
         opened = opened.1;
         number = c.in_ok-keepers.ensures.number;
-        after = c.run_of-after.result.0.items;
-        told = told;
+        after = after;
+        notes = c.in_ok-answer.field-0.notes;
+        told = subst (λ r. IfOk r (λ ran. AnswersRun g.K.SiteKeeper.shown g.K.SiteKeeper.failed c.in_ok-sites.sites c.args.turns keepers after ran.answer ran.notes)) c.in_ok-answer.was c.run_of-after.ensures.answered;
         closed = c.close_all.ensures;
+        noted = c.in_ok-notes.ensures;
       };
-    })
-    c.run_of-after.ensures.answered
+    }
