@@ -2,7 +2,8 @@
 # Kills the program as it makes its k-th call that changes a file, and fails that call once, with EIO and with ENOSPC, for
 # each k of `init`, `capture`, `start` and of a `run` of two sites; after each the folder has the record before or the one
 # after, whole. It needs `strace`, and without it tries nothing and says so.
-# Run by hand, and by the gate on the program that it built. RECALL names another program, STEP tries each STEP-th call alone.
+# Run by hand, and by the gate on the program that it built. RECALL names another program, STEP tries each STEP-th call alone,
+# WORKERS is how many cases are tried at once (one for each processor).
 # It ends with status 0 where all is as it should be.
 set -u
 here=$(cd "$(dirname "$0")/.." && pwd) || exit 2
@@ -19,6 +20,7 @@ chain="$here/examples/dairy"
 tank=urn:epc:id:sgtin:9521321.000011.tank-7
 calls=write,pwrite64,fsync,fdatasync,ftruncate,rename,renameat,renameat2,unlink,unlinkat
 step=${STEP:-1}
+workers=${WORKERS:-$(nproc)}
 work=$(mktemp -d) || exit 2
 trap 'rm -rf "$work"' EXIT
 cd "$work" || exit 2
@@ -51,23 +53,46 @@ stopped() {
     { strace -f -qq -o trace -e "trace=$call" -e "inject=$call:$how:when=$k" "$recall" "$@" >out 2>err </dev/null; } 2>/dev/null
 }
 
-# tries FOLDER CHECK WORD..: from this folder, each call of the program on these words is stopped and failed; the words name
-# the folder as @, and CHECK looks at what is left in `at`
-tries() {
-    local from=$1 check=$2 call most k how
-    shift 2
-    rm -rf at && cp -r "$from" at
-    made "${@/#@/at}" >counts
+# share WORKER FOLDER CHECK WORD..: tries each of the cases that is this worker's, in a folder of its own
+share() {
+    local worker=$1 from=$2 check=$3 call most k how place=0
+    shift 3
+    mkdir -p "$work/worker$worker" && cd "$work/worker$worker" || exit 2
+    failed=0
+    cases=0
     while read -r call most; do
         for ((k = 1; k <= most; k += step)); do
             for how in signal=KILL error=EIO error=ENOSPC; do
-                rm -rf at && cp -r "$from" at
+                place=$((place + 1))
+                [ $((place % workers)) = "$worker" ] || continue
+                rm -rf at && cp -r "$work/$from" at
                 stopped "$call" "$k" "$how" "${@/#@/at}"
                 cases=$((cases + 1))
                 "$check" "$call $k $how of recall $*"
             done
         done
-    done <counts
+    done <"$work/counts"
+    echo "$cases" >"$work/cases$worker"
+    exit "$failed"
+}
+
+# tries FOLDER CHECK WORD..: from this folder, each call of the program on these words is stopped and failed; the words name
+# the folder as @, and CHECK looks at what is left in `at`
+tries() {
+    local from=$1 worker pid pids=() words=("${@:3}")
+    rm -rf at && cp -r "$from" at
+    made "${words[@]/#@/at}" >counts
+    for ((worker = 0; worker < workers; worker++)); do
+        rm -f "cases$worker"
+        share "$worker" "$@" &
+        pids+=("$!")
+    done
+    for pid in "${pids[@]}"; do
+        wait "$pid" || failed=1
+    done
+    for ((worker = 0; worker < workers; worker++)); do
+        cases=$((cases + $(cat "cases$worker" || echo 0)))
+    done
 }
 
 # the list is there and whole, or it isn't there
