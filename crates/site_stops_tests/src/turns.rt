@@ -38,8 +38,9 @@ fn start(alloc: Global) -> Option<WorldInput> {
     Some(WorldInput::Start(Epc::read(alloc, "x").ok()?))
 }
 
-fn stop(site: SiteNo) -> WorldEvent {
-    let input = WorldInput::Deliver(0);
+/// A stop before the site takes anything.
+fn stop(alloc: Global, site: SiteNo) -> WorldEvent {
+    let input = WorldInput::Capture(Sequence::from_vec(Vec::new(alloc)));
     let keep = Keep::Old;
     WorldEvent::Stop { site, input, keep }
 }
@@ -57,7 +58,7 @@ fn event_at(alloc: Global, place: u64) -> Option<WorldEvent> {
             site: a,
             input: capture(alloc)?,
         }),
-        1 | 10 => Some(stop(a)),
+        1 | 10 => Some(stop(alloc, a)),
         2 | 11 => Some(WorldEvent::Reopen { site: a }),
         3 => Some(WorldEvent::Step {
             site: a,
@@ -65,7 +66,7 @@ fn event_at(alloc: Global, place: u64) -> Option<WorldEvent> {
         }),
         4 => Some(WorldEvent::Send { site: a, place: 1 }),
         5 | 8 => Some(deliver(b, 1)),
-        6 => Some(stop(b)),
+        6 => Some(stop(alloc, b)),
         7 => Some(WorldEvent::Reopen { site: b }),
         9 => Some(WorldEvent::Send { site: b, place: 1 }),
         _ => Some(deliver(a, 2)),
