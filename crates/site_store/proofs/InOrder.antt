@@ -65,6 +65,7 @@ stored_as_read image s opens live found settles has rows listed =
     let read = subst (λ (d : Database). reads.AreListed rows d.trees) opens.clean listed in
     let shaped = found_in_order image s.committed.trees site_schema found lists in
     let holds : stored.Holds rows s.committed.trees = record {
+      lists = lists;
       store = holds_listed store _ (s.committed.trees 0) (shaped store (inl refl) (omega arith)) read.store;
       site = holds_listed site rows.site (s.committed.trees 1) (shaped site (inr (inl refl)) (omega arith)) read.site;
       address = holds_listed address rows.address (s.committed.trees 3) (shaped address (inr (inr (inl refl))) (omega arith)) read.address;

@@ -1,9 +1,12 @@
+pub mod CallsLeave
+pub mod Crashes
 pub mod Findings
 pub mod Found
 pub mod InOrder
 pub mod KeptFailures
 pub mod KeptSteps
 pub mod KeptStops
+pub mod LeftRows
 pub mod Named
 pub mod OpeningReads
 pub mod OwnSteps

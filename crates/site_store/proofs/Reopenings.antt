@@ -80,7 +80,7 @@ module _ {D : Type 0} {g : disk.Ghosts D} where
         let it = (subst (λ (f : Files D). LinkLeaves {g = g} may (Unconnected f)) (sym behind) leaves) honest in
         ∥∥₁_map (it (image_of g files) (stays files.log, stays files.db)) (λ x. (x.0, x.1, ∣ x.2 ∣₁))
 
-    still_leaves : (old new : Link D g) → IsReopened old new → StillLeaves may old new
+    pub still_leaves : (old new : Link D g) → IsReopened old new → StillLeaves may old new
     still_leaves old (Connected conn) it = λ leaves clean db left.
         let again = it.again clean in
         ∥∥₁_elim (held old it.files it.behind leaves again.0) squash₁ (λ x. subst (λ (t : Trees). ∥ HoldsOneOf may t ∥₁) (sym (again.1 x.0 x.1 db left)) x.2)

@@ -1,5 +1,5 @@
 -- As which site a database is opened, and why it isn't.
-use Rattle.std.specs.Prelude.{◌≡◌, ◌≢◌, ◌⊎◌, ◌∷◌, [], ⊤, ℕ, ℤ, pos, List, Option, Some, None, IsSome, option_map, string_bytes, if◌then◌else◌}
+use Rattle.std.specs.Prelude.{◌≡◌, ◌≢◌, ◌⊎◌, ◌∷◌, [], ⊤, ℕ, ℤ, pos, List, Option, Some, None, IsSome, Result, Ok, Err, option_map, string_bytes, if◌then◌else◌}
 use Rattle.std.specs.List.{find}
 use Rattle.std.specs.Ordering.{int_eq}
 use Rattle.sqlite_disk.specs.declared.Disk as disk
@@ -25,6 +25,7 @@ use Rattle.site_tables.specs.declared.faults.ReadFault.{ReadFault}
 use Rattle.site_tables.specs.declared.faults.ReadFault.TheVariants as reads
 use Rattle.site_store.specs.Faults.{is_of_device, is_of_memory}
 use Rattle.site_store.specs.declared.opening.OpenFault.{OpenFault}
+use Rattle.site_store.specs.declared.opening.Unfound.{Unfound}
 use Rattle.site_store.specs.declared.opening.OpenFault.TheVariants.{NoMemory, NotAStore, Version, OtherSite, BadRow, Device, Store}
 use Rattle.site_store.specs.declared.sites.Link.{Link}
 use Rattle.site_store.specs.declared.sites.Link.TheVariants.{Connected, Unconnected}
@@ -32,6 +33,7 @@ use Rattle.site_store.specs.declared.sites.StoredSite.{StoredSite}
 use Rattle.site_store.specs.Leavings.{KeepsOwn}
 use Rattle.site_store.specs.Openings.{ListsRecord, ListsRows, TextsAreUtf8}
 use Rattle.site_store.specs.Sites.{shown_by, failed_by, statements_by, link_of, IsKeptBy}
+use Rattle.site_store.specs.StepWritten.{HoldsRecord}
 
 -- the name in the row of `site` with this number
 abbrev pub name_at : List SiteRow → ℤ → Option (List ℕ)
@@ -132,3 +134,15 @@ module _ {D : Type 0} {g : disk.Ghosts D} where
     pub crash : Survives (file_state conn) (file_state left) (λ _. ⊥)
     pub cause : HasCleanDisk (file_state left) → IsOpenFault (file_state conn) (file_state left) name fault
     pub finds : HasCleanDisk (file_state left) → (r : Record) → ListsSite r name (file_state conn) → IsOfMachine (file_state conn) fault
+
+  -- the connection was just made to files in which a crash left the rows of a record of this name, which a site may keep
+  pub record IsLeftOf (conn : Held (FileStore D g)) (name : List ℕ) (r : Record) : Type 0 where
+    pub opens : Opens (file_state conn)
+    pub holds : HoldsRecord r (file_state conn).committed.trees
+    pub site : MayBeFound r
+    pub named : own_name r ≡ name
+
+  -- it is opened in just that record, or the machine prevents it
+  abbrev pub FindsLeft : Held (FileStore D g) → List ℕ → Result (StoredSite D g) (Unfound D g) → Type 0
+  FindsLeft conn name (Ok site) = IsCleanAt (link_of site) → (r : Record) → IsLeftOf conn name r → shown_by site ≡ Some r
+  FindsLeft conn name (Err left) = HasCleanDisk (file_state left.conn) → (r : Record) → IsLeftOf conn name r → IsOfMachine (file_state conn) left.fault

@@ -6,8 +6,8 @@ ghost use Rattle.site_core.specs.Records.{Record};
 ghost use Rattle.keeper_core.specs.Keeping.{HindersOpening};
 ghost use Rattle.site_rows.specs.RecordRows.{rows_of};
 ghost use Rattle.site_store.specs.Kept.{MayIn, failures_after};
-ghost use Rattle.site_store.specs.Openings.{ListsRecord, ListsRows, TextsAreUtf8, opening_fault};
-ghost use Rattle.site_tables.specs.Stored.{contents_of};
+ghost use Rattle.site_store.specs.Opened.{MayBeFound};
+ghost use Rattle.site_store.specs.Openings.{ListsRecord, ListsRows, opening_fault};
 
 use crate::faults::{is_of_device, is_of_memory, one_more};
 use crate::kept::Kept;
@@ -111,9 +111,9 @@ impl Kept {
         }
     }
 
-    /// The texts of each record in which a closed one may be opened are UTF-8. It is for proofs.
-    fn show_texts(&self)
-        ensures { (r : Record) → MayIn self.now r → TextsAreUtf8 (contents_of (rows_of r)) }
+    /// Each record in which a closed one may be opened is found where tables list its rows. It is for proofs.
+    pub fn show_records(&self)
+        ensures { (r : Record) → MayIn self.now r → MayBeFound r }
     {
         records_of_sites_may_be_found(self.pair.state());
         if let Some(next) = &self.next {
@@ -134,7 +134,7 @@ impl Kept {
         ensures unchanged { IfErr result (λ fault. self.new ≡ record self.old { failures = failures_after fault self.old.failures }) }
         ensures crash { Survives (state S.Store conn.old) (state S.Store conn.new) (λ _. ⊥) }
     {
-        self.show_texts();
+        self.show_records();
         match read_rows(self.alloc, conn) {
             Ok(rows) => self.recognise(&rows),
             Err(ReadFault::NoMemory) => Err(KeepFault::NoMemory),

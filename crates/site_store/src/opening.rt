@@ -6,7 +6,7 @@ ghost use Rattle.site_core.specs.Records.{Record};
 ghost use Rattle.site_rows.specs.Laws.{IsKept, HoldsItems};
 ghost use Rattle.site_rows.specs.RecordRows.{rows_of};
 ghost use Rattle.site_store.specs.Openings.{ListsRecord};
-ghost use Rattle.site_store.specs.Opened.{name_at, own_name, IsStoreOf, IsRefused, unread, IsOpenFault, ListsSite, IsOfMachine, IsOpenedAs, IsNotOpened};
+ghost use Rattle.site_store.specs.Opened.{name_at, own_name, IsStoreOf, IsRefused, unread, IsOpenFault, ListsSite, IsOfMachine, IsOpenedAs, IsNotOpened, FindsLeft};
 
 use crate::faults::{is_of_device, is_of_memory};
 use crate::sites::StoredSite;
@@ -165,6 +165,7 @@ pub fn open_site<D: Disk + Drop>(
 ) -> Result<StoredSite<D>, Unfound<D>>
     ensures opened { IfOk result (IsOpenedAs conn name.now) }
     ensures refused { IfErr result (λ left. IsNotOpened conn name.now left.conn left.fault) }
+    ensures left { FindsLeft conn name.now result }
 {
     let mut conn = conn;
     // What is known of the connection before anything is read.

@@ -7,6 +7,7 @@ ghost use Rattle.site_core.specs.Steps.{CopiesRecord};
 ghost use Rattle.keeper_core.specs.Keeping.{Applies, Stops, StaysClosed, HindersOpening, Rises};
 ghost use Rattle.site_store.specs.Sites.{shown_by, MayBy, failed_by, statements_by, link_of, IsKeptOver, IsKeptBy, StoresListed, OpensIn, StaysShut, NoneListed, AppliesBy, StopsBy, ReopensBy};
 ghost use Rattle.site_store.specs.Leavings.{StillLeaves, KeepsOwn};
+ghost use Rattle.site_store.specs.Opened.{MayBeFound};
 ghost use Rattle.site_store.specs.Reopened.{IsReopened, IsOnlyRead};
 ghost use Rattle.site_store.specs.Openings.{FailsToBegin};
 ghost use Rattle.site_store.specs.StepWritten.{IsInUse, BeginsAs};
@@ -124,6 +125,13 @@ impl<D: Disk + Drop> StoredSite<D> {
         ensures { result ≡ statements_by self.now }
     {
         self.kept.statements
+    }
+
+    /// Each record in which it may be opened while it is closed is found where tables list its rows. It is for proofs.
+    pub(crate) fn show_records(&self)
+        ensures { (r : Record) → MayBy self.now r → MayBeFound r }
+    {
+        self.kept.show_records();
     }
 
     /// A step.

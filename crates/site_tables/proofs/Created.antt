@@ -7,6 +7,8 @@ use Rattle.sqlite.specs.Command.TheVariants.{CreateTable}
 use Rattle.sqlite.specs.Compile.{table_defined_by}
 use Rattle.sqlite.specs.Change.{created, next_tree}
 use Rattle.sqlite_catalog.specs.Change.{KeepsRows}
+use Rattle.sqlite_catalog.specs.Listing.{Lists}
+use Rattle.sqlite_trees.specs.Objects.{catalog_tree}
 use Rattle.sqlite.specs.declared.error.Error.{Error}
 use Rattle.sqlite.specs.Effect.{Database}
 use Rattle.sqlite.specs.Does.{Tally, lacks_sequence}
@@ -45,6 +47,12 @@ made text schema table is old new count has h =
       subst (λ (d : Database). KeepsRows schema.tables old.now.trees d.trees) (sym now) (subst (λ (s : Schema). KeepsRows s.tables old.now.trees first.0.trees) has it.others),
     )
 
+-- the database lists the schema that there is then
+listed : (text : List ℕ) (schema : Schema) (table : Table) → IsMade text schema table → (old new : State) (count : ℕ) → old.now.schema ≡ schema → Executes text [] old new (Ok count) → Lists (new.now.trees catalog_tree) (created schema table)
+listed text schema table is old new count has h =
+    let w = subst (λ t. Writes old new None CreateTable t [] count) is.whole (runs_as text [] old new schema has CreateTable is.command is.plain count h) in
+    subst (λ s. Lists (new.now.trees catalog_tree) s) (made text schema table is old new count has h).0 w.sound.lists
+
 makes : (text : List ℕ) (schema : Schema) (table : Table) → IsMade text schema table → (old new : State) (r : Result ℕ Error) (late : Error) → (old.in_transaction ≡ false → r ≡ Err late)
     → (IsTrue old.in_transaction → ExecutesInside 0 text [] old new r) → OnOk r (Makes table schema old new)
 makes text schema table is old new (Err e) late ended runs = tt {0}
@@ -52,6 +60,7 @@ makes text schema table is old new (Ok count) late ended runs = elim (cases_Bool
   | inl inside ↦ let ran = runs inside in record {
     goes_on = record { is_open = ran.1.is_open ∙ sym ran.1.was_open; committed = ran.1.committed_is; mode = ran.1.mode ∙ sym inside };
     schema_is = λ has. (made text schema table is old new count has ran.0).0;
+    lists = λ has. listed text schema table is old new count has ran.0;
     empty = λ has. (made text schema table is old new count has ran.0).1;
     others = λ has. (made text schema table is old new count has ran.0).2;
   }

@@ -98,6 +98,7 @@ renumbered_is (Some n) rows = refl
 -- where the changes lead from some rows to others, tables that hold the former hold the latter once they are made
 pub holds_after : (changes : RowChanges) (before after : Rows) (trees : Trees) → step.LeadsTo changes before after → Holds (changed changes (contents_of before)) trees → Holds (contents_of after) trees
 holds_after changes before after trees leads h = record {
+  lists = h.lists;
   store = has_same _ _ _ _ (ap (map store_values) (renumbered_is changes.numbers before.store ∙ sym leads.store)) h.store;
   site = has_same _ _ _ _ (ap (map _) (sym leads.site)) h.site;
   address = has_same _ _ _ _ (ap (map _) (sym leads.address)) h.address;

@@ -8,6 +8,8 @@ use Rattle.sqlite.specs.State.{State, HasCleanDisk}
 use Rattle.sqlite.specs.declared.error.Error.{Error}
 use Rattle.sqlite.proofs.StateLemmas.{survives_then}
 use Rattle.sqlite_catalog.specs.Change.{created, next_tree, KeepsRows}
+use Rattle.sqlite_catalog.specs.Listing.{Lists}
+use Rattle.sqlite_trees.specs.Objects.{catalog_tree}
 use Rattle.sqlite.specs.Order.{Row}
 use Rattle.site_tables.specs.Made.{with_recall, AreEmpty, DoesMake, MakesTables}
 use Rattle.site_tables.specs.Stored.{Contents, DoesAll, Holds, no_rows}
@@ -26,6 +28,7 @@ made_one {table = table} {schema = schema} {old = old} {new = new} {r = r} it = 
   done = λ clean. on_ok r (λ made. record {
     goes_on = made.goes_on;
     schema = made.schema_is;
+    lists = made.lists;
     empty = λ has none. still_empty schema.tables (record table { tree = next_tree schema }) old.now.trees new.now.trees none (made.others has) (made.empty has);
   }) (it.done clean);
   undone = it.undone;
@@ -42,6 +45,7 @@ made_then {a = a} {b = b} {c = c} {first = Ok y} {second = second} ok p q =
       done = λ clean. on_ok second (λ d. record {
         goes_on = goes_then a b c (early clean).goes_on d.goes_on;
         schema = λ has. d.schema ((early clean).schema has);
+        lists = λ has. d.lists ((early clean).schema has);
         empty = λ has none. d.empty ((early clean).schema has) ((early clean).empty has none);
       }) (q.done clean);
       undone = λ clean. on_err second (λ kept. keeps_then a b c (early clean).goes_on kept) (q.undone clean);
@@ -53,8 +57,9 @@ made_then {a = a} {b = b} {c = c} {first = Ok y} {second = second} ok p q =
 no_rows_in : (table : Table) (tree : List Row) → tree ≡ [] → HasRows table [] tree
 no_rows_in table tree none = rw none (record { keyed = refl; rising = tt; same = IsPermutation-refl [] })
 
-pub none_held : (trees : Trees) → AreEmpty with_recall.tables trees → Holds no_rows trees
-none_held trees none = record {
+pub none_held : (trees : Trees) → Lists (trees catalog_tree) with_recall → AreEmpty with_recall.tables trees → Holds no_rows trees
+none_held trees lists none = record {
+  lists = lists;
   store = no_rows_in store (trees 0) none.0;
   site = no_rows_in site (trees 1) none.1.0;
   address = no_rows_in address (trees 3) none.1.1.0;
@@ -69,4 +74,4 @@ none_held trees none = record {
 
 -- tables that were made, and then filled, hold the rows
 pub filled_hold : (fills : Contents → Contents) (begun made mid : State) → DoesMake no_schema with_recall begun made → DoesAll fills made mid → begun.now.schema ≡ no_schema → (mid.now.schema ≡ site_schema) × Holds (fills no_rows) mid.now.trees
-filled_hold fills begun made mid one two empty = (two.schema (one.schema empty), two.holds (one.schema empty) no_rows (none_held made.now.trees (one.empty empty tt)))
+filled_hold fills begun made mid one two empty = (two.schema (one.schema empty), two.holds (one.schema empty) no_rows (none_held made.now.trees (one.lists empty) (one.empty empty tt)))

@@ -25,10 +25,10 @@ use Rattle.site_rows.specs.declared.tables.Table.TheVariants.{Store, Site, Addre
 use Rattle.site_tables.specs.AllReads.{AreListed}
 use Rattle.site_tables.specs.Reads.{key_order, AreTexts, IsStrict, IsListed, HasBadRow}
 use Rattle.site_tables.specs.Stored.{contents_of}
-use Rattle.site_tables.specs.TableRows.{visible, key_of}
+use Rattle.site_tables.specs.TableRows.{HasRows, visible, key_of}
 use Rattle.site_tables.specs.Unreadable.{IsBadAt}
 use Rattle.site_tables.specs.Values.{store_values, site_values, address_values, event_values, part_values, quarantine_values, outbox_values, seen_values, parent_values, recall_values}
-use Rattle.site_tables.proofs.Order.{sorted_is}
+use Rattle.site_tables.proofs.Order.{sorted_is, strict_sorted}
 use Rattle.site_tables.proofs.Readable.{AreInOrder, MayBeRead}
 
 -- a table's rows by strict keys are the only ones that are listed
@@ -36,6 +36,10 @@ only_list : (table : Table) (tree xs ys : List Row) → IsStrict table xs → Is
 only_list table tree xs ys strict listed also =
     let shown = map (visible table) tree in
     sorted_is (key_order table) (on_total (key_of table) (key_cmp_total _ 0)) xs ys strict (IsPermutation-trans xs shown ys (IsPermutation-sym shown xs listed.same) also.same) also.sorted
+
+-- rows in strict order that a table holds are listed
+pub is_listed : (table : Table) (rows tree : List Row) → IsStrict table rows → HasRows table rows tree → IsListed table tree rows
+is_listed table rows tree strict has = record { same = has.same; sorted = strict_sorted (key_order table) (on_total (key_of table) (key_cmp_total _ 0)) rows strict }
 
 both_same : {X : Type 0} (a b : X) (as' bs : List X) → a ∷ as' ≡ b ∷ bs → (a ≡ b) × (as' ≡ bs)
 both_same a b as' bs e = (cc, cc)

@@ -7,6 +7,8 @@ use Rattle.sqlite.specs.State.{State, HasCleanDisk}
 use Rattle.sqlite.specs.Table.{Table}
 use Rattle.sqlite.specs.Tree.{Trees}
 use Rattle.sqlite.proofs.StateLemmas.{survives_then}
+use Rattle.sqlite_catalog.specs.Listing.{Lists}
+use Rattle.sqlite_trees.specs.Objects.{catalog_tree}
 use Rattle.site_rows.specs.declared.rows.StoreRow.{StoreRow}
 use Rattle.site_tables.specs.Stored.{Contents, Holds, WritesAll}
 use Rattle.site_tables.specs.Tables.{store, site, address, event, part, quarantine, outbox, seen, parent, recall, site_schema}
@@ -29,48 +31,51 @@ in_all table f change {a} {b} {r} holds p = record {
   crash = p.crash;
 }
 
+listed_still : (old new : Trees) → new catalog_tree ≡ old catalog_tree → Lists (old catalog_tree) site_schema → Lists (new catalog_tree) site_schema
+listed_still old new same lists = subst (λ rows. Lists rows site_schema) (sym same) lists
+
 -- the others are as before
 pub site_in_all : {X : Type 0} {f : List Row → List Row} {a b : State} {r : Result X Error} → Writes site f a b r → WritesAll (λ c. record c { site = f c.site }) a b r
 site_in_all {f = f} = in_all site f (λ c. record c { site = f c.site })
-    (λ old new rows put same h. record { store = rw (same 0 refl refl) h.store; site = put rows.site h.site; address = rw (same 3 refl refl) h.address; event = rw (same 5 refl refl) h.event; part = rw (same 6 refl refl) h.part; quarantine = rw (same 8 refl refl) h.quarantine; outbox = rw (same 10 refl refl) h.outbox; seen = rw (same 11 refl refl) h.seen; parent = rw (same 13 refl refl) h.parent; recall = rw (same 15 refl refl) h.recall })
+    (λ old new rows put same h. record { lists = listed_still old new (same catalog_tree refl refl) h.lists; store = rw (same 0 refl refl) h.store; site = put rows.site h.site; address = rw (same 3 refl refl) h.address; event = rw (same 5 refl refl) h.event; part = rw (same 6 refl refl) h.part; quarantine = rw (same 8 refl refl) h.quarantine; outbox = rw (same 10 refl refl) h.outbox; seen = rw (same 11 refl refl) h.seen; parent = rw (same 13 refl refl) h.parent; recall = rw (same 15 refl refl) h.recall })
 
 pub address_in_all : {X : Type 0} {f : List Row → List Row} {a b : State} {r : Result X Error} → Writes address f a b r → WritesAll (λ c. record c { address = f c.address }) a b r
 address_in_all {f = f} = in_all address f (λ c. record c { address = f c.address })
-    (λ old new rows put same h. record { store = rw (same 0 refl refl) h.store; site = rw (same 1 refl refl) h.site; address = put rows.address h.address; event = rw (same 5 refl refl) h.event; part = rw (same 6 refl refl) h.part; quarantine = rw (same 8 refl refl) h.quarantine; outbox = rw (same 10 refl refl) h.outbox; seen = rw (same 11 refl refl) h.seen; parent = rw (same 13 refl refl) h.parent; recall = rw (same 15 refl refl) h.recall })
+    (λ old new rows put same h. record { lists = listed_still old new (same catalog_tree refl refl) h.lists; store = rw (same 0 refl refl) h.store; site = rw (same 1 refl refl) h.site; address = put rows.address h.address; event = rw (same 5 refl refl) h.event; part = rw (same 6 refl refl) h.part; quarantine = rw (same 8 refl refl) h.quarantine; outbox = rw (same 10 refl refl) h.outbox; seen = rw (same 11 refl refl) h.seen; parent = rw (same 13 refl refl) h.parent; recall = rw (same 15 refl refl) h.recall })
 
 pub event_in_all : {X : Type 0} {f : List Row → List Row} {a b : State} {r : Result X Error} → Writes event f a b r → WritesAll (λ c. record c { event = f c.event }) a b r
 event_in_all {f = f} = in_all event f (λ c. record c { event = f c.event })
-    (λ old new rows put same h. record { store = rw (same 0 refl refl) h.store; site = rw (same 1 refl refl) h.site; address = rw (same 3 refl refl) h.address; event = put rows.event h.event; part = rw (same 6 refl refl) h.part; quarantine = rw (same 8 refl refl) h.quarantine; outbox = rw (same 10 refl refl) h.outbox; seen = rw (same 11 refl refl) h.seen; parent = rw (same 13 refl refl) h.parent; recall = rw (same 15 refl refl) h.recall })
+    (λ old new rows put same h. record { lists = listed_still old new (same catalog_tree refl refl) h.lists; store = rw (same 0 refl refl) h.store; site = rw (same 1 refl refl) h.site; address = rw (same 3 refl refl) h.address; event = put rows.event h.event; part = rw (same 6 refl refl) h.part; quarantine = rw (same 8 refl refl) h.quarantine; outbox = rw (same 10 refl refl) h.outbox; seen = rw (same 11 refl refl) h.seen; parent = rw (same 13 refl refl) h.parent; recall = rw (same 15 refl refl) h.recall })
 
 pub part_in_all : {X : Type 0} {f : List Row → List Row} {a b : State} {r : Result X Error} → Writes part f a b r → WritesAll (λ c. record c { part = f c.part }) a b r
 part_in_all {f = f} = in_all part f (λ c. record c { part = f c.part })
-    (λ old new rows put same h. record { store = rw (same 0 refl refl) h.store; site = rw (same 1 refl refl) h.site; address = rw (same 3 refl refl) h.address; event = rw (same 5 refl refl) h.event; part = put rows.part h.part; quarantine = rw (same 8 refl refl) h.quarantine; outbox = rw (same 10 refl refl) h.outbox; seen = rw (same 11 refl refl) h.seen; parent = rw (same 13 refl refl) h.parent; recall = rw (same 15 refl refl) h.recall })
+    (λ old new rows put same h. record { lists = listed_still old new (same catalog_tree refl refl) h.lists; store = rw (same 0 refl refl) h.store; site = rw (same 1 refl refl) h.site; address = rw (same 3 refl refl) h.address; event = rw (same 5 refl refl) h.event; part = put rows.part h.part; quarantine = rw (same 8 refl refl) h.quarantine; outbox = rw (same 10 refl refl) h.outbox; seen = rw (same 11 refl refl) h.seen; parent = rw (same 13 refl refl) h.parent; recall = rw (same 15 refl refl) h.recall })
 
 pub quarantine_in_all : {X : Type 0} {f : List Row → List Row} {a b : State} {r : Result X Error} → Writes quarantine f a b r → WritesAll (λ c. record c { quarantine = f c.quarantine }) a b r
 quarantine_in_all {f = f} = in_all quarantine f (λ c. record c { quarantine = f c.quarantine })
-    (λ old new rows put same h. record { store = rw (same 0 refl refl) h.store; site = rw (same 1 refl refl) h.site; address = rw (same 3 refl refl) h.address; event = rw (same 5 refl refl) h.event; part = rw (same 6 refl refl) h.part; quarantine = put rows.quarantine h.quarantine; outbox = rw (same 10 refl refl) h.outbox; seen = rw (same 11 refl refl) h.seen; parent = rw (same 13 refl refl) h.parent; recall = rw (same 15 refl refl) h.recall })
+    (λ old new rows put same h. record { lists = listed_still old new (same catalog_tree refl refl) h.lists; store = rw (same 0 refl refl) h.store; site = rw (same 1 refl refl) h.site; address = rw (same 3 refl refl) h.address; event = rw (same 5 refl refl) h.event; part = rw (same 6 refl refl) h.part; quarantine = put rows.quarantine h.quarantine; outbox = rw (same 10 refl refl) h.outbox; seen = rw (same 11 refl refl) h.seen; parent = rw (same 13 refl refl) h.parent; recall = rw (same 15 refl refl) h.recall })
 
 pub outbox_in_all : {X : Type 0} {f : List Row → List Row} {a b : State} {r : Result X Error} → Writes outbox f a b r → WritesAll (λ c. record c { outbox = f c.outbox }) a b r
 outbox_in_all {f = f} = in_all outbox f (λ c. record c { outbox = f c.outbox })
-    (λ old new rows put same h. record { store = rw (same 0 refl refl) h.store; site = rw (same 1 refl refl) h.site; address = rw (same 3 refl refl) h.address; event = rw (same 5 refl refl) h.event; part = rw (same 6 refl refl) h.part; quarantine = rw (same 8 refl refl) h.quarantine; outbox = put rows.outbox h.outbox; seen = rw (same 11 refl refl) h.seen; parent = rw (same 13 refl refl) h.parent; recall = rw (same 15 refl refl) h.recall })
+    (λ old new rows put same h. record { lists = listed_still old new (same catalog_tree refl refl) h.lists; store = rw (same 0 refl refl) h.store; site = rw (same 1 refl refl) h.site; address = rw (same 3 refl refl) h.address; event = rw (same 5 refl refl) h.event; part = rw (same 6 refl refl) h.part; quarantine = rw (same 8 refl refl) h.quarantine; outbox = put rows.outbox h.outbox; seen = rw (same 11 refl refl) h.seen; parent = rw (same 13 refl refl) h.parent; recall = rw (same 15 refl refl) h.recall })
 
 pub seen_in_all : {X : Type 0} {f : List Row → List Row} {a b : State} {r : Result X Error} → Writes seen f a b r → WritesAll (λ c. record c { seen = f c.seen }) a b r
 seen_in_all {f = f} = in_all seen f (λ c. record c { seen = f c.seen })
-    (λ old new rows put same h. record { store = rw (same 0 refl refl) h.store; site = rw (same 1 refl refl) h.site; address = rw (same 3 refl refl) h.address; event = rw (same 5 refl refl) h.event; part = rw (same 6 refl refl) h.part; quarantine = rw (same 8 refl refl) h.quarantine; outbox = rw (same 10 refl refl) h.outbox; seen = put rows.seen h.seen; parent = rw (same 13 refl refl) h.parent; recall = rw (same 15 refl refl) h.recall })
+    (λ old new rows put same h. record { lists = listed_still old new (same catalog_tree refl refl) h.lists; store = rw (same 0 refl refl) h.store; site = rw (same 1 refl refl) h.site; address = rw (same 3 refl refl) h.address; event = rw (same 5 refl refl) h.event; part = rw (same 6 refl refl) h.part; quarantine = rw (same 8 refl refl) h.quarantine; outbox = rw (same 10 refl refl) h.outbox; seen = put rows.seen h.seen; parent = rw (same 13 refl refl) h.parent; recall = rw (same 15 refl refl) h.recall })
 
 pub parent_in_all : {X : Type 0} {f : List Row → List Row} {a b : State} {r : Result X Error} → Writes parent f a b r → WritesAll (λ c. record c { parent = f c.parent }) a b r
 parent_in_all {f = f} = in_all parent f (λ c. record c { parent = f c.parent })
-    (λ old new rows put same h. record { store = rw (same 0 refl refl) h.store; site = rw (same 1 refl refl) h.site; address = rw (same 3 refl refl) h.address; event = rw (same 5 refl refl) h.event; part = rw (same 6 refl refl) h.part; quarantine = rw (same 8 refl refl) h.quarantine; outbox = rw (same 10 refl refl) h.outbox; seen = rw (same 11 refl refl) h.seen; parent = put rows.parent h.parent; recall = rw (same 15 refl refl) h.recall })
+    (λ old new rows put same h. record { lists = listed_still old new (same catalog_tree refl refl) h.lists; store = rw (same 0 refl refl) h.store; site = rw (same 1 refl refl) h.site; address = rw (same 3 refl refl) h.address; event = rw (same 5 refl refl) h.event; part = rw (same 6 refl refl) h.part; quarantine = rw (same 8 refl refl) h.quarantine; outbox = rw (same 10 refl refl) h.outbox; seen = rw (same 11 refl refl) h.seen; parent = put rows.parent h.parent; recall = rw (same 15 refl refl) h.recall })
 
 pub recall_in_all : {X : Type 0} {f : List Row → List Row} {a b : State} {r : Result X Error} → Writes recall f a b r → WritesAll (λ c. record c { recall = f c.recall }) a b r
 recall_in_all {f = f} = in_all recall f (λ c. record c { recall = f c.recall })
-    (λ old new rows put same h. record { store = rw (same 0 refl refl) h.store; site = rw (same 1 refl refl) h.site; address = rw (same 3 refl refl) h.address; event = rw (same 5 refl refl) h.event; part = rw (same 6 refl refl) h.part; quarantine = rw (same 8 refl refl) h.quarantine; outbox = rw (same 10 refl refl) h.outbox; seen = rw (same 11 refl refl) h.seen; parent = rw (same 13 refl refl) h.parent; recall = put rows.recall h.recall })
+    (λ old new rows put same h. record { lists = listed_still old new (same catalog_tree refl refl) h.lists; store = rw (same 0 refl refl) h.store; site = rw (same 1 refl refl) h.site; address = rw (same 3 refl refl) h.address; event = rw (same 5 refl refl) h.event; part = rw (same 6 refl refl) h.part; quarantine = rw (same 8 refl refl) h.quarantine; outbox = rw (same 10 refl refl) h.outbox; seen = rw (same 11 refl refl) h.seen; parent = rw (same 13 refl refl) h.parent; recall = put rows.recall h.recall })
 
 -- the rows of the store stand for values, which the change is said of
 pub store_in_all : {X : Type 0} {f : List Row → List Row} (of : List StoreRow → List StoreRow) → ((rows : List StoreRow) → f (map store_values rows) ≡ map store_values (of rows)) → {a b : State} {r : Result X Error}
     → Writes store f a b r → WritesAll (λ c. record c { store = of c.store }) a b r
 store_in_all {f = f} of is = in_all store f (λ c. record c { store = of c.store })
-    (λ old new rows put same h. record { store = subst (λ x. HasRows store x (new 0)) (is rows.store) (put (map store_values rows.store) h.store); site = rw (same 1 refl refl) h.site; address = rw (same 3 refl refl) h.address; event = rw (same 5 refl refl) h.event; part = rw (same 6 refl refl) h.part; quarantine = rw (same 8 refl refl) h.quarantine; outbox = rw (same 10 refl refl) h.outbox; seen = rw (same 11 refl refl) h.seen; parent = rw (same 13 refl refl) h.parent; recall = rw (same 15 refl refl) h.recall })
+    (λ old new rows put same h. record { lists = listed_still old new (same catalog_tree refl refl) h.lists; store = subst (λ x. HasRows store x (new 0)) (is rows.store) (put (map store_values rows.store) h.store); site = rw (same 1 refl refl) h.site; address = rw (same 3 refl refl) h.address; event = rw (same 5 refl refl) h.event; part = rw (same 6 refl refl) h.part; quarantine = rw (same 8 refl refl) h.quarantine; outbox = rw (same 10 refl refl) h.outbox; seen = rw (same 11 refl refl) h.seen; parent = rw (same 13 refl refl) h.parent; recall = rw (same 15 refl refl) h.recall })
 
 -- rows added to those of the store
 rows_added : (more rows : List StoreRow) → map store_values rows ++ map store_values more ≡ map store_values (rows ++ more)

@@ -6,6 +6,8 @@ use Rattle.sqlite.specs.Tree.{Trees}
 use Rattle.sqlite.specs.Schema.{Schema}
 use Rattle.sqlite.specs.declared.error.Error.{Error}
 use Rattle.sqlite_catalog.specs.Change.{created}
+use Rattle.sqlite_catalog.specs.Listing.{Lists}
+use Rattle.sqlite_trees.specs.Objects.{catalog_tree}
 use Rattle.site_tables.specs.Causes.{HasReason}
 use Rattle.site_tables.specs.Tables.{store, site, address, event, part, quarantine, outbox, seen, parent, recall, no_schema}
 use Rattle.site_tables.specs.TableRows.{GoesOn}
@@ -49,6 +51,7 @@ AreEmpty (t ∷ tables) trees = (trees t.tree ≡ []) × AreEmpty tables trees
 pub record DoesMake (from to : Schema) (old new : State) : Type 0 where
   pub goes_on : GoesOn old new
   pub schema : old.now.schema ≡ from → new.now.schema ≡ to
+  pub lists : old.now.schema ≡ from → Lists (new.now.trees catalog_tree) to
   pub empty : old.now.schema ≡ from → AreEmpty from.tables old.now.trees → AreEmpty to.tables new.now.trees
 
 pub record MakesTables {X : Type 0} (from to : Schema) (old new : State) (result : Result X Error) : Type 0 where

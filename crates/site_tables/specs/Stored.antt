@@ -3,6 +3,8 @@ use Rattle.std.specs.Prelude.{◌≡◌, ◌⊎◌, false, List, [], map, IsTrue
 use Rattle.sqlite.specs.Order.{Row}
 use Rattle.sqlite.specs.Tree.{Trees}
 use Rattle.sqlite.specs.State.{State, HasCleanDisk, KeepsCommit, Survives}
+use Rattle.sqlite_catalog.specs.Listing.{Lists}
+use Rattle.sqlite_trees.specs.Objects.{catalog_tree}
 use Rattle.sqlite.specs.declared.error.Error.{Error}
 use Rattle.site_tables.specs.Causes.{HasReason}
 use Rattle.site_rows.specs.declared.rows.Rows.{Rows}
@@ -38,8 +40,10 @@ contents_of rows = record {
   recall = map recall_values rows.recall;
 }
 
--- the tables hold these rows and no others, in any order
+-- the tables hold these rows and no others, in any order; and the database lists these tables with their indexes, and
+-- nothing else
 pub record Holds (rows : Contents) (trees : Trees) : Type 0 where
+  pub lists : Lists (trees catalog_tree) site_schema
   pub store : HasRows store (map store_values rows.store) (trees store.tree)
   pub site : HasRows site rows.site (trees site.tree)
   pub address : HasRows address rows.address (trees address.tree)

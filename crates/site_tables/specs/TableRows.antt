@@ -11,6 +11,8 @@ use Rattle.sqlite.specs.Effect.{Database}
 use Rattle.sqlite.specs.State.{State, HasCleanDisk, KeepsCommit, Survives}
 use Rattle.sqlite.specs.declared.error.Error.{Error}
 use Rattle.sqlite_catalog.specs.Change.{created, next_tree, KeepsRows}
+use Rattle.sqlite_catalog.specs.Listing.{Lists}
+use Rattle.sqlite_trees.specs.Objects.{catalog_tree}
 use Rattle.site_tables.specs.Causes.{HasReason}
 use Rattle.site_tables.specs.Tables.{site_schema}
 use Rattle.sqlite_value.specs.Order.{column}
@@ -90,6 +92,7 @@ without_key table given rows = filter (λ row. not (has_key table given row)) ro
 pub record Makes (table : Table) (schema : Schema) (old new : State) : Type 0 where
   pub goes_on : GoesOn old new
   pub schema_is : old.now.schema ≡ schema → new.now.schema ≡ created schema table
+  pub lists : old.now.schema ≡ schema → Lists (new.now.trees catalog_tree) (created schema table)
   pub empty : old.now.schema ≡ schema → new.now.trees (next_tree schema) ≡ []
   pub others : old.now.schema ≡ schema → KeepsRows schema.tables old.now.trees new.now.trees
 

@@ -7,7 +7,7 @@ returns-in-Ok-clause-finds g c clean is r may it =
     let old = state g.S.Store c.args.conn.now in
     let new = state g.S.Store c.read_rows.new.conn in
     let before = listed_before r old new (c.in-Ok.ensures.same clean) it in
-    absurd (c.recognise.ensures.other is r may (rows_found r c.in-Ok.rows old (c.show_texts.ensures r may) before (c.in-Ok.ensures.rows clean)))
+    absurd (c.recognise.ensures.other is r may (rows_found r c.in-Ok.rows old (c.show_records.ensures r may).texts before (c.in-Ok.ensures.rows clean)))
 
 pub returns-in-Err-OtherTables-clause-finds : goal.returns-in-Err-OtherTables-clause-finds
 returns-in-Err-OtherTables-clause-finds g c clean is r may it =
@@ -19,4 +19,4 @@ returns-in-Err-OtherTables-clause-finds g c clean is r may it =
 pub returns-in-Err-BadRow-clause-finds : goal.returns-in-Err-BadRow-clause-finds
 returns-in-Err-BadRow-clause-finds g c clean is r may it =
     let told = rw c.in-Err-BadRow.field-0-is at (c.in-Err-BadRow.ensures.cause clean) in
-    absurd (refused_store r _ _ (state g.S.Store c.args.conn.now) (state g.S.Store c.read_rows.new.conn) told (c.show_texts.ensures r may) it)
+    absurd (refused_store r _ _ (state g.S.Store c.args.conn.now) (state g.S.Store c.read_rows.new.conn) told (c.show_records.ensures r may).texts it)
