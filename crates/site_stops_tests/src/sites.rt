@@ -203,8 +203,8 @@ fn found(keeping: &Keeping, site: Site, name: &str) -> Option<Site> {
     opened(keeping, files, name).site().ok()
 }
 
-/// Both sites as the next process finds them in what is left of their files. None where one can't be opened, or they don't
-/// fit together.
+/// Both sites as the next process finds them in what is left of their files. None where one can't be opened, or they
+/// don't fit together.
 pub fn both_found(keeping: &Keeping, both: Both) -> Option<Both> {
     let mut sites = both.into_sites();
     let b = found(keeping, sites.pop()?, "B")?;

@@ -1,5 +1,5 @@
-//! That a disk which fails at any call of a recall's events leaves the record before the event or the one after it, with
-//! which the sites fit together, and from which the recall ends.
+//! That a disk which fails at any call of a recall's events leaves the record before the event or the one after it,
+//! with which the sites fit together, and from which the recall ends.
 use crate::disks::{Blow, NONE};
 use crate::openings;
 use crate::sites::{Ended, Keeping, Site, both_found, made};

@@ -14,8 +14,11 @@ use std::alloc::Global;
 use world_core::{Answer, World, WorldEvent, WorldInput};
 
 /// A transformation of x into y, and a shipment of y to site B.
-const DOCUMENT: &str =
-    "{\"type\":\"EPCISDocument\",\"epcisBody\":{\"eventList\":[{\"type\":\"TransformationEvent\",\"eventTime\":\"2024-05-01T08:00:00Z\",\"eventTimeZoneOffset\":\"+00:00\",\"inputEPCList\":[\"x\"],\"outputEPCList\":[\"y\"]},{\"type\":\"ObjectEvent\",\"eventTime\":\"2024-05-01T08:00:00Z\",\"eventTimeZoneOffset\":\"+00:00\",\"action\":\"OBSERVE\",\"epcList\":[\"y\"],\"destinationList\":[{\"destination\":\"b\"}]}]}}";
+const DOCUMENT: &str = "{\"type\":\"EPCISDocument\",\"epcisBody\":{\"eventList\":[\
+     {\"type\":\"TransformationEvent\",\"eventTime\":\"2024-05-01T08:00:00Z\",\
+     \"eventTimeZoneOffset\":\"+00:00\",\"inputEPCList\":[\"x\"],\"outputEPCList\":[\"y\"]},\
+     {\"type\":\"ObjectEvent\",\"eventTime\":\"2024-05-01T08:00:00Z\",\"eventTimeZoneOffset\":\"+00:00\",\
+     \"action\":\"OBSERVE\",\"epcList\":[\"y\"],\"destinationList\":[{\"destination\":\"b\"}]}]}}";
 
 /// How many events a recall has, from the capture of its document to its end.
 pub const EVENTS: u64 = 13;
