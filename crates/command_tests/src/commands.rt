@@ -1,15 +1,16 @@
 //! The commands on files and sites in memory.
+ghost use Rattle.std.specs.Prelude.{◌≤◌};
 
 use crate::numbers::site;
 use frame_core::{Frame, MsgId};
-use keeper_core::{MemoryKeeper, SiteKeeper};
+use keeper_core::{Keep, MemoryKeeper, SiteKeeper};
 use site_commands::{
     Answer, Documents, Fault, Files, audit_sites, capture, capture_documents, init, report_recall,
     run_sites, start,
 };
 use site_core::{SiteInput, SiteState};
 use site_threads::FreeGate;
-use std::alloc::Global;
+use std::alloc::{AllocError, Global};
 use std::hash::RandomState;
 use std::sync::Wait;
 use std::test::Fail;
@@ -72,6 +73,8 @@ impl Files<MemoryKeeper> for MemoryFiles {
 
     ghost writes = { λ _ _ _ _. ⊤ };
 
+    ghost knows = { λ _ _ _. ⊤ };
+
     fn read(&mut self, alloc: Global, path: &str) -> Result<Vec<u8>, Fault> {
         match self.text_at(path) {
             Some(bytes) => Ok(bytes.as_slice().to_vec(alloc)?),
@@ -125,6 +128,10 @@ impl Files<MemoryKeeper> for MemoryFiles {
         if place < self.sites.len() {
             self.sites[place].keeper = Some(keeper);
         }
+    }
+
+    fn known_of(&self, alloc: Global, path: &str) -> Result<String, AllocError> {
+        format!(in alloc; "known of {path}\n")
     }
 
     fn write_new(&mut self, path: &str, bytes: &[u8]) -> Result<(), Fault> {
@@ -377,9 +384,9 @@ fn ends_in_runs<R: Threads + Wait + Clock + Sync>(
 ) -> bool {
     for _ in 0..20 {
         match run_sites(rt, alloc, files, FreeGate, "d", 2000) {
-            Ok(answer) => {
-                if answer.text() == "A#1 ended\n" {
-                    return answer.status() == 0;
+            Ok(output) => {
+                if output.answer.text() == "A#1 ended\n" {
+                    return output.answer.status() == 0;
                 }
             }
             Err(_) => return false,
@@ -396,5 +403,48 @@ fn sites_run_until_a_recall_has_ended(rt: HostRuntime) -> Result<(), Fail> {
     assert!(rt; ends_in_runs(&rt, rt.alloc(), &mut files));
     let after = [(Asked::Audit("d"), 0, "equal A#1 pairs 3\n")];
     assert!(rt; first_other(rt.alloc(), keys, &mut files, after.as_slice()).is_none());
+    Ok(())
+}
+
+/// Whether the notes of a run of so many turns begin so, and end so.
+fn notes_are<R: Threads + Wait + Clock + Sync>(
+    rt: &R,
+    alloc: Global,
+    files: &mut MemoryFiles,
+    turns: u64,
+    first: &str,
+    last: &str,
+) -> bool
+    requires { turns ≤ 1000000 }
+{
+    let Ok(output) = run_sites(rt, alloc, files, FreeGate, "d", turns) else {
+        return false;
+    };
+    match &output.notes {
+        Some(notes) => notes.as_str().starts_with(first) && notes.as_str().ends_with(last),
+        None => false,
+    }
+}
+
+/// Makes the next step of B a failure of its device.
+fn arm_b(files: &mut MemoryFiles) {
+    let Some(kept) = files.sites.get_mut(1) else {
+        return;
+    };
+    if let Some(keeper) = &mut kept.keeper {
+        keeper.arm(Keep::Old);
+    }
+}
+
+#[test]
+fn a_run_tells_what_hinders_it(rt: HostRuntime) -> Result<(), Fail> {
+    let keys = RandomState::new(&rt)?;
+    let mut files = files(rt.alloc())?;
+    assert!(rt; first_other(rt.alloc(), keys, &mut files, STARTED.as_slice()).is_none());
+    let on = "a further `recall run` goes on with the recalls that are open\n";
+    assert!(rt; notes_are(&rt, rt.alloc(), &mut files, 1, "", on));
+    arm_b(&mut files);
+    let stopped = "site B stopped once: Device\nknown of d/B.db\n";
+    assert!(rt; notes_are(&rt, rt.alloc(), &mut files, 2000, stopped, ""));
     Ok(())
 }

@@ -5,7 +5,7 @@ use recall_commands::run_command;
 use site_commands::{Fault, Files};
 use site_core::SiteState;
 use site_threads::FreeGate;
-use std::alloc::Global;
+use std::alloc::{AllocError, Global};
 use std::hash::RandomState;
 use std::io::{self, Error, ErrorKind, Read, Write};
 use std::sync::Wait;
@@ -44,6 +44,8 @@ impl Files<MemoryKeeper> for OneFile {
 
     ghost writes = { λ _ _ _ _. ⊤ };
 
+    ghost knows = { λ _ _ _. ⊤ };
+
     fn read(&mut self, alloc: Global, path: &str) -> Result<Vec<u8>, Fault> {
         if path == "list" {
             Ok(b"reach A x".as_slice().to_vec(alloc)?)
@@ -69,6 +71,10 @@ impl Files<MemoryKeeper> for OneFile {
     }
 
     fn close_site(&mut self, _: MemoryKeeper) {}
+
+    fn known_of(&self, alloc: Global, _: &str) -> Result<String, AllocError> {
+        Ok(String::new(alloc))
+    }
 
     fn write_new(&mut self, _: &str, _: &[u8]) -> Result<(), Fault> {
         Err(Fault::Write)

@@ -6,7 +6,7 @@ use Rattle.std.specs.Io.KnownBytes.{Keeps}
 use Rattle.script_core.specs.Writing.{AppendsBeginning}
 use Rattle.site_core.specs.Records.{Record}
 use Rattle.site_commands.specs.Answers.{IsAnswer}
-use Rattle.site_commands.specs.declared.answers.Answer.{Answer}
+use Rattle.site_commands.specs.declared.answers.Output.{Output}
 use Rattle.site_commands.specs.declared.faults.Fault.{Fault}
 use Rattle.recall_commands.specs.CommandLines.{texts_of, AsksBatch, AsksFiles, IsBad}
 use Rattle.recall_commands.specs.Ends.{BatchEnds, Ends, Streams, TellsOutcome}
@@ -14,22 +14,22 @@ use Rattle.recall_commands.specs.Leads.{LeadsTo}
 use Rattle.recall_commands.specs.declared.command_lines.Batch.{Batch}
 use Rattle.recall_commands.specs.declared.command_lines.FileCommand.{FileCommand}
 
-module _ {F K : Type 0} (reads : F → List ℕ → List ℕ → F → Type 0) (lines : F → List ℕ → Option (List ℕ) → F → Type 0) (finds : F → List ℕ → Bool → F → Type 0) (makes : F → List ℕ → Record → F → Type 0) (opens : F → List ℕ → List ℕ → K → F → Type 0) (closes : F → K → F → Type 0) (writes : F → List ℕ → List ℕ → F → Type 0) (shown : K → Option Record) where
+module _ {F K : Type 0} (reads : F → List ℕ → List ℕ → F → Type 0) (lines : F → List ℕ → Option (List ℕ) → F → Type 0) (finds : F → List ℕ → Bool → F → Type 0) (makes : F → List ℕ → Record → F → Type 0) (opens : F → List ℕ → List ℕ → K → F → Type 0) (closes : F → K → F → Type 0) (writes : F → List ℕ → List ℕ → F → Type 0) (knows : F → List ℕ → List ℕ → Type 0) (shown : K → Option Record) (failed : K → ℕ) (stored : K → Type 0) where
   pub ends_mistaken : (words : List (String Global)) (old new : F) (before after : Streams) (text : List ℕ) → IsBad (texts_of words) → new ≡ old
       → Keeps before.input after.input → Keeps before.output after.output → AppendsBeginning before.errors after.errors text
-      → Ends reads lines finds makes opens closes writes shown words old new before after 2
+      → Ends reads lines finds makes opens closes writes knows shown failed stored words old new before after 2
   ends_mistaken words old new before after text bad uncalled unread unwritten told =
       inr (inr (inr (inr (inl (record { bad = bad; text = text; uncalled = uncalled; unread = unread; unwritten = unwritten; told = told; status_is = refl })))))
 
-  pub ends_files : (words : List (String Global)) (old new : F) (before after : Streams) (status : ℕ) (command : FileCommand) (outcome : Result Answer Fault)
-      → AsksFiles (texts_of words) command → IfOk outcome IsAnswer → IfOk outcome (LeadsTo reads finds makes opens closes writes shown command old new)
+  pub ends_files : (words : List (String Global)) (old new : F) (before after : Streams) (status : ℕ) (command : FileCommand) (outcome : Result Output Fault)
+      → AsksFiles (texts_of words) command → IfOk outcome (λ told. IsAnswer told.answer) → IfOk outcome (LeadsTo reads finds makes opens closes writes knows shown failed stored command old new)
       → Keeps before.input after.input → TellsOutcome outcome before.output after.output before.errors after.errors status
-      → Ends reads lines finds makes opens closes writes shown words old new before after status
+      → Ends reads lines finds makes opens closes writes knows shown failed stored words old new before after status
   ends_files words old new before after status command outcome asked is_answer led unread told =
       inr (inl (record { command = command; asked = asked; outcome = outcome; is_answer = is_answer; led = led; unread = unread; told = told }))
 
   pub ends_batch : (words : List (String Global)) (old new : F) (before after : Streams) (status : ℕ) (batch : Batch) → AsksBatch (texts_of words) batch → Keeps before.input after.input
-      → BatchEnds reads lines opens closes shown batch old new before.output after.output before.errors after.errors status
-      → Ends reads lines finds makes opens closes writes shown words old new before after status
+      → BatchEnds reads lines opens closes shown stored batch old new before.output after.output before.errors after.errors status
+      → Ends reads lines finds makes opens closes writes knows shown failed stored words old new before after status
   ends_batch words old new before after status batch asked unread ends =
       inr (inr (inl (record { batch = batch; asked = asked; unread = unread; ends = ends })))

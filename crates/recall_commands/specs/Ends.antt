@@ -1,5 +1,5 @@
 -- How a command ends: with which status, and what it leaves on its streams.
-use Rattle.std.specs.Prelude.{◌≡◌, ◌≢◌, ◌⊎◌, ◌==◌, ℕ, Bool, List, [], ◌∷◌, Option, Result, Ok, Err, IfOk, IfSome, codes, if◌then◌else◌}
+use Rattle.std.specs.Prelude.{◌≡◌, ◌≢◌, ◌⊎◌, ◌==◌, ℕ, Bool, List, [], ◌∷◌, Option, Some, None, Result, Ok, Err, IfOk, IfSome, codes, string_bytes, if◌then◌else◌}
 use Rattle.std.specs.Global.{Global}
 use Rattle.std.specs.declared.string.String.{String}
 use Rattle.std.specs.Io.KnownBytes.{Appends, Keeps}
@@ -14,6 +14,7 @@ use Rattle.recall_commands.specs.CommandLines.{AsksBatch, AsksFiles, AsksHelp, A
 use Rattle.recall_commands.specs.Leads.{LeadsTo}
 use Rattle.site_commands.specs.Faults.{fault_line}
 use Rattle.site_commands.specs.declared.answers.Answer.{Answer}
+use Rattle.site_commands.specs.declared.answers.Output.{Output}
 use Rattle.site_commands.specs.Captures.{CapturesAll, EndsEarly}
 use Rattle.recall_commands.specs.declared.command_lines.Batch.{Batch}
 use Rattle.recall_commands.specs.declared.command_lines.FileCommand.{FileCommand}
@@ -70,10 +71,16 @@ AnswerEnds answer output output_after errors errors_after status =
     ((status ≡ answer_status answer) × Appends output output_after (answer_text answer) × Advises (answer_text answer) errors errors_after)
     ⊎ ((status ≡ 3) × AppendsBeginning output output_after (answer_text answer) × AppendsBeginning errors errors_after (fault_line Write))
 
--- what came of a command on files is reported: its answer with its status; or its fault, with status 3, and no answer
-abbrev pub TellsOutcome : Result Answer Fault → Option (List ℕ) → Option (List ℕ) → Option (List ℕ) → Option (List ℕ) → ℕ → Type 0
-TellsOutcome (Ok answer) output output_after errors errors_after status =
-    AnswerEnds answer output output_after errors errors_after status
+-- notes go to the error stream, as far as that takes them
+abbrev pub TellsNotes : Option (String Global) → Option (List ℕ) → Option (List ℕ) → Type 0
+TellsNotes None errors errors_after = Keeps errors errors_after
+TellsNotes (Some notes) errors errors_after = AppendsBeginning errors errors_after (string_bytes notes)
+
+-- what came of a command on files is reported: its answer with its status, and then its notes; or its fault, with status 3,
+-- and no answer
+abbrev pub TellsOutcome : Result Output Fault → Option (List ℕ) → Option (List ℕ) → Option (List ℕ) → Option (List ℕ) → ℕ → Type 0
+TellsOutcome (Ok told) output output_after errors errors_after status =
+    (mid : Option (List ℕ)) × AnswerEnds told.answer output output_after errors mid status × TellsNotes told.notes mid errors_after
 TellsOutcome (Err fault) output output_after errors errors_after status =
     (status ≡ 3) × Keeps output output_after × AppendsBeginning errors errors_after (fault_line fault)
 
@@ -125,21 +132,21 @@ pub record BreaksOff (Early : Type 0) (errors errors_after : Option (List ℕ)) 
   pub status_is : status ≡ 3
 
 -- several documents were captured, each answered on its own; or a fault ended it
-abbrev pub BatchEnds : {F K : Type 0} → (F → List ℕ → List ℕ → F → Type 0) → (F → List ℕ → Option (List ℕ) → F → Type 0) → (F → List ℕ → List ℕ → K → F → Type 0) → (F → K → F → Type 0) → (K → Option Record)
+abbrev pub BatchEnds : {F K : Type 0} → (F → List ℕ → List ℕ → F → Type 0) → (F → List ℕ → Option (List ℕ) → F → Type 0) → (F → List ℕ → List ℕ → K → F → Type 0) → (F → K → F → Type 0) → (K → Option Record) → (K → Type 0)
     → Batch → F → F → Option (List ℕ) → Option (List ℕ) → Option (List ℕ) → Option (List ℕ) → ℕ → Type 0
-BatchEnds reads lines opens closes shown batch old new output output_after errors errors_after status =
-    (CapturesAll reads lines opens closes shown batch.folder.now batch.site.now batch.by_lines (paths_of batch) old new output output_after status × Keeps errors errors_after)
-    ⊎ BreaksOff (EndsEarly reads opens closes shown batch.folder.now batch.site.now old output output_after) errors errors_after status
+BatchEnds reads lines opens closes shown stored batch old new output output_after errors errors_after status =
+    (CapturesAll reads lines opens closes shown stored batch.folder.now batch.site.now batch.by_lines (paths_of batch) old new output output_after status × Keeps errors errors_after)
+    ⊎ BreaksOff (EndsEarly reads opens closes shown stored batch.folder.now batch.site.now old output output_after) errors errors_after status
 
-module _ {F K : Type 0} (reads : F → List ℕ → List ℕ → F → Type 0) (lines : F → List ℕ → Option (List ℕ) → F → Type 0) (finds : F → List ℕ → Bool → F → Type 0) (makes : F → List ℕ → Record → F → Type 0) (opens : F → List ℕ → List ℕ → K → F → Type 0) (closes : F → K → F → Type 0) (writes : F → List ℕ → List ℕ → F → Type 0) (shown : K → Option Record) where
-  -- A command on files was asked for, and what came of it was reported: an answer, which is that of these calls of the files,
+module _ {F K : Type 0} (reads : F → List ℕ → List ℕ → F → Type 0) (lines : F → List ℕ → Option (List ℕ) → F → Type 0) (finds : F → List ℕ → Bool → F → Type 0) (makes : F → List ℕ → Record → F → Type 0) (opens : F → List ℕ → List ℕ → K → F → Type 0) (closes : F → K → F → Type 0) (writes : F → List ℕ → List ℕ → F → Type 0) (knows : F → List ℕ → List ℕ → Type 0) (shown : K → Option Record) (failed : K → ℕ) (stored : K → Type 0) where
+  -- A command on files was asked for, and what came of it was reported: an output, which is that of these calls of the files,
   -- with status 1 only refusals; or a fault, after which nothing is said of the files.
   pub record DoesFiles (words : List (List ℕ)) (old new : F) (before after : Streams) (status : ℕ) : Type 0 where
     pub command : FileCommand
     pub asked : AsksFiles words command
-    pub outcome : Result Answer Fault
-    pub is_answer : IfOk outcome IsAnswer
-    pub led : IfOk outcome (LeadsTo reads finds makes opens closes writes shown command old new)
+    pub outcome : Result Output Fault
+    pub is_answer : IfOk outcome (λ told. IsAnswer told.answer)
+    pub led : IfOk outcome (LeadsTo reads finds makes opens closes writes knows shown failed stored command old new)
     pub unread : Keeps before.input after.input
     pub told : TellsOutcome outcome before.output after.output before.errors after.errors status
 
@@ -148,7 +155,7 @@ module _ {F K : Type 0} (reads : F → List ℕ → List ℕ → F → Type 0) (
     pub batch : Batch
     pub asked : AsksBatch words batch
     pub unread : Keeps before.input after.input
-    pub ends : BatchEnds reads lines opens closes shown batch old new before.output after.output before.errors after.errors status
+    pub ends : BatchEnds reads lines opens closes shown stored batch old new before.output after.output before.errors after.errors status
 
   -- how a command line ends, from old files to new ones
   abbrev pub Ends : List (String Global) → F → F → Streams → Streams → ℕ → Type 0

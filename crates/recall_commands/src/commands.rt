@@ -5,7 +5,7 @@ ghost use Rattle.std.specs.Io.KnownBytes.{Appends, Keeps};
 ghost use Rattle.script_core.specs.Writing.{AppendsBeginning};
 ghost use Rattle.site_commands.specs.Answers.{IsAnswer};
 ghost use Rattle.recall_commands.specs.CommandLines.{HasTurns};
-ghost use Rattle.recall_commands.specs.Ends.{BatchEnds, Ends, SimRuns, HelpHelps, RunsScript, TextEnds, AnswerEnds, Advises, TellsOutcome, script_fault_line};
+ghost use Rattle.recall_commands.specs.Ends.{BatchEnds, Ends, SimRuns, HelpHelps, RunsScript, TextEnds, AnswerEnds, Advises, TellsNotes, TellsOutcome, script_fault_line};
 ghost use Rattle.recall_commands.specs.Leads.{LeadsTo};
 ghost use Rattle.site_commands.specs.Faults.{fault_line};
 
@@ -14,8 +14,8 @@ use crate::statuses;
 use keeper_core::SiteKeeper;
 use script_core::{ScriptFault, Tally, run_script, write_text};
 use site_commands::{
-    Answer, Documents, Fault, Files, audit_sites, capture, capture_documents, init, report_recall,
-    run_sites, start,
+    Answer, Documents, Fault, Files, Output, audit_sites, capture, capture_documents, init,
+    report_recall, run_sites, start,
 };
 use site_threads::Gate;
 use std::alloc::Global;
@@ -30,8 +30,8 @@ use std::time::Clock;
 /// memory too, 4 an audit found a discrepancy.
 ///
 /// The words begin with the program's name. Answers, refusals and help go to `output`, faults and
-/// what is wrong with a command line to `errors`. An answer of a command on the sites' files is that of
-/// the calls of `files` that lead to it; without such a command `files` isn't asked. What stands in the
+/// what is wrong with a command line to `errors`, and so do the notes of a run. What a command on the sites' files says is
+/// that of the calls of `files` that lead to it; without such a command `files` isn't asked. What stands in the
 /// files no contract says. In a run each site has a copy of the gate to its turns. The keys are those of the hash
 /// by which items are numbered, drawn at random, so that nobody can choose texts that collide.
 pub fn run_command<
@@ -53,7 +53,7 @@ pub fn run_command<
     output: &mut W,
     errors: &mut E,
 ) -> u8
-    ensures ends { Ends F.reads F.lines F.finds F.makes F.opens F.closes F.writes K.shown words.now files.old files.new
+    ensures ends { Ends F.reads F.lines F.finds F.makes F.opens F.closes F.writes F.knows K.shown K.failed K.stored words.now files.old files.new
         (record { input = I.remaining input.old; output = W.contents output.old; errors = E.contents errors.old })
         (record { input = I.remaining input.new; output = W.contents output.new; errors = E.contents errors.new }) result }
     ensures sim { SimRuns words.now files.old files.new (record { input = I.remaining input.old; output = W.contents output.old; errors = E.contents errors.old })
@@ -134,18 +134,33 @@ fn on_files<
     files: &mut F,
     gate: G,
     command: &FileCommand<'_>,
-) -> Result<Answer, Fault>
+) -> Result<Output, Fault>
     requires { HasTurns command.now }
-    ensures led { IfOk result (LeadsTo F.reads F.finds F.makes F.opens F.closes F.writes K.shown command.now files.old files.new) }
-    ensures sound { IfOk result IsAnswer }
+    ensures led { IfOk result (LeadsTo F.reads F.finds F.makes F.opens F.closes F.writes F.knows K.shown K.failed K.stored command.now files.old files.new) }
+    ensures sound { IfOk result (λ told. IsAnswer told.answer) }
 {
     match command {
-        FileCommand::Init { folder, list } => init(alloc, keys, files, folder, list),
-        FileCommand::Capture { folder, site, file } => capture(alloc, files, folder, site, file),
-        FileCommand::Start { folder, site, item } => start(alloc, files, folder, site, item),
         FileCommand::Run { folder, turns } => run_sites(rt, alloc, files, gate, folder, *turns),
-        FileCommand::Report { folder, recall } => report_recall(alloc, files, folder, recall),
-        FileCommand::Audit { folder } => audit_sites(alloc, files, folder),
+        FileCommand::Init { folder, list } => Ok(Output {
+            answer: init(alloc, keys, files, folder, list)?,
+            notes: None,
+        }),
+        FileCommand::Capture { folder, site, file } => Ok(Output {
+            answer: capture(alloc, files, folder, site, file)?,
+            notes: None,
+        }),
+        FileCommand::Start { folder, site, item } => Ok(Output {
+            answer: start(alloc, files, folder, site, item)?,
+            notes: None,
+        }),
+        FileCommand::Report { folder, recall } => Ok(Output {
+            answer: report_recall(alloc, files, folder, recall)?,
+            notes: None,
+        }),
+        FileCommand::Audit { folder } => Ok(Output {
+            answer: audit_sites(alloc, files, folder)?,
+            notes: None,
+        }),
     }
 }
 
@@ -157,7 +172,7 @@ fn capture_batch<K: SiteKeeper, F: Files<K>, W: Write, E: Write>(
     output: &mut W,
     errors: &mut E,
 ) -> u8
-    ensures { BatchEnds F.reads F.lines F.opens F.closes K.shown batch.now files.old files.new
+    ensures { BatchEnds F.reads F.lines F.opens F.closes K.shown K.stored batch.now files.old files.new
         (W.contents output.old) (W.contents output.new) (E.contents errors.old) (E.contents errors.new) result }
 {
     let documents = Documents {
@@ -171,12 +186,25 @@ fn capture_batch<K: SiteKeeper, F: Files<K>, W: Write, E: Write>(
 }
 
 /// Prints what came of a command on the sites' files.
-fn tell<W: Write, E: Write>(outcome: &Result<Answer, Fault>, output: &mut W, errors: &mut E) -> u8
+fn tell<W: Write, E: Write>(outcome: &Result<Output, Fault>, output: &mut W, errors: &mut E) -> u8
     ensures { TellsOutcome outcome.now (W.contents output.old) (W.contents output.new) (E.contents errors.old) (E.contents errors.new) result }
 {
     match outcome {
-        Ok(answer) => tell_answer(answer, output, errors),
+        Ok(told) => {
+            let status = tell_answer(&told.answer, output, errors);
+            note(&told.notes, errors);
+            status
+        }
         Err(cause) => fault(*cause, errors),
+    }
+}
+
+/// Prints notes to the error stream.
+fn note<E: Write>(notes: &Option<String>, errors: &mut E)
+    ensures { TellsNotes notes.now (E.contents errors.old) (E.contents errors.new) }
+{
+    if let Some(notes) = notes {
+        say(errors, notes.as_str());
     }
 }
 

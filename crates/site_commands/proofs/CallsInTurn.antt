@@ -6,21 +6,21 @@ use Rattle.event_json.specs.Sites.{Site}
 use Rattle.site_core.specs.Records.{Record}
 use Rattle.site_commands.specs.Calls.{AreShown, ClosesAll, OpensFrom, OpensSite}
 
-module _ {F K : Type 0} (opens : F → List ℕ → List ℕ → K → F → Type 0) (closes : F → K → F → Type 0) (shown : K → Option Record) (folder : List ℕ) (sites : List Site) where
+module _ {F K : Type 0} (opens : F → List ℕ → List ℕ → K → F → Type 0) (closes : F → K → F → Type 0) (shown : K → Option Record) (stored : K → Type 0) (folder : List ℕ) (sites : List Site) where
   -- one file more
-  pub opens_more : (site : ℕ) (old mid new : F) (keepers : List K) (rs : List Record) (keeper : K) (r : Record) → OpensFrom opens closes shown folder sites site old mid keepers rs
-      → OpensSite opens closes shown folder sites (site + length keepers) mid new keeper r → OpensFrom opens closes shown folder sites site old new (keepers ++ keeper ∷ []) (rs ++ r ∷ [])
+  pub opens_more : (site : ℕ) (old mid new : F) (keepers : List K) (rs : List Record) (keeper : K) (r : Record) → OpensFrom opens closes shown stored folder sites site old mid keepers rs
+      → OpensSite opens closes shown stored folder sites (site + length keepers) mid new keeper r → OpensFrom opens closes shown stored folder sites site old new (keepers ++ keeper ∷ []) (rs ++ r ∷ [])
   opens_more site old mid new [] [] keeper r all one =
       let here : site + 0 ≡ site = omega arith in
-      (new, subst (λ (n : ℕ). OpensSite opens closes shown folder sites n old new keeper r) here (subst (λ m. OpensSite opens closes shown folder sites (site + 0) m new keeper r) all one), refl)
+      (new, subst (λ (n : ℕ). OpensSite opens closes shown stored folder sites n old new keeper r) here (subst (λ m. OpensSite opens closes shown stored folder sites (site + 0) m new keeper r) all one), refl)
   opens_more site old mid new (k ∷ keepers) (q ∷ rs) keeper r (next, first, rest) one =
       let later : site + length (k ∷ keepers) ≡ (site + 1) + length keepers = omega arith in
-      (next, first, opens_more (site + 1) next mid new keepers rs keeper r rest (subst (λ (n : ℕ). OpensSite opens closes shown folder sites n mid new keeper r) later one))
+      (next, first, opens_more (site + 1) next mid new keepers rs keeper r rest (subst (λ (n : ℕ). OpensSite opens closes shown stored folder sites n mid new keeper r) later one))
   opens_more site old mid new [] (q ∷ rs) keeper r all one = absurd all
   opens_more site old mid new (k ∷ keepers) [] keeper r all one = absurd all
 
   -- what was opened is shown
-  pub opened_shown : (site : ℕ) (old new : F) (keepers : List K) (rs : List Record) → OpensFrom opens closes shown folder sites site old new keepers rs → AreShown shown keepers rs
+  pub opened_shown : (site : ℕ) (old new : F) (keepers : List K) (rs : List Record) → OpensFrom opens closes shown stored folder sites site old new keepers rs → AreShown shown keepers rs
   opened_shown site old new [] [] all = tt
   opened_shown site old new (k ∷ keepers) (r ∷ rs) (mid, first, rest) = (first.shows.shows, opened_shown (site + 1) mid new keepers rs rest)
   opened_shown site old new [] (r ∷ rs) all = absurd all

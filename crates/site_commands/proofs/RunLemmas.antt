@@ -1,5 +1,6 @@
 -- what the keepers show after a run
-use Rattle.std.proofs.Common.{◌≡◌, ℕ, Option, IsSome, List, [], ◌∷◌, All, refl, sym, subst}
+use Rattle.std.proofs.Common.{◌≡◌, ◌≤◌, ◌∙◌, ℕ, suc, Option, Some, None, IsSome, List, [], ◌∷◌, All, length, map, refl, sym, ap, subst, arith}
+use Rattle.std.proofs.lemmas.List.{length-map}
 use Rattle.std.proofs.lemmas.List.Elements.{All-cons, All-nil}
 use Rattle.std.specs.List.{AllZip}
 use Rattle.event_json.specs.Sites.{Site}
@@ -16,6 +17,9 @@ use Rattle.site_commands.specs.Calls.{AreShown}
 use Rattle.site_commands.specs.Runs.{AnswersRun, CameToItsEnd, TellsCause, TellsRecalls}
 use Rattle.site_commands.specs.declared.answers.Answer.{Answer}
 use Rattle.site_commands.specs.declared.answers.Answer.TheVariants.{Done, Refused, Amiss}
+use Rattle.site_commands.specs.Audits.{begun}
+use Rattle.site_commands.specs.Notes.{AreNotes, AreOfSites}
+use Rattle.site_commands.specs.declared.notes.RunNotes.{RunNotes}
 
 module _ {K : Type 0} (shown : K → Option Record) where
   -- the same, in the words of a folder
@@ -33,11 +37,32 @@ module _ {K : Type 0} (shown : K → Option Record) where
   all_kept_open [] (l ∷ lists) all = absurd all
   all_kept_open (k ∷ keepers) [] all = absurd all
 
+  as_many : (new : List K) (lists : List SiteList) → AllZip (IsKept shown) new lists → length new ≡ length lists
+  as_many [] [] kept = refl
+  as_many (k ∷ new) (l ∷ lists) kept = ap suc (as_many new lists kept.1)
+  as_many [] (l ∷ lists) kept = absurd kept
+  as_many (k ∷ new) [] kept = absurd kept
+
+  -- as many counts and keepers as lists
+  pub of_sites : (failed : K → ℕ) (old new : List K) (lists : List SiteList) (before : List ℕ) → AllZip (IsKept shown) new lists → length new ≡ length old → length old ≤ 16 → before ≡ map failed old → AreOfSites before (map failed new) lists
+  of_sites failed old new lists before kept back few counts =
+      let many = as_many new lists kept in
+      let long = ap length counts ∙ length-map old failed in
+      record { few = omega (arith, many, back, few); befores = omega (arith, long, many, back); afters = length-map new failed ∙ many }
+
   -- what is reported after a run of sites whose desks take no jobs
-  pub came_to_its_end : (sites : List Site) (turns : ℕ) (old new : List K) (ds : List DeskOut) (lists : List SiteList) (text : List ℕ) → AllZip (Began shown) old lists → AllZip (IsKept shown) new lists
-      → All (λ (d : DeskOut). d.limit ≡ 0) ds → AllZip HasEnd ds lists → AllZip (HasTurned shown turns) new lists → TellsRecalls shown sites new text → CameToItsEnd shown sites turns old new text
-  came_to_its_end sites turns old new ds lists text began kept none ends turned told =
-      record { lists = lists; began = began; kept = kept; frames = all_of_frames shown ds new lists none ends kept; turned = turned; told = told }
+  pub came_to_its_end : (failed : K → ℕ) (sites : List Site) (turns : ℕ) (old new : List K) (ds : List DeskOut) (lists : List SiteList) (text : List ℕ) (notes : RunNotes) (before : List ℕ) → AllZip (Began shown) old lists → AllZip (IsKept shown) new lists
+      → All (λ (d : DeskOut). d.limit ≡ 0) ds → AllZip HasEnd ds lists → AllZip (HasTurned shown turns) new lists → before ≡ map failed old
+      → (told : TellsRecalls shown sites new text) × AreNotes before (map failed new) lists (begun told.records) notes → CameToItsEnd shown failed sites turns old new text notes
+  came_to_its_end failed sites turns old new ds lists text notes before began kept none ends turned counts told = record {
+    lists = lists;
+    began = began;
+    kept = kept;
+    frames = all_of_frames shown ds new lists none ends kept;
+    turned = turned;
+    told = told.0;
+    noted = subst (λ bs. AreNotes bs (map failed new) lists (begun told.0.records) notes) counts told.1;
+  }
 
   module _ (may : K → Record → Type 0) where
     all_open_in : (keepers : List K) (rs : List Record) → AllShow shown keepers rs → AllZip (λ k r. Opens (shown k) (may k) r) keepers rs
@@ -51,8 +76,9 @@ module _ {K : Type 0} (shown : K → Option Record) where
     shown_stand keepers rs fit all = fit rs (all_open_in keepers rs all)
 
     -- inconsistent records are reported, and nothing else that prevents a run
-    pub misfit_told : (sites : List Site) (turns : ℕ) (old new : List K) (cause : GatherCause) (answer : Answer) → Hinders shown new cause → FitAfter shown may old cause new → TellsCause sites cause answer → AnswersRun shown sites turns old new answer
-    misfit_told sites turns old new (NotAWorld (worlds.Misfit misfit)) (Amiss text) (records, shows, dont) fit told = (
+    pub misfit_told : (failed : K → ℕ) (sites : List Site) (turns : ℕ) (old new : List K) (cause : GatherCause) (answer : Answer) (notes : Option RunNotes) → Hinders shown new cause → FitAfter shown may old cause new → TellsCause sites cause answer → notes ≡ None
+        → AnswersRun shown failed sites turns old new answer notes
+    misfit_told failed sites turns old new (NotAWorld (worlds.Misfit misfit)) (Amiss text) notes (records, shows, dont) fit told none = (
       record {
         records = records;
         shows = subst (λ ks. AreShown shown ks records) fit (are_shown new records shows);
@@ -61,12 +87,13 @@ module _ {K : Type 0} (shown : K → Option Record) where
         text_is = told;
       },
       fit,
+      none,
     )
-    misfit_told sites turns old new (NotAWorld (worlds.Misfit misfit)) (Done text) hinders fit told = absurd told
-    misfit_told sites turns old new (NotAWorld (worlds.Misfit misfit)) (Refused text) hinders fit told = absurd told
-    misfit_told sites turns old new (NotAWorld worlds.NoMemory) answer hinders fit told = absurd told
-    misfit_told sites turns old new (NotAWorld (worlds.OtherSites place)) answer hinders fit told = absurd told
-    misfit_told sites turns old new (NotAWorld (worlds.Closed place)) answer hinders fit told = absurd told
-    misfit_told sites turns old new NoMemory answer hinders fit told = absurd told
-    misfit_told sites turns old new (SiteLost site) answer hinders fit told = absurd told
-    misfit_told sites turns old new (GaveUp site) answer hinders fit told = absurd told
+    misfit_told failed sites turns old new (NotAWorld (worlds.Misfit misfit)) (Done text) notes hinders fit told none = absurd told
+    misfit_told failed sites turns old new (NotAWorld (worlds.Misfit misfit)) (Refused text) notes hinders fit told none = absurd told
+    misfit_told failed sites turns old new (NotAWorld worlds.NoMemory) answer notes hinders fit told none = absurd told
+    misfit_told failed sites turns old new (NotAWorld (worlds.OtherSites place)) answer notes hinders fit told none = absurd told
+    misfit_told failed sites turns old new (NotAWorld (worlds.Closed place)) answer notes hinders fit told none = absurd told
+    misfit_told failed sites turns old new NoMemory answer notes hinders fit told none = absurd told
+    misfit_told failed sites turns old new (SiteLost site) answer notes hinders fit told none = absurd told
+    misfit_told failed sites turns old new (GaveUp site) answer notes hinders fit told none = absurd told

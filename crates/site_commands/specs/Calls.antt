@@ -50,13 +50,15 @@ abbrev pub ClosesAll : {F K : Type 0} → (F → K → F → Type 0) → F → F
 ClosesAll closes old new [] = new ≡ old
 ClosesAll {F} closes old new (keeper ∷ keepers) = (mid : F) × closes old keeper mid × ClosesAll closes mid new keepers
 
-module _ {F K : Type 0} (opens : F → List ℕ → List ℕ → K → F → Type 0) (closes : F → K → F → Type 0) (shown : K → Option Record) (folder : List ℕ) (sites : List Site) where
-  -- the file of the site was opened, and shows its record
+module _ {F K : Type 0} (opens : F → List ℕ → List ℕ → K → F → Type 0) (closes : F → K → F → Type 0) (shown : K → Option Record) (stored : K → Type 0) (folder : List ℕ) (sites : List Site) where
+  -- the file of the site was opened, shows its record, and a crash leaves that there
   pub record OpensSite (site : ℕ) (old new : F) (keeper : K) (r : Record) : Type 0 where
     pub opened : opens old (file_path folder (name_at sites site)) (name_at sites site) keeper new
     pub shows : ShowsSite shown sites site keeper r
+    pub lasts : stored keeper
 
-  -- the site's file was opened, its record took the step, the step is reported, and the file was closed
+  -- the site's file was opened, its record took the step, the step is reported, and the file was closed, on which a crash
+  -- leaves the record after it
   pub record StepsAt (site : ℕ) (input : SiteInput) (old new : F) (answer : Answer) : Type 0 where
     pub mid : F
     pub keeper : K
@@ -64,6 +66,7 @@ module _ {F K : Type 0} (opens : F → List ℕ → List ℕ → K → F → Typ
     pub opened : OpensSite site old mid keeper before
     pub after : K
     pub answered : AnswersStep sites before input (shown after) answer
+    pub lasts : stored after
     pub closed : closes mid after new
 
   -- the files of the sites from a number on were opened, one after another
@@ -82,7 +85,7 @@ module _ {F K : Type 0} (opens : F → List ℕ → List ℕ → K → F → Typ
     pub told : Tells records answer
     pub closed : ClosesAll closes mid new keepers
 
-module _ {F K : Type 0} (reads : F → List ℕ → List ℕ → F → Type 0) (opens : F → List ℕ → List ℕ → K → F → Type 0) (closes : F → K → F → Type 0) (shown : K → Option Record) where
+module _ {F K : Type 0} (reads : F → List ℕ → List ℕ → F → Type 0) (opens : F → List ℕ → List ℕ → K → F → Type 0) (closes : F → K → F → Type 0) (shown : K → Option Record) (stored : K → Type 0) where
   -- at the site of a name; a name that isn't listed is refused without a further call
   abbrev pub AtSite : List ℕ → Option ℕ → F → F → (ℕ → Type 0) → Answer → Type 0
   AtSite name None old new task answer = IsRefusal (codes "NoSite " ++ name) answer × (new ≡ old)
@@ -93,7 +96,7 @@ module _ {F K : Type 0} (reads : F → List ℕ → List ℕ → F → Type 0) (
     pub document : List ℕ
     pub mid : F
     pub read : reads old file document mid
-    pub steps : StepsAt opens closes shown folder sites site (Capture document) mid new answer
+    pub steps : StepsAt opens closes shown stored folder sites site (Capture document) mid new answer
 
   -- a document is captured
   pub record CapturesAt (folder name file : List ℕ) (old new : F) (answer : Answer) : Type 0 where
@@ -103,7 +106,7 @@ module _ {F K : Type 0} (reads : F → List ℕ → List ℕ → F → Type 0) (
     pub told : AtSite name (named sites name) mid new (λ site. CapturesFile folder sites site file mid new answer) answer
 
   abbrev pub StartsItem : List ℕ → List Site → ℕ → Result (List ℕ) EpcFault → F → F → Answer → Type 0
-  StartsItem folder sites site (Ok item) old new answer = StepsAt opens closes shown folder sites site (Start item) old new answer
+  StartsItem folder sites site (Ok item) old new answer = StepsAt opens closes shown stored folder sites site (Start item) old new answer
   StartsItem folder sites site (Err fault) old new answer = IsRefusal (codes "BadEpc") answer × (new ≡ old)
 
   -- a recall is started
@@ -117,7 +120,7 @@ module _ {F K : Type 0} (reads : F → List ℕ → List ℕ → F → Type 0) (
   ReportsBy folder sites None old new answer = IsRefusal (codes "BadLine") answer × (new ≡ old)
   ReportsBy folder sites (Some (name, number)) old new answer =
       AtSite name (named sites name) old new
-      (λ site. TellsAll opens closes shown folder sites (λ rs a. AnswersReport sites rs (record { site = site; number = number }) a) old new answer) answer
+      (λ site. TellsAll opens closes shown stored folder sites (λ rs a. AnswersReport sites rs (record { site = site; number = number }) a) old new answer) answer
 
   -- a recall is reported
   pub record ReportsAt (folder recall : List ℕ) (old new : F) (answer : Answer) : Type 0 where
@@ -131,4 +134,4 @@ module _ {F K : Type 0} (reads : F → List ℕ → List ℕ → F → Type 0) (
     pub sites : List Site
     pub mid : F
     pub listed : ListsSites reads folder old mid sites
-    pub told : TellsAll opens closes shown folder sites (λ rs a. AnswersAudit sites rs a) mid new answer
+    pub told : TellsAll opens closes shown stored folder sites (λ rs a. AnswersAudit sites rs a) mid new answer

@@ -172,14 +172,14 @@ module _ {F : Type 0} (reads : F → List ℕ → List ℕ → F → Type 0) (li
 abbrev pub totals_status : Totals → ℕ
 totals_status t = if t.refused == 0 then 0 else 1
 
-module _ {F K : Type 0} (reads : F → List ℕ → List ℕ → F → Type 0) (lines : F → List ℕ → Option (List ℕ) → F → Type 0) (opens : F → List ℕ → List ℕ → K → F → Type 0) (closes : F → K → F → Type 0) (shown : K → Option Record) where
+module _ {F K : Type 0} (reads : F → List ℕ → List ℕ → F → Type 0) (lines : F → List ℕ → Option (List ℕ) → F → Type 0) (opens : F → List ℕ → List ℕ → K → F → Type 0) (closes : F → K → F → Type 0) (shown : K → Option Record) (stored : K → Type 0) where
   -- The site's file was opened once. The documents of the files were read and taken in order, the totals were written, and
-  -- the file was closed in the record to which the documents lead.
+  -- the file was closed in the record to which the documents lead, which a crash leaves there.
   pub record TakesAt (folder : List ℕ) (sites : List Site) (site : ℕ) (by_lines : Bool) (paths : List (List ℕ)) (old new : F) (before after : Option (List ℕ)) (status : ℕ) : Type 0 where
     pub first : F
     pub keeper : K
     pub record_before : Record
-    pub opened : OpensSite opens closes shown folder sites site old first keeper record_before
+    pub opened : OpensSite opens closes shown stored folder sites site old first keeper record_before
     pub documents : List Document
     pub second : F
     pub read : ReadsFiles reads lines by_lines first paths documents second
@@ -189,6 +189,7 @@ module _ {F K : Type 0} (reads : F → List ℕ → List ℕ → F → Type 0) (
     pub status_is : status ≡ totals_status last.totals
     pub kept : K
     pub shows : shown kept ≡ Some last.site
+    pub lasts : stored kept
     pub closed : closes second kept new
 
   -- a site that isn't listed is refused, and no document is read
@@ -207,7 +208,7 @@ module _ {F K : Type 0} (reads : F → List ℕ → List ℕ → F → Type 0) (
 
 -- ---- where a fault ends it
 
-module _ {F K : Type 0} (reads : F → List ℕ → List ℕ → F → Type 0) (opens : F → List ℕ → List ℕ → K → F → Type 0) (closes : F → K → F → Type 0) (shown : K → Option Record) where
+module _ {F K : Type 0} (reads : F → List ℕ → List ℕ → F → Type 0) (opens : F → List ℕ → List ℕ → K → F → Type 0) (closes : F → K → F → Type 0) (shown : K → Option Record) (stored : K → Type 0) where
   -- a site that isn't listed was to be refused, and perhaps a beginning of that was written
   pub record RefusesEarly (folder name : List ℕ) (old : F) (before after : Option (List ℕ)) : Type 0 where
     pub sites : List Site
@@ -227,7 +228,7 @@ module _ {F K : Type 0} (reads : F → List ℕ → List ℕ → F → Type 0) (
     pub first : F
     pub keeper : K
     pub record_before : Record
-    pub opened : OpensSite opens closes shown folder sites site mid first keeper record_before
+    pub opened : OpensSite opens closes shown stored folder sites site mid first keeper record_before
     pub some : TakesSome sites (standing record_before before none_yet) after
 
   -- what was written where a fault ended it: one of these, or nothing

@@ -5,6 +5,8 @@ pub mod Captures
 pub mod Faults
 pub mod Folders
 pub mod Making
+pub mod NoteLaws
+pub mod Notes
 pub mod Reports
 pub mod Runs
 pub mod Steps

@@ -1,5 +1,7 @@
 -- What a run of all sites returns.
-use Rattle.std.specs.Prelude.{◌≡◌, ℕ, List, [], ◌∷◌, ◌++◌, All, length, Option, Result, string_bytes}
+use Rattle.std.specs.Prelude.{◌≡◌, ℕ, Bool, List, [], ◌∷◌, ◌++◌, All, length, map, Option, Some, None, Result, string_bytes}
+use Rattle.std.specs.Global.{Global}
+use Rattle.std.specs.declared.string.String.{String}
 use Rattle.std.specs.List.{flat_map, AllZip}
 use Rattle.event_json.specs.Sites.{Site}
 use Rattle.keeper_core.specs.declared.faults.Unopened.{Unopened}
@@ -18,10 +20,13 @@ use Rattle.world_core.specs.declared.faults.WorldFault.TheVariants as worlds
 use Rattle.site_commands.specs.Audits.{begun, misfit_text}
 use Rattle.site_commands.specs.Calls.{AreShown, ClosesAll, ListsSites, OpensFrom}
 use Rattle.site_commands.specs.Faults.{gather_fault}
+use Rattle.site_commands.specs.Notes.{AreNotes, TellsOf}
 use Rattle.site_commands.specs.declared.answers.Answer.{Answer}
 use Rattle.site_commands.specs.declared.answers.Answer.TheVariants.{Done, Refused, Amiss}
+use Rattle.site_commands.specs.declared.answers.Output.{Output}
 use Rattle.site_commands.specs.declared.audits.StartedRecall.{StartedRecall}
 use Rattle.site_commands.specs.declared.faults.Fault.{Fault}
+use Rattle.site_commands.specs.declared.notes.RunNotes.{RunNotes}
 
 -- whether a recall has ended
 abbrev pub ran_text : List Site → StartedRecall → List ℕ
@@ -46,23 +51,26 @@ pub record TellsTheMisfit {K : Type 0} (shown : K → Option Record) (sites : Li
   pub is_misfit : IsMisfit (length records) (world_of records) misfit.condition misfit.site
   pub text_is : text ≡ misfit_text sites misfit
 
-module _ {K : Type 0} (shown : K → Option Record) (sites : List Site) (turns : ℕ) where
+module _ {K : Type 0} (shown : K → Option Record) (failed : K → ℕ) (sites : List Site) (turns : ℕ) where
   -- each keeper is open in the record to which its steps lead from the one that it began with, and these are reported;
   -- each step is that of a frame, and each site's gate was asked for just these turns, or for fewer where the site is
-  -- done
-  pub record CameToItsEnd (old new : List K) (text : List ℕ) : Type 0 where
+  -- done. The notes are those of these steps, of how often the devices had failed before and have after, and of these
+  -- recalls
+  pub record CameToItsEnd (old new : List K) (text : List ℕ) (notes : RunNotes) : Type 0 where
     pub lists : List SiteList
     pub began : AllZip (Began shown) old lists
     pub kept : AllZip (IsKept shown) new lists
     pub frames : All (λ l. AreOfFrames l.entries.items) lists
     pub turned : AllZip (HasTurned shown turns) new lists
     pub told : TellsRecalls shown sites new text
+    pub noted : AreNotes (map failed old) (map failed new) lists (begun told.records) notes
 
   -- the run came to its end; or there was none, since the records aren't consistent, and the keepers are as they were
-  abbrev pub AnswersRun : List K → List K → Answer → Type 0
-  AnswersRun old new (Done text) = CameToItsEnd old new (string_bytes text)
-  AnswersRun old new (Refused text) = ⊥
-  AnswersRun old new (Amiss text) = TellsTheMisfit shown sites old (string_bytes text) × (new ≡ old)
+  abbrev pub AnswersRun : List K → List K → Answer → Option RunNotes → Type 0
+  AnswersRun old new (Done text) (Some notes) = CameToItsEnd old new (string_bytes text) notes
+  AnswersRun old new (Done text) None = ⊥
+  AnswersRun old new (Refused text) notes = ⊥
+  AnswersRun old new (Amiss text) notes = TellsTheMisfit shown sites old (string_bytes text) × (new ≡ old) × (notes ≡ None)
 
 -- the misfit is reported, of the causes that prevent a run
 abbrev pub TellsWorldFault : List Site → WorldFault → Answer → Type 0
@@ -83,20 +91,23 @@ pub record FailsRun {K G : Type 0} (shown : K → Option Record) (may : K → Re
   pub explained : Explains shown reopens gives_up turns new cause
   pub fault_is : fault ≡ gather_fault cause
 
--- the files of all sites were opened, the sites ran for at most so many turns, and the files were closed
-pub record RunsAll {F K : Type 0} (opens : F → List ℕ → List ℕ → K → F → Type 0) (closes : F → K → F → Type 0) (shown : K → Option Record) (folder : List ℕ) (sites : List Site) (turns : ℕ) (old new : F) (answer : Answer) : Type 0 where
+-- the files of all sites were opened, the sites ran for at most so many turns, and the files were closed; then the notes
+-- were told, with what the files know of those of the sites that stopped
+pub record RunsAll {F K : Type 0} (opens : F → List ℕ → List ℕ → K → F → Type 0) (closes : F → K → F → Type 0) (knows : F → List ℕ → List ℕ → Type 0) (shown : K → Option Record) (failed : K → ℕ) (stored : K → Type 0) (folder : List ℕ) (sites : List Site) (turns : ℕ) (old new : F) (output : Output) : Type 0 where
   pub mid : F
   pub keepers : List K
   pub records : List Record
-  pub opened : OpensFrom opens closes shown folder sites 0 old mid keepers records
+  pub opened : OpensFrom opens closes shown stored folder sites 0 old mid keepers records
   pub number : length keepers ≡ length sites
   pub after : List K
-  pub told : AnswersRun shown sites turns keepers after answer
+  pub notes : Option RunNotes
+  pub told : AnswersRun shown failed sites turns keepers after output.answer notes
   pub closed : ClosesAll closes mid new after
+  pub noted : TellsOf knows folder sites new notes output.notes
 
 -- all sites of a folder ran for at most so many turns
-pub record RunsAt {F K : Type 0} (reads : F → List ℕ → List ℕ → F → Type 0) (opens : F → List ℕ → List ℕ → K → F → Type 0) (closes : F → K → F → Type 0) (shown : K → Option Record) (folder : List ℕ) (turns : ℕ) (old new : F) (answer : Answer) : Type 0 where
+pub record RunsAt {F K : Type 0} (reads : F → List ℕ → List ℕ → F → Type 0) (opens : F → List ℕ → List ℕ → K → F → Type 0) (closes : F → K → F → Type 0) (knows : F → List ℕ → List ℕ → Type 0) (shown : K → Option Record) (failed : K → ℕ) (stored : K → Type 0) (folder : List ℕ) (turns : ℕ) (old new : F) (output : Output) : Type 0 where
   pub sites : List Site
   pub mid : F
   pub listed : ListsSites reads folder old mid sites
-  pub told : RunsAll opens closes shown folder sites turns mid new answer
+  pub told : RunsAll opens closes knows shown failed stored folder sites turns mid new output

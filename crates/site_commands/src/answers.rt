@@ -18,6 +18,15 @@ pub enum Answer {
     Amiss(String),
 }
 
+/// What a command on the sites' files says.
+#[derive(Debug, Drop)]
+pub struct Output {
+    /// For the standard output, with the status to end with.
+    pub answer: Answer,
+    /// Whole lines for the error stream, if there are any.
+    pub notes: Option<String>,
+}
+
 impl Answer {
     /// A refusal.
     pub(crate) fn refusal(alloc: Global, what: &str) -> Result<Answer, AllocError>

@@ -30,7 +30,7 @@ pub fn audit_sites<K: SiteKeeper, F: Files<K>>(
     files: &mut F,
     folder: &str,
 ) -> Result<Answer, Fault>
-    ensures calls { IfOk result (AuditsAt F.reads F.opens F.closes K.shown folder.now files.old files.new) }
+    ensures calls { IfOk result (AuditsAt F.reads F.opens F.closes K.shown K.stored folder.now files.old files.new) }
     ensures sound { IfOk result IsAnswer }
 {
     let sites = sites_of(alloc, files, folder)?;

@@ -64,10 +64,10 @@ pub fn capture_documents<K: SiteKeeper, F: Files<K>, W: Write>(
     documents: &Documents<'_>,
     output: &mut W,
 ) -> Result<u8, Fault>
-    ensures all { IfOk result (CapturesAll F.reads F.lines F.opens F.closes K.shown folder.now site.now
+    ensures all { IfOk result (CapturesAll F.reads F.lines F.opens F.closes K.shown K.stored folder.now site.now
         documents.now.by_lines (map (λ p. p.now) documents.now.paths.now) files.old files.new
         (W.contents output.old) (W.contents output.new)) }
-    ensures early { OnErr result (EndsEarly F.reads F.opens F.closes K.shown folder.now site.now files.old
+    ensures early { OnErr result (EndsEarly F.reads F.opens F.closes K.shown K.stored folder.now site.now files.old
         (W.contents output.old) (W.contents output.new)) }
 {
     let sites = sites_of(alloc, files, folder)?;
@@ -101,6 +101,7 @@ fn take_all<K: SiteKeeper, F: Files<K>, W: Write>(
         (standing old (W.contents output.old) none_yet) (standing new (W.contents output.new) totals)) }
     ensures early { (old : Record) → K.shown keeper.old ≡ Some old
         → OnErr result (TakesSome sites.now (standing old (W.contents output.old) none_yet) (W.contents output.new)) }
+    ensures stored { K.stored keeper.old → K.stored keeper.new }
 {
     let mut totals = Totals::new();
     for path in documents.paths {
@@ -135,6 +136,7 @@ fn take_file<K: SiteKeeper, F: Files<K>, W: Write>(
         (standing old (W.contents output.old) totals) (standing new (W.contents output.new) after)) }
     ensures early { (old : Record) → K.shown keeper.old ≡ Some old
         → OnErr result (TakesSome sites.now (standing old (W.contents output.old) totals) (W.contents output.new)) }
+    ensures stored { K.stored keeper.old → K.stored keeper.new }
 {
     if by_lines {
         take_lines(alloc, files, sites, keeper, path, totals, output)
@@ -159,6 +161,7 @@ fn take_whole<K: SiteKeeper, F: Files<K>, W: Write>(
         (standing old (W.contents output.old) totals) (standing new (W.contents output.new) after)) }
     ensures early { (old : Record) → K.shown keeper.old ≡ Some old
         → OnErr result (TakesSome sites.now (standing old (W.contents output.old) totals) (W.contents output.new)) }
+    ensures stored { K.stored keeper.old → K.stored keeper.new }
 {
     let bytes = files.read(alloc, path)?;
     let source = String::from_str(alloc, path)?;
@@ -188,6 +191,7 @@ fn take_lines<K: SiteKeeper, F: Files<K>, W: Write>(
         (standing old (W.contents output.old) totals) (standing new (W.contents output.new) after)) }
     ensures early { (old : Record) → K.shown keeper.old ≡ Some old
         → OnErr result (TakesSome sites.now (standing old (W.contents output.old) totals) (W.contents output.new)) }
+    ensures stored { K.stored keeper.old → K.stored keeper.new }
 {
     let mut totals = totals;
     for number in 1..u64::MAX {
@@ -217,6 +221,7 @@ fn take_line<K: SiteKeeper, W: Write>(
         (of_lines path.now number (bytes.items ∷ [])) (standing new (W.contents output.new) after)) }
     ensures early { (old : Record) → K.shown keeper.old ≡ Some old
         → OnErr result (TakesSome sites.now (standing old (W.contents output.old) totals) (W.contents output.new)) }
+    ensures stored { K.stored keeper.old → K.stored keeper.new }
 {
     if is_blank(bytes.as_slice()) {
         return Ok(totals);
@@ -255,6 +260,7 @@ fn take<K: SiteKeeper, W: Write>(
         (standing old (W.contents output.old) totals) (document_of given) (standing new (W.contents output.new) after)) }
     ensures early { (old : Record) → K.shown keeper.old ≡ Some old
         → OnErr result (TakesSome sites.now (standing old (W.contents output.old) totals) (W.contents output.new)) }
+    ensures stored { K.stored keeper.old → K.stored keeper.new }
 {
     let came = captured(keeper, given.bytes)?;
     let line = came_line(alloc, sites, given.source.as_str(), &came)?;
@@ -264,9 +270,10 @@ fn take<K: SiteKeeper, W: Write>(
 
 /// What comes of a document at a site.
 fn captured<K: SiteKeeper>(keeper: &mut K, document: Vec<u8>) -> Result<Came, Fault>
-    ensures { (old : Record) → K.shown keeper.old ≡ Some old
+    ensures came { (old : Record) → K.shown keeper.old ≡ Some old
         → IfOk result (λ came. (new : Record) × (K.shown keeper.new ≡ Some new)
         × ComesTo old document.items came new) }
+    ensures stored { K.stored keeper.old → K.stored keeper.new }
 {
     match keeper.apply(SiteInput::Capture(Sequence::from_vec(document))) {
         Ok(effects) => Ok(came_of(effects)),

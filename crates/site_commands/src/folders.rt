@@ -43,6 +43,9 @@ pub trait Files<K: SiteKeeper> {
     /// A file of these bytes was made at this path.
     ghost writes: { Self → List ℕ → List ℕ → Self → Type 0 };
 
+    /// Of the file of a site at this path, which is closed, these files know this: whole lines, or nothing.
+    ghost knows: { Self → List ℕ → List ℕ → Type 0 };
+
     /// The bytes of a file. `Read` where it is missing or can't be read.
     fn read(&mut self, alloc: Global, path: &str) -> Result<Vec<u8>, Fault>
         ensures { IfOk result (λ bytes. reads self.old path.now bytes.items self.new) };
@@ -60,9 +63,10 @@ pub trait Files<K: SiteKeeper> {
     fn create_site(&mut self, alloc: Global, path: &str, state: SiteState) -> Result<(), Fault>
         ensures { OnOk result (makes self.old path.now state self.new) };
 
-    /// Opens the file of the site of a name.
+    /// Opens the file of the site of a name, on which a crash leaves the record that is shown.
     fn open_site(&mut self, alloc: Global, path: &str, name: &str) -> Result<K, Fault>
-        ensures { IfOk result (λ keeper. opens self.old path.now name.now keeper self.new) };
+        ensures opened { IfOk result (λ keeper. opens self.old path.now name.now keeper self.new) }
+        ensures stored { IfOk result K.stored };
 
     /// Closes the file of a site that was opened.
     fn close_site(&mut self, keeper: K)
@@ -71,6 +75,11 @@ pub trait Files<K: SiteKeeper> {
     /// Makes a file of these bytes. `Write` where one of this path exists, or it can't be made.
     fn write_new(&mut self, path: &str, bytes: &[u8]) -> Result<(), Fault>
         ensures { OnOk result (writes self.old path.now bytes.now self.new) };
+
+    /// What is known of the failures that the file of a site met while it was open, also where it was opened again after
+    /// them: a line, or nothing.
+    fn known_of(&self, alloc: Global, path: &str) -> Result<String, AllocError>
+        ensures { IfOk result (λ known. knows self.now path.now (string_bytes known)) };
 
     /// Is told which file a fault is about that no call of the files returned, before that fault is reported.
     fn blame(&mut self, _path: &str) {}
@@ -123,7 +132,7 @@ pub(crate) fn open_site<K: SiteKeeper, F: Files<K>>(
     sites: &Sites,
     site: SiteNo,
 ) -> Result<K, Fault>
-    ensures { IfOk result (λ keeper. (r : Record) × OpensSite F.opens F.closes K.shown folder.now sites.now site files.old files.new keeper r) }
+    ensures { IfOk result (λ keeper. (r : Record) × OpensSite F.opens F.closes K.shown K.stored folder.now sites.now site files.old files.new keeper r) }
 {
     let path = file_path(alloc, folder, sites, site)?;
     let keeper = files.open_site(alloc, path.as_str(), name_of(sites, site))?;
@@ -154,7 +163,7 @@ pub(crate) fn open_all<K: SiteKeeper, F: Files<K>>(
     folder: &str,
     sites: &Sites,
 ) -> Result<Vec<K>, Fault>
-    ensures opened { IfOk result (λ keepers. (rs : List Record) × OpensFrom F.opens F.closes K.shown folder.now sites.now 0 files.old files.new keepers.items rs) }
+    ensures opened { IfOk result (λ keepers. (rs : List Record) × OpensFrom F.opens F.closes K.shown K.stored folder.now sites.now 0 files.old files.new keepers.items rs) }
     ensures number { IfOk result (λ keepers. length keepers.items ≡ length sites.now) }
 {
     let mut keepers = Vec::new(alloc);

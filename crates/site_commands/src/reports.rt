@@ -32,7 +32,7 @@ pub fn report_recall<K: SiteKeeper, F: Files<K>>(
     folder: &str,
     recall: &str,
 ) -> Result<Answer, Fault>
-    ensures calls { IfOk result (ReportsAt F.reads F.opens F.closes K.shown folder.now recall.now files.old files.new) }
+    ensures calls { IfOk result (ReportsAt F.reads F.opens F.closes K.shown K.stored folder.now recall.now files.old files.new) }
     ensures sound { IfOk result IsAnswer }
 {
     let sites = sites_of(alloc, files, folder)?;

@@ -29,7 +29,7 @@ pub fn capture<K: SiteKeeper, F: Files<K>>(
     site: &str,
     file: &str,
 ) -> Result<Answer, Fault>
-    ensures calls { IfOk result (CapturesAt F.reads F.opens F.closes K.shown folder.now site.now file.now files.old files.new) }
+    ensures calls { IfOk result (CapturesAt F.reads F.opens F.closes K.shown K.stored folder.now site.now file.now files.old files.new) }
     ensures sound { IfOk result IsAnswer }
 {
     let sites = sites_of(alloc, files, folder)?;
@@ -53,7 +53,7 @@ pub fn start<K: SiteKeeper, F: Files<K>>(
     site: &str,
     item: &str,
 ) -> Result<Answer, Fault>
-    ensures calls { IfOk result (StartsAt F.reads F.opens F.closes K.shown folder.now site.now item.now files.old files.new) }
+    ensures calls { IfOk result (StartsAt F.reads F.opens F.closes K.shown K.stored folder.now site.now item.now files.old files.new) }
     ensures sound { IfOk result IsAnswer }
 {
     let sites = sites_of(alloc, files, folder)?;
@@ -76,7 +76,7 @@ fn step_at<K: SiteKeeper, F: Files<K>>(
     site: SiteNo,
     input: SiteInput,
 ) -> Result<Answer, Fault>
-    ensures calls { IfOk result (StepsAt F.opens F.closes K.shown folder.now sites.now site input files.old files.new) }
+    ensures calls { IfOk result (StepsAt F.opens F.closes K.shown K.stored folder.now sites.now site input files.old files.new) }
     ensures sound { IfOk result IsAnswer }
 {
     let mut keeper = open_site(alloc, files, folder, sites, site)?;
@@ -101,6 +101,7 @@ pub fn step<K: SiteKeeper>(
     ensures failed { (old : Record) → K.shown keeper.old ≡ Some old → IfErr result (FailsStep old input (K.shown keeper.new) (K.may keeper.new)) }
     ensures closed { K.shown keeper.old ≡ None → (result ≡ Err Fault.Closed) × (keeper.new ≡ keeper.old) }
     ensures cause { result ≡ Err Fault.Device → Rises (K.failed keeper.old) (K.failed keeper.new) }
+    ensures stored { K.stored keeper.old → K.stored keeper.new }
     ensures kind { (answer : Result Effects KeepFault) × K.applies keeper.old input answer keeper.new × TellsAnswer sites.now answer result }
     ensures sound { IfOk result IsAnswer }
 {

@@ -9,7 +9,7 @@ returns-clause-calls g c =
     let keepers = c.in_ok-keepers.keepers.items in
     let opened = c.in_ok-keepers.ensures.opened in
     let shows = subst (λ ks. AreShown shown ks opened.0) (sym c.as_slice.ensures.value)
-    (opened_shown g.F.Files.opens g.F.Files.closes shown c.args.folder.now c.in_ok-sites.sites 0 c.sites_of.new.files c.open_all.new.files keepers opened.0 opened.1) in
+    (opened_shown g.F.Files.opens g.F.Files.closes shown g.K.SiteKeeper.stored c.args.folder.now c.in_ok-sites.sites 0 c.sites_of.new.files c.open_all.new.files keepers opened.0 opened.1) in
     ok_so c.audit_at-answer.result
     (λ a told. record {
       sites = c.in_ok-sites.sites;

@@ -131,6 +131,7 @@ returns-clause-all g c =
             status_is = c.status-2.ensures;
             kept = c.take_all-totals.new.keeper;
             shows = shows;
+            lasts = c.take_all-totals.ensures.stored opened.lasts;
             closed = c.close_site.ensures;
           });
     }

@@ -10,12 +10,12 @@ came_of-requires g c =
     is_capture (g.K.SiteKeeper.shown c.args.keeper.now) (g.K.SiteKeeper.shown c.apply.new.self) (g.K.SiteKeeper.may c.apply.new.self) c.args.document.items c.in-Ok.effects c.apply.result c.in-Ok.is
     (λ old shows. rw c.from_vec.ensures at (c.apply.ensures.open old shows)) (λ shut. (c.apply.ensures.closed shut).0)
 
-pub returns-in-Ok : goal.returns-in-Ok
-returns-in-Ok g c = λ old shows.
+pub returns-in-Ok-clause-came : goal.returns-in-Ok-clause-came
+returns-in-Ok-clause-came g c = λ old shows.
     comes_of old (g.K.SiteKeeper.shown c.apply.new.self) (g.K.SiteKeeper.may c.apply.new.self) c.args.document.items c.in-Ok.effects c.came_of.result (rw c.from_vec.ensures at (c.in-Ok.ensures.open old shows)) c.came_of.ensures
 
-pub returns-in-Err-Refused : goal.returns-in-Err-Refused
-returns-in-Err-Refused g c = λ old shows.
+pub returns-in-Err-Refused-clause-came : goal.returns-in-Err-Refused-clause-came
+returns-in-Err-Refused-clause-came g c = λ old shows.
     let shown = g.K.SiteKeeper.shown c.apply.new.self in
     let may = g.K.SiteKeeper.may c.apply.new.self in
     let answer = keeping.Refused c.in-Err-Refused.why in

@@ -13,7 +13,7 @@ returns-in_err-line-clause-early g c = λ old shows. on_err c.from_residual-in_e
 
 pub returns-in_err-write_line-clause-early : goal.returns-in_err-write_line-clause-early
 returns-in_err-write_line-clause-early g c = λ old shows.
-    let came = c.in_ok-came.ensures old shows in
+    let came = c.in_ok-came.ensures.came old shows in
     let line = c.as_str-2.ensures.value ∙ c.in_ok-line.ensures ∙ ap (λ source. came_line c.args.sites.now source c.in_ok-came.came) c.as_str.ensures.value in
     let output = g.W.Write.contents c.args.output.now in
     let after = g.W.Write.contents c.write_line.new.output in
@@ -23,7 +23,7 @@ returns-in_err-write_line-clause-early g c = λ old shows.
 
 pub returns-clause-taken : goal.returns-clause-taken
 returns-clause-taken g c = λ old shows.
-    let came = c.in_ok-came.ensures old shows in
+    let came = c.in_ok-came.ensures.came old shows in
     let line = c.as_str-2.ensures.value ∙ c.in_ok-line.ensures ∙ ap (λ source. came_line c.args.sites.now source c.in_ok-came.came) c.as_str.ensures.value in (
       came.0,
       came.1,

@@ -7,6 +7,7 @@ pub loop-number-preserved : goal.loop-number-preserved
 loop-number-preserved g c =
     let opens = g.F.Files.opens in
     let closes = g.F.Files.closes in
+    let stored = g.K.SiteKeeper.stored in
     let shown = g.K.SiteKeeper.shown in
     let folder = c.args.folder.now in
     let sites = c.args.sites.now in
@@ -16,10 +17,10 @@ loop-number-preserved g c =
     let one = c.in_ok-open_site.ensures in
     let count : length keepers ≡ c.loop-number.number = before.1 in
     let place : c.in-Some.site ≡ 0 + length keepers = let none : length keepers ≡ 0 + length keepers = omega arith in c.in-Some.ensures.value ∙ sym count ∙ none in
-    let all = opens_more opens closes shown folder sites 0 c.args.files.now c.loop-number.files c.open_site.new.files keepers before.0.0 keeper one.0 before.0.1
-    (subst (λ (n : ℕ). OpensSite opens closes shown folder sites n c.loop-number.files c.open_site.new.files keeper one.0) place one.1) in
+    let all = opens_more opens closes shown stored folder sites 0 c.args.files.now c.loop-number.files c.open_site.new.files keepers before.0.0 keeper one.0 before.0.1
+    (subst (λ (n : ℕ). OpensSite opens closes shown stored folder sites n c.loop-number.files c.open_site.new.files keeper one.0) place one.1) in
     let items : c.push.new.self.items ≡ keepers ++ keeper ∷ [] = c.in_ok-push.ensures.items in (
-      (before.0.0 ++ one.0 ∷ [], subst (λ ks. OpensFrom opens closes shown folder sites 0 c.args.files.now c.open_site.new.files ks (before.0.0 ++ one.0 ∷ [])) (sym items) all),
+      (before.0.0 ++ one.0 ∷ [], subst (λ ks. OpensFrom opens closes shown stored folder sites 0 c.args.files.now c.open_site.new.files ks (before.0.0 ++ one.0 ∷ [])) (sym items) all),
       ap length items ∙ length-append keepers (keeper ∷ []) ∙ ap (λ (n : ℕ). n + 1) count,
       omega (arith, c.loop-number-test.true),
     )

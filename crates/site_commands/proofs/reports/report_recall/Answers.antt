@@ -12,10 +12,11 @@ returns-clause-calls g c =
     let keepers = c.in_ok-keepers.keepers.items in
     let opened = c.in_ok-keepers.ensures.opened in
     let shows = subst (λ ks. AreShown shown ks opened.0) (sym c.as_slice.ensures.value)
-    (opened_shown g.F.Files.opens g.F.Files.closes shown c.args.folder.now c.in_ok-sites.sites 0 c.sites_of.new.files c.open_all.new.files keepers opened.0 opened.1) in
+    (opened_shown g.F.Files.opens g.F.Files.closes shown g.K.SiteKeeper.stored c.args.folder.now c.in_ok-sites.sites 0 c.sites_of.new.files c.open_all.new.files keepers opened.0 opened.1) in
     let reads = g.F.Files.reads in
     let opens = g.F.Files.opens in
     let closes = g.F.Files.closes in
+    let stored = g.K.SiteKeeper.stored in
     let folder = c.args.folder.now in
     let sites = c.in_ok-sites.sites in
     let name = c.in-Some.name.now in
@@ -27,7 +28,7 @@ returns-clause-calls g c =
     let found = sym c.in-Some-find.is ∙ c.find.ensures in
     ok_so c.report_at-answer.result
     (λ a told.
-    let all : TellsAll opens closes shown folder sites (λ rs x. AnswersReport sites rs (record { site = site; number = number }) x) mid new a = record {
+    let all : TellsAll opens closes shown stored folder sites (λ rs x. AnswersReport sites rs (record { site = site; number = number }) x) mid new a = record {
       mid = c.open_all.new.files;
       keepers = keepers;
       records = opened.0;
@@ -41,7 +42,7 @@ returns-clause-calls g c =
       mid = mid;
       listed = c.in_ok-sites.ensures;
       told =
-          subst (λ o. ReportsBy reads opens closes shown folder sites o mid new a) asked
-          (subst (λ o. AtSite reads opens closes shown name o mid new (λ s. TellsAll opens closes shown folder sites (λ rs x. AnswersReport sites rs (record { site = s; number = number }) x) mid new a) a) found all);
+          subst (λ o. ReportsBy reads opens closes shown stored folder sites o mid new a) asked
+          (subst (λ o. AtSite reads opens closes shown stored name o mid new (λ s. TellsAll opens closes shown stored folder sites (λ rs x. AnswersReport sites rs (record { site = s; number = number }) x) mid new a) a) found all);
     })
     (c.report_at-answer.ensures.answered opened.0 shows)

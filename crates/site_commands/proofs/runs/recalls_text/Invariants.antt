@@ -5,4 +5,4 @@ use Rattle.site_commands.proofs.runs.recalls_text.Given as goal
 
 -- the recalls so far are reported
 abbrev pub invariant-loop-recall : goal.invariant-loop-recall
-invariant-loop-recall l = string_bytes l.text ≡ flat_map (ran_text l.sites) (take l.recall-index l.recall-items)
+invariant-loop-recall l = string_bytes l.text ≡ flat_map (ran_text l.sites) (take l.recall-index l.recalls)

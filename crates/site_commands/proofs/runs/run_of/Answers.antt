@@ -1,32 +1,35 @@
-use Rattle.std.proofs.Common.{All, IsSome, List, refl, string_bytes, sym, subst}
+use Rattle.std.proofs.Common.{List, map, ap, refl, sym, ◌∙◌}
 use Rattle.site_threads.specs.declared.gather.GatherCause.TheVariants.{NotAWorld}
 use Rattle.world_core.specs.declared.faults.WorldFault.TheVariants as worlds
 use Rattle.site_commands.proofs.CallsInTurn.{ok_so}
-use Rattle.site_commands.proofs.RunLemmas.{all_kept_open, came_to_its_end, misfit_told}
-use Rattle.site_commands.specs.Runs.{TellsRecalls}
+use Rattle.site_commands.proofs.RunLemmas.{all_kept_open, came_to_its_end, misfit_told, of_sites}
 use Rattle.site_commands.proofs.runs.run_of.Goals as goal
-use Rattle.site_commands.proofs.runs.run_of.Goals.{in-Ok-tell_recalls, in-Err-tell_recalls}
+use Rattle.site_commands.proofs.runs.run_of.Goals.{in-Ok-tell_run, in-Err-tell_run}
 
 pub returns-in_default-clause-failed : goal.returns-in_default-clause-failed
 returns-in_default-clause-failed g c = record { cause = NotAWorld worlds.NoMemory; hinders = tt; fit = refl; explained = tt; fault_is = refl }
 
-pub tell_recalls-requires-clause-open : goal.tell_recalls-requires-clause-open
-tell_recalls-requires-clause-open g c =
-    let shown = g.K.SiteKeeper.shown in
-    let gathered = c.in-Ok-run_world.field-0 in
-    subst (λ ks. All (λ (k : g.row.K.Denot). IsSome (shown k)) ks) (sym c.as_slice.ensures.value)
-    (all_kept_open shown gathered.keepers.items gathered.lists.items c.in-Ok-run_world.ensures.kept)
+pub tell_run-requires-clause-open : goal.tell_run-requires-clause-open
+tell_run-requires-clause-open g c = all_kept_open g.K.SiteKeeper.shown c.in-Ok-run_world.run.keepers.items c.in-Ok-run_world.run.lists.items c.in-Ok-run_world.ensures.kept
+
+pub tell_run-requires-clause-all : goal.tell_run-requires-clause-all
+tell_run-requires-clause-all g c =
+    let run = c.in-Ok-run_world.run in
+    let failed = g.K.SiteKeeper.failed in
+    let counts = c.as_slice-before.ensures.value ∙ (c.in-Ok.ensures.failures ∙ ap (map failed) c.as_slice.ensures.value) in
+    of_sites g.K.SiteKeeper.shown failed c.args.keepers.items run.keepers.items run.lists.items _ c.in-Ok-run_world.ensures.kept c.in-Ok-run_world.ensures.back c.requires.count.1 counts
 
 pub returns-in-Ok-run_world-clause-answered : goal.returns-in-Ok-run_world-clause-answered
 returns-in-Ok-run_world-clause-answered g c =
     let shown = g.K.SiteKeeper.shown in
-    let gathered = c.in-Ok-run_world.field-0 in
+    let failed = g.K.SiteKeeper.failed in
+    let run = c.in-Ok-run_world.run in
     let ran = c.in-Ok-run_world.ensures in
     let sites = c.args.sites.now in
-    elim c.match-tell_recalls.branch [
-      | in-Ok-tell_recalls w ↦ rw w.answer-is (came_to_its_end shown sites c.args.turns c.args.keepers.items gathered.keepers.items c.in-Ok.desks.items gathered.lists.items _ ran.began ran.kept c.in-Ok.ensures.limits ran.ends ran.turns
-          (subst (λ (ks : List g.row.K.Denot). TellsRecalls shown sites ks (string_bytes w.in-Ok-tell_recalls.text)) c.as_slice.ensures.value w.in-Ok-tell_recalls.ensures))
-      | in-Err-tell_recalls w ↦ rw w.answer-is tt
+    let counts = c.as_slice-before.ensures.value ∙ (c.in-Ok.ensures.failures ∙ ap (map failed) c.as_slice.ensures.value) in
+    elim c.match-tell_run.branch [
+      | in-Ok-tell_run w ↦ rw w.ran-is (came_to_its_end shown failed sites c.args.turns c.args.keepers.items run.keepers.items c.in-Ok.desks.items run.lists.items _ _ _ ran.began ran.kept c.in-Ok.ensures.limits ran.ends ran.turns counts w.in-Ok-tell_run.ensures)
+      | in-Err-tell_run w ↦ rw w.ran-is tt
     ]
 
 pub returns-clause-answered : goal.returns-clause-answered
@@ -34,5 +37,5 @@ returns-clause-answered g c =
     let left = c.in-Err.field-0 in
     let why = c.in-Err.ensures.err in
     ok_so c.tell_cause.result
-    (λ a told. misfit_told g.K.SiteKeeper.shown g.K.SiteKeeper.may c.args.sites.now c.args.turns c.args.keepers.items left.keepers.items left.cause a why.0 why.1 told)
+    (λ r told. misfit_told g.K.SiteKeeper.shown g.K.SiteKeeper.may g.K.SiteKeeper.failed c.args.sites.now c.args.turns c.args.keepers.items left.keepers.items left.cause r.answer r.notes why.0 why.1 told.0 told.1)
     c.tell_cause.ensures.answered

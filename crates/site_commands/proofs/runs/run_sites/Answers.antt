@@ -1,11 +1,9 @@
-use Rattle.site_commands.proofs.CallsInTurn.{ok_so}
 use Rattle.site_commands.proofs.runs.run_sites.Goals as goal
 
 pub returns-clause-calls : goal.returns-clause-calls
 returns-clause-calls g c =
     let opened = c.in_ok-keepers.ensures.opened in
-    ok_so c.run_of-after.result.1
-    (λ a told. record {
+    record {
       sites = c.in_ok-sites.sites;
       mid = c.sites_of.new.files;
       listed = c.in_ok-sites.ensures;
@@ -16,8 +14,9 @@ returns-clause-calls g c =
         opened = opened.1;
         number = c.in_ok-keepers.ensures.number;
         after = c.run_of-after.result.0.items;
-        told = told;
+        notes = c.in_ok-answer.notes;
+        told = c.in_ok-answer.ensures.answered;
         closed = c.close_all.ensures;
+        noted = c.in_ok-notes.ensures;
       };
-    })
-    c.run_of-after.ensures.answered
+    }

@@ -12,6 +12,7 @@ returns-clause-calls g c =
       opened = one.1;
       after = c.step-answer.new.keeper;
       answered = told;
+      lasts = c.step-answer.ensures.stored one.1.lasts;
       closed = c.close_site.ensures;
     })
     (c.step-answer.ensures.answered one.0 one.1.shows.shows)
