@@ -7,7 +7,7 @@ use std::fmt;
 use std::io::{Error, ErrorKind};
 
 /// What is known of a failure of a file.
-#[derive(Debug, Drop)]
+#[derive(Debug)]
 pub(crate) enum Known {
     /// Nothing more than the fault says.
     Nothing,
@@ -51,6 +51,35 @@ pub(crate) enum Known {
     System(Error),
     /// The database's error.
     Database(DatabaseError),
+}
+
+// It is written out, so that a caller does not prove again how each kind is dropped.
+impl Drop for Known {
+    fn drop(self) {
+        match self {
+            Known::Nothing
+            | Known::InUse
+            | Known::NoPermission
+            | Known::NoSpace
+            | Known::Missing
+            | Known::Exists
+            | Known::NotAFile
+            | Known::HardLink
+            | Known::Journal
+            | Known::Damaged
+            | Known::NoDatabase
+            | Known::Unsound
+            | Known::OtherTables
+            | Known::NoStoreRow => {}
+            Known::TableMissing(_) => {}
+            Known::Foreign(_) => {}
+            Known::Row(_) => {}
+            Known::Version(_) => {}
+            Known::Site(_) => {}
+            Known::System(_) => {}
+            Known::Database(_) => {}
+        }
+    }
 }
 
 impl Known {
@@ -128,7 +157,7 @@ impl fmt::Display for Known {
 }
 
 /// Why a call of a file failed.
-#[derive(Debug, Drop)]
+#[derive(Debug)]
 pub(crate) struct Trouble {
     /// The fault that is reported.
     pub(crate) fault: Fault,
@@ -136,6 +165,17 @@ pub(crate) struct Trouble {
     pub(crate) known: Known,
     /// Whether it lies with the log of a database, whose path is the database's and `-wal` behind it.
     pub(crate) of_log: bool,
+}
+
+// It is written out, as that of what is known.
+impl Drop for Trouble {
+    fn drop(self) {
+        let Trouble {
+            fault: _,
+            known: _,
+            of_log: _,
+        } = self;
+    }
 }
 
 impl Trouble {
@@ -148,6 +188,16 @@ impl Trouble {
         }
     }
 
+    /// The fault, what is known of it, and whether it lies with the log.
+    pub(crate) fn parts(self) -> (Fault, Known, bool) {
+        let Trouble {
+            fault,
+            known,
+            of_log,
+        } = self;
+        (fault, known, of_log)
+    }
+
     /// Out of memory, or else this fault, for this error of the system.
     pub(crate) fn of_error(error: &Error, fault: Fault) -> Trouble {
         if error.kind() == ErrorKind::OutOfMemory {
@@ -158,12 +208,24 @@ impl Trouble {
     }
 }
 
-/// A file that a fault is about, and what is known of it: the line behind the fault's.
-#[derive(Debug, Drop)]
+/// A file that a fault or a stop of a site is about, and what is known of it: the line behind the fault's or the
+/// stop's.
+#[derive(Debug)]
 pub(crate) struct Failure {
     pub(crate) path: String,
     pub(crate) of_log: bool,
     pub(crate) known: Known,
+}
+
+// It is written out, as that of what is known.
+impl Drop for Failure {
+    fn drop(self) {
+        let Failure {
+            path: _,
+            of_log: _,
+            known: _,
+        } = self;
+    }
 }
 
 impl fmt::Display for Failure {

@@ -1,5 +1,9 @@
 //! The files of the machine.
 
+ghost use Rattle.std.specs.Prelude.{IfOk};
+ghost use Rattle.site_store.specs.Leavings.{KeepsOwn};
+ghost use Rattle.site_store.specs.Opened.{IsFound};
+
 use crate::causes::{Failure, Known, Trouble};
 use crate::line_files::{INPUT, LineFile};
 use crate::stores::{
@@ -10,14 +14,14 @@ use site_commands::{Fault, Files};
 use site_core::SiteState;
 use site_store::StoredSite;
 use sqlite::{Connection, Options, Wary};
-use std::alloc::Global;
+use sqlite_disk::Tally;
+use std::alloc::{AllocError, Global};
 use std::collections::VecDeque;
 use std::fs::{self, File};
 use std::hash::{BuildHasher, RandomState};
 use std::io::{self, Error, ErrorKind, Read, Write};
 
 /// The files of the machine on which the program runs.
-#[derive(Drop)]
 pub(crate) struct HostFiles<'a> {
     runtime: &'a HostRuntime,
     /// The keys of the hash by which sites number items.
@@ -28,6 +32,22 @@ pub(crate) struct HostFiles<'a> {
     opened: VecDeque<String>,
     /// The last file of which a call failed.
     failure: Option<Failure>,
+    /// The files of sites whose devices failed and that were open again when they were closed, in that order.
+    met: Vec<Failure>,
+}
+
+// It is written out, so that a caller does not prove again how each part is dropped.
+impl Drop for HostFiles<'_> {
+    fn drop(self) {
+        let HostFiles {
+            runtime: _,
+            keys: _,
+            lines: _,
+            opened: _,
+            failure: _,
+            met: _,
+        } = self;
+    }
 }
 
 impl<'a> HostFiles<'a> {
@@ -39,6 +59,7 @@ impl<'a> HostFiles<'a> {
             lines: None,
             opened: VecDeque::new(runtime.alloc()),
             failure: None,
+            met: Vec::new(runtime.alloc()),
         }
     }
 
@@ -61,13 +82,20 @@ impl<'a> HostFiles<'a> {
 
     /// Keeps the path of a file of which a call failed, and returns the fault.
     fn note(&mut self, path: &str, trouble: Trouble) -> Fault {
-        let Trouble {
-            fault,
-            known,
-            of_log,
-        } = trouble;
+        let (fault, known, of_log) = trouble.parts();
         self.keep(path, of_log, known);
         fault
+    }
+
+    /// Keeps what the failures of a site's file were that is open again, if there is memory for it.
+    fn meet(&mut self, path: String, failures: u64, tally: Tally) {
+        if failures > 0 {
+            let _ = self.met.push(Failure {
+                path,
+                of_log: false,
+                known: known_of_step(failures, tally),
+            });
+        }
     }
 
     /// The bytes of a file, or of the standard input to its end.
@@ -94,7 +122,9 @@ impl<'a> HostFiles<'a> {
     }
 
     /// Opens a database, and makes it where there is no file or an empty one.
-    fn connect(&self, path: &str) -> Result<FileConnection, Trouble> {
+    fn connect(&self, path: &str) -> Result<FileConnection, Trouble>
+        ensures { IfOk result (λ conn. IsFound conn) }
+    {
         match Connection::open_from(self.runtime, path, false, Wary) {
             Ok(conn) => Ok(conn),
             Err((error, left)) => {
@@ -135,8 +165,10 @@ impl<'a> HostFiles<'a> {
         }
     }
 
-    /// Opens the file of a site of this name.
-    fn open(&self, alloc: Global, path: &str, name: &str) -> Result<FileSite, Trouble> {
+    /// Opens the file of a site of this name, on which a crash leaves the record that is shown.
+    fn open(&self, alloc: Global, path: &str, name: &str) -> Result<FileSite, Trouble>
+        ensures { IfOk result (λ site. KeepsOwn site) }
+    {
         // Connecting would make a file.
         if !self.finds(path)? {
             return Err(Trouble::new(Fault::Read, Known::Missing));
@@ -150,7 +182,9 @@ impl<'a> HostFiles<'a> {
     }
 
     /// Opens the file of a site of this name, and keeps its path.
-    fn keep_open(&mut self, alloc: Global, path: &str, name: &str) -> Result<FileSite, Trouble> {
+    fn keep_open(&mut self, alloc: Global, path: &str, name: &str) -> Result<FileSite, Trouble>
+        ensures { IfOk result (λ site. KeepsOwn site) }
+    {
         let Ok(kept) = String::from_str(alloc, path) else {
             return Err(Trouble::new(Fault::NoMemory, Known::Nothing));
         };
@@ -184,6 +218,8 @@ impl Files<FileSite> for HostFiles<'_> {
     ghost closes = { λ _ _ _. ⊤ };
 
     ghost writes = { λ _ _ _ _. ⊤ };
+
+    ghost knows = { λ _ _ _. ⊤ };
 
     fn read(&mut self, _: Global, path: &str) -> Result<Vec<u8>, Fault> {
         match self.bytes(path) {
@@ -226,11 +262,24 @@ impl Files<FileSite> for HostFiles<'_> {
         let is_open = keeper.view().is_some();
         let failures = keeper.failures();
         let tally = close(keeper);
-        if is_open || self.failure.is_some() {
+        let Some(path) = path else {
             return;
-        }
-        if let Some(path) = path {
+        };
+        if is_open {
+            self.meet(path, failures, tally);
+        } else if self.failure.is_none() {
             self.keep(path.as_str(), false, known_of_step(failures, tally));
+        }
+    }
+
+    fn known_of(&self, alloc: Global, path: &str) -> Result<String, AllocError> {
+        match self
+            .met
+            .iter()
+            .find(|failure| failure.path.as_str() == path)
+        {
+            Some(failure) => format!(in alloc; "{failure}\n"),
+            None => Ok(String::new(alloc)),
         }
     }
 
@@ -247,8 +296,8 @@ impl Files<FileSite> for HostFiles<'_> {
 }
 
 /// Makes a file of these bytes, whole or not at all: it is written under another name, which is `.new` behind its own,
-/// synced, renamed, and then its folder is synced. An error comes where one of this path exists. After a crash the other
-/// name may be left over, which the next call writes over.
+/// synced, renamed, and then its folder is synced. An error comes where one of this path exists. After a crash the
+/// other name may be left over, which the next call writes over.
 fn written(runtime: &HostRuntime, path: &str, bytes: &[u8]) -> io::Result<()> {
     if fs::exists(runtime, path)? {
         return Err(Error::from(ErrorKind::AlreadyExists));

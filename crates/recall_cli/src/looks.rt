@@ -69,8 +69,8 @@ fn known_of_opening(rt: &HostRuntime, path: &str) -> Option<Known> {
     }
 }
 
-/// What keeps a file from being made. One of another name is tried, so that no other program finds this one and writes to
-/// it.
+/// What keeps a file from being made. One of another name is tried, so that no other program finds this one and writes
+/// to it.
 fn known_of_making(rt: &HostRuntime, path: &str) -> io::Result<Option<Known>> {
     let other = format!(in rt.alloc(); "{path}.new")?;
     match OpenOptions::new()
@@ -109,7 +109,8 @@ pub(crate) fn is_cut(rt: &HostRuntime, path: &str) -> bool {
     }
 }
 
-/// How many bytes the head of a database counts: its pages, at byte 28, of the size at byte 16, where 1 stands for 65,536.
+/// How many bytes the head of a database counts: its pages, at byte 28, of the size at byte 16, where 1 stands for
+/// 65,536.
 fn counted_bytes(head: &[u8; 32]) -> u64 {
     let size = match u16::from_be_bytes([head[16], head[17]]) {
         1 => 65_536,

@@ -9,7 +9,8 @@ use sqlite::{Connection, Error, ErrorCode, FileFrom, FileStore, Files, Wary};
 use sqlite_disk::Tally;
 use std::alloc::Global;
 
-/// A file that is kept by a database. A write that was torn by a crash may have left any bytes, so each commit syncs twice.
+/// A file that is kept by a database. A write that was torn by a crash may have left any bytes, so each commit syncs
+/// twice.
 type KeptFile = FileFrom<Wary>;
 
 /// A connection to a database in a file.
@@ -18,8 +19,8 @@ pub(crate) type FileConnection = Connection<FileStore<KeptFile>>;
 /// A site kept in a file.
 pub(crate) type FileSite = StoredSite<KeptFile>;
 
-/// Closes the file of a site, and returns what its failed calls met. What was committed stands in the file or in its log,
-/// also where this fails.
+/// Closes the file of a site, and returns what its failed calls met. What was committed stands in the file or in its
+/// log, also where this fails.
 pub(crate) fn close(site: FileSite) -> Tally {
     match site.release() {
         Link::Connected(conn) => close_connection(conn),
@@ -50,7 +51,8 @@ fn known_of(tally: Tally) -> Known {
     }
 }
 
-/// Why a step closed a site: its device failed, which its keeper counts, and its calls met that; or the database refused.
+/// Why a step closed a site: its device failed, which its keeper counts, and its calls met that; or the database
+/// refused.
 pub(crate) fn known_of_step(failures: u64, tally: Tally) -> Known {
     if failures > 0 {
         known_of(tally)
