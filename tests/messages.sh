@@ -1,7 +1,7 @@
 #!/usr/bin/env bash
 # Brings about the faults that the program tells by a line `file <path>: <what is known>`, and compares both lines: another
 # program has the file open, no permission, no space, a folder or a link in its place, a file that is cut, tables and rows
-# that are no site's. Those that take `sqlite3`, `strace` or another user are passed over where there is none, with a word.
+# that are no site's; and stops of sites in a run, which it tells so, too. Those that take `sqlite3`, `strace` or another user are passed over where there is none, with a word.
 # Run by hand, and by the gate on the program that it built. RECALL names another program. It ends with status 0 where all
 # is as it should be, and takes some seconds.
 set -u
@@ -190,6 +190,32 @@ if command -v strace >/dev/null; then
     faults Write 'new/sites: Input/output error (os error 5)' breaks rename EIO init new "$chain/sites"
 else
     echo "  strace isn't installed: no call fails"
+fi
+
+# The sites stop that have something to keep, as often as they try: the shops. Once there is room, a run ends the recall.
+echo "a run on a disk that is full"
+if unshare -rm true 2>/dev/null; then
+    fresh
+    must start at plant "$tank"
+    mkdir full
+    unshare -rm sh -c 'mount -t tmpfs -o size=512k none full && cp -r at full/at || exit 9
+        dd if=/dev/zero of=full/fill bs=4k 2>/dev/null
+        "$1" run full/at --turns 20
+        ended=$?
+        rm full/fill
+        "$1" run full/at >then 2>&1
+        exit "$ended"' sh "$recall" >out 2>err </dev/null
+    [ "$?:$(cat out)" = '0:plant#1 open' ] || complain "a run on a full disk: $(cat out err)"
+    {
+        for site in shop-1 shop-2; do
+            printf 'site %s stopped n times: Device\nfile full/at/%s.db: no space left\n' "$site" "$site"
+        done
+        echo 'a further `recall run` goes on with the recalls that are open'
+    } >wanted
+    sed -E 's/ stopped [0-9]+ times: / stopped n times: /' err | cmp -s wanted - || complain "a run on a full disk: $(cat err)"
+    [ "$(cat then)" = 'plant#1 ended' ] || complain "a run once there is room: $(cat then)"
+else
+    echo "  no disk can be mounted: none is full"
 fi
 [ "$failed" = 0 ] && echo "all as it should be"
 exit "$failed"

@@ -1,8 +1,8 @@
 #!/usr/bin/env bash
 # Drives `recall run` on folders of files as a person would: a recall over sixteen sites to its end, stops by `kill -9`
 # at moments of the run, after each of which an audit finds the files in order and further runs end the recall, and two
-# runs of one folder at once, of which one is refused; it looks what a terminal is told of a run, and runs sites that
-# share threads, where it is root.
+# runs of one folder at once, of which one is refused; it looks what a terminal is told of a run, runs sites that share
+# threads, where it is root, and sites whose files may not grow.
 # Run by hand, and by the gate on the program that it built. RECALL names another program, STOPS how often it is
 # stopped. It ends with status 0 where all is as it should be, and takes less than two minutes.
 set -u
@@ -79,8 +79,25 @@ for turns in 0 1000001 x; do
     [ $? = 2 ] && [ ! -s out ] && [ -s err ] || complain "turns $turns: $(cat out err)"
 done
 cp -r started few
-wants 0 's0#1 open' '' run few --turns 1
+on='a further `recall run` goes on with the recalls that are open'
+wants 0 's0#1 open' "$on" run few --turns 1
 ended few
+
+# A file may have 1,024 bytes: what a step writes to its log is more, so nothing can be kept.
+echo "a run whose files may not grow"
+rm -rf full && cp -r started full
+(
+    trap '' XFSZ
+    ulimit -f 1
+    exec "$recall" run full --turns 40 >out 2>err </dev/null
+)
+[ "$?:$(cat out)" = '0:s0#1 open' ] || complain "a run whose files may not grow: $(cat out err)"
+# s0 has its messages to s1 and s2, which alone had something to keep
+sed -E 's/ stopped ([0-9]+ times|once): / stopped: /' err >told
+printf 'site %s stopped: Device\nfile full/%s.db: disk I/O error\n' s1 s1 s2 s2 | cat - <(echo "$on") | cmp -s - told ||
+    complain "a run whose files may not grow: $(cat err)"
+wants 0 'open s0#1' '' audit full
+ended full
 
 # As another user, who may have so many processes: then the sites share threads. Only root can become another user.
 if [ "$(id -u)" = 0 ] && command -v setpriv >/dev/null && command -v prlimit >/dev/null; then
@@ -92,6 +109,8 @@ if [ "$(id -u)" = 0 ] && command -v setpriv >/dev/null && command -v prlimit >/d
         rm -rf shared && cp -r started shared && chown -R "$user" shared
         setpriv --reuid="$user" --clear-groups prlimit --nproc="$processes" ./alone run shared >out 2>err </dev/null
         [ "$?:$(cat out)" = '0:s0#1 ended' ] || complain "a run of $processes threads: $(cat out err)"
+        [ "$(cat err)" = 'the system gave fewer threads than sites, so sites took turns' ] ||
+            complain "a run of $processes threads: $(cat err)"
         chown -R 0 shared
         wants 0 "equal s0#1 pairs $sites" '' audit shared
     done
