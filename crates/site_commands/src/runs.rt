@@ -102,6 +102,7 @@ pub fn run_of<K: SiteKeeper + Send, G: Gate + Copy + Send, R: Threads + Wait + C
     requires count { (2 ≤ length keepers.items) × (length keepers.items ≤ 16) }
     requires turns { turns ≤ 1000000 }
     ensures answered { IfOk result.1 (λ ran. AnswersRun K.shown K.failed sites.now turns keepers.items result.0.items ran.answer ran.notes) }
+    ensures stored { All K.stored keepers.items → All K.stored result.0.items }
     ensures failed { IfErr result.1 (FailsRun K.shown K.may K.reopens G.gives_up turns keepers.items result.0.items) }
     ensures sound { IfOk result.1 (λ ran. IsAnswer ran.answer) }
 {
