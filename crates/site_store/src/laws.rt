@@ -35,7 +35,8 @@ pub fn calls_leave_what_is_the_sites_own<D: Disk>()
 {}
 
 /// A site that was lost in a crash is opened by its name in the record that it showed, or in one in which it might have
-/// been opened, and in no third. The site stands for the one that was lost, and the connection is one to what that left.
+/// been opened, and in no third. The site stands for the one that was lost, and the connection is one to what that
+/// left.
 ///
 /// # Errors
 /// On a disk that doesn't fail `NoMemory` alone.

@@ -34,8 +34,8 @@ fn a_capture_leads_out_of_no_quarantine(rt: HostRuntime) -> Result<(), Fail> {
 }
 
 // A known event changes nothing, and another with its eventID is refused for that before it is blocked. The site
-// doesn't know v. Not for A are a message for B, one of A itself, a signal by A, and numbers below the first and past the
-// last.
+// doesn't know v. Not for A are a message for B, one of A itself, a signal by A, and numbers below the first and past
+// the last.
 fn refuses(alloc: Global, a: &mut SiteState) -> Result<bool, Fail> {
     let known = Effects::Captured {
         fresh: 0,
