@@ -192,3 +192,12 @@ numbered_has_rows rows n r (pair ∷ out) some = found_rows (numbered rows n r (
   stands = numbered_told rows n r (pair ∷ out) 0 n pair refl (omega arith);
   of_recall = refl;
 })
+
+-- a recall has another row exactly where its deficit is above 1
+pub more_rows : (rows : FinMap nat_cmp Row) (n : ℕ) (x : Row) (r : Recall) → get rows n ≡ Some x → x.recall ≡ r → ltb 1 (rows_of rows r) ≡ has_rows (remove rows n) r
+more_rows rows n x r is of_recall =
+    let one_less : rows_of (remove rows n) r + 1 ≡ rows_of rows r = ap (λ q. rows_of (remove rows n) q + 1) (sym of_recall) ∙ deficit_falls rows n x is ∙ ap (rows_of rows) of_recall in
+    ap (ltb 1) (sym one_less) ∙ past_one (rows_of (remove rows n) r) ∙ rows_from_deficit (remove rows n) r
+  where
+    past_one : (k : ℕ) → ltb 1 (k + 1) ≡ ltb 0 k
+    past_one k = grind (arith, nat_tests)

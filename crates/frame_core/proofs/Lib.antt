@@ -1,4 +1,5 @@
 pub mod Ascending
+pub mod Below
 pub mod Counting
 pub mod Deficits
 pub mod Found

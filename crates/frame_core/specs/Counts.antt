@@ -1,8 +1,8 @@
 -- Rows by number, with the count of each recall's rows beside them.
-use Rattle.std.specs.Prelude.{◌≡◌, ℕ, ◌+◌, cond, List, [], ◌∷◌, Option, IfSome, IsSome, unwrap_or, ⊤, refl}
+use Rattle.std.specs.Prelude.{◌≡◌, ℕ, zero, suc, ◌+◌, cond, List, [], ◌∷◌, Option, IfSome, IsSome, unwrap_or, ⊤, refl}
 use Rattle.std.specs.Ordering.{nat_cmp}
 use Rattle.std.specs.Coded.{Coded, code_by, coded×, coded_ℕ}
-use Rattle.std.specs.FinMap.{FinMap, code, get}
+use Rattle.std.specs.FinMap.{FinMap, code, get, remove}
 use Rattle.frame_core.specs.Identifiers.{recall_cmp, same_recall}
 use Rattle.frame_core.specs.Numbers.{Recall, coded_recall}
 use Rattle.frame_core.specs.Outboxes.{rows_of}
@@ -45,3 +45,8 @@ undone rows n (before ∷ later) = set_back (undone rows (n + 1) later) n before
 abbrev pub CanUndo : Counted → ℕ → List (Option Row) → Type 0
 CanUndo c n [] = ⊤
 CanUndo c n (before ∷ later) = IsSome (get c.rows n) × IfSome before (λ row. IsSome (get c.counts row.recall)) × CanUndo c (n + 1) later
+
+-- the rows without those of so many numbers from n on
+abbrev pub without_rows : FinMap nat_cmp Row → ℕ → ℕ → FinMap nat_cmp Row
+without_rows rows n zero = rows
+without_rows rows n (suc k) = without_rows (remove rows n) (n + 1) k

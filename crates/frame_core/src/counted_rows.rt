@@ -1,11 +1,11 @@
-//! Rows by number, with each recall's count of them beside, so that a deficit costs one look-up.
-ghost use Rattle.std.specs.Prelude.{◌≡◌, ◌⊎◌, ◌+◌, ◌<◌, ◌^◌, length, option_map, IfOk, OnOk, OnErr, IfSome, IsSome, None};
+//! Rows by number, with each recall's count of them beside, so that a deficit is looked up.
+ghost use Rattle.std.specs.Prelude.{◌≡◌, ◌⊎◌, ◌+◌, ◌-◌, ◌<◌, ◌≤◌, ◌^◌, ◌↔◌, length, option_map, IfOk, OnOk, OnErr, IfSome, IsSome, IsTrue, None};
 ghost use Rattle.std.specs.Ordering.{nat_cmp};
 ghost use Rattle.std.specs.FinMap as finite;
-ghost use Rattle.frame_core.specs.Counts.{count_in, KeepsCounts, IsRaised, IsLowered, CanUndo, undone};
+ghost use Rattle.frame_core.specs.Counts.{count_in, KeepsCounts, IsRaised, IsLowered, CanUndo, undone, without_rows};
 ghost use Rattle.frame_core.specs.Identifiers.{recall_cmp};
 ghost use Rattle.frame_core.specs.Outboxes.{rows_of, row_for, numbered};
-ghost use Rattle.frame_core.specs.Tables.{as_map, set_back};
+ghost use Rattle.frame_core.specs.Tables.{as_map, set_back, AreBelow};
 
 use crate::identifiers::RecallId;
 use crate::rows::Row;
@@ -179,6 +179,23 @@ impl CountedRows {
         while let Some(before) = replaced.pop() {
             self.undo(first + replaced.len() as u64, before);
         }
+    }
+
+    /// Removes the rows of the numbers from the first on to the one before the next. Does not allocate.
+    pub(crate) fn take_from(&mut self, first: u64, next: u64)
+        requires { first ≤ next }
+        ensures { self.new.rows ≡ without_rows self.old.rows first (next - first) }
+    {
+        for number in first..next {
+            self.take(number);
+        }
+    }
+
+    /// Whether each row's number is below this one. Does not allocate.
+    pub(crate) fn are_below(&self, number: u64) -> bool
+        ensures { IsTrue result ↔ AreBelow self.now.rows number }
+    {
+        tables::are_below(&self.rows, number)
     }
 
     /// How many rows are of a recall. Does not allocate.

@@ -1,10 +1,12 @@
 //! The outbox: messages that are numbered and not signalled yet.
-ghost use Rattle.std.specs.Prelude.{◌≡◌, ◌+◌, ◌<◌, ◌^◌, ◌↔◌, length, option_map, Err, [], ◌∷◌, IfOk, OnOk, OnErr, IfErr, IsFalse};
+ghost use Rattle.std.specs.Prelude.{◌≡◌, ℕ, List, ◌+◌, ◌<◌, ◌≤◌, ◌^◌, ◌↔◌, length, option_map, Err, [], ◌∷◌, IfOk, OnOk, OnErr, IfErr, IsFalse, IsTrue, Some};
 ghost use Rattle.std.specs.Ordering.{nat_cmp};
 ghost use Rattle.std.specs.FinMap as map;
+ghost use Rattle.frame_core.specs.Numbers.{Recall};
 ghost use Rattle.frame_core.specs.Rows.{row_of};
+ghost use Rattle.frame_core.specs.declared.rows.Row.{Row as Told};
 ghost use Rattle.frame_core.specs.Outboxes.{numbered, rows_of, has_rows};
-ghost use Rattle.frame_core.specs.Tables.{as_map};
+ghost use Rattle.frame_core.specs.Tables.{as_map, AreBelow};
 ghost use Rattle.frame_core.specs.Unsignalled.{IsNextNumber};
 
 use crate::counted_rows::CountedRows;
@@ -124,6 +126,27 @@ impl Outbox {
         Ok(())
     }
 
+    /// Takes messages back that were numbered last: the rows of the numbers from this one on go, and it comes
+    /// next again. Does not allocate.
+    pub fn take_back(&mut self, first: u64)
+        requires low { 1 ≤ first }
+        requires no_higher { first ≤ self.old.next }
+        // Where they were numbered from rows that stood below, it is what it was before.
+        ensures rows { (rows : map.FinMap nat_cmp Told) (r : Recall) (out : List (ℕ × List ℕ)) → AreBelow rows first
+            → self.old.rows ≡ numbered rows first r out → self.old.next ≡ first + length out → self.new.rows ≡ rows }
+        ensures next { self.new.next ≡ first }
+    {
+        self.rows.take_from(first, self.next);
+        self.next = first;
+    }
+
+    /// Whether no row stands at the next number, nor past it, by the last row. Does not allocate.
+    pub fn has_free_numbers(&self) -> bool
+        ensures { IsTrue result ↔ AreBelow self.now.rows self.now.next }
+    {
+        self.rows.are_below(self.next)
+    }
+
     /// How many numbers are left.
     pub fn numbers_left(&self) -> u64
         ensures { result + self.now.next ≡ 2 ^ 62 + 1 }
@@ -151,18 +174,26 @@ impl Outbox {
         self.rows.take(number).is_some()
     }
 
-    /// How many messages of a recall are unsignalled. Does not allocate, and costs one look-up.
+    /// How many messages of a recall are unsignalled. Does not allocate.
     pub fn rows_of(&self, recall: RecallId) -> u64
         ensures { result ≡ rows_of self.now.rows recall }
     {
         self.rows.count(recall)
     }
 
-    /// Whether a message of a recall is unsignalled. Does not allocate, and costs one look-up.
+    /// Whether a message of a recall is unsignalled. Does not allocate.
     pub fn has_rows(&self, recall: RecallId) -> bool
         ensures { result ≡ has_rows self.now.rows recall }
     {
         self.rows.count(recall) > 0
+    }
+
+    /// Whether a message of a recall is unsignalled beside this one, which is of the recall. Does not allocate.
+    pub fn has_rows_beside(&self, number: u64, recall: RecallId) -> bool
+        requires of_recall { (row : Told) × (map.get self.now.rows number ≡ Some row) × (row.recall ≡ recall) }
+        ensures { result ≡ has_rows (map.remove self.now.rows number) recall }
+    {
+        self.rows.count(recall) > 1
     }
 
     /// The number that the next message gets, or [`LAST_NUMBER`] + 1 where the numbers are spent.

@@ -1,7 +1,8 @@
 //! Maps of this repository: a `BTreeMap`, which contracts see as a finite map.
-ghost use Rattle.std.specs.Prelude.{◌≡◌, option_map, IfOk, OnOk, OnErr, IfSome, IsSome, None};
+ghost use Rattle.std.specs.Prelude.{◌≡◌, ◌↔◌, option_map, IfOk, OnOk, OnErr, IfSome, IsSome, IsTrue, None};
+ghost use Rattle.std.specs.Ordering.{nat_cmp};
 ghost use Rattle.std.specs.FinMap as finite;
-ghost use Rattle.frame_core.specs.Tables.{as_map, set_back};
+ghost use Rattle.frame_core.specs.Tables.{as_map, set_back, AreBelow};
 
 use crate::identifiers::{MsgId, RecallId};
 use crate::rows::Row;
@@ -103,6 +104,18 @@ pub fn undo<K: Key, V: Drop>(map: &mut BTreeMap<K, V>, key: K, before: Option<V>
             // The key stands, so that this can't fail.
             let _ = put(map, key, value);
         }
+    }
+}
+
+/// Whether each key stands below a number, by the last one. Does not allocate.
+pub fn are_below<V>(map: &BTreeMap<u64, V>, number: u64) -> bool
+    ensures { IsTrue result ↔ AreBelow (as_map nat_cmp map.now) number }
+{
+    // The length shows the proof that the keys ascend.
+    let _length = map.len();
+    match map.last_key_value() {
+        Some((last, _)) => *last < number,
+        None => true,
     }
 }
 

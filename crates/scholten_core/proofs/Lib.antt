@@ -4,4 +4,5 @@ pub mod Fixing
 pub mod Live
 pub mod Owners
 pub mod Taking
+pub mod TakingBack
 pub mod Telling

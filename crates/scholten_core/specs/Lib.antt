@@ -3,5 +3,6 @@ pub mod OwnRecalls
 pub mod Engagement
 pub mod Changes
 pub mod Effects
+pub mod FreeNumbers
 pub mod Replies
 pub mod Laws

@@ -1,13 +1,15 @@
 //! What one site keeps of the recalls that pass it, and how a start, a message and a signal change it.
-ghost use Rattle.std.specs.Prelude.{◌≡◌, ◌+◌, ◌<◌, ◌≤◌, ◌^◌, ◌↔◌, ◌⊎◌, length, option_map, Ok, Err, None, IfOk, OnOk, OnErr, IsSome, IsNone, is_none, ◌&&◌};
+ghost use Rattle.std.specs.Prelude.{◌≡◌, ℕ, List, IsTrue, ◌+◌, ◌<◌, ◌≤◌, ◌^◌, ◌↔◌, ◌⊎◌, length, option_map, Ok, Err, None, IfOk, OnOk, OnErr, IsSome, IsNone, is_none, ◌&&◌};
 ghost use Rattle.std.specs.Ordering.{nat_cmp};
 ghost use Rattle.std.specs.FinMap as map;
 ghost use Rattle.frame_core.specs.Identifiers.{recall_cmp, message_cmp};
+ghost use Rattle.frame_core.specs.Numbers.{Recall};
 ghost use Rattle.frame_core.specs.Outboxes.{numbered, rows_of, has_rows};
 ghost use Rattle.frame_core.specs.Rows.{row_of};
 ghost use Rattle.frame_core.specs.Tables.{as_map};
 ghost use Rattle.frame_core.specs.Unsignalled.{IsNextNumber};
-ghost use Rattle.scholten_core.specs.Engagement.{live_own};
+ghost use Rattle.scholten_core.specs.Engagement.{Engagement, live_own};
+ghost use Rattle.scholten_core.specs.FreeNumbers.{HasFreeNumbers};
 ghost use Rattle.scholten_core.specs.Changes.{began, begun, noted, with_parent, received, signalled};
 
 use crate::outcomes::{Began, Received, Signalled};
@@ -111,8 +113,6 @@ impl Diffusion {
 
     /// Begins a recall of an item, and numbers a message for each destination and item, in order. With no
     /// message the recall has ended. A fault changes nothing.
-    ///
-    /// It costs the messages that it numbers, not the recalls that are kept.
     pub fn begin(&mut self, root: Epc, out: &[(SiteNo, Epc)]) -> Result<Began, NumberFault>
         ensures answer { IfOk result (λ answer. answer ≡ began self.old out.now) }
         ensures ok { OnOk result (self.new ≡ begun self.old root out.now) }
@@ -144,8 +144,6 @@ impl Diffusion {
 
     /// Receives a message of a recall, and numbers a message for each destination and item, in order,
     /// unless it was seen before. A fault changes nothing.
-    ///
-    /// It costs the messages that it numbers, not those that are kept.
     pub fn receive(
         &mut self,
         message: MsgId,
@@ -174,6 +172,65 @@ impl Diffusion {
             self.note(message, recall, out)?;
             Ok(Received::SignalNow { numbered })
         }
+    }
+
+    /// Takes the beginning of a recall back, which was the last change: the recall and its messages go, and their
+    /// numbers come next again. Does not allocate.
+    pub fn take_back_begin(&mut self, first: u64)
+        requires began { 1 < self.old.next_recall }
+        requires low { 1 ≤ first }
+        requires no_higher { first ≤ self.old.next_message }
+        // Where the recall began with free numbers, and this was the next message's, it is what it was before.
+        ensures { (old : Engagement) (root : List ℕ) (out : List (ℕ × List ℕ)) → HasFreeNumbers old
+            → old.next_message ≡ first → self.old ≡ begun old root out → self.new ≡ old }
+    {
+        self.next_recall -= 1;
+        tables::take(&mut self.own, self.next_recall);
+        self.outbox.take_back(first);
+    }
+
+    /// Takes the receiving of a message back, which was the last change, by what it answered: the message is unseen,
+    /// the messages that it gave rise to go, and their numbers come next again. Does not allocate.
+    pub fn take_back_receive(
+        &mut self,
+        message: MsgId,
+        recall: RecallId,
+        answer: Received,
+        first: u64,
+    )
+        requires low { 1 ≤ first }
+        requires no_higher { first ≤ self.old.next_message }
+        // Where the message came at free numbers, and this was the next message's, it is what it was before.
+        ensures { (old : Engagement) (out : List (ℕ × List ℕ)) → HasFreeNumbers old → old.next_message ≡ first
+            → received old message recall out ≡ (self.old, answer) → self.new ≡ old }
+    {
+        match answer {
+            Received::Repeat => {}
+            Received::Owe { .. } => {
+                tables::take(&mut self.parents, recall);
+                self.take_back_note(message, first);
+            }
+            Received::SignalNow { .. } => self.take_back_note(message, first),
+        }
+    }
+
+    /// Takes back that a message was noted, and that those were numbered that it gave rise to.
+    fn take_back_note(&mut self, message: MsgId, first: u64)
+        requires low { 1 ≤ first }
+        requires no_higher { first ≤ self.old.next_message }
+        ensures { (old : Engagement) (r : Recall) (out : List (ℕ × List ℕ)) → HasFreeNumbers old
+            → old.next_message ≡ first → map.get old.seen message ≡ None → self.old ≡ noted old message r out
+            → self.new ≡ old }
+    {
+        self.seen.forget(message);
+        self.outbox.take_back(first);
+    }
+
+    /// Whether no message and no own recall stands at a number that comes next, nor past it. Does not allocate.
+    pub fn has_free_numbers(&self) -> bool
+        ensures { IsTrue result ↔ HasFreeNumbers self.now }
+    {
+        self.outbox.has_free_numbers() && tables::are_below(&self.own, self.next_recall)
     }
 
     /// Notes a message that wasn't seen, numbers the messages that it gives rise to, and takes it as the
@@ -247,8 +304,27 @@ impl Diffusion {
         Signalled::Cleared
     }
 
-    /// How many messages of a recall this site has sent that are not signalled. Does not allocate, and
-    /// costs one look-up.
+    /// What the signal for a message of this site answers, found before it. Does not allocate.
+    pub fn foresee(&self, number: u64) -> Signalled
+        ensures { result ≡ (signalled self.now number).1 }
+    {
+        let recall = match self.outbox.row(number) {
+            Some(row) => row.recall,
+            None => return Signalled::Stale,
+        };
+        if self.outbox.has_rows_beside(number, recall) {
+            return Signalled::Cleared;
+        }
+        if let Some(parent) = self.parent(recall) {
+            return Signalled::ParentDue(parent);
+        }
+        if self.live_own(recall).is_some() {
+            return Signalled::Ended(recall);
+        }
+        Signalled::Cleared
+    }
+
+    /// How many messages of a recall this site has sent that are not signalled. Does not allocate.
     pub fn deficit(&self, recall: RecallId) -> u64
         ensures { result ≡ rows_of self.now.outbox recall }
     {

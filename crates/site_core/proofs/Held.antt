@@ -106,6 +106,12 @@ pub without_last : (q : Quarantine) (r : Recall) (items : List (List ℕ)) (i : 
 without_last q r [] i = refl
 without_last q r (j ∷ items) i = ap (λ p. without_item p r j) (without_last q r items i)
 
+-- once the last one is taken away, the others are to be taken away
+pub released_last : (q left start : Quarantine) (r : Recall) (items rest : List (List ℕ)) (i : List ℕ) → left ≡ without_item q r i → items ≡ rest ++ i ∷ []
+    → without_items q r items ≡ start → without_items left r rest ≡ start
+released_last q left start r items rest i is last were =
+    ap (λ p. without_items p r rest) is ∙ sym (without_last q r rest i) ∙ ap (without_items q r) (sym last) ∙ were
+
 -- under a recall that isn't kept there is nothing to take away
 pub without_none : (q : Quarantine) (r : Recall) (i : List ℕ) → get q r ≡ None → without_item q r i ≡ q
 without_none q r i none =

@@ -7,7 +7,6 @@ pub mod Clearings
 pub mod Closed
 pub mod ClosedSets
 pub mod Closures
-pub mod CopiedRest
 pub mod Deliveries
 pub mod Documents
 pub mod Entries
@@ -43,5 +42,6 @@ pub mod Starting
 pub mod StepLists
 pub mod Stepping
 pub mod Taking
+pub mod TakenBack
 pub mod Takings
 pub mod WaysFix

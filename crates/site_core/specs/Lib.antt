@@ -3,7 +3,6 @@ pub mod Capturing
 pub mod CapturingLaws
 pub mod Codes
 pub mod Emitting
-pub mod Following
 pub mod HeldIndex
 pub mod Holding
 pub mod ItemSets
@@ -22,4 +21,5 @@ pub mod StepLaws
 pub mod Stepping
 pub mod Steps
 pub mod Told
+pub mod Undoing
 pub mod Ways

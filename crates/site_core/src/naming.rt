@@ -17,8 +17,7 @@ pub enum FrameName {
 }
 
 /// The frame of this name that a site may send: the message where it isn't signalled, the signal where its
-/// message was seen and is no parent. `None` where there is none. It costs look-ups and the recalls that the
-/// site is engaged for, and does not allocate.
+/// message was seen and is no parent. `None` where there is none. Does not allocate.
 pub fn frame_named(state: &SiteState, name: FrameName) -> Option<FrameView<'_>>
     ensures { option_map frame_of result ≡ frame_named state.now.engagement name }
 {

@@ -12,7 +12,6 @@ ghost use Rattle.site_core.specs.Steps.{HaveNumbers, AreTooMany, reply};
 use crate::quarantines::Quarantine;
 use crate::shipping::shipments;
 use crate::spreading::{newly_held, newly_held_past, not_held, spread_of};
-use crate::states::SiteState;
 use epc_core::Epc;
 use event_json::SiteNo;
 use frame_core::{MsgId, NumberFault, RecallId};
@@ -89,31 +88,6 @@ fn new_of_message(
         newly_held_past(alloc, captured, quarantine, recall, item, seen)
     } else {
         newly_held(alloc, captured, quarantine, recall, item)
-    }
-}
-
-impl SiteState {
-    /// The items that the site's pairs lead to from the item inside the site, itself among them, that aren't
-    /// quarantined under the recall yet, ascending and without repeats. Where what is quarantined is known to be
-    /// closed inside the site, the search stops at it.
-    pub fn newly_held(
-        &self,
-        alloc: Global,
-        recall: RecallId,
-        item: &Epc,
-    ) -> Result<Vec<Epc>, AllocError>
-        ensures { IfOk result (λ items. AreNewlyHeld self.now.captured self.now.quarantine recall item.now items.items) }
-    {
-        let mut seen = Seen::new(alloc);
-        new_of_message(
-            alloc,
-            &self.captured,
-            &self.quarantine,
-            self.shortcuts.is_closed(),
-            recall,
-            item,
-            &mut seen,
-        )
     }
 }
 

@@ -142,6 +142,15 @@ impl Quarantine {
         }
     }
 
+    /// Takes these items away from a recall, the last one first. Does not allocate.
+    pub(crate) fn release_items(&mut self, recall: RecallId, mut items: Vec<Epc>)
+        ensures { self.new ≡ without_items self.old recall items.items }
+    {
+        while let Some(item) = items.pop() {
+            self.release(recall, &item);
+        }
+    }
+
     /// Takes an item away from a recall. Does not allocate.
     fn release(&mut self, recall: RecallId, item: &Epc)
         ensures { self.new ≡ without_item self.old recall item.now }

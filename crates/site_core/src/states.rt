@@ -21,7 +21,7 @@ use trace_core::Captured;
 
 /// All that one site keeps: the list of sites, the events that it captured, the items that are
 /// quarantined at it, and its part in the recalls that pass it. Beside them it keeps what it knows of the
-/// quarantine, by which messages cost less.
+/// quarantine, so that a message's search may stop at what is held.
 ///
 /// Every site number in it is of its list, and every message and recall number is 1 to 2^62.
 #[derive(Debug)]

@@ -3,6 +3,7 @@ ghost use Rattle.std.specs.Prelude.{◌≡◌, Err, IfOk, IfErr, OnErr};
 ghost use Rattle.frame_core.specs.declared.frames.Frame.TheVariants as frames;
 ghost use Rattle.site_core.specs.Steps.{Does, Refuses, TakesMemory, CopiesRecord, changes};
 ghost use Rattle.site_core.specs.Stepping.{IsStepped, stepped_to};
+ghost use Rattle.site_core.specs.Undoing.{NewlyHeldBy};
 
 use crate::capturing::capture_all;
 use crate::inputs::SiteInput;
@@ -78,20 +79,26 @@ impl SiteState {
     {
         match look(self, input) {
             Some(answer) => answer,
-            None => self.change(input),
+            None => {
+                let (effects, _) = self.change(input)?;
+                Ok(effects)
+            }
         }
     }
 
-    /// The step of an input that isn't answered by a look.
-    fn change(&mut self, input: &SiteInput) -> Result<Effects, Refusal>
+    /// The step of an input that isn't answered by a look, and the items that come under a recall by it.
+    pub(crate) fn change(&mut self, input: &SiteInput) -> Result<(Effects, Vec<Epc>), Refusal>
         requires { CopiesRecord self.old input.now }
-        ensures done { IfOk result (λ effects. Does self.old input.now effects self.new) }
+        ensures done { IfOk result (λ made. Does self.old input.now made.0 self.new) }
+        ensures held { IfOk result (λ made. NewlyHeldBy self.old input.now made.1.items) }
         ensures refused { IfErr result (λ why. Refuses self.old input.now why) }
         ensures unchanged { OnErr result (self.new ≡ self.old) }
         ensures memory { result ≡ Err Refusal.NoMemory → TakesMemory self.old input.now }
     {
         match input {
-            SiteInput::Capture(bytes) => self.capture(bytes.as_slice()),
+            SiteInput::Capture(bytes) => {
+                Ok((self.capture(bytes.as_slice())?, Vec::new(self.alloc)))
+            }
             SiteInput::Start(root) => self.start(root),
             SiteInput::Deliver(
                 Frame::Recall {
@@ -101,7 +108,9 @@ impl SiteState {
                     item,
                 },
             ) => self.take(*id, *dest, *recall, item),
-            SiteInput::Deliver(Frame::Signal { id, by }) => Ok(self.clear(*id, *by)),
+            SiteInput::Deliver(Frame::Signal { id, by }) => {
+                Ok((self.clear(*id, *by), Vec::new(self.alloc)))
+            }
         }
     }
 
@@ -123,10 +132,11 @@ impl SiteState {
         })
     }
 
-    /// Starts a recall of an item that the site knows.
-    fn start(&mut self, root: &Epc) -> Result<Effects, Refusal>
+    /// Starts a recall of an item that the site knows, and returns the items that come under it.
+    fn start(&mut self, root: &Epc) -> Result<(Effects, Vec<Epc>), Refusal>
         requires known { CopiesRecord self.old (SiteInput.Start root.now) }
-        ensures done { IfOk result (λ effects. Does self.old (SiteInput.Start root.now) effects self.new) }
+        ensures done { IfOk result (λ made. Does self.old (SiteInput.Start root.now) made.0 self.new) }
+        ensures held { IfOk result (λ made. NewlyHeldBy self.old (SiteInput.Start root.now) made.1.items) }
         ensures refused { IfErr result (λ why. Refuses self.old (SiteInput.Start root.now) why) }
         ensures unchanged { OnErr result (self.new ≡ self.old) }
     {
@@ -143,24 +153,26 @@ impl SiteState {
             root,
             &plan,
         )?;
-        Ok(Effects::Started {
+        let effects = Effects::Started {
             recall,
             quarantined: plan.new.len() as u64,
             numbered: began.numbered,
             ended: began.ended,
-        })
+        };
+        Ok((effects, plan.new))
     }
 
-    /// Takes a message that is for the site and wasn't seen.
+    /// Takes a message that is for the site and wasn't seen, and returns the items that come under its recall.
     fn take(
         &mut self,
         message: MsgId,
         dest: SiteNo,
         recall: RecallId,
         item: &Epc,
-    ) -> Result<Effects, Refusal>
+    ) -> Result<(Effects, Vec<Epc>), Refusal>
         requires unseen { CopiesRecord self.old (SiteInput.Deliver (frames.Recall message dest recall item.now)) }
-        ensures done { IfOk result (λ effects. Does self.old (SiteInput.Deliver (frames.Recall message dest recall item.now)) effects self.new) }
+        ensures done { IfOk result (λ made. Does self.old (SiteInput.Deliver (frames.Recall message dest recall item.now)) made.0 self.new) }
+        ensures held { IfOk result (λ made. NewlyHeldBy self.old (SiteInput.Deliver (frames.Recall message dest recall item.now)) made.1.items) }
         ensures refused { IfErr result (λ why. Refuses self.old (SiteInput.Deliver (frames.Recall message dest recall item.now)) why) }
         ensures unchanged { OnErr result (self.new ≡ self.old) }
     {
@@ -182,11 +194,12 @@ impl SiteState {
             &plan,
         )?;
         self.shortcuts.keep_seen(recall, seen);
-        Ok(Effects::Received {
+        let effects = Effects::Received {
             quarantined: plan.new.len() as u64,
             numbered: plan.out.len() as u64,
             owed,
-        })
+        };
+        Ok((effects, plan.new))
     }
 
     /// Takes a signal for a message that stands and went to the site that signals. Does not allocate.

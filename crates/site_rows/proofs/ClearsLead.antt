@@ -1,14 +1,13 @@
 -- The rows of a record once a signal cleared a message.
 use Rattle.std.proofs.Common.{◌≡◌, ℕ, pos, Bool, true, false, List, [], ◌∷◌, Option, Some, None, map, fold, refl, sym, ap, subst, ◌∙◌, IsPermutation}
 use Rattle.std.specs.Ordering.{nat_cmp}
-use Rattle.std.specs.Cmp.{nat_cmp_total}
-use Rattle.std.specs.FinMap.{FinMap, nat_cmp-IsAntisymmetric, get, insert, remove, entries}
+use Rattle.std.specs.FinMap.{FinMap, get, insert, remove, entries}
 use Rattle.std.proofs.lemmas.List.{append-nil}
 use Rattle.std.proofs.lemmas.List.Sorted.{IsPermutation-refl}
 use Rattle.frame_core.specs.Identifiers.{recall_cmp}
 use Rattle.frame_core.specs.Numbers.{Recall, Message}
 use Rattle.frame_core.specs.Outboxes.{has_rows}
-use Rattle.frame_core.proofs.Lookups.{get_here}
+use Rattle.scholten_core.proofs.Live.{live_known}
 use Rattle.scholten_core.specs.Changes.{settled, at_row}
 use Rattle.scholten_core.specs.Engagement.{Engagement, live_own}
 use Rattle.scholten_core.specs.OwnRecalls.{with_end}
@@ -35,14 +34,14 @@ abbrev IsSettled : Engagement → ℕ → Recall → Engagement → Signalled �
 IsSettled e n r t Stale = ⊥
 IsSettled e n r t Cleared = t ≡ cleared e n
 IsSettled e n r t (ParentDue parent) = t ≡ record (cleared e n) { parents = remove e.parents r }
-IsSettled e n r t (Ended q) = (q ≡ r) × (own : Own) × (t ≡ record (cleared e n) { own = insert e.own r.number (with_end own) })
+IsSettled e n r t (Ended q) = (q ≡ r) × (own : Own) × (get e.own r.number ≡ Some own) × (t ≡ record (cleared e n) { own = insert e.own r.number (with_end own) })
 
-is_settled : (e : Engagement) (n : ℕ) (r : Recall) (left : Bool) (parent : Option Message) (live : Option Own)
+is_settled : (e : Engagement) (n : ℕ) (r : Recall) (left : Bool) (parent : Option Message) (live : Option Own) → live_own (cleared e n) r ≡ live
     → IsSettled e n r (settled (cleared e n) r left parent live).0 (settled (cleared e n) r left parent live).1
-is_settled e n r true parent live = refl
-is_settled e n r false (Some parent) live = refl
-is_settled e n r false None (Some own) = (refl, own, refl)
-is_settled e n r false None None = refl
+is_settled e n r true parent live is = refl
+is_settled e n r false (Some parent) live is = refl
+is_settled e n r false None (Some own) is = (refl, own, live_known (cleared e n) r own is, refl)
+is_settled e n r false None None is = refl
 
 pub clears_settled : (s t : Record) (m : Message) (by : ℕ) (answer : Signalled) (c : Clears s m by answer t) → IsSettled s.engagement m.number c.row.recall t.engagement answer
 clears_settled s t m by answer c =
@@ -51,7 +50,7 @@ clears_settled s t m by answer c =
     let r = c.row.recall in
     let is : settled left r (has_rows left.outbox r) (get left.parents r) (live_own left r) ≡ (t.engagement, answer) =
     sym (ap (at_row e m.number) c.has.stands) ∙ c.engaged in
-    subst (λ (p : Engagement × Signalled). IsSettled e m.number r p.0 p.1) is (is_settled e m.number r (has_rows left.outbox r) (get left.parents r) (live_own left r))
+    subst (λ (p : Engagement × Signalled). IsSettled e m.number r p.0 p.1) is (is_settled e m.number r (has_rows left.outbox r) (get left.parents r) (live_own left r) refl)
 
 abbrev pub clear_changes : ℕ → List RecallKey → List RecallRow → RowChanges
 clear_changes n left recall = record no_changes { signalled = pos n ∷ []; left = left; recall = recall }
@@ -96,28 +95,22 @@ module _ (s t : Record) (m : Message) (by : ℕ) where
       let after : t ≡ after_clearing s m.number (remove e.parents r) e.own = c.after ∙ ap (λ (x : Engagement). record s { engagement = x }) (clears_settled s t m by (ParentDue parent) c) in
       (clearing_leads s t m.number (remove e.parents r) e.own (key_of r ∷ []) [] after (left_parent e.parents r) (IsPermutation-refl _) changes is, ap counts_of is)
 
-  -- the own recall of an end, as it stands afterwards
-  pub ended_own : (recall : Recall) → Clears s m by (Ended recall) t → Own
-  ended_own recall c = with_end (clears_settled s t m by (Ended recall) c).1
+  -- the own recall of an end, as it stood before
+  abbrev pub before_end : (recall : Recall) → Clears s m by (Ended recall) t → Own
+  before_end recall c = (clears_settled s t m by (Ended recall) c).1
 
-  pub ended_stands : (recall : Recall) (c : Clears s m by (Ended recall) t) → get t.engagement.own recall.number ≡ Some (ended_own recall c)
-  unfolding ended_own
-  ended_stands recall c =
-      let e = s.engagement in
-      let r = c.row.recall in
+  pub ended_was : (recall : Recall) (c : Clears s m by (Ended recall) t) → get s.engagement.own recall.number ≡ Some (before_end recall c)
+  ended_was recall c =
       let is = clears_settled s t m by (Ended recall) c in
-      ap (λ (x : Engagement). get x.own recall.number) is.2
-      ∙ ap (λ (q : Recall). get (insert e.own r.number (with_end is.1)) q.number) is.0
-      ∙ get_here nat_cmp_total nat_cmp-IsAntisymmetric e.own r.number (with_end is.1)
+      ap (λ (q : Recall). get s.engagement.own q.number) is.0 ∙ is.2
 
   pub ended_leads : (recall : Recall) (c : Clears s m by (Ended recall) t) → (changes : RowChanges)
-      → changes ≡ clear_changes m.number [] (recall_row (recall.number, ended_own recall c) ∷ []) → AreChangesOf changes (effects.Ended recall) s t
-  unfolding ended_own
+      → changes ≡ clear_changes m.number [] (recall_row (recall.number, with_end (before_end recall c)) ∷ []) → AreChangesOf changes (effects.Ended recall) s t
   ended_leads recall c changes is =
       let e = s.engagement in
       let r = c.row.recall in
       let settled = clears_settled s t m by (Ended recall) c in
       let own = with_end settled.1 in
-      let after : t ≡ after_clearing s m.number e.parents (insert e.own r.number own) = c.after ∙ ap (λ (x : Engagement). record s { engagement = x }) settled.2 in
+      let after : t ≡ after_clearing s m.number e.parents (insert e.own r.number own) = c.after ∙ ap (λ (x : Engagement). record s { engagement = x }) settled.3 in
       let as_settled : changes ≡ clear_changes m.number [] (recall_row (r.number, own) ∷ []) = is ∙ ap (λ (q : Recall). clear_changes m.number [] (recall_row (q.number, own) ∷ [])) settled.0 in
       (clearing_leads s t m.number e.parents (insert e.own r.number own) [] (recall_row (r.number, own) ∷ []) after (IsPermutation-refl _) (put_own e.own r.number own) changes as_settled, ap counts_of is)

@@ -31,6 +31,7 @@ pub mod SameQuarantines
 pub mod SameRecalls
 pub mod SameRecords
 pub mod SameSites
+pub mod SignalsKeep
 pub mod StartsLead
 pub mod StepsLead
 pub mod TablesOfRecords

@@ -1,5 +1,5 @@
 -- The rows that each step changes, by its input and its effects.
-use Rattle.std.proofs.Common.{◌≡◌, ℕ, ◌+◌, Bool, cond, List, [], ◌∷◌, Some, length, map, drop, ap, ◌∙◌, sym, subst}
+use Rattle.std.proofs.Common.{◌≡◌, ℕ, ◌+◌, Bool, cond, List, [], ◌∷◌, Option, Some, length, map, drop, ap, ◌∙◌, sym, subst}
 use Rattle.std.specs.Cmp.{nat_cmp_total}
 use Rattle.std.specs.FinMap.{FinMap, nat_cmp-IsAntisymmetric, get, insert}
 use Rattle.std.specs.Ordering.{nat_cmp}
@@ -10,6 +10,7 @@ use Rattle.frame_core.specs.Outboxes.{numbered}
 use Rattle.frame_core.proofs.Lookups.{get_here}
 use Rattle.scholten_core.specs.Changes.{next_own, begun}
 use Rattle.scholten_core.specs.Engagement.{Engagement}
+use Rattle.scholten_core.specs.OwnRecalls.{with_end}
 use Rattle.scholten_core.specs.declared.own_recalls.Own.{Own}
 use Rattle.site_core.specs.declared.inputs.SiteInput.TheVariants.{Capture, Start, Deliver}
 use Rattle.site_core.specs.declared.outcomes.Effects.{Effects}
@@ -17,6 +18,8 @@ use Rattle.site_core.specs.declared.outcomes.Effects.TheVariants as effects
 use Rattle.site_core.specs.Records.{Record}
 use Rattle.site_core.specs.Spreading.{AreNewlyHeld}
 use Rattle.site_core.specs.Steps.{Does, Starts, Takes}
+use Rattle.site_core.specs.Undoing.{NewlyHeldBy, NewlyHeldOnce}
+use Rattle.site_core.proofs.SameLists.{same_newly}
 use Rattle.site_rows.specs.declared.changes.RowChanges.{RowChanges}
 use Rattle.site_rows.specs.declared.changes.Numbers.{Numbers}
 use Rattle.site_rows.specs.declared.changes.RecallKey.{RecallKey}
@@ -26,7 +29,7 @@ use Rattle.site_rows.specs.declared.rows.RecallRow.{RecallRow}
 use Rattle.site_rows.specs.RecordRows.{quarantine_row, seen_row, parent_row, recall_row}
 use Rattle.site_rows.specs.StepRows.{AreChangesOf, no_changes, numbers_of, numbers_changed}
 use Rattle.site_rows.proofs.CapturesLead.{event_changes, captures_lead}
-use Rattle.site_rows.proofs.ClearsLead.{clear_changes, cleared_leads, parent_due_leads, ended_own, ended_stands, ended_leads}
+use Rattle.site_rows.proofs.ClearsLead.{clear_changes, cleared_leads, parent_due_leads, before_end, ended_was, ended_leads}
 use Rattle.site_rows.proofs.MessageRows.{key_of}
 use Rattle.site_rows.proofs.StartsLead.{message_rows, own_begun, starts_lead}
 use Rattle.site_rows.proofs.TakesLead.{messages_numbered, takes_lead}
@@ -36,10 +39,17 @@ pub capture_leads : (s t : Record) (bytes : List ℕ) (told : Effects) → Does 
 capture_leads s t bytes (effects.Captured fresh known skipped) h changes is = captures_lead s t bytes fresh known skipped h changes is
 capture_leads s t bytes other h changes is = absurd h
 
--- Each piece of the changes as it is found at the records before and after.
+-- a capture leaves the sites as they are
+pub capture_sites : (s t : Record) (bytes : List ℕ) (told : Effects) → Does s (Capture bytes) told t → t.sites ≡ s.sites
+capture_sites s t bytes (effects.Captured fresh known skipped) h = ap (λ (x : Record). x.sites) h.rest
+capture_sites s t bytes other h = absurd h
 
-abbrev pub AreNewRows : Record → Recall → List ℕ → List QuarantineRow → Type 0
-AreNewRows s r i rows = (items : List (List ℕ)) → AreNewlyHeld s.captured s.quarantine r i items → rows ≡ map (quarantine_row r) items
+-- Each piece of the changes as it is found at the record after the step, or beside that.
+
+-- the rows of the items that came under a recall are those of any that did
+same_held : (s : Record) (r : Recall) (i : List ℕ) (held new : List (List ℕ)) (rows : List QuarantineRow) → AreNewlyHeld s.captured s.quarantine r i held → AreNewlyHeld s.captured s.quarantine r i new
+    → rows ≡ map (quarantine_row r) held → rows ≡ map (quarantine_row r) new
+same_held s r i held new rows were are is = is ∙ ap (map (quarantine_row r)) (same_newly s.captured s.quarantine r i held new were are)
 
 abbrev pub AreNumberedRows : Record → ℕ → List OutboxRow → Type 0
 AreNumberedRows t n rows = (before : FinMap nat_cmp Row) (r : Recall) (out : List (ℕ × List ℕ)) → t.engagement.outbox ≡ numbered before n r out → t.engagement.next_message ≡ n + length out
@@ -48,22 +58,26 @@ AreNumberedRows t n rows = (before : FinMap nat_cmp Row) (r : Recall) (out : Lis
 abbrev pub AreOwnRows : Record → ℕ → List RecallRow → Type 0
 AreOwnRows t n rows = (own : Own) → get t.engagement.own n ≡ Some own → rows ≡ recall_row (n, own) ∷ []
 
+abbrev pub AreEndedRows : Record → ℕ → List RecallRow → Type 0
+AreEndedRows s n rows = (own : Own) → get s.engagement.own n ≡ Some own → rows ≡ recall_row (n, with_end own) ∷ []
+
 abbrev pub AreRecallKeys : Record → ℕ → List RecallKey → Type 0
 AreRecallKeys s n keys = (row : Row) → get s.engagement.outbox n ≡ Some row → keys ≡ key_of row.recall ∷ []
 
 abbrev pub started_changes : List QuarantineRow → List OutboxRow → List RecallRow → Numbers → RowChanges
 started_changes quarantine outbox recall numbers = record no_changes { quarantine = quarantine; outbox = outbox; recall = recall; numbers = Some numbers }
 
-start_by : (s t : Record) (root : List ℕ) (recall : Recall) (quarantined count : ℕ) (ended : Bool) → Starts s root recall quarantined count ended t
-    → (r : Recall) (n : ℕ) → r ≡ next_own s.engagement → n ≡ s.engagement.next_message
-    → (quarantine : List QuarantineRow) (outbox : List OutboxRow) (own : List RecallRow) → AreNewRows s r root quarantine → AreNumberedRows t n outbox → AreOwnRows t r.number own
-    → AreChangesOf (started_changes quarantine outbox own (numbers_of t.engagement)) (effects.Started recall quarantined count ended) s t
-start_by s t root recall quarantined count ended c r n same at quarantine outbox own new messages owns =
+pub start_leads : (s t : Record) (root : List ℕ) (r : Recall) (quarantined count : ℕ) (ended : Bool) → Starts s root r quarantined count ended t
+    → (n : ℕ) → n ≡ s.engagement.next_message → (held : List (List ℕ)) → NewlyHeldBy s (Start root) held
+    → (quarantine : List QuarantineRow) (outbox : List OutboxRow) (own : List RecallRow) → quarantine ≡ map (quarantine_row r) held → AreNumberedRows t n outbox → AreOwnRows t r.number own
+    → (changes : RowChanges) → changes ≡ started_changes quarantine outbox own (numbers_of t.engagement) → AreChangesOf changes (effects.Started r quarantined count ended) s t
+start_leads s t root r quarantined count ended c n at held were quarantine outbox own new messages owns changes is =
     let e = s.engagement in
+    let same : r ≡ next_own e = c.next in
     let begins = own_begun root c.out in
     let after : t.engagement ≡ begun e root c.out = ap (λ (x : Record). x.engagement) c.after in
     let items : quarantine ≡ map (quarantine_row (next_own e)) c.new =
-    new c.new (subst (λ (q : Recall). AreNewlyHeld s.captured s.quarantine q root c.new) (sym same) c.may.newly) ∙ ap (λ (q : Recall). map (quarantine_row q) c.new) same in
+    same_held s (next_own e) root held c.new quarantine were c.may.newly (new ∙ ap (λ (q : Recall). map (quarantine_row q) held) same) in
     let rows : outbox ≡ message_rows e.next_message (next_own e) c.out =
     messages e.outbox (next_own e) c.out (ap (λ (x : Engagement). x.outbox) after ∙ ap (λ k. numbered e.outbox k (next_own e) c.out) (sym at))
     (ap (λ (x : Engagement). x.next_message) after ∙ ap (λ k. k + length c.out) (sym at))
@@ -72,17 +86,7 @@ start_by s t root recall quarantined count ended c r n same at quarantine outbox
     ap (λ (x : Engagement). get x.own r.number) after ∙ ap (λ (q : Recall). get (insert e.own e.next_recall begins) q.number) same
     ∙ get_here nat_cmp_total nat_cmp-IsAntisymmetric e.own e.next_recall begins in
     let recalls : own ≡ recall_row (e.next_recall, begins) ∷ [] = owns begins stands ∙ ap (λ (q : Recall). recall_row (q.number, begins) ∷ []) same in
-    starts_lead s t root recall quarantined count ended c (started_changes quarantine outbox own (numbers_of t.engagement))
-    (λ i. started_changes (items i) (rows i) (recalls i) (numbers_of (after i)))
-
-pub start_leads : (s t : Record) (root : List ℕ) (told : Effects) → Does s (Start root) told t
-    → (r : Recall) (n : ℕ) → r ≡ next_own s.engagement → n ≡ s.engagement.next_message
-    → (quarantine : List QuarantineRow) (outbox : List OutboxRow) (own : List RecallRow) → AreNewRows s r root quarantine → AreNumberedRows t n outbox → AreOwnRows t r.number own
-    → (changes : RowChanges) → changes ≡ started_changes quarantine outbox own (numbers_of t.engagement) → AreChangesOf changes told s t
-start_leads s t root (effects.Started recall quarantined count ended) h r n same at quarantine outbox own new messages owns changes is =
-    subst (λ (ch : RowChanges). AreChangesOf ch (effects.Started recall quarantined count ended) s t) (sym is)
-    (start_by s t root recall quarantined count ended h r n same at quarantine outbox own new messages owns)
-start_leads s t root other h r n same at quarantine outbox own new messages owns changes is = absurd h
+    starts_lead s t root r quarantined count ended c changes (is ∙ (λ i. started_changes (items i) (rows i) (recalls i) (numbers_of (after i))))
 
 abbrev pub received_changes : Record → Record → Message → Recall → List QuarantineRow → List OutboxRow → Bool → RowChanges
 received_changes s t m r quarantine outbox owed = record no_changes {
@@ -94,12 +98,14 @@ received_changes s t m r quarantine outbox owed = record no_changes {
 }
 
 pub receive_leads : (s t : Record) (m : Message) (dest : ℕ) (r : Recall) (i : List ℕ) (quarantined count : ℕ) (owed : Bool) → Takes s m dest r i quarantined count owed t
-    → (n : ℕ) → n ≡ s.engagement.next_message → (quarantine : List QuarantineRow) (outbox : List OutboxRow) → AreNewRows s r i quarantine → AreNumberedRows t n outbox
+    → (n : ℕ) → n ≡ s.engagement.next_message → (held : List (List ℕ)) → NewlyHeldBy s (Deliver (frames.Recall m dest r i)) held
+    → (quarantine : List QuarantineRow) (outbox : List OutboxRow) → quarantine ≡ map (quarantine_row r) held → AreNumberedRows t n outbox
     → (changes : RowChanges) → changes ≡ received_changes s t m r quarantine outbox owed → AreChangesOf changes (effects.Received quarantined count owed) s t
-receive_leads s t m dest r i quarantined count owed c n at quarantine outbox new messages changes is =
+receive_leads s t m dest r i quarantined count owed c n at held were quarantine outbox new messages changes is =
     let e = s.engagement in
     let found = messages_numbered s t m dest r i quarantined count owed c in
-    let items : quarantine ≡ map (quarantine_row r) c.new = new c.new c.may.newly in
+    let newly = subst (λ (o : Option Recall). NewlyHeldOnce s o r i held) c.may.unseen were in
+    let items : quarantine ≡ map (quarantine_row r) c.new = same_held s r i held c.new quarantine newly c.may.newly new in
     let rows : outbox ≡ message_rows e.next_message r c.out =
     messages e.outbox r c.out (found.0 ∙ ap (λ k. numbered e.outbox k r c.out) (sym at)) (found.1 ∙ ap (λ k. k + length c.out) (sym at)) ∙ ap (λ k. message_rows k r c.out) at in
     takes_lead s t m dest r i quarantined count owed c changes (is ∙ (λ j. received_changes s t m r (items j) (rows j) owed))
@@ -122,11 +128,11 @@ module _ (s t : Record) (m : Message) (by : ℕ) (told : Effects) (n : ℕ) (at 
       subst (λ (e : Effects). AreChangesOf changes e s t) (sym is)
       (parent_due_leads s t m by parent c changes (same ∙ (λ i. clear_changes (sym at i) (left i) [])))
 
-  pub signal_ends : (recall : Recall) → told ≡ effects.Ended recall → (rows : List RecallRow) → AreOwnRows t recall.number rows
+  pub signal_ends : (recall : Recall) → told ≡ effects.Ended recall → (rows : List RecallRow) → AreEndedRows s recall.number rows
       → (changes : RowChanges) → changes ≡ clear_changes n [] rows → AreChangesOf changes told s t
   signal_ends recall is rows are changes same =
       let c = subst As is does in
-      let own = ended_own s t m by recall c in
-      let ended : rows ≡ recall_row (recall.number, own) ∷ [] = are own (ended_stands s t m by recall c) in
+      let own = before_end s t m by recall c in
+      let ended : rows ≡ recall_row (recall.number, with_end own) ∷ [] = are own (ended_was s t m by recall c) in
       subst (λ (e : Effects). AreChangesOf changes e s t) (sym is)
       (ended_leads s t m by recall c changes (same ∙ (λ i. clear_changes (sym at i) [] (ended i))))

@@ -6,13 +6,17 @@ use Rattle.event_json.specs.Events.{Content, IsBody, IsIdentifier}
 use Rattle.event_json.specs.Sites.{AreSites, Site}
 use Rattle.event_json.specs.declared.bodies.Body.{Body}
 use Rattle.event_json.specs.declared.bodies.Body.TheVariants.{Note, Ship, Make}
-use Rattle.frame_core.specs.Numbers.{Recall}
+use Rattle.frame_core.specs.Numbers.{Recall, Message}
+use Rattle.frame_core.specs.declared.frames.Frame.TheVariants as frames
 use Rattle.frame_core.specs.declared.rows.Row.{Row}
 use Rattle.scholten_core.specs.Engagement.{Engagement}
 use Rattle.scholten_core.specs.declared.own_recalls.Own.{Own}
 use Rattle.site_core.specs.ItemSets as set
 use Rattle.site_core.specs.Quarantines.{Items, Quarantine}
 use Rattle.site_core.specs.Records.{Record, IsSound}
+use Rattle.site_core.specs.Steps.{Does}
+use Rattle.site_core.specs.declared.inputs.SiteInput.TheVariants.{Deliver}
+use Rattle.site_core.specs.declared.outcomes.Effects.{Effects}
 use Rattle.site_rows.specs.BadParts.{AreMembers}
 use Rattle.site_rows.specs.ReadRows.{IsBadRow}
 use Rattle.site_rows.specs.RecordRows.{rows_of}
@@ -73,3 +77,9 @@ pub record HoldsTexts (s : Record) : Type 0 where
   pub quarantine : (r : Recall) (items : Items) → finite.get s.quarantine r ≡ Some items → All IsUtf8 (set.items items)
   pub outbox : (number : ℕ) (row : Row) → finite.get s.engagement.outbox number ≡ Some row → IsUtf8 row.item
   pub own : (number : ℕ) (own : Own) → finite.get s.engagement.own number ≡ Some own → IsUtf8 own.root
+
+-- after a signal a record that a site may keep is one still, with the texts of items and sites, in UTF-8
+abbrev pub SignalsKeepItems : Type 0
+SignalsKeepItems =
+    (s t : Record) (m : Message) (by : ℕ) (told : Effects) → Does s (Deliver (frames.Signal m by)) told t
+    → IsKept s → HoldsItems s → HoldsTexts s → IsKept t × HoldsItems t × HoldsTexts t

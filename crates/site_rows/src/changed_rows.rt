@@ -1,4 +1,4 @@
-//! Rows of what one step adds, each found at the records before and after it.
+//! Rows of what one step adds, each found at the record after it, or at what it leaves beside that.
 ghost use Rattle.std.specs.Prelude.{◌≡◌, ◌+◌, ◌++◌, ◌∷◌, [], ℕ, List, Some, cond, length, map, nat_lt, pos, IfOk};
 ghost use Rattle.std.specs.FinMap as finite;
 ghost use Rattle.std.specs.List.{enumerate_from};
@@ -6,8 +6,9 @@ ghost use Rattle.std.specs.Ordering.{nat_cmp};
 ghost use Rattle.frame_core.specs.Numbers.{Recall};
 ghost use Rattle.frame_core.specs.Outboxes.{numbered, row_for};
 ghost use Rattle.frame_core.specs.declared.rows.Row.{Row};
+ghost use Rattle.scholten_core.specs.Engagement.{Engagement};
+ghost use Rattle.scholten_core.specs.OwnRecalls.{with_end};
 ghost use Rattle.scholten_core.specs.declared.own_recalls.Own.{Own};
-ghost use Rattle.site_core.specs.Spreading.{AreNewlyHeld};
 ghost use Rattle.site_rows.specs.RecordRows.{quarantine_row, outbox_row, seen_row, parent_row, recall_row};
 ghost use Rattle.site_rows.specs.StepRows.{numbers_of, numbers_changed};
 
@@ -23,7 +24,7 @@ use site_core::SiteState;
 use std::alloc::{AllocError, Global};
 
 /// The rows of items that come under a recall.
-fn rows_held(
+pub fn rows_held(
     alloc: Global,
     recall: RecallId,
     items: &[Epc],
@@ -41,19 +42,6 @@ fn rows_held(
         })?;
     }
     Ok(Sequence::from_vec(rows))
-}
-
-/// The rows of the items of an item's spread that the recall doesn't hold yet.
-pub fn newly_held_rows(
-    alloc: Global,
-    state: &SiteState,
-    recall: RecallId,
-    item: &Epc,
-) -> Result<Sequence<QuarantineRow>, AllocError>
-    ensures { (items : List (List ℕ)) → AreNewlyHeld state.now.captured state.now.quarantine recall item.now items → IfOk result (λ rows. rows ≡ map (quarantine_row recall) items) }
-{
-    let items = state.newly_held(alloc, recall, item)?;
-    rows_held(alloc, recall, &items)
 }
 
 /// The row of an unsignalled message.
@@ -151,6 +139,32 @@ pub fn own_rows_at(
     Ok(Sequence::from_vec(rows))
 }
 
+/// The row of an own recall once it has ended.
+fn ended_row(alloc: Global, number: u64, own: &Own) -> Result<RecallRow, AllocError>
+    ensures { IfOk result (λ row. row ≡ recall_row (number, with_end own.now)) }
+{
+    Ok(RecallRow {
+        number: stored(number)?,
+        root: Text::from_string(own.root.key(alloc)?),
+        ended: 1,
+    })
+}
+
+/// The row of the own recall of this number, once it has ended.
+pub fn ended_rows_at(
+    alloc: Global,
+    state: &SiteState,
+    number: u64,
+) -> Result<Sequence<RecallRow>, AllocError>
+    ensures { (own : Own) → finite.get state.now.engagement.own number ≡ Some own → IfOk result (λ rows. rows ≡ recall_row (number, with_end own) ∷ []) }
+{
+    let mut rows = Vec::new(alloc);
+    if let Some(own) = tables::get(state.own_recalls(), number) {
+        rows.push(ended_row(alloc, number, own)?)?;
+    }
+    Ok(Sequence::from_vec(rows))
+}
+
 /// The number of a message, as a key of a table.
 pub fn message_keys(alloc: Global, number: u64) -> Result<Sequence<i64>, AllocError>
     ensures { IfOk result (λ keys. keys ≡ pos number ∷ []) }
@@ -188,11 +202,11 @@ pub fn numbers_of(state: &SiteState) -> Result<Numbers, AllocError>
     })
 }
 
-/// The numbers that a site gives next, where it numbered messages.
-pub fn numbers_changed(old: &SiteState, new: &SiteState) -> Result<Option<Numbers>, AllocError>
-    ensures { IfOk result (λ numbers. numbers ≡ numbers_changed old.now.engagement new.now.engagement) }
+/// The numbers that a site gives next, where its next message had this number and it numbered messages since.
+pub fn numbers_changed(next: u64, new: &SiteState) -> Result<Option<Numbers>, AllocError>
+    ensures { (old : Engagement) → next ≡ old.next_message → IfOk result (λ numbers. numbers ≡ numbers_changed old new.now.engagement) }
 {
-    if old.next_message() < new.next_message() {
+    if next < new.next_message() {
         Ok(Some(numbers_of(new)?))
     } else {
         Ok(None)

@@ -34,7 +34,7 @@ pub use rows::{
     AddressRow, EventRow, OutboxRow, ParentRow, PartRow, QuarantineRow, RecallRow, Rows, SeenRow,
     SiteRow, StoreRow,
 };
-pub use step_changes::changes_of;
+pub use step_changes::{changes_of, signal_changes_of};
 pub use tables::Table;
 pub use texts::Text;
 pub use writing::rows_of;

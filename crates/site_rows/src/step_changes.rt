@@ -1,54 +1,60 @@
-//! The rows that a step changes, found at the records before and after it.
-ghost use Rattle.std.specs.Prelude.{◌≡◌, ◌∷◌, [], ℕ, List, pos, IfOk};
+//! The rows that a step changes, found at what it leaves, or, of a signal, at the record before it.
+ghost use Rattle.std.specs.Prelude.{◌≡◌, ◌∷◌, [], ℕ, Bool, List, length, pos, IfOk};
 ghost use Rattle.frame_core.specs.declared.frames.Frame.TheVariants as frames;
 ghost use Rattle.frame_core.specs.Numbers.{Message};
-ghost use Rattle.site_core.specs.Steps.{Does, Takes};
+ghost use Rattle.site_core.specs.Records.{Record};
+ghost use Rattle.site_core.specs.Steps.{Does, Starts, Takes};
+ghost use Rattle.site_core.specs.Undoing.{IsSignal, IsUndoOf};
 ghost use Rattle.site_core.specs.declared.outcomes.Effects.{Effects};
 ghost use Rattle.site_core.specs.declared.outcomes.Effects.TheVariants as effects;
-ghost use Rattle.site_rows.specs.RecordRows.{rows_of};
-ghost use Rattle.site_rows.specs.StepRows.{AreChangesOf, LeadsTo, counts_of, counts_told, no_changes};
+ghost use Rattle.site_rows.specs.StepRows.{AreChangesOf, no_changes};
 
 use crate::changed_rows::{
-    message_keys, newly_held_rows, numbered_rows, numbers_changed, numbers_of, own_rows_at,
-    parent_rows_of, recall_keys_at, seen_rows_of,
+    ended_rows_at, message_keys, numbered_rows, numbers_changed, numbers_of, own_rows_at,
+    parent_rows_of, recall_keys_at, rows_held, seen_rows_of,
 };
 use crate::changes::{RecallKey, RowChanges};
 use crate::event_rows::{event_rows, part_rows};
 use crate::rows::RecallRow;
-use epc_core::Epc;
 use event_json::Sequence;
 use frame_core::{Frame, MsgId, RecallId};
-use site_core::{Effects, SiteInput, SiteState};
+use site_core::{Effects, SiteInput, SiteState, StepUndo};
 use std::alloc::{AllocError, Global};
 
-/// The rows that a step changes: what it adds, puts in place and takes away. It costs what the step changes. The effects
-/// count them, but for the members of events. Fails where memory runs out.
+/// The rows that a step changed that is no signal: what it added, and what it put in place. They are found at the record
+/// after it and at what takes the step back. The effects count them, but for the members of events. Fails where memory
+/// runs out.
 pub fn changes_of(
     alloc: Global,
-    old: &SiteState,
     input: &SiteInput,
     effects: &Effects,
+    undo: &StepUndo,
     new: &SiteState,
 ) -> Result<RowChanges, AllocError>
-    requires step { Does old.now input.now effects.now new.now }
-    ensures rows { IfOk result (λ changes. LeadsTo changes (rows_of old.now) (rows_of new.now)) }
-    ensures counts { IfOk result (λ changes. counts_of changes ≡ counts_told effects.now) }
+    requires no_signal { IsSignal input.now → ⊥ }
+    ensures { (old : Record) → Does old input.now effects.now new.now → IsUndoOf undo.now old input.now → IfOk result (λ changes. AreChangesOf changes effects.now old new.now) }
 {
     match input {
-        SiteInput::Capture(_) => captured_changes(alloc, old, new),
-        SiteInput::Start(root) => started_changes(alloc, old, root, new),
-        SiteInput::Deliver(
-            Frame::Recall {
-                id,
-                recall,
-                item,
-                ..
-            },
-        ) => taken_changes(alloc, old, *id, *recall, item, effects, new),
-        SiteInput::Deliver(Frame::Signal { id, .. }) => {
-            signalled_changes(alloc, old, id.number, effects, new)
+        SiteInput::Capture(_) => captured_changes(alloc, undo.captured, new),
+        SiteInput::Start(_) => started_changes(alloc, effects, undo, new),
+        SiteInput::Deliver(Frame::Recall { id, recall, .. }) => {
+            taken_changes(alloc, *id, *recall, effects, undo, new)
         }
+        SiteInput::Deliver(Frame::Signal { .. }) => Ok(no_changes(alloc)),
     }
+}
+
+/// The rows that a signal for this message changes, found at the record before it, by what it does: what it takes away,
+/// and what it puts in place. Fails where memory runs out.
+pub fn signal_changes_of(
+    alloc: Global,
+    old: &SiteState,
+    message: MsgId,
+    effects: &Effects,
+) -> Result<RowChanges, AllocError>
+    ensures { (by : ℕ) (new : Record) → Does old.now (SiteInput.Deliver (frames.Signal message by)) effects.now new → IfOk result (λ changes. AreChangesOf changes effects.now old.now new) }
+{
+    signalled_changes(alloc, old, message.number, effects)
 }
 
 /// No row is changed. Does not allocate.
@@ -69,17 +75,12 @@ fn no_changes(alloc: Global) -> RowChanges
     }
 }
 
-/// The rows that a capture adds: those of the events that weren't captured before.
-fn captured_changes(
-    alloc: Global,
-    old: &SiteState,
-    new: &SiteState,
-) -> Result<RowChanges, AllocError>
-    ensures { (bytes : List ℕ) (told : Effects) → Does old.now (SiteInput.Capture bytes) told new.now → IfOk result (λ changes. AreChangesOf changes told old.now new.now) }
+/// The rows that a capture adds: those of the events from this place on, which weren't captured before.
+fn captured_changes(alloc: Global, from: usize, new: &SiteState) -> Result<RowChanges, AllocError>
+    ensures { (old : Record) (bytes : List ℕ) (told : Effects) → Does old (SiteInput.Capture bytes) told new.now → from ≡ length old.captured.events → IfOk result (λ changes. AreChangesOf changes told old new.now) }
 {
-    let from = old.captured().len();
     let event = event_rows(alloc, new.captured(), from)?;
-    let part = part_rows(alloc, old.sites(), new.captured(), from)?;
+    let part = part_rows(alloc, new.sites(), new.captured(), from)?;
     Ok(RowChanges {
         event,
         part,
@@ -97,21 +98,31 @@ fn captured_changes(
 /// The rows that a start changes.
 fn started_changes(
     alloc: Global,
-    old: &SiteState,
-    root: &Epc,
+    effects: &Effects,
+    undo: &StepUndo,
     new: &SiteState,
 ) -> Result<RowChanges, AllocError>
-    ensures { (told : Effects) → Does old.now (SiteInput.Start root.now) told new.now → IfOk result (λ changes. AreChangesOf changes told old.now new.now) }
+    ensures { (old : Record) (root : List ℕ) → Does old (SiteInput.Start root) effects.now new.now → IsUndoOf undo.now old (SiteInput.Start root) → IfOk result (λ changes. AreChangesOf changes effects.now old new.now) }
 {
-    let number = old.next_recall();
-    let recall = RecallId {
-        site: old.me(),
-        number,
-    };
+    match effects {
+        Effects::Started { recall, .. } => begun_changes(alloc, *recall, undo, new),
+        _ => Ok(no_changes(alloc)),
+    }
+}
+
+/// The rows that the start of this recall changes.
+fn begun_changes(
+    alloc: Global,
+    recall: RecallId,
+    undo: &StepUndo,
+    new: &SiteState,
+) -> Result<RowChanges, AllocError>
+    ensures { (old : Record) (root : List ℕ) (quarantined numbered : ℕ) (ended : Bool) → Starts old root recall quarantined numbered ended new.now → IsUndoOf undo.now old (SiteInput.Start root) → IfOk result (λ changes. AreChangesOf changes (effects.Started recall quarantined numbered ended) old new.now) }
+{
     let numbers = numbers_of(new)?;
-    let quarantine = newly_held_rows(alloc, old, recall, root)?;
-    let outbox = numbered_rows(alloc, new, old.next_message())?;
-    let own = own_rows_at(alloc, new, number)?;
+    let quarantine = rows_held(alloc, recall, &undo.held)?;
+    let outbox = numbered_rows(alloc, new, undo.next_message)?;
+    let own = own_rows_at(alloc, new, recall.number)?;
     Ok(RowChanges {
         event: Sequence::new(alloc),
         part: Sequence::new(alloc),
@@ -129,18 +140,17 @@ fn started_changes(
 /// The rows that a message of a recall changes, which may have been seen before.
 fn taken_changes(
     alloc: Global,
-    old: &SiteState,
     message: MsgId,
     recall: RecallId,
-    item: &Epc,
     effects: &Effects,
+    undo: &StepUndo,
     new: &SiteState,
 ) -> Result<RowChanges, AllocError>
-    ensures { (dest : ℕ) → Does old.now (SiteInput.Deliver (frames.Recall message dest recall item.now)) effects.now new.now → IfOk result (λ changes. AreChangesOf changes effects.now old.now new.now) }
+    ensures { (old : Record) (dest : ℕ) (item : List ℕ) → Does old (SiteInput.Deliver (frames.Recall message dest recall item)) effects.now new.now → IsUndoOf undo.now old (SiteInput.Deliver (frames.Recall message dest recall item)) → IfOk result (λ changes. AreChangesOf changes effects.now old new.now) }
 {
     match effects {
         Effects::Received { owed, .. } => {
-            received_changes(alloc, old, message, recall, item, *owed, new)
+            received_changes(alloc, message, recall, *owed, undo, new)
         }
         _ => Ok(no_changes(alloc)),
     }
@@ -149,18 +159,17 @@ fn taken_changes(
 /// The rows that a message of a recall changes that wasn't seen.
 fn received_changes(
     alloc: Global,
-    old: &SiteState,
     message: MsgId,
     recall: RecallId,
-    item: &Epc,
     owed: bool,
+    undo: &StepUndo,
     new: &SiteState,
 ) -> Result<RowChanges, AllocError>
-    ensures { (dest quarantined numbered : ℕ) → Takes old.now message dest recall item.now quarantined numbered owed new.now → IfOk result (λ changes. AreChangesOf changes (effects.Received quarantined numbered owed) old.now new.now) }
+    ensures { (old : Record) (dest : ℕ) (item : List ℕ) (quarantined numbered : ℕ) → Takes old message dest recall item quarantined numbered owed new.now → IsUndoOf undo.now old (SiteInput.Deliver (frames.Recall message dest recall item)) → IfOk result (λ changes. AreChangesOf changes (effects.Received quarantined numbered owed) old new.now) }
 {
-    let numbers = numbers_changed(old, new)?;
-    let quarantine = newly_held_rows(alloc, old, recall, item)?;
-    let outbox = numbered_rows(alloc, new, old.next_message())?;
+    let numbers = numbers_changed(undo.next_message, new)?;
+    let quarantine = rows_held(alloc, recall, &undo.held)?;
+    let outbox = numbered_rows(alloc, new, undo.next_message)?;
     let seen = seen_rows_of(alloc, message, recall)?;
     let parent = parent_rows_of(alloc, message, recall, owed)?;
     Ok(RowChanges {
@@ -183,9 +192,8 @@ fn signalled_changes(
     old: &SiteState,
     number: u64,
     effects: &Effects,
-    new: &SiteState,
 ) -> Result<RowChanges, AllocError>
-    ensures { (m : Message) (by : ℕ) → m.number ≡ number → Does old.now (SiteInput.Deliver (frames.Signal m by)) effects.now new.now → IfOk result (λ changes. AreChangesOf changes effects.now old.now new.now) }
+    ensures { (m : Message) (by : ℕ) (new : Record) → m.number ≡ number → Does old.now (SiteInput.Deliver (frames.Signal m by)) effects.now new → IfOk result (λ changes. AreChangesOf changes effects.now old.now new) }
 {
     match effects {
         Effects::Cleared => {
@@ -196,7 +204,7 @@ fn signalled_changes(
             cleared_changes(alloc, number, left, Sequence::new(alloc))
         }
         Effects::Ended(recall) => {
-            let ended = own_rows_at(alloc, new, recall.number)?;
+            let ended = ended_rows_at(alloc, old, recall.number)?;
             cleared_changes(alloc, number, Sequence::new(alloc), ended)
         }
         _ => Ok(no_changes(alloc)),

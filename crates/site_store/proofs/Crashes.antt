@@ -49,8 +49,8 @@ module _ {D : Type 0} {g : disk.Ghosts D} where
   abbrev HoldStanding : Link D g → Kept → Files D → Type 0
   HoldStanding link kept files = ∥ ((db : Trees) × HoldsDatabase (image_of g files) db × (r : Record) × StandsAt link kept r × HoldsRecord r db) ∥₁
 
-  hold_shown : (conn : Held (FileStore D g)) (kept : Kept) (files : Files D) → kept.is_open ≡ true → IsKeptOver conn kept.pair → AreLeftBehind (Connected conn) files → HoldStanding (Connected conn) kept files
-  hold_shown conn kept files is keeps left = ∥∥₁_map left.1 (λ x. (x.0, x.2, kept.pair, inl (opened kept is), (keeps left.0).crash x.0 x.1))
+  hold_shown : (conn : Held (FileStore D g)) (kept : Kept) (files : Files D) → kept.is_open ≡ true → IsKeptOver conn kept.standing.state → AreLeftBehind (Connected conn) files → HoldStanding (Connected conn) kept files
+  hold_shown conn kept files is keeps left = ∥∥₁_map left.1 (λ x. (x.0, x.2, kept.standing.state, inl (opened kept is), (keeps left.0).crash x.0 x.1))
 
   hold_one : (link : Link D g) (kept : Kept) (files : Files D) → kept.is_open ≡ false → LinkLeaves (MayIn kept) link → AreLeftBehind link files → HoldStanding link kept files
   hold_one (Connected conn) kept files shut leaves left =

@@ -16,35 +16,35 @@ use Rattle.site_store.specs.declared.kept.Kept.{Kept}
 use Rattle.site_store.specs.Kept.{shown_in, MayIn, failures_after, ClosesAt, StepsKept, AppliesKept, StopsAfter, StopsKept, stopped_at}
 
 -- where a record is shown, it is open in that
-pub shown_open : (k : Kept) (r : Record) → shown_in k ≡ Some r → (k.is_open ≡ true) × (k.pair ≡ r)
+pub shown_open : (k : Kept) (r : Record) → shown_in k ≡ Some r → (k.is_open ≡ true) × (k.standing.state ≡ r)
 shown_open k r shown = at k.is_open shown
   where
-    at : (b : Bool) → (if b then Some k.pair else None) ≡ Some r → (b ≡ true) × (k.pair ≡ r)
-    at true e = (refl, same_Some k.pair r e)
+    at : (b : Bool) → (if b then Some k.standing.state else None) ≡ Some r → (b ≡ true) × (k.standing.state ≡ r)
+    at true e = (refl, same_Some k.standing.state r e)
     at false e = absurd (let f : None ≡ Some r = e in cc)
 
-pub opened : (k : Kept) → k.is_open ≡ true → shown_in k ≡ Some k.pair
-opened k is = ap (λ b. if b then Some k.pair else None) is
+pub opened : (k : Kept) → k.is_open ≡ true → shown_in k ≡ Some k.standing.state
+opened k is = ap (λ b. if b then Some k.standing.state else None) is
 
 pub closed_shows : (k : Kept) → k.is_open ≡ false → shown_in k ≡ None
-closed_shows k is = ap (λ b. if b then Some k.pair else None) is
+closed_shows k is = ap (λ b. if b then Some k.standing.state else None) is
 
 -- closed in a step, it may be opened in the record before it or in the one after
-old_or_new : (r : Record) (input : SiteInput) (fault : KeepFault) (old new : Kept) → old.pair ≡ r → ClosesAt old input fault new → MayBeOldOrNew r input (MayIn new)
+old_or_new : (r : Record) (input : SiteInput) (fault : KeepFault) (old new : Kept) → old.standing.state ≡ r → ClosesAt old input fault new → MayBeOldOrNew r input (MayIn new)
 old_or_new r input fault old new same h q may =
-    let before : new.pair ≡ r = ap (λ (k : Kept). k.pair) h.2 ∙ same in
-    let after : new.next ≡ Some h.0 = ap (λ (k : Kept). k.next) h.2 in
-    ⊎_elim (λ e. inl (e ∙ before)) (λ e. inr (subst (λ x. IsAfter r input x) (same_Some h.0 q (sym after ∙ e)) (subst (λ x. IsAfter x input h.0) same h.1))) may
+    let before : new.standing.state ≡ r = ap (λ (k : Kept). k.standing.state) h.1 ∙ same in
+    let asked : new.standing.pending ≡ Some input = ap (λ (k : Kept). k.standing.pending) h.1 in
+    ⊎_elim (λ e. inl (e ∙ before)) (λ w. inr (subst (λ x. IsAfter x input q) before (subst (λ i. IsAfter new.standing.state i q) (same_Some w.0 input (sym w.1 ∙ asked)) w.2))) may
 
 closes : (r : Record) (input : SiteInput) (fault : KeepFault) (old new : Kept) → ClosesAt old input fault new → shown_in new ≡ None
-closes r input fault old new h = closed_shows new (ap (λ (k : Kept). k.is_open) h.2)
+closes r input fault old new h = closed_shows new (ap (λ (k : Kept). k.is_open) h.1)
 
-stays : (r : Record) (old new : Kept) → old.is_open ≡ true → old.pair ≡ r → new ≡ old → shown_in new ≡ Some r
+stays : (r : Record) (old new : Kept) → old.is_open ≡ true → old.standing.state ≡ r → new ≡ old → shown_in new ≡ Some r
 stays r old new is same e = ap shown_in e ∙ opened old is ∙ ap (λ (x : Record). Some x) same
 
-steps : (r : Record) (input : SiteInput) (answer : Result Effects KeepFault) (old new : Kept) → old.is_open ≡ true → old.pair ≡ r → StepsKept old input answer new → Applies r input answer (shown_in new) (MayIn new)
+steps : (r : Record) (input : SiteInput) (answer : Result Effects KeepFault) (old new : Kept) → old.is_open ≡ true → old.standing.state ≡ r → StepsKept old input answer new → Applies r input answer (shown_in new) (MayIn new)
 steps r input (Ok effects) old new is same h =
-    subst (λ o. Applies r input (Ok effects) o (MayIn new)) (sym (opened new (ap (λ (k : Kept). k.is_open) h.2 ∙ is))) (subst (λ x. Does x input effects new.pair) same h.0)
+    subst (λ o. Applies r input (Ok effects) o (MayIn new)) (sym (opened new (ap (λ (k : Kept). k.is_open) h.2 ∙ is))) (subst (λ x. Does x input effects new.standing.state) same h.0)
 steps r input (Err (Refused why)) old new is same h = rw (stays r old new is same h.1) (rw (sym same) h.0, refl)
 steps r input (Err NoMemory) old new is same h = rw (stays r old new is same h.1) refl
 steps r input (Err Device) old new is same h = rw (closes r input Device old new h) (old_or_new r input Device old new same h)
@@ -66,8 +66,8 @@ applies_memory r input old new shown h =
 pub shown_closed : (k : Kept) → shown_in k ≡ None → k.is_open ≡ false
 shown_closed k shown = at k.is_open shown
   where
-    at : (b : Bool) → (if b then Some k.pair else None) ≡ None → b ≡ false
-    at true e = absurd (let f : Some k.pair ≡ None = e in cc)
+    at : (b : Bool) → (if b then Some k.standing.state else None) ≡ None → b ≡ false
+    at true e = absurd (let f : Some k.standing.state ≡ None = e in cc)
     at false e = refl
 
 -- and where it shows none
@@ -95,8 +95,8 @@ steps_count : (input : SiteInput) (answer : Result Effects KeepFault) (old new :
 steps_count input (Ok effects) old new h = rw (ap (λ (k : Kept). k.failures) h.2) (omega arith)
 steps_count input (Err (Refused why)) old new h = kept_count old new h.1
 steps_count input (Err NoMemory) old new h = kept_count old new h.1
-steps_count input (Err Device) old new h = rw (ap (λ (k : Kept). k.failures) h.2) (one_more_counts old.failures)
-steps_count input (Err Store) old new h = rw (ap (λ (k : Kept). k.failures) h.2) (omega arith)
+steps_count input (Err Device) old new h = rw (ap (λ (k : Kept). k.failures) h.1) (one_more_counts old.failures)
+steps_count input (Err Store) old new h = rw (ap (λ (k : Kept). k.failures) h.1) (omega arith)
 steps_count input (Err Closed) old new h = absurd h
 
 -- no failure is forgotten
@@ -112,24 +112,24 @@ pub applies_cause : (input : SiteInput) (old new : Kept) → AppliesKept old.is_
 applies_cause input old new h = at old.is_open h
   where
     at : (b : Bool) → AppliesKept b old input (Err Device) new → Rises old.failures new.failures
-    at true it = rw (ap (λ (k : Kept). k.failures) it.2) (one_more_rises old.failures)
+    at true it = rw (ap (λ (k : Kept). k.failures) it.1) (one_more_rises old.failures)
     at false it = absurd (let f : Err Device ≡ Err Closed = it.0 in cc)
 
 -- stopped in its record
-rests : (k new : Kept) → new ≡ stopped_at k → (shown_in new ≡ None) × ((q : Record) → MayIn new q → q ≡ k.pair)
+rests : (k new : Kept) → new ≡ stopped_at k → (shown_in new ≡ None) × ((q : Record) → MayIn new q → q ≡ k.standing.state)
 rests k new e = (
   closed_shows new (ap (λ (k : Kept). k.is_open) e),
-  λ q may. ⊎_elim (λ h. h ∙ ap (λ (k : Kept). k.pair) e) (λ h. absurd (let f : None ≡ Some q = sym (ap (λ (k : Kept). k.next) e) ∙ h in cc)) may,
+  λ q may. ⊎_elim (λ h. h ∙ ap (λ (k : Kept). k.standing.state) e) (λ w. absurd (let f : None ≡ Some w.0 = sym (ap (λ (k : Kept). k.standing.pending) e) ∙ w.1 in cc)) may,
 )
 
-in_step : (r : Record) (input : SiteInput) (answer : Result Effects KeepFault) (old mid new : Kept) (done : Bool) → old.is_open ≡ true → old.pair ≡ r → StepsKept old input answer mid → StopsAfter answer mid done new
+in_step : (r : Record) (input : SiteInput) (answer : Result Effects KeepFault) (old mid new : Kept) (done : Bool) → old.is_open ≡ true → old.standing.state ≡ r → StepsKept old input answer mid → StopsAfter answer mid done new
     → Stops r input New done (shown_in new) (MayIn new)
 in_step r input (Ok effects) old mid new done is same h stop =
     let it = rests mid new stop.1 in
-    rw (stop.0, it.0) (λ q may. inr (effects, subst (λ x. Does r input effects x) (sym (it.1 q may)) (subst (λ x. Does x input effects mid.pair) same h.0)))
+    rw (stop.0, it.0) (λ q may. inr (effects, subst (λ x. Does r input effects x) (sym (it.1 q may)) (subst (λ x. Does x input effects mid.standing.state) same h.0)))
 in_step r input (Err (Refused why)) old mid new done is same h stop =
     let it = rests mid new stop.1 in
-    rw (stop.0, it.0) (λ q may. inl (it.1 q may ∙ ap (λ (k : Kept). k.pair) h.1 ∙ same))
+    rw (stop.0, it.0) (λ q may. inl (it.1 q may ∙ ap (λ (k : Kept). k.standing.state) h.1 ∙ same))
 in_step r input (Err NoMemory) old mid new done is same h stop = rw (stop.0, stays r old new is same (stop.1 ∙ h.1)) refl
 in_step r input (Err Device) old mid new done is same h stop =
     rw (stop.0, ap shown_in stop.1 ∙ closes r input Device old mid h) (subst (λ k. MayBeOldOrNew r input (MayIn k)) (sym stop.1) (old_or_new r input Device old mid same h))
@@ -137,7 +137,7 @@ in_step r input (Err Store) old mid new done is same h stop =
     rw (stop.0, ap shown_in stop.1 ∙ closes r input Store old mid h) (subst (λ k. MayBeOldOrNew r input (MayIn k)) (sym stop.1) (old_or_new r input Store old mid same h))
 in_step r input (Err Closed) old mid new done is same h stop = absurd h
 
-stops : (r : Record) (input : SiteInput) (keep : Keep) (done : Bool) (old new : Kept) → old.is_open ≡ true → old.pair ≡ r → StopsKept true old input keep done new → Stops r input keep done (shown_in new) (MayIn new)
+stops : (r : Record) (input : SiteInput) (keep : Keep) (done : Bool) (old new : Kept) → old.is_open ≡ true → old.standing.state ≡ r → StopsKept true old input keep done new → Stops r input keep done (shown_in new) (MayIn new)
 stops r input Old done old new is same h =
     let it = rests old new h.1 in
     rw (h.0, it.0) (λ q may. it.1 q may ∙ same)

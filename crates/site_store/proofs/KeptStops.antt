@@ -24,8 +24,8 @@ pub stopped_open : (old mid : Kept) (input : SiteInput) (answer : Result Effects
 stopped_open old mid input (Ok effects) h has is = (Ok effects, mid, h, (refl, refl))
 stopped_open old mid input (Err NoMemory) h has is = absurd (let e : true ≡ false = has in cc)
 stopped_open old mid input (Err (Refused why)) h has is = (Err (Refused why), mid, h, (refl, refl))
-stopped_open old mid input (Err Device) h has is = absurd (let e : true ≡ false = sym is ∙ ap (λ (k : Kept). k.is_open) h.2 in cc)
-stopped_open old mid input (Err Store) h has is = absurd (let e : true ≡ false = sym is ∙ ap (λ (k : Kept). k.is_open) h.2 in cc)
+stopped_open old mid input (Err Device) h has is = absurd (let e : true ≡ false = sym is ∙ ap (λ (k : Kept). k.is_open) h.1 in cc)
+stopped_open old mid input (Err Store) h has is = absurd (let e : true ≡ false = sym is ∙ ap (λ (k : Kept). k.is_open) h.1 in cc)
 stopped_open old mid input (Err Closed) h has is = absurd h
 
 -- after one that closes it
@@ -38,7 +38,7 @@ stopped_shut old mid input (Err Store) was h has is = (Err Store, mid, h, (refl,
 stopped_shut old mid input (Err Closed) was h has is = absurd h
 
 -- what the tables hold then
-pub without_keeps : (mid : Kept) (answer : Result Effects KeepFault) (s : State) → lacks_memory answer ≡ true → KeepsAfter mid answer s → Keeps mid.pair s
+pub without_keeps : (mid : Kept) (answer : Result Effects KeepFault) (s : State) → lacks_memory answer ≡ true → KeepsAfter mid answer s → Keeps mid.standing.state s
 without_keeps mid (Ok effects) s lacks it = absurd (let e : false ≡ true = lacks in cc)
 without_keeps mid (Err NoMemory) s lacks it = it
 without_keeps mid (Err (Refused why)) s lacks it = absurd (let e : false ≡ true = lacks in cc)
@@ -46,15 +46,15 @@ without_keeps mid (Err Device) s lacks it = absurd (let e : false ≡ true = lac
 without_keeps mid (Err Store) s lacks it = absurd (let e : false ≡ true = lacks in cc)
 without_keeps mid (Err Closed) s lacks it = absurd (let e : false ≡ true = lacks in cc)
 
-pub old_keeps : (k : Kept) (s : State) → Keeps k.pair s → LeavesAny (MayIn (stopped_at k)) s
-old_keeps k s it db may = (k.pair, inl refl, it.crash db may)
+pub old_keeps : (k : Kept) (s : State) → Keeps k.standing.state s → LeavesAny (MayIn (stopped_at k)) s
+old_keeps k s it db may = (k.standing.state, inl refl, it.crash db may)
 
 pub open_keeps : (old mid : Kept) (input : SiteInput) (answer : Result Effects KeepFault) (s : State) → StepsKept old input answer mid → mid.is_open ≡ true → KeepsAfter mid answer s → LeavesAny (MayIn (stopped_at mid)) s
 open_keeps old mid input (Ok effects) s h is it = old_keeps mid s it
 open_keeps old mid input (Err NoMemory) s h is it = old_keeps mid s it
 open_keeps old mid input (Err (Refused why)) s h is it = old_keeps mid s it
-open_keeps old mid input (Err Device) s h is it = absurd (let e : true ≡ false = sym is ∙ ap (λ (k : Kept). k.is_open) h.2 in cc)
-open_keeps old mid input (Err Store) s h is it = absurd (let e : true ≡ false = sym is ∙ ap (λ (k : Kept). k.is_open) h.2 in cc)
+open_keeps old mid input (Err Device) s h is it = absurd (let e : true ≡ false = sym is ∙ ap (λ (k : Kept). k.is_open) h.1 in cc)
+open_keeps old mid input (Err Store) s h is it = absurd (let e : true ≡ false = sym is ∙ ap (λ (k : Kept). k.is_open) h.1 in cc)
 open_keeps old mid input (Err Closed) s h is it = absurd h
 
 pub shut_keeps : (old mid : Kept) (input : SiteInput) (answer : Result Effects KeepFault) (s : State) → old.is_open ≡ true → StepsKept old input answer mid → mid.is_open ≡ false → KeepsAfter mid answer s → LeavesAny (MayIn mid) s

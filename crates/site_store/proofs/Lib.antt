@@ -1,4 +1,5 @@
 pub mod CallsLeave
+pub mod Caused
 pub mod Crashes
 pub mod Findings
 pub mod Found
@@ -16,5 +17,6 @@ pub mod RisingParts
 pub mod RisingRows
 pub mod SameRows
 pub mod SiteSteps
+pub mod Standings
 pub mod StepWrites
 pub mod TextsOfRows

@@ -88,7 +88,7 @@ module _ {D : Type 0} {g : disk.Ghosts D} where
   leaves_keeps false link kept own = (0, own)
 
   -- open, with the rows of its record
-  stays_own : (after : Held (FileStore D g)) (new : Kept) → new.is_open ≡ true → IsKeptOver after new.pair → LeavesOwnAt new.is_open (Connected after) new
+  stays_own : (after : Held (FileStore D g)) (new : Kept) → new.is_open ≡ true → IsKeptOver after new.standing.state → LeavesOwnAt new.is_open (Connected after) new
   stays_own after new is keeps = subst (λ b. LeavesOwnAt b (Connected after) new) (sym is) keeps
 
   -- closed, with those of one in which it may be opened
@@ -100,8 +100,8 @@ module _ {D : Type 0} {g : disk.Ghosts D} where
   stepped input (Ok effects) after old new is h keeps = stays_own after new (open_flag old new is (ap (λ (k : Kept). k.is_open) h.2)) keeps
   stepped input (Err (Refused why)) after old new is h keeps = stays_own after new (open_flag old new is (ap (λ (k : Kept). k.is_open) h.1)) keeps
   stepped input (Err NoMemory) after old new is h keeps = stays_own after new (open_flag old new is (ap (λ (k : Kept). k.is_open) h.1)) keeps
-  stepped input (Err Device) after old new is h keeps = shuts_own after new (ap (λ (k : Kept). k.is_open) h.2) keeps
-  stepped input (Err Store) after old new is h keeps = shuts_own after new (ap (λ (k : Kept). k.is_open) h.2) keeps
+  stepped input (Err Device) after old new is h keeps = shuts_own after new (ap (λ (k : Kept). k.is_open) h.1) keeps
+  stepped input (Err Store) after old new is h keeps = shuts_own after new (ap (λ (k : Kept). k.is_open) h.1) keeps
   stepped input (Err Closed) after old new is h keeps = absurd h
 
   rested : (done : Bool) (after : Held (FileStore D g)) (new : Kept) → done ≡ true → new.is_open ≡ false → (HasCleanDisk (file_state after) → KeepsStopped new done (file_state after)) → LeavesOwnAt new.is_open (Connected after) new
@@ -113,8 +113,8 @@ module _ {D : Type 0} {g : disk.Ghosts D} where
   stopped_after input (Err (Refused why)) done after old mid new is h stop keeps = rested done after new stop.0 (ap (λ (k : Kept). k.is_open) stop.1) keeps
   stopped_after input (Err NoMemory) done after old mid new is h stop keeps =
       stays_own after new (open_flag old new is (ap (λ (k : Kept). k.is_open) (stop.1 ∙ h.1))) (λ clean. subst (λ b. KeepsStopped new b (file_state after)) stop.0 (keeps clean))
-  stopped_after input (Err Device) done after old mid new is h stop keeps = rested done after new stop.0 (ap (λ (k : Kept). k.is_open) (stop.1 ∙ h.2)) keeps
-  stopped_after input (Err Store) done after old mid new is h stop keeps = rested done after new stop.0 (ap (λ (k : Kept). k.is_open) (stop.1 ∙ h.2)) keeps
+  stopped_after input (Err Device) done after old mid new is h stop keeps = rested done after new stop.0 (ap (λ (k : Kept). k.is_open) (stop.1 ∙ h.1)) keeps
+  stopped_after input (Err Store) done after old mid new is h stop keeps = rested done after new stop.0 (ap (λ (k : Kept). k.is_open) (stop.1 ∙ h.1)) keeps
   stopped_after input (Err Closed) done after old mid new is h stop keeps = absurd h
 
   stopped_open : (input : SiteInput) (keep : Keep) (done : Bool) (after : Held (FileStore D g)) (old new : Kept) → old.is_open ≡ true → StopsKept true old input keep done new
@@ -126,7 +126,7 @@ module _ {D : Type 0} {g : disk.Ghosts D} where
 
   -- of whatever is said of a site such that of an open one it is that its tables hold its record, and that what a call
   -- leaves of it suffices
-  module _ (P : Bool → Link D g → Kept → Type 0) (holds : (link : Link D g) (kept : Kept) → P true link kept → IsKeptAt link kept.pair)
+  module _ (P : Bool → Link D g → Kept → Type 0) (holds : (link : Link D g) (kept : Kept) → P true link kept → IsKeptAt link kept.standing.state)
       (gives : (is_open : Bool) (link : Link D g) (kept : Kept) → LeavesOwnAt is_open link kept → P is_open link kept) where
     same_as : (before after : Link D g) (old new : Kept) → new ≡ old → after ≡ before → P old.is_open before old → P new.is_open after new
     same_as before after old new kept link own = subst (λ (k : Kept). P k.is_open after k) (sym kept) (subst (λ (l : Link D g). P old.is_open l old) (sym link) own)

@@ -1,6 +1,6 @@
 -- Files that were closed and opened again.
 use Rattle.std.specs.Prelude.{IfOk, IfErr}
-use Rattle.std.proofs.Common.{◌≡◌, IsTrue, Result, Ok, Err, sym, ◌∙◌, subst, arith, ⊎_elim}
+use Rattle.std.proofs.Common.{◌≡◌, true, IsTrue, Result, Ok, Err, sym, ◌∙◌, subst, arith, ⊎_elim}
 use Rattle.std.proofs.Math.Logic.{∥∥₁_elim, ∥∥₁_map}
 use Rattle.sqlite_disk.specs.declared.Disk as disk
 use Rattle.sqlite_disk.specs.declared.Files.{Files}
@@ -24,7 +24,9 @@ use Rattle.site_store.specs.declared.sites.Link.{Link}
 use Rattle.site_store.specs.declared.sites.Link.TheVariants.{Connected, Unconnected}
 use Rattle.site_store.specs.declared.sites.StoredSite.{StoredSite}
 use Rattle.site_store.specs.Leavings.{HoldsOneOf, LinkLeaves, StillLeaves}
-use Rattle.site_store.specs.Reopened.{AreOf, AreBehind, IsMadeTo, AreLeftOf, IsReopened, IsOnlyRead}
+use Rattle.keeper_core.specs.declared.faults.KeepFault.TheVariants.{Device}
+use Rattle.site_store.specs.Faults.{is_of_device}
+use Rattle.site_store.specs.Reopened.{AreOf, AreBehind, IsMadeTo, AreLeftOf, FailsOver, FailsToConnect, IsOfDevice, IsReopened, IsOnlyRead}
 
 module _ {D : Type 0} {g : disk.Ghosts D} where
   -- the files of a store that a connection became
@@ -51,6 +53,21 @@ module _ {D : Type 0} {g : disk.Ghosts D} where
   pub left_again : (link : Link D g) (files : Files D) (result : Result (Held (FileStore D g)) (Error × Files D)) → AreBehind link files → IfErr result (λ left. AreLeftOf g files left.1) → IfErr result (λ left. IsReopened link (Unconnected left.1))
   left_again link files (Ok conn) behind left = tt
   left_again link files (Err e) behind left = record { files = files; behind = behind; again = left }
+
+  pub failed_again : (link : Link D g) (files : Files D) (result : Result (Held (FileStore D g)) (Error × Files D)) → AreBehind link files → IfErr result (λ left. is_of_device left.0 ≡ true → FailsToConnect g files left.1)
+      → IfErr result (λ left. is_of_device left.0 ≡ true → IsOfDevice link (Unconnected left.1))
+  failed_again link files (Ok conn) behind failed = tt
+  failed_again link files (Err e) behind failed = λ is. record { files = files; behind = behind; fails = failed is }
+
+  fails_since : (old link : Link D g) (conn : Held (FileStore D g)) → IsReopened old (Connected conn) → FailsOver conn link → IsOfDevice old link
+  fails_since old (Connected after) conn it fails = record { files = it.files; behind = it.behind; fails = (conn, it.again, fails) }
+  fails_since old (Unconnected files) conn it fails = absurd fails
+
+  -- the disk failed over the connection that was made to the files
+  pub failed_over : (old : Link D g) (conn : Held (FileStore D g)) (result : Result (StoredSite D g) (Unopened (StoredSite D g))) → IsReopened old (Connected conn)
+      → IfErr result (λ left. left.fault ≡ Device → FailsOver conn left.keeper.link) → IfErr result (λ left. left.fault ≡ Device → IsOfDevice old left.keeper.link)
+  failed_over old conn (Ok site) it failed = tt
+  failed_over old conn (Err left) it failed = λ is. fails_since old left.keeper.link conn it (failed is)
 
   -- what is read over a connection leaves of the files what its opening left
   still_made : (old link : Link D g) (conn : Held (FileStore D g)) → IsReopened old (Connected conn) → IsOnlyRead conn link → IsReopened old link

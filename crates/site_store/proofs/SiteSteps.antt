@@ -19,7 +19,9 @@ use Rattle.site_store.specs.declared.kept.Kept.{Kept}
 use Rattle.site_store.specs.declared.sites.Link.{Link}
 use Rattle.site_store.specs.declared.sites.Link.TheVariants.{Connected, Unconnected}
 use Rattle.site_store.specs.declared.sites.StoredSite.{StoredSite}
+use Rattle.site_store.specs.Faults.{IsCaused}
 use Rattle.site_store.specs.Kept.{MayIn, AppliesKept, StopsKept, KeepsAfter, KeepsStopped, is_idle}
+use Rattle.site_store.specs.Standing.{Standing, StandsIn}
 use Rattle.site_store.specs.StepWritten.{Keeps}
 use Rattle.site_store.specs.Sites.{shown_at, shown_by, MayBy, AppliesAt, AppliesBy, StopsAt, StopsBy, OpensIn, StaysShut}
 use Rattle.site_store.proofs.KeptSteps.{applies_open, applies_memory, applies_closed, applies_count, applies_cause, stops_open, stops_closed, stops_count, closed_shows, shown_closed, fault_rises, fault_counts}
@@ -127,7 +129,7 @@ module _ {D : Type 0} {g : disk.Ghosts D} where
   pub stays_closed : (old : StoredSite D g) (left : Unopened (StoredSite D g)) → StaysShut old.kept left → StaysClosed (MayBy old) (shown_by left.keeper) (MayBy left.keeper)
   stays_closed old left h = (
     shut_shows left.keeper.link left.keeper.kept (ap (λ (k : Kept). k.is_open) h),
-    λ r may. ⊎_elim (λ e. inl (e ∙ ap (λ (k : Kept). k.pair) h)) (λ e. inr (sym (ap (λ (k : Kept). k.next) h) ∙ e)) may,
+    λ r may. subst (λ (s : Standing). StandsIn s r) (ap (λ (k : Kept). k.standing) h) may,
   )
 
   pub left_cause : (old : StoredSite D g) (left : Unopened (StoredSite D g)) → StaysShut old.kept left → left.fault ≡ Device → Rises old.kept.failures left.keeper.kept.failures
@@ -139,11 +141,13 @@ module _ {D : Type 0} {g : disk.Ghosts D} where
   -- ---- what a call over the connection does
 
   pub took_at : (link : Link D g) (before after : Held (FileStore D g)) (input : SiteInput) (answer : Result Effects KeepFault) (old new : Kept) → link ≡ Connected before → AppliesKept old.is_open old input answer new → (IsTrue (is_idle answer) → after ≡ before)
-      → (HasCleanDisk (file_state after) → Keeps old.pair (file_state before) → KeepsAfter new answer (file_state after)) → (HasCleanDisk (file_state after) → HasCleanDisk (file_state before)) → AppliesAt link old input answer (Connected after) new
-  took_at link before after input answer old new is steps calls disk clean = rw is (steps, calls, λ kept now. disk now (kept (clean now)))
+      → (HasCleanDisk (file_state after) → Keeps old.standing.state (file_state before) → KeepsAfter new answer (file_state after))
+      → (HasCleanDisk (file_state after) → Keeps old.standing.state (file_state before) → IfErr answer (IsCaused (file_state before) (file_state after)))
+      → (HasCleanDisk (file_state after) → HasCleanDisk (file_state before)) → AppliesAt link old input answer (Connected after) new
+  took_at link before after input answer old new is steps calls disk cause clean = rw is (steps, calls, λ kept now. disk now (kept (clean now)), λ kept now. cause now (kept (clean now)))
 
   pub stopped_in : (link : Link D g) (before after : Held (FileStore D g)) (input : SiteInput) (keep : Keep) (done : Bool) (old new : Kept) → link ≡ Connected before → StopsKept old.is_open old input keep done new → (old.is_open ≡ false → after ≡ before)
-      → (HasCleanDisk (file_state after) → IsTrue old.is_open → Keeps old.pair (file_state before) → KeepsStopped new done (file_state after)) → (HasCleanDisk (file_state after) → HasCleanDisk (file_state before)) → StopsAt link old input keep done (Connected after) new
+      → (HasCleanDisk (file_state after) → IsTrue old.is_open → Keeps old.standing.state (file_state before) → KeepsStopped new done (file_state after)) → (HasCleanDisk (file_state after) → HasCleanDisk (file_state before)) → StopsAt link old input keep done (Connected after) new
   stopped_in link before after input keep done old new is steps calls disk clean = rw is (steps, calls, λ was kept now. disk now was (kept (clean now)))
 
   -- ---- what an opening returns

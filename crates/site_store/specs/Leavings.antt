@@ -36,7 +36,7 @@ module _ {D : Type 0} {g : disk.Ghosts D} where
   LeavesSince (suc failed) may link = (before : Link D g) × LeavesSince failed may before × IsReopened before link
 
   abbrev pub LeavesOwnAt : Bool → Link D g → Kept → Type 0
-  LeavesOwnAt true link kept = IsKeptAt link kept.pair
+  LeavesOwnAt true link kept = IsKeptAt link kept.standing.state
   LeavesOwnAt false link kept = LinkLeaves (MayIn kept) link
 
   -- its tables hold the record that it shows, now and after a crash; while it is closed, a crash leaves one of the records
@@ -45,7 +45,7 @@ module _ {D : Type 0} {g : disk.Ghosts D} where
   LeavesOwn site = LeavesOwnAt site.kept.is_open site.link site.kept
 
   abbrev pub KeepsOwnAt : Bool → Link D g → Kept → Type 0
-  KeepsOwnAt true link kept = IsKeptAt link kept.pair
+  KeepsOwnAt true link kept = IsKeptAt link kept.standing.state
   KeepsOwnAt false link kept = (failed : ℕ) × LeavesSince failed (MayIn kept) link
 
   -- Its tables hold the record that it shows, now and after a crash. While it is closed, a crash leaves one of the records

@@ -1,11 +1,13 @@
 pub mod Crashes
 pub mod Faults
+pub mod Findable
 pub mod Kept
 pub mod Laws
 pub mod Leavings
 pub mod Opened
 pub mod Openings
-pub mod Pairs
 pub mod Reopened
 pub mod Sites
+pub mod Standing
+pub mod StepTried
 pub mod StepWritten

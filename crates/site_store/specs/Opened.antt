@@ -9,7 +9,6 @@ use Rattle.sqlite.specs.Held.{Held}
 use Rattle.sqlite.specs.Files.{file_state, AreFoundIn}
 use Rattle.sqlite.specs.State.{State, HasCleanDisk, IsUnchanged, Opens, Survives}
 use Rattle.site_core.specs.Records.{Record}
-use Rattle.site_rows.specs.Laws.{IsKept, HoldsItems}
 use Rattle.site_rows.specs.ReadRows.{IsStateFault}
 use Rattle.site_rows.specs.RecordRows.{name_of, rows_of}
 use Rattle.site_rows.specs.declared.reading.StateFault.TheVariants as states
@@ -31,7 +30,8 @@ use Rattle.site_store.specs.declared.sites.Link.{Link}
 use Rattle.site_store.specs.declared.sites.Link.TheVariants.{Connected, Unconnected}
 use Rattle.site_store.specs.declared.sites.StoredSite.{StoredSite}
 use Rattle.site_store.specs.Leavings.{KeepsOwn}
-use Rattle.site_store.specs.Openings.{ListsRecord, ListsRows, TextsAreUtf8}
+pub use Rattle.site_store.specs.Findable.{MayBeFound}
+use Rattle.site_store.specs.Openings.{ListsRecord, ListsRows}
 use Rattle.site_store.specs.Sites.{shown_by, failed_by, statements_by, link_of, IsKeptBy}
 use Rattle.site_store.specs.StepWritten.{HoldsRecord}
 
@@ -79,13 +79,6 @@ IsOpenFault old new name fault =
 -- the name of the site itself
 abbrev pub own_name : Record → List ℕ
 own_name r = name_of r.sites r.engagement.me
-
--- a record that an opening finds where the tables list its rows: a site may keep it, and its texts are those of items,
--- sites and plain destinations, in UTF-8
-pub record MayBeFound (r : Record) : Type 0 where
-  pub kept : IsKept r
-  pub items : HoldsItems r
-  pub texts : TextsAreUtf8 (contents_of (rows_of r))
 
 -- the tables list the rows of such a record, of a site of this name
 pub record ListsSite (r : Record) (name : List ℕ) (s : State) : Type 0 where

@@ -1,6 +1,5 @@
 -- What prevents an opening, and what an opening finds.
 use Rattle.std.specs.Prelude.{◌≡◌, ◌⊎◌, if◌then◌else◌, false, map}
-use Rattle.std.specs.List.{AllByRecursion}
 use Rattle.sqlite.specs.State.{State, IsUnchanged}
 use Rattle.sqlite.specs.declared.error.Error.{Error}
 use Rattle.site_core.specs.Records.{Record}
@@ -9,11 +8,12 @@ use Rattle.keeper_core.specs.declared.faults.KeepFault.TheVariants.{NoMemory, De
 use Rattle.site_rows.specs.RecordRows.{rows_of}
 use Rattle.site_tables.specs.AllReads.{AreListed}
 use Rattle.site_tables.specs.Causes.{HasReason}
-use Rattle.site_tables.specs.Reads.{AreTexts, IsStrict}
+use Rattle.site_tables.specs.Reads.{IsStrict}
 use Rattle.site_tables.specs.Stored.{Contents, contents_of}
 use Rattle.site_tables.specs.Tables.{store, site, address, event, part, quarantine, outbox, seen, parent, recall, site_schema}
 use Rattle.site_tables.specs.Values.{store_values}
 use Rattle.site_store.specs.declared.kept.Kept.{Kept}
+pub use Rattle.site_store.specs.Findable.{TextsAreUtf8}
 use Rattle.site_store.specs.Faults.{is_of_device, is_of_memory}
 use Rattle.site_store.specs.Kept.{failures_after}
 
@@ -37,18 +37,6 @@ pub record RowsRise (rows : Contents) : Type 0 where
   pub seen : IsStrict seen rows.seen
   pub parent : IsStrict parent rows.parent
   pub recall : IsStrict recall rows.recall
-
--- the texts of each table are UTF-8; `store` has none
-pub record TextsAreUtf8 (rows : Contents) : Type 0 where
-  pub site : AllByRecursion AreTexts rows.site
-  pub address : AllByRecursion AreTexts rows.address
-  pub event : AllByRecursion AreTexts rows.event
-  pub part : AllByRecursion AreTexts rows.part
-  pub quarantine : AllByRecursion AreTexts rows.quarantine
-  pub outbox : AllByRecursion AreTexts rows.outbox
-  pub seen : AllByRecursion AreTexts rows.seen
-  pub parent : AllByRecursion AreTexts rows.parent
-  pub recall : AllByRecursion AreTexts rows.recall
 
 -- the tables are a site's, and list the rows of the record
 pub record ListsRows (r : Record) (s : State) : Type 0 where

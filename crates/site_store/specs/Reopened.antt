@@ -1,7 +1,8 @@
 -- What a closing and an opening leave of the files behind a site.
-use Rattle.std.specs.Prelude.{◌≡◌, ◌⊎◌, ◌&&◌, false}
+use Rattle.std.specs.Prelude.{◌≡◌, ◌⊎◌, ◌&&◌, false, true}
 use Rattle.sqlite_disk.specs.declared.Disk as disk
 use Rattle.sqlite_disk.specs.declared.Files.{Files}
+use Rattle.sqlite_disk.specs.Disk.{MoreFaults}
 use Rattle.sqlite_wal.specs.Recovery.{Image}
 use Rattle.sqlite_wal.specs.Files.{outcomes}
 use Rattle.sqlite_wal.specs.Reads.{AreClean}
@@ -9,9 +10,11 @@ use Rattle.sqlite_store.specs.declared.store.FileStore.{FileStore}
 use Rattle.sqlite.specs.Tree.{Trees}
 use Rattle.sqlite.specs.Held.{Held}
 use Rattle.sqlite.specs.State.{HasCleanDisk, Survives}
-use Rattle.sqlite.specs.Files.{HoldsDatabase, image_of, file_state, LeavesFiles, IsCleanLeft}
+use Rattle.sqlite.specs.Files.{HoldsDatabase, image_of, file_state, LeavesFiles, IsCleanLeft, FailsToOpenFiles}
 use Rattle.sqlite.specs.Closing.{files_left}
+use Rattle.sqlite.specs.declared.error.Error.{Error}
 use Rattle.sqlite.specs.declared.file.Leftover.{Leftover}
+use Rattle.site_store.specs.Faults.{is_of_device}
 use Rattle.site_store.specs.declared.sites.Link.{Link}
 use Rattle.site_store.specs.declared.sites.Link.TheVariants.{Connected, Unconnected}
 
@@ -28,6 +31,13 @@ abbrev pub AreLeftOf : {D : Type 0} → disk.Ghosts D → Files D → Files D �
 AreLeftOf {D} g before files =
     (AreUnusable g before × (files ≡ before))
     ⊎ ((left : Leftover D g) × ((files.log, files.db) ≡ files_left left) × (IsCleanLeft left → LeavesFiles before left))
+
+-- Why the device is blamed where files weren't opened: a sync of one of the two had failed; or that is the error of their
+-- opening, which the database explains.
+abbrev pub FailsToConnect : {D : Type 0} → disk.Ghosts D → Files D → Files D → Type 0
+FailsToConnect {D} g before files =
+    AreUnusable g before
+    ⊎ ((left : Leftover D g) × (error : Error) × ((files.log, files.db) ≡ files_left left) × (is_of_device error ≡ true) × (IsCleanLeft left → FailsToOpenFiles before left error))
 
 module _ {D : Type 0} {g : disk.Ghosts D} where
   -- the files of a connection that was closed: a crash leaves no other database of them than it might before
@@ -58,3 +68,20 @@ module _ {D : Type 0} {g : disk.Ghosts D} where
   abbrev pub IsOnlyRead : Held (FileStore D g) → Link D g → Type 0
   IsOnlyRead before (Connected after) = Survives (file_state before) (file_state after) (λ _. ⊥)
   IsOnlyRead before (Unconnected files) = ⊥
+
+  -- ---- why the device is blamed
+
+  -- over a connection that was made the disk failed, as it counts itself
+  abbrev pub FailsOver : Held (FileStore D g) → Link D g → Type 0
+  FailsOver made (Connected after) = HasCleanDisk (file_state after) → MoreFaults (file_state made).faults (file_state after).faults
+  FailsOver made (Unconnected files) = ⊥
+
+  abbrev pub FailsSince : Files D → Link D g → Type 0
+  FailsSince files (Connected conn) = (made : Held (FileStore D g)) × IsMadeTo files made × FailsOver made (Connected conn)
+  FailsSince files (Unconnected left) = FailsToConnect g files left
+
+  -- the files were closed, and then the device failed
+  pub record IsOfDevice (old new : Link D g) : Type 0 where
+    pub files : Files D
+    pub behind : AreBehind old files
+    pub fails : FailsSince files new

@@ -1,5 +1,5 @@
 -- A site kept by the files of a connection.
-use Rattle.std.specs.Prelude.{◌≡◌, ⊤, ℕ, Option, Some, None, Result, Ok, Err, Bool, false, IsTrue}
+use Rattle.std.specs.Prelude.{◌≡◌, ⊤, ℕ, Option, Some, None, Result, Ok, Err, IfErr, Bool, false, IsTrue}
 use Rattle.sqlite_disk.specs.declared.Disk as disk
 use Rattle.sqlite_store.specs.declared.store.FileStore.{FileStore}
 use Rattle.sqlite.specs.Held.{Held}
@@ -10,7 +10,7 @@ use Rattle.site_core.specs.declared.inputs.SiteInput.{SiteInput}
 use Rattle.site_core.specs.declared.outcomes.Effects.{Effects}
 use Rattle.keeper_core.specs.declared.faults.Keep.{Keep}
 use Rattle.keeper_core.specs.declared.faults.KeepFault.{KeepFault}
-use Rattle.keeper_core.specs.declared.faults.KeepFault.TheVariants.{Closed, Store}
+use Rattle.keeper_core.specs.declared.faults.KeepFault.TheVariants.{Closed, Device, Store}
 use Rattle.keeper_core.specs.declared.faults.Unopened.{Unopened}
 use Rattle.site_tables.specs.AllReads.{AreListed}
 use Rattle.site_tables.specs.Stored.{Contents, IsStored}
@@ -19,9 +19,10 @@ use Rattle.site_store.specs.declared.kept.Kept.{Kept}
 use Rattle.site_store.specs.declared.sites.Link.{Link}
 use Rattle.site_store.specs.declared.sites.Link.TheVariants.{Connected, Unconnected}
 use Rattle.site_store.specs.declared.sites.StoredSite.{StoredSite}
+use Rattle.site_store.specs.Faults.{IsCaused}
 use Rattle.site_store.specs.Kept.{shown_in, MayIn, AppliesKept, StopsKept, KeepsAfter, KeepsStopped, is_idle}
 use Rattle.site_store.specs.Openings.{StaysAs, ListsRows}
-use Rattle.site_store.specs.Reopened.{IsReopened}
+use Rattle.site_store.specs.Reopened.{IsReopened, IsOfDevice}
 use Rattle.site_store.specs.StepWritten.{Keeps}
 
 module _ {D : Type 0} {g : disk.Ghosts D} where
@@ -71,12 +72,13 @@ module _ {D : Type 0} {g : disk.Ghosts D} where
 
   -- ---- steps
 
-  -- a step; and where the tables held the rows of the record, what they hold after it on an honest disk
+  -- a step; and where the tables held the rows of the record, what they hold after it on an honest disk, and why it failed
   abbrev pub AppliesAt : Link D g → Kept → SiteInput → Result Effects KeepFault → Link D g → Kept → Type 0
   AppliesAt (Connected before) old input answer (Connected after) new =
       AppliesKept old.is_open old input answer new
       × (IsTrue (is_idle answer) → after ≡ before)
-      × (IsKeptOver before old.pair → HasCleanDisk (file_state after) → KeepsAfter new answer (file_state after))
+      × (IsKeptOver before old.standing.state → HasCleanDisk (file_state after) → KeepsAfter new answer (file_state after))
+      × (IsKeptOver before old.standing.state → HasCleanDisk (file_state after) → IfErr answer (IsCaused (file_state before) (file_state after)))
   AppliesAt (Unconnected before) old input answer (Unconnected after) new = (answer ≡ Err Closed) × (new ≡ old) × (after ≡ before)
   AppliesAt before old input answer after new = ⊥
 
@@ -88,7 +90,7 @@ module _ {D : Type 0} {g : disk.Ghosts D} where
   StopsAt (Connected before) old input keep done (Connected after) new =
       StopsKept old.is_open old input keep done new
       × (old.is_open ≡ false → after ≡ before)
-      × (IsTrue old.is_open → IsKeptOver before old.pair → HasCleanDisk (file_state after) → KeepsStopped new done (file_state after))
+      × (IsTrue old.is_open → IsKeptOver before old.standing.state → HasCleanDisk (file_state after) → KeepsStopped new done (file_state after))
   StopsAt (Unconnected before) old input keep done (Unconnected after) new = (IsTrue done) × (new ≡ old) × (after ≡ before)
   StopsAt before old input keep done after new = ⊥
 
@@ -111,4 +113,6 @@ module _ {D : Type 0} {g : disk.Ghosts D} where
 
   abbrev pub ReopensBy : StoredSite D g → Result (StoredSite D g) (Unopened (StoredSite D g)) → Type 0
   ReopensBy old (Ok site) = shown_by old ≡ None → OpensIn old.kept site
-  ReopensBy old (Err left) = StaysShut old.kept left × NoneListed old.kept left.fault left.keeper.link × IsReopened old.link left.keeper.link
+  ReopensBy old (Err left) =
+      StaysShut old.kept left × NoneListed old.kept left.fault left.keeper.link × IsReopened old.link left.keeper.link
+      × (left.fault ≡ Device → IsOfDevice old.link left.keeper.link)

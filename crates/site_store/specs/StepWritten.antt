@@ -1,5 +1,5 @@
 -- What the tables hold once a step was written, or wasn't, and how many rows that took.
-use Rattle.std.specs.Prelude.{◌≡◌, ◌≢◌, ◌⊎◌, ◌+◌, ℕ, length, min, if◌then◌else◌, IsTrue, ⊤}
+use Rattle.std.specs.Prelude.{◌≡◌, ◌≢◌, ◌⊎◌, ◌+◌, ◌-◌, ◌^◌, ℕ, Bool, true, false, length, min, if◌then◌else◌, IsTrue, ⊤}
 use Rattle.sqlite.specs.Tree.{Trees}
 use Rattle.sqlite.specs.State.{State, Survives}
 use Rattle.sqlite.specs.declared.error.Error.{Error}
@@ -25,6 +25,10 @@ Keeps r s = IsStored (contents_of (rows_of r)) s
 -- a crash leaves the rows of the one record or of the other, and no third
 abbrev pub LeavesOneOf : Record → Record → State → Type 0
 LeavesOneOf old new s = (db : Trees) → s.may_leave db → HoldsRecord old db ⊎ HoldsRecord new db
+
+-- a crash leaves the rows of one of these records and no others
+abbrev pub LeavesAny : (Record → Type 0) → State → Type 0
+LeavesAny may s = (db : Trees) → s.may_leave db → (r : Record) × may r × HoldsRecord r db
 
 -- it is in a transaction, or has tables
 abbrev pub IsInUse : State → Type 0
@@ -63,3 +67,8 @@ pub record ChangesRows (old : Record) (told : Effects) (new : Record) (rows : �
 -- a count of them, which stays at 2^64 - 1
 abbrev pub IsCounted : Record → Effects → Record → ℕ → Type 0
 IsCounted old told new written = (rows : ℕ) × ChangesRows old told new rows × (written ≡ min 18_446_744_073_709_551_615 rows)
+
+-- the statements of a step: none where nothing changes, else one for each row, and the two that begin and commit
+abbrev pub AreStatements : Bool → Record → Effects → Record → ℕ → Type 0
+AreStatements false old told new statements = statements ≡ 0
+AreStatements true old told new statements = (written : ℕ) × IsCounted old told new written × (statements ≡ min (written + 2) (2 ^ 64 - 1))

@@ -5,14 +5,15 @@ ghost use Rattle.sqlite.specs.Held.{state};
 ghost use Rattle.site_core.specs.Records.{Record};
 ghost use Rattle.keeper_core.specs.Keeping.{HindersOpening};
 ghost use Rattle.site_rows.specs.RecordRows.{rows_of};
+ghost use Rattle.site_store.specs.Faults.{IsFailedIn};
 ghost use Rattle.site_store.specs.Kept.{MayIn, failures_after};
-ghost use Rattle.site_store.specs.Opened.{MayBeFound};
+ghost use Rattle.site_store.specs.Findable.{MayBeFound};
 ghost use Rattle.site_store.specs.Openings.{ListsRecord, ListsRows, opening_fault};
+ghost use Rattle.site_store.specs.Standing.{alone};
 
 use crate::faults::{is_of_device, is_of_memory, one_more};
 use crate::kept::Kept;
-use crate::laws::records_of_sites_may_be_found;
-use crate::pairs::Pair;
+use crate::standing::Standing;
 use keeper_core::KeepFault;
 use site_core::SiteState;
 use site_rows::{Rows, rows_of};
@@ -44,13 +45,12 @@ fn has_rows(alloc: Global, state: &SiteState, rows: &Rows) -> Result<bool, Alloc
 impl Kept {
     /// An open record that its tables hold already. Does not allocate.
     pub fn new(alloc: Global, state: SiteState) -> Kept
-        ensures pair { result.pair ≡ state }
+        ensures standing { result.standing ≡ alone state }
         ensures is_open { result.is_open ≡ true }
         ensures fresh { (result.failures ≡ 0) × (result.statements ≡ 0) }
     {
         Kept {
-            pair: Pair::new(alloc, state),
-            next: None,
+            standing: Standing::new(state),
             is_open: true,
             failures: 0,
             statements: 0,
@@ -71,43 +71,50 @@ impl Kept {
         fault
     }
 
-    /// The record of these rows, of those in which a closed one may be opened, is the record from now on.
+    /// The record of these rows, of those in which a closed one may be opened, is the record from now on. The one after
+    /// the step that failed is made only where the one before it has other rows.
     ///
     /// # Errors
     /// `NoMemory`, and `Store` where none of them has these rows. Nothing changes.
     fn recognise(&mut self, rows: &Rows) -> Result<(), KeepFault>
-        ensures opened { OnOk result ((self.new.is_open ≡ true) × MayIn self.old self.new.pair × (rows.now ≡ rows_of self.new.pair)) }
+        ensures opened { OnOk result ((self.new.is_open ≡ true) × MayIn self.old self.new.standing.state × (rows.now ≡ rows_of self.new.standing.state)) }
         ensures count { OnOk result (self.new.failures ≡ self.old.failures) }
         ensures kind { IfErr result (λ fault. (fault ≡ KeepFault.NoMemory) ⊎ (fault ≡ KeepFault.Store)) }
         ensures other { result ≡ Err KeepFault.Store → (r : Record) → MayIn self.old r → rows.now ≡ rows_of r → ⊥ }
         ensures unchanged { OnErr result (self.new ≡ self.old) }
     {
-        match has_rows(self.alloc, self.pair.state(), rows) {
+        match has_rows(self.alloc, self.standing.state(), rows) {
             Ok(true) => {
-                self.next = None;
+                self.standing.settle();
                 self.is_open = true;
                 return Ok(());
             }
             Ok(false) => {}
             Err(_) => return Err(KeepFault::NoMemory),
         }
-        let Some(next) = self.next.take() else {
-            return Err(KeepFault::Store);
-        };
+        match self.standing.after(self.alloc) {
+            Ok(Some(next)) => self.recognise_next(next, rows),
+            Ok(None) => Err(KeepFault::Store),
+            Err(_) => Err(KeepFault::NoMemory),
+        }
+    }
+
+    /// The record after the step that failed is the record from now on, where these are its rows.
+    fn recognise_next(&mut self, next: SiteState, rows: &Rows) -> Result<(), KeepFault>
+        ensures opened { OnOk result ((self.new.is_open ≡ true) × (self.new.standing.state ≡ next) × (rows.now ≡ rows_of next)) }
+        ensures count { OnOk result (self.new.failures ≡ self.old.failures) }
+        ensures kind { IfErr result (λ fault. (fault ≡ KeepFault.NoMemory) ⊎ (fault ≡ KeepFault.Store)) }
+        ensures other { result ≡ Err KeepFault.Store → rows.now ≡ rows_of next → ⊥ }
+        ensures unchanged { OnErr result (self.new ≡ self.old) }
+    {
         match has_rows(self.alloc, &next, rows) {
             Ok(true) => {
-                self.pair = Pair::new(self.alloc, next);
+                self.standing = Standing::new(next);
                 self.is_open = true;
                 Ok(())
             }
-            Ok(false) => {
-                self.next = Some(next);
-                Err(KeepFault::Store)
-            }
-            Err(_) => {
-                self.next = Some(next);
-                Err(KeepFault::NoMemory)
-            }
+            Ok(false) => Err(KeepFault::Store),
+            Err(_) => Err(KeepFault::NoMemory),
         }
     }
 
@@ -115,10 +122,7 @@ impl Kept {
     pub fn show_records(&self)
         ensures { (r : Record) → MayIn self.now r → MayBeFound r }
     {
-        records_of_sites_may_be_found(self.pair.state());
-        if let Some(next) = &self.next {
-            records_of_sites_may_be_found(next);
-        }
+        self.standing.show_records();
     }
 
     /// The record whose rows the tables list, of those in which a closed one may be opened, is the record from now on.
@@ -126,11 +130,12 @@ impl Kept {
     /// # Errors
     /// Why it is closed still, in the records of before.
     pub fn find<S: Alter>(&mut self, conn: &mut Connection<S>) -> Result<(), KeepFault>
-        ensures opened { OnOk result ((self.new.is_open ≡ true) × MayIn self.old self.new.pair) }
+        ensures opened { OnOk result ((self.new.is_open ≡ true) × MayIn self.old self.new.standing.state) }
         ensures count { OnOk result (self.new.failures ≡ self.old.failures) }
-        ensures listed { HasCleanDisk (state S.Store conn.new) → OnOk result (ListsRecord self.new.pair (state S.Store conn.old) (state S.Store conn.new)) }
+        ensures listed { HasCleanDisk (state S.Store conn.new) → OnOk result (ListsRecord self.new.standing.state (state S.Store conn.old) (state S.Store conn.new)) }
         ensures finds { HasCleanDisk (state S.Store conn.new) → result ≡ Err KeepFault.Store → (r : Record) → MayIn self.old r → ListsRows r (state S.Store conn.new) → IsSome (state S.Store conn.new).step_limit }
         ensures kind { IfErr result HindersOpening }
+        ensures cause { HasCleanDisk (state S.Store conn.new) → result ≡ Err KeepFault.Device → IsFailedIn (state S.Store conn.old) (state S.Store conn.new) }
         ensures unchanged { IfErr result (λ fault. self.new ≡ record self.old { failures = failures_after fault self.old.failures }) }
         ensures crash { Survives (state S.Store conn.old) (state S.Store conn.new) (λ _. ⊥) }
     {

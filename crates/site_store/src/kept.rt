@@ -1,28 +1,24 @@
 //! A record that a database keeps: its steps, over any store.
-ghost use Rattle.std.specs.Prelude.{◌≡◌, ◌⊎◌, false, true, IsTrue, is_ok};
+ghost use Rattle.std.specs.Prelude.{◌≡◌, ◌⊎◌, false, true, IfErr, IsTrue, is_ok};
 ghost use Rattle.sqlite.specs.State.{HasCleanDisk};
 ghost use Rattle.sqlite.specs.Held.{state};
-ghost use Rattle.site_core.specs.Steps.{Does, CopiesRecord, changes};
-ghost use Rattle.site_store.specs.Faults.{closing_fault};
-ghost use Rattle.site_store.specs.Kept.{StepsKept, AppliesKept, StopsInStep, StopsKept, KeepsAfter, KeepsStopped, closed_at, is_idle};
+ghost use Rattle.site_core.specs.Steps.{CopiesRecord};
+ghost use Rattle.site_store.specs.Faults.{IsCaused, closing_fault};
+ghost use Rattle.site_store.specs.Kept.{StepsKept, AppliesKept, StopsInStep, StopsKept, KeepsAfter, KeepsStopped, failures_after, is_idle};
 ghost use Rattle.site_store.specs.StepWritten.{Keeps};
 
 use crate::faults::{is_of_device, lacks_memory, one_more};
-use crate::pairs::Pair;
-use crate::writing::{Unwritten, write_step};
+use crate::standing::{Standing, Untaken};
 use keeper_core::{Keep, KeepFault};
-use site_core::step_laws::an_answer_tells_a_change;
-use site_core::{Effects, SiteInput, SiteState, look};
+use site_core::{Effects, SiteInput, look};
 use sqlite::{Alter, Connection, Error};
 use std::alloc::{AllocError, Global};
 
 /// A record with what a keeper knows of it.
 #[derive(Debug, Drop)]
 pub struct Kept {
-    /// The record, or while it is closed the one before the step that failed.
-    pub pair: Pair,
-    /// While it is closed, the record after that step.
-    pub next: Option<SiteState>,
+    /// The record, or while it is closed the one before the step that failed, with the input of that.
+    pub standing: Standing,
     /// Whether steps are taken.
     pub is_open: bool,
     /// How often the device has failed. At 2^64 - 1 the count stays.
@@ -34,13 +30,12 @@ pub struct Kept {
 }
 
 impl Kept {
-    /// The failure of a step: closed, to be opened in the record before it or in the one after it.
-    fn close(&mut self, next: SiteState, error: &Error) -> KeepFault
-        ensures fault { result ≡ closing_fault error.now }
+    /// The failure of a step, which is pending: closed, to be opened in the record before it or in the one after it.
+    fn close(&mut self, error: &Error) -> KeepFault
+        ensures is { result ≡ closing_fault error.now }
         ensures kind { (result ≡ KeepFault.Device) ⊎ (result ≡ KeepFault.Store) }
-        ensures closed { self.new ≡ closed_at self.old next result }
+        ensures closed { self.new ≡ record self.old { is_open = false; failures = failures_after result self.old.failures } }
     {
-        self.next = Some(next);
         self.is_open = false;
         if is_of_device(error) {
             self.failures = one_more(self.failures);
@@ -50,74 +45,45 @@ impl Kept {
         }
     }
 
-    /// The rows of a step that changes the record are written, and then the record is the next one.
-    fn write<S: Alter>(
-        &mut self,
-        conn: &mut Connection<S>,
-        input: SiteInput,
-        effects: Effects,
-        next: SiteState,
-    ) -> Result<Effects, KeepFault>
-        requires copies { CopiesRecord self.old.pair input }
-        requires step { Does self.old.pair input effects next }
-        requires changed { changes effects ≡ true }
-        ensures steps { StepsKept self.old input result self.new }
-        ensures disk { HasCleanDisk (state S.Store conn.new) → Keeps self.old.pair (state S.Store conn.old) → KeepsAfter self.new result (state S.Store conn.new) }
-        ensures clean { HasCleanDisk (state S.Store conn.new) → HasCleanDisk (state S.Store conn.old) }
-        ensures calls { IsTrue (is_idle result) → conn.new ≡ conn.old }
-    {
-        match write_step(self.alloc, conn, self.pair.state(), &input, &effects, &next) {
-            Ok(written) => {
-                self.statements = written.saturating_add(2);
-                self.pair.advance(next, input);
-                Ok(effects)
-            }
-            Err(Unwritten::NoMemory) => Err(KeepFault::NoMemory),
-            Err(Unwritten::Failed(error)) => Err(self.close(next, &error)),
-        }
-    }
-
     /// A step that a look at the record doesn't answer.
-    #[tactic(auto, using(crate::proofs::KeptFailures::refused_step, crate::proofs::KeptFailures::refused_keeps))]
+    #[tactic(auto, using(crate::proofs::KeptFailures::refused_step, crate::proofs::KeptFailures::refused_keeps, crate::proofs::Caused::refused_caused))]
     fn step<S: Alter>(
         &mut self,
         conn: &mut Connection<S>,
         input: SiteInput,
     ) -> Result<Effects, KeepFault>
-        requires copies { CopiesRecord self.old.pair input }
+        requires copies { CopiesRecord self.old.standing.state input }
         ensures steps { StepsKept self.old input result self.new }
-        ensures disk { HasCleanDisk (state S.Store conn.new) → Keeps self.old.pair (state S.Store conn.old) → KeepsAfter self.new result (state S.Store conn.new) }
+        ensures disk { HasCleanDisk (state S.Store conn.new) → Keeps self.old.standing.state (state S.Store conn.old) → KeepsAfter self.new result (state S.Store conn.new) }
+        ensures cause { HasCleanDisk (state S.Store conn.new) → Keeps self.old.standing.state (state S.Store conn.old) → IfErr result (IsCaused (state S.Store conn.old) (state S.Store conn.new)) }
         ensures clean { HasCleanDisk (state S.Store conn.new) → HasCleanDisk (state S.Store conn.old) }
         ensures calls { IsTrue (is_idle result) → conn.new ≡ conn.old }
     {
-        match self.pair.after(&input) {
-            Ok((next, effects)) => {
-                if effects.changes() {
-                    return self.write(conn, input, effects, next);
-                }
-                // Effects that change nothing leave an equal record.
-                an_answer_tells_a_change();
-                self.pair.keep_equal(next);
-                self.statements = 0;
+        match self.standing.step(self.alloc, conn, input) {
+            Ok((effects, statements)) => {
+                self.statements = statements;
                 Ok(effects)
             }
-            Err(refusal) => Err(KeepFault::from(refusal)),
+            Err(Untaken::Refused(refusal)) => Err(KeepFault::from(refusal)),
+            Err(Untaken::NoMemory) => Err(KeepFault::NoMemory),
+            Err(Untaken::Failed(error)) => Err(self.close(&error)),
         }
     }
 
     /// A step of an open one. The record changes once its rows are written.
-    #[tactic(auto, using(crate::proofs::KeptFailures::refused_look, crate::proofs::KeptFailures::refused_keeps))]
+    #[tactic(auto, using(crate::proofs::KeptFailures::refused_look, crate::proofs::KeptFailures::refused_keeps, crate::proofs::Caused::refused_caused))]
     fn take<S: Alter>(
         &mut self,
         conn: &mut Connection<S>,
         input: SiteInput,
     ) -> Result<Effects, KeepFault>
         ensures steps { StepsKept self.old input result self.new }
-        ensures disk { HasCleanDisk (state S.Store conn.new) → Keeps self.old.pair (state S.Store conn.old) → KeepsAfter self.new result (state S.Store conn.new) }
+        ensures disk { HasCleanDisk (state S.Store conn.new) → Keeps self.old.standing.state (state S.Store conn.old) → KeepsAfter self.new result (state S.Store conn.new) }
+        ensures cause { HasCleanDisk (state S.Store conn.new) → Keeps self.old.standing.state (state S.Store conn.old) → IfErr result (IsCaused (state S.Store conn.old) (state S.Store conn.new)) }
         ensures clean { HasCleanDisk (state S.Store conn.new) → HasCleanDisk (state S.Store conn.old) }
         ensures calls { IsTrue (is_idle result) → conn.new ≡ conn.old }
     {
-        match look(self.pair.state(), &input) {
+        match look(self.standing.state(), &input) {
             Some(Ok(effects)) => {
                 self.statements = 0;
                 Ok(effects)
@@ -137,7 +103,8 @@ impl Kept {
         input: SiteInput,
     ) -> Result<Effects, KeepFault>
         ensures steps { AppliesKept self.old.is_open self.old input result self.new }
-        ensures disk { HasCleanDisk (state S.Store conn.new) → Keeps self.old.pair (state S.Store conn.old) → KeepsAfter self.new result (state S.Store conn.new) }
+        ensures disk { HasCleanDisk (state S.Store conn.new) → Keeps self.old.standing.state (state S.Store conn.old) → KeepsAfter self.new result (state S.Store conn.new) }
+        ensures cause { HasCleanDisk (state S.Store conn.new) → Keeps self.old.standing.state (state S.Store conn.old) → IfErr result (IsCaused (state S.Store conn.old) (state S.Store conn.new)) }
         ensures clean { HasCleanDisk (state S.Store conn.new) → HasCleanDisk (state S.Store conn.old) }
         ensures calls { IsTrue (is_idle result) → conn.new ≡ conn.old }
     {
@@ -156,7 +123,7 @@ impl Kept {
     ) -> Result<(), AllocError>
         requires is_open { self.old.is_open ≡ true }
         ensures stops { StopsInStep self.old input (is_ok result) self.new }
-        ensures disk { HasCleanDisk (state S.Store conn.new) → Keeps self.old.pair (state S.Store conn.old) → KeepsStopped self.new (is_ok result) (state S.Store conn.new) }
+        ensures disk { HasCleanDisk (state S.Store conn.new) → Keeps self.old.standing.state (state S.Store conn.old) → KeepsStopped self.new (is_ok result) (state S.Store conn.new) }
         ensures clean { HasCleanDisk (state S.Store conn.new) → HasCleanDisk (state S.Store conn.old) }
     {
         let answer = self.take(conn, input);
@@ -166,7 +133,7 @@ impl Kept {
         if !self.is_open {
             return Ok(());
         }
-        self.next = None;
+        self.standing.settle();
         self.is_open = false;
         Ok(())
     }
@@ -182,7 +149,7 @@ impl Kept {
         keep: Keep,
     ) -> Result<(), AllocError>
         ensures stops { StopsKept self.old.is_open self.old input keep (is_ok result) self.new }
-        ensures disk { HasCleanDisk (state S.Store conn.new) → IsTrue self.old.is_open → Keeps self.old.pair (state S.Store conn.old) → KeepsStopped self.new (is_ok result) (state S.Store conn.new) }
+        ensures disk { HasCleanDisk (state S.Store conn.new) → IsTrue self.old.is_open → Keeps self.old.standing.state (state S.Store conn.old) → KeepsStopped self.new (is_ok result) (state S.Store conn.new) }
         ensures clean { HasCleanDisk (state S.Store conn.new) → HasCleanDisk (state S.Store conn.old) }
         ensures calls { self.old.is_open ≡ false → conn.new ≡ conn.old }
     {
@@ -191,7 +158,7 @@ impl Kept {
         }
         match keep {
             Keep::Old => {
-                self.next = None;
+                self.standing.settle();
                 self.is_open = false;
                 Ok(())
             }

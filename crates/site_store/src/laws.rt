@@ -4,7 +4,7 @@
 ghost use Rattle.site_store.specs.Crashes.{IsAfterCrash, AreNamed, OpensAfter, CallsLeaveOwn, CallsKeepToOldOrNew};
 ghost use Rattle.site_store.specs.Laws.{RowsOfARecordRise};
 ghost use Rattle.site_store.specs.Leavings.{LeavesOwn};
-ghost use Rattle.site_store.specs.Opened.{MayBeFound};
+ghost use Rattle.site_store.specs.Findable.{MayBeFound};
 
 use crate::opening::{Unfound, open_site};
 use crate::sites::StoredSite;

@@ -8,8 +8,8 @@ mod kept;
 pub mod laws;
 mod linking;
 mod opening;
-mod pairs;
 mod sites;
+mod standing;
 mod writing;
 
 pub use opening::{OpenFault, Unfound, open_site};

@@ -1,6 +1,9 @@
 //! A connection made again.
-ghost use Rattle.std.specs.Prelude.{◌≡◌, None, IfOk, IfErr};
-ghost use Rattle.site_store.specs.Reopened.{AreBehind, IsMadeTo, AreLeftOf, IsReopened};
+ghost use Rattle.std.specs.Prelude.{◌≡◌, true, None, IfOk, IfErr, IsTrue};
+ghost use Rattle.sqlite.specs.Files.{file_state};
+ghost use Rattle.sqlite.specs.State.{HasCleanDisk};
+ghost use Rattle.site_store.specs.Faults.{is_of_device};
+ghost use Rattle.site_store.specs.Reopened.{AreBehind, AreLeftOf, FailsToConnect, IsMadeTo, IsOfDevice, IsReopened};
 ghost use Rattle.site_store.specs.Sites.{StoresListed};
 
 use crate::sites::Link;
@@ -31,8 +34,10 @@ fn open_files_again<D: Disk + Drop>(
 ) -> Result<Connection<FileStore<D>>, (Error, Files<D>)>
     ensures stores { IfOk result StoresListed }
     ensures unlimited { IfOk result (λ conn. conn.step_limit ≡ None) }
+    ensures is_open { IfOk result (λ conn. HasCleanDisk (file_state conn) → IsTrue (file_state conn).is_open) }
     ensures made { IfOk result (IsMadeTo files) }
     ensures left { IfErr result (λ left. AreLeftOf D.Disk files left.1) }
+    ensures failed { IfErr result (λ left. is_of_device left.0 ≡ true → FailsToConnect D.Disk files left.1) }
 {
     if !files.may_be_used() {
         return Err((Error::SqliteFailure(ErrorCode::CannotOpen), files));
@@ -58,8 +63,10 @@ pub fn connect<D: Disk + Drop>(
 ) -> Result<Connection<FileStore<D>>, (Error, Files<D>)>
     ensures stores { IfOk result StoresListed }
     ensures unlimited { IfOk result (λ conn. conn.step_limit ≡ None) }
+    ensures is_open { IfOk result (λ conn. HasCleanDisk (file_state conn) → IsTrue (file_state conn).is_open) }
     ensures again { IfOk result (λ conn. IsReopened link (Link.Connected conn)) }
     ensures left { IfErr result (λ left. IsReopened link (Link.Unconnected left.1)) }
+    ensures failed { IfErr result (λ left. is_of_device left.0 ≡ true → IsOfDevice link (Link.Unconnected left.1)) }
 {
     let files = files_behind(link);
     open_files_again(alloc, files, options)

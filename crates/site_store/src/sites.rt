@@ -1,5 +1,5 @@
 //! A site kept in the tables of a file.
-ghost use Rattle.std.specs.Prelude.{◌≡◌, ◌≤◌, false, Some, None, Ok, Err, IfOk, IfErr, MatchResult, is_ok};
+ghost use Rattle.std.specs.Prelude.{◌≡◌, ◌≤◌, false, Some, None, Ok, Err, IfOk, IfErr, IsTrue, MatchResult, is_ok};
 ghost use Rattle.sqlite.specs.Files.{file_state};
 ghost use Rattle.sqlite.specs.State.{HasCleanDisk};
 ghost use Rattle.site_core.specs.Records.{Record};
@@ -8,7 +8,7 @@ ghost use Rattle.keeper_core.specs.Keeping.{Applies, Stops, StaysClosed, Hinders
 ghost use Rattle.site_store.specs.Sites.{shown_by, MayBy, failed_by, statements_by, link_of, IsKeptOver, IsKeptBy, StoresListed, OpensIn, StaysShut, NoneListed, AppliesBy, StopsBy, ReopensBy};
 ghost use Rattle.site_store.specs.Leavings.{StillLeaves, KeepsOwn};
 ghost use Rattle.site_store.specs.Opened.{MayBeFound};
-ghost use Rattle.site_store.specs.Reopened.{IsReopened, IsOnlyRead};
+ghost use Rattle.site_store.specs.Reopened.{FailsOver, IsOfDevice, IsOnlyRead, IsReopened};
 ghost use Rattle.site_store.specs.Openings.{FailsToBegin};
 ghost use Rattle.site_store.specs.StepWritten.{IsInUse, BeginsAs};
 ghost use Rattle.site_tables.specs.Tables.{no_schema};
@@ -164,6 +164,7 @@ impl<D: Disk + Drop> StoredSite<D> {
         ensures unopened { IfErr result (StaysShut self.kept) }
         ensures unfound { IfErr result (λ left. NoneListed self.kept left.fault left.keeper.link) }
         ensures reopened { IfErr result (λ left. IsReopened self.link left.keeper.link) }
+        ensures failed { IfErr result (λ left. left.fault ≡ KeepFault.Device → IsOfDevice self.link left.keeper.link) }
     {
         let StoredSite {
             mut kept,
@@ -203,7 +204,7 @@ impl<D: Disk + Drop> SiteKeeper for StoredSite<D> {
 
     fn view(&self) -> Option<&SiteState> {
         match &self.link {
-            Link::Connected(_) if self.kept.is_open => Some(self.kept.pair.state()),
+            Link::Connected(_) if self.kept.is_open => Some(self.kept.standing.state()),
             _ => None,
         }
     }
@@ -268,11 +269,13 @@ fn find_over<D: Disk + Drop>(
     requires closed { kept.is_open ≡ false }
     requires stores { StoresListed conn }
     requires unlimited { conn.step_limit ≡ None }
+    requires is_open { HasCleanDisk (file_state conn) → IsTrue (file_state conn).is_open }
     ensures opened { IfOk result (OpensIn kept) }
     ensures kind { IfErr result (λ left. HindersOpening left.fault) }
     ensures unopened { IfErr result (StaysShut kept) }
     ensures unfound { IfErr result (λ left. NoneListed kept left.fault left.keeper.link) }
     ensures read { IfErr result (λ left. IsOnlyRead conn left.keeper.link) }
+    ensures failed { IfErr result (λ left. left.fault ≡ KeepFault.Device → FailsOver conn left.keeper.link) }
 {
     let mut kept = kept;
     let mut conn = conn;

@@ -14,15 +14,7 @@ use Rattle.sqlite.specs.Listing.{understood}
 use Rattle.sqlite.specs.Order.{Row}
 use Rattle.sqlite.specs.State.{State, mode_of, text_of, HasCause, IsMisplaced, Escapes, EndsScope, IsNoStatement, IsNotRun, RunsCommand, ExecutesIn, ExecutesInside, is_pragma, shows_rows}
 use Rattle.sqlite.proofs.Callers.{IsPlain, command_of}
-use Rattle.site_tables.specs.Causes.{HasReason, IsAlone}
-
-abbrev pub is_write : Command → Bool
-is_write (Insert at from) = true
-is_write (InsertOr at way from clauses) = true
-is_write (Update at q) = true
-is_write (Delete at q) = true
-is_write CreateTable = true
-is_write _ = false
+use Rattle.site_tables.specs.Causes.{HasReason, IsAlone, is_write}
 
 at_most : (a b : ℕ) → IsTrue (nat_le a b) → a ≤ b
 at_most a b h = search (rules, tests)
@@ -113,7 +105,17 @@ module _ (schema : Schema) (sql : List ℕ) (params : Row) (command : Command) (
 
   refused : (c : Compiled) (given : Row) (e : Error) → understood old.now.schema sql ≡ Ok c → RunsCommand old new sql c given (Err e) → HasReason old new e
   refused c given e known (inl (inl misplaced, same)) = absurd (well_placed old c.command e (writes_it c known) misplaced)
-  refused c given e known (inl (inr does, same)) = inr (old.step_limit, mode_of old, given, old.now, text_of sql c, c.returning, c.command, does.1)
+  refused c given e known (inl (inr does, same)) = inr (record {
+    limit = old.step_limit;
+    mode = mode_of old;
+    params = given;
+    db = old.now;
+    text = text_of sql c;
+    returning = c.returning;
+    command = c.command;
+    writes = writes_it c known;
+    refused = does.1;
+  })
   refused c given e known (inr fails) = inl (fails.0, fails.1, any_size old new _ fails.0 fails.2)
 
   runs_quietly : (c : Compiled) → understood old.now.schema sql ≡ Ok c → shows_rows false c ≡ false

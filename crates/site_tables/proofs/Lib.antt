@@ -18,6 +18,7 @@ pub mod OnlyRows
 pub mod Order
 pub mod Puts
 pub mod Readable
+pub mod Refusals
 pub mod Removed
 pub mod Renewed
 pub mod RowLemmas

@@ -13,6 +13,7 @@ mod inserts;
 mod known_checks;
 mod known_parts;
 mod known_tables;
+pub mod laws;
 mod reads;
 mod replacing;
 mod step;

@@ -5,6 +5,7 @@ mod orders;
 mod parts;
 mod refusals;
 mod restored;
+mod taken_back;
 
 use crate::numbers::site;
 use epc_core::{Epc, EpcForm};
@@ -237,33 +238,6 @@ fn a_message_is_taken_once(rt: HostRuntime) -> Result<(), Fail> {
     let keys = RandomState::new(&rt)?;
     let mut b = fresh(rt.alloc(), keys, site(1))?;
     assert!(rt; takes_once(rt.alloc(), &mut b)?);
-    Ok(())
-}
-
-/// Whether a record follows its step, which was made beside it.
-fn follows(alloc: Global, a: &mut SiteState, short: Short) -> Result<bool, Fail> {
-    let input = input(alloc, short)?;
-    match step(alloc, a, &input)? {
-        Stepped::Next(after, _) => {
-            a.follow(&input, &after)?;
-            Ok(true)
-        }
-        Stepped::Same(_) => Ok(false),
-    }
-}
-
-/// Whether A follows a capture, and the start of a recall.
-fn follows_steps(alloc: Global, a: &mut SiteState) -> Result<bool, Fail> {
-    let captured = follows(alloc, a, Short::Made('x', 'y'))?;
-    let started = follows(alloc, a, Short::Start('x'))?;
-    Ok(captured && started && a.captured().len() == 1 && a.own_recalls().len() == 1)
-}
-
-#[test]
-fn a_record_follows_the_one_after_it(rt: HostRuntime) -> Result<(), Fail> {
-    let keys = RandomState::new(&rt)?;
-    let mut a = fresh(rt.alloc(), keys, site(0))?;
-    assert!(rt; follows_steps(rt.alloc(), &mut a)?);
     Ok(())
 }
 

@@ -1,5 +1,6 @@
 //! Records of parts that come from elsewhere, to which no run leads, and parts that make no record.
 use super::Want::{Done, NumbersSpent};
+use super::taken_back::{is_taken_back, start, told};
 use super::{FRESH, Row, Short, fresh, gives, three_sites};
 use crate::numbers::site;
 use epc_core::Epc;
@@ -26,9 +27,11 @@ enum Kept {
     OfB,
     /// A recall with the number 0, which none can have.
     Zeroth,
+    /// The recall A#2 of y, which continues, at the number that comes next.
+    Taken,
 }
 
-use Kept::{Ended, Live, NoMessages, NoRecalls, OfB, Zeroth};
+use Kept::{Ended, Live, NoMessages, NoRecalls, OfB, Taken, Zeroth};
 
 /// The own recall, if any: its number, and whether it has ended.
 fn own(kept: Kept) -> Option<(u64, bool)> {
@@ -36,6 +39,7 @@ fn own(kept: Kept) -> Option<(u64, bool)> {
         Live => Some((1, false)),
         Ended => Some((1, true)),
         Zeroth => Some((0, false)),
+        Taken => Some((2, false)),
         _ => None,
     }
 }
@@ -122,6 +126,35 @@ fn records_to_which_no_run_leads_follow_the_rules(rt: HostRuntime) -> Result<(),
     ];
     for (kept, row) in rows {
         assert!(rt; answers(rt.alloc(), keys, kept, row)?);
+    }
+    Ok(())
+}
+
+/// Whether a start and a message are taken back at such a site, by the record before them where so.
+fn takes_both_back(
+    alloc: Global,
+    keys: RandomState,
+    kept: Kept,
+    by_whole: bool,
+) -> Result<bool, Fail> {
+    let from_b = MsgId {
+        site: site(1),
+        number: 1,
+    };
+    let (start, told) = (start(alloc, "y")?, told(alloc, from_b, site(0))?);
+    match restored(alloc, keys, kept)? {
+        Some(mut a) => Ok(
+            is_taken_back(&mut a, &start, by_whole)? && is_taken_back(&mut a, &told, by_whole)?,
+        ),
+        None => Ok(false),
+    }
+}
+
+#[test]
+fn taken_numbers_are_given_back(rt: HostRuntime) -> Result<(), Fail> {
+    let keys = RandomState::new(&rt)?;
+    for (kept, by_whole) in [(Taken, true), (Live, false), (Ended, false)] {
+        assert!(rt; takes_both_back(rt.alloc(), keys, kept, by_whole)?);
     }
     Ok(())
 }

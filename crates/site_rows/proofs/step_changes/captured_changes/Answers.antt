@@ -1,20 +1,18 @@
-use Rattle.std.proofs.Common.{◌≡◌, ◌+◌, None, length, drop, map, flat_map, ap, ◌∙◌}
+use Rattle.std.proofs.Common.{◌≡◌, ◌+◌, None, length, drop, map, flat_map, ◌∙◌}
 use Rattle.std.specs.List.{enumerate_from}
-use Rattle.trace_core.specs.Sites.{SiteEvents}
 use Rattle.site_rows.specs.RecordRows.{event_row, parts_of}
-use Rattle.site_rows.proofs.StepsLead.{capture_leads}
+use Rattle.site_rows.proofs.StepsLead.{capture_leads, capture_sites}
 use Rattle.site_rows.proofs.step_changes.captured_changes.Goals as goal
 
 pub returns : goal.returns
-returns c = λ bytes told does.
-    let s = c.args.old.now in
+returns c = λ s bytes told does from.
     let t = c.args.new.now in
     let old = length s.captured.events in
-    let from : c.len-from.result ≡ old = c.len-from.ensures ∙ ap (λ (x : SiteEvents). length x.events) c.captured.ensures in
+    let sites = c.sites.ensures ∙ capture_sites s t bytes told does in
     let events : c.in_ok-event.event ≡ map event_row (enumerate_from (old + 1) (drop old t.captured.events)) =
-    c.in_ok-event.ensures ∙ (λ i. map event_row (enumerate_from (from i + 1) (drop (from i) (c.captured-2.ensures i).events))) in
+    c.in_ok-event.ensures ∙ (λ i. map event_row (enumerate_from (from i + 1) (drop (from i) (c.captured.ensures i).events))) in
     let parts : c.in_ok-part.part ≡ flat_map (parts_of s.sites) (enumerate_from (old + 1) (drop old t.captured.events)) =
-    c.in_ok-part.ensures ∙ (λ i. flat_map (parts_of (c.sites.ensures i)) (enumerate_from (from i + 1) (drop (from i) (c.captured-3.ensures i).events))) in
+    c.in_ok-part.ensures ∙ (λ i. flat_map (parts_of (sites i)) (enumerate_from (from i + 1) (drop (from i) (c.captured-2.ensures i).events))) in
     capture_leads s t bytes told does _ (λ i. record {
       event = events i;
       part = parts i;

@@ -17,3 +17,9 @@ returns-in-Ok-clause-made g c clean =
 
 pub returns-in-Err-clause-left : goal.returns-in-Err-clause-left
 returns-in-Err-clause-left g c = inr (c.in-Err.left, c.into_files.ensures, c.in-Err.ensures.unharmed)
+
+pub returns-in-Ok-clause-is_open : goal.returns-in-Ok-clause-is_open
+returns-in-Ok-clause-is_open g c clean = (c.in-Ok.ensures.opened clean).0.is_open
+
+pub returns-in-Err-clause-failed : goal.returns-in-Err-clause-failed
+returns-in-Err-clause-failed g c is = inr (c.in-Err.left, c.in-Err.error, c.into_files.ensures, is, c.in-Err.ensures.cause)

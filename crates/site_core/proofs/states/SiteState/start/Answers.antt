@@ -13,7 +13,7 @@ use Rattle.site_core.proofs.Soundness.{starts_sound}
 use Rattle.site_core.proofs.Starting.{started, started_past, refused}
 use Rattle.site_core.proofs.states.SiteState.start.Goals as goal
 
-started_inside : (c : goal.After-drop-plan-3) → Starts (record { sites = c.self.inside.sites; captured = c.self.inside.captured; quarantine = c.self.inside.quarantine; engagement = c.self.inside.diffusion }) c.args.root.now (record { site = c.me.result; number = c.next_recall.result }) c.len.result c.in_ok-began.began.numbered c.in_ok-began.began.ended (record { sites = c.self.inside.sites; captured = c.self.inside.captured; quarantine = c.begin_planned.new.quarantine; engagement = c.begin_planned.new.diffusion })
+started_inside : (c : goal.After-drop-plan-2) → Starts (record { sites = c.self.inside.sites; captured = c.self.inside.captured; quarantine = c.self.inside.quarantine; engagement = c.self.inside.diffusion }) c.args.root.now (record { site = c.me.result; number = c.next_recall.result }) c.len.result c.in_ok-began.began.numbered c.in_ok-began.began.ended (record { sites = c.self.inside.sites; captured = c.self.inside.captured; quarantine = c.begin_planned.new.quarantine; engagement = c.begin_planned.new.diffusion })
 started_inside c =
     let s : Record = record { sites = c.self.inside.sites; captured = c.self.inside.captured; quarantine = c.self.inside.quarantine; engagement = c.self.inside.diffusion } in
     let r : Recall = record { site = c.me.result; number = c.next_recall.result } in

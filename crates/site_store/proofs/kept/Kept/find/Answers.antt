@@ -1,4 +1,7 @@
 use Rattle.sqlite.specs.Held.{state}
+use Rattle.std.proofs.Common.{◌≡◌, sym, ◌∙◌}
+use Rattle.keeper_core.specs.declared.faults.KeepFault.TheVariants.{Device}
+use Rattle.site_store.proofs.Caused.{reading_failed}
 use Rattle.site_store.proofs.Findings.{rows_found, listed_before, refused_store}
 use Rattle.site_store.proofs.kept.Kept.find.Goals as goal
 
@@ -20,3 +23,9 @@ pub returns-in-Err-BadRow-clause-finds : goal.returns-in-Err-BadRow-clause-finds
 returns-in-Err-BadRow-clause-finds g c clean is r may it =
     let told = rw c.in-Err-BadRow.field-0-is at (c.in-Err-BadRow.ensures.cause clean) in
     absurd (refused_store r _ _ (state g.S.Store c.args.conn.now) (state g.S.Store c.read_rows.new.conn) told (c.show_records.ensures r may).texts it)
+
+pub returns-in-Err-Database-clause-cause : goal.returns-in-Err-Database-clause-cause
+returns-in-Err-Database-clause-cause g c clean is =
+    let why = rw c.in-Err-Database.field-0-is at (c.in-Err-Database.ensures.cause clean) in
+    let device : c.hindered.result ≡ Device = cc in
+    reading_failed (state g.S.Store c.args.conn.now) (state g.S.Store c.read_rows.new.conn) c.in-Err-Database.error (sym c.hindered.ensures.is ∙ device) why
