@@ -1,6 +1,7 @@
 -- Files opened and closed in turn.
-use Rattle.std.proofs.Common.{◌≡◌, ℕ, ◌+◌, List, [], ◌∷◌, ◌++◌, length, Some, refl, sym, ap, ◌∙◌, subst, arith}
+use Rattle.std.proofs.Common.{◌≡◌, ℕ, ◌+◌, List, [], ◌∷◌, All, ◌++◌, length, Some, refl, sym, ap, ◌∙◌, subst, arith}
 use Rattle.std.specs.Prelude.{Option, Result, Ok, Err, IfOk}
+use Rattle.std.proofs.lemmas.List.Elements.{All-cons, All-nil}
 use Rattle.std.proofs.lemmas.Option.{same_Some}
 use Rattle.event_json.specs.Sites.{Site}
 use Rattle.site_core.specs.Records.{Record}
@@ -25,6 +26,13 @@ module _ {F K : Type 0} (opens : F → List ℕ → List ℕ → K → F → Typ
   opened_shown site old new (k ∷ keepers) (r ∷ rs) (mid, first, rest) = (first.shows.shows, opened_shown (site + 1) mid new keepers rs rest)
   opened_shown site old new [] (r ∷ rs) all = absurd all
   opened_shown site old new (k ∷ keepers) [] all = absurd all
+
+  -- and a crash leaves it on its file
+  pub opened_stored : (site : ℕ) (old new : F) (keepers : List K) (rs : List Record) → OpensFrom opens closes shown stored folder sites site old new keepers rs → All stored keepers
+  opened_stored site old new [] [] all = All-nil stored
+  opened_stored site old new (k ∷ keepers) (r ∷ rs) (mid, first, rest) = All-cons stored k keepers first.lasts (opened_stored (site + 1) mid new keepers rs rest)
+  opened_stored site old new [] (r ∷ rs) all = absurd all
+  opened_stored site old new (k ∷ keepers) [] all = absurd all
 
 -- one file more is closed
 pub closes_more : {F K : Type 0} (closes : F → K → F → Type 0) (old mid new : F) (keepers : List K) (keeper : K) → ClosesAll closes old mid keepers → closes mid keeper new

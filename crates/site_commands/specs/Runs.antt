@@ -89,8 +89,9 @@ pub record FailsRun {K G : Type 0} (shown : K → Option Record) (may : K → Re
   pub explained : Explains shown reopens gives_up turns new cause
   pub fault_is : fault ≡ gather_fault cause
 
--- the files of all sites were opened, the sites ran for at most so many turns, and the files were closed; then the notes
--- were told, with what the files know of those of the sites that stopped
+-- the files of all sites were opened, the sites ran for at most so many turns, and the files were closed, on each of
+-- which a crash leaves the record that its keeper shows; then the notes were told, with what the files know of those of
+-- the sites that stopped
 pub record RunsAll {F K : Type 0} (opens : F → List ℕ → List ℕ → K → F → Type 0) (closes : F → K → F → Type 0) (knows : F → List ℕ → List ℕ → Type 0) (shown : K → Option Record) (failed : K → ℕ) (stored : K → Type 0) (folder : List ℕ) (sites : List Site) (turns : ℕ) (old new : F) (output : Output) : Type 0 where
   pub mid : F
   pub keepers : List K
@@ -100,6 +101,7 @@ pub record RunsAll {F K : Type 0} (opens : F → List ℕ → List ℕ → K →
   pub after : List K
   pub notes : Option RunNotes
   pub told : AnswersRun shown failed sites turns keepers after output.answer notes
+  pub lasts : All stored after
   pub closed : ClosesAll closes mid new after
   pub noted : TellsOf knows folder sites new notes output.notes
 

@@ -93,6 +93,8 @@ fn told<K: SiteKeeper, F: Files<K>>(
 /// `OtherSites` where the keepers aren't of one list of sites, in order, and `Closed` where one is closed: they are as
 /// they were. `NoMemory`, `SiteLost` where a keeper was closed and an opening of it was refused, and `GaveUp` where a gate
 /// gave up: in whichever records the keepers are open, or may be opened, they are consistent, or nothing has changed.
+///
+/// What the keepers stored before, they store after it, also where it has no answer.
 pub fn run_of<K: SiteKeeper + Send, G: Gate + Copy + Send, R: Threads + Wait + Clock + Sync>(
     rt: &R,
     alloc: Global,
@@ -104,6 +106,7 @@ pub fn run_of<K: SiteKeeper + Send, G: Gate + Copy + Send, R: Threads + Wait + C
     requires count { (2 ≤ length keepers.items) × (length keepers.items ≤ 16) }
     requires turns { turns ≤ 1000000 }
     ensures answered { IfOk result.1 (λ ran. AnswersRun K.shown K.failed sites.now turns keepers.items result.0.items ran.answer ran.notes) }
+    ensures stored { All K.stored keepers.items → All K.stored result.0.items }
     ensures failed { IfErr result.1 (FailsRun K.shown K.may K.reopens G.gives_up turns keepers.items result.0.items) }
     ensures sound { IfOk result.1 (λ ran. IsAnswer ran.answer) }
 {

@@ -39,3 +39,9 @@ returns-clause-answered g c =
     ok_so c.tell_cause.result
     (λ r told. misfit_told g.K.SiteKeeper.shown g.K.SiteKeeper.may g.K.SiteKeeper.failed c.args.sites.now c.args.turns c.args.keepers.items left.keepers.items left.cause r.answer r.notes why.0 why.1 told.0 told.1)
     c.tell_cause.ensures.answered
+
+pub returns-in-Ok-run_world-clause-stored : goal.returns-in-Ok-run_world-clause-stored
+returns-in-Ok-run_world-clause-stored g c = c.in-Ok-run_world.ensures.stored
+
+pub returns-clause-stored : goal.returns-clause-stored
+returns-clause-stored g c = c.in-Err.ensures.stored

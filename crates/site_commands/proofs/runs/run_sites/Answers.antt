@@ -1,4 +1,5 @@
 use Rattle.std.proofs.Common.{IfOk, subst}
+use Rattle.site_commands.proofs.CallsInTurn.{opened_stored}
 use Rattle.site_commands.specs.Runs.{AnswersRun}
 use Rattle.site_commands.proofs.runs.run_sites.Goals as goal
 
@@ -20,6 +21,9 @@ returns-clause-calls g c =
         after = after;
         notes = c.in_ok-answer.field-0.notes;
         told = subst (λ r. IfOk r (λ ran. AnswersRun g.K.SiteKeeper.shown g.K.SiteKeeper.failed c.in_ok-sites.sites c.args.turns keepers after ran.answer ran.notes)) c.in_ok-answer.was c.run_of-after.ensures.answered;
+        lasts =
+            c.run_of-after.ensures.stored
+            (opened_stored g.F.Files.opens g.F.Files.closes g.K.SiteKeeper.shown g.K.SiteKeeper.stored c.args.folder.now c.in_ok-sites.sites 0 c.sites_of.new.files c.open_all.new.files keepers opened.0 opened.1);
         closed = c.close_all.ensures;
         noted = c.in_ok-notes.ensures;
       };
