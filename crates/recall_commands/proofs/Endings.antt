@@ -3,7 +3,7 @@ use Rattle.std.proofs.Common.{◌≡◌, ℕ, Bool, List, Option, Result, IfOk, 
 use Rattle.std.specs.Global.{Global}
 use Rattle.std.specs.declared.string.String.{String}
 use Rattle.std.specs.Io.KnownBytes.{Keeps}
-use Rattle.script_core.specs.Writing.{AppendsBeginning}
+use Rattle.recall_text.specs.Writing.{AppendsBeginning}
 use Rattle.site_core.specs.Records.{Record}
 use Rattle.site_commands.specs.Answers.{IsAnswer}
 use Rattle.site_commands.specs.declared.answers.Output.{Output}

@@ -4,9 +4,9 @@ use Rattle.std.specs.Global.{Global}
 use Rattle.std.specs.declared.string.String.{String}
 use Rattle.std.specs.Io.KnownBytes.{Appends, Keeps}
 use Rattle.script_core.specs.Runs.{IsDone, Leaves}
-use Rattle.script_core.specs.Writing.{AppendsBeginning}
-use Rattle.script_core.specs.declared.faults.ScriptFault.{ScriptFault}
-use Rattle.script_core.specs.declared.faults.ScriptFault.TheVariants as faults
+use Rattle.recall_text.specs.Writing.{AppendsBeginning}
+use Rattle.recall_text.specs.declared.faults.ScriptFault.{ScriptFault}
+use Rattle.recall_text.specs.declared.faults.ScriptFault.TheVariants as faults
 use Rattle.script_core.specs.declared.tallies.Tally.{Tally}
 use Rattle.site_commands.specs.Answers.{IsAnswer, answer_status, answer_text}
 use Rattle.site_core.specs.Records.{Record}

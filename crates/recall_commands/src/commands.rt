@@ -2,7 +2,7 @@
 
 ghost use Rattle.std.specs.Prelude.{◌≡◌, ◌==◌, if◌then◌else◌, IfOk, Result, string_bytes};
 ghost use Rattle.std.specs.Io.KnownBytes.{Appends, Keeps};
-ghost use Rattle.script_core.specs.Writing.{AppendsBeginning};
+ghost use Rattle.recall_text.specs.Writing.{AppendsBeginning};
 ghost use Rattle.site_commands.specs.Answers.{IsAnswer};
 ghost use Rattle.recall_commands.specs.CommandLines.{HasTurns};
 ghost use Rattle.recall_commands.specs.Ends.{BatchEnds, Ends, SimRuns, HelpHelps, RunsScript, TextEnds, AnswerEnds, Advises, TellsNotes, TellsOutcome, script_fault_line};
@@ -12,7 +12,8 @@ ghost use Rattle.site_commands.specs.Faults.{fault_line};
 use crate::command_lines::{self, Asked, Batch, FileCommand};
 use crate::statuses;
 use keeper_core::SiteKeeper;
-use script_core::{ScriptFault, Tally, run_script, write_text};
+use recall_text::{ScriptFault, write_text};
+use script_core::{Tally, run_script};
 use site_commands::{
     Answer, Documents, Fault, Files, Output, audit_sites, capture, capture_documents, init,
     report_recall, run_sites, start,

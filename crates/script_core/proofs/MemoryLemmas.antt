@@ -2,9 +2,10 @@
 use Rattle.std.proofs.Common.{◌≡◌, ◌≤◌, true, false, cond, length, subst, refl}
 use Rattle.std.specs.Prelude.{nat_le}
 use Rattle.std.proofs.lemmas.Bool.{leb-true}
+use Rattle.recall_text.specs.Requests.{Task}
+use Rattle.recall_text.specs.State.{State, gathering, running, World}
 use Rattle.script_core.specs.Memory.{DoingTakesMemory, TaskTakesMemory}
-use Rattle.script_core.specs.Requests.{Task}
-use Rattle.script_core.specs.State.{State, gathering, running, World, begun, begun_world}
+use Rattle.script_core.specs.State.{begun, begun_world}
 
 -- a task in the world that it may have begun
 pub passing : (s : State) (w : World) (task : Task) → running w ≡ begun s → DoingTakesMemory w task → TaskTakesMemory s task

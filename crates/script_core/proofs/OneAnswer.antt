@@ -17,17 +17,18 @@ use Rattle.trace_core.specs.declared.pairs.Pair.{Pair}
 use Rattle.world_core.specs.Recalls.{ended_in}
 use Rattle.world_core.specs.Turns.{addressee, frame_at}
 use Rattle.world_core.specs.Worlds.{Standing, Up, Down, records}
-use Rattle.script_core.specs.Answer.{Said, done}
+use Rattle.recall_text.specs.Answer.{Said, done}
+use Rattle.recall_text.specs.Requests.{Task, capture, reach, recall, send, signal, deliver, stop, reopen, pump, quarantine, Request}
+use Rattle.recall_text.specs.Requests as requests
+use Rattle.recall_text.specs.State.{State, gathering, running, World}
+use Rattle.recall_text.specs.Words.{pairs_text, message_text}
+use Rattle.recall_text.proofs.FormLemmas.{asks_one, asks_some}
 use Rattle.script_core.specs.Happening.{with_standing}
-use Rattle.script_core.specs.Requests.{Task, capture, reach, recall, send, signal, deliver, stop, reopen, pump, quarantine, Request}
-use Rattle.script_core.specs.Requests as requests
 use Rattle.script_core.specs.Runs.{Runs}
 use Rattle.script_core.specs.Script.{Passes, TakesRequest, Takes}
 use Rattle.script_core.specs.Sending.{row_frame, owed_signal}
-use Rattle.script_core.specs.State.{State, gathering, running, World, begun, up_at, armed_at}
+use Rattle.script_core.specs.State.{begun, up_at, armed_at}
 use Rattle.script_core.specs.Tasks.{IsRefused, AtSite, WhereUp, WhereAllUp, closed_text, outcome_said, Tells, Hands, RecallRead, Delivers, Sends, Arms, Opens, IsReachText, ReachFrom, ReachRead, Lists, ListsAll, DoesTask, message_of, first_down}
-use Rattle.script_core.specs.Words.{pairs_text, message_text}
-use Rattle.script_core.proofs.FormLemmas.{asks_one, asks_some}
 use Rattle.script_core.proofs.OneHappening.{one_happening, some_happening}
 use Rattle.script_core.proofs.OnePump.{One, Some_of, one_pump, some_pump}
 use Rattle.script_core.proofs.ReachLists.{reach_list}

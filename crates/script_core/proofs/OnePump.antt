@@ -6,11 +6,12 @@ use Rattle.frame_core.specs.declared.frames.Frame.{Frame}
 use Rattle.site_core.specs.Records.{Record}
 use Rattle.site_core.specs.declared.inputs.SiteInput.TheVariants.{Deliver}
 use Rattle.world_core.specs.Turns.{addressee}
-use Rattle.script_core.specs.Answer.{done}
+use Rattle.recall_text.specs.Answer.{done}
+use Rattle.recall_text.specs.State.{World}
+use Rattle.recall_text.specs.Words.{pumped_text}
 use Rattle.script_core.specs.Happening.{with_standing, with_frame}
 use Rattle.script_core.specs.Pumping.{Arrives, Comes, Carries, Exchanges, Each, TakesPart, TakesRound, Pumps, all_opened, answer_to, message_from, numbers_at, pump_text}
-use Rattle.script_core.specs.State.{World, up_at, armed_at}
-use Rattle.script_core.specs.Words.{pumped_text}
+use Rattle.script_core.specs.State.{up_at, armed_at}
 use Rattle.script_core.proofs.OneHappening.{one_happening, some_happening}
 
 -- a relation to an answer and a world that has one pair

@@ -4,9 +4,9 @@ use Rattle.std.proofs.lemmas.List.{set-get_or}
 use Rattle.std.proofs.lemmas.Option.{get_or_from_slice_get}
 use Rattle.site_core.specs.Records.{Record}
 use Rattle.world_core.specs.Worlds.{Standing, Up, Down}
+use Rattle.recall_text.specs.State.{World}
 use Rattle.script_core.specs.Happening.{opened, with_site}
 use Rattle.script_core.specs.Pumping.{opened_at, with_opened}
-use Rattle.script_core.specs.State.{World}
 
 abbrev pub with_standings : World → List Standing → World
 with_standings w sites = record w { world = record w.world { sites = sites } }

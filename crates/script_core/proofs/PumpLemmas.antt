@@ -7,9 +7,10 @@ use Rattle.site_core.specs.Records.{Record}
 use Rattle.site_core.specs.declared.inputs.SiteInput.TheVariants.{Deliver}
 use Rattle.world_core.specs.Turns.{addressee}
 use Rattle.world_core.specs.Worlds.{Standing}
+use Rattle.recall_text.specs.State.{World}
 use Rattle.script_core.specs.Happening.{Happens, with_standing, with_frame}
 use Rattle.script_core.specs.Pumping.{AddsText, Carries, Comes, Each, Exchanges, answer_to, message_from, pump_text}
-use Rattle.script_core.specs.State.{World, up_at, armed_at}
+use Rattle.script_core.specs.State.{up_at, armed_at}
 use Rattle.script_core.specs.declared.worlds.Outcome.{Outcome}
 
 arrived : (w : World) (n : ℕ) (frame : Frame) (q : Record) (outcome : Outcome) (standing : Standing)

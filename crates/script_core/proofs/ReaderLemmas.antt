@@ -3,14 +3,14 @@ use Rattle.std.proofs.Common.{◌≡◌, ℕ, List, [], ◌++◌, refl, sym, ap,
 use Rattle.std.specs.Io.KnownBytes.{Appends, Keeps, Consumes, IsAtEnd}
 use Rattle.std.proofs.KnownBytes.{Appends-nil}
 use Rattle.std.proofs.lemmas.Grind.{flat_map-append}
+use Rattle.recall_text.specs.Answer.{Said, text_of}
+use Rattle.recall_text.specs.declared.faults.ScriptFault.{ScriptFault}
+use Rattle.recall_text.specs.declared.faults.ScriptFault.TheVariants as faults
 use Rattle.script_core.specs.Lines.{IsLine}
-use Rattle.script_core.specs.Answer.{Said}
-use Rattle.script_core.specs.Runs.{text_of, Writes, Leaves, IsLeft, IsDone}
+use Rattle.script_core.specs.Runs.{Writes, Leaves, IsLeft, IsDone}
 use Rattle.script_core.specs.Session.{IsNew, Follows, GoesOn, LeavesMore, EndsEarly, Finishes, EndsInLast}
 use Rattle.script_core.specs.declared.sessions.Session.{Session}
 use Rattle.script_core.specs.declared.tallies.Tally.{Tally}
-use Rattle.script_core.specs.declared.faults.ScriptFault.{ScriptFault}
-use Rattle.script_core.specs.declared.faults.ScriptFault.TheVariants as faults
 use Rattle.script_core.proofs.WholeLines.{no_line}
 use Rattle.script_core.proofs.SessionLemmas.{writes_after, answered_before, text_more}
 

@@ -8,19 +8,22 @@ use Rattle.std.proofs.lemmas.Grind.{flat_map-append}
 use Rattle.std.proofs.lemmas.List.{map-append}
 use Rattle.std.proofs.lemmas.List.Sums.{sum_by-append}
 use Rattle.std.proofs.lemmas.List.Elements.{All-append, All-push}
+use Rattle.recall_text.specs.Lines.{is_newline, IsWithinLine}
+use Rattle.recall_text.specs.State.{State}
+use Rattle.recall_text.specs.Answer.{Said, text_of}
+use Rattle.recall_text.specs.declared.faults.ScriptFault.{ScriptFault}
+use Rattle.recall_text.specs.declared.faults.ScriptFault.TheVariants as faults
+use Rattle.recall_text.proofs.LineLemmas.{lines_last, no_bytes, one_line}
 use Rattle.script_core.specs.Holding.{FailsToGrow}
 use Rattle.script_core.specs.Kept.{state_of}
-use Rattle.script_core.specs.Lines.{is_newline, longest_line, IsWithinLine, IsLine, LinesFit, with_newlines}
-use Rattle.script_core.specs.State.{State, empty}
-use Rattle.script_core.specs.Answer.{Said}
+use Rattle.script_core.specs.Lines.{longest_line, IsLine, LinesFit, with_newlines}
+use Rattle.script_core.specs.State.{empty}
 use Rattle.script_core.specs.Script.{Takes}
-use Rattle.script_core.specs.Runs.{Runs, text_of, refusals, Answered, StopsAt, Writes}
+use Rattle.script_core.specs.Runs.{Runs, refusals, Answered, StopsAt, Writes}
 use Rattle.script_core.specs.Session.{Follows, GoesOn, LeavesMore, EndsEarly, AnswersOne, FailsInOne, Finishes, EndsInLast}
 use Rattle.script_core.specs.declared.sessions.Session.{Session}
 use Rattle.script_core.specs.declared.tallies.Tally.{Tally}
-use Rattle.script_core.specs.declared.faults.ScriptFault.{ScriptFault}
-use Rattle.script_core.specs.declared.faults.ScriptFault.TheVariants as faults
-use Rattle.script_core.proofs.WholeLines.{lines_last, lines_whole, lines_fit, with_one_more, no_line, no_bytes, one_line}
+use Rattle.script_core.proofs.WholeLines.{lines_whole, lines_fit, with_one_more, no_line}
 
 -- ---- answers
 

@@ -9,8 +9,9 @@ use Rattle.site_core.specs.declared.inputs.SiteInput.TheVariants as inputs
 use Rattle.world_core.specs.Turns.{addressee, frame_at as sent_at, input_at}
 use Rattle.world_core.specs.declared.events.WorldInput.TheVariants.{Deliver}
 use Rattle.site_core.specs.Records.{Record}
-use Rattle.script_core.specs.Answer.{Said}
-use Rattle.script_core.specs.State.{World, up_at}
+use Rattle.recall_text.specs.Answer.{Said}
+use Rattle.recall_text.specs.State.{World}
+use Rattle.script_core.specs.State.{up_at}
 use Rattle.script_core.specs.Tasks.{AtSite, WhereUp}
 
 pub at_site : (w : World) (name : List ℕ) (n : ℕ) (P : ℕ → Type 0) (said : Said) (after : World) → named w.sites name ≡ Some n → P n → AtSite w name (named w.sites name) P said after

@@ -1,27 +1,14 @@
 -- scripts as whole lines and a rest
-use Rattle.std.proofs.Common.{◌≡◌, ℕ, ◌<◌, ◌≤◌, cond, List, [], ◌∷◌, ◌++◌, length, map, refl, sym, ap, ◌∙◌, subst, append_assoc, append-nil, arith, All, ◌==◌}
+use Rattle.std.proofs.Common.{◌≡◌, ℕ, ◌≤◌, List, [], ◌∷◌, ◌++◌, length, map, refl, sym, ap, ◌∙◌, subst, append_assoc, append-nil, arith, All}
 use Rattle.std.specs.List.{slice_split}
-use Rattle.std.specs.Str.Lines.{lines, lines_of_parts, strip_carriage_return}
-use Rattle.std.proofs.lemmas.Bool.Decides.{nat_tests}
+use Rattle.std.specs.Str.Lines.{lines, strip_carriage_return}
 use Rattle.std.proofs.lemmas.Grind.{flat_map-append}
 use Rattle.std.proofs.lemmas.List.Concat.{flat_map-cons}
 use Rattle.std.proofs.lemmas.List.Elements.{All-head, All-tail, All-push, All-weaker}
-use Rattle.std.proofs.lemmas.List.Splits.{slice_split_at, slice_split_none, length-slice_split}
-use Rattle.script_core.specs.Lines.{is_newline, longest_line, IsWithinLine, IsLine, LinesFit, with_newlines}
-
-parts_more : (p : List ℕ) (ps : List (List ℕ)) → 0 < length ps → lines_of_parts (p ∷ ps) ≡ strip_carriage_return p ∷ lines_of_parts ps
-parts_more p [] some = absurd (omega arith)
-parts_more p (q ∷ qs) some = refl
-
--- the first line of a text ends at its first LF
-pub lines_at : (p rest : List ℕ) → IsWithinLine p → lines (p ++ 10 ∷ rest) ≡ strip_carriage_return p ∷ lines rest
-lines_at p rest within =
-    ap lines_of_parts (slice_split_at is_newline p 10 rest within refl)
-    ∙ parts_more p (slice_split is_newline rest) (omega (arith, length-slice_split is_newline rest))
-
--- bytes without a LF are one line, and no bytes are none
-pub lines_last : (p : List ℕ) → IsWithinLine p → lines p ≡ cond (length p == 0) [] (p ∷ [])
-lines_last p within = ap lines_of_parts (slice_split_none is_newline p within)
+use Rattle.std.proofs.lemmas.List.Splits.{slice_split_at, slice_split_none}
+use Rattle.recall_text.specs.Lines.{is_newline}
+use Rattle.recall_text.proofs.LineLemmas.{lines_at}
+use Rattle.script_core.specs.Lines.{longest_line, IsLine, LinesFit, with_newlines}
 
 -- a LF goes to the line before it
 pub after_newline : (line rest : List ℕ) → (line ++ 10 ∷ []) ++ rest ≡ line ++ 10 ∷ rest
@@ -59,10 +46,3 @@ with_one_more whole line rest =
 -- no bytes are a line that was begun
 pub no_line : IsLine []
 no_line = record { within = λ k d small. absurd (omega arith); fits = omega arith }
-
-pub no_bytes : (xs : List ℕ) → length xs ≡ 0 → xs ≡ []
-no_bytes [] e = refl
-no_bytes (x ∷ xs) e = absurd (omega arith)
-
-pub one_line : (p : List ℕ) → 0 < length p → cond (length p == 0) [] (p ∷ []) ≡ p ∷ []
-one_line p some = grind (arith, nat_tests)

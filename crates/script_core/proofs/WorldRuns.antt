@@ -34,17 +34,19 @@ use Rattle.world_core.specs.declared.events.WorldEvent.{WorldEvent}
 use Rattle.world_core.specs.declared.events.WorldEvent.TheVariants.{Step, Send, Stop, Reopen}
 use Rattle.world_core.specs.declared.events.WorldInput.{WorldInput}
 use Rattle.world_core.specs.declared.events.WorldInput.TheVariants.{Capture, Start, Deliver}
-use Rattle.script_core.specs.Answer.{Said}
+use Rattle.recall_text.specs.Answer.{Said}
+use Rattle.recall_text.specs.Requests.{Request, Task, capture, deliver, pump, quarantine, reach, recall, reopen, send, signal, stop}
+use Rattle.recall_text.specs.Requests as requests
+use Rattle.recall_text.specs.Gathering.{site_added}
+use Rattle.recall_text.specs.State.{State, World, gathering, running}
+use Rattle.recall_text.specs.Words.{message_text}
 use Rattle.script_core.specs.Happening.{Happens, with_frame, with_sent, with_site}
 use Rattle.script_core.specs.Pumping.{Arrives, Carries, Comes, Each, Exchanges, TakesPart, TakesRound, all_opened, answer_to, message_from, numbers_at, opened_at}
-use Rattle.script_core.specs.Requests.{Request, Task, capture, deliver, pump, quarantine, reach, recall, reopen, send, signal, stop}
-use Rattle.script_core.specs.Requests as requests
 use Rattle.script_core.specs.Runs.{Runs}
-use Rattle.script_core.specs.Script.{Passes, TakesRequest, site_added, site_outcome}
-use Rattle.script_core.specs.State.{State, World, armed_at, begun, begun_world, empty, gathering, running, up_at}
+use Rattle.script_core.specs.Script.{Passes, TakesRequest, site_outcome}
+use Rattle.script_core.specs.State.{armed_at, begun, begun_world, empty, up_at}
 use Rattle.script_core.specs.Tasks.{AtSite, Delivers, DoesTask, Hands, Lists, Opens, ReachRead, RecallRead, Sends, Tells, WhereAllUp, WhereUp, first_down, message_of}
 use Rattle.script_core.specs.WorldRuns.{ScriptsRunAWorld}
-use Rattle.script_core.specs.Words.{message_text}
 use Rattle.script_core.specs.declared.worlds.Outcome.{Outcome}
 use Rattle.script_core.specs.declared.worlds.Outcome.TheVariants.{Did, Refused, Stopped}
 use Rattle.script_core.proofs.OpenLemmas.{opened_all, opened_next, opened_to}

@@ -8,7 +8,7 @@ use Rattle.site_core.specs.Records.{Record}
 use Rattle.site_core.specs.Steps.{Does}
 use Rattle.site_core.specs.declared.inputs.SiteInput.{SiteInput}
 use Rattle.world_core.specs.Worlds.{Standing, Up, Down, WorldState, record_of}
-use Rattle.script_core.specs.State.{World}
+use Rattle.recall_text.specs.State.{World}
 use Rattle.script_core.specs.declared.worlds.Outcome.{Outcome}
 use Rattle.script_core.specs.declared.worlds.Outcome.TheVariants.{Did, Refused, Stopped}
 

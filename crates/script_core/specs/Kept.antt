@@ -1,4 +1,4 @@
-use Rattle.script_core.specs.State.{State, gathering, running}
+use Rattle.recall_text.specs.State.{State, gathering, running}
 use Rattle.script_core.specs.declared.scripts.Script.{Script}
 use Rattle.script_core.specs.declared.scripts.Script.TheVariants as scripts
 

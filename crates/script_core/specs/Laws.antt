@@ -1,10 +1,11 @@
 -- Laws of a script's answers.
 use Rattle.std.specs.Prelude.{◌≡◌, ℕ, List}
 use Rattle.std.specs.Str.Lines.{lines}
-use Rattle.script_core.specs.Answer.{Said}
+use Rattle.recall_text.specs.Answer.{Said}
+use Rattle.recall_text.specs.State.{State}
 use Rattle.script_core.specs.Runs.{Runs}
 use Rattle.script_core.specs.Script.{Takes}
-use Rattle.script_core.specs.State.{State, empty}
+use Rattle.script_core.specs.State.{empty}
 
 -- in each state, each line has an answer, and leaves a state
 abbrev pub LinesHaveAnAnswer : Type 0

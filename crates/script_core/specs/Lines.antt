@@ -1,9 +1,6 @@
-use Rattle.std.specs.Prelude.{◌≡◌, ◌<◌, ◌≤◌, ◌+◌, ℕ, Bool, false, ◌==◌, List, [], ◌∷◌, ◌++◌, take, drop, length, All}
+use Rattle.std.specs.Prelude.{◌<◌, ◌≤◌, ℕ, List, [], ◌∷◌, ◌++◌, length, All}
 use Rattle.std.specs.List.{flat_map, slice_split}
-
--- LF, which ends a line
-abbrev pub is_newline : ℕ → Bool
-is_newline b = b == 10
+use Rattle.recall_text.specs.Lines.{is_newline, IsWithinLine}
 
 -- the most bytes of a line before its LF
 abbrev pub longest_line : ℕ
@@ -12,10 +9,6 @@ longest_line = 16777216
 -- a line of at most so many bytes before its LF is held without further memory
 abbrev pub room : ℕ
 room = 8192
-
--- no byte ends a line
-abbrev pub IsWithinLine : List ℕ → Type 0
-IsWithinLine bytes = All (λ b. is_newline b ≡ false) bytes
 
 -- a line without its LF, or the beginning of one
 pub record IsLine (bytes : List ℕ) : Type 0 where
@@ -34,9 +27,3 @@ LinesFit script = All (λ line. length line ≤ longest_line) (slice_split is_ne
 -- whole lines: each with its LF behind it
 abbrev pub with_newlines : List (List ℕ) → List ℕ
 with_newlines whole = flat_map (λ line. line ++ 10 ∷ []) whole
-
--- the first line of the bytes ends here
-pub record EndsAt (bytes : List ℕ) (end : ℕ) : Type 0 where
-  pub inside : end < length bytes
-  pub within : IsWithinLine (take end bytes)
-  pub newline : drop end bytes ≡ 10 ∷ drop (end + 1) bytes

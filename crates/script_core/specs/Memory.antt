@@ -3,9 +3,9 @@
 use Rattle.std.specs.Prelude.{ℕ, ⊤, ◌≤◌, List, length, Option, Some, None}
 use Rattle.epc_core.specs.Spellings.{IsPlain}
 use Rattle.event_json.specs.Sites.{named}
-use Rattle.script_core.specs.State.{State, gathering, running, World}
-use Rattle.script_core.specs.Requests.{Request, Task, reach, recall, Asks}
-use Rattle.script_core.specs.Requests as requests
+use Rattle.recall_text.specs.State.{State, gathering, running, World}
+use Rattle.recall_text.specs.Requests.{Request, Task, reach, recall, Asks}
+use Rattle.recall_text.specs.Requests as requests
 
 -- A line at an item prints the name of a site that isn't there, or what is done with a plain text.
 abbrev pub ItemTakesMemory : List ℕ → Option ℕ → Type 0

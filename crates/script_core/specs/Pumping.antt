@@ -10,11 +10,12 @@ use Rattle.site_core.specs.declared.inputs.SiteInput.TheVariants.{Deliver}
 use Rattle.site_core.specs.declared.outcomes.Effects.TheVariants.{Ended}
 use Rattle.world_core.specs.Turns.{addressee}
 use Rattle.world_core.specs.Worlds.{Standing}
-use Rattle.script_core.specs.Answer.{Said, done}
+use Rattle.recall_text.specs.Answer.{Said, done}
+use Rattle.recall_text.specs.State.{World}
+use Rattle.recall_text.specs.Words.{ended_text, stopped_text, pumped_text}
 use Rattle.script_core.specs.Happening.{Happens, with_standing, with_frame, opened}
 use Rattle.script_core.specs.Sending.{row_frame, owed_signal}
-use Rattle.script_core.specs.State.{World, up_at, armed_at}
-use Rattle.script_core.specs.Words.{ended_text, stopped_text, pumped_text}
+use Rattle.script_core.specs.State.{up_at, armed_at}
 use Rattle.script_core.specs.declared.worlds.Outcome.{Outcome}
 use Rattle.script_core.specs.declared.worlds.Outcome.TheVariants.{Did, Stopped}
 

@@ -1,15 +1,16 @@
 use Rattle.std.specs.Prelude.{◌≡◌, ℕ, List, [], ◌∷◌, ◌++◌, ◌<◌, ◌⊎◌, length, map, All, count_by, Option, Some}
-use Rattle.std.specs.List.{flat_map}
 use Rattle.std.specs.Str.Lines.{lines, strip_carriage_return}
 use Rattle.std.specs.Io.KnownBytes.{Appends}
-use Rattle.script_core.specs.Answer.{Said}
-use Rattle.script_core.specs.Lines.{IsWithinLine, IsLine, IsTooLong, LinesFit, room, with_newlines}
+use Rattle.recall_text.specs.Answer.{Said, text_of}
+use Rattle.recall_text.specs.Lines.{IsWithinLine}
+use Rattle.recall_text.specs.State.{State}
+use Rattle.recall_text.specs.Writing.{AppendsBeginning}
+use Rattle.recall_text.specs.declared.faults.ScriptFault.{ScriptFault}
+use Rattle.recall_text.specs.declared.faults.ScriptFault.TheVariants as faults
+use Rattle.script_core.specs.Lines.{IsLine, IsTooLong, LinesFit, room, with_newlines}
 use Rattle.script_core.specs.Memory.{TakesMemory}
 use Rattle.script_core.specs.Script.{Takes}
-use Rattle.script_core.specs.State.{State, empty}
-use Rattle.script_core.specs.Writing.{AppendsBeginning}
-use Rattle.script_core.specs.declared.faults.ScriptFault.{ScriptFault}
-use Rattle.script_core.specs.declared.faults.ScriptFault.TheVariants as faults
+use Rattle.script_core.specs.State.{empty}
 use Rattle.script_core.specs.declared.tallies.Tally.{Tally}
 
 -- in state s these lines are answered so, one after another, and t is the state that they leave
@@ -17,10 +18,6 @@ abbrev pub Runs : State → List (List ℕ) → List Said → State → Type 0
 Runs s [] answers t = (answers ≡ []) × (t ≡ s)
 Runs s (line ∷ rest) answers t =
     (a : Said) × (more : List Said) × (next : State) × (answers ≡ a ∷ more) × Takes s line a next × Runs next rest more t
-
--- the text of answers
-abbrev pub text_of : List Said → List ℕ
-text_of answers = flat_map (λ a. a.text) answers
 
 -- how many of the answers are refusals
 abbrev pub refusals : List Said → ℕ

@@ -1,19 +1,15 @@
 -- The answer to each line of a script, and what it leaves.
-use Rattle.std.specs.Prelude.{◌≡◌, ℕ, List, [], ◌∷◌, ◌++◌, codes, Option, Some, None}
-use Rattle.event_json.specs.Names.{sites_fault_name}
-use Rattle.event_json.specs.Sites.{Site, sites_fault}
-use Rattle.event_json.specs.declared.site_lists.SitesFault.{SitesFault}
-use Rattle.script_core.specs.Answer.{Said, silent, refused}
-use Rattle.script_core.specs.Requests.{Request, Task, Asks}
-use Rattle.script_core.specs.Requests as requests
-use Rattle.script_core.specs.State.{State, gathering, running, begun}
+use Rattle.std.specs.Prelude.{◌≡◌, ℕ, List, codes, Option, Some, None}
+use Rattle.event_json.specs.Sites.{sites_fault}
+use Rattle.recall_text.specs.Answer.{Said, silent, refused}
+use Rattle.recall_text.specs.Gathering.{site_added}
+use Rattle.recall_text.specs.Requests.{Request, Task, Asks}
+use Rattle.recall_text.specs.Requests as requests
+use Rattle.recall_text.specs.State.{State, gathering, running}
+use Rattle.script_core.specs.State.{begun}
 use Rattle.script_core.specs.Tasks.{DoesTask}
 
 -- ---- `site`: while sites are gathered, a site is added
-
-abbrev pub site_added : List Site → List ℕ → List (List ℕ) → Option SitesFault → Said × State
-site_added sites name addresses None = (silent, gathering (sites ++ record { name = name; addresses = addresses } ∷ []))
-site_added sites name addresses (Some fault) = (refused (codes "BadSite " ++ sites_fault_name fault), gathering sites)
 
 abbrev pub site_outcome : State → List ℕ → List (List ℕ) → Said × State
 site_outcome (gathering sites) name addresses = site_added sites name addresses (sites_fault sites name addresses)

@@ -1,18 +1,19 @@
 use Rattle.std.specs.Prelude.{◌≡◌, ◌+◌, ◌⊎◌, ℕ, List, [], ◌++◌, All, length, map, Option, if◌then◌else◌}
 use Rattle.std.specs.Str.Lines.{lines, strip_carriage_return}
 use Rattle.std.specs.Io.KnownBytes.{Appends, Keeps}
-use Rattle.script_core.specs.Answer.{Said}
+use Rattle.recall_text.specs.Answer.{Said, text_of}
+use Rattle.recall_text.specs.State.{State}
+use Rattle.recall_text.specs.Writing.{AppendsBeginning}
+use Rattle.recall_text.specs.declared.faults.ScriptFault.{ScriptFault}
+use Rattle.recall_text.specs.declared.faults.ScriptFault.TheVariants.{NoMemory, Write}
 use Rattle.script_core.specs.Kept.{state_of}
 use Rattle.script_core.specs.Lines.{IsLine, LinesFit, with_newlines}
 use Rattle.script_core.specs.Memory.{TakesMemory}
-use Rattle.script_core.specs.Runs.{Runs, text_of, refusals, StopsAt, Writes}
+use Rattle.script_core.specs.Runs.{Runs, refusals, StopsAt, Writes}
 use Rattle.script_core.specs.Script.{Takes}
-use Rattle.script_core.specs.State.{State, empty}
-use Rattle.script_core.specs.Writing.{AppendsBeginning}
+use Rattle.script_core.specs.State.{empty}
 use Rattle.script_core.specs.declared.sessions.Session.{Session}
 use Rattle.script_core.specs.declared.tallies.Tally.{Tally}
-use Rattle.script_core.specs.declared.faults.ScriptFault.{ScriptFault}
-use Rattle.script_core.specs.declared.faults.ScriptFault.TheVariants.{NoMemory, Write}
 
 -- nothing was read
 pub record IsNew (session : Session) : Type 0 where

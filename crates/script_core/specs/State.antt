@@ -2,21 +2,9 @@ use Rattle.std.specs.Prelude.{ℕ, nat_le, if◌then◌else◌, List, [], length
 use Rattle.std.specs.List.{range_with_len}
 use Rattle.event_json.specs.Sites.{Site}
 use Rattle.keeper_core.specs.declared.faults.Keep.{Keep}
+use Rattle.recall_text.specs.State.{State, World, gathering, running}
 use Rattle.site_core.specs.Records.{Record, fresh}
-use Rattle.world_core.specs.Worlds.{Standing, Up, Down, WorldState}
-
-pub record World : Type 0 where
-  -- in the order of their numbers
-  pub sites : List Site
-  -- how each site stands, and the frames that were sent
-  pub world : WorldState
-  -- of each site, the stop that is armed for its next step
-  pub armed : List (Option Keep)
-
--- what the lines of a script so far left: the sites, while they are gathered, and then the world
-pub data State : Type 0 where
-  gathering : List Site → State
-  running : World → State
+use Rattle.world_core.specs.Worlds.{Standing, Up, Down}
 
 -- before the first line
 abbrev pub empty : State

@@ -20,13 +20,14 @@ use Rattle.trace_core.specs.declared.pairs.Pair.{Pair}
 use Rattle.world_core.specs.Recalls.{ended_in, quarantined}
 use Rattle.world_core.specs.Turns.{addressee, frame_at}
 use Rattle.world_core.specs.Worlds.{Standing, Up, Down, records}
-use Rattle.script_core.specs.Answer.{Said, refused, done}
+use Rattle.recall_text.specs.Answer.{Said, refused, done}
+use Rattle.recall_text.specs.Requests.{Task, capture, reach, recall, send, signal, deliver, stop, reopen, pump, quarantine}
+use Rattle.recall_text.specs.State.{World}
+use Rattle.recall_text.specs.Words.{name_at, message_text, effects_text, refusal_text, stopped_text, frame_text, armed_text, open_text, pairs_text, quarantine_text}
 use Rattle.script_core.specs.Happening.{Happens, with_standing, with_frame, with_armed, with_site}
 use Rattle.script_core.specs.Pumping.{Pumps}
-use Rattle.script_core.specs.Requests.{Task, capture, reach, recall, send, signal, deliver, stop, reopen, pump, quarantine}
 use Rattle.script_core.specs.Sending.{row_frame, owed_signal}
-use Rattle.script_core.specs.State.{World, up_at, armed_at}
-use Rattle.script_core.specs.Words.{name_at, message_text, effects_text, refusal_text, stopped_text, frame_text, armed_text, open_text, pairs_text, quarantine_text}
+use Rattle.script_core.specs.State.{up_at, armed_at}
 use Rattle.script_core.specs.declared.worlds.Outcome.{Outcome}
 use Rattle.script_core.specs.declared.worlds.Outcome.TheVariants.{Did, Refused, Stopped}
 

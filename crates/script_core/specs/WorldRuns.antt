@@ -5,9 +5,10 @@ use Rattle.world_core.specs.Laws.{ComesOut}
 use Rattle.world_core.specs.Turns as world
 use Rattle.world_core.specs.declared.events.Answer.{Answer}
 use Rattle.world_core.specs.declared.events.WorldEvent.{WorldEvent}
-use Rattle.script_core.specs.Answer.{Said}
+use Rattle.recall_text.specs.Answer.{Said}
+use Rattle.recall_text.specs.State.{World, running}
 use Rattle.script_core.specs.Runs.{Runs}
-use Rattle.script_core.specs.State.{World, running, begun_world, empty}
+use Rattle.script_core.specs.State.{begun_world, empty}
 
 -- from sites at which nothing happened yet, a run of events leads to the world, and what it makes of them comes out
 pub record IsOfARun (w : World) : Type 0 where

@@ -4,11 +4,11 @@ ghost use Rattle.std.specs.Prelude.{◌≡◌, ◌<◌, [], IfOk, length};
 ghost use Rattle.script_core.specs.Beginning.{fresh_keeper, fresh_keepers};
 ghost use Rattle.script_core.specs.State.{begun_world, fresh_sites};
 
-use crate::numbers::site_at;
 use crate::running::Running;
 use crate::worlds::MemoryWorld;
 use event_json::{SiteNo, Sites};
 use keeper_core::MemoryKeeper;
+use recall_text::numbers::site_at;
 use site_core::SiteState;
 use std::alloc::{AllocError, Global};
 use std::hash::RandomState;

@@ -7,17 +7,18 @@ ghost use Rattle.event_json.specs.Sites.{named};
 ghost use Rattle.frame_core.specs.Rows.{frame_of};
 ghost use Rattle.site_core.specs.declared.inputs.SiteInput.{SiteInput};
 ghost use Rattle.world_core.specs.Turns.{addressee, input_at};
-ghost use Rattle.script_core.specs.Answer.{answer_of};
+ghost use Rattle.recall_text.specs.Answer.{answer_of};
+ghost use Rattle.recall_text.specs.Requests.{capture, recall, deliver};
 ghost use Rattle.script_core.specs.Memory.{ItemTakesMemory};
-ghost use Rattle.script_core.specs.Requests.{capture, recall, deliver};
 ghost use Rattle.script_core.specs.Tasks.{DoesTask, Delivers, Hands, RecallRead, message_of};
 
-use crate::answers::Answer;
-use crate::items::item_of;
+use crate::answers::of_outcome;
 use crate::running::Running;
-use crate::texts::message_text;
 use event_json::{Sequence, SiteNo};
 use frame_core::{FrameView, MsgId};
+use recall_text::answers::Answer;
+use recall_text::telling::item_of;
+use recall_text::texts::message_text;
 use std::alloc::{AllocError, Global};
 use world_core::WorldInput;
 
@@ -96,7 +97,7 @@ impl Running {
             return Answer::closed(alloc, self.names(), site);
         }
         let outcome = self.hand(site, input)?;
-        Answer::of_outcome(alloc, self.names(), site, about, &outcome)
+        of_outcome(alloc, self.names(), site, about, &outcome)
     }
 }
 

@@ -4,7 +4,7 @@ ghost use Rattle.std.specs.Prelude.{◌≡◌, ◌++◌, ◌+◌, ◌<◌, ◌�
 ghost use Rattle.script_core.specs.Lines.{longest_line};
 ghost use Rattle.script_core.specs.Holding.{FailsToGrow};
 
-use crate::faults::ScriptFault;
+use recall_text::ScriptFault;
 use std::alloc::{AllocError, Global};
 use std::marker::Model;
 

@@ -6,17 +6,17 @@ ghost use Rattle.epc_core.specs.Spellings.{IsPlain};
 ghost use Rattle.event_json.specs.Sites.{named};
 ghost use Rattle.site_recovery.specs.Laws.{captured_of};
 ghost use Rattle.world_core.specs.Worlds.{records};
-ghost use Rattle.script_core.specs.Answer.{answer_of};
+ghost use Rattle.recall_text.specs.Answer.{answer_of};
+ghost use Rattle.recall_text.specs.Requests.{reach, quarantine};
 ghost use Rattle.script_core.specs.Memory.{ItemTakesMemory};
-ghost use Rattle.script_core.specs.Requests.{reach, quarantine};
 ghost use Rattle.script_core.specs.Tasks.{DoesTask, ReachFrom, ReachRead, ListsAll, first_down};
 
-use crate::answers::Answer;
-use crate::items::item_of;
-use crate::numbers::site_at;
 use crate::running::Running;
 use event_json::SiteNo;
 use frame_core::RecallId;
+use recall_text::answers::Answer;
+use recall_text::numbers::site_at;
+use recall_text::telling::item_of;
 use std::alloc::{AllocError, Global};
 use trace_core::{Captured, Pair, reach};
 

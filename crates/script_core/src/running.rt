@@ -9,16 +9,16 @@ ghost use Rattle.site_core.specs.Records.{Record};
 ghost use Rattle.site_core.specs.declared.inputs.SiteInput.{SiteInput};
 ghost use Rattle.world_core.specs.Turns.{frame_at, input_at};
 ghost use Rattle.world_core.specs.Worlds.{Standing, Up, Down, records};
-ghost use Rattle.script_core.specs.Answer.{answer_of};
+ghost use Rattle.recall_text.specs.Answer.{answer_of};
 ghost use Rattle.script_core.specs.Happening.{Happens, with_standing, with_frame, with_site};
 ghost use Rattle.script_core.specs.State.{up_at, armed_at};
 
-use crate::answers::Answer;
-use crate::tasks::Task;
 use crate::worlds::{MemoryWorld, Outcome};
 use event_json::{SiteNo, Sites};
 use frame_core::{FrameView, RecallId};
 use keeper_core::Keep;
+use recall_text::answers::Answer;
+use recall_text::tasks::Task;
 use site_core::{FrameName, SiteState};
 use std::alloc::{AllocError, Global};
 use std::marker::Model;
@@ -38,7 +38,7 @@ impl Model for Running {
     ghost use Rattle.std.specs.Prelude.{◌≡◌, length};
     ghost use Rattle.std.specs.Coded.{codes};
     ghost use Rattle.site_core.specs.Codes.{coded_record};
-    ghost use Rattle.script_core.specs.State.{World};
+    ghost use Rattle.recall_text.specs.State.{World};
 
     ghost Value = { World };
 
@@ -51,7 +51,7 @@ impl Model for Running {
 
 impl Running {
     ghost use Rattle.event_json.specs.Sites.{named};
-    ghost use Rattle.script_core.specs.Steps.{task_of};
+    ghost use Rattle.recall_text.specs.Steps.{task_of};
     ghost use Rattle.script_core.specs.Tasks.{DoesTask};
     ghost use Rattle.script_core.specs.Memory.{DoingTakesMemory};
 

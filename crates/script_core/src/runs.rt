@@ -4,10 +4,10 @@ ghost use Rattle.std.specs.Io.KnownBytes.{Keeps, Consumes, IsAtEnd};
 ghost use Rattle.script_core.specs.Runs.{IsDone, Leaves};
 ghost use Rattle.script_core.specs.Session.{IsNew};
 
-use crate::faults::ScriptFault;
 use crate::sessions::Session;
-use crate::streams::fault_of_kind;
 use crate::tallies::Tally;
+use recall_text::ScriptFault;
+use recall_text::streams::fault_of_kind;
 use std::alloc::Global;
 use std::hash::RandomState;
 use std::io::{Read, Write};

@@ -1,15 +1,15 @@
 //! A script's state, and the check that its lines pass.
 
 ghost use Rattle.std.specs.Prelude.{◌≡◌, IfOk, IfErr, OnOk, OnErr};
-ghost use Rattle.script_core.specs.Answer.{answer_of};
+ghost use Rattle.recall_text.specs.Answer.{answer_of};
 
-use crate::answers::Answer;
 use crate::beginning::begin_world;
-use crate::gathering::add_site;
-use crate::lines::Line;
 use crate::running::Running;
-use crate::tasks::Task;
 use event_json::Sites;
+use recall_text::answers::Answer;
+use recall_text::gathering::add_site;
+use recall_text::lines::Line;
+use recall_text::tasks::Task;
 use std::alloc::{AllocError, Global};
 use std::hash::RandomState;
 use std::mem;
@@ -24,9 +24,9 @@ pub(crate) enum Script {
 }
 
 impl Script {
-    ghost use Rattle.script_core.specs.Fields.{fields};
+    ghost use Rattle.recall_text.specs.Fields.{fields};
+    ghost use Rattle.recall_text.specs.Steps.{task_of};
     ghost use Rattle.script_core.specs.State.{empty, begun};
-    ghost use Rattle.script_core.specs.Steps.{task_of};
     ghost use Rattle.script_core.specs.Script.{Takes, Passes, site_outcome};
     ghost use Rattle.script_core.specs.Memory.{TakesMemory, TaskTakesMemory, SiteTakesMemory, BeginningTakesMemory};
     ghost use Rattle.script_core.specs.Kept.{state_of};

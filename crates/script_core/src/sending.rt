@@ -4,15 +4,15 @@ ghost use Rattle.std.specs.Prelude.{◌≡◌, Some, IfOk, is_some};
 ghost use Rattle.frame_core.specs.declared.frames.Frame.{Frame};
 ghost use Rattle.site_core.specs.Naming.{frame_named};
 ghost use Rattle.site_core.specs.Records.{Record};
-ghost use Rattle.script_core.specs.Answer.{answer_of};
-ghost use Rattle.script_core.specs.Requests.{send, signal};
+ghost use Rattle.recall_text.specs.Answer.{answer_of};
+ghost use Rattle.recall_text.specs.Requests.{send, signal};
 ghost use Rattle.script_core.specs.State.{up_at};
 ghost use Rattle.script_core.specs.Tasks.{DoesTask, Sends};
 
-use crate::answers::Answer;
 use crate::running::Running;
 use event_json::SiteNo;
 use frame_core::MsgId;
+use recall_text::answers::Answer;
 use site_core::{FrameName, SiteState, frame_named};
 use std::alloc::{AllocError, Global};
 

@@ -1,13 +1,14 @@
 //! A script that is being read, line by line.
-ghost use Rattle.std.specs.Prelude.{◌≡◌, ℕ, ◌+◌, ◌^◌, ◌<◌, ◌≤◌, List, [], ◌∷◌, ◌++◌, Option, length, take, OnOk, IfOk, IfErr, IfNone, IfSome};
+ghost use Rattle.std.specs.Prelude.{◌≡◌, ℕ, ◌+◌, ◌^◌, ◌<◌, ◌≤◌, List, [], ◌∷◌, ◌++◌, Option, length, take, OnOk, IfOk, IfErr};
 ghost use Rattle.std.specs.Str.Lines.{strip_carriage_return};
-ghost use Rattle.script_core.specs.Lines.{IsWithinLine, EndsAt, longest_line};
+ghost use Rattle.recall_text.specs.Lines.{IsWithinLine};
+ghost use Rattle.script_core.specs.Lines.{longest_line};
 
-use crate::faults::ScriptFault;
 use crate::held_lines::HeldLine;
 use crate::scripts::Script;
 use crate::tallies::Tally;
-use crate::writing::write_text;
+use recall_text::line_ends::{content_len, line_end};
+use recall_text::{ScriptFault, write_text};
 use std::alloc::{AllocError, Global};
 use std::hash::RandomState;
 use std::io::Write;
@@ -175,24 +176,5 @@ impl Session {
         ensures refused { self.new.refused ≡ self.old.refused }
     {
         self.pending.grow(bytes)
-    }
-}
-
-/// The place of the first LF.
-pub(crate) fn line_end(bytes: &[u8]) -> Option<usize>
-    ensures none { IfNone result (IsWithinLine bytes.now) }
-    ensures some { IfSome result (λ end. EndsAt bytes.now end) }
-{
-    bytes.iter().position(|b| *b == b'\n')
-}
-
-/// How many bytes of a line that was ended by LF are its content: one CR at its end goes.
-pub(crate) fn content_len(line: &[u8]) -> usize
-    ensures within { result ≤ length line.now }
-    ensures content { take result line.now ≡ strip_carriage_return line.now }
-{
-    match line.last() {
-        Some(b'\r') => line.len() - 1,
-        _ => line.len(),
     }
 }

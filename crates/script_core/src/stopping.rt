@@ -1,15 +1,15 @@
 //! Lines that stop a site and open it again: `stop`, `reopen`.
 
 ghost use Rattle.std.specs.Prelude.{◌≡◌, IfOk, Some};
-ghost use Rattle.script_core.specs.Answer.{answer_of};
+ghost use Rattle.recall_text.specs.Answer.{answer_of};
+ghost use Rattle.recall_text.specs.Requests.{stop, reopen};
 ghost use Rattle.script_core.specs.Happening.{with_armed};
-ghost use Rattle.script_core.specs.Requests.{stop, reopen};
 ghost use Rattle.script_core.specs.Tasks.{DoesTask};
 
-use crate::answers::Answer;
 use crate::running::Running;
 use event_json::SiteNo;
 use keeper_core::Keep;
+use recall_text::answers::Answer;
 use std::alloc::{AllocError, Global};
 
 impl Running {

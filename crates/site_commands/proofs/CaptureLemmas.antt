@@ -3,7 +3,7 @@ use Rattle.std.proofs.Common.{◌≡◌, ◌+◌, ℕ, Bool, true, false, List, 
 use Rattle.std.specs.Fmt.{decimal}
 use Rattle.std.specs.Prelude.{OnErr}
 use Rattle.std.proofs.KnownBytes.{Appends-nil}
-use Rattle.script_core.specs.Writing.{AppendsBeginning}
+use Rattle.recall_text.specs.Writing.{AppendsBeginning}
 use Rattle.std.proofs.lemmas.Option.{same_Some}
 use Rattle.event_json.specs.Sites.{Site}
 use Rattle.keeper_core.specs.Keeping.{Applies}

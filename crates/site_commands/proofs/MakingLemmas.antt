@@ -1,7 +1,7 @@
 -- the files that `init` looks for and makes, in turn
 use Rattle.std.proofs.Common.{◌≡◌, ℕ, ◌+◌, ◌<◌, zero, suc, Bool, List, [], ◌∷◌, ◌++◌, length, refl, sym, ap, ◌∙◌, subst, arith, append_assoc, append-nil}
 use Rattle.event_json.specs.Sites.{Site}
-use Rattle.script_core.specs.Words.{name_at}
+use Rattle.recall_text.specs.Words.{name_at}
 use Rattle.site_core.specs.Records.{Record, fresh}
 use Rattle.site_commands.specs.Answers.{answer_status, answer_text}
 use Rattle.site_commands.specs.Folders.{file_path}

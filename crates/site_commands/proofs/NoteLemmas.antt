@@ -2,7 +2,7 @@
 use Rattle.std.proofs.Common.{◌≡◌, ℕ, ◌+◌, ◌<◌, List, [], ◌∷◌, ◌++◌, drop, get_or, length, refl, sym, ap, ◌∙◌, append_assoc, append-nil}
 use Rattle.std.proofs.lemmas.List.{drop_more}
 use Rattle.event_json.specs.Sites.{Site}
-use Rattle.script_core.specs.Words.{name_at}
+use Rattle.recall_text.specs.Words.{name_at}
 use Rattle.site_threads.specs.Jobs.{stops_in}
 use Rattle.site_threads.specs.declared.lists.SiteList.{SiteList}
 use Rattle.site_commands.specs.Folders.{file_path}

@@ -3,15 +3,14 @@ use Rattle.std.proofs.Common.{◌≡◌, ℕ, ◌+◌, Bool, true, false, List, 
 use Rattle.std.specs.Prelude.{nat_le, if◌then◌else◌, string_bytes}
 use Rattle.event_json.specs.Sites.{Site, sites_fault}
 use Rattle.event_json.specs.declared.site_lists.SitesFault.{SitesFault}
-use Rattle.script_core.specs.Answer.{Said}
-use Rattle.script_core.specs.Requests.{Request}
-use Rattle.script_core.specs.Requests as requests
-use Rattle.script_core.specs.Runs.{text_of}
-use Rattle.script_core.specs.Script.{site_added}
-use Rattle.script_core.specs.SiteLists.{IsSiteList, Lists, ListsRequest}
-use Rattle.script_core.specs.State.{State, gathering}
-use Rattle.script_core.specs.Words.{name_at}
-use Rattle.script_core.specs.declared.site_lists.SiteList.{SiteList}
+use Rattle.recall_text.specs.Answer.{Said, text_of}
+use Rattle.recall_text.specs.Requests.{Request}
+use Rattle.recall_text.specs.Requests as requests
+use Rattle.recall_text.specs.Gathering.{site_added}
+use Rattle.recall_text.specs.SiteLists.{IsSiteList, Lists, ListsRequest}
+use Rattle.recall_text.specs.State.{State, gathering}
+use Rattle.recall_text.specs.Words.{name_at}
+use Rattle.recall_text.specs.declared.site_lists.SiteList.{SiteList}
 use Rattle.site_core.specs.Records.{Record}
 use Rattle.site_commands.specs.Answers.{BeginsRefused, IsAnswer, refusal_line}
 use Rattle.site_commands.specs.declared.answers.Answer.{Answer}

@@ -6,7 +6,7 @@ use Rattle.std.specs.declared.string.String.{String}
 use Rattle.event_json.specs.Sites.{Site}
 use Rattle.keeper_core.specs.Keeping.{Applies}
 use Rattle.keeper_core.specs.declared.faults.KeepFault.TheVariants as keeping
-use Rattle.script_core.specs.Words.{effects_text, refusal_text}
+use Rattle.recall_text.specs.Words.{effects_text, refusal_text}
 use Rattle.site_core.specs.Records.{Record}
 use Rattle.site_core.specs.declared.inputs.SiteInput.{SiteInput}
 use Rattle.site_core.specs.declared.outcomes.Effects.{Effects}

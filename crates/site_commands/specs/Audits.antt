@@ -9,7 +9,7 @@ use Rattle.report_core.specs.Verdicts.{IsVerdict}
 use Rattle.report_core.specs.declared.audits.Verdict.{Verdict}
 use Rattle.report_core.specs.declared.audits.Verdict.TheVariants.{Equal, Differs}
 use Rattle.scholten_core.specs.declared.own_recalls.Own.{Own}
-use Rattle.script_core.specs.Words.{name_at, recall_text}
+use Rattle.recall_text.specs.Words.{name_at, recall_text}
 use Rattle.site_core.specs.Records.{Record}
 use Rattle.site_recovery.specs.Fit.{Fits}
 use Rattle.site_recovery.specs.Looks.{world_of}

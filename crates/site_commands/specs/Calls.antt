@@ -4,10 +4,10 @@ use Rattle.std.specs.Prelude.{◌≡◌, ⊤, ◌≤◌, ◌+◌, ℕ, List, [],
 use Rattle.epc_core.specs.declared.items.EpcFault.{EpcFault}
 use Rattle.epc_core.specs.Reading.{reading}
 use Rattle.event_json.specs.Sites.{Site, named}
-use Rattle.script_core.specs.Numbers.{recall_of}
-use Rattle.script_core.specs.SiteLists.{IsSiteList}
-use Rattle.script_core.specs.Words.{name_at}
-use Rattle.script_core.specs.declared.site_lists.SiteList.{SiteList}
+use Rattle.recall_text.specs.Numbers.{recall_of}
+use Rattle.recall_text.specs.SiteLists.{IsSiteList}
+use Rattle.recall_text.specs.Words.{name_at}
+use Rattle.recall_text.specs.declared.site_lists.SiteList.{SiteList}
 use Rattle.site_core.specs.Records.{Record}
 use Rattle.site_core.specs.declared.inputs.SiteInput.{SiteInput}
 use Rattle.site_core.specs.declared.inputs.SiteInput.TheVariants.{Capture, Start}

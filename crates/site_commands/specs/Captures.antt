@@ -5,8 +5,8 @@ use Rattle.std.specs.List.{list_all}
 use Rattle.std.specs.Io.KnownBytes.{Appends}
 use Rattle.event_json.specs.Sites.{Site, named}
 use Rattle.keeper_core.specs.Keeping.{IsRefusedFor}
-use Rattle.script_core.specs.Words.{refusal_text}
-use Rattle.script_core.specs.Writing.{AppendsBeginning}
+use Rattle.recall_text.specs.Words.{refusal_text}
+use Rattle.recall_text.specs.Writing.{AppendsBeginning}
 use Rattle.site_core.specs.Records.{Record}
 use Rattle.site_core.specs.Steps.{Does}
 use Rattle.site_core.specs.declared.inputs.SiteInput.TheVariants.{Capture}

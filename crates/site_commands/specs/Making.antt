@@ -1,9 +1,9 @@
 -- Which calls of the files `init` makes, and what it returns.
 use Rattle.std.specs.Prelude.{◌≡◌, ◌+◌, ℕ, zero, suc, Bool, true, false, List, [], ◌∷◌, ◌++◌, codes, length, nat_le, if◌then◌else◌, string_bytes}
 use Rattle.event_json.specs.Sites.{Site}
-use Rattle.script_core.specs.SiteLists.{IsSiteList}
-use Rattle.script_core.specs.Words.{name_at}
-use Rattle.script_core.specs.declared.site_lists.SiteList.{SiteList}
+use Rattle.recall_text.specs.SiteLists.{IsSiteList}
+use Rattle.recall_text.specs.Words.{name_at}
+use Rattle.recall_text.specs.declared.site_lists.SiteList.{SiteList}
 use Rattle.site_core.specs.Records.{Record, fresh}
 use Rattle.site_commands.specs.Answers.{answer_status, answer_text, refusal_line}
 use Rattle.site_commands.specs.Folders.{file_path, list_path}

@@ -5,7 +5,7 @@ use Rattle.std.specs.Global.{Global}
 use Rattle.std.specs.List.{list_any}
 use Rattle.std.specs.declared.string.String.{String}
 use Rattle.event_json.specs.Sites.{Site}
-use Rattle.script_core.specs.Words.{name_at}
+use Rattle.recall_text.specs.Words.{name_at}
 use Rattle.site_threads.specs.Jobs.{stops_in}
 use Rattle.site_threads.specs.declared.lists.SiteList.{SiteList}
 use Rattle.site_commands.specs.Folders.{file_path}

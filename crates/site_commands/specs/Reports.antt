@@ -7,7 +7,7 @@ use Rattle.frame_core.specs.Numbers.{Recall}
 use Rattle.report_core.specs.Reports.{IsReport}
 use Rattle.report_core.specs.declared.outside.OutsideShipment.{OutsideShipment}
 use Rattle.report_core.specs.declared.reports.RecallReport.{RecallReport}
-use Rattle.script_core.specs.Words.{name_at, recall_text, ended_word, pair_text}
+use Rattle.recall_text.specs.Words.{name_at, recall_text, ended_word, pair_text}
 use Rattle.site_core.specs.Records.{Record}
 use Rattle.site_recovery.specs.Looks.{own, world_of}
 use Rattle.trace_core.specs.declared.pairs.Pair.{Pair}

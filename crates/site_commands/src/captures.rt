@@ -2,7 +2,7 @@
 
 ghost use Rattle.std.specs.Prelude.{◌≡◌, ℕ, List, [], ◌∷◌, Some, false, true, IfOk, OnOk, OnErr, map, string_bytes};
 ghost use Rattle.std.specs.Io.KnownBytes.{Appends};
-ghost use Rattle.script_core.specs.Writing.{AppendsBeginning};
+ghost use Rattle.recall_text.specs.Writing.{AppendsBeginning};
 ghost use Rattle.site_core.specs.Records.{Record};
 ghost use Rattle.site_commands.specs.Captures.{CapturesAll, ComesTo, EndsEarly, IsOfCapture, ReadsFile, ReadsFiles, Takes, TakesOne, TakesSome, TakesThose, came_line, came_of, came_words, document_of, is_blank, none_yet, of_lines, standing};
 
@@ -12,8 +12,8 @@ use crate::folders::{Files, open_site, sites_of};
 use crate::totals::Totals;
 use event_json::{Sequence, Sites};
 use keeper_core::{KeepFault, SiteKeeper};
-use script_core::telling::refusal_text;
-use script_core::write_text;
+use recall_text::telling::refusal_text;
+use recall_text::write_text;
 use site_core::{Effects, Refusal, SiteInput};
 use std::alloc::{AllocError, Global};
 use std::io::Write;

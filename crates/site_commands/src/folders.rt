@@ -1,7 +1,7 @@
 //! The folder of the sites' files: its list of sites, and opening the sites.
 
 ghost use Rattle.std.specs.Prelude.{◌≡◌, ◌↔◌, ℕ, List, IfOk, IsTrue, length, string_bytes};
-ghost use Rattle.script_core.specs.Words.{name_at};
+ghost use Rattle.recall_text.specs.Words.{name_at};
 ghost use Rattle.site_core.specs.Records.{Record};
 ghost use Rattle.site_recovery.specs.Checking.{records_at};
 ghost use Rattle.site_commands.specs.Calls.{AreShown, ClosesAll, ListsSites, OpensFrom, OpensSite, ShowsSite};
@@ -11,8 +11,8 @@ use crate::faults::Fault;
 use event_json::laws::equal_is_same;
 use event_json::{SiteNo, Sites};
 use keeper_core::SiteKeeper;
-use script_core::read_sites;
-use script_core::telling::name_of;
+use recall_text::read_sites;
+use recall_text::telling::name_of;
 use site_core::SiteState;
 use std::alloc::{AllocError, Global};
 

@@ -1,7 +1,7 @@
 //! `init`: a file for each site of a list.
 
 ghost use Rattle.std.specs.Prelude.{◌≡◌, ◌++◌, Bool, List, IfOk, OnOk, length, string_bytes};
-ghost use Rattle.script_core.specs.Words.{name_at};
+ghost use Rattle.recall_text.specs.Words.{name_at};
 ghost use Rattle.site_commands.specs.Answers.{IsAnswer};
 ghost use Rattle.site_commands.specs.Making.{InitsAt, LooksForList, LooksFrom, MakesAll, MakesFrom, MakesListed, exists_line, exists_lines, few_line, line_where};
 
@@ -10,8 +10,8 @@ use crate::faults::Fault;
 use crate::folders::{Files, file_path, list_path};
 use event_json::{SiteNo, Sites};
 use keeper_core::SiteKeeper;
-use script_core::telling::name_of;
-use script_core::{SiteList, read_sites};
+use recall_text::telling::name_of;
+use recall_text::{SiteList, read_sites};
 use site_core::SiteState;
 use std::alloc::{AllocError, Global};
 use std::hash::RandomState;

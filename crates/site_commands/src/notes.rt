@@ -8,7 +8,7 @@ use crate::audits::StartedRecall;
 use crate::folders::{Files, file_path};
 use event_json::{SiteNo, Sites};
 use keeper_core::SiteKeeper;
-use script_core::telling::name_of;
+use recall_text::telling::name_of;
 use site_threads::SiteList;
 use std::alloc::{AllocError, Global};
 

@@ -19,7 +19,7 @@ use crate::folders::{Files, close_all, open_all, sites_of};
 use crate::notes::{RunNotes, failures_of, notes_of, notes_text};
 use event_json::Sites;
 use keeper_core::SiteKeeper;
-use script_core::telling::{ended_word, recall_text};
+use recall_text::telling::{ended_word, recall_text};
 use site_core::SiteState;
 use site_threads::{DeskOut, Gate, GatherCause, GatherFault, Gathered, run_world};
 use std::alloc::{AllocError, Global};

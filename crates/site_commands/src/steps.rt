@@ -13,7 +13,7 @@ use crate::faults::Fault;
 use crate::folders::{Files, open_site, sites_of};
 use event_json::{Sequence, SiteNo, Sites};
 use keeper_core::{KeepFault, SiteKeeper};
-use script_core::telling::{effects_text, item_of, refusal_text};
+use recall_text::telling::{effects_text, item_of, refusal_text};
 use site_core::SiteInput;
 use std::alloc::Global;
 

@@ -1,7 +1,7 @@
 use Rattle.std.proofs.Common.{inl, inr, sym, refl, subst, ◌∙◌}
 use Rattle.std.proofs.KnownBytes.{Appends-nil}
 use Rattle.std.specs.Io.KnownBytes.{Appends}
-use Rattle.script_core.specs.Writing.{AppendsBeginning}
+use Rattle.recall_text.specs.Writing.{AppendsBeginning}
 use Rattle.site_commands.specs.Captures.{ReadsFiles, none_yet, standing}
 use Rattle.site_commands.proofs.CaptureLemmas.{on_err, takes_those, takes_totals}
 use Rattle.site_commands.proofs.captures.capture_documents.Goals as goal

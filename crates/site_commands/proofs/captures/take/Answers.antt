@@ -1,6 +1,6 @@
 use Rattle.std.proofs.Common.{ap, ◌∙◌, subst}
 use Rattle.std.specs.Io.KnownBytes.{Appends}
-use Rattle.script_core.specs.Writing.{AppendsBeginning}
+use Rattle.recall_text.specs.Writing.{AppendsBeginning}
 use Rattle.site_commands.specs.Captures.{came_line, document_of, standing}
 use Rattle.site_commands.proofs.CaptureLemmas.{on_err, takes_less, takes_none}
 use Rattle.site_commands.proofs.captures.take.Goals as goal

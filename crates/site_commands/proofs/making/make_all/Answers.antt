@@ -1,5 +1,5 @@
 use Rattle.std.proofs.Common.{◌≡◌, ◌+◌, ℕ, suc, ap, ap₂, ◌∙◌, subst, arith}
-use Rattle.script_core.specs.Words.{name_at}
+use Rattle.recall_text.specs.Words.{name_at}
 use Rattle.site_core.specs.Records.{Record, fresh}
 use Rattle.site_commands.specs.Folders.{file_path}
 use Rattle.site_commands.specs.Making.{MakesFrom}

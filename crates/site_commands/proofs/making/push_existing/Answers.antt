@@ -1,6 +1,6 @@
 use Rattle.std.proofs.Common.{◌≡◌, ◌+◌, ℕ, [], ◌∷◌, ◌++◌, length, length-append, append_assoc, sym, ap, ◌∙◌, subst, arith}
 use Rattle.std.specs.Prelude.{string_bytes}
-use Rattle.script_core.specs.Words.{name_at}
+use Rattle.recall_text.specs.Words.{name_at}
 use Rattle.site_commands.specs.Folders.{file_path}
 use Rattle.site_commands.specs.Making.{exists_lines, line_where}
 use Rattle.site_commands.proofs.MakingLemmas.{exists_more, looks_more}

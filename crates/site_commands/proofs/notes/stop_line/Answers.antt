@@ -1,6 +1,6 @@
 use Rattle.std.proofs.Common.{◌++◌, ◌∷◌, [], ◌∙◌}
 use Rattle.std.specs.Prelude.{codes}
-use Rattle.script_core.specs.Words.{name_at}
+use Rattle.recall_text.specs.Words.{name_at}
 use Rattle.site_commands.specs.Notes.{cause_word, times_text}
 use Rattle.site_commands.proofs.CallsInTurn.{ok_so}
 use Rattle.site_commands.proofs.NoteLemmas.{seven_parts}

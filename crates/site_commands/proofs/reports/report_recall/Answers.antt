@@ -1,6 +1,6 @@
 use Rattle.std.proofs.Common.{◌≡◌, Some, sym, ap, subst, ◌∙◌}
 use Rattle.std.specs.Option.{option_map}
-use Rattle.script_core.specs.Numbers.{recall_of}
+use Rattle.recall_text.specs.Numbers.{recall_of}
 use Rattle.site_commands.specs.Calls.{AreShown, AtSite, ReportsBy, TellsAll}
 use Rattle.site_commands.specs.Reports.{AnswersReport}
 use Rattle.site_commands.proofs.CallsInTurn.{ok_so, opened_shown}

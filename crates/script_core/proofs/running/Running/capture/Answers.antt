@@ -1,7 +1,7 @@
 use Rattle.std.proofs.Common.{◌≡◌, ℕ, List, [], Some, ap, sym, rules}
 use Rattle.std.proofs.lemmas.Result.{IfOk-weaker}
 use Rattle.site_core.specs.declared.inputs.SiteInput.TheVariants.{Capture}
-use Rattle.script_core.specs.Answer.{answer_of}
+use Rattle.recall_text.specs.Answer.{answer_of}
 use Rattle.script_core.specs.Tasks.{Hands}
 use Rattle.script_core.proofs.TaskLemmas.{at_site}
 use Rattle.script_core.proofs.running.Running.capture.Goals as goal

@@ -3,7 +3,8 @@ use Rattle.std.specs.Prelude.{is_some}
 use Rattle.std.proofs.lemmas.Result.{on_ok_weaker}
 use Rattle.site_core.specs.declared.inputs.SiteInput.TheVariants as inputs
 use Rattle.world_core.specs.Turns.{frame_at}
-use Rattle.script_core.specs.State.{World, up_at}
+use Rattle.recall_text.specs.State.{World}
+use Rattle.script_core.specs.State.{up_at}
 use Rattle.script_core.proofs.PumpLemmas.{carried}
 use Rattle.script_core.proofs.TaskLemmas.{delivered, last_sent, some_is}
 use Rattle.script_core.proofs.running.Running.carry.Goals as goal

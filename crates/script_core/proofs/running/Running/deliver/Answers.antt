@@ -2,9 +2,9 @@ use Rattle.std.proofs.Common.{◌≡◌, ℕ, List, sym, subst, rules}
 use Rattle.std.proofs.lemmas.Result.{IfOk-weaker}
 use Rattle.frame_core.specs.Rows.{frame_of}
 use Rattle.site_core.specs.declared.inputs.SiteInput.TheVariants.{Deliver}
-use Rattle.script_core.specs.Answer.{answer_of}
+use Rattle.recall_text.specs.Answer.{answer_of}
+use Rattle.recall_text.specs.Words.{message_text}
 use Rattle.script_core.specs.Tasks.{Delivers, Hands, message_of}
-use Rattle.script_core.specs.Words.{message_text}
 use Rattle.script_core.proofs.TaskLemmas.{delivered}
 use Rattle.script_core.proofs.running.Running.deliver.Goals as goal
 

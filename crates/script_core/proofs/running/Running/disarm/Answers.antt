@@ -2,7 +2,7 @@ use Rattle.std.proofs.Common.{◌≡◌, ℕ, None, Some, Option, ap, sym, ◌�
 use Rattle.std.specs.Prelude.{option_and_then, slice_get}
 use Rattle.std.proofs.lemmas.Option.{slice_get_read}
 use Rattle.keeper_core.specs.declared.faults.Keep.{Keep}
-use Rattle.script_core.specs.State.{World}
+use Rattle.recall_text.specs.State.{World}
 use Rattle.script_core.proofs.running.Running.disarm.Goals as goal
 
 pub returns : goal.returns

@@ -3,8 +3,9 @@ use Rattle.std.proofs.lemmas.Result.{IfOk-weaker}
 use Rattle.keeper_core.specs.declared.faults.Keep.{Keep}
 use Rattle.world_core.specs.Worlds.{WorldState}
 use Rattle.world_core.specs.Turns.{input_at}
+use Rattle.recall_text.specs.State.{World}
 use Rattle.script_core.specs.Happening.{Happens, with_site}
-use Rattle.script_core.specs.State.{World, up_in}
+use Rattle.script_core.specs.State.{up_in}
 use Rattle.script_core.proofs.running.Running.hand.Goals as goal
 
 pub returns : goal.returns

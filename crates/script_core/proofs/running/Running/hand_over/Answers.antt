@@ -1,8 +1,9 @@
 use Rattle.std.proofs.Common.{◌≡◌, true, ap, ◌∙◌, rules}
 use Rattle.std.specs.Prelude.{is_some}
 use Rattle.std.proofs.lemmas.Result.{IfOk-weaker}
-use Rattle.script_core.specs.Answer.{answer_of}
-use Rattle.script_core.specs.State.{World, up_at}
+use Rattle.recall_text.specs.Answer.{answer_of}
+use Rattle.recall_text.specs.State.{World}
+use Rattle.script_core.specs.State.{up_at}
 use Rattle.script_core.specs.Tasks.{Tells, outcome_said}
 use Rattle.script_core.proofs.TaskLemmas.{some_is, where_up}
 use Rattle.script_core.proofs.running.Running.hand_over.Goals as goal

@@ -1,7 +1,7 @@
 use Rattle.std.proofs.Common.{ap}
 use Rattle.std.proofs.lemmas.Result.{on_ok_weaker}
 use Rattle.world_core.specs.Worlds.{WorldState}
-use Rattle.script_core.specs.State.{World}
+use Rattle.recall_text.specs.State.{World}
 use Rattle.script_core.proofs.running.Running.open.Goals as goal
 
 pub returns : goal.returns

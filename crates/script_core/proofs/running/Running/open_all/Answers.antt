@@ -1,6 +1,6 @@
 use Rattle.std.proofs.Common.{◌<◌, ℕ, ◌+◌, length, refl, ap, ◌∙◌, arith}
+use Rattle.recall_text.specs.State.{World}
 use Rattle.script_core.specs.Pumping.{with_opened}
-use Rattle.script_core.specs.State.{World}
 use Rattle.script_core.proofs.OpenLemmas.{opened_all, opened_count, opened_next, with_standings}
 use Rattle.script_core.proofs.running.Running.open_all.Goals as goal
 

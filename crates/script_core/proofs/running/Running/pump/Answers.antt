@@ -1,9 +1,9 @@
 use Rattle.std.proofs.Common.{◌≡◌, ℕ, ◌-◌, ◌++◌, List, string_bytes, ap, ◌∙◌, subst, arith, rules, length}
 use Rattle.std.specs.List.{range_with_len}
 use Rattle.std.proofs.lemmas.Result.{IfOk-weaker}
-use Rattle.script_core.specs.Answer.{done}
+use Rattle.recall_text.specs.Answer.{done}
+use Rattle.recall_text.specs.Words.{pumped_text}
 use Rattle.script_core.specs.Pumping.{Each, TakesRound}
-use Rattle.script_core.specs.Words.{pumped_text}
 use Rattle.script_core.proofs.PumpLemmas.{adds_next, adds_none}
 use Rattle.script_core.proofs.running.Running.pump.Goals as goal
 

@@ -5,9 +5,9 @@ use Rattle.trace_core.specs.Chains.{Related, sites_at}
 use Rattle.trace_core.specs.Relations.{Reaches}
 use Rattle.trace_core.specs.declared.pairs.Pair.{Pair}
 use Rattle.world_core.specs.Worlds.{records}
-use Rattle.script_core.specs.Answer.{answer_of, done}
+use Rattle.recall_text.specs.Answer.{answer_of, done}
+use Rattle.recall_text.specs.Words.{pairs_text}
 use Rattle.script_core.specs.Tasks.{IsReachText, WhereAllUp, first_down}
-use Rattle.script_core.specs.Words.{pairs_text}
 use Rattle.script_core.proofs.running.Running.reach_from.Goals as goal
 
 pub returns : goal.returns

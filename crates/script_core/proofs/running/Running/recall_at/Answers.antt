@@ -2,7 +2,7 @@ use Rattle.std.proofs.Common.{sym, subst, refl}
 use Rattle.std.proofs.lemmas.Option.{MatchOption-at_some}
 use Rattle.std.proofs.lemmas.Result.{IfOk-weaker}
 use Rattle.site_core.specs.declared.inputs.SiteInput.TheVariants.{Start}
-use Rattle.script_core.specs.Answer.{answer_of}
+use Rattle.recall_text.specs.Answer.{answer_of}
 use Rattle.script_core.specs.Tasks.{RecallRead}
 use Rattle.script_core.proofs.running.Running.recall_at.Goals as goal
 

@@ -1,7 +1,7 @@
 use Rattle.std.proofs.Common.{◌≡◌, false, sym, subst, rules}
 use Rattle.std.specs.Prelude.{is_some, slice_get}
 use Rattle.std.proofs.lemmas.Result.{IfOk-weaker}
-use Rattle.script_core.specs.Answer.{answer_of}
+use Rattle.recall_text.specs.Answer.{answer_of}
 use Rattle.script_core.specs.State.{up_at}
 use Rattle.script_core.specs.Tasks.{Opens}
 use Rattle.script_core.proofs.TaskLemmas.{at_site, none_is}

@@ -1,7 +1,7 @@
 use Rattle.std.proofs.Common.{◌≡◌, ℕ, string_bytes, ap, ◌∙◌, subst, arith, length}
 use Rattle.std.specs.List.{range_with_len}
+use Rattle.recall_text.specs.State.{World}
 use Rattle.script_core.specs.Pumping.{AddsText, Each, TakesPart}
-use Rattle.script_core.specs.State.{World}
 use Rattle.script_core.proofs.PumpLemmas.{adds_next, adds_none}
 use Rattle.script_core.proofs.running.Running.round.Goals as goal
 

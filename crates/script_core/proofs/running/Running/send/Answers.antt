@@ -1,6 +1,6 @@
 use Rattle.std.proofs.Common.{◌≡◌, ◌∙◌, Some, sym, subst}
 use Rattle.std.proofs.lemmas.Result.{IfOk-weaker}
-use Rattle.script_core.specs.Answer.{answer_of}
+use Rattle.recall_text.specs.Answer.{answer_of}
 use Rattle.script_core.specs.Sending.{row_frame}
 use Rattle.script_core.specs.State.{up_at}
 use Rattle.script_core.specs.Tasks.{Sends, WhereUp}

@@ -1,7 +1,7 @@
 use Rattle.std.proofs.Common.{◌≡◌, ◌∙◌, Some, sym, subst}
 use Rattle.std.proofs.lemmas.Result.{IfOk-weaker}
 use Rattle.event_json.specs.Sites.{named}
-use Rattle.script_core.specs.Answer.{answer_of}
+use Rattle.recall_text.specs.Answer.{answer_of}
 use Rattle.script_core.specs.Sending.{owed_signal}
 use Rattle.script_core.specs.State.{up_at}
 use Rattle.script_core.specs.Tasks.{AtSite, Sends, WhereUp}

@@ -1,8 +1,9 @@
 use Rattle.std.proofs.Common.{◌≡◌, ap, sym, ◌∙◌}
 use Rattle.std.proofs.lemmas.Result.{MatchResult-weaker}
+use Rattle.recall_text.specs.State.{running}
+use Rattle.recall_text.specs.Steps.{task_of}
 use Rattle.script_core.specs.Kept.{state_of}
-use Rattle.script_core.specs.State.{begun, running}
-use Rattle.script_core.specs.Steps.{task_of}
+use Rattle.script_core.specs.State.{begun}
 use Rattle.script_core.proofs.MemoryLemmas.{passing}
 use Rattle.script_core.proofs.scripts.Script.pass.Goals as goal
 

@@ -1,5 +1,5 @@
 use Rattle.std.proofs.Common.{rules}
-use Rattle.script_core.specs.Answer.{answer_of}
+use Rattle.recall_text.specs.Answer.{answer_of}
 use Rattle.script_core.proofs.sessions.Session.answer.Goals.{then-is_refusal, else-is_refusal}
 use Rattle.script_core.proofs.sessions.Session.answer.Goals as goal
 

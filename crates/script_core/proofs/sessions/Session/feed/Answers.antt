@@ -1,7 +1,7 @@
 use Rattle.std.proofs.Common.{◌≡◌, ◌+◌, ◌-◌, ℕ, List, [], ◌∷◌, ◌++◌, length, take, drop, sym, ap, ◌∙◌, arith, rules, append-nil, append_assoc, take-append-drop}
 use Rattle.std.proofs.lemmas.List.{take_rest, length-drop}
 use Rattle.std.proofs.lemmas.Result.{err_from_is_err_and, on_ok_weaker, MatchResult-weaker}
-use Rattle.script_core.specs.Lines.{EndsAt}
+use Rattle.recall_text.specs.Lines.{EndsAt}
 use Rattle.script_core.proofs.SessionLemmas.{goes_trans, ends_trans}
 use Rattle.script_core.proofs.sessions.Session.feed.Goals as goal
 

@@ -1,0 +1,6 @@
+pub mod FieldLemmas
+pub mod FormLemmas
+pub mod LineLemmas
+pub mod NumberLemmas
+pub mod OutcomeLemmas
+pub mod SiteListLemmas

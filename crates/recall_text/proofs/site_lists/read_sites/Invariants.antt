@@ -1,0 +1,14 @@
+use Rattle.std.proofs.Common.{◌≤◌, length}
+use Rattle.recall_text.proofs.SiteListLemmas.{IsReadTo}
+use Rattle.recall_text.proofs.site_lists.read_sites.Given as goal
+
+-- the list is that of the lines before the rest
+abbrev pub invariant-loop-end : goal.invariant-loop-end
+invariant-loop-end l =
+    record {
+      so_far : IsReadTo l.text l.list l.rest;
+      within : length l.rest ≤ length l.text;
+    }
+
+abbrev pub decreases-loop-end : goal.decreases-loop-end
+decreases-loop-end l = length l.rest

@@ -1,0 +1,14 @@
+pub mod Answer
+pub mod Comments
+pub mod Fields
+pub mod Gathering
+pub mod Lines
+pub mod Numbers
+pub mod Outcomes
+pub mod Requests
+pub mod SiteLists
+pub mod State
+pub mod Steps
+pub mod Streams
+pub mod Words
+pub mod Writing
