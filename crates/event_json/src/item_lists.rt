@@ -56,7 +56,7 @@ fn each_epc(alloc: Global, list: &[Value], field: DocField) -> Result<Sequence<E
     ensures found { Finds result (each (λ _. epc_of field) 1 (items_view list.now)) }
     ensures count { IfOk result (λ s. length s ≡ length list.now) }
 {
-    let mut items = Vec::new(alloc);
+    let mut items = Vec::with_capacity(alloc, list.len())?;
     for value in list {
         items.push(epc(alloc, value, field)?)?;
     }
@@ -99,7 +99,7 @@ fn each_destination(alloc: Global, list: &[Value]) -> Result<Sequence<PlainText>
     ensures found { Finds result (each (λ _. destination_of) 1 (items_view list.now)) }
     ensures count { IfOk result (λ s. length s ≡ length list.now) }
 {
-    let mut texts = Vec::new(alloc);
+    let mut texts = Vec::with_capacity(alloc, list.len())?;
     for value in list {
         texts.push(destination(alloc, value)?)?;
     }

@@ -69,7 +69,7 @@ impl<T: Copyable> Sequence<T> {
     pub fn copy(&self, alloc: Global) -> Result<Sequence<T>, AllocError>
         ensures { IfOk result (λ s. s ≡ self.now) }
     {
-        let mut copies = Vec::new(alloc);
+        let mut copies = Vec::with_capacity(alloc, self.len())?;
         for value in self.as_slice() {
             copies.push(value.copied(alloc)?)?;
         }

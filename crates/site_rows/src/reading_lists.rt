@@ -95,10 +95,19 @@ pub(crate) fn list_at<M: Member>(
                 members.push(member)?;
                 *at += 1;
             }
-            None => return Ok(Sequence::from_vec(members)),
+            None => return Ok(trimmed(members)),
         }
     }
-    Ok(Sequence::from_vec(members))
+    Ok(trimmed(members))
+}
+
+/// The members as a list that has no room for more.
+fn trimmed<M: Member>(members: Vec<M>) -> Sequence<M>
+    ensures { result ≡ members.items }
+{
+    let mut members = members;
+    members.shrink_to_fit();
+    Sequence::from_vec(members)
 }
 
 /// The member whose row stands at a place, where it is that of this place of the list.
