@@ -17,7 +17,7 @@ module _ (W : World) (r : Recall) where
   reaches zero s = eqb s r.site
   reaches (suc k) s = cond (eqb s r.site) true (elim (parent W s r) [ None ↦ false | Some m ↦ reaches k m.site ])
 
-  climbs_unique : (k h s : ℕ) → Climbs W r k s → Climbs W r h s → k ≡ h
+  pub climbs_unique : (k h s : ℕ) → Climbs W r k s → Climbs W r h s → k ≡ h
   climbs_unique zero zero s c d = refl
   climbs_unique zero (suc h) s c d = absurd (d.3 c)
   climbs_unique (suc k) zero s c d = absurd (c.3 d)
@@ -56,7 +56,7 @@ module _ (W : World) (r : Recall) where
           | false ↦ λ _ g. way-below k c.0.site c.2 q g
         ] refl h
 
-    climbs_short : (k s : ℕ) → Climbs W r k s → k ≤ n
+    pub climbs_short : (k s : ℕ) → Climbs W r k s → k ≤ n
     climbs_short k s c =
         let short = length-le_from_distinct_below (way k s c) n (way-distinct k s c) (way-below k s c) in
         let long = way-length k s c in

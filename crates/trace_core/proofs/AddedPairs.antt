@@ -1,30 +1,33 @@
 -- The pairs that one more event gives.
-use Rattle.std.proofs.Common.{◌≡◌, ◌<◌, ◌≤◌, ◌+◌, ℕ, true, false, List, [], ◌∷◌, ◌++◌, take, length, get_or, ◌↔◌, refl, sym, subst, inl, inr, ⊎_elim}
+use Rattle.std.proofs.Common.{◌≡◌, ◌<◌, ◌≤◌, ◌+◌, ◌||◌, ℕ, true, false, List, [], ◌∷◌, ◌++◌, take, length, get_or, ◌↔◌, refl, sym, ap, ◌∙◌, subst, inl, inr, ⊎_elim}
 use mathlib.Core.Logic.{◌⊎◌}
 use Rattle.std.specs.Bool.{Decides}
 use Rattle.std.specs.BTreeSet.{BTreeSet, Updates}
 use Rattle.std.specs.List.{Any, Contains}
-use Rattle.std.proofs.lemmas.Bool.Decides.{Decides-not, Decides-and, Decides-or, Decides-eqb}
+use Rattle.std.proofs.lemmas.Bool.Decides.{Decides-and, Decides-or, Decides-eqb}
+use Rattle.std.proofs.lemmas.Bool.{or_cases}
 use Rattle.std.proofs.lemmas.List.{take_all}
 use Rattle.std.proofs.lemmas.List.Elements.{Contains-append_left, Contains-push, Contains-push_cases}
 use Rattle.std.proofs.lemmas.Map.Views.{btree_set_contains_iff}
-use Rattle.std.proofs.lemmas.Slice.Eq.{bytes_eq-Decides}
 use Rattle.event_json.specs.Events.{Content}
+use Rattle.event_json.specs.declared.bodies.Body.{Body}
 use Rattle.trace_core.specs.declared.pairs.Pair.{Pair}
-use Rattle.trace_core.specs.Gathering.{added_by}
-use Rattle.trace_core.specs.Pairs.{pair_cmp, Ships, TakesIn, GivesOut, make_id, HaveOneId, AreOneMake, IsRelated}
+use Rattle.trace_core.specs.Gathering.{is_in, added_by, sent_to}
+use Rattle.trace_core.specs.Pairs.{pair_cmp, Ships, TakesIn, GivesOut, make_id, HaveOneId, AreOneMake, IsMade, IsRelated}
 use Rattle.trace_core.specs.Searches.{IsFound}
+use Rattle.trace_core.specs.Sendings.{IsNewlySent}
+use Rattle.trace_core.specs.SiteSets.{has_site, sites_in}
 use Rattle.trace_core.specs.Sites.{SiteEvents}
-use Rattle.trace_core.specs.Spreads.{with_event, IsNewTarget}
+use Rattle.trace_core.specs.Spreads.{with_event, IsNewlyMade, IsNewTarget}
+use Rattle.trace_core.proofs.Booleans.{or_true}
+use Rattle.trace_core.proofs.Members.{contains_none}
 use Rattle.trace_core.proofs.PairOrder.{pairs_total, pairs_exact}
-use Rattle.trace_core.proofs.PairTestsDecide.{any_decides, ships_decides, takes_decides, gives_decides, same_id_decides}
+use Rattle.trace_core.proofs.PairTestsDecide.{any_decides, takes_decides, gives_decides, same_id_decides}
+use Rattle.trace_core.proofs.SendingSteps.{sent_when}
 use Rattle.trace_core.proofs.SetMembers.{contains_more, found-remove}
+use Rattle.trace_core.proofs.ShippedPlaces.{sent_decides, sent_in}
 
 module _ (s : SiteEvents) (e : Content) (i : List ℕ) where
-  -- the event ships the item to the pair
-  abbrev pub ShippedBy : Pair → Type 0
-  ShippedBy q = ((q.site ≡ s.me → ⊥) × (Ships i q.site e.body × (i ≡ q.item)))
-
   -- the event makes the pair's item of the item, by itself or joined to an event that gives it out
   abbrev pub MadeBy : Pair → Type 0
   MadeBy q = (q.site ≡ s.me) × (TakesIn i e.body × (GivesOut q.item e.body ⊎ Any (λ f. HaveOneId (make_id e.body) (make_id f.body) × GivesOut q.item f.body) s.events))
@@ -34,14 +37,12 @@ module _ (s : SiteEvents) (e : Content) (i : List ℕ) where
   JoinedBy q = Any (λ f. TakesIn i f.body × HaveOneId (make_id f.body) (make_id e.body)) s.events × ((q.site ≡ s.me) × GivesOut q.item e.body)
 
   abbrev pub AddedBy : Pair → Type 0
-  AddedBy q = (ShippedBy q ⊎ MadeBy q) ⊎ JoinedBy q
+  AddedBy q = MadeBy q ⊎ JoinedBy q
 
   pub added_decides : (q : Pair) → Decides (added_by s.me s.events i e.body q) (AddedBy q)
   added_decides q = Decides-or _ _
-      (Decides-or _ _
-      (Decides-and _ _ (Decides-not _ (Decides-eqb q.site s.me)) (Decides-and _ _ (ships_decides i q.site e.body) (bytes_eq-Decides i q.item)))
       (Decides-and _ _ (Decides-eqb q.site s.me) (Decides-and _ _ (takes_decides i e.body) (Decides-or _ _ (gives_decides q.item e.body)
-      (any_decides _ _ (λ f. Decides-and _ _ (same_id_decides (make_id e.body) (make_id f.body)) (gives_decides q.item f.body)) s.events)))))
+      (any_decides _ _ (λ f. Decides-and _ _ (same_id_decides (make_id e.body) (make_id f.body)) (gives_decides q.item f.body)) s.events))))
       (Decides-and _ _ (any_decides _ _ (λ f. Decides-and _ _ (takes_decides i f.body) (same_id_decides (make_id f.body) (make_id e.body))) s.events)
       (Decides-and _ _ (Decides-eqb q.site s.me) (gives_decides q.item e.body)))
 
@@ -51,21 +52,16 @@ module _ (s : SiteEvents) (e : Content) (i : List ℕ) where
       (λ last. inr (subst P (sym last) h))
       (Contains-push_cases s.events e f (k, lt, at))
 
-  pub related_with : (q : Pair) → IsRelated (with_event s e) i q → IsRelated s i q ⊎ AddedBy q
-  related_with q h = ⊎_elim
-      (λ (other, same, any). ⊎_elim
-      (λ before. inl (inl (other, same, before)))
-      (λ ships. inr (inl (inl (other, (ships, sym same)))))
-      (earlier (λ e. Ships i q.site e.body) any))
-      (λ (here, any). ⊎_elim
+  made_with : (q : Pair) → IsMade (with_event s e) i q → IsMade s i q ⊎ AddedBy q
+  made_with q (here, any) = ⊎_elim
       (λ (k, f, lt, at, (takes, gives)). ⊎_elim
-      (λ given. inl (inr (here, (k, f, lt, at, (takes, given)))))
+      (λ given. inl (here, (k, f, lt, at, (takes, given))))
       (λ (one, out). ⊎_elim
-      (λ same. inr (inl (inr (here, (subst (λ (x : Content). TakesIn i x.body) same takes, inl out)))))
+      (λ same. inr (inl (here, (subst (λ (x : Content). TakesIn i x.body) same takes, inl out))))
       (λ id. inr (inr ((k, f, lt, at, (takes, id)), (here, out))))
       one)
       (earlier (λ g. AreOneMake f g × GivesOut q.item g.body) gives))
-      (λ (takes, gives). inr (inl (inr (
+      (λ (takes, gives). inr (inl (
         here,
         (
           takes,
@@ -77,8 +73,23 @@ module _ (s : SiteEvents) (e : Content) (i : List ℕ) where
               (λ (one, out). inl out)
               (earlier (λ g. AreOneMake e g × GivesOut q.item g.body) gives),
         ),
-      ))))
-      (earlier (λ f. TakesIn i f.body × Any (λ g. AreOneMake f g × GivesOut q.item g.body) (s.events ++ e ∷ [])) any))
+      )))
+      (earlier (λ f. TakesIn i f.body × Any (λ g. AreOneMake f g × GivesOut q.item g.body) (s.events ++ e ∷ [])) any)
+
+  -- the event ships the item to the pair
+  abbrev pub ShippedBy : Pair → Type 0
+  ShippedBy q = (q.site ≡ s.me → ⊥) × (Ships i q.site e.body × (i ≡ q.item))
+
+  pub related_with : (q : Pair) → IsRelated (with_event s e) i q → IsRelated s i q ⊎ ((ShippedBy q ⊎ MadeBy q) ⊎ JoinedBy q)
+  related_with q h = ⊎_elim
+      (λ (other, same, any). ⊎_elim
+      (λ before. inl (inl (other, same, before)))
+      (λ ships. inr (inl (inl (other, (ships, sym same)))))
+      (sent_when s.events e i q.site any))
+      (λ made. ⊎_elim
+      (λ before. inl (inr before))
+      (λ added. inr (⊎_elim (λ by. inl (inr by)) (λ joined. inr joined) added))
+      (made_with q made))
       h
 
   the_last : Contains (s.events ++ e ∷ []) e
@@ -87,11 +98,9 @@ module _ (s : SiteEvents) (e : Content) (i : List ℕ) where
   still : (P : Content → Type 0) → Any P s.events → Any P (s.events ++ e ∷ [])
   still P (k, f, lt, at, h) = let there = Contains-append_left s.events (e ∷ []) f (k, lt, at) in (there.0, f, there.1, there.2, h)
 
-  pub added_related : (q : Pair) → AddedBy q → IsRelated (with_event s e) i q
-  added_related q h = ⊎_elim
-      (λ own. ⊎_elim
-      (λ (other, (ships, same)). inl (other, sym same, (the_last.0, e, the_last.1, the_last.2, ships)))
-      (λ (here, (takes, gives)). inr (
+  added_made : (q : Pair) → AddedBy q → IsMade (with_event s e) i q
+  added_made q h = ⊎_elim
+      (λ (here, (takes, gives)). (
         here,
         (
           the_last.0,
@@ -107,19 +116,24 @@ module _ (s : SiteEvents) (e : Content) (i : List ℕ) where
           ),
         ),
       ))
-      own)
-      (λ ((k, f, lt, at, (takes, id)), (here, out)). inr (
+      (λ ((k, f, lt, at, (takes, id)), (here, out)). (
         here,
         still (λ f. TakesIn i f.body × Any (λ g. AreOneMake f g × GivesOut q.item g.body) (s.events ++ e ∷ []))
             (k, f, lt, at, (takes, (the_last.0, e, the_last.1, the_last.2, (inr id, out)))),
       ))
       h
 
-  -- those of the added pairs that aren't among the first so many of the pairs that stood before
-  abbrev pub LeftOf : List Pair → BTreeSet Pair → ℕ → Type 0
-  LeftOf before set n = (q : Pair) → IsFound pair_cmp set q ↔ ((added_by s.me s.events i e.body q ≡ true) × (Contains (take n before) q → ⊥))
+-- those of the added pairs that aren't among the first so many of the pairs that stood before
+abbrev pub LeftOf : SiteEvents → Body → List ℕ → List Pair → BTreeSet Pair → ℕ → Type 0
+LeftOf s b i before set n = (q : Pair) → IsFound pair_cmp set q ↔ ((added_by s.me s.events i b q ≡ true) × (Contains (take n before) q → ⊥))
 
-  pub one_taken : (before : List Pair) (old new : BTreeSet Pair) (k : ℕ) (p : Pair) → k < length before → p ≡ get_or before k p → Updates pair_cmp old new p false → LeftOf before old k → LeftOf before new (k + 1)
+module _ (s : SiteEvents) (b : Body) (i : List ℕ) where
+  pub none_taken : (before : List Pair) (none set : BTreeSet Pair) → none.keys ≡ [] → ((q : Pair) → is_in set q ≡ (is_in none q || added_by s.me s.events i b q)) → LeftOf s b i before set 0
+  none_taken before none set empty added q =
+      let is : is_in set q ≡ added_by s.me s.events i b q = added q ∙ ap (λ (ks : List Pair). is_in (record { keys = ks }) q || added_by s.me s.events i b q) empty in
+      (λ h. (sym is ∙ h, λ there. contains_none q there), λ (by, free). is ∙ by)
+
+  pub one_taken : (before : List Pair) (old new : BTreeSet Pair) (k : ℕ) (p : Pair) → k < length before → p ≡ get_or before k p → Updates pair_cmp old new p false → LeftOf s b i before old k → LeftOf s b i before new (k + 1)
   one_taken before old new k p below at upd so_far q =
       let more = contains_more before k p below at q in
       let left = found-remove pair_cmp pairs_total pairs_exact old new p upd q in (
@@ -127,15 +141,45 @@ module _ (s : SiteEvents) (e : Content) (i : List ℕ) where
         λ (added, not_there). left.1 ((so_far q).1 (added, λ before. not_there (more.1 (inl before))), λ same. not_there (more.1 (inr same))),
       )
 
-  pub new_found : (before : List Pair) (set : BTreeSet Pair) (n : ℕ) (pairs : List Pair) → length before ≤ n → pairs ≡ set.keys → ((q : Pair) → Contains before q ↔ IsRelated s i q) → LeftOf before set n
-      → (q : Pair) → Contains pairs q ↔ IsNewTarget s e i q
-  new_found before set n pairs past keys exact left q =
-      let both = btree_set_contains_iff pairs_total pairs_exact set q in
-      let all = take_all n before past in (
-        λ h. let (added, not_before) = (left q).0 (both.1 (subst (λ ps. Contains ps q) keys h)) in
-            (added_related q ((added_decides q).0 added), λ related. not_before (subst (λ ps. Contains ps q) (sym all) ((exact q).1 related))),
-        λ (related, new). subst (λ ps. Contains ps q) (sym keys) (both.0 ((left q).1 (
-          ⊎_elim (λ before. absurd (new before)) (λ added. (added_decides q).1 added) (related_with q related),
-          λ there. new ((exact q).0 (subst (λ ps. Contains ps q) all there)),
-        ))),
-      )
+  module _ (e : Content) (is : e.body ≡ b) where
+    by_event : (q : Pair) → Decides (added_by s.me s.events i b q) (AddedBy s e i q)
+    by_event q = subst (λ (x : Body). Decides (added_by s.me s.events i x q) (AddedBy s e i q)) is (added_decides s e i q)
+
+    -- what is left of all that stood before is newly made
+    pub newly_made : (before : List Pair) (set : BTreeSet Pair) (n : ℕ) → length before ≤ n → ((q : Pair) → Contains before q ↔ IsRelated s i q) → LeftOf s b i before set n → (q : Pair) → IsFound pair_cmp set q ↔ IsNewlyMade s e i q
+    newly_made before set n past exact left q =
+        let all = take_all n before past in (
+          λ h. let (added, not_before) = (left q).0 h in
+              (added_made s e i q ((by_event q).0 added), λ made. not_before (subst (λ ps. Contains ps q) (sym all) ((exact q).1 (inr made)))),
+          λ (made, new). (left q).1 (
+            ⊎_elim (λ before. absurd (new before)) (λ added. (by_event q).1 added) (made_with s e i q made),
+            λ there. ⊎_elim (λ shipped. shipped.0 made.0) (λ old. new old) ((exact q).0 (subst (λ ps. Contains ps q) all there)),
+          ),
+        )
+
+    -- where nothing was added, nothing is
+    pub nothing_made : (before : List Pair) (set : BTreeSet Pair) → set.keys ≡ [] → LeftOf s b i before set 0 → (q : Pair) → IsFound pair_cmp set q ↔ IsNewlyMade s e i q
+    nothing_made before set empty left q = (
+      λ h. absurd (contains_none q (subst (λ ps. Contains ps q) empty ((btree_set_contains_iff pairs_total pairs_exact set q).0 h))),
+      λ (made, new). ⊎_elim
+          (λ old. absurd (new old))
+          (λ added. (left q).1 ((by_event q).1 added, λ there. contains_none q there))
+          (made_with s e i q made),
+    )
+
+-- what is newly made and what is newly sent
+pub new_found : (s : SiteEvents) (e : Content) (i : List ℕ) (made set : BTreeSet Pair) (mask : ℕ) (pairs : List Pair) → pairs ≡ set.keys → ((q : Pair) → IsFound pair_cmp made q ↔ IsNewlyMade s e i q)
+    → ((t : ℕ) → has_site mask t ≡ true ↔ IsNewlySent s.events e i t) → ((q : Pair) → is_in set q ≡ (is_in made q || sent_to s.me i (sites_in mask) q))
+    → (q : Pair) → Contains pairs q ↔ IsNewTarget s e i q
+new_found s e i made set mask pairs keys makes sends is q =
+    let both = btree_set_contains_iff pairs_total pairs_exact set q in
+    let decides = sent_decides s.me i (sites_in mask) (IsNewlySent s.events e i) (sent_in mask (IsNewlySent s.events e i) sends) q in (
+      λ h. ⊎_elim
+          (λ found. let (now, new) = (makes q).0 found in (inr now, λ related. ⊎_elim (λ shipped. shipped.0 now.0) (λ old. new old) related))
+          (λ sent. let (other, same, (now, new)) = decides.0 sent in (inl (other, same, now), λ related. ⊎_elim (λ shipped. new shipped.2) (λ old. other old.0) related))
+          (or_cases (is_in made q) (sent_to s.me i (sites_in mask) q) (sym (is q) ∙ both.1 (subst (λ ps. Contains ps q) keys h))),
+      λ (related, new). subst (λ ps. Contains ps q) (sym keys) (both.0 (is q ∙ ⊎_elim
+          (λ (other, same, now). ap (λ b. is_in made q || b) (decides.1 (other, same, (now, λ before. new (inl (other, same, before))))) ∙ or_true (is_in made q))
+          (λ now. ap (λ b. b || sent_to s.me i (sites_in mask) q) ((makes q).1 (now, λ old. new (inr old))))
+          related)),
+    )

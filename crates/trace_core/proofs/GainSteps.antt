@@ -2,7 +2,6 @@
 use Rattle.std.proofs.Common.{◌≡◌, ◌<◌, ◌≤◌, ◌+◌, ◌&&◌, ℕ, Bool, true, false, List, [], ◌++◌, Some, length, get_or, slice_get, ◌↔◌, refl, sym, ap, ◌∙◌, subst, ⊎_elim}
 use mathlib.Core.Bool.{false≢true}
 use Rattle.std.specs.BTreeSet.{BTreeSet}
-use Rattle.std.specs.List.{Contains}
 use Rattle.std.proofs.lemmas.Bool.{and_parts}
 use Rattle.std.proofs.lemmas.List.Elements.{Contains-append_cases}
 use Rattle.event_json.specs.Events.{Content}
@@ -13,14 +12,14 @@ use Rattle.trace_core.specs.Gathering.{sent_to}
 use Rattle.trace_core.specs.Groups.{IsSeen, Sees, outs_of, IsGiven, made_at, IsSought}
 use Rattle.trace_core.specs.Nodes.{Stands, Had, NotesNodes, NotesSent, Gains, destinations, sent_nodes, group_nodes}
 use Rattle.trace_core.specs.Numbers.{numbered}
-use Rattle.trace_core.specs.Pairs.{make_id}
+use Rattle.trace_core.specs.Pairs.{make_id, IsSentTo}
 use Rattle.trace_core.specs.Places.{at_place, places_where, takes_item}
-use Rattle.trace_core.specs.Sendings.{IsSentTo}
+use Rattle.trace_core.specs.SiteSets.{has_site, sites_in}
 use Rattle.trace_core.specs.Sites.{SiteEvents}
 use Rattle.trace_core.proofs.GroupSteps.{makes, make_new, make_again, IsSent, SoFar, adds_same, adds_pairs, sent_added, place_added, places_added}
 use Rattle.trace_core.proofs.Members.{contains_none}
 use Rattle.trace_core.proofs.NodeSteps.{had_more, more_nodes, no_nodes}
-use Rattle.trace_core.proofs.ShippedPlaces.{shipped_decides}
+use Rattle.trace_core.proofs.ShippedPlaces.{shipped_decides, sent_in}
 use Rattle.trace_core.proofs.VisitSteps.{sent_stand, some_sent, group_stand, some_in_group}
 
 -- shipments aren't asked for
@@ -29,12 +28,12 @@ unsent true me events site item i nodes is = absurd (false≢true (sym is))
 unsent false me events site item i nodes is = record { sites = []; all = λ asked. absurd (false≢true asked); noted = no_nodes nodes }
 
 -- they are
-pub sent : (ships : Bool) (me : ℕ) (events : List Content) (site item : ℕ) (i : List ℕ) (old new : List Node) → ships ≡ true → (sites : List ℕ) → ((t : ℕ) → Contains sites t ↔ IsSentTo events i t) → NotesNodes old new (destinations me site item sites)
+pub sent : (ships : Bool) (me : ℕ) (events : List Content) (site item : ℕ) (i : List ℕ) (old new : List Node) → ships ≡ true → (mask : ℕ) → ((t : ℕ) → has_site mask t ≡ true ↔ IsSentTo events i t) → NotesNodes old new (destinations me site item (sites_in mask))
     → NotesSent ships me events site item i old new
-sent ships me events site item i old new is sites all noted = record {
-  sites = sites;
-  all = λ asked. all;
-  noted = subst (λ (b : Bool). NotesNodes old new (sent_nodes b me site item sites)) (sym is) noted;
+sent ships me events site item i old new is mask all noted = record {
+  sites = sites_in mask;
+  all = λ asked. sent_in mask (IsSentTo events i) all;
+  noted = subst (λ (b : Bool). NotesNodes old new (sent_nodes b me site item (sites_in mask))) (sym is) noted;
 }
 
 -- what is gained from the transformation whose part stands at a place

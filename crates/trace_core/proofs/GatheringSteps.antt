@@ -1,20 +1,22 @@
 -- The pairs that a site's events relate an item to, event by event, and what one more pair adds.
-use Rattle.std.proofs.Common.{◌≡◌, ◌==◌, ◌<◌, ◌+◌, ℕ, Bool, true, false, cond, not, ◌&&◌, ◌||◌, List, length, take, get_or, Option, Some, None, is_some, option_map, refl, sym, ap, ◌∙◌, arith}
+use Rattle.std.proofs.Common.{◌≡◌, ◌==◌, ◌<◌, ◌+◌, ℕ, Bool, true, false, cond, not, ◌&&◌, ◌||◌, List, [], ◌∷◌, ◌++◌, length, take, get_or, Option, Some, None, is_some, option_map, refl, sym, ap, ◌∙◌, arith}
 use Rattle.std.proofs.lemmas.Bool.{true≢false}
 use Rattle.std.proofs.lemmas.Bool.Decides.{nat_tests}
-use Rattle.std.proofs.lemmas.List.Folds.{list_any_more}
+use Rattle.std.proofs.lemmas.List.Folds.{list_any_more, list_any-append}
 use Rattle.std.specs.Borrow.{Bor}
 use Rattle.std.specs.BTreeSet.{BTreeSet, Updates}
 use Rattle.std.specs.List.{list_any}
 use Rattle.event_json.specs.Events.{Content}
 use Rattle.event_json.specs.declared.bodies.Body.{Body}
 use Rattle.trace_core.specs.declared.pairs.Pair.{Pair}
-use Rattle.trace_core.specs.Gathering.{is_in, joined_by, related_by}
+use Rattle.trace_core.specs.Gathering.{is_in, sent_to, joined_by, related_by}
 use Rattle.trace_core.proofs.PairOrder.{pair_is_eq}
 use Rattle.trace_core.specs.Pairs.{pair_cmp, make_id}
 use Rattle.trace_core.specs.PairTests.{same_item, lists, ships, takes_in, gives_out, same_id, ships_at, inside_at, is_related}
+use Rattle.trace_core.specs.SiteSets.{has_site, sites_below}
 use Rattle.trace_core.specs.Sites.{SiteEvents}
-use Rattle.trace_core.proofs.Booleans.{and_or, and_assoc, list_any-or, list_any-and_left, list_any-and_right, list_any-same, more_at_sites, more_inside}
+use Rattle.trace_core.proofs.SiteSetSteps.{one_below, none_below}
+use Rattle.trace_core.proofs.Booleans.{and_false, or_false, and_or, and_assoc, list_any-or, list_any-and_left, list_any-and_right, list_any-same, more_at_sites, more_inside}
 
 cond_or : (a b : Bool) → cond a true b ≡ (b || a)
 cond_or true true = refl
@@ -65,37 +67,47 @@ elsewhere : (s me q : ℕ) (b : Bool) → (s ≡ me → ⊥) → (q == s && b) �
 elsewhere s me q b apart = grind (arith, nat_tests)
 
 -- at the own site
-not_here : (s me q : ℕ) (a b : Bool) → s ≡ me → (not (q == me) && (a && b)) ≡ (not (q == me) && ((a || (s == q)) && b))
-not_here s me q a b same = grind (arith, nat_tests)
+not_here : (s me q : ℕ) (b : Bool) → s ≡ me → (not (q == me) && ((s == q) && b)) ≡ false
+not_here s me q b same = grind (arith, nat_tests)
 
-module _ (old cur : BTreeSet Pair) (me : ℕ) (item : List ℕ) (sites : List ℕ) (i s : ℕ) (lt : i < length sites) (at : s ≡ get_or sites i s)
-    (so_far : (p : Pair) → is_in cur p ≡ (is_in old p || (not (p.site == me) && (list_any (λ s. s == p.site) (take i sites) && same_item item p.item)))) where
-  more_sites : (q : ℕ) → list_any (λ s. s == q) (take (i + 1) sites) ≡ (list_any (λ s. s == q) (take i sites) || (s == q))
-  more_sites q = list_any_more (λ s. s == q) sites i s lt ∙ ap (λ t. list_any (λ s. s == q) (take i sites) || (t == q)) (sym at)
+-- another site is added
+pub added_elsewhere : (old new : BTreeSet Pair) (me s : ℕ) (item x : List ℕ) → x ≡ item → (s ≡ me → ⊥) → Updates pair_cmp old new (record { site = s; item = x }) true
+    → (p : Pair) → is_in new p ≡ (is_in old p || sent_to me item (s ∷ []) p)
+added_elsewhere old new me s item x copied apart upd p =
+    let same = same_item item p.item in
+    is_in-insert old new (record { site = s; item = x }) upd p
+    ∙ ap (λ y. is_in old p || (p.site == s && same_item y p.item)) copied
+    ∙ ap (λ b. is_in old p || b) (elsewhere s me p.site same apart)
+    ∙ sym (ap (λ b. is_in old p || (not (p.site == me) && (b && same))) (or_false (s == p.site)))
 
-  -- another site is one more of the sites
-  pub one_more_site : (new : BTreeSet Pair) (x : List ℕ) → x ≡ item → (s ≡ me → ⊥) → Updates pair_cmp cur new (record { site = s; item = x }) true
-      → (p : Pair) → is_in new p ≡ (is_in old p || (not (p.site == me) && (list_any (λ s. s == p.site) (take (i + 1) sites) && same_item item p.item)))
-  one_more_site new x copied apart upd p =
-      let a = list_any (λ s. s == p.site) (take i sites) in
-      let n = not (p.site == me) in
-      let same = same_item item p.item in
-      is_in-insert cur new (record { site = s; item = x }) upd p
-      ∙ ap (λ y. is_in cur p || (p.site == s && same_item y p.item)) copied
-      ∙ ap (λ b. b || (p.site == s && same)) (so_far p)
-      ∙ ap (λ b. (is_in old p || (n && (a && same))) || b) (elsewhere s me p.site same apart)
-      ∙ more_at_sites (is_in old p) a (s == p.site) n same
-      ∙ ap (λ b. is_in old p || (n && (b && same))) (sym (more_sites p.site))
+-- the own site is passed over
+pub own_site_passed : (old : BTreeSet Pair) (me s : ℕ) (item : List ℕ) → s ≡ me → (p : Pair) → is_in old p ≡ (is_in old p || sent_to me item (s ∷ []) p)
+own_site_passed old me s item here p =
+    let same = same_item item p.item in
+    sym (ap (λ b. is_in old p || (not (p.site == me) && (b && same))) (or_false (s == p.site)) ∙ ap (λ b. is_in old p || b) (not_here s me p.site same here) ∙ or_false (is_in old p))
 
-  -- the own site is passed over
-  pub own_site_passed : s ≡ me → (p : Pair) → is_in cur p ≡ (is_in old p || (not (p.site == me) && (list_any (λ s. s == p.site) (take (i + 1) sites) && same_item item p.item)))
-  own_site_passed here p =
-      let a = list_any (λ s. s == p.site) (take i sites) in
-      let n = not (p.site == me) in
-      let same = same_item item p.item in
-      so_far p
-      ∙ ap (λ b. is_in old p || b) (not_here s me p.site a same here)
-      ∙ ap (λ b. is_in old p || (n && (b && same))) (sym (more_sites p.site))
+-- an item at the sites of a set, number by number
+pub at_no_site : (old : BTreeSet Pair) (me : ℕ) (item : List ℕ) (mask : ℕ) → (p : Pair) → is_in old p ≡ (is_in old p || sent_to me item (sites_below 0 mask) p)
+at_no_site old me item mask p =
+    sym (ap (λ ts. is_in old p || sent_to me item ts p) (none_below mask) ∙ ap (λ b. is_in old p || b) (and_false (not (p.site == me))) ∙ or_false (is_in old p))
+
+module _ (old cur : BTreeSet Pair) (me : ℕ) (item : List ℕ) (mask n : ℕ) where
+  at_more : (is : Bool) → has_site mask n ≡ is → (p : Pair) → ((is_in old p || sent_to me item (sites_below n mask) p) || sent_to me item (cond is (n ∷ []) []) p) ≡ (is_in old p || sent_to me item (sites_below (n + 1) mask) p)
+  at_more is has p =
+      let among : List ℕ → Bool = λ ts. list_any (λ t. t == p.site) ts in
+      more_at_sites (is_in old p) (among (sites_below n mask)) (among (cond is (n ∷ []) [])) (not (p.site == me)) (same_item item p.item)
+      ∙ ap (λ b. is_in old p || (not (p.site == me) && (b && same_item item p.item)))
+      (sym (ap among (one_below n mask ∙ ap (λ b. sites_below n mask ++ cond b (n ∷ []) []) has) ∙ list_any-append (λ t. t == p.site) (sites_below n mask) (cond is (n ∷ []) [])))
+
+  pub at_one_more : (new : BTreeSet Pair) (t : ℕ) → has_site mask n ≡ true → t ≡ n → ((p : Pair) → is_in cur p ≡ (is_in old p || sent_to me item (sites_below n mask) p)) → ((p : Pair) → is_in new p ≡ (is_in cur p || sent_to me item (t ∷ []) p))
+      → (p : Pair) → is_in new p ≡ (is_in old p || sent_to me item (sites_below (n + 1) mask) p)
+  at_one_more new t has is so_far added p =
+      added p ∙ ap (λ (k : ℕ). is_in cur p || sent_to me item (k ∷ []) p) is ∙ ap (λ b. b || sent_to me item (n ∷ []) p) (so_far p) ∙ at_more true has p
+
+  pub at_none_more : has_site mask n ≡ false → ((p : Pair) → is_in cur p ≡ (is_in old p || sent_to me item (sites_below n mask) p))
+      → (p : Pair) → is_in cur p ≡ (is_in old p || sent_to me item (sites_below (n + 1) mask) p)
+  at_none_more has so_far p =
+      so_far p ∙ sym (ap (λ b. (is_in old p || sent_to me item (sites_below n mask) p) || b) (and_false (not (p.site == me))) ∙ or_false (is_in old p || sent_to me item (sites_below n mask) p)) ∙ at_more false has p
 
 nothing_more : (o own : Bool) → (o || (own && false)) ≡ o
 nothing_more true true = refl

@@ -21,6 +21,7 @@ pub mod LookSteps
 pub mod MarkSteps
 pub mod Members
 pub mod NamedLists
+pub mod NewSites
 pub mod NodeOrder
 pub mod NodeSteps
 pub mod NumberLists
@@ -38,6 +39,7 @@ pub mod SetMembers
 pub mod SendingSteps
 pub mod SentSteps
 pub mod ShippedPlaces
+pub mod SiteSetSteps
 pub mod SpreadSteps
 pub mod StandingPlaces
 pub mod Standings

@@ -14,12 +14,14 @@ use Rattle.trace_core.specs.declared.nodes.Node.{Node}
 use Rattle.trace_core.specs.declared.pairs.Pair.{Pair}
 use Rattle.trace_core.specs.Found.{IsInBatch}
 use Rattle.trace_core.specs.Groups.{AddsUnseen}
+use Rattle.trace_core.specs.SiteSets.{has_site, sites_below, sites_in}
 use Rattle.trace_core.specs.Nodes.{Had, AreOnce, NotesNodes, destinations, Gains, ReachedFromNodes}
 use Rattle.trace_core.specs.Searches.{LooksAtAll}
 use Rattle.trace_core.proofs.ChainLaws.{reaches_itself, reaches_step, reached_holds}
 use Rattle.trace_core.proofs.GroupSteps.{HasMore, adds_none}
 use Rattle.trace_core.proofs.Members.{contains_none, contains_cases}
 use Rattle.trace_core.proofs.SetMembers.{contains_more, contains_pushed}
+use Rattle.trace_core.proofs.SiteSetSteps.{one_below, none_below, no_sites}
 
 only_one : (x y : Node) → Contains (x ∷ []) y → x ≡ y
 only_one x y h = ⊎_elim (λ e. e) (λ none. absurd (contains_none y none)) (contains_cases x y [] h)
@@ -241,29 +243,33 @@ one_part a b c f xs n x below at so_far now =
     (sym (ap (flat_map f) (take_more xs n x below ∙ ap (λ z. take n xs ++ z ∷ []) (sym at)) ∙ flat_map-append f (take n xs) (x ∷ []) ∙ ap (λ ys. flat_map f (take n xs) ++ ys) (append-nil (f x))))
     (more_nodes a b c (flat_map f (take n xs)) (f x) so_far now)
 
-module _ (a b : List Node) (me site item : ℕ) (sites : List ℕ) (n t : ℕ) (below : n < length sites) (at : t ≡ get_or sites n t) where
-  with_site : destinations me site item (take (n + 1) sites) ≡ destinations me site item (take n sites) ++ map (λ t. record { site = site; item = item; at = t }) (cond (not (t == me)) (t ∷ []) [])
-  with_site =
+-- an item at the sites of a set, number by number
+module _ (a b : List Node) (me site item mask n : ℕ) where
+  with_site : (is : Bool) → has_site mask n ≡ is → destinations me site item (sites_below (n + 1) mask) ≡ destinations me site item (sites_below n mask) ++ destinations me site item (cond is (n ∷ []) [])
+  with_site is has =
       let to : ℕ → Node = λ t. record { site = site; item = item; at = t } in
       let other : ℕ → Bool = λ t. not (t == me) in
-      ap (λ ts. map to (filter other ts)) (take_more sites n t below ∙ ap (λ z. take n sites ++ z ∷ []) (sym at))
-      ∙ ap (map to) (filter-append other (take n sites) (t ∷ [])) ∙ map-append to (filter other (take n sites)) (cond (other t) (t ∷ []) [])
+      ap (λ ts. map to (filter other ts)) (one_below n mask ∙ ap (λ b. sites_below n mask ++ cond b (n ∷ []) []) has)
+      ∙ ap (map to) (filter-append other (sites_below n mask) (cond is (n ∷ []) [])) ∙ map-append to (filter other (sites_below n mask)) (filter other (cond is (n ∷ []) []))
 
-  -- another site
-  pub one_destination : (c : List Node) → not (t == me) ≡ true → NotesNodes a b (destinations me site item (take n sites)) → NotesNodes b c (record { site = site; item = item; at = t } ∷ []) → NotesNodes a c (destinations me site item (take (n + 1) sites))
-  one_destination c other so_far now =
-      same_nodes a c (destinations me site item (take n sites) ++ record { site = site; item = item; at = t } ∷ []) (destinations me site item (take (n + 1) sites))
-      (sym (with_site ∙ ap (λ p. destinations me site item (take n sites) ++ map (λ t. record { site = site; item = item; at = t }) (cond p (t ∷ []) [])) other))
-      (more_nodes a b c (destinations me site item (take n sites)) (record { site = site; item = item; at = t } ∷ []) so_far now)
+  -- it is there
+  pub one_destination : (c : List Node) (t : ℕ) → has_site mask n ≡ true → t ≡ n → NotesNodes a b (destinations me site item (sites_below n mask)) → NotesNodes b c (destinations me site item (t ∷ [])) → NotesNodes a c (destinations me site item (sites_below (n + 1) mask))
+  one_destination c t has is so_far now =
+      same_nodes a c (destinations me site item (sites_below n mask) ++ destinations me site item (n ∷ [])) (destinations me site item (sites_below (n + 1) mask)) (sym (with_site true has))
+      (more_nodes a b c (destinations me site item (sites_below n mask)) (destinations me site item (n ∷ [])) so_far (subst (λ (k : ℕ). NotesNodes b c (destinations me site item (k ∷ []))) is now))
 
-  -- the own one
-  pub own_site : not (t == me) ≡ false → NotesNodes a b (destinations me site item (take n sites)) → NotesNodes a b (destinations me site item (take (n + 1) sites))
-  own_site own so_far =
-      same_nodes a b (destinations me site item (take n sites)) (destinations me site item (take (n + 1) sites))
-      (sym (with_site ∙ ap (λ p. destinations me site item (take n sites) ++ map (λ t. record { site = site; item = item; at = t }) (cond p (t ∷ []) [])) own ∙ append-nil (destinations me site item (take n sites)))) so_far
+  -- it isn't
+  pub no_destination : has_site mask n ≡ false → NotesNodes a b (destinations me site item (sites_below n mask)) → NotesNodes a b (destinations me site item (sites_below (n + 1) mask))
+  no_destination has so_far =
+      same_nodes a b (destinations me site item (sites_below n mask)) (destinations me site item (sites_below (n + 1) mask))
+      (sym (with_site false has ∙ append-nil (destinations me site item (sites_below n mask)))) so_far
 
-pub each_destination : (a b : List Node) (me site item : ℕ) (sites : List ℕ) (n : ℕ) → length sites ≤ n → NotesNodes a b (destinations me site item (take n sites)) → NotesNodes a b (destinations me site item sites)
-each_destination a b me site item sites n past = same_nodes a b (destinations me site item (take n sites)) (destinations me site item sites) (ap (destinations me site item) (take_all n sites past))
+-- nothing is in it
+pub nowhere : (nodes : List Node) (me site item mask : ℕ) → ((t : ℕ) → has_site mask t ≡ false) → NotesNodes nodes nodes (destinations me site item (sites_in mask))
+nowhere nodes me site item mask none = same_nodes nodes nodes [] (destinations me site item (sites_in mask)) (ap (destinations me site item) (sym (no_sites 16 mask none))) (no_nodes nodes)
+
+pub no_destinations : (nodes : List Node) (me site item mask : ℕ) → NotesNodes nodes nodes (destinations me site item (sites_below 0 mask))
+no_destinations nodes me site item mask = same_nodes nodes nodes [] (destinations me site item (sites_below 0 mask)) (ap (destinations me site item) (sym (none_below mask))) (no_nodes nodes)
 
 pub each_part : {X : Type 0} (a b : List Node) (f : X → List Node) (xs : List X) (n : ℕ) → length xs ≤ n → NotesNodes a b (flat_map f (take n xs)) → NotesNodes a b (flat_map f xs)
 each_part a b f xs n past = same_nodes a b (flat_map f (take n xs)) (flat_map f xs) (ap (flat_map f) (take_all n xs past))

@@ -1,5 +1,5 @@
 -- What events sent, with an event more and with one less.
-use Rattle.std.proofs.Common.{◌≡◌, ◌<◌, ◌≤◌, ◌+◌, ℕ, true, List, [], ◌∷◌, ◌++◌, Some, None, take, length, get_or, slice_get, unwrap_or, ◌↔◌, refl, sym, ap, ◌∙◌, subst, inl, inr, ⊎_elim, arith, length-append}
+use Rattle.std.proofs.Common.{◌≡◌, ◌<◌, ◌≤◌, ◌+◌, ℕ, true, false, List, [], ◌∷◌, ◌++◌, Some, None, take, length, get_or, slice_get, unwrap_or, ◌↔◌, sym, ap, ◌∙◌, subst, inl, inr, ⊎_elim, arith, length-append}
 use mathlib.Core.Bool.{false≢true}
 use mathlib.Core.Logic.{◌⊎◌}
 use Rattle.std.specs.List.{Contains}
@@ -11,15 +11,16 @@ use Rattle.event_json.specs.declared.bodies.Body.{Body}
 use Rattle.event_json.specs.declared.bodies.Body.TheVariants.{Note, Ship, Make}
 use Rattle.trace_core.specs.declared.sendings.Sending.{Sending}
 use Rattle.trace_core.specs.Numbers.{AreApart, number_in, numbered, numbers_of, moved_in}
-use Rattle.trace_core.specs.Pairs.{Ships}
+use Rattle.trace_core.specs.Pairs.{Ships, IsSentTo}
 use Rattle.trace_core.specs.PairTests.{lists}
 use Rattle.trace_core.specs.Places.{names_item}
-use Rattle.trace_core.specs.Sendings.{Extends, NotesSendings, sites_in, item_sendings, sendings_of, IsSentTo, AreSent, HasSent}
+use Rattle.trace_core.specs.SiteSets.{has_site}
+use Rattle.trace_core.specs.Sendings.{Extends, NotesSendings, item_sendings, sendings_of, AreSent, HasSent}
 use Rattle.trace_core.specs.Spreads.{items_of}
 use Rattle.trace_core.proofs.Members.{contains_here, contains_none, contains_cases, contains-map, contains-flat_map, list_any_member}
 use Rattle.trace_core.proofs.NumberLists.{some_is, listed_number, number_or, number_stands, unnumbered, numbered_named, numbered_apart, numbered_more, with_more, slice_stays}
 use Rattle.trace_core.proofs.PairTestsDecide.{lists_decides}
-use Rattle.trace_core.proofs.SentSteps.{stays, notes_from, site_there, site_sent}
+use Rattle.trace_core.proofs.SentSteps.{stays, notes_from, get_or_pushed}
 use Rattle.trace_core.proofs.SetMembers.{contains-from_map, contains-from_flat_map}
 
 -- what an event sends, by the numbers of its items
@@ -50,10 +51,10 @@ module _ (events : List Content) (e : Content) where
   sent_before : (i : List ℕ) (t : ℕ) → IsSentTo events i t → IsSentTo (events ++ e ∷ []) i t
   sent_before i t (k, f, below, at, ships) = let (k', below', at') = Contains-append_left events (e ∷ []) f (k, below, at) in (k', f, below', at', ships)
 
-  sent_now : (i : List ℕ) (t : ℕ) → Ships i t e.body → IsSentTo (events ++ e ∷ []) i t
+  pub sent_now : (i : List ℕ) (t : ℕ) → Ships i t e.body → IsSentTo (events ++ e ∷ []) i t
   sent_now i t ships = let (k, below, at) = Contains-append_right events (e ∷ []) e (contains_here e []) in (k, e, below, at, ships)
 
-  sent_when : (i : List ℕ) (t : ℕ) → IsSentTo (events ++ e ∷ []) i t → IsSentTo events i t ⊎ Ships i t e.body
+  pub sent_when : (i : List ℕ) (t : ℕ) → IsSentTo (events ++ e ∷ []) i t → IsSentTo events i t ⊎ Ships i t e.body
   sent_when i t (k, f, below, at, ships) = ⊎_elim
       (λ (k', below', at'). inl (k', f, below', at', ships))
       (λ last. inr (⊎_elim (λ same. subst (λ (g : Content). Ships i t g.body) (sym same) ships) (λ none. absurd (contains_none f none)) (contains_cases e f [] last)))
@@ -87,10 +88,6 @@ module _ (events : List Content) (e : Content) where
             (λ ships. noted.all s (subst (λ xs. Contains xs s) (sym same) (sends.1 (i, so, ships))))
             (sent_when i s.site sent),
       )
-
-get_or_pushed : {X : Type 0} (xs : List X) (x d : X) → get_or (xs ++ x ∷ []) (length xs) d ≡ x
-get_or_pushed [] x d = refl
-get_or_pushed (y ∷ xs) x d = get_or_pushed xs x d
 
 -- the beginning of a log that goes on
 pub extends_front : (a b : List Sending) → Extends a b → (n : ℕ) → n ≤ length a → take n b ≡ take n a
@@ -173,16 +170,16 @@ pub none_counted : (events : List Content) (e : Content) (log : List Sending) (c
 none_counted events e log counts none has = omega (arith, none, has.counted, length-append events (e ∷ []))
 
 -- the sites of an item's sendings are those that it was sent to
-pub sites_told : (events : List Content) (log : List Sending) → AreSent events log → (n : ℕ) (i : List ℕ) → slice_get (numbered events) n ≡ Some i → (sites : List ℕ) → sites ≡ sites_in log n → (t : ℕ) → Contains sites t ↔ IsSentTo events i t
+pub sites_told : (events : List Content) (log : List Sending) → AreSent events log → (n : ℕ) (i : List ℕ) → slice_get (numbered events) n ≡ Some i → (sites : ℕ) → ((t : ℕ) → has_site sites t ≡ true ↔ Contains log (record { item = n; site = t }))
+    → (t : ℕ) → has_site sites t ≡ true ↔ IsSentTo events i t
 sites_told events log are n i so sites is t = (
-  λ h. let (j, so', sent) = (are (record { item = n; site = t })).0 (site_sent log n t (subst (λ ts. Contains ts t) is h)) in
-      subst (λ k. IsSentTo events k t) (some_is j i (sym so' ∙ so)) sent,
-  λ sent. subst (λ ts. Contains ts t) (sym is) (site_there log n t ((are (record { item = n; site = t })).1 (i, so, sent))),
+  λ h. let (j, so', sent) = (are (record { item = n; site = t })).0 ((is t).0 h) in subst (λ k. IsSentTo events k t) (some_is j i (sym so' ∙ so)) sent,
+  λ sent. (is t).1 ((are (record { item = n; site = t })).1 (i, so, sent)),
 )
 
 -- an item that isn't known was sent nowhere
-pub none_sent : (events : List Content) (i : List ℕ) → None ≡ number_in (numbered events) i → (t : ℕ) → Contains [] t ↔ IsSentTo events i t
-none_sent events i unknown t = (
-  λ h. absurd (contains_none t h),
+pub none_sent : (events : List Content) (i : List ℕ) → None ≡ number_in (numbered events) i → (sites : ℕ) → ((t : ℕ) → has_site sites t ≡ false) → (t : ℕ) → has_site sites t ≡ true ↔ IsSentTo events i t
+none_sent events i unknown sites none t = (
+  λ h. absurd (false≢true (sym (none t) ∙ h)),
   λ (k, f, below, at, ships). absurd (false≢true (sym (unnumbered (numbered events) i (sym unknown)) ∙ numbered_named events i ∙ list_any_member (names_item i) events f (k, below, at) (ships_named i t f.body ships))),
 )

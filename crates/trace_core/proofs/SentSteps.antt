@@ -1,93 +1,127 @@
 -- Sendings in a log, and the sites of each item beside it.
-use Rattle.std.proofs.Common.{◌≡◌, ◌≢◌, ◌<◌, ◌+◌, ◌==◌, ℕ, Bool, true, false, cond, map, filter, List, [], ◌∷◌, ◌++◌, take, length, get_or, slice_get, refl, sym, ap, ◌∙◌, subst, inl, inr, ⊎_elim, append-nil, append_assoc}
+use Rattle.std.proofs.Common.{◌≡◌, ◌≢◌, ◌<◌, ◌≤◌, ◌+◌, ◌==◌, ◌&&◌, ◌||◌, ℕ, zero, suc, true, false, not, map, List, [], ◌∷◌, ◌++◌, ◌↔◌, take, length, get_or, refl, sym, ap, ◌∙◌, subst, inl, inr, ⊎_elim, arith, append-nil, append_assoc, length-append}
 use mathlib.Core.Bool.{false≢true}
 use mathlib.Core.Logic.{◌⊎◌}
-use Rattle.std.proofs.Math.ListN.{set}
-use Rattle.std.specs.List.{Contains, flat_map, list_any}
-use Rattle.std.proofs.lemmas.Bool.{cases_Bool, cases_eq, eqb-true, eq-eqb}
+use Rattle.std.specs.List.{Contains, flat_map}
+use Rattle.std.proofs.lemmas.Bool.{cases_Bool, cases_eq, eqb-true, eq-eqb, ne_eqb, and_parts, or_cases}
 use Rattle.std.proofs.lemmas.Grind.{flat_map-append}
-use Rattle.std.proofs.lemmas.List.{take_more, map-append, get_or_default}
+use Rattle.std.proofs.lemmas.List.{take_more, map-append, get_or_default, get_or_append_left}
 use Rattle.std.proofs.lemmas.List.Quantifiers.{all_pairs_push}
-use Rattle.std.proofs.lemmas.List.Elements.{Contains-append_left, Contains-append_right, Contains-append_cases, filter-append}
-use Rattle.std.proofs.lemmas.Option.{slice_get-get_or}
+use Rattle.std.proofs.lemmas.List.Elements.{Contains-append_left, Contains-append_right, Contains-append_cases}
 use Rattle.trace_core.specs.declared.sendings.Sending.{Sending}
-use Rattle.trace_core.specs.Places.{or_none}
-use Rattle.trace_core.specs.Sendings.{AreDistinct, sites_in, HasSites, Extends, NotesSendings, item_sendings}
-use Rattle.trace_core.proofs.Members.{contains_none, contains_cases, contains-map, list_any_witness, list_any_member}
-use Rattle.trace_core.proofs.PlaceLists.{contains-filter, contains-from_filter}
-use Rattle.trace_core.proofs.SeenSteps.{get_set}
-use Rattle.trace_core.proofs.SetMembers.{contains-from_map}
+use Rattle.trace_core.specs.Sendings.{AreDistinct, HasSites, Extends, NotesSendings, item_sendings, set_at}
+use Rattle.trace_core.specs.SiteSets.{has_site}
+use Rattle.trace_core.proofs.Booleans.{and_false, both_true, or_true}
+use Rattle.trace_core.proofs.Members.{contains_here, contains_none, contains_cases}
+use Rattle.trace_core.proofs.SiteSetSteps.{none_has}
 
--- an item's sites are those of its sendings
-pub site_there : (log : List Sending) (item site : ℕ) → Contains log (record { item = item; site = site }) → Contains (sites_in log item) site
-site_there log item site h =
-    contains-map (λ (s : Sending). s.site) (filter (λ (s : Sending). s.item == item) log) (record { item = item; site = site })
-    (contains-filter (λ (s : Sending). s.item == item) log (record { item = item; site = site }) h (eq-eqb item item refl))
+-- a set of no site more
+pub set_pushed : (sets : List ℕ) (m : ℕ) → ((t : ℕ) → has_site m t ≡ false) → (n t : ℕ) → has_site (set_at (sets ++ m ∷ []) n) t ≡ has_site (set_at sets n) t
+set_pushed [] m none zero t = none t ∙ sym (none_has t)
+set_pushed [] m none (suc n) t = refl
+set_pushed (x ∷ xs) m none zero t = refl
+set_pushed (x ∷ xs) m none (suc n) t = set_pushed xs m none n t
 
-pub site_sent : (log : List Sending) (item site : ℕ) → Contains (sites_in log item) site → Contains log (record { item = item; site = site })
-site_sent log item site h =
-    let (s, there, is) = contains-from_map (λ (s : Sending). s.site) (filter (λ (s : Sending). s.item == item) log) site h in
-    let (among, own) = contains-from_filter (λ (s : Sending). s.item == item) log s there in
-    subst (Contains log) (ap (λ (n : ℕ). record { item = n; site = s.site }) (eqb-true s.item item own) ∙ ap (λ (t : ℕ). record { item = item; site = t }) is) among
+-- there is no set at a number past the last
+none_past : (sets : List ℕ) (n : ℕ) → length sets ≤ n → set_at sets n ≡ 0
+none_past [] n past = refl
+none_past (x ∷ xs) zero past = absurd (omega (arith, past))
+none_past (x ∷ xs) (suc n) past = none_past xs n (omega (arith, past))
 
-one_site : (s : Sending) (b : Bool) → map (λ (x : Sending). x.site) (cond b (s ∷ []) []) ≡ cond b (s.site ∷ []) []
-one_site s true = refl
-one_site s false = refl
-
--- with a sending more
-pub sites_more : (log : List Sending) (s : Sending) (item : ℕ) → sites_in (log ++ s ∷ []) item ≡ sites_in log item ++ cond (s.item == item) (s.site ∷ []) []
-sites_more log s item =
-    let test : Sending → Bool = λ x. x.item == item in
-    ap (map (λ (x : Sending). x.site)) (filter-append test log (s ∷ []))
-    ∙ map-append (λ (x : Sending). x.site) (filter test log) (filter test (s ∷ []))
-    ∙ ap (λ ts. sites_in log item ++ ts) (one_site s (s.item == item))
-
--- by number, with a site more of an item
-module _ (old room : List (List ℕ)) (item : ℕ) (own : List ℕ) (below : item < length room) (same : (n : ℕ) → or_none (slice_get room n) ≡ or_none (slice_get old n)) (at : own ≡ get_or room item own) where
-  pub site_pushed : (own' : List ℕ) (site : ℕ) → own' ≡ own ++ site ∷ [] → (n : ℕ) → or_none (slice_get (set room item own') n) ≡ or_none (slice_get old n) ++ cond (item == n) (site ∷ []) []
-  site_pushed own' site is n =
-      let parts = get_set room item own' n below in
-      ⊎_elim
-      (λ here.
-      ap or_none (parts.0 here) ∙ is
-      ∙ ap (λ ts. ts ++ site ∷ []) (at_own ∙ ap (λ m. or_none (slice_get old m)) (sym here))
-      ∙ ap (λ b. or_none (slice_get old n) ++ cond b (site ∷ []) []) (sym (eq-eqb item n (sym here))))
-      (λ other.
-      ap or_none (parts.1 other) ∙ same n
-      ∙ sym (append-nil (or_none (slice_get old n)))
-      ∙ ap (λ b. or_none (slice_get old n) ++ cond b (site ∷ []) []) (sym (unequal item n (λ e. other (sym e)))))
-      (cases_eq n item)
-    where
-      at_own : own ≡ or_none (slice_get old item)
-      at_own = sym (sym (same item) ∙ ap or_none (slice_get-get_or room item own below) ∙ sym at)
-
-      unequal : (a b : ℕ) → (a ≡ b → ⊥) → (a == b) ≡ false
-      unequal a b apart = ⊎_elim (λ yes. absurd (apart (eqb-true a b yes))) (λ no. no) (cases_Bool (a == b))
-
-  -- it is as it was where nothing came of it
-  pub site_kept : (own' : List ℕ) → own' ≡ own → (n : ℕ) → or_none (slice_get (set room item own') n) ≡ or_none (slice_get old n)
-  site_kept own' is n =
-      let parts = get_set room item own' n below in
-      ⊎_elim
-      (λ here. ap or_none (parts.0 here) ∙ is ∙ at ∙ sym (ap or_none (slice_get-get_or room item own below)) ∙ same item ∙ ap (λ m. or_none (slice_get old m)) (sym here))
-      (λ other. ap or_none (parts.1 other) ∙ same n)
-      (cases_eq n item)
-
--- a sending comes that wasn't there
-pub sending_new : (log log' : List Sending) (sites sites' : List (List ℕ)) (s : Sending) → HasSites log sites → (Contains (sites_in log s.item) s.site → ⊥) → log' ≡ log ++ s ∷ []
-    → ((n : ℕ) → or_none (slice_get sites' n) ≡ or_none (slice_get sites n) ++ cond (s.item == n) (s.site ∷ []) []) → HasSites log' sites'
-sending_new log log' sites sites' s has missing pushed added = record {
-  same = λ n. added n ∙ ap (λ ts. ts ++ cond (s.item == n) (s.site ∷ []) []) (has.same n) ∙ sym (sites_more log s n) ∙ ap (λ xs. sites_in xs n) (sym pushed);
-  once = subst AreDistinct (sym pushed) (all_pairs_push (λ (a b : Sending). a ≢ b) log s has.once
-      (λ k d below is. missing (site_there log s.item s.site (k, below, get_or_default log k s d below ∙ is))));
+-- no sendings, and no sets
+pub nothing_sent : (log : List Sending) (sets : List ℕ) → log ≡ [] → sets ≡ [] → HasSites log sets
+nothing_sent log sets empty none = record {
+  same = λ item site. (
+    λ h. absurd (false≢true (sym (ap (λ ms. has_site (set_at ms item) site) none ∙ none_has site) ∙ h)),
+    λ there. absurd (contains_none (record { item = item; site = site }) (subst (λ xs. Contains xs (record { item = item; site = site })) empty there)),
+  );
+  once = λ i j d lt below. absurd (omega (arith, below, ap length empty));
 }
 
--- whether a site is among an item's
-pub among_sites : (sites : List ℕ) (site : ℕ) → list_any (λ t. t == site) sites ≡ true → Contains sites site
-among_sites sites site h = let (t, there, is) = list_any_witness (λ t. t == site) sites h in subst (Contains sites) (eqb-true t site is) there
+-- so no site is taken away from it
+pub nothing_there : (sets : List ℕ) (item site : ℕ) → length sets ≤ item → (n t : ℕ) → has_site (set_at sets n) t ≡ (not ((item == n) && (site == t)) && has_site (set_at sets n) t)
+nothing_there sets item site past n t = ⊎_elim
+    (λ here.
+    let none : has_site (set_at sets n) t ≡ false = ap (λ k. has_site (set_at sets k) t) (sym here) ∙ ap (λ m. has_site m t) (none_past sets item past) ∙ none_has t in
+    none ∙ sym (and_false (not ((item == n) && (site == t)))) ∙ ap (λ b. not ((item == n) && (site == t)) && b) (sym none))
+    (λ other. sym (ap (λ b. not (b && (site == t)) && has_site (set_at sets n) t) (ne_eqb item n other)))
+    (cases_eq item n)
 
-pub not_among : (sites : List ℕ) (site : ℕ) → list_any (λ t. t == site) sites ≡ false → Contains sites site → ⊥
-not_among sites site missing there = false≢true (sym missing ∙ list_any_member (λ t. t == site) sites site there (eq-eqb site site refl))
+-- an item without a set was sent nowhere
+pub none_of_item : (log : List Sending) (sets : List ℕ) (item none : ℕ) → length sets ≤ item → ((t : ℕ) → has_site none t ≡ false) → HasSites log sets → (t : ℕ) → has_site none t ≡ true ↔ Contains log (record { item = item; site = t })
+none_of_item log sets item none past empty has t = (
+  λ h. absurd (false≢true (sym (empty t) ∙ h)),
+  λ there. absurd (false≢true (sym (ap (λ m. has_site m t) (none_past sets item past) ∙ none_has t) ∙ (has.same item t).1 there)),
+)
+
+abbrev sending : ℕ → ℕ → Sending
+sending n t = record { item = n; site = t }
+
+same_sending : (item n site t : ℕ) → item ≡ n → site ≡ t → sending item site ≡ sending n t
+same_sending item n site t one two = ap (λ (k : ℕ). sending k site) one ∙ ap (sending n) two
+
+is_sending : (s : Sending) (n t : ℕ) → ((s.item == n) && (s.site == t)) ≡ true → s ≡ sending n t
+is_sending s n t h = let (one, two) = and_parts (s.item == n) (s.site == t) h in same_sending s.item n s.site t (eqb-true s.item n one) (eqb-true s.site t two)
+
+tells_sending : (s : Sending) (n t : ℕ) → s ≡ sending n t → ((s.item == n) && (s.site == t)) ≡ true
+tells_sending s n t is = both_true (eq-eqb s.item n (ap (λ (x : Sending). x.item) is)) (eq-eqb s.site t (ap (λ (x : Sending). x.site) is))
+
+-- a site that isn't among an item's isn't in its set
+pub not_there : (log view : List Sending) (sets : List ℕ) (item site told : ℕ) → log ≡ view → HasSites log sets → (has_site told site ≡ true ↔ Contains view (record { item = item; site = site })) → has_site told site ≡ false → has_site (set_at sets item) site ≡ false
+not_there log view sets item site told same has is missing = ⊎_elim
+    (λ there. absurd (false≢true (sym missing ∙ is.1 (subst (λ xs. Contains xs (record { item = item; site = site })) same ((has.same item site).0 there)))))
+    (λ no. no)
+    (cases_Bool (has_site (set_at sets item) site))
+
+-- a sending comes that wasn't there
+pub sending_new : (log log' : List Sending) (sets sets' : List ℕ) (s : Sending) → HasSites log sets → has_site (set_at sets s.item) s.site ≡ false → log' ≡ log ++ s ∷ []
+    → ((n t : ℕ) → has_site (set_at sets' n) t ≡ (((s.item == n) && (s.site == t)) || has_site (set_at sets n) t)) → HasSites log' sets'
+sending_new log log' sets sets' s has missing pushed added = record {
+  same = λ n t. (
+    λ h. subst (λ xs. Contains xs (sending n t)) (sym pushed) (⊎_elim
+        (λ now. Contains-append_right log (s ∷ []) (sending n t) (subst (Contains (s ∷ [])) (is_sending s n t now) (contains_here s [])))
+        (λ before. Contains-append_left log (s ∷ []) (sending n t) ((has.same n t).0 before))
+        (or_cases ((s.item == n) && (s.site == t)) (has_site (set_at sets n) t) (sym (added n t) ∙ h))),
+    λ h. added n t ∙ ⊎_elim
+        (λ before. ap (λ b. ((s.item == n) && (s.site == t)) || b) ((has.same n t).1 before) ∙ or_true ((s.item == n) && (s.site == t)))
+        (λ last. ap (λ b. b || has_site (set_at sets n) t) (tells_sending s n t (⊎_elim (λ is. is) (λ none. absurd (contains_none (sending n t) none)) (contains_cases s (sending n t) [] last))))
+        (Contains-append_cases log (s ∷ []) (sending n t) (subst (λ xs. Contains xs (sending n t)) pushed h)),
+  );
+  once = subst AreDistinct (sym pushed) (all_pairs_push (λ (a b : Sending). a ≢ b) log s has.once
+      (λ k d below is. false≢true (sym missing ∙ (has.same s.item s.site).1 (k, below, get_or_default log k s d below ∙ is))));
+}
+
+pub get_or_pushed : {X : Type 0} (xs : List X) (x d : X) → get_or (xs ++ x ∷ []) (length xs) d ≡ x
+get_or_pushed [] x d = refl
+get_or_pushed (y ∷ xs) x d = get_or_pushed xs x d
+
+-- the last sending goes
+pub sending_gone : (log rest : List Sending) (sets sets' : List ℕ) (s : Sending) → HasSites log sets → log ≡ rest ++ s ∷ []
+    → ((n t : ℕ) → has_site (set_at sets' n) t ≡ (not ((s.item == n) && (s.site == t)) && has_site (set_at sets n) t)) → HasSites rest sets'
+sending_gone log rest sets sets' s has is gone = record {
+  same = λ n t. (
+    λ h.
+        let (other, had) = and_parts (not ((s.item == n) && (s.site == t))) (has_site (set_at sets n) t) (sym (gone n t) ∙ h) in
+        ⊎_elim
+        (λ low. low)
+        (λ last. absurd (false≢true (sym (ap not (tells_sending s n t (⊎_elim (λ same. same) (λ none. absurd (contains_none (sending n t) none)) (contains_cases s (sending n t) [] last)))) ∙ other)))
+        (Contains-append_cases rest (s ∷ []) (sending n t) (subst (λ xs. Contains xs (sending n t)) is ((has.same n t).0 had))),
+    λ there. gone n t ∙ both_true
+        (⊎_elim
+        (λ same. absurd (apart (subst (Contains rest) (sym (is_sending s n t same)) there)))
+        (λ other. ap not other)
+        (cases_Bool ((s.item == n) && (s.site == t))))
+        ((has.same n t).1 (subst (λ xs. Contains xs (sending n t)) (sym is) (Contains-append_left rest (s ∷ []) (sending n t) there))),
+  );
+  once = λ i j d lt below. subst (λ (x : Sending). x ≢ get_or rest j d) (get_or_append_left rest (s ∷ []) d i (omega (arith, lt, below)))
+      (subst (λ (x : Sending). get_or (rest ++ s ∷ []) i d ≢ x) (get_or_append_left rest (s ∷ []) d j below) (distinct i j d lt (omega (arith, below, length-append rest (s ∷ [])))));
+}
+  where
+    distinct : AreDistinct (rest ++ s ∷ [])
+    distinct = subst AreDistinct is has.once
+
+    apart : Contains rest s → ⊥
+    apart (k, below, at) = distinct k (length rest) s below (omega (arith, length-append rest (s ∷ []))) (get_or_append_left rest (s ∷ []) s k below ∙ at ∙ sym (get_or_pushed rest s s))
 
 -- ---- sendings noted one after another
 

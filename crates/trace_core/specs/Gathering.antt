@@ -34,6 +34,6 @@ related_by me events item body p = shipped_by me item body p || made_by me event
 abbrev pub joins : List Content → List ℕ → Body → Bool
 joins events item body = list_any (λ f. takes_in item f.body && same_id (make_id f.body) (make_id body)) events
 
--- related by an event that comes after the events: by itself, or as an output of what it is joined to
+-- made by an event that comes after the events: by itself, or as an output of what it is joined to
 abbrev pub added_by : ℕ → List Content → List ℕ → Body → Pair → Bool
-added_by me events item body p = related_by me events item body p || (joins events item body && (p.site == me && gives_out p.item body))
+added_by me events item body p = made_by me events item body p || (joins events item body && (p.site == me && gives_out p.item body))

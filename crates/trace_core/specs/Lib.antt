@@ -17,6 +17,7 @@ pub mod Places
 pub mod Relations
 pub mod Searches
 pub mod Sendings
+pub mod SiteSets
 pub mod Sites
 pub mod Spreads
 pub mod Targets

@@ -9,8 +9,8 @@ use Rattle.trace_core.specs.declared.nodes.Node.{Node}
 use Rattle.trace_core.specs.declared.pairs.Pair.{Pair}
 use Rattle.trace_core.specs.Groups.{AddsUnseen, parts_of}
 use Rattle.trace_core.specs.Numbers.{number_in, numbered, outs_at}
+use Rattle.trace_core.specs.Pairs.{IsSentTo}
 use Rattle.trace_core.specs.Relations.{Reaches}
-use Rattle.trace_core.specs.Sendings.{IsSentTo}
 use Rattle.trace_core.specs.Sites.{SiteEvents}
 
 -- the node stands for the pair: the site at its place numbered the pair's item so

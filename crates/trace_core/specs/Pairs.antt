@@ -52,9 +52,13 @@ HaveOneId a b = (id : List ℕ) × (a ≡ Some id) × (b ≡ Some id)
 abbrev pub AreOneMake : Content → Content → Type 0
 AreOneMake e f = (e ≡ f) ⊎ HaveOneId (make_id e.body) (make_id f.body)
 
--- shipped: the pair is the item at another site, to which one of the events ships it
+-- one of the events ships the item to the site
+abbrev pub IsSentTo : List Content → List ℕ → ℕ → Type 0
+IsSentTo events item site = Any (λ e. Ships item site e.body) events
+
+-- shipped: the pair is the item at another site, to which it was sent
 abbrev pub IsShipped : SiteEvents → List ℕ → Pair → Type 0
-IsShipped s item q = (q.site ≢ s.me) × (q.item ≡ item) × Any (λ e. Ships item q.site e.body) s.events
+IsShipped s item q = (q.site ≢ s.me) × (q.item ≡ item) × IsSentTo s.events item q.site
 
 -- j is an output of a transformation of which i is an input
 abbrev pub IsMadeOf : List Content → List ℕ → List ℕ → Type 0

@@ -1,25 +1,25 @@
 -- Items with the sites that they were sent to, as a list in which none comes twice.
-use Rattle.std.specs.Prelude.{◌≡◌, ◌≢◌, ◌==◌, ◌↔◌, ◌<◌, ◌≤◌, ℕ, List, [], ◌++◌, Some, map, filter, get_or, slice_get, length, take, Any, AllPairs, Contains}
+use Rattle.std.specs.Prelude.{◌≡◌, ◌≢◌, ◌↔◌, ◌<◌, ◌≤◌, ℕ, true, List, [], ◌∷◌, ◌++◌, Some, map, unwrap_or, get_or, slice_get, length, take, AllPairs, Contains}
 use Rattle.std.specs.List.{flat_map}
 use Rattle.event_json.specs.Events.{Content}
 use Rattle.event_json.specs.declared.bodies.Body.{Body}
 use Rattle.event_json.specs.declared.bodies.Body.TheVariants.{Note, Ship, Make}
 use Rattle.trace_core.specs.declared.sendings.Sending.{Sending}
 use Rattle.trace_core.specs.Numbers.{numbered}
-use Rattle.trace_core.specs.Pairs.{Ships}
-use Rattle.trace_core.specs.Places.{or_none}
+use Rattle.trace_core.specs.Pairs.{IsSentTo}
+use Rattle.trace_core.specs.SiteSets.{has_site}
 
 -- none comes twice
 abbrev pub AreDistinct : List Sending → Type 0
 AreDistinct log = AllPairs (λ a b. a ≢ b) log
 
--- the sites of an item, in the order in which they were found
-abbrev pub sites_in : List Sending → ℕ → List ℕ
-sites_in log item = map (λ s. s.site) (filter (λ s. s.item == item) log)
+-- the set of a number, of no site where there is none
+abbrev pub set_at : List ℕ → ℕ → ℕ
+set_at sets item = unwrap_or (slice_get sets item) 0
 
--- by number the sites of each item, and no sending comes twice
-pub record HasSites (log : List Sending) (sites : List (List ℕ)) : Type 0 where
-  pub same : (item : ℕ) → or_none (slice_get sites item) ≡ sites_in log item
+-- by number the set of the sites of each item, and no sending comes twice
+pub record HasSites (log : List Sending) (sets : List ℕ) : Type 0 where
+  pub same : (item site : ℕ) → has_site (set_at sets item) site ≡ true ↔ Contains log (record { item = item; site = site })
   pub once : AreDistinct log
 
 -- nothing is taken away, and the order stays
@@ -43,9 +43,9 @@ sendings_of numbers (Note items) = []
 sendings_of numbers (Ship items sites outside) = flat_map (item_sendings sites) numbers
 sendings_of numbers (Make id ins outs) = []
 
--- one of the events ships the item to the site
-abbrev pub IsSentTo : List Content → List ℕ → ℕ → Type 0
-IsSentTo events item site = Any (λ e. Ships item site e.body) events
+-- the event, after the others, sends the item to the site, and they didn't
+abbrev pub IsNewlySent : List Content → Content → List ℕ → ℕ → Type 0
+IsNewlySent events e item site = IsSentTo (events ++ e ∷ []) item site × (IsSentTo events item site → ⊥)
 
 -- just what the events send
 abbrev pub AreSent : List Content → List Sending → Type 0

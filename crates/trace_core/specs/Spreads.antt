@@ -9,7 +9,7 @@ use Rattle.event_json.specs.declared.bodies.Body.{Body}
 use Rattle.event_json.specs.declared.bodies.Body.TheVariants.{Note, Ship, Make}
 use Rattle.trace_core.specs.declared.pairs.Pair.{Pair}
 use Rattle.trace_core.specs.Gathering.{joins}
-use Rattle.trace_core.specs.Pairs.{IsRelated}
+use Rattle.trace_core.specs.Pairs.{IsMade, IsRelated}
 use Rattle.trace_core.specs.PairTests.{takes_in}
 use Rattle.trace_core.specs.Relations.{ReachedFrom}
 use Rattle.trace_core.specs.Sites.{SiteEvents}
@@ -66,6 +66,10 @@ pub record AreLooks (s : SiteEvents) (given found : List (List ℕ)) (looks : �
 -- the site with one more event
 abbrev pub with_event : SiteEvents → Content → SiteEvents
 with_event s e = record s { events = s.events ++ e ∷ [] }
+
+-- adding the event would make the pair of the item, and nothing makes it yet
+abbrev pub IsNewlyMade : SiteEvents → Content → List ℕ → Pair → Type 0
+IsNewlyMade s e i q = IsMade (with_event s e) i q × (IsMade s i q → ⊥)
 
 -- adding the event would relate the item to the pair, and nothing relates it yet
 abbrev pub IsNewTarget : SiteEvents → Content → List ℕ → Pair → Type 0

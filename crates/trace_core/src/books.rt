@@ -1,22 +1,26 @@
 //! Events in the order in which they came, with the index that is kept of them.
-ghost use Rattle.std.specs.Prelude.{◌≡◌, ◌↔◌, ◌++◌, ◌∷◌, [], ◌-◌, ℕ, List, Some, IfOk, OnOk, OnErr, Contains, length, take, slice_get, option_map};
+ghost use Rattle.std.specs.Prelude.{◌≡◌, ◌↔◌, ◌++◌, ◌∷◌, [], ◌-◌, ℕ, true, List, Some, IfOk, OnOk, OnErr, length, take, slice_get, option_map};
 ghost use Rattle.std.specs.List.{list_any};
 ghost use Rattle.event_json.specs.Contents.{same_content};
+ghost use Rattle.event_json.specs.Events.{Content};
 ghost use Rattle.trace_core.specs.Adding.{standing_among};
 ghost use Rattle.trace_core.specs.Groups.{outputs_at};
 ghost use Rattle.trace_core.specs.Looks.{one_look, more_looks, LooksAtEach};
 ghost use Rattle.trace_core.specs.Numbers.{numbered, number_in, outs_at};
-ghost use Rattle.trace_core.specs.Pairs.{make_id};
+ghost use Rattle.trace_core.specs.Pairs.{make_id, IsSentTo};
 ghost use Rattle.trace_core.specs.PairTests.{same_id};
+ghost use Rattle.trace_core.specs.Sendings.{IsNewlySent};
+ghost use Rattle.trace_core.specs.SiteSets.{has_site};
 ghost use Rattle.trace_core.specs.Places.{at_place, names_item, takes_item, places_where};
-ghost use Rattle.trace_core.specs.Sendings.{IsSentTo};
 
 use crate::adding::Standing;
+use crate::gathering::shipped_to;
 use crate::ids::places_of_id;
 use crate::indexes::Index;
 use crate::looks::{count_look, count_looks};
+use crate::site_sets::SiteSet;
 use epc_core::Epc;
-use event_json::{Event, PlainText, SiteNo};
+use event_json::{Body, Event, PlainText};
 use std::alloc::{AllocError, Global};
 use std::hash::RandomState;
 use std::marker::Model;
@@ -139,22 +143,37 @@ impl Book {
         self.index.items.places_of(item)
     }
 
-    /// The sites that the item of a number was shipped to.
-    pub fn sites_at(&self, number: usize) -> &[SiteNo]
+    /// The sites that the item of a number was sent to.
+    pub fn sites_at(&self, number: usize) -> SiteSet
         ensures { (i : List ℕ) → slice_get (numbered self.now) number ≡ Some i → (t : ℕ)
-            → Contains result.now t ↔ IsSentTo self.now i t }
+            → has_site result t ≡ true ↔ IsSentTo self.now i t }
     {
         self.index.sent.sites_of(number)
     }
 
-    /// The sites that an item was shipped to, none if it isn't known.
-    pub fn sites_of(&self, item: &Epc) -> &[SiteNo]
-        ensures { (t : ℕ) → Contains result.now t ↔ IsSentTo self.now item.now t }
+    /// The sites that an item was sent to, none if it isn't known.
+    pub fn sites_of(&self, item: &Epc) -> SiteSet
+        ensures { (t : ℕ) → has_site result t ≡ true ↔ IsSentTo self.now item.now t }
     {
         match self.number_of(item) {
             Some(number) => self.sites_at(number),
-            None => &[],
+            None => SiteSet::new(),
         }
+    }
+
+    /// The sites that an event would send an item to, and that it wasn't sent to yet.
+    pub fn new_sites(&self, body: &Body, item: &Epc) -> SiteSet
+        ensures { (e : Content) → e.body ≡ body.now → (t : ℕ)
+            → has_site result t ≡ true ↔ IsNewlySent self.now e item.now t }
+    {
+        let mut sites = SiteSet::new();
+        let had = self.sites_of(item);
+        for site in shipped_to(item, body) {
+            if !had.has(*site) {
+                sites.insert(*site);
+            }
+        }
+        sites
     }
 
     /// The numbers of the outputs of the event at a place, none where there is no transformation. Each is a look.

@@ -1,24 +1,27 @@
 //! The pairs that one event more would relate an item to, gathered from the lists of the event.
-ghost use Rattle.std.specs.Prelude.{◌≡◌, ◌==◌, ◌&&◌, ◌||◌, OnOk, length, option_map, slice_get, sum_by};
+ghost use Rattle.std.specs.Prelude.{◌≡◌, ◌==◌, ◌&&◌, ◌||◌, ◌↔◌, ◌∷◌, [], ℕ, OnOk, Contains, length, option_map, slice_get, sum_by};
 ghost use Rattle.trace_core.specs.declared.pairs.Pair.{Pair};
-ghost use Rattle.trace_core.specs.Gathering.{is_in, related_by, sent_to, shipped_by, joined_by};
+ghost use Rattle.trace_core.specs.Gathering.{is_in, made_by, sent_to, joined_by};
 ghost use Rattle.trace_core.specs.Groups.{parts_of, outputs_at};
 ghost use Rattle.trace_core.specs.Looks.{one_look, LooksAtMost};
 ghost use Rattle.trace_core.specs.PairTests.{same_item, takes_in, gives_out, lists};
-ghost use Rattle.trace_core.specs.Pairs.{make_id};
+ghost use Rattle.trace_core.specs.Pairs.{make_id, Ships};
 ghost use Rattle.trace_core.specs.Places.{at_place};
+ghost use Rattle.trace_core.specs.SiteSets.{sites_in};
 ghost use Rattle.trace_core.specs.Spreads.{output_count};
 
 use crate::books::Book;
 use crate::looks::count_look;
 use crate::pairs::Pair;
+use crate::site_sets::SiteSet;
 use epc_core::Epc;
 use event_json::{Body, PlainText, Sequence, SiteNo};
 use std::alloc::{AllocError, Global};
 use std::collections::BTreeSet;
 
-/// Adds the pairs that an event of a site relates an item to.
-pub fn gather(
+/// Adds the outputs of the transformation that an event takes an item into: its own, and those of each Make that has
+/// its id.
+pub fn gather_made(
     alloc: Global,
     me: SiteNo,
     book: &Book,
@@ -26,31 +29,12 @@ pub fn gather(
     body: &Body,
     pairs: &mut BTreeSet<Pair>,
 ) -> Result<(), AllocError>
-    ensures { OnOk result ((p : Pair) → is_in pairs.new p ≡ (is_in pairs.old p || related_by me book.now item.now body.now p)) }
+    ensures { OnOk result ((p : Pair) → is_in pairs.new p ≡ (is_in pairs.old p || made_by me book.now item.now body.now p)) }
 {
     let mut looks = 0;
-    gather_shipped(alloc, me, item, body, pairs)?;
     if takes_in(item, body) {
         gather_outputs(alloc, me, body, pairs, &mut looks)?;
         gather_joined(alloc, me, book, body, pairs, &mut looks)?;
-    }
-    Ok(())
-}
-
-/// Adds the item at each other site that it was shipped to.
-fn gather_shipped(
-    alloc: Global,
-    me: SiteNo,
-    item: &Epc,
-    body: &Body,
-    pairs: &mut BTreeSet<Pair>,
-) -> Result<(), AllocError>
-    ensures { OnOk result ((p : Pair) → is_in pairs.new p ≡ (is_in pairs.old p || shipped_by me item.now body.now p)) }
-{
-    if let Body::Ship { items, sites, .. } = body {
-        if lists(items, item) {
-            gather_at_sites(alloc, me, item, sites.as_slice(), pairs)?;
-        }
     }
     Ok(())
 }
@@ -60,19 +44,36 @@ pub fn gather_at_sites(
     alloc: Global,
     me: SiteNo,
     item: &Epc,
-    sites: &[SiteNo],
+    sites: SiteSet,
     pairs: &mut BTreeSet<Pair>,
 ) -> Result<(), AllocError>
     ensures { OnOk result ((p : Pair)
-        → is_in pairs.new p ≡ (is_in pairs.old p || sent_to me item.now sites.now p)) }
+        → is_in pairs.new p ≡ (is_in pairs.old p || sent_to me item.now (sites_in sites) p)) }
 {
-    for site in sites {
-        if *site != me {
-            pairs.insert(Pair {
-                site: *site,
-                item: item.copy(alloc)?,
-            })?;
+    for number in 0..16 {
+        if let Some(site) = sites.at(number) {
+            gather_elsewhere(alloc, me, item, site, pairs)?;
         }
+    }
+    Ok(())
+}
+
+/// Adds the item at a site, unless it is the own one.
+fn gather_elsewhere(
+    alloc: Global,
+    me: SiteNo,
+    item: &Epc,
+    site: SiteNo,
+    pairs: &mut BTreeSet<Pair>,
+) -> Result<(), AllocError>
+    ensures { OnOk result ((p : Pair)
+        → is_in pairs.new p ≡ (is_in pairs.old p || sent_to me item.now (site ∷ []) p)) }
+{
+    if site != me {
+        pairs.insert(Pair {
+            site,
+            item: item.copy(alloc)?,
+        })?;
     }
     Ok(())
 }
@@ -173,6 +174,16 @@ pub fn takes_in(item: &Epc, body: &Body) -> bool
     match body {
         Body::Make { ins, .. } => lists(ins, item),
         _ => false,
+    }
+}
+
+/// The sites that an event ships the item to.
+pub fn shipped_to<'a>(item: &Epc, body: &'a Body) -> &'a [SiteNo]
+    ensures { (t : ℕ) → Contains result.now t ↔ Ships item.now t body.now }
+{
+    match body {
+        Body::Ship { items, sites, .. } if lists(items, item) => sites.as_slice(),
+        _ => &[],
     }
 }
 

@@ -29,6 +29,7 @@ mod places;
 mod searches;
 mod seen;
 mod sendings;
+mod site_sets;
 mod spreads;
 mod steps;
 mod targets;

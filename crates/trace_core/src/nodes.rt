@@ -3,8 +3,10 @@ ghost use Rattle.std.specs.Prelude.{◌≡◌, ◌∷◌, ◌⊎◌, ◌↔◌, 
 ghost use Rattle.trace_core.specs.declared.nodes.Node.{Node};
 ghost use Rattle.trace_core.specs.Found.{IsInBatch};
 ghost use Rattle.trace_core.specs.Nodes.{NotesNodes, destinations, made_nodes};
+ghost use Rattle.trace_core.specs.SiteSets.{sites_in};
 
 use crate::marks::Marks;
+use crate::site_sets::SiteSet;
 use event_json::SiteNo;
 use std::alloc::{AllocError, Global};
 use std::collections::BTreeMap;
@@ -117,14 +119,34 @@ impl Nodes {
         site: usize,
         item: usize,
         all: usize,
-        sites: &[SiteNo],
+        sites: SiteSet,
     ) -> Result<(), AllocError>
-        ensures { OnOk result (NotesNodes self.old self.new (destinations me site item sites.now)) }
+        ensures { OnOk result (NotesNodes self.old self.new (destinations me site item (sites_in sites))) }
     {
-        for at in sites {
-            if *at != me {
-                self.note(site, item, *at, all)?;
+        if sites.is_empty() {
+            return Ok(());
+        }
+        for number in 0..16 {
+            if let Some(at) = sites.at(number) {
+                self.note_elsewhere(me, site, item, all, at)?;
             }
+        }
+        Ok(())
+    }
+
+    /// Notes an item at a site that isn't the own one, where a site numbered so many.
+    fn note_elsewhere(
+        &mut self,
+        me: SiteNo,
+        site: usize,
+        item: usize,
+        all: usize,
+        at: SiteNo,
+    ) -> Result<(), AllocError>
+        ensures { OnOk result (NotesNodes self.old self.new (destinations me site item (at ∷ []))) }
+    {
+        if at != me {
+            self.note(site, item, at, all)?;
         }
         Ok(())
     }

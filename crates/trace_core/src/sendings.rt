@@ -1,10 +1,11 @@
 //! What events sent: a log of items with the sites that they were sent to, and each item's sites.
-ghost use Rattle.std.specs.Prelude.{◌≡◌, ◌++◌, ◌∷◌, [], ◌-◌, ◌==◌, ◌<◌, ℕ, cond, OnOk, OnErr, length, take, slice_get};
+ghost use Rattle.std.specs.Prelude.{◌≡◌, ◌∷◌, [], ◌-◌, ◌==◌, ◌<◌, ◌&&◌, ◌||◌, ◌↔◌, ℕ, true, not, OnOk, OnErr, Contains, length, take};
 ghost use Rattle.std.specs.List.{flat_map};
 ghost use Rattle.std.specs.Vec.{vec_len};
-ghost use Rattle.trace_core.specs.Places.{or_none};
-ghost use Rattle.trace_core.specs.Sendings.{AreDistinct, Extends, NotesSendings, sendings_of, item_sendings, sites_in};
+ghost use Rattle.trace_core.specs.Sendings.{Extends, NotesSendings, sendings_of, item_sendings, set_at};
+ghost use Rattle.trace_core.specs.SiteSets.{has_site};
 
+use crate::site_sets::SiteSet;
 use event_json::{Body, SiteNo};
 use std::alloc::{AllocError, Global};
 use std::marker::Model;
@@ -18,65 +19,11 @@ pub struct Sending {
     pub site: SiteNo,
 }
 
-/// The sites that an item was sent to. They allocate with the first one.
-#[derive(Debug)]
-pub struct Sites {
-    sites: Vec<SiteNo>,
-}
-
-impl Drop for Sites {
-    fn drop(self) {
-        let Sites { sites: _ } = self;
-    }
-}
-
-impl Model for Sites {
-    ghost use Rattle.std.specs.Prelude.{List, ℕ};
-
-    ghost Value = { List ℕ };
-
-    ghost view = { λ s. s.sites.items };
-}
-
-impl Sites {
-    /// No site. Does not allocate.
-    fn new(alloc: Global) -> Sites
-        ensures { result ≡ [] }
-    {
-        Sites {
-            sites: Vec::new(alloc),
-        }
-    }
-
-    /// The sites in the order in which they were found.
-    fn as_slice(&self) -> &[SiteNo]
-        ensures { result.now ≡ self.now }
-    {
-        self.sites.as_slice()
-    }
-
-    /// Adds a site at the end. An `Err` changes nothing.
-    fn push(&mut self, site: SiteNo) -> Result<(), AllocError>
-        ensures ok { OnOk result (self.new ≡ self.old ++ site ∷ []) }
-        ensures err { OnErr result (self.new ≡ self.old) }
-    {
-        self.sites.push(site)?;
-        Ok(())
-    }
-
-    /// Takes the last site away. Does not allocate.
-    fn pop(&mut self)
-        ensures { self.new ≡ take (length self.old - 1) self.old }
-    {
-        self.sites.pop();
-    }
-}
-
 /// Sendings in the order in which they were found, each once, and the sites of each item by its number.
 #[derive(Debug, Drop)]
 pub struct Sent {
     log: Vec<Sending>,
-    sites: Vec<Sites>,
+    sites: Vec<SiteSet>,
 }
 
 impl Model for Sent {
@@ -109,14 +56,13 @@ impl Sent {
         self.log.len()
     }
 
-    /// The sites that the item of a number was sent to, each once.
-    pub fn sites_of(&self, item: usize) -> &[SiteNo]
-        ensures sites { result.now ≡ sites_in self.now item }
-        ensures once { AreDistinct self.now }
+    /// The sites that the item of a number was sent to.
+    pub fn sites_of(&self, item: usize) -> SiteSet
+        ensures { (t : ℕ) → has_site result t ≡ true ↔ Contains self.now (record { item = item; site = t }) }
     {
         match self.sites.get(item) {
-            Some(own) => own.as_slice(),
-            None => &[],
+            Some(own) => *own,
+            None => SiteSet::new(),
         }
     }
 
@@ -125,12 +71,12 @@ impl Sent {
         ensures ok { OnOk result (NotesSendings self.old self.new (record { item = item; site = site } ∷ [])) }
         ensures err { OnErr result (self.new ≡ self.old) }
     {
-        if self.sites_of(item).contains(&site) {
+        if self.sites_of(item).has(site) {
             return Ok(());
         }
-        let alloc = *self.log.allocator();
         self.log.reserve(1)?;
-        add_site(alloc, &mut self.sites, item, site)?;
+        make_room(&mut self.sites, item)?;
+        add_site(&mut self.sites, item, site);
         self.log.push_reserved(Sending { item, site });
         Ok(())
     }
@@ -183,47 +129,37 @@ impl Sent {
         ensures { self.new ≡ take (length self.old - 1) self.old }
     {
         if let Some(last) = self.log.pop() {
-            forget_last_site(&mut self.sites, last.item);
+            forget_site(&mut self.sites, last.item, last.site);
         }
     }
 }
 
-/// Adds a site at the end of an item's. An `Err` changes none.
-fn add_site(
-    alloc: Global,
-    sites: &mut Vec<Sites>,
-    item: usize,
-    site: SiteNo,
-) -> Result<(), AllocError>
-    ensures ok { OnOk result ((n : ℕ)
-        → or_none (slice_get sites.new.items n)
-        ≡ or_none (slice_get sites.old.items n) ++ cond (item == n) (site ∷ []) []) }
-    ensures err { OnErr result ((n : ℕ)
-        → or_none (slice_get sites.new.items n) ≡ or_none (slice_get sites.old.items n)) }
+/// Adds a site to an item's.
+fn add_site(sites: &mut Vec<SiteSet>, item: usize, site: SiteNo)
+    requires { item < vec_len sites.old }
+    ensures { (n t : ℕ) → has_site (set_at sites.new.items n) t
+        ≡ (((item == n) && (site == t)) || has_site (set_at sites.old.items n) t) }
 {
-    make_room(alloc, sites, item)?;
-    sites[item].push(site)
+    sites[item].insert(site);
 }
 
 /// Adds items without sites, up to this one.
-fn make_room(alloc: Global, sites: &mut Vec<Sites>, item: usize) -> Result<(), AllocError>
+fn make_room(sites: &mut Vec<SiteSet>, item: usize) -> Result<(), AllocError>
     ensures room { OnOk result (item < vec_len sites.new) }
-    ensures same { (n : ℕ) → or_none (slice_get sites.new.items n) ≡ or_none (slice_get sites.old.items n) }
+    ensures same { (n t : ℕ) → has_site (set_at sites.new.items n) t ≡ has_site (set_at sites.old.items n) t }
 {
     while sites.len() <= item {
-        sites.push(Sites::new(alloc))?;
+        sites.push(SiteSet::new())?;
     }
     Ok(())
 }
 
-/// Takes the last site of an item away. Does not allocate.
-fn forget_last_site(sites: &mut Vec<Sites>, item: usize)
-    ensures { (n : ℕ) → or_none (slice_get sites.new.items n)
-        ≡ cond (item == n)
-        (take (length (or_none (slice_get sites.old.items n)) - 1) (or_none (slice_get sites.old.items n)))
-        (or_none (slice_get sites.old.items n)) }
+/// Takes a site away from an item's, if it has any.
+fn forget_site(sites: &mut Vec<SiteSet>, item: usize, site: SiteNo)
+    ensures { (n t : ℕ) → has_site (set_at sites.new.items n) t
+        ≡ (not ((item == n) && (site == t)) && has_site (set_at sites.old.items n) t) }
 {
-    if let Some(own) = sites.get_mut(item) {
-        own.pop();
+    if item < sites.len() {
+        sites[item].remove(site);
     }
 }

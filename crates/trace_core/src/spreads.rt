@@ -6,15 +6,17 @@ ghost use Rattle.trace_core.specs.declared.pairs.Pair.{Pair};
 ghost use Rattle.trace_core.specs.Gathering.{is_in, added_by, joins};
 ghost use Rattle.trace_core.specs.Nodes.{IsKnownNode};
 ghost use Rattle.trace_core.specs.Numbers.{number_in, numbered};
-ghost use Rattle.trace_core.specs.Pairs.{IsStrictlyAscending};
+ghost use Rattle.trace_core.specs.Pairs.{pair_cmp, IsStrictlyAscending};
 ghost use Rattle.trace_core.specs.PairTests.{takes_in};
 ghost use Rattle.trace_core.specs.Places.{at_place};
-ghost use Rattle.trace_core.specs.Spreads.{AreAscendingItems, IsSpread, AreLooks, IsNewTarget};
+ghost use Rattle.trace_core.specs.Searches.{IsFound};
+ghost use Rattle.trace_core.specs.Spreads.{AreAscendingItems, IsSpread, AreLooks, IsNewlyMade, IsNewTarget};
+ghost use Rattle.event_json.specs.Events.{Content};
 
 use crate::batches::push_items;
 use crate::books::Book;
 use crate::captured::Captured;
-use crate::gathering::{gather, gather_outputs, make_id, takes_in};
+use crate::gathering::{gather_at_sites, gather_made, gather_outputs, make_id, takes_in};
 use crate::looks::count_look;
 use crate::nodes::{Node, Nodes};
 use crate::ordered_keys::{in_order, keys_in_order};
@@ -63,19 +65,9 @@ impl Captured {
         ensures exact { IfOk result (λ pairs. (q : Pair) → Contains pairs.items q ↔ IsNewTarget self.now event.now item.now q) }
     {
         let alloc = self.alloc();
-        let mut pairs = BTreeSet::new(alloc);
-        gather_added(
-            alloc,
-            self.me(),
-            self.book(),
-            item,
-            event.body(),
-            &mut pairs,
-        )?;
-        let before = self.related(item)?;
-        for pair in &before {
-            pairs.remove(pair);
-        }
+        let mut pairs = new_made(alloc, self, item, event.body())?;
+        let sites = self.book().new_sites(event.body(), item);
+        gather_at_sites(alloc, self.me(), item, sites, &mut pairs)?;
         keys_in_order(alloc, pairs)
     }
 }
@@ -166,8 +158,30 @@ fn unknown_items(
     Ok(found)
 }
 
-/// Adds the pairs that an item would be related to by one event more: those of the event, and its
-/// outputs where one of the events that are there takes the item into a transformation of its id.
+/// The pairs that one event more would make of an item, and that aren't made of it yet.
+fn new_made(
+    alloc: Global,
+    site: &Captured,
+    item: &Epc,
+    body: &Body,
+) -> Result<BTreeSet<Pair>, AllocError>
+    ensures { IfOk result (λ pairs. (e : Content) → e.body ≡ body.now → (q : Pair)
+        → IsFound pair_cmp pairs q ↔ IsNewlyMade site.now e item.now q) }
+{
+    let mut pairs = BTreeSet::new(alloc);
+    gather_added(alloc, site.me(), site.book(), item, body, &mut pairs)?;
+    if pairs.is_empty() {
+        return Ok(pairs);
+    }
+    let before = site.related(item)?;
+    for pair in &before {
+        pairs.remove(pair);
+    }
+    Ok(pairs)
+}
+
+/// Adds the pairs that one event more would make of an item: what the event makes of it, and its outputs where one of
+/// the events that are there takes the item into a transformation of its id.
 fn gather_added(
     alloc: Global,
     me: SiteNo,
@@ -179,7 +193,7 @@ fn gather_added(
     ensures { OnOk result ((p : Pair) → is_in pairs.new p ≡ (is_in pairs.old p || added_by me book.now item.now body.now p)) }
 {
     let mut looks = 0;
-    gather(alloc, me, book, item, body, pairs)?;
+    gather_made(alloc, me, book, item, body, pairs)?;
     if joins(book, item, body) {
         gather_outputs(alloc, me, body, pairs, &mut looks)?;
     }

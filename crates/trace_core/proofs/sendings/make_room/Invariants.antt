@@ -1,12 +1,13 @@
-use Rattle.std.proofs.Common.{◌≡◌, ◌-◌, ℕ, suc, slice_get}
+use Rattle.std.proofs.Common.{◌≡◌, ◌-◌, ℕ, suc}
 use Rattle.std.specs.Vec.{vec_len}
-use Rattle.trace_core.specs.Places.{or_none}
+use Rattle.trace_core.specs.Sendings.{set_at}
+use Rattle.trace_core.specs.SiteSets.{has_site}
 use Rattle.trace_core.proofs.sendings.make_room.Given as goal
 
 -- no item has other sites
-abbrev pub invariant-loop-alloc : goal.invariant-loop-alloc
-invariant-loop-alloc l = (n : ℕ) → or_none (slice_get l.sites.items n) ≡ or_none (slice_get l.initial.sites.items n)
+abbrev pub invariant-loop-sites : goal.invariant-loop-sites
+invariant-loop-sites l = (n t : ℕ) → has_site (set_at l.sites.items n) t ≡ has_site (set_at l.initial.sites.items n) t
 
 -- how many items come yet
-abbrev pub decreases-loop-alloc : goal.decreases-loop-alloc
-decreases-loop-alloc l = suc l.item - vec_len l.sites
+abbrev pub decreases-loop-sites : goal.decreases-loop-sites
+decreases-loop-sites l = suc l.item - vec_len l.sites

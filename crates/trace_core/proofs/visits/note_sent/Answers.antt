@@ -7,5 +7,5 @@ returns-then-not-ships c i so = unsent c.args.ships c.args.me c.args.book.now c.
 
 pub returns : goal.returns
 returns c = on_ok_weaker c.note_destinations.result
-    (λ noted i so. sent c.args.ships c.args.me c.args.book.now c.args.number c.args.item i c.args.nodes.now c.note_destinations.new.self c.if-not-ships.false c.sites_at.result.now (c.sites_at.ensures i so) noted)
+    (λ noted i so. sent c.args.ships c.args.me c.args.book.now c.args.number c.args.item i c.args.nodes.now c.note_destinations.new.self c.if-not-ships.false c.sites_at.result (c.sites_at.ensures i so) noted)
     c.note_destinations.ensures

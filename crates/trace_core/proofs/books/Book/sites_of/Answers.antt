@@ -8,4 +8,4 @@ pub returns-in-Some : goal.returns-in-Some
 returns-in-Some c = c.sites_at.ensures c.args.item.now (number_stands (numbered c.args.self.now) c.args.item.now c.in-Some.number (sym c.in-Some.ensures))
 
 pub returns-in-None : goal.returns-in-None
-returns-in-None c = none_sent c.args.self.now c.args.item.now c.in-None.ensures
+returns-in-None c = none_sent c.args.self.now c.args.item.now c.in-None.ensures c.new.result c.new.ensures

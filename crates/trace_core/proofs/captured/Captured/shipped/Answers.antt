@@ -13,5 +13,5 @@ returns-clause-exact c = IfOk-weaker c.keys_in_order.result
     (λ pairs. pairs.items ≡ c.gather_at_sites.new.pairs.keys)
     (λ pairs. (p : Pair) → Contains pairs.items p ↔ IsShipped c.args.self.now c.args.item.now p)
     (λ pairs keys p. subst (λ (s : SiteEvents). Contains pairs.items p ↔ IsShipped s c.args.item.now p) c.self.view_is
-    (shipped_set (record { me = c.self.inside.me; events = c.self.inside.book }) c.args.item.now c.sites_of-sites.result.now c.sites_of-sites.ensures c.new-shipped.result c.gather_at_sites.new.pairs pairs.items c.new-shipped.ensures.empty keys c.in_ok-gather_at_sites.ensures p))
+    (shipped_set (record { me = c.self.inside.me; events = c.self.inside.book }) c.args.item.now c.sites_of-sites.result c.sites_of-sites.ensures c.new-shipped.result c.gather_at_sites.new.pairs pairs.items c.new-shipped.ensures.empty keys c.in_ok-gather_at_sites.ensures p))
     c.keys_in_order.ensures.keys

@@ -1,14 +1,17 @@
-use Rattle.std.proofs.Common.{sym, ◌∙◌, arith}
-use Rattle.trace_core.proofs.NodeSteps.{one_destination, own_site, each_destination}
+use Rattle.std.proofs.Common.{refl, sym}
+use Rattle.trace_core.proofs.NodeSteps.{nowhere, no_destinations, one_destination, no_destination}
 use Rattle.trace_core.proofs.nodes.Nodes.note_destinations.Goals as goal
-use Rattle.trace_core.proofs.nodes.Nodes.note_destinations.Goals.{then-ne+in_ok-note, else-ne}
+use Rattle.trace_core.proofs.nodes.Nodes.note_destinations.Goals.{in-Some+in_ok-note_elsewhere, in_default}
 
-pub loop-at-preserved : goal.loop-at-preserved
-loop-at-preserved c =
-    elim c.if-ne.branch [
-      | then-ne+in_ok-note w ↦ rw w.self-is (one_destination c.args.self.now c.loop-at.self c.args.me c.args.site c.args.item c.args.sites.now c.loop-at.at-index c.at-item.result (omega arith) c.at-item.is w.note.new.self (sym c.ne.ensures ∙ w.if-ne.true) c.loop-at.invariant w.in_ok-note.ensures)
-      | else-ne w ↦ rw w.self-is (own_site c.args.self.now c.loop-at.self c.args.me c.args.site c.args.item c.args.sites.now c.loop-at.at-index c.at-item.result (omega arith) c.at-item.is (sym c.ne.ensures ∙ w.if-ne.false) c.loop-at.invariant)
+pub loop-number-init : goal.loop-number-init
+loop-number-init c = no_destinations c.args.self.now c.args.me c.args.site c.args.item c.args.sites
+
+pub loop-number-preserved : goal.loop-number-preserved
+loop-number-preserved c =
+    elim c.match-at.branch [
+      | in-Some+in_ok-note_elsewhere w ↦ rw w.self-is (one_destination c.args.self.now c.loop-number.self c.args.me c.args.site c.args.item c.args.sites c.loop-number.number w.note_elsewhere.new.self w.in-Some.at (sym w.in-Some.ensures.some) w.in-Some.ensures.value c.loop-number.invariant w.in_ok-note_elsewhere.ensures)
+      | in_default w ↦ rw w.self-is (no_destination c.args.self.now c.loop-number.self c.args.me c.args.site c.args.item c.args.sites c.loop-number.number (sym w.in_default.ensures.some) c.loop-number.invariant)
     ]
 
-pub returns : goal.returns
-returns c = each_destination c.args.self.now c.loop-at.self c.args.me c.args.site c.args.item c.args.sites.now c.loop-at.at-index (omega arith) c.loop-at.invariant
+pub returns-then-is_empty : goal.returns-then-is_empty
+returns-then-is_empty c = nowhere c.args.self.now c.args.me c.args.site c.args.item c.args.sites (c.if-is_empty.ensures refl)

@@ -1,6 +1,0 @@
-use Rattle.trace_core.proofs.AddedPairs.{LeftOf}
-use Rattle.trace_core.proofs.captured.Captured.new_targets.Given as goal
-
--- the pairs so far are taken away
-abbrev pub invariant-loop-pair : goal.invariant-loop-pair
-invariant-loop-pair l = LeftOf l.self l.event l.item l.pair-items l.pairs l.pair-index
