@@ -1,13 +1,14 @@
 //! The record of rows: it is read from good ones, and a bad row is named.
 use event_json::Sequence;
 use site_rows::{
-    AddressRow, EventRow, PartRow, Rows, SiteRow, StateFault, StoreRow, Table, Text, state_of,
+    AddressRow, EventRow, PackRow, PartRow, Rows, SiteRow, StateFault, StoreRow, Table, Text,
+    Version, state_of,
 };
 use std::alloc::{AllocError, Global};
 use std::hash::RandomState;
 use std::test::Fail;
 
-/// One text that is changed in the rows of a shipment from site A to site B and outside.
+/// What is changed in the rows of a shipment from site A to site B and outside.
 #[derive(Clone, Copy)]
 enum Changed {
     Nothing,
@@ -15,6 +16,9 @@ enum Changed {
     Item,
     Destination,
     LastPart,
+    NotUtf8,
+    Packed,
+    Version,
 }
 
 fn part(alloc: Global, role: i64, place: i64, text: &str) -> Result<PartRow, Fail> {
@@ -23,6 +27,17 @@ fn part(alloc: Global, role: i64, place: i64, text: &str) -> Result<PartRow, Fai
         event: 1,
         role,
         place,
+        text,
+    })
+}
+
+/// The last part, with a byte that stands in no UTF-8 text.
+fn odd_part(alloc: Global) -> Result<PartRow, Fail> {
+    let text = Text::from_bytes(alloc, &[b'o', 255])?;
+    Ok(PartRow {
+        event: 1,
+        role: 2,
+        place: 0,
         text,
     })
 }
@@ -54,6 +69,10 @@ fn add_parts(alloc: Global, parts: &mut Vec<PartRow>, changed: Changed) -> Resul
         "B"
     };
     add_part(alloc, parts, 1, 0, site)?;
+    if matches!(changed, Changed::NotUtf8) {
+        parts.push(odd_part(alloc)?)?;
+        return Ok(());
+    }
     let place = if matches!(changed, Changed::LastPart) {
         1
     } else {
@@ -114,10 +133,10 @@ fn addresses(alloc: Global, changed: Changed) -> Result<Sequence<AddressRow>, Fa
     Ok(Sequence::from_vec(addresses))
 }
 
-fn stores(alloc: Global) -> Result<Sequence<StoreRow>, Fail> {
+fn stores(alloc: Global, version: i64) -> Result<Sequence<StoreRow>, Fail> {
     let mut store = Vec::new(alloc);
     store.push(StoreRow {
-        version: 1,
+        version,
         me: 0,
         next_message: 1,
         next_recall: 1,
@@ -138,21 +157,46 @@ fn events(alloc: Global) -> Result<Sequence<EventRow>, Fail> {
     Ok(Sequence::from_vec(event))
 }
 
+fn packs(alloc: Global, changed: Changed) -> Result<Sequence<PackRow>, Fail> {
+    let mut packs = Vec::new(alloc);
+    if matches!(changed, Changed::Packed) {
+        packs.push(PackRow {
+            event: 1,
+            action: 1,
+            parent: None,
+        })?;
+    }
+    Ok(Sequence::from_vec(packs))
+}
+
 /// The rows of site A with these parts, and no messages.
 fn rows_with(
     alloc: Global,
+    changed: Changed,
+    version: Version,
     site: Sequence<SiteRow>,
     address: Sequence<AddressRow>,
     part: Sequence<PartRow>,
 ) -> Result<Rows, Fail> {
-    let store = stores(alloc)?;
+    let store = stores(
+        alloc,
+        if matches!(changed, Changed::Version) {
+            3
+        } else {
+            version.number()
+        },
+    )?;
     let event = events(alloc)?;
+    let pack = packs(alloc, changed)?;
     Ok(Rows {
+        version,
         store,
         site,
         address,
         event,
         part,
+        pack,
+        packed: Sequence::new(alloc),
         quarantine: Sequence::new(alloc),
         outbox: Sequence::new(alloc),
         seen: Sequence::new(alloc),
@@ -161,16 +205,21 @@ fn rows_with(
     })
 }
 
-fn rows(alloc: Global, changed: Changed) -> Result<Rows, Fail> {
+fn rows(alloc: Global, changed: Changed, version: Version) -> Result<Rows, Fail> {
     let site = sites(alloc)?;
     let address = addresses(alloc, changed)?;
     let part = parts(alloc, changed)?;
-    rows_with(alloc, site, address, part)
+    rows_with(alloc, changed, version, site, address, part)
 }
 
 /// The table and the place of the bad row, `None` where no row is bad; out of memory is no answer.
-fn bad(alloc: Global, keys: RandomState, changed: Changed) -> Result<Option<(Table, u64)>, Fail> {
-    let rows = rows(alloc, changed)?;
+fn bad(
+    alloc: Global,
+    keys: RandomState,
+    changed: Changed,
+    version: Version,
+) -> Result<Option<(Table, u64)>, Fail> {
+    let rows = rows(alloc, changed, version)?;
     match state_of(alloc, keys, &rows) {
         Ok(_) => Ok(None),
         Err(StateFault::BadRow(bad)) => Ok(Some((bad.table, bad.row))),
@@ -181,10 +230,24 @@ fn bad(alloc: Global, keys: RandomState, changed: Changed) -> Result<Option<(Tab
 #[test]
 fn reads_a_record_or_names_the_bad_row(rt: HostRuntime) -> Result<(), Fail> {
     let keys = RandomState::new(&rt)?;
-    assert!(rt; bad(rt.alloc(), keys, Changed::Nothing)? == None);
-    assert!(rt; bad(rt.alloc(), keys, Changed::Address)? == Some((Table::Address, 1)));
-    assert!(rt; bad(rt.alloc(), keys, Changed::Item)? == Some((Table::Part, 2)));
-    assert!(rt; bad(rt.alloc(), keys, Changed::Destination)? == Some((Table::Part, 3)));
-    assert!(rt; bad(rt.alloc(), keys, Changed::LastPart)? == Some((Table::Part, 4)));
+    let second = Version::Second;
+    assert!(rt; bad(rt.alloc(), keys, Changed::Nothing, second)? == None);
+    assert!(rt; bad(rt.alloc(), keys, Changed::Address, second)? == Some((Table::Address, 1)));
+    assert!(rt; bad(rt.alloc(), keys, Changed::Item, second)? == Some((Table::Part, 2)));
+    assert!(rt; bad(rt.alloc(), keys, Changed::Destination, second)? == Some((Table::Part, 3)));
+    assert!(rt; bad(rt.alloc(), keys, Changed::LastPart, second)? == Some((Table::Part, 4)));
+    assert!(rt; bad(rt.alloc(), keys, Changed::NotUtf8, second)? == Some((Table::Part, 4)));
+    assert!(rt; bad(rt.alloc(), keys, Changed::Packed, second)? == Some((Table::Pack, 1)));
+    assert!(rt; bad(rt.alloc(), keys, Changed::Version, second)? == Some((Table::Store, 1)));
+    Ok(())
+}
+
+#[test]
+fn reads_a_record_of_the_first_version(rt: HostRuntime) -> Result<(), Fail> {
+    let keys = RandomState::new(&rt)?;
+    let first = Version::First;
+    assert!(rt; bad(rt.alloc(), keys, Changed::Nothing, first)? == None);
+    assert!(rt; bad(rt.alloc(), keys, Changed::Item, first)? == Some((Table::Part, 2)));
+    assert!(rt; bad(rt.alloc(), keys, Changed::Version, first)? == Some((Table::Store, 1)));
     Ok(())
 }

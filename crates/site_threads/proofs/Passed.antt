@@ -139,13 +139,13 @@ jobs_append : (xs ys : List Entry) → jobs_in (xs ++ ys) ≡ jobs_in xs ++ jobs
 jobs_append [] ys = refl
 jobs_append (x ∷ xs) ys = ap (λ l. job_of x.input ++ l) (jobs_append xs ys) ∙ sym (append_assoc (job_of x.input) (jobs_in xs) (jobs_in ys))
 
-jobs_added : (before after : Bool) (took : List Frame) (old new : List Entry) (receipt : Option Receipt) (n : ℕ) → EntersFrames before after took (old ++ map entry_of (option_items receipt)) new n → jobs_in new ≡ jobs_in old ++ option_items (option_map (λ x. x.job) receipt)
-jobs_added before after took old new receipt n t =
+jobs_added : (before after : Bool) (took : List Frame) (old new : List Entry) (receipt : Option Receipt) (n l : ℕ) → EntersFrames before after took (old ++ map entry_of (option_items receipt)) new n l → jobs_in new ≡ jobs_in old ++ option_items (option_map (λ x. x.job) receipt)
+jobs_added before after took old new receipt n l t =
     ap jobs_in t.all ∙ jobs_append (old ++ map entry_of (option_items receipt)) t.frames ∙ ap (λ l. jobs_in (old ++ map entry_of (option_items receipt)) ++ l) (frames_have_no_jobs t.frames t.each) ∙ append-nil _
     ∙ jobs_append old (map entry_of (option_items receipt)) ∙ ap (λ l. jobs_in old ++ l) (receipt_jobs receipt)
 
 pub jobs_done : {E : Type 0} (S : TurnReport → Type 0) (me low high : ℕ) (noted noted' : List Frame) (after : Bool) (r : Result TurnReport E) (old begun new : List Entry) (ready job : Option Job) → begun ≡ old → ready ≡ job → IfOk r (λ report. (option_map (λ x. x.job) report.receipt ≡ ready) × S report)
-    → IfOk r (λ report. TakesFrames me low high noted noted' (open_after report.receipt) after (begun ++ map entry_of (option_items report.receipt)) new report.applied) → IfOk r (λ report. jobs_in new ≡ jobs_in old ++ option_items job)
+    → IfOk r (λ report. TakesFrames me low high noted noted' (open_after report.receipt) after (begun ++ map entry_of (option_items report.receipt)) new report.applied report.lost) → IfOk r (λ report. jobs_in new ≡ jobs_in old ++ option_items job)
 jobs_done S me low high noted noted' after (Ok report) old begun new ready job same is done entered =
-    jobs_added (open_after report.receipt) after entered.took begun new report.receipt report.applied entered.enters ∙ (λ i. jobs_in (same i) ++ option_items ((done.0 ∙ is) i))
+    jobs_added (open_after report.receipt) after entered.took begun new report.receipt report.applied report.lost entered.enters ∙ (λ i. jobs_in (same i) ++ option_items ((done.0 ∙ is) i))
 jobs_done S me low high noted noted' after (Err e) old begun new ready job same is done entered = tt

@@ -1,5 +1,5 @@
 -- What a site noted from the wire and sent over it, one call after another.
-use Rattle.std.proofs.Common.{◌≡◌, ◌≢◌, ℕ, ◌+◌, ◌≤◌, inl, inr, Bool, true, not, is_some, cond, map, Option, Some, None, Result, Ok, Err, List, [], ◌∷◌, ◌++◌, refl, sym, ap, ◌∙◌, subst, arith, append_assoc, append-nil}
+use Rattle.std.proofs.Common.{length, ◌≡◌, ◌≢◌, ℕ, ◌+◌, ◌≤◌, inl, inr, Bool, true, not, is_some, cond, map, Option, Some, None, Result, Ok, Err, List, [], ◌∷◌, ◌++◌, refl, sym, ap, ◌∙◌, subst, arith, append_assoc, append-nil}
 use Rattle.std.specs.Prelude.{IfOk, IfErr, IsTrue, MatchOption, is_ok}
 use Rattle.std.proofs.lemmas.List.{length-append}
 use Rattle.std.proofs.lemmas.List.Elements.{All-nil, All-cons, All-append}
@@ -105,27 +105,28 @@ comes_more before between after (x ∷ xs) ys s t = (s.0, comes_more (not (is_st
 abbrev IsOfFrame : Entry → Type 0
 IsOfFrame x = IsTrue (is_delivery x.input)
 
-enters_none : (before : Bool) (took : List Frame) (xs : List Entry) → EntersFrames before before took xs xs 0
-enters_none before took xs = record { frames = []; all = sym (append-nil xs); each = All-nil IsOfFrame; delivered = tt; many = refl; comes = refl }
+enters_none : (before : Bool) (took : List Frame) (xs : List Entry) → EntersFrames before before took xs xs 0 (length took)
+enters_none before took xs = record { frames = []; all = sym (append-nil xs); each = All-nil IsOfFrame; delivered = tt; many = refl; counts = omega arith; comes = refl }
 
-enters_more : (before between after : Bool) (fs gs : List Frame) (xs ys zs : List Entry) (n m : ℕ) → EntersFrames before between fs xs ys n → EntersFrames between after gs ys zs m → EntersFrames before after (fs ++ gs) xs zs (n + m)
-enters_more before between after fs gs xs ys zs n m s t = record {
+enters_more : (before between after : Bool) (fs gs : List Frame) (xs ys zs : List Entry) (n m l k : ℕ) → EntersFrames before between fs xs ys n l → EntersFrames between after gs ys zs m k → EntersFrames before after (fs ++ gs) xs zs (n + m) (l + k)
+enters_more before between after fs gs xs ys zs n m l k s t = record {
   frames = s.frames ++ t.frames;
   all = t.all ∙ ap (λ l. l ++ t.frames) s.all ∙ append_assoc xs s.frames t.frames;
   each = All-append IsOfFrame s.frames t.frames s.each t.each;
   delivered = delivered_more fs s.frames t.frames gs s.delivered t.delivered;
   many = length-append s.frames t.frames ∙ (λ i. s.many i + t.many i);
+  counts = let all = length-append fs gs in let one = s.counts in let two = t.counts in omega (arith, all, one, two);
   comes = comes_more before between after s.frames t.frames s.comes t.comes;
 }
 
 module _ {E L : Type 0} (items : L → List Entry) (old new : L) (before after : Bool) (up : before ≡ true) (n : ℕ) (f : Frame) where
   pub enters_one : (r : Result Reply E) → IfOk r (λ p. items new ≡ items old ++ (record { number = n; input = inputs.Deliver f; reply = p }) ∷ []) → IfOk r (λ p. after ≡ not (is_stop p)) → IfErr r (λ e. (new ≡ old) × (after ≡ before))
-      → EntersFrames before after (f ∷ []) (items old) (items new) (cond (is_ok r) 1 0)
+      → EntersFrames before after (f ∷ []) (items old) (items new) (cond (is_ok r) 1 0) (cond (is_ok r) 0 1)
   enters_one (Ok p) h stays back =
       let x : Entry = record { number = n; input = inputs.Deliver f; reply = p } in
-      record { frames = x ∷ []; all = h; each = All-cons IsOfFrame x [] refl (All-nil IsOfFrame); delivered = inl (refl, tt); many = refl; comes = (up, stays) }
+      record { frames = x ∷ []; all = h; each = All-cons IsOfFrame x [] refl (All-nil IsOfFrame); delivered = inl (refl, tt); many = refl; counts = refl; comes = (up, stays) }
   enters_one (Err e) h stays back =
-      subst (λ (b : Bool). EntersFrames before b (f ∷ []) (items old) (items new) 0) (sym back.1) (subst (λ l. EntersFrames before before (f ∷ []) (items old) (items l) 0) (sym back.0) (enters_none before (f ∷ []) (items old)))
+      subst (λ (b : Bool). EntersFrames before b (f ∷ []) (items old) (items new) 0 1) (sym back.1) (subst (λ l. EntersFrames before before (f ∷ []) (items old) (items l) 0 1) (sym back.0) (enters_none before (f ∷ []) (items old)))
 
 pub kept_back : {A E L : Type 0} (B : E → Type 0) (new old : L) (now was : Option Record) (r : Result A E) → IfErr r (λ e. B e × (new ≡ old) × (now ≡ was)) → IfErr r (λ e. (new ≡ old) × (is_some now ≡ is_some was))
 kept_back B new old now was (Ok a) h = tt
@@ -133,19 +134,19 @@ kept_back B new old now was (Err e) h = (h.1, ap is_some h.2)
 
 -- Both.
 
-pub takes_none : (me low high : ℕ) (fs : List Frame) (before : Bool) (xs : List Entry) → low ≤ high → TakesFrames me low high fs fs before before xs xs 0
+pub takes_none : (me low high : ℕ) (fs : List Frame) (before : Bool) (xs : List Entry) → low ≤ high → TakesFrames me low high fs fs before before xs xs 0 0
 takes_none me low high fs before xs h = record { took = []; notes = notes_none me low high fs h; enters = enters_none before [] xs }
 
-pub takes_one : (me other : ℕ) (old mid new : List Frame) (f : Frame) (before after : Bool) (xs ys : List Entry) (n : ℕ) → mid ≡ old ++ f ∷ [] → new ≡ mid → sender f ≡ other → addressee f ≡ me → other ≢ me → EntersFrames before after (f ∷ []) xs ys n
-    → TakesFrames me other (other + 1) old new before after xs ys n
-takes_one me other old mid new f before after xs ys n is same from to apart enters = record { took = f ∷ []; notes = notes_one me other old new f (same ∙ is) from to apart; enters = enters }
+pub takes_one : (me other : ℕ) (old mid new : List Frame) (f : Frame) (before after : Bool) (xs ys : List Entry) (n l : ℕ) → mid ≡ old ++ f ∷ [] → new ≡ mid → sender f ≡ other → addressee f ≡ me → other ≢ me → EntersFrames before after (f ∷ []) xs ys n l
+    → TakesFrames me other (other + 1) old new before after xs ys n l
+takes_one me other old mid new f before after xs ys n l is same from to apart enters = record { took = f ∷ []; notes = notes_one me other old new f (same ∙ is) from to apart; enters = enters }
 
-pub takes_more : (me a b c : ℕ) (old mid new : List Frame) (before between after : Bool) (xs ys zs : List Entry) (n m : ℕ) → TakesFrames me a b old mid before between xs ys n → TakesFrames me b c mid new between after ys zs m
-    → TakesFrames me a c old new before after xs zs (n + m)
-takes_more me a b c old mid new before between after xs ys zs n m s t = record {
+pub takes_more : (me a b c : ℕ) (old mid new : List Frame) (before between after : Bool) (xs ys zs : List Entry) (n m l k : ℕ) → TakesFrames me a b old mid before between xs ys n l → TakesFrames me b c mid new between after ys zs m k
+    → TakesFrames me a c old new before after xs zs (n + m) (l + k)
+takes_more me a b c old mid new before between after xs ys zs n m l k s t = record {
   took = s.took ++ t.took;
   notes = notes_more me a b c old mid new s.took t.took s.notes t.notes;
-  enters = enters_more before between after s.took t.took xs ys zs n m s.enters t.enters;
+  enters = enters_more before between after s.took t.took xs ys zs n m l k s.enters t.enters;
 }
 
 -- What is posted.
@@ -184,19 +185,19 @@ module _ (shown : Option Record) (may : Record → Type 0) (logs : List Log) (me
 
 -- The same of other names of the same values.
 
-pub takes_as : (low high : ℕ) (me me' : ℕ) (old old' new new' : List Frame) (before before' after after' : Bool) (xs xs' ys ys' : List Entry) (n : ℕ) → me ≡ me' → old ≡ old' → new ≡ new' → before ≡ before' → after ≡ after' → xs ≡ xs' → ys ≡ ys' → TakesFrames me low high old new before after xs ys n
-    → TakesFrames me' low high old' new' before' after' xs' ys' n
-takes_as low high me me' old old' new new' before before' after after' xs xs' ys ys' n a b c d e f g t =
-    subst (λ (y : ℕ × (List Frame × (List Frame × (Bool × (Bool × (List Entry × List Entry)))))). TakesFrames y.0 low high y.1.0 y.1.1.0 y.1.1.1.0 y.1.1.1.1.0 y.1.1.1.1.1.0 y.1.1.1.1.1.1 n) (λ i. (a i, (b i, (c i, (d i, (e i, (f i, g i))))))) t
+pub takes_as : (low high : ℕ) (me me' : ℕ) (old old' new new' : List Frame) (before before' after after' : Bool) (xs xs' ys ys' : List Entry) (n l : ℕ) → me ≡ me' → old ≡ old' → new ≡ new' → before ≡ before' → after ≡ after' → xs ≡ xs' → ys ≡ ys' → TakesFrames me low high old new before after xs ys n l
+    → TakesFrames me' low high old' new' before' after' xs' ys' n l
+takes_as low high me me' old old' new new' before before' after after' xs xs' ys ys' n l a b c d e f g t =
+    subst (λ (y : ℕ × (List Frame × (List Frame × (Bool × (Bool × (List Entry × List Entry)))))). TakesFrames y.0 low high y.1.0 y.1.1.0 y.1.1.1.0 y.1.1.1.1.0 y.1.1.1.1.1.0 y.1.1.1.1.1.1 n l) (λ i. (a i, (b i, (c i, (d i, (e i, (f i, g i))))))) t
 
 pub posts_as : (low high : ℕ) (me me' : ℕ) (shown shown' : Option Record) (old old' new new' : List Frame) (n : ℕ) → me ≡ me' → shown ≡ shown' → old ≡ old' → new ≡ new' → PostsFrames me low high shown old new n → PostsFrames me' low high shown' old' new' n
 posts_as low high me me' shown shown' old old' new new' n a b c d t =
     subst (λ (y : ℕ × (Option Record × (List Frame × List Frame))). PostsFrames y.0 low high y.1.0 y.1.1.0 y.1.1.1 n) (λ i. (a i, (b i, (c i, d i)))) t
 
 -- a turn's frames, from before it began
-pub turn_takes : {E : Type 0} (r : Result TurnReport E) (high me me' : ℕ) (old old' new : List Frame) (after : Bool) (begun before now : List Entry) → me ≡ me' → old ≡ old' → begun ≡ before → IfOk r (λ x. TakesFrames me 0 high old new (open_after x.receipt) after (begun ++ map entry_of (option_items x.receipt)) now x.applied)
-    → IfOk r (λ x. TakesFrames me' 0 high old' new (open_after x.receipt) after (before ++ map entry_of (option_items x.receipt)) now x.applied)
-turn_takes (Ok x) high me me' old old' new after begun before now a b c t = takes_as 0 high me me' old old' new new (open_after x.receipt) (open_after x.receipt) after after _ _ now now x.applied a b refl refl refl (ap (λ l. l ++ map entry_of (option_items x.receipt)) c) refl t
+pub turn_takes : {E : Type 0} (r : Result TurnReport E) (high me me' : ℕ) (old old' new : List Frame) (after : Bool) (begun before now : List Entry) → me ≡ me' → old ≡ old' → begun ≡ before → IfOk r (λ x. TakesFrames me 0 high old new (open_after x.receipt) after (begun ++ map entry_of (option_items x.receipt)) now x.applied x.lost)
+    → IfOk r (λ x. TakesFrames me' 0 high old' new (open_after x.receipt) after (before ++ map entry_of (option_items x.receipt)) now x.applied x.lost)
+turn_takes (Ok x) high me me' old old' new after begun before now a b c t = takes_as 0 high me me' old old' new new (open_after x.receipt) (open_after x.receipt) after after _ _ now now x.applied x.lost a b refl refl refl (ap (λ l. l ++ map entry_of (option_items x.receipt)) c) refl t
 turn_takes (Err e) high me me' old old' new after begun before now a b c t = tt
 
 pub turn_posts : {E : Type 0} (r : Result TurnReport E) (high me me' : ℕ) (shown : Option Record) (old old' new : List Frame) → me ≡ me' → old ≡ old' → IfOk r (λ x. PostsFrames me 0 high shown old new x.posted) → IfOk r (λ x. PostsFrames me' 0 high shown old' new x.posted)

@@ -42,21 +42,22 @@ AreDelivered [] frames = ⊤
 AreDelivered (x ∷ xs) [] = ⊥
 AreDelivered (x ∷ xs) (f ∷ fs) = ((x.input ≡ inputs.Deliver f) × AreDelivered xs fs) ⊎ AreDelivered (x ∷ xs) fs
 
--- so many steps came, each by one of these frames, and before them the list is the same; whether the site was open before
--- them, and is afterwards
-pub record EntersFrames (before after : Bool) (took : List Frame) (old new : List Entry) (count : ℕ) : Type 0 where
+-- so many steps came, each by one of these frames, and so many of the frames were lost; before the steps the list is the
+-- same; whether the site was open before them, and is afterwards
+pub record EntersFrames (before after : Bool) (took : List Frame) (old new : List Entry) (count lost : ℕ) : Type 0 where
   pub frames : List Entry
   pub all : new ≡ old ++ frames
   pub each : AreOfFrames frames
   pub delivered : AreDelivered frames took
   pub many : length frames ≡ count
+  pub counts : length took ≡ count + lost
   pub comes : ComesTo before frames after
 
--- at most one frame of each such site was noted, and so many of these were entered
-pub record TakesFrames (me low high : ℕ) (noted noted' : List Frame) (before after : Bool) (old new : List Entry) (count : ℕ) : Type 0 where
+-- at most one frame of each such site was noted; so many of these were entered, and all others are counted as lost
+pub record TakesFrames (me low high : ℕ) (noted noted' : List Frame) (before after : Bool) (old new : List Entry) (count lost : ℕ) : Type 0 where
   pub took : List Frame
   pub notes : Notes me low high noted noted' took
-  pub enters : EntersFrames before after took old new count
+  pub enters : EntersFrames before after took old new count lost
 
 -- the site sends the frame, for another one, and the record that is shown makes it emittable
 pub record IsSentBy (me : ℕ) (shown : Option Record) (f : Frame) : Type 0 where
@@ -76,9 +77,9 @@ pub record PostsFrames (me low high : ℕ) (shown : Option Record) (old new : Li
 
 -- The frames of a running site, and of its turn.
 module _ {K : Type 0} (shown : K → Option Record) where
-  abbrev pub TakesOfEach : ℕ → ℕ → Site K → Site K → ℕ → Type 0
-  TakesOfEach low high old new count =
-      TakesFrames old.me low high (noted_by old.seat.logs) (noted_by new.seat.logs) (is_some (shown_in shown old.keeper)) (is_some (shown_in shown new.keeper)) old.entries.items new.entries.items count
+  abbrev pub TakesOfEach : ℕ → ℕ → Site K → Site K → ℕ → ℕ → Type 0
+  TakesOfEach low high old new count lost =
+      TakesFrames old.me low high (noted_by old.seat.logs) (noted_by new.seat.logs) (is_some (shown_in shown old.keeper)) (is_some (shown_in shown new.keeper)) old.entries.items new.entries.items count lost
 
   abbrev pub PostsToEach : ℕ → ℕ → Site K → Site K → ℕ → Type 0
   PostsToEach low high old new count = PostsFrames old.me low high (shown_in shown new.keeper) (sent_by old.seat.logs) (sent_by new.seat.logs) count
@@ -86,4 +87,4 @@ module _ {K : Type 0} (shown : K → Option Record) where
   -- after the step of its job, if it was given one, a site takes frames in its turn
   abbrev pub TakesAfterJob : ℕ → Site K → Site K → TurnReport → Type 0
   TakesAfterJob sites old new report =
-      TakesFrames old.me 0 sites (noted_by old.seat.logs) (noted_by new.seat.logs) (open_after report.receipt) (is_some (shown_in shown new.keeper)) (old.entries.items ++ map entry_of (option_items report.receipt)) new.entries.items report.applied
+      TakesFrames old.me 0 sites (noted_by old.seat.logs) (noted_by new.seat.logs) (open_after report.receipt) (is_some (shown_in shown new.keeper)) (old.entries.items ++ map entry_of (option_items report.receipt)) new.entries.items report.applied report.lost

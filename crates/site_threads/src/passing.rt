@@ -22,10 +22,19 @@ use site_core::{SiteInput, SiteState};
 use std::alloc::Global;
 use wire_core::{Post, Wire};
 
+/// What became of frames that were taken.
+#[derive(Clone, Copy)]
+pub struct Received {
+    /// How many were entered.
+    pub entered: u64,
+    /// How many were lost, since memory ran out in their step.
+    pub lost: u64,
+}
+
 impl<K: SiteKeeper> Site<K> {
-    /// Takes at most one frame from another site, applies it and enters it. How many were entered. Nothing is taken
-    /// while the keeper is closed; a frame whose step finds no memory is lost.
-    pub fn receive(&mut self, wire: &Wire, other: SiteNo) -> u64
+    /// Takes at most one frame from another site, applies it and enters it. What became of it. Nothing is taken while
+    /// the keeper is closed; a frame whose step finds no memory is lost.
+    pub fn receive(&mut self, wire: &Wire, other: SiteNo) -> Received
         requires seat { IsSeatOf wire.now self.old.seat }
         requires site { IsSite K.shown K.may self.old }
         requires few { marks_in self.old.seat.logs < 2 ^ 62 }
@@ -33,23 +42,29 @@ impl<K: SiteKeeper> Site<K> {
         requires room { vec_len self.old.entries < vec_capacity self.old.entries }
         ensures site { IsSite K.shown K.may self.new }
         ensures same { Continues K.stored 1 wire.now self.old self.new }
-        ensures frames { TakesOfEach K.shown other (other + 1) self.old self.new result }
+        ensures frames { TakesOfEach K.shown other (other + 1) self.old self.new result.entered result.lost }
         ensures sent { sent_by self.new.seat.logs ≡ sent_by self.old.seat.logs }
         ensures room { (vec_capacity self.old.entries ≤ vec_capacity self.new.entries) × (vec_len self.new.entries ≤ vec_len self.old.entries + 1) }
-        ensures count { result ≤ 1 }
+        ensures count { result.entered + result.lost ≤ 1 }
     {
         if view_of(&self.keeper).is_none() {
-            return 0;
+            return Received {
+                entered: 0,
+                lost: 0,
+            };
         }
         let Some(frame) = wire.take(&mut self.seat, self.me, other) else {
-            return 0;
+            return Received {
+                entered: 0,
+                lost: 0,
+            };
         };
         self.owed[other.number() as usize] = message_of(&frame);
         self.enter(wire, frame)
     }
 
-    /// Applies a frame that was taken, and enters it. How many steps were entered.
-    fn enter(&mut self, wire: &Wire, frame: Frame) -> u64
+    /// Applies a frame that was taken, and enters it. What became of it.
+    fn enter(&mut self, wire: &Wire, frame: Frame) -> Received
         requires seat { IsSeatOf wire.now self.old.seat }
         requires site { IsSite K.shown K.may self.old }
         requires few { marks_in self.old.seat.logs < 2 ^ 62 }
@@ -58,10 +73,10 @@ impl<K: SiteKeeper> Site<K> {
         requires room { vec_len self.old.entries < vec_capacity self.old.entries }
         ensures site { IsSite K.shown K.may self.new }
         ensures same { Continues K.stored 1 wire.now self.old self.new }
-        ensures frames { EntersFrames (is_some (shown_in K.shown self.old.keeper)) (is_some (shown_in K.shown self.new.keeper)) (frame ∷ []) self.old.entries.items self.new.entries.items result }
+        ensures frames { EntersFrames (is_some (shown_in K.shown self.old.keeper)) (is_some (shown_in K.shown self.new.keeper)) (frame ∷ []) self.old.entries.items self.new.entries.items result.entered result.lost }
         ensures passes { PassNothing self.old.seat.logs self.new.seat.logs }
         ensures room { (vec_capacity self.old.entries ≤ vec_capacity self.new.entries) × (vec_len self.new.entries ≤ vec_len self.old.entries + 1) }
-        ensures count { result ≤ 1 }
+        ensures count { result.entered + result.lost ≤ 1 }
     {
         let input = SiteInput::Deliver(frame);
         let asked = Asked::of(&input, None);
@@ -98,7 +113,7 @@ impl<K: SiteKeeper> Site<K> {
     }
 
     /// Takes at most one frame from the site of this number, if it is another, applies it and enters it.
-    fn receive_from(&mut self, wire: &Wire, number: u64) -> u64
+    fn receive_from(&mut self, wire: &Wire, number: u64) -> Received
         requires seat { IsSeatOf wire.now self.old.seat }
         requires site { IsSite K.shown K.may self.old }
         requires few { marks_in self.old.seat.logs < 2 ^ 62 }
@@ -106,16 +121,22 @@ impl<K: SiteKeeper> Site<K> {
         requires room { vec_len self.old.entries < vec_capacity self.old.entries }
         ensures site { IsSite K.shown K.may self.new }
         ensures same { Continues K.stored 1 wire.now self.old self.new }
-        ensures frames { TakesOfEach K.shown number (number + 1) self.old self.new result }
+        ensures frames { TakesOfEach K.shown number (number + 1) self.old self.new result.entered result.lost }
         ensures sent { sent_by self.new.seat.logs ≡ sent_by self.old.seat.logs }
         ensures room { (vec_capacity self.old.entries ≤ vec_capacity self.new.entries) × (vec_len self.new.entries ≤ vec_len self.old.entries + 1) }
-        ensures count { result ≤ 1 }
+        ensures count { result.entered + result.lost ≤ 1 }
     {
         match SiteNo::of(number) {
-            None => 0,
+            None => Received {
+                entered: 0,
+                lost: 0,
+            },
             Some(other) => {
                 if other == self.me {
-                    0
+                    Received {
+                        entered: 0,
+                        lost: 0,
+                    }
                 } else {
                     self.receive(wire, other)
                 }
@@ -147,23 +168,26 @@ impl<K: SiteKeeper> Site<K> {
         }
     }
 
-    /// Takes and applies at most one frame from each other site. How many were entered.
-    pub fn receive_all(&mut self, wire: &Wire) -> u64
+    /// Takes and applies at most one frame from each other site. What became of them.
+    pub fn receive_all(&mut self, wire: &Wire) -> Received
         requires seat { IsSeatOf wire.now self.old.seat }
         requires site { IsSite K.shown K.may self.old }
         requires few { marks_in self.old.seat.logs < 2 ^ 61 + 18 }
         requires room { vec_len self.old.entries + wire.now.sites ≤ vec_capacity self.old.entries }
         ensures site { IsSite K.shown K.may self.new }
         ensures same { Continues K.stored 16 wire.now self.old self.new }
-        ensures frames { TakesOfEach K.shown 0 wire.now.sites self.old self.new result }
+        ensures frames { TakesOfEach K.shown 0 wire.now.sites self.old self.new result.entered result.lost }
         ensures sent { sent_by self.new.seat.logs ≡ sent_by self.old.seat.logs }
     {
         self.owed = nothing_owed();
         let mut entered = 0;
+        let mut lost = 0;
         for number in 0..wire.sites() {
-            entered += self.receive_from(wire, number as u64);
+            let one = self.receive_from(wire, number as u64);
+            entered += one.entered;
+            lost += one.lost;
         }
-        entered
+        Received { entered, lost }
     }
 
     /// Posts at most one frame to each other site. How many were posted.
@@ -209,15 +233,22 @@ fn offered(
     }
 }
 
-/// How many steps were entered.
-fn count_entered(taken: Result<Reply, Asked>) -> u64
-    ensures { result ≡ cond (is_ok taken) 1 0 }
+/// What became of a frame that was taken: its step was entered, or found no memory.
+fn count_entered(taken: Result<Reply, Asked>) -> Received
+    ensures entered { result.entered ≡ cond (is_ok taken) 1 0 }
+    ensures lost { result.lost ≡ cond (is_ok taken) 0 1 }
 {
     match taken {
-        Ok(_) => 1,
+        Ok(_) => Received {
+            entered: 1,
+            lost: 0,
+        },
         Err(asked) => {
             drop(asked);
-            0
+            Received {
+                entered: 0,
+                lost: 1,
+            }
         }
     }
 }

@@ -52,8 +52,10 @@ pub struct TurnFault {
 pub struct TurnReport {
     /// The receipt of the job that was given.
     pub receipt: Option<Receipt>,
-    /// How many frames were entered.
+    /// How many of the frames that were taken were entered.
     pub applied: u64,
+    /// How many of them were lost, since memory ran out in their step.
+    pub lost: u64,
     /// How many frames were posted.
     pub posted: u64,
 }
@@ -193,11 +195,12 @@ impl<K: SiteKeeper, G: Gate> SiteTurn<K, G> {
                 job: Some(job),
             }),
             Ok(receipt) => {
-                let applied = self.site.receive_all(wire);
+                let received = self.site.receive_all(wire);
                 let posted = self.site.send_all(wire, self.alloc);
                 Ok(TurnReport {
                     receipt,
-                    applied,
+                    applied: received.entered,
+                    lost: received.lost,
                     posted,
                 })
             }

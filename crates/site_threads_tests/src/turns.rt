@@ -13,7 +13,7 @@ use crate::turns::fixtures::{capture, fresh, start};
 use keeper_core::{MemoryKeeper, SiteKeeper};
 use site_core::SiteState;
 use site_recovery::{are_all_sites, check_world};
-use site_threads::{Desk, DeskFault, DeskOut, FreeGate, Gate, Job, Reply, SiteTurn, TurnReport};
+use site_threads::{Desk, DeskFault, DeskOut, FreeGate, Gate, Job, SiteTurn, TurnReport};
 use std::alloc::Global;
 use std::hash::RandomState;
 use std::sync::Wait;
@@ -33,28 +33,42 @@ fn between(alloc: Global, first: &SiteState, second: &SiteState) -> Result<(Wire
     Ok(Wire::new(alloc, &states)?)
 }
 
-/// A turn: what was answered to its job, and how many frames came and went.
+/// A turn: how many frames came, were lost, and went.
+#[derive(Clone, Copy)]
+struct Turned {
+    applied: u64,
+    lost: u64,
+    posted: u64,
+}
+
+/// Makes a turn.
 fn turn_once<K: SiteKeeper, G: Gate>(
     wire: &Wire,
     site: &mut SiteTurn<K, G>,
     job: Option<Job>,
-) -> (Option<Reply>, u64, u64)
+) -> Turned
     requires ready { MayTurn K.shown K.may wire.now site.old }
     requires few { marks_in site.old.site.seat.logs ≤ 100 }
     ensures ready { MayTurn K.shown K.may wire.now site.new }
     ensures few { marks_in site.new.site.seat.logs ≤ marks_in site.old.site.seat.logs + 18 }
 {
     match site.turn(wire, job) {
-        Err(_) => (None, 0, 0),
+        Err(_) => Turned {
+            applied: 0,
+            lost: 0,
+            posted: 0,
+        },
         Ok(report) => {
             let TurnReport {
-                receipt,
                 applied,
+                lost,
                 posted,
+                ..
             } = report;
-            match receipt {
-                None => (None, applied, posted),
-                Some(receipt) => (Some(receipt.reply.same()), applied, posted),
+            Turned {
+                applied,
+                lost,
+                posted,
             }
         }
     }
@@ -98,8 +112,10 @@ fn exchange(
     let taken = turn_once(wire, &mut two, None);
     let signalled = turn_once(wire, &mut one, None);
     let (keeper, _, entries) = one.finish();
-    let counts = captured.2 == 0 && started.2 == 1 && taken.1 == 1 && taken.2 == 1;
-    counts && signalled.1 == 1 && entries.len() == 3 && has_ended(&keeper)
+    let counts = captured.posted == 0 && started.posted == 1 && taken.posted == 1;
+    let came = taken.applied == 1 && signalled.applied == 1;
+    let lost = taken.lost > 0 || signalled.lost > 0;
+    counts && came && !lost && entries.len() == 3 && has_ended(&keeper)
 }
 
 /// Makes the turns over a wire of their own.

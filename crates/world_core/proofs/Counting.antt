@@ -1,6 +1,6 @@
 -- After every run from sites at which nothing happened yet messages are as many as the shipments that they announce.
-use Rattle.std.proofs.Common.{◌≡◌, inl, inr, ℕ, ◌<◌, true, false, Option, Some, None, List, [], ◌∷◌, length, map, refl, sym, ap, ◌∙◌, subst, Contains, slice_get, slice_set, cond}
-use Rattle.std.proofs.lemmas.List.{map-set, set-get_or}
+use Rattle.std.proofs.Common.{◌≡◌, inl, inr, ℕ, ◌<◌, true, false, Some, List, [], ◌∷◌, length, refl, sym, ap, ◌∙◌, subst, Contains, slice_set, cond}
+use Rattle.std.proofs.lemmas.List.{set-get_or}
 use Rattle.trace_core.proofs.Members.{contains_cases, contains_here, contains_none, contains_there}
 use Rattle.frame_core.specs.Identifiers.{same_recall}
 use Rattle.frame_core.specs.Numbers.{Recall, Message}
@@ -16,10 +16,11 @@ use Rattle.world_core.specs.declared.events.Answer.{Answer}
 use Rattle.world_core.specs.declared.events.WorldEvent.{WorldEvent}
 use Rattle.world_core.specs.Counting.{AreAsMany, IsMessageOf, LeavesQuarantine, MessagesAreCounted, Shipment}
 use Rattle.world_core.specs.Faults.{AreFresh, AreOneWorld}
-use Rattle.world_core.specs.Turns.{Runs, TurnsFrom, site_of}
-use Rattle.world_core.specs.Worlds.{Standing, WorldFits, WorldState, record_of, records}
+use Rattle.world_core.specs.Turns.{Runs}
+use Rattle.world_core.specs.Worlds.{WorldFits, WorldState, records}
 use Rattle.world_core.proofs.Counted.{HasLog, step_keeps_a_log}
-use Rattle.world_core.proofs.Fitting.{Way, goes_on, record_at, stays, tells, turn_way, turns_keep_the_fit}
+use Rattle.world_core.proofs.EachRun.{run_keeps_it}
+use Rattle.world_core.proofs.Fitting.{Way, goes_on, stays, tells}
 use Rattle.world_core.proofs.FreshSites.{fresh_at, fresh_sites_fit}
 use Rattle.world_core.proofs.Telling.{IsLog}
 
@@ -34,21 +35,8 @@ way_keeps_a_log rs sent site new now places fits below (stays same same_sent) h 
 way_keeps_a_log rs sent site new now places fits below (goes_on input was after same_sent) h = step_keeps_a_log rs sent site input after.0 new fits below (places site below).engagement was after.1 h
 way_keeps_a_log rs sent site new now places fits below (tells frame among same more) h = same_log rs site new same h
 
-turn_keeps_a_log_from : (found : Option Standing) (old new : WorldState) (event : WorldEvent) (answer : Answer) → slice_get old.sites (site_of event) ≡ found → WorldFits old → TurnsFrom found old event answer new
-    → HasLog (world_of (records old)) → HasLog (world_of (records new))
-turn_keeps_a_log_from None old new event answer e fits turns h = subst (λ w. HasLog (world_of (records w))) (sym turns.1) h
-turn_keeps_a_log_from (Some standing) old new event answer e fits (changed, turns, is) h =
-    let site = site_of event in
-    let there = record_at old.sites site standing e in
-    let way = subst (λ r. Way r old.sent (record_of changed) new.sent) (sym there.1) (turn_way standing old.sent event answer changed new.sent turns) in
-    subst (λ rs. HasLog (world_of rs)) (sym (ap (map record_of) is ∙ map-set record_of old.sites site changed)) (way_keeps_a_log (records old) old.sent site (record_of changed) new.sent fits.places fits.fits there.0 way h)
-
 run_keeps_a_log : (old new : WorldState) (events : List WorldEvent) (answers : List Answer) → WorldFits old → Runs old events answers new → HasLog (world_of (records old)) → HasLog (world_of (records new))
-run_keeps_a_log old new [] [] fits run h = subst (λ w. HasLog (world_of (records w))) (sym run) h
-run_keeps_a_log old new (event ∷ events) (answer ∷ answers) fits (mid, turns, rest) h =
-    run_keeps_a_log mid new events answers (turns_keep_the_fit old mid event answer fits turns) rest (turn_keeps_a_log_from (slice_get old.sites (site_of event)) old mid event answer refl fits turns h)
-run_keeps_a_log old new [] (answer ∷ answers) fits run h = absurd run
-run_keeps_a_log old new (event ∷ events) [] fits run h = absurd run
+run_keeps_a_log = run_keeps_it (λ rs sent. HasLog (world_of rs)) way_keeps_a_log
 
 nothing_told : (rs : List Record) → AreOneWorld rs → AreFresh rs → HasLog (world_of rs)
 nothing_told rs one new =

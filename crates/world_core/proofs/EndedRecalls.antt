@@ -11,17 +11,20 @@ use Rattle.site_recovery.proofs.Worlds.{ends_are_exact}
 use Rattle.trace_core.specs.Chains.{Related}
 use Rattle.trace_core.specs.Relations.{Reaches}
 use Rattle.trace_core.proofs.PairOrder.{one_ascending}
+use Rattle.world_core.specs.Faults.{AreOneWorld}
 use Rattle.world_core.specs.Laws.{ComesOut, EndsAreExact, EndedStays, QuarantinesAscend, RunsComeOut, RunsFromTheStartComeOut}
 use Rattle.world_core.specs.Recalls.{HasEnded, quarantined}
-use Rattle.world_core.specs.Turns.{Runs}
+use Rattle.world_core.specs.Turns.{AtEachMoment, Runs}
 use Rattle.world_core.specs.Keepers.{ComesFrom}
 use Rattle.world_core.specs.declared.events.Answer.{Answer}
 use Rattle.world_core.specs.declared.events.WorldEvent.{WorldEvent}
 use Rattle.world_core.specs.Worlds.{WorldFits, WorldState, record_of, records}
+use Rattle.world_core.proofs.Emitted.{at_first, at_last, frames_were_emittable}
 use Rattle.world_core.proofs.Fitting.{run_keeps, runs_keep_the_fit}
 use Rattle.world_core.proofs.FreshSites.{fresh_sites_fit}
 use Rattle.site_recovery.proofs.HeldPairs.{pairs_ascend, pairs_held}
 use Rattle.world_core.proofs.KeptSteps.{sites_stand}
+use Rattle.world_core.proofs.Pins.{runs_make_a_world_again}
 
 begun_at : (recall : Recall) (root : List ℕ) (rs : List Record) (h : HasEnded recall root rs) → own (world_of rs) recall.site recall.number ≡ Some h.own
 begun_at recall root rs h = ap (λ (r : Record). get r.engagement.own recall.number) (get_or_from_slice_get rs recall.site h.initiator (fresh [] recall.site) h.there) ∙ h.begun
@@ -64,19 +67,24 @@ ended_stays old new events answers recall root fits run h =
 -- All of it together.
 
 pub runs_come_out : RunsComeOut
-runs_come_out old new events answers fits run =
-    let now = runs_keep_the_fit old new events answers fits run in
+runs_come_out old new events answers fits one run =
+    let fit_at : AtEachMoment old events answers new WorldFits = λ mid m. runs_keep_the_fit old mid m.before m.told fits m.runs_to in
     record {
+      run = run;
+      moments = (at_first old new events answers run, at_last old new events answers run);
       stand = sites_stand old new events answers run;
-      exact = λ recall. ended_is_exact new recall now;
-      ascend = λ recall. quarantines_ascend new recall now;
-      stay = λ recall root. ended_stays old new events answers recall root fits run;
+      emittable = frames_were_emittable old new events answers run;
+      exact = λ mid m recall. ended_is_exact mid recall (fit_at mid m);
+      ascend = λ mid m recall. quarantines_ascend mid recall (fit_at mid m);
+      stay = λ mid m recall root. ended_stays mid new m.after m.later recall root (fit_at mid m) m.runs_on;
+      again = λ mid m. runs_make_a_world_again old mid m.before m.told fits one m.runs_to;
     }
 
 pub runs_from_the_start_come_out : RunsFromTheStartComeOut
-runs_from_the_start_come_out old new events answers one fresh none run = runs_come_out old new events answers (fresh_sites_fit old one fresh none) run
+runs_from_the_start_come_out old new events answers one fresh none run = runs_come_out old new events answers (fresh_sites_fit old one fresh none) one run
 
 -- whatever world comes by a run from one of those that fit comes out so
 pub comes_out : (was now : WorldState → Type 0) (events : List WorldEvent) (answers : List Answer)
-    → ((old : WorldState) → was old → WorldFits old) → ComesFrom was now (λ old new. Runs old events answers new) → ComesFrom was now (λ old new. ComesOut old events answers new)
-comes_out was now events answers fit runs new may = let r = runs new may in (r.0, r.1, runs_come_out r.0 new events answers (fit r.0 r.1) r.2)
+    → ((old : WorldState) → was old → WorldFits old) → ((old : WorldState) → was old → AreOneWorld (records old))
+    → ComesFrom was now (λ old new. Runs old events answers new) → ComesFrom was now (λ old new. ComesOut old events answers new)
+comes_out was now events answers fit one runs new may = let r = runs new may in (r.0, r.1, runs_come_out r.0 new events answers (fit r.0 r.1) (one r.0 r.1) r.2)

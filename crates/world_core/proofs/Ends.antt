@@ -1,5 +1,5 @@
 -- When a recall has ended, by what steps answer.
-use Rattle.std.proofs.Common.{◌≡◌, ◌⊎◌, inl, inr, ⊎_elim, ℕ, ◌==◌, Bool, true, false, IsTrue, Option, Some, None, List, [], length, refl, sym, ap, subst, ◌∙◌}
+use Rattle.std.proofs.Common.{◌≡◌, ◌⊎◌, inl, inr, ⊎_elim, ℕ, ◌==◌, Bool, true, false, Option, Some, None, List, length, refl, sym, ap, subst, ◌∙◌}
 use Rattle.std.specs.Cmp.{nat_cmp_total}
 use Rattle.std.specs.FinMap.{nat_cmp-IsAntisymmetric, get}
 use Rattle.std.specs.Option.{option_map}
@@ -7,10 +7,10 @@ use Rattle.std.proofs.lemmas.Option.{same_Some}
 use Rattle.frame_core.specs.Numbers.{Recall, Message}
 use Rattle.frame_core.specs.declared.frames.Frame.TheVariants as frames
 use Rattle.frame_core.proofs.Lookups.{get_here}
-use Rattle.scholten_core.specs.Changes.{begun, next_own}
+use Rattle.scholten_core.specs.Changes.{begun}
 use Rattle.scholten_core.specs.Effects as engagement
 use Rattle.scholten_core.specs.Engagement.{Engagement}
-use Rattle.scholten_core.specs.Replies.{TellsCleared, TellsTaken}
+use Rattle.scholten_core.specs.Replies.{TellsCleared}
 use Rattle.scholten_core.specs.declared.own_recalls.Own.{Own}
 use Rattle.scholten_core.specs.declared.outcomes.Received.{Received}
 use Rattle.scholten_core.specs.declared.outcomes.Signalled.{Signalled}
@@ -19,10 +19,8 @@ use Rattle.scholten_core.proofs.Beginning.{begun_begins}
 use Rattle.scholten_core.proofs.Clearing.{standing_is_cleared}
 use Rattle.scholten_core.proofs.Taking.{unseen_is_taken}
 use Rattle.site_core.specs.Records.{Record}
-use Rattle.site_core.specs.Steps.{Clears, Does, Starts, Takes}
-use Rattle.site_core.specs.declared.inputs.SiteInput.{SiteInput}
+use Rattle.site_core.specs.Steps.{Clears, Starts, Takes}
 use Rattle.site_core.specs.declared.inputs.SiteInput.TheVariants.{Capture, Start, Deliver}
-use Rattle.site_core.specs.declared.outcomes.Effects.{Effects}
 use Rattle.site_core.specs.declared.outcomes.Effects.TheVariants as effects
 use Rattle.world_core.specs.PinLaws.{AnsweredEndsStand, StartsTellTheEnd, NothingElseEnds, TellsEnd}
 use Rattle.world_core.specs.Recalls.{ended_in}

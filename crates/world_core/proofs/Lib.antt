@@ -15,3 +15,14 @@ pub mod Showing
 pub mod Telling
 pub mod Counted
 pub mod Counting
+pub mod Awaiting
+pub mod Pending
+pub mod NextFrames
+pub mod Passing
+pub mod FreeNumbers
+pub mod Taken
+pub mod EachRun
+pub mod Going
+pub mod CanEnd
+pub mod Addressed
+pub mod Opened

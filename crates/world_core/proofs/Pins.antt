@@ -1,13 +1,10 @@
 -- What pins the words that a run's contract speaks in, and that what a run leaves is a world again.
-use Rattle.std.proofs.Common.{◌≡◌, ◌↔◌, ℕ, ◌<◌, ◌⊎◌, ⊎_elim, true, Option, Some, None, List, [], ◌∷◌, length, refl, sym, ◌∙◌, ap, subst, slice_get, Contains}
+use Rattle.std.proofs.Common.{◌≡◌, ◌<◌, ⊎_elim, true, Some, List, [], ◌∷◌, length, refl, sym, ◌∙◌, ap, subst, slice_get}
 use Rattle.std.specs.FinMap.{get}
 use Rattle.std.specs.Option.{option_map}
 use Rattle.std.proofs.lemmas.List.{length-map}
 use Rattle.std.proofs.lemmas.Option.{same_Some, slice_get-get_or, slice_get_within, get_or_from_slice_get}
-use Rattle.frame_core.specs.Numbers.{Recall}
-use Rattle.frame_core.specs.declared.frames.Frame.{Frame}
 use Rattle.frame_core.specs.declared.frames.Frame.TheVariants as frames
-use Rattle.scholten_core.specs.declared.own_recalls.Own.{Own}
 use Rattle.site_core.specs.Records.{Record, fresh}
 use Rattle.site_core.specs.Steps.{Does}
 use Rattle.site_core.specs.declared.inputs.SiteInput.{SiteInput}
@@ -20,8 +17,8 @@ use Rattle.trace_core.proofs.Members.{contains_none}
 use Rattle.world_core.specs.Faults.{AreOneWorld, MakeAWorld}
 use Rattle.world_core.specs.KeptSteps.{Handed, Answered, Broken, StandsAfter, handed_to}
 use Rattle.world_core.specs.PinLaws.{EndsAreTold, RunsMakeAWorldAgain}
-use Rattle.world_core.specs.Recalls.{HasEnded, ended_in}
-use Rattle.world_core.specs.Turns.{Turns, Runs}
+use Rattle.world_core.specs.Recalls.{ended_in}
+use Rattle.world_core.specs.Turns.{Turns}
 use Rattle.world_core.specs.Worlds.{WorldState, WorldFits, records, record_of}
 use Rattle.world_core.specs.declared.events.Answer.{Answer}
 use Rattle.world_core.specs.declared.events.WorldEvent.{WorldEvent}

@@ -10,6 +10,10 @@ pub record Sites (K : Type 0) : Type 0 where
   pub keepers : List K
   pub sent : List Frame
 
+-- these keepers, and these frames
+abbrev pub sites_of : {K : Type 0} → List K → List Frame → Sites K
+sites_of keepers sent = record { keepers = keepers; sent = sent }
+
 -- a keeper shows the record of a site that is up. One that shows none may be opened in that of a site that is down
 abbrev pub StandsAs : Option Record → (Record → Type 0) → Standing → Type 0
 StandsAs shown may (Up r) = shown ≡ Some r
@@ -22,6 +26,14 @@ MayBe shown may sites world = AllZip (λ k standing. StandsAs (shown k) (may k) 
 -- each that it may be now comes, by the change, from one that it might be before
 abbrev pub ComesFrom : {W : Type 0} → (W → Type 0) → (W → Type 0) → (W → W → Type 0) → Type 0
 ComesFrom {W} was now change = (new : W) → now new → (old : W) × was old × change old new
+
+-- the sites became so: each world that they may be now comes, by the change, from one that they might be before
+abbrev pub Become : {K : Type 0} → (K → Option Record) → (K → Record → Type 0) → Sites K → Sites K → (WorldState → WorldState → Type 0) → Type 0
+Become shown may old new change = ComesFrom (MayBe shown may old) (MayBe shown may new) change
+
+-- so did one keeper, by how its site stands
+abbrev pub KeeperBecomes : {K : Type 0} → (K → Option Record) → (K → Record → Type 0) → K → K → (Standing → Standing → Type 0) → Type 0
+KeeperBecomes shown may old new change = ComesFrom (StandsAs (shown old) (may old)) (StandsAs (shown new) (may new)) change
 
 -- whatever world the sites may be, it is consistent
 abbrev pub SitesFit : {K : Type 0} → (K → Option Record) → (K → Record → Type 0) → Sites K → Type 0

@@ -1,14 +1,15 @@
 -- What every run of a world keeps.
-use Rattle.std.specs.Prelude.{◌≡◌, ℕ, ◌++◌, List, []}
+use Rattle.std.specs.Prelude.{◌≡◌, ◌⊎◌, ℕ, ◌++◌, List, [], Contains}
 use Rattle.frame_core.specs.declared.frames.Frame.{Frame}
 use Rattle.world_core.specs.declared.events.WorldEvent.{WorldEvent}
 use Rattle.world_core.specs.declared.events.Answer.{Answer}
 use Rattle.frame_core.specs.Numbers.{Recall}
 use Rattle.trace_core.specs.Pairs.{IsStrictlyAscending}
-use Rattle.world_core.specs.Faults.{AreFresh, AreOneWorld}
+use Rattle.world_core.specs.Faults.{AreFresh, AreOneWorld, MakeAWorld}
 use Rattle.world_core.specs.Recalls.{AreExactOnceEnded, HasEnded, StaysEnded, quarantined}
 use Rattle.world_core.specs.Worlds.{WorldState, WorldFits, records}
-use Rattle.world_core.specs.Turns.{Turns, Runs}
+use Rattle.world_core.specs.SendingLaws.{WasEmittable}
+use Rattle.world_core.specs.Turns.{AtEachMoment, GoesBy, Runs, Turns}
 use Rattle.world_core.specs.KeptSteps.{SitesStand}
 
 -- What was sent stays sent, in its place.
@@ -46,20 +47,31 @@ EndedStays =
 
 -- What a run makes of sites that are consistent.
 pub record ComesOut (old : WorldState) (events : List WorldEvent) (answers : List Answer) (new : WorldState) : Type 0 where
+  -- it is one event after another, each with its answer
+  pub run : Runs old events answers new
+  -- the worlds before it and after it are moments of it
+  pub moments : GoesBy old events answers new old × GoesBy old events answers new new
   -- each site stands as its answered steps in order, with each step that it went down in whole or absent
   pub stand : SitesStand old events answers new
-  -- whenever the site that began a recall has recorded its end, what is quarantined under it, at all sites, is what its root
-  -- reaches
-  pub exact : (recall : Recall) → AreExactOnceEnded recall (records new) (quarantined recall (records new))
+  -- each frame that it sent was emittable, at a moment of it, by the record that an open site had kept
+  pub emittable : (frame : Frame) → Contains new.sent frame → Contains old.sent frame ⊎ WasEmittable old events answers new frame
+  -- whenever the site that began a recall has recorded its end, what is quarantined under it, at all sites, is what its
+  -- root reaches
+  pub exact : AtEachMoment old events answers new (λ mid. (recall : Recall) → AreExactOnceEnded recall (records mid) (quarantined recall (records mid)))
   -- in which each pair is listed once
-  pub ascend : (recall : Recall) → IsStrictlyAscending (quarantined recall (records new))
+  pub ascend : AtEachMoment old events answers new (λ mid. (recall : Recall) → IsStrictlyAscending (quarantined recall (records mid)))
   -- and a recall that has ended stays so, with the same pairs
-  pub stay : (recall : Recall) (root : List ℕ) → HasEnded recall root (records old) → StaysEnded recall root (records old) (records new)
+  pub stay : AtEachMoment old events answers new (λ mid. (recall : Recall) (root : List ℕ) → HasEnded recall root (records mid) → StaysEnded recall root (records mid) (records new))
+  -- the sites make a world again once they are started again, in whichever records they may be opened, when no frame is
+  -- in flight
+  pub again : AtEachMoment old events answers new (λ mid. MakeAWorld (records mid))
 
 -- So it does whatever happens, in whatever order, and whatever its answer: steps that are refused, lost, repeated or
 -- late frames, sites that stop within a step and are opened again.
 abbrev pub RunsComeOut : Type 0
-RunsComeOut = (old new : WorldState) (events : List WorldEvent) (answers : List Answer) → WorldFits old → Runs old events answers new → ComesOut old events answers new
+RunsComeOut =
+    (old new : WorldState) (events : List WorldEvent) (answers : List Answer)
+    → WorldFits old → AreOneWorld (records old) → Runs old events answers new → ComesOut old events answers new
 
 -- So it does from the start.
 abbrev pub RunsFromTheStartComeOut : Type 0

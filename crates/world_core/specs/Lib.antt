@@ -1,5 +1,6 @@
 pub mod Answers
 pub mod Counting
+pub mod EndingLaws
 pub mod Faults
 pub mod FormingLaws
 pub mod Keepers

@@ -1,12 +1,12 @@
 -- What was sent was made emittable by a record that a site kept.
-use Rattle.std.specs.Prelude.{◌≡◌, ◌⊎◌, ℕ, ◌++◌, List, Contains, Some, slice_get}
+use Rattle.std.specs.Prelude.{◌≡◌, ◌⊎◌, ℕ, List, Contains, Some, slice_get}
 use Rattle.frame_core.specs.declared.frames.Frame.{Frame}
 use Rattle.site_core.specs.Emitting as emitting
 use Rattle.site_core.specs.Records.{Record}
 use Rattle.world_core.specs.declared.events.WorldEvent.{WorldEvent}
 use Rattle.world_core.specs.declared.events.Answer.{Answer}
 use Rattle.world_core.specs.Worlds.{Up, WorldState}
-use Rattle.world_core.specs.Turns.{Runs}
+use Rattle.world_core.specs.Turns.{GoesBy, Runs}
 
 -- A frame that a run sent was emittable by the record of a site that was up, at a moment of the run.
 
@@ -19,15 +19,8 @@ pub record IsEmittable (world : WorldState) (frame : Frame) : Type 0 where
 
 -- the run goes by a world that makes the frame emittable
 pub record WasEmittable (old : WorldState) (events : List WorldEvent) (answers : List Answer) (new : WorldState) (frame : Frame) : Type 0 where
-  pub before : List WorldEvent
-  pub told : List Answer
   pub mid : WorldState
-  pub after : List WorldEvent
-  pub later : List Answer
-  pub all_events : events ≡ before ++ after
-  pub all_answers : answers ≡ told ++ later
-  pub runs_to : Runs old before told mid
-  pub runs_on : Runs mid after later new
+  pub moment : GoesBy old events answers new mid
   pub emittable : IsEmittable mid frame
 
 abbrev pub FramesWereEmittable : Type 0

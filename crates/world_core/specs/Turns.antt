@@ -114,3 +114,18 @@ abbrev pub Runs : WorldState → List WorldEvent → List Answer → WorldState 
 Runs old [] [] new = new ≡ old
 Runs old (event ∷ events) (answer ∷ answers) new = (mid : WorldState) × Turns old event answer mid × Runs mid events answers new
 Runs old events answers new = ⊥
+
+-- a world that a run goes by: before its first event, between two, or after its last one
+pub record GoesBy (old : WorldState) (events : List WorldEvent) (answers : List Answer) (new mid : WorldState) : Type 0 where
+  pub before : List WorldEvent
+  pub told : List Answer
+  pub after : List WorldEvent
+  pub later : List Answer
+  pub all_events : events ≡ before ++ after
+  pub all_answers : answers ≡ told ++ later
+  pub runs_to : Runs old before told mid
+  pub runs_on : Runs mid after later new
+
+-- it holds of each world that a run goes by
+abbrev pub AtEachMoment : WorldState → List WorldEvent → List Answer → WorldState → (WorldState → Type 0) → Type 0
+AtEachMoment old events answers new P = (mid : WorldState) → GoesBy old events answers new mid → P mid

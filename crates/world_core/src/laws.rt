@@ -1,6 +1,7 @@
 //! Laws of runs. Each is a function with an empty body whose contract is the law.
 
 ghost use Rattle.world_core.specs.Counting.{MessagesAreCounted};
+ghost use Rattle.world_core.specs.EndingLaws.{EveryRecallCanEnd, FramesFindTheirSite, FreshSitesAreGoing, RunsKeepGoing};
 ghost use Rattle.world_core.specs.FormingLaws.{FreshSitesMakeAWorld, OnlyMemoryHindersAWorld};
 ghost use Rattle.world_core.specs.Laws.{EndedStays, EndsAreExact, FramesStay, FreshSitesFit, QuarantinesAscend, RunsComeOut, RunsFromTheStartComeOut, RunsKeepTheFit, SitesStandAsKept, TurnsKeepTheFit};
 ghost use Rattle.world_core.specs.PinLaws.{AnsweredEndsStand, EndsAreTold, NothingElseEnds, RunsMakeAWorldAgain, StartsTellTheEnd};
@@ -70,4 +71,17 @@ pub fn an_end_is_told()
 /// The records that a run leaves, of sites up or down, make a world again once no frame is in flight.
 pub fn runs_make_a_world_again()
     ensures { RunsMakeAWorldAgain }
+{}
+
+/// Sites at which nothing happened yet are going, every run keeps them so, and of sites that are going no recall that
+/// was begun is stuck: as long as numbers are left, sends and deliveries end it, once closed sites are opened.
+pub fn a_recall_can_end()
+    ensures fresh { FreshSitesAreGoing }
+    ensures run { RunsKeepGoing }
+    ensures ends { EveryRecallCanEnd }
+{}
+
+/// After every run from sites at which nothing happened yet, no frame that was sent is refused as not for its site.
+pub fn a_frame_finds_its_site()
+    ensures { FramesFindTheirSite }
 {}

@@ -1,11 +1,13 @@
 //! One event at the keeper of its site.
 
-ghost use Rattle.std.specs.Prelude.{◌≡◌, ◌<◌, ℕ, Option, Some, None, IfOk, IsSome, OnErr, option_map, slice_get, vec_len};
+ghost use Rattle.std.specs.Prelude.{◌≡◌, ◌<◌, ℕ, Option, Some, None, IfOk, IsSome, OnErr};
+ghost use Rattle.std.specs.Prelude.{option_map, slice_get, vec_len};
 ghost use Rattle.frame_core.specs.declared.frames.Frame.{Frame};
 ghost use Rattle.site_core.specs.Emitting.{frame_at as emitted};
 ghost use Rattle.site_core.specs.Naming.{frame_named};
-ghost use Rattle.world_core.specs.Turns.{Turns, TurnsAt, Sends, ReopensTo, addressee, frame_at, input_at};
-ghost use Rattle.world_core.specs.Keepers.{StandsAs, ComesFrom, MayBe, ChangesAt};
+ghost use Rattle.world_core.specs.Turns.{ReopensTo, Sends, Turns, TurnsAt};
+ghost use Rattle.world_core.specs.Turns.{addressee, frame_at, input_at};
+ghost use Rattle.world_core.specs.Keepers.{Become, ChangesAt, KeeperBecomes, sites_of};
 ghost use Rattle.world_core.specs.Posting.{IsPlaceAt, IsPlaceOf};
 ghost use Rattle.world_core.specs.Kinds.{KeeperReopens, KeeperTurns, KeepersTurn};
 ghost use Rattle.world_core.specs.Answers.{answer_of, hindrance};
@@ -26,10 +28,11 @@ pub fn step_at<K: SiteKeeper>(
     site: SiteNo,
     input: WorldInput,
 ) -> Answer
-    ensures world { ComesFrom (StandsAs (K.shown keeper.old) (K.may keeper.old)) (StandsAs (K.shown keeper.new) (K.may keeper.new))
+    ensures world { KeeperBecomes K.shown K.may keeper.old keeper.new
         (λ old new. TurnsAt old sent.now (WorldEvent.Step site input) result new sent.now) }
     ensures stored { K.stored keeper.old → K.stored keeper.new }
-    ensures kind { KeeperTurns K.applies K.stops K.reopens (K.shown keeper.old) keeper.old sent.now (WorldEvent.Step site input) result keeper.new sent.now }
+    ensures kind { KeeperTurns K.applies K.stops K.reopens (K.shown keeper.old) keeper.old sent.now
+        (WorldEvent.Step site input) result keeper.new sent.now }
 {
     if keeper.view().is_none() {
         return Answer::Fault(KeepFault::Closed);
@@ -106,10 +109,11 @@ pub fn stop_at<K: SiteKeeper>(
     input: WorldInput,
     keep: Keep,
 ) -> Answer
-    ensures world { ComesFrom (StandsAs (K.shown keeper.old) (K.may keeper.old)) (StandsAs (K.shown keeper.new) (K.may keeper.new))
+    ensures world { KeeperBecomes K.shown K.may keeper.old keeper.new
         (λ old new. TurnsAt old sent.now (WorldEvent.Stop site input keep) result new sent.now) }
     ensures stored { K.stored keeper.old → K.stored keeper.new }
-    ensures kind { KeeperTurns K.applies K.stops K.reopens (K.shown keeper.old) keeper.old sent.now (WorldEvent.Stop site input keep) result keeper.new sent.now }
+    ensures kind { KeeperTurns K.applies K.stops K.reopens (K.shown keeper.old) keeper.old sent.now
+        (WorldEvent.Stop site input keep) result keeper.new sent.now }
 {
     if keeper.view().is_none() {
         return Answer::Fault(KeepFault::Closed);
@@ -135,9 +139,11 @@ pub fn send_from<K: SiteKeeper>(
     site: SiteNo,
     place: u64,
 ) -> Answer
-    ensures world { ComesFrom (StandsAs (K.shown keeper.now) (K.may keeper.now)) (StandsAs (K.shown keeper.now) (K.may keeper.now))
-        (λ old new. TurnsAt old sent.old.items (WorldEvent.Send site place) result new sent.new.items) }
-    ensures kind { KeeperTurns K.applies K.stops K.reopens (K.shown keeper.now) keeper.now sent.old.items (WorldEvent.Send site place) result keeper.now sent.new.items }
+    ensures world { KeeperBecomes K.shown K.may keeper.now keeper.now
+        (λ old new. TurnsAt old sent.old.items (WorldEvent.Send site place) result new
+        sent.new.items) }
+    ensures kind { KeeperTurns K.applies K.stops K.reopens (K.shown keeper.now) keeper.now
+        sent.old.items (WorldEvent.Send site place) result keeper.now sent.new.items }
 {
     match keeper.view() {
         None => Answer::Fault(KeepFault::Closed),
@@ -154,9 +160,11 @@ pub fn send_named_from<K: SiteKeeper>(
     name: FrameName,
 ) -> Answer
     ensures { (place : ℕ) × IsPlaceOf (K.shown keeper.now) name place
-        × ComesFrom (StandsAs (K.shown keeper.now) (K.may keeper.now)) (StandsAs (K.shown keeper.now) (K.may keeper.now))
-        (λ old new. TurnsAt old sent.old.items (WorldEvent.Send site place) result new sent.new.items)
-        × KeeperTurns K.applies K.stops K.reopens (K.shown keeper.now) keeper.now sent.old.items (WorldEvent.Send site place) result keeper.now sent.new.items }
+        × KeeperBecomes K.shown K.may keeper.now keeper.now
+        (λ old new. TurnsAt old sent.old.items (WorldEvent.Send site place) result new
+        sent.new.items)
+        × KeeperTurns K.applies K.stops K.reopens (K.shown keeper.now) keeper.now sent.old.items
+        (WorldEvent.Send site place) result keeper.now sent.new.items }
 {
     match keeper.view() {
         None => Answer::Fault(KeepFault::Closed),
@@ -192,7 +200,8 @@ fn copy_named(
 
 /// Adds a frame to those sent, where there is one and memory for its copy was found.
 fn send(frame: Result<Option<Frame>, AllocError>, sent: &mut Vec<Frame>) -> Answer
-    ensures { (wanted : Option Frame) → IfOk frame (λ f. f ≡ wanted) → OnErr frame (IsSome wanted) → Sends wanted sent.old.items result sent.new.items }
+    ensures { (wanted : Option Frame) → IfOk frame (λ f. f ≡ wanted) → OnErr frame (IsSome wanted)
+        → Sends wanted sent.old.items result sent.new.items }
 {
     match frame {
         Err(_) => Answer::NoMemory,
@@ -210,10 +219,14 @@ fn send(frame: Result<Option<Frame>, AllocError>, sent: &mut Vec<Frame>) -> Answ
 /// Opens the keeper of a site, where it is closed.
 pub fn reopen_at<K: SiteKeeper>(keepers: &mut Vec<K>, sent: &[Frame], site: SiteNo) -> Answer
     requires { site < vec_len keepers.old }
-    ensures world { ChangesAt keepers.old.items site keepers.new.items (λ was now. ComesFrom (StandsAs (K.shown was) (K.may was)) (StandsAs (K.shown now) (K.may now))
+    ensures world { ChangesAt keepers.old.items site keepers.new.items (λ was now.
+        KeeperBecomes K.shown K.may was now
         (λ old new. TurnsAt old sent.now (WorldEvent.Reopen site) result new sent.now)) }
-    ensures stored { ChangesAt keepers.old.items site keepers.new.items (λ was now. K.stored was → K.stored now) }
-    ensures kind { ChangesAt keepers.old.items site keepers.new.items (λ was now. KeeperTurns K.applies K.stops K.reopens (K.shown was) was sent.now (WorldEvent.Reopen site) result now sent.now) }
+    ensures stored { ChangesAt keepers.old.items site keepers.new.items (λ was now.
+        K.stored was → K.stored now) }
+    ensures kind { ChangesAt keepers.old.items site keepers.new.items (λ was now.
+        KeeperTurns K.applies K.stops K.reopens (K.shown was) was sent.now (WorldEvent.Reopen site)
+        result now sent.now) }
 {
     let place = site.number() as usize;
     if keepers[place].view().is_some() {
@@ -228,7 +241,7 @@ pub fn reopen_at<K: SiteKeeper>(keepers: &mut Vec<K>, sent: &[Frame], site: Site
 /// Opens a closed keeper.
 fn reopened<K: SiteKeeper>(keeper: K) -> (K, Answer)
     requires { K.shown keeper ≡ None }
-    ensures world { ComesFrom (StandsAs (K.shown keeper) (K.may keeper)) (StandsAs (K.shown result.0) (K.may result.0))
+    ensures world { KeeperBecomes K.shown K.may keeper result.0
         (λ old new. ReopensTo old result.1 new) }
     ensures stored { K.stored keeper → K.stored result.0 }
     ensures kind { KeeperReopens K.reopens keeper result.1 result.0 }
@@ -256,10 +269,13 @@ pub fn take_turn<K: SiteKeeper>(
     sent: &mut Vec<Frame>,
     event: WorldEvent,
 ) -> Answer
-    ensures world { ComesFrom (MayBe K.shown K.may (record { keepers = keepers.old.items; sent = sent.old.items })) (MayBe K.shown K.may (record { keepers = keepers.new.items; sent = sent.new.items }))
+    ensures world { Become K.shown K.may (sites_of keepers.old.items sent.old.items)
+        (sites_of keepers.new.items sent.new.items)
         (λ old new. Turns old event result new) }
     ensures stored { AreStored K.stored keepers.old.items → AreStored K.stored keepers.new.items }
-    ensures kind { KeepersTurn K.shown K.applies K.stops K.reopens (record { keepers = keepers.old.items; sent = sent.old.items }) event result (record { keepers = keepers.new.items; sent = sent.new.items }) }
+    ensures kind { KeepersTurn K.shown K.applies K.stops K.reopens
+        (sites_of keepers.old.items sent.old.items) event result
+        (sites_of keepers.new.items sent.new.items) }
 {
     let place = event.site().number() as usize;
     if place >= keepers.len() {
@@ -294,9 +310,12 @@ pub fn post<K: SiteKeeper>(
     name: FrameName,
 ) -> Answer
     ensures { (place : ℕ) × IsPlaceAt K.shown keepers.now.items site name place
-        × ComesFrom (MayBe K.shown K.may (record { keepers = keepers.now.items; sent = sent.old.items })) (MayBe K.shown K.may (record { keepers = keepers.now.items; sent = sent.new.items }))
+        × Become K.shown K.may (sites_of keepers.now.items sent.old.items)
+        (sites_of keepers.now.items sent.new.items)
         (λ old new. Turns old (WorldEvent.Send site place) result new)
-        × KeepersTurn K.shown K.applies K.stops K.reopens (record { keepers = keepers.now.items; sent = sent.old.items }) (WorldEvent.Send site place) result (record { keepers = keepers.now.items; sent = sent.new.items }) }
+        × KeepersTurn K.shown K.applies K.stops K.reopens
+        (sites_of keepers.now.items sent.old.items) (WorldEvent.Send site place) result
+        (sites_of keepers.now.items sent.new.items) }
 {
     match keeper_at(keepers, site) {
         None => Answer::NoSite,

@@ -1,16 +1,18 @@
 //! The world: all sites with their keepers, and the frames sent.
-ghost use Rattle.std.specs.Prelude.{◌≡◌, ℕ, List, [], IfOk, IfErr, OnOk, OnErr, option_map, option_and_then, slice_get};
+ghost use Rattle.std.specs.Prelude.{◌≡◌, ℕ, List, [], IfOk, IfErr, OnOk, OnErr};
+ghost use Rattle.std.specs.Prelude.{option_map, option_and_then, slice_get};
 ghost use Rattle.frame_core.specs.Rows.{frame_of};
 ghost use Rattle.site_core.specs.Records.{Record};
 ghost use Rattle.world_core.specs.Faults.{HindersKeepers, IfClosed, MakeAWorld};
 ghost use Rattle.trace_core.specs.Pairs.{IsStrictlyAscending};
-ghost use Rattle.world_core.specs.Keepers.{AllShow, ComesFrom, IsFirstClosed, MayBe, SitesFit};
+ghost use Rattle.world_core.specs.Keepers.{AllShow, Become, IsFirstClosed, MayBe, SitesFit};
+ghost use Rattle.world_core.specs.Keepers.{sites_of};
 ghost use Rattle.world_core.specs.Kinds.{KeepersTurn};
 ghost use Rattle.world_core.specs.Laws.{ComesOut};
 ghost use Rattle.world_core.specs.Posting.{IsPlaceAt};
 ghost use Rattle.world_core.specs.Recalls.{AreExactOnceEnded, ended_in, quarantined};
 ghost use Rattle.world_core.specs.Restarting.{AreStored, MakeAWorldAgain};
-ghost use Rattle.world_core.specs.Turns.{Turns, Runs, frame_at};
+ghost use Rattle.world_core.specs.Turns.{Turns, frame_at};
 ghost use Rattle.world_core.specs.Worlds.{WorldState};
 
 use crate::events::{Answer, WorldEvent};
@@ -37,16 +39,17 @@ pub struct World<K: SiteKeeper> {
 }
 
 impl<K: SiteKeeper> Model for World<K> {
-    ghost use Rattle.world_core.specs.Keepers.{Sites, SitesFit};
+    ghost use Rattle.world_core.specs.Keepers.{Sites, SitesFit, sites_of};
     ghost use Rattle.world_core.specs.Restarting.{AreOfOneList};
 
     ghost Value = { Sites K };
 
-    ghost view = { λ w. record { keepers = w.keepers.items; sent = w.sent.items } };
+    ghost view = { λ w. sites_of w.keepers.items w.sent.items };
 
     // In whatever records the closed sites are opened, all are consistent, and of one list of sites.
-    ghost invariant = { λ w. SitesFit K.shown K.may (record { keepers = w.keepers.items; sent = w.sent.items })
-        × AreOfOneList K.shown K.may (record { keepers = w.keepers.items; sent = w.sent.items }) };
+    ghost invariant = { λ w.
+        SitesFit K.shown K.may (sites_of w.keepers.items w.sent.items)
+        × AreOfOneList K.shown K.may (sites_of w.keepers.items w.sent.items) };
 }
 
 impl<K: SiteKeeper> World<K> {
@@ -56,8 +59,9 @@ impl<K: SiteKeeper> World<K> {
     /// # Errors
     /// In this order: `Closed`, `OtherSites`, `Misfit`; and `NoMemory`. The keepers are given back as they were.
     pub fn new(alloc: Global, keepers: Vec<K>) -> Result<World<K>, NotAWorld<K>>
-        ensures world { IfOk result (λ world. world ≡ record { keepers = keepers.items; sent = [] }) }
-        ensures shown { OnOk result ((records : List Record) × AllShow K.shown keepers.items records × MakeAWorld records) }
+        ensures world { IfOk result (λ world. world ≡ sites_of keepers.items []) }
+        ensures shown { OnOk result ((records : List Record) × AllShow K.shown keepers.items records
+            × MakeAWorld records) }
         ensures back { IfErr result (λ e. e.keepers.items ≡ keepers.items) }
         ensures err { IfErr result (λ e. HindersKeepers K.shown keepers.items e.fault) }
     {
@@ -73,10 +77,12 @@ impl<K: SiteKeeper> World<K> {
 
     /// One event, and its answer.
     pub fn turn(&mut self, event: WorldEvent) -> Answer
-        ensures world { ComesFrom (MayBe K.shown K.may self.old) (MayBe K.shown K.may self.new) (λ old new. Turns old event result new) }
+        ensures world { Become K.shown K.may self.old self.new
+            (λ old new. Turns old event result new) }
         ensures stored { AreStored K.stored self.old.keepers → AreStored K.stored self.new.keepers }
         // For a caller that knows what this kind of keeper promises.
-        ensures kind { KeepersTurn K.shown K.applies K.stops K.reopens self.old event result self.new }
+        ensures kind { KeepersTurn K.shown K.applies K.stops K.reopens
+            self.old event result self.new }
     {
         take_turn(self.alloc, &mut self.keepers, &mut self.sent, event)
     }
@@ -86,22 +92,26 @@ impl<K: SiteKeeper> World<K> {
     /// doesn't go through those before it.
     pub fn post(&mut self, site: SiteNo, name: FrameName) -> Answer
         ensures { (place : ℕ) × IsPlaceAt K.shown self.old.keepers site name place
-            × ComesFrom (MayBe K.shown K.may self.old) (MayBe K.shown K.may self.new) (λ old new. Turns old (WorldEvent.Send site place) result new)
-            × KeepersTurn K.shown K.applies K.stops K.reopens self.old (WorldEvent.Send site place) result self.new }
+            × Become K.shown K.may self.old self.new
+            (λ old new. Turns old (WorldEvent.Send site place) result new)
+            × KeepersTurn K.shown K.applies K.stops K.reopens self.old
+            (WorldEvent.Send site place) result self.new }
     {
         post(self.alloc, &self.keepers, &mut self.sent, site, name)
     }
 
     /// A list of events, one after another, and the answer to each. Each site stands then as its answered steps in
-    /// order, with each step that it went down in whole or absent; and whenever the site that began a recall has
-    /// recorded its end, what is quarantined under it, at all sites, is what its root reaches, and stays so. A crash
-    /// leaves on the sites' devices what they show, or may be opened in, as before.
+    /// order, with each step that it went down in whole or absent; a frame is sent only as the kept record of an open
+    /// site makes it emittable; and whenever the site that began a recall has recorded its end, at each moment and
+    /// afterwards, what is quarantined under it, at all sites, is what its root reaches, each pair once, and stays so.
+    /// Started again, the sites make a world again. A crash leaves on the sites' devices what they show, or may be
+    /// opened in, as before.
     ///
     /// # Errors
     /// Where there is no room for all answers: before the first event, and nothing changes.
     pub fn run(&mut self, events: Vec<WorldEvent>) -> Result<Vec<Answer>, AllocError>
-        ensures run { IfOk result (λ answers. ComesFrom (MayBe K.shown K.may self.old) (MayBe K.shown K.may self.new) (λ old new. Runs old events.items answers.items new)) }
-        ensures out { IfOk result (λ answers. ComesFrom (MayBe K.shown K.may self.old) (MayBe K.shown K.may self.new) (λ old new. ComesOut old events.items answers.items new)) }
+        ensures headline { IfOk result (λ answers. Become K.shown K.may self.old self.new
+            (λ old new. ComesOut old events.items answers.items new)) }
         ensures stored { AreStored K.stored self.old.keepers → AreStored K.stored self.new.keepers }
         ensures err { OnErr result (self.new ≡ self.old) }
     {
@@ -116,7 +126,8 @@ impl<K: SiteKeeper> World<K> {
 
     /// The record of a site, or None while it is closed, and where there is no such site.
     pub fn view(&self, site: SiteNo) -> Option<&SiteState>
-        ensures { option_map (λ s. s.now) result ≡ option_and_then K.shown (slice_get self.now.keepers site) }
+        ensures { option_map (λ s. s.now) result
+            ≡ option_and_then K.shown (slice_get self.now.keepers site) }
     {
         self.keepers.get(site.number() as usize)?.view()
     }
@@ -135,10 +146,15 @@ impl<K: SiteKeeper> World<K> {
     /// # Errors
     /// `Closed` with the least site that is closed.
     pub fn quarantined(&self, recall: RecallId) -> Result<Vec<Pair>, ViewFault>
-        ensures ok { IfOk result (λ pairs. (records : List Record) × AllShow K.shown self.now.keepers records × (pairs.items ≡ quarantined recall records)) }
+        ensures ok { IfOk result (λ pairs. (records : List Record)
+            × AllShow K.shown self.now.keepers records
+            × (pairs.items ≡ quarantined recall records)) }
         ensures ascending { IfOk result (λ pairs. IsStrictlyAscending pairs.items) }
-        ensures exact { IfOk result (λ pairs. (records : List Record) → AllShow K.shown self.now.keepers records → AreExactOnceEnded recall records pairs.items) }
-        ensures closed { IfErr result (λ fault. IfClosed fault (IsFirstClosed K.shown self.now.keepers)) }
+        ensures exact { IfOk result (λ pairs. (records : List Record)
+            → AllShow K.shown self.now.keepers records
+            → AreExactOnceEnded recall records pairs.items) }
+        ensures closed { IfErr result (λ fault.
+            IfClosed fault (IsFirstClosed K.shown self.now.keepers)) }
     {
         let states = views(self.alloc, &self.keepers)?;
         Ok(quarantined(self.alloc, &states, recall)?)
@@ -147,7 +163,8 @@ impl<K: SiteKeeper> World<K> {
     /// Whether a recall has ended. None where the site that began it is closed, and where it has no such recall.
     /// Does not allocate.
     pub fn ended(&self, recall: RecallId) -> Option<bool>
-        ensures { result ≡ option_and_then (ended_in recall) (option_and_then K.shown (slice_get self.now.keepers recall.site)) }
+        ensures { result ≡ option_and_then (ended_in recall)
+            (option_and_then K.shown (slice_get self.now.keepers recall.site)) }
     {
         ended_at(self.view(recall.site)?, recall)
     }

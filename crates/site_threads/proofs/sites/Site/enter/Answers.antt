@@ -1,5 +1,5 @@
 use Rattle.std.proofs.Common.{◌≡◌, ◌+◌, [], ◌∷◌, ◌++◌, is_some, sym, subst}
-use Rattle.std.specs.Prelude.{IfOk, vec_len}
+use Rattle.std.specs.Prelude.{IfOk, cond, is_ok, vec_len}
 use Rattle.site_threads.specs.Keepers.{shown_in}
 use Rattle.site_threads.specs.Passing.{EntersFrames}
 use Rattle.site_threads.proofs.Wired.{enters_one, kept_back}
@@ -12,5 +12,7 @@ returns-clause-frames g c =
     let old = c.args.self.now.entries in
     let now = is_some (shown_in shown t.new.self.keeper) in
     let entered = subst (λ i. IfOk t.result (λ p. t.new.self.entries.items ≡ old.items ++ (record { number = vec_len old + 1; input = i; reply = p }) ∷ [])) c.of-asked.ensures t.ensures.entered in
-    subst (EntersFrames (is_some (shown_in shown c.args.self.now.keeper)) now (c.args.frame ∷ []) old.items t.new.self.entries.items) (sym c.count_entered.ensures)
-    (enters_one (λ v. v.items) old t.new.self.entries (is_some (shown_in shown c.args.self.now.keeper)) (is_some (shown_in shown t.new.self.keeper)) c.requires.open _ c.args.frame t.result entered t.ensures.stopped (kept_back _ _ _ _ _ t.result t.ensures.back))
+    let Enters = EntersFrames (is_some (shown_in shown c.args.self.now.keeper)) now (c.args.frame ∷ []) old.items t.new.self.entries.items in
+    subst (λ n. Enters n c.count_entered.result.lost) (sym c.count_entered.ensures.entered)
+    (subst (λ n. Enters (cond (is_ok t.result) 1 0) n) (sym c.count_entered.ensures.lost)
+    (enters_one (λ v. v.items) old t.new.self.entries (is_some (shown_in shown c.args.self.now.keeper)) (is_some (shown_in shown t.new.self.keeper)) c.requires.open _ c.args.frame t.result entered t.ensures.stopped (kept_back _ _ _ _ _ t.result t.ensures.back)))

@@ -24,7 +24,7 @@ pub returns-in_default-clause-frames : goal.returns-in_default-clause-frames
 returns-in_default-clause-frames g c =
     let s = c.args.self.now in
     let b = is_some (shown_in g.K.SiteKeeper.shown s.keeper) in
-    subst (λ l. TakesFrames s.me c.args.other (c.args.other + 1) (noted_by s.seat.logs) (noted_by l) b b s.entries.items s.entries.items 0) (sym c.in_default.ensures.answer.0) (takes_none _ _ _ _ _ _ (omega arith))
+    subst (λ l. TakesFrames s.me c.args.other (c.args.other + 1) (noted_by s.seat.logs) (noted_by l) b b s.entries.items s.entries.items 0 0) (sym c.in_default.ensures.answer.0) (takes_none _ _ _ _ _ _ (omega arith))
 
 pub returns-in_default-clause-sent : goal.returns-in_default-clause-sent
 returns-in_default-clause-sent g c = ap sent_by c.in_default.ensures.answer.0
@@ -33,7 +33,7 @@ pub returns-clause-frames : goal.returns-clause-frames
 returns-clause-frames g c =
     let h = c.requires.site.runs in
     let a = c.in-Some.ensures.answer in
-    takes_one _ _ _ _ _ c.in-Some.frame _ _ _ _ _ (noted_one h.log _ _ c.in-Some.frame _ h.alone h.own.site a.0).0 c.enter.ensures.passes.0 a.1 a.2 c.requires.other.0 c.enter.ensures.frames
+    takes_one _ _ _ _ _ c.in-Some.frame _ _ _ _ _ _ (noted_one h.log _ _ c.in-Some.frame _ h.alone h.own.site a.0).0 c.enter.ensures.passes.0 a.1 a.2 c.requires.other.0 c.enter.ensures.frames
 
 pub returns-clause-sent : goal.returns-clause-sent
 returns-clause-sent g c =

@@ -8,8 +8,8 @@ abbrev pub invariant-loop-number : goal.invariant-loop-number
 invariant-loop-number g l = record {
   site : IsSite g.K.SiteKeeper.shown g.K.SiteKeeper.may l.self;
   same : Continues g.K.SiteKeeper.stored l.number l.wire l.fn.self l.self;
-  frames : TakesOfEach g.K.SiteKeeper.shown 0 l.number l.fn.self l.self l.entered;
+  frames : TakesOfEach g.K.SiteKeeper.shown 0 l.number l.fn.self l.self l.entered l.lost;
   sent : sent_by l.self.seat.logs ≡ sent_by l.fn.self.seat.logs;
   room : vec_len l.self.entries + l.wire.sites ≤ vec_capacity l.self.entries + l.number;
-  count : l.entered ≤ l.number;
+  count : l.entered + l.lost ≤ l.number;
 }
