@@ -1,7 +1,7 @@
 #!/usr/bin/env bash
 # Kills the program as it makes its k-th call that changes a file, and fails that call once, with EIO and with ENOSPC, for
-# each k of `init`, `capture`, `start` and of a `run` of two sites; after each the folder has the record before or the one
-# after, whole. It needs `strace`, and without it tries nothing and says so.
+# each k of `init`, `capture`, `start`, of a `run` of two sites, and of a `report` on files of the first version; after each
+# the folder has the record before or the one after, whole, and each file the tables of its version. It needs `strace`, and without it tries nothing and says so.
 # Run by hand, and by the gate on the program that it built. RECALL names another program, STEP tries each STEP-th call alone,
 # WORKERS is how many cases are tried at once (one for each processor).
 # It ends with status 0 where all is as it should be.
@@ -17,6 +17,7 @@ command -v strace >/dev/null || {
     exit 0
 }
 chain="$here/examples/dairy"
+first="$here/tests/data/first-version"
 tank=urn:epc:id:sgtin:9521321.000011.tank-7
 calls=write,pwrite64,fsync,fdatasync,ftruncate,rename,renameat,renameat2,unlink,unlinkat
 step=${STEP:-1}
@@ -129,6 +130,26 @@ looks_run() {
     [ "$?:$(cat out)" = '0:equal A#1 pairs 2' ] || complain "audit at the end, after $1: $(cat out err)"
 }
 
+# each file has the tables of its version, and they say what they said
+looks_migrated() {
+    local file
+    if command -v sqlite3 >/dev/null; then
+        for file in at/*.db; do
+            rm -f look.db*
+            cp "$file" look.db
+            [ ! -e "$file-wal" ] || cp "$file-wal" look.db-wal
+            case "$(sqlite3 look.db "select version, (select count(*) from sqlite_schema where type = 'table') from store" 2>&1)" in
+            '1|10' | '2|12') ;;
+            *) complain "$file is of neither version, after $1" ;;
+            esac
+        done
+    fi
+    "$recall" audit at >out 2>err || complain "audit after $1: $(cat out err)"
+    cmp -s out "$first/audit.txt" || complain "audit after $1: $(cat out)"
+    "$recall" report at 'A#1' >out 2>err || complain "report after $1: $(cat out err)"
+    cmp -s out "$first/report-A1.txt" || complain "a report is another, after $1"
+}
+
 mkdir empty
 tries empty looks_made init @ "$chain/sites"
 echo "  $cases cases of init"
@@ -148,5 +169,10 @@ must capture two A shipped
 must start two A x
 tries two looks_run run @ --turns 300
 echo "  $cases cases with those of run"
+mkdir first
+cp "$first"/sites "$first"/*.db "$first"/*.db-wal first
+chmod -R u+w first
+tries first looks_migrated report @ 'A#1'
+echo "  $cases cases with those of a report that makes files of the first version those of the second"
 [ "$failed" = 0 ] && echo "all as it should be"
 exit "$failed"

@@ -128,8 +128,19 @@ touch no-folder
 faults Read 'no-folder/sites: Not a directory (os error 20)' audit no-folder
 if command -v sqlite3 >/dev/null; then
     damaged
-    sqlite3 damaged/plant.db 'update store set version = 2' || failed=1
-    faults Version 'damaged/plant.db: version 2' audit damaged
+    sqlite3 damaged/plant.db 'update store set version = 3' || failed=1
+    faults Version 'damaged/plant.db: version 3' audit damaged
+    damaged
+    sqlite3 damaged/plant.db 'update store set version = 1' || failed=1
+    faults NotAStore 'damaged/plant.db: the table store has no row of the version of the tables' audit damaged
+    damaged
+    sqlite3 damaged/plant.db "insert into packed values (1, 0, 'x')" || failed=1
+    faults BadRow 'damaged/plant.db: row 1 of the table packed' audit damaged
+    damaged
+    sqlite3 damaged/plant.db "update part set text = cast(x'ff' as text) where event = 1; update store set version = 7" || failed=1
+    faults Version 'damaged/plant.db: version 7' audit damaged
+    sqlite3 damaged/plant.db "update store set version = 2" || failed=1
+    faults BadRow 'damaged/plant.db: row 1 of the table part' audit damaged
     damaged
     sqlite3 damaged/plant.db 'update event set kind = 9 where no = 2' || failed=1
     faults BadRow 'damaged/plant.db: row 2 of the table event' audit damaged
@@ -162,6 +173,48 @@ wants 4 'misfit 2 shop-1' '' run damaged
 damaged
 "$recall" report damaged 'dairy#1' >/dev/full 2>err
 [ $? = 3 ] && [ "$(cat err)" = 'fault Write' ] || { echo "a full output: $(cat err)" >&2; failed=1; }
+
+echo "files of the first version"
+data=$here/tests/data/first-version
+# first: a folder of files of the first version
+first() {
+    rm -rf first
+    mkdir first
+    cp "$data"/sites "$data"/*.db "$data"/*.db-wal first
+    chmod -R u+w first
+}
+first
+wants 0 "$(cat "$data/audit.txt")" '' audit first
+wants 0 "$(cat "$data/report-A1.txt")" '' report first 'A#1'
+wants 0 "$(cat "$data/report-B1.txt")" '' report first 'B#1'
+wants 0 "$(cat "$data/audit.txt")" '' audit first
+first
+wants 0 "$(cat "$data/report-A1.txt")" '' report first 'A#1'
+first
+wants 0 'captured 1 known 0 skipped 0' '' capture first B "$data/b.json"
+first
+wants 0 "A#1 ended
+B#1 ended" '' run first
+if command -v sqlite3 >/dev/null; then
+    [ "$(sqlite3 first/A.db 'select version from store')" = 2 ] || { echo "a file wasn't migrated" >&2; failed=1; }
+    [ "$(sqlite3 first/A.db 'select count(*) from pack, packed')" = 0 ] || { echo "a migrated file has packs" >&2; failed=1; }
+    # a bad row leaves a file as it is
+    first
+    sqlite3 first/A.db 'update event set kind = 9 where no = 1' || failed=1
+    cp first/A.db bad.db
+    faults BadRow 'first/A.db: row 1 of the table event' audit first
+    cmp first/A.db bad.db || failed=1
+    # its version with the other's tables is nobody's
+    first
+    sqlite3 first/C.db 'update store set version = 2' || failed=1
+    faults NotAStore 'first/C.db: the table store has no row of the version of the tables' audit first
+fi
+first
+chmod a-w first first/*
+if ! touch first/A.db 2>/dev/null; then
+    faults Device 'first/A.db: no permission' audit first
+fi
+chmod -R u+w first
 
 echo "$stops stops of a capture, as many of a start, and as many of a capture of many documents"
 rm -rf before stopped

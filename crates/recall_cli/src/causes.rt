@@ -105,6 +105,8 @@ pub(crate) fn name_of(table: Table) -> &'static str {
         Table::Address => "address",
         Table::Event => "event",
         Table::Part => "part",
+        Table::Pack => "pack",
+        Table::Packed => "packed",
         Table::Quarantine => "quarantine",
         Table::Outbox => "outbox",
         Table::Seen => "seen",
@@ -139,7 +141,9 @@ impl fmt::Display for Known {
                 write!(f, "{name} isn't of a site")
             }
             Known::OtherTables => f.write_str("a table is declared otherwise"),
-            Known::NoStoreRow => f.write_str("the table store is empty"),
+            Known::NoStoreRow => f.write_str(
+                "the table store has no row of the version of the tables",
+            ),
             Known::Row(bad) => {
                 let row = bad.row;
                 let table = name_of(bad.table);

@@ -2,17 +2,19 @@
 
 use crate::causes::{Known, name_of};
 use site_rows::Table;
-use site_tables::is_site_schema;
+use site_tables::version_of;
 use sqlite_schema::schema::Schema;
 use std::alloc::Global;
 
 /// A site's tables.
-const TABLES: [Table; 10] = [
+const TABLES: [Table; 12] = [
     Table::Store,
     Table::Site,
     Table::Address,
     Table::Event,
     Table::Part,
+    Table::Pack,
+    Table::Packed,
     Table::Quarantine,
     Table::Outbox,
     Table::Seen,
@@ -23,15 +25,20 @@ const TABLES: [Table; 10] = [
 /// What the indexes that a declaration makes by itself begin with.
 const AUTOMATIC: &[u8] = b"sqlite_autoindex_";
 
-/// Why a database of these tables is no site's: what it has besides, what it lacks, or that its table `store` is empty.
+/// Why a database of these tables is no site's: what it has besides, what it lacks, or that its table `store` has no row of
+/// their version.
 pub(crate) fn known_of(alloc: Global, schema: &Schema) -> Known {
-    if is_site_schema(schema) {
+    if version_of(schema).is_some() {
         return Known::NoStoreRow;
     }
     if let Some(name) = first_foreign(schema) {
         return foreign(alloc, name);
     }
+    let is_first = !has_table(schema, "pack") && !has_table(schema, "packed");
     for table in TABLES {
+        if is_first && matches!(table, Table::Pack | Table::Packed) {
+            continue;
+        }
         if !has_table(schema, name_of(table)) {
             return Known::TableMissing(table);
         }

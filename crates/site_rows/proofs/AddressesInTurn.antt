@@ -1,6 +1,6 @@
 -- Rows of addresses that are good are those of the sites whose addresses they give.
 use Rattle.std.proofs.Common.{◌≡◌, ◌⊎◌, inl, inr, ℕ, zero, suc, ◌+◌, ◌<◌, ◌≤◌, ℤ, pos, Bool, true, false, Option, Some, None, List, [], ◌∷◌, ◌++◌, length, map, take, refl, sym, ap, subst, ◌∙◌, arith}
-use Rattle.std.specs.Prelude.{T, ◌&&◌, ◌-ℤ◌}
+use Rattle.std.specs.Prelude.{All, IsUtf8, T, ◌&&◌, ◌-ℤ◌}
 use Rattle.std.specs.FinMap as finite
 use Rattle.std.specs.FinMap.{entries, entries-from_sorted, from_sorted, get, get-empty, is_sorted, same_map}
 use Rattle.std.specs.FinMap.Entries.{below_all}
@@ -14,12 +14,14 @@ use Rattle.std.proofs.lemmas.Bool.Decides.{eqb_tells}
 use Rattle.std.proofs.lemmas.Int.{ints}
 use Rattle.event_json.specs.Sites.{Site, AreSites, repeats}
 use Rattle.site_core.proofs.Entries.{entry_found, entry_there}
+use Rattle.site_core.proofs.EventsAmong.{all_from_places}
 use Rattle.site_core.proofs.ItemOrder.{item_total, item_exact}
 use Rattle.site_core.proofs.Places.{member_there, some_stands}
 use Rattle.site_core.proofs.Quarantining.{place_of}
 use Rattle.trace_core.proofs.Members.{contains-map}
 use Rattle.site_rows.specs.AddressesInTurn.{AreTextsOf, HaveAddresses, IsRowAt, row_at}
 use Rattle.site_rows.specs.BadAddresses.{IsAddressTable}
+use Rattle.site_rows.specs.Laws.{HasTexts}
 use Rattle.site_rows.specs.RecordRows.{Addresses, address_row, addresses_at, addresses_of}
 use Rattle.site_rows.specs.Texts.{text_cmp}
 use Rattle.site_rows.specs.declared.address_rows.Address.{Address}
@@ -43,6 +45,14 @@ row_is : (rows : List AddressRow) (site place : ℕ) (row : AddressRow) → IsRo
 row_is rows site place row is =
     let same : row ≡ row_at site place row.text = (λ i. record { text = row.text; site = is.at_site i; place = is.at_place i }) in
     subst (Contains rows) same is.among
+
+-- the texts of rows of addresses are UTF-8, so those of the sites are
+pub texts_in_utf8 : (many : ℕ) (rows : List AddressRow) (sites : List Site) → IsAddressTable many rows → HaveAddresses rows sites → All HasTexts sites
+texts_in_utf8 many rows sites table have = all_from_places HasTexts sites (length sites) (omega arith) (λ number site low at.
+    all_from_places IsUtf8 site.addresses (length site.addresses) (omega arith) (λ place text within there.
+    let row = row_at number place text in
+    let k = place_of rows row ((have number site at).told place text there) in
+    (table k.0 row k.1).plain.1))
 
 abbrev pub AreTold : List AddressRow → ℕ → List (List ℕ) → Type 0
 AreTold rows site texts = (place : ℕ) (text : List ℕ) → slice_get texts place ≡ Some text → Contains rows (row_at site place text)

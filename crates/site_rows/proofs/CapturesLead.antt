@@ -41,11 +41,14 @@ events_lead : (s : Record) (new : List Content) → LeadsTo (event_changes s new
 events_lead s new =
     let old = s.captured.events in
     record {
+      version = refl;
       store = refl;
       site = refl;
       address = refl;
       event = ap (map event_row) (numbered_apart 1 old new) ∙ map-append event_row (enumerate_from 1 old) (enumerate_from (length old + 1) new);
       part = ap (flat_map (parts_of s.sites)) (numbered_apart 1 old new) ∙ flat_map-append (parts_of s.sites) (enumerate_from 1 old) (enumerate_from (length old + 1) new);
+      pack = refl;
+      packed = refl;
       quarantine = nothing_more _;
       outbox = IsPermutation-refl _;
       seen = nothing_more _;

@@ -64,11 +64,14 @@ module _ (s t : Record) (n : ℕ) (parents : FinMap recall_cmp Message) (own : F
     (own_put : IsPermutation (fold put_recall (map recall_row (entries s.engagement.own)) recall) (map recall_row (entries own))) where
   leads : LeadsTo (clear_changes n left recall) (rows_of s) (rows_of (after_clearing s n parents own))
   leads = record {
+    version = refl;
     store = refl;
     site = refl;
     address = refl;
     event = sym (append-nil _);
     part = sym (append-nil _);
+    pack = refl;
+    packed = refl;
     quarantine = nothing_more _;
     outbox = signalled_message s.engagement.outbox n;
     seen = nothing_more _;

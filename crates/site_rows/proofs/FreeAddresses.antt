@@ -69,7 +69,7 @@ module _ (names sites : List Site) (rows : List AddressRow) (number : ℕ) (site
   texts_plain : list_all is_plain texts ≡ true
   texts_plain = all_of is_plain texts (λ place text at.
       let k = place_of rows (row_at number place text) (told.told place text at) in
-      (plain_decides text).1 (table k.0 (row_at number place text) k.1).plain)
+      (plain_decides text).1 (table k.0 (row_at number place text) k.1).plain.0)
 
   texts_few : length texts ≤ 16
   texts_few = elim (cases_lt 16 (length texts)) [

@@ -1,6 +1,6 @@
 -- The rows of the addresses of sites stand in a table that has no bad row.
 use Rattle.std.proofs.Common.{◌≡◌, ◌⊎◌, inl, inr, ℕ, zero, suc, ◌+◌, ◌<◌, pos, Bool, true, false, Option, Some, None, List, [], ◌∷◌, length, map, take, refl, sym, ap, subst, ◌∙◌, arith}
-use Rattle.std.specs.Prelude.{Any, T, option_map, ◌&&◌, ◌-ℤ◌, nat_le}
+use Rattle.std.specs.Prelude.{All, Any, IsUtf8, T, option_map, ◌&&◌, ◌-ℤ◌, nat_le}
 use Rattle.std.specs.FinMap as finite
 use Rattle.std.specs.FinMap.{entries, entries_sorted, get, get-empty, is_sorted}
 use Rattle.std.specs.FinMap.Entries.{below_all}
@@ -15,11 +15,13 @@ use Rattle.epc_core.specs.Items.{is_plain}
 use Rattle.event_json.proofs.Plain.{plain_decides}
 use Rattle.event_json.specs.Sites.{Site, AreSites, is_site, is_site_name, repeats}
 use Rattle.frame_core.proofs.Ascending.{first, second}
+use Rattle.site_core.proofs.EventsAmong.{passes_at}
 use Rattle.site_core.proofs.Entries.{entry_found, entry_there}
 use Rattle.site_core.proofs.ItemOrder.{item_total, item_exact}
 use Rattle.site_core.proofs.Places.{member_there, some_stands, stands_within}
 use Rattle.site_core.proofs.Quarantining.{place_of}
 use Rattle.site_rows.specs.BadAddresses.{IsAddress, IsAddressTable, Stands}
+use Rattle.site_rows.specs.Laws.{HasTexts}
 use Rattle.site_rows.specs.RecordRows.{address_row, addresses_at, addresses_of}
 use Rattle.site_rows.specs.Texts.{text_cmp}
 use Rattle.site_rows.specs.declared.address_rows.Address.{Address}
@@ -132,8 +134,8 @@ module _ (sites : List Site) (are : AreSites sites) where
       let one : pos (suc place) -ℤ pos 1 ≡ pos place = omega (arith, ints) in
       inr (subst (Stands rows (pos number)) (sym one) (has_row number place site before.0 at before.1))
 
-  good : (k : ℕ) (e : List ℕ × Address) → slice_get listed k ≡ Some e → IsAddress (length sites) rows k (address_row e)
-  good k e at =
+  good : All HasTexts sites → (k : ℕ) (e : List ℕ × Address) → slice_get listed k ≡ Some e → IsAddress (length sites) rows k (address_row e)
+  good texts k e at =
       let there = member_there listed k e at in
       let is = address_told sites e there in
       let up = entries_sorted (addresses_of sites) in
@@ -143,7 +145,7 @@ module _ (sites : List Site) (are : AreSites sites) where
       let place : e.1.place ≡ is.place = ap (λ (a : Address). a.place) is.at in
       let plain : is_plain e.0 ≡ true = all_pass_there is_plain is.site.addresses is.place e.0 (right (is_site_name is.site.name && nat_le (length is.site.addresses) 16) (list_all is_plain is.site.addresses) (stands_good is_site sites is.number is.site are.good is.of_list)) is.there in
       record {
-        plain = (plain_decides e.0).0 plain;
+        plain = ((plain_decides e.0).0 plain, passes_at IsUtf8 is.site.addresses is.place (passes_at HasTexts sites is.number texts is.site is.of_list) e.0 is.there);
         site = (is.number, record { number = ap pos number; among = stands_within sites is.number is.site is.of_list });
         place = (is.place, record { place_of = ap pos place; small = omega (arith, few, low) });
         once = λ earlier. twice earlier there;
@@ -169,7 +171,7 @@ module _ (sites : List Site) (are : AreSites sites) where
           let wrong : Less ≡ Equal = sym order ∙ tied in
           cc
 
-  pub good_addresses : IsAddressTable (length sites) (map address_row (entries (addresses_of sites)))
-  good_addresses k row is =
+  pub good_addresses : All HasTexts sites → IsAddressTable (length sites) (map address_row (entries (addresses_of sites)))
+  good_addresses texts k row is =
       let e = mapped_at address_row listed k row is in
-      subst (IsAddress (length sites) rows k) e.2 (good k e.0 e.1)
+      subst (IsAddress (length sites) rows k) e.2 (good texts k e.0 e.1)

@@ -14,9 +14,9 @@ use Rattle.std.proofs.lemmas.Bool.{cases_lt}
 use Rattle.std.proofs.lemmas.List.{take-append-drop}
 use Rattle.std.proofs.lemmas.List.Elements.{All-head, All-tail}
 use Rattle.std.proofs.lemmas.Option.{get_or_from_slice_get}
-use Rattle.epc_core.specs.Spellings.{IsKey}
+use Rattle.site_rows.specs.Texts.{IsItemText}
 use Rattle.event_json.specs.Contents.{id_of, kind_of}
-use Rattle.event_json.specs.Events.{Content, IsBody, IsIdentifier}
+use Rattle.event_json.specs.Events.{Content}
 use Rattle.event_json.specs.Sites.{Site}
 use Rattle.event_json.specs.declared.bodies.Body.{Body}
 use Rattle.event_json.specs.declared.bodies.Body.TheVariants.{Note, Ship, Make}
@@ -32,14 +32,15 @@ use Rattle.site_core.specs.Records.{IsRecallAmong, Record}
 use Rattle.site_rows.specs.BadAddresses.{IsAddressTable}
 use Rattle.site_rows.specs.BadEvents.{IsBelow, IsEvent, IsEventTable}
 use Rattle.site_rows.specs.BadParts.{AreBodies, IsPartTable, site_of_row}
-use Rattle.site_rows.specs.BadRows.{AreOfMap, IsFirstBad, IsHeldEntry, IsOutboxEntry, IsOwnEntry, IsParentEntry, IsQuarantineTable, IsSeenEntry, IsSiteTable, IsStoreTable, Match}
+use Rattle.site_rows.specs.BadRows.{AreOfMap, IsEmptyTable, IsFirstBad, IsHeldEntry, IsOutboxEntry, IsOwnEntry, IsParentEntry, IsQuarantineTable, IsSeenEntry, IsSiteTable, IsStoreTable, Match}
 use Rattle.site_rows.specs.HeldItems.{all_held, held_cmp, held_of, held_under}
 use Rattle.site_rows.specs.Laws.{HoldsItems, HoldsKeys, IsEventAmong, IsKept, RowsOfRecordsAreGood}
 use Rattle.site_rows.specs.ReadRows.{IsBadRow}
-use Rattle.site_rows.specs.RecordRows.{SECOND, event_row, outbox_row, parent_row, parts_of, quarantine_row, quarantine_rows, recall_row, rows_of, seen_row, site_row, store_row}
+use Rattle.site_rows.specs.RecordRows.{SECOND, event_row, outbox_row, parent_row, parts_of, quarantine_row, quarantine_rows, recall_row, rows_under, seen_row, site_row, store_row}
 use Rattle.site_rows.specs.declared.rows.SiteRow.{SiteRow}
 use Rattle.site_rows.specs.declared.tables.Table.{Table}
-use Rattle.site_rows.specs.declared.tables.Table.TheVariants.{Store, Site as SiteTable, Address, Event, Part, Quarantine as QuarantineTable, Outbox, Seen, Parent, Recall as RecallTable}
+use Rattle.site_rows.specs.declared.tables.Version.{Version}
+use Rattle.site_rows.specs.declared.tables.Table.TheVariants.{Store, Site as SiteTable, Address, Event, Part, Pack, Packed, Quarantine as QuarantineTable, Outbox, Seen, Parent, Recall as RecallTable}
 use Rattle.site_rows.proofs.HeldInTurn.{all_ascend}
 use Rattle.site_rows.proofs.GoodAddresses.{any_there, good_addresses, mapped_at, numbered_there}
 use Rattle.site_rows.proofs.PartTables.{rows_of_events}
@@ -61,8 +62,8 @@ site_there n (s ∷ sites) zero site is =
     λ i. Some (site_row (at i, same i))
 site_there n (s ∷ sites) (suc k) site is = let at : n + 1 + k ≡ n + suc k = omega arith in site_there (n + 1) sites k site is ∙ ap (λ j. Some (site_row (j, site))) at
 
-store_stands : (s : Record) → IsKept s → IsStoreTable (map site_row (enumerate_from 0 s.sites)) (store_row s ∷ [])
-store_stands s kept =
+store_stands : (v : Version) (s : Record) → IsKept s → IsStoreTable v (map site_row (enumerate_from 0 s.sites)) (store_row v s ∷ [])
+store_stands v s kept =
     let me = s.engagement.me in
     let site = some_stands s.sites me kept.sound.me in
     let rows = map site_row (enumerate_from 0 s.sites) in (
@@ -88,11 +89,6 @@ kind_below (Note items) = (0, record { number = refl; below = omega arith })
 kind_below (Ship items to outside) = (1, record { number = refl; below = omega arith })
 kind_below (Make id ins outs) = (2, record { number = refl; below = omega arith })
 
-id_plain : (body : Body) → IsBody body → IsIdentifier (id_of body)
-id_plain (Note items) limits = tt
-id_plain (Ship items to outside) limits = tt
-id_plain (Make id ins outs) limits = limits.0
-
 id_of_make : (body : Body) → (pos (kind_of body) ≡ pos 2) ⊎ (id_of body ≡ None)
 id_of_make (Note items) = inr refl
 id_of_make (Ship items to outside) = inr refl
@@ -113,7 +109,7 @@ events_stand sites es all k row is =
       id = good.identifier;
       nanos = rest_below e.instant;
       kind = kind_below e.body;
-      make_id = id_plain e.body good.limits;
+      make_id = good.make_id;
       of_make = id_of_make e.body;
     })
 
@@ -147,11 +143,11 @@ module _ {R K V : Type 0} (Is : R → K → V → Type 0) where
   match_joined (r ∷ rs) qs (e ∷ es) ds h k = (h.0, match_joined rs qs es ds h.1 k)
 
 -- ---- the quarantine
-under_matched : (sites : ℕ) (r : Recall) (items : List (List ℕ)) → IsRecallAmong sites r → All IsKey items → Match (IsHeldEntry sites) (map (quarantine_row r) items) (map (held_of r) items)
+under_matched : (sites : ℕ) (r : Recall) (items : List (List ℕ)) → IsRecallAmong sites r → All IsItemText items → Match (IsHeldEntry sites) (map (quarantine_row r) items) (map (held_of r) items)
 under_matched sites r [] among all = tt
-under_matched sites r (i ∷ items) among all = (record { same = refl; among = among; item = All-head IsKey i items all }, under_matched sites r items among (All-tail IsKey i items all))
+under_matched sites r (i ∷ items) among all = (record { same = refl; among = among; item = All-head IsItemText i items all }, under_matched sites r items among (All-tail IsItemText i items all))
 
-held_matched : (sites : ℕ) (es : List (Recall × Items)) → ((e : Recall × Items) → Contains es e → IsRecallAmong sites e.0 × All IsKey (set.items e.1))
+held_matched : (sites : ℕ) (es : List (Recall × Items)) → ((e : Recall × Items) → Contains es e → IsRecallAmong sites e.0 × All IsItemText (set.items e.1))
     → Match (IsHeldEntry sites) (flat_map quarantine_rows es) (flat_map held_under es)
 held_matched sites [] good = tt
 held_matched sites (e ∷ es) good =
@@ -173,26 +169,28 @@ quarantine_stands sites q among holds =
     }
 
 -- ---- all tables
-good_rows : (s : Record) → IsKept s → HoldsItems s → (table : Table) (place : ℕ) → IsBadRow (rows_of s) table place → ⊥
-good_rows s kept holds Store place bad = none_bad (IsStoreTable (map site_row (enumerate_from 0 s.sites))) (store_row s ∷ []) place (store_stands s kept) bad
-good_rows s kept holds SiteTable place bad = none_bad IsSiteTable (map site_row (enumerate_from 0 s.sites)) place (s.sites, kept.sites, refl) bad
-good_rows s kept holds Address place bad = bad.bad (subst (λ m. IsAddressTable m (rows_of s).address) (sym (sizes 0 s.sites)) (good_addresses s.sites kept.sites) bad.before bad.row bad.there)
-good_rows s kept holds Event place bad = bad.bad (events_stand (length s.sites) s.captured.events holds.events bad.before bad.row bad.there)
-good_rows s kept holds Part place bad = none_bad (IsPartTable (map site_of_row (rows_of s).site) (rows_of s).event) (rows_of s).part place (parts_stand s.sites s.captured.events holds.events) bad
-good_rows s kept holds QuarantineTable place bad =
-    none_bad (IsQuarantineTable (length (rows_of s).site)) (rows_of s).quarantine place (subst (λ m. IsQuarantineTable m (rows_of s).quarantine) (sym (sizes 0 s.sites)) (quarantine_stands (length s.sites) s.quarantine kept.sound.quarantine holds.quarantine)) bad
-good_rows s kept holds Outbox place bad =
+good_rows : (v : Version) (s : Record) → IsKept s → HoldsItems s → (table : Table) (place : ℕ) → IsBadRow (rows_under v s) table place → ⊥
+good_rows v s kept holds Store place bad = none_bad (IsStoreTable v (map site_row (enumerate_from 0 s.sites))) (store_row v s ∷ []) place (store_stands v s kept) bad
+good_rows v s kept holds SiteTable place bad = none_bad IsSiteTable (map site_row (enumerate_from 0 s.sites)) place (s.sites, kept.sites, refl) bad
+good_rows v s kept holds Address place bad = bad.bad (subst (λ m. IsAddressTable m (rows_under v s).address) (sym (sizes 0 s.sites)) (good_addresses s.sites kept.sites holds.sites) bad.before bad.row bad.there)
+good_rows v s kept holds Event place bad = bad.bad (events_stand (length s.sites) s.captured.events holds.events bad.before bad.row bad.there)
+good_rows v s kept holds Part place bad = none_bad (IsPartTable (map site_of_row (rows_under v s).site) (rows_under v s).event) (rows_under v s).part place (parts_stand s.sites s.captured.events holds.events) bad
+good_rows v s kept holds Pack place bad = none_bad IsEmptyTable (rows_under v s).pack place refl bad
+good_rows v s kept holds Packed place bad = none_bad IsEmptyTable (rows_under v s).packed place refl bad
+good_rows v s kept holds QuarantineTable place bad =
+    none_bad (IsQuarantineTable (length (rows_under v s).site)) (rows_under v s).quarantine place (subst (λ m. IsQuarantineTable m (rows_under v s).quarantine) (sym (sizes 0 s.sites)) (quarantine_stands (length s.sites) s.quarantine kept.sound.quarantine holds.quarantine)) bad
+good_rows v s kept holds Outbox place bad =
     let stand = map_stands (IsOutboxEntry (length s.sites)) Cmp.nat_cmp_total outbox_row s.engagement.outbox (λ k v is. record { same = refl; among = kept.sound.rows k v is; item = holds.engagement.outbox k v is }) in
-    none_bad (AreOfMap nat_cmp (IsOutboxEntry (length (rows_of s).site))) (rows_of s).outbox place (subst (λ m. AreOfMap nat_cmp (IsOutboxEntry m) (rows_of s).outbox) (sym (sizes 0 s.sites)) stand) bad
-good_rows s kept holds Seen place bad =
+    none_bad (AreOfMap nat_cmp (IsOutboxEntry (length (rows_under v s).site))) (rows_under v s).outbox place (subst (λ m. AreOfMap nat_cmp (IsOutboxEntry m) (rows_under v s).outbox) (sym (sizes 0 s.sites)) stand) bad
+good_rows v s kept holds Seen place bad =
     let stand = map_stands (IsSeenEntry (length s.sites)) message_total seen_row s.engagement.seen (λ k v is. record { same = refl; message = (kept.sound.seen k v is).0; recall = (kept.sound.seen k v is).1 }) in
-    none_bad (AreOfMap message_cmp (IsSeenEntry (length (rows_of s).site))) (rows_of s).seen place (subst (λ m. AreOfMap message_cmp (IsSeenEntry m) (rows_of s).seen) (sym (sizes 0 s.sites)) stand) bad
-good_rows s kept holds Parent place bad =
+    none_bad (AreOfMap message_cmp (IsSeenEntry (length (rows_under v s).site))) (rows_under v s).seen place (subst (λ m. AreOfMap message_cmp (IsSeenEntry m) (rows_under v s).seen) (sym (sizes 0 s.sites)) stand) bad
+good_rows v s kept holds Parent place bad =
     let stand = map_stands (IsParentEntry (length s.sites)) recall_total parent_row s.engagement.parents (λ k v is. record { same = refl; recall = (kept.sound.parents k v is).0; message = (kept.sound.parents k v is).1 }) in
-    none_bad (AreOfMap recall_cmp (IsParentEntry (length (rows_of s).site))) (rows_of s).parent place (subst (λ m. AreOfMap recall_cmp (IsParentEntry m) (rows_of s).parent) (sym (sizes 0 s.sites)) stand) bad
-good_rows s kept holds RecallTable place bad =
+    none_bad (AreOfMap recall_cmp (IsParentEntry (length (rows_under v s).site))) (rows_under v s).parent place (subst (λ m. AreOfMap recall_cmp (IsParentEntry m) (rows_under v s).parent) (sym (sizes 0 s.sites)) stand) bad
+good_rows v s kept holds RecallTable place bad =
     let stand = map_stands IsOwnEntry Cmp.nat_cmp_total recall_row s.engagement.own (λ k v is. record { same = refl; number = kept.sound.own k (found (get s.engagement.own k) v is); root = holds.engagement.own k v is }) in
-    none_bad (AreOfMap nat_cmp IsOwnEntry) (rows_of s).recall place stand bad
+    none_bad (AreOfMap nat_cmp IsOwnEntry) (rows_under v s).recall place stand bad
 
 pub rows_are_good : RowsOfRecordsAreGood
-rows_are_good = λ s kept holds table place bad. good_rows s kept holds table place bad
+rows_are_good = λ v s kept holds table place bad. good_rows v s kept holds table place bad

@@ -11,7 +11,7 @@ use Rattle.std.specs.List.{Contains, slice_get, flat_map}
 use Rattle.std.proofs.lemmas.Cmp.{on_total, then_total, tied_itself}
 use Rattle.std.proofs.lemmas.List.{append-nil, map-append, nil_from_length}
 use Rattle.std.proofs.lemmas.Option.{get_or_from_slice_get}
-use Rattle.epc_core.specs.Spellings.{IsKey}
+use Rattle.site_rows.specs.Texts.{IsItemText}
 use Rattle.frame_core.proofs.Ascending.{first, second}
 use Rattle.frame_core.specs.Identifiers.{recall_cmp}
 use Rattle.frame_core.specs.Numbers.{Recall}
@@ -277,5 +277,5 @@ items_held sites rows q m r items is = λ k d low.
     let item = some_stands (set.items items) k low in
     let among = contains-map (held_of r) (set.items items) item.0 (member_there (set.items items) k item.0 item.1) in
     let there = contains-flat_map held_under (entries q) (r, items) (held_of r item.0) at among in
-    let key = matched_each (IsHeldEntry sites) (λ p _. IsKey p.1) (λ _ _ _ held. held.item) rows (all_held q) m (held_of r item.0) there in
-    subst IsKey (sym (get_or_from_slice_get (set.items items) k item.0 d item.1)) key
+    let key = matched_each (IsHeldEntry sites) (λ p _. IsItemText p.1) (λ _ _ _ held. held.item) rows (all_held q) m (held_of r item.0) there in
+    subst IsItemText (sym (get_or_from_slice_get (set.items items) k item.0 d item.1)) key

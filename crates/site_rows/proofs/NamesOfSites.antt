@@ -1,17 +1,22 @@
 -- Sites by their names.
-use Rattle.std.proofs.Common.{◌≡◌, ℕ, zero, suc, ◌+◌, ◌<◌, pos, Bool, true, false, Option, List, [], ◌∷◌, ◌++◌, length, map, take, Some, None, refl, sym, ap, ◌∙◌}
-use Rattle.std.specs.Prelude.{bytes_eq, get_or, is_some}
-use Rattle.std.specs.List.{enumerate_from, list_any, slice_get}
+use Rattle.std.proofs.Common.{subst, arith, ◌≡◌, ℕ, zero, suc, ◌+◌, ◌<◌, pos, Bool, true, false, Option, List, [], ◌∷◌, ◌++◌, length, map, take, Some, None, refl, sym, ap, ◌∙◌}
+use Rattle.std.specs.Prelude.{◌&&◌, IsUtf8, bytes_eq, get_or, is_some, nat_le}
+use Rattle.std.specs.List.{enumerate_from, list_all, list_any, slice_get}
+use Rattle.std.proofs.lemmas.Bool.Decides.{nat_tests}
 use Rattle.std.proofs.lemmas.List.{map-append}
 use Rattle.std.proofs.lemmas.List.Quantifiers.{position-Some}
+use Rattle.std.proofs.lemmas.List.Sums.{AllPass-from_list_all}
 use Rattle.std.proofs.lemmas.Option.{slice_get-get_or}
 use Rattle.std.proofs.lemmas.Slice.Eq.{bytes_eq-Decides}
-use Rattle.event_json.specs.Sites.{Site, named}
+use Rattle.std.proofs.lemmas.Str.{IsUtf8-from_ascii}
+use Rattle.std.proofs.lemmas.Str.Ascii.{IsAscii-from_all}
+use Rattle.event_json.specs.Sites.{AreSites, Site, is_name_byte, is_site, is_site_name, named, sites_fault}
 use Rattle.event_json.proofs.Apart.{neither, is_some-position}
 use Rattle.site_core.proofs.Places.{some_stands, taken_more}
 use Rattle.site_rows.specs.BadRows.{Tells}
 use Rattle.site_rows.specs.PartsInTurn.{IsWritten}
 use Rattle.site_rows.specs.RecordRows.{name_of, or_no_name, site_row}
+use Rattle.site_rows.proofs.AddressesOfSites.{left, right, stands_good}
 
 -- one more of this name
 pub named_more : (sites after names : List Site) (n : ℕ) (name : List ℕ) (texts : List (List ℕ)) (s : Site) → slice_get names n ≡ Some s → s.name ≡ name
@@ -61,3 +66,28 @@ name_found sites text (Some n) is =
       same = ap or_no_name (slice_get-get_or sites n none at.0) ∙ (bytes_eq-Decides (get_or sites n none).name text).0 at.1;
       is = at.0;
     }
+
+-- ---- they are UTF-8
+name_byte_small : (b : ℕ) → is_name_byte b ≡ true → b < 128
+name_byte_small b h = grind (arith, nat_tests)
+
+name_in_utf8 : (name : List ℕ) → is_site_name name ≡ true → IsUtf8 name
+name_in_utf8 name good =
+    let bytes = right (nat_le 1 (length name) && nat_le (length name) 16) (list_all is_name_byte name) good in
+    IsUtf8-from_ascii name (IsAscii-from_all name (λ k d low. name_byte_small _ (AllPass-from_list_all is_name_byte name bytes k d low)))
+
+-- so a text that isn't can't be the name of one more
+pub other_name : (sites : List Site) (name : List ℕ) → (IsUtf8 name → ⊥) → sites_fault sites name [] ≡ None → ⊥
+unfolding sites_fault
+other_name sites name other free = elim (is_site_name name) as (λ b. is_site_name name ≡ b → ⊥) [
+  | true ↦ λ is. other (name_in_utf8 name is)
+  | false ↦ λ is. let wrong = rw is at free in cc
+] refl
+
+-- and names none of them
+pub none_named : (sites : List Site) (text : List ℕ) → AreSites sites → (IsUtf8 text → ⊥) → (t : ℕ) → IsWritten (λ (t : ℕ). t < length sites) (name_of sites) text t → ⊥
+none_named sites text are other t w =
+    let site = some_stands sites t w.is in
+    let good = stands_good is_site sites t site.0 are.good site.1 in
+    let name : site.0.name ≡ text = ap or_no_name (sym site.1) ∙ w.same in
+    other (subst IsUtf8 name (name_in_utf8 site.0.name (left _ _ (left _ _ good))))

@@ -6,8 +6,8 @@ use Rattle.std.proofs.lemmas.List.{append-nil, map-append, take-append-drop, tak
 use Rattle.std.proofs.lemmas.List.Elements.{All-nil, All-cons, All-head, All-tail}
 use Rattle.std.proofs.lemmas.Option.{slice_get_past}
 use Rattle.epc_core.specs.Items.{uri_key}
-use Rattle.epc_core.specs.Spellings.{IsKey, IsPlain}
-use Rattle.event_json.specs.Events.{Content, IsIdentifier}
+use Rattle.site_rows.specs.Texts.{IsItemText, IsPlainText, IsTextOrNone}
+use Rattle.event_json.specs.Events.{Content}
 use Rattle.event_json.specs.Sites.{Site, ShipsAmong}
 use Rattle.event_json.specs.declared.bodies.Body.{Body}
 use Rattle.event_json.specs.declared.bodies.Body.TheVariants.{Note, Ship, Make}
@@ -49,22 +49,23 @@ all_ship_among sites [] all = All-nil (λ (e : Content). ShipsAmong sites e.body
 all_ship_among sites (e ∷ es) all =
     All-cons (λ (x : Content). ShipsAmong sites x.body) e es (ships_among sites e.body (All-head (IsEventAmong sites) e es all).members) (all_ship_among sites es (All-tail (IsEventAmong sites) e es all))
 
--- they are events, where their rows have plain identifiers
+-- they are events, where their rows have plain identifiers and transformationIDs
 pub all_among : (sites n : ℕ) (rows : List EventRow) (es : List Content) → AreBodies sites rows (map (λ (e : Content). e.body) es) → rows ≡ map event_row (enumerate_from n es)
-    → ((k : ℕ) (row : EventRow) → slice_get rows k ≡ Some row → IsIdentifier row.id) → All (IsEventAmong sites) es
+    → ((k : ℕ) (row : EventRow) → slice_get rows k ≡ Some row → IsTextOrNone row.id × IsTextOrNone row.make_id) → All (IsEventAmong sites) es
 all_among sites n rows [] h is plain = All-nil (IsEventAmong sites)
 all_among sites n [] (e ∷ es) h is plain = absurd h
 all_among sites n (r ∷ rows) (e ∷ es) h is plain =
     let head : r ≡ event_row (n, e) = cc in
     let tail : rows ≡ map event_row (enumerate_from (n + 1) es) = cc in
-    let id = subst IsIdentifier (ap (λ (x : EventRow). x.id) head) (plain 0 r refl) in
-    All-cons (IsEventAmong sites) e es (record { identifier = id; limits = h.0.limits; members = h.0.members }) (all_among sites (n + 1) rows es h.1 tail (λ k row there. plain (suc k) row there))
+    let id = subst IsTextOrNone (ap (λ (x : EventRow). x.id) head) (plain 0 r refl).0 in
+    let make_id = subst IsTextOrNone (ap (λ (x : EventRow). x.make_id) head) (plain 0 r refl).1 in
+    All-cons (IsEventAmong sites) e es (record { identifier = id; make_id = make_id; limits = h.0.limits; members = h.0.members }) (all_among sites (n + 1) rows es h.1 tail (λ k row there. plain (suc k) row there))
 
 -- an event of each kind, with few items
-least_of : (sites m : ℕ) (kind : ℤ) (id : Option (List ℕ)) → kind ≡ pos m → m < 3 → IsIdentifier id → (kind ≡ pos 2) ⊎ (id ≡ None) → (body : Body) × IsBodyOf sites kind id body
+least_of : (sites m : ℕ) (kind : ℤ) (id : Option (List ℕ)) → kind ≡ pos m → m < 3 → IsTextOrNone id → (kind ≡ pos 2) ⊎ (id ≡ None) → (body : Body) × IsBodyOf sites kind id body
 least_of sites zero kind id is low plain make =
     let none : id ≡ None = elim make [ inl two ↦ absurd (unlike 0 2 (λ same. omega arith) (sym is ∙ two)) | inr none ↦ none ] in
-    (Note [], record { of_kind = is; of_id = none; limits = omega arith; members = All-nil IsKey })
+    (Note [], record { of_kind = is; of_id = none; limits = omega arith; members = All-nil IsItemText })
 least_of sites (suc zero) kind id is low plain make =
     let none : id ≡ None = elim make [ inl two ↦ absurd (unlike 1 2 (λ same. omega arith) (sym is ∙ two)) | inr none ↦ none ] in (
       Ship [] [] (some_text ∷ []),
@@ -72,14 +73,14 @@ least_of sites (suc zero) kind id is low plain make =
         of_kind = is;
         of_id = none;
         limits = (omega arith, omega arith, omega arith);
-        members = (All-nil IsKey, All-nil (λ (t : ℕ). t < sites), All-cons IsPlain some_text [] some_plain (All-nil IsPlain));
+        members = (All-nil IsItemText, All-nil (λ (t : ℕ). t < sites), All-cons IsPlainText some_text [] some_plain (All-nil IsPlainText));
       },
     )
 least_of sites (suc (suc zero)) kind None is low plain make =
     let keys = uri_key some_text ∷ [] in
     (Make None keys keys, record { of_kind = is; of_id = refl; limits = (plain, omega arith, omega arith, λ _. (omega arith, omega arith)); members = (some_keys, some_keys) })
 least_of sites (suc (suc zero)) kind (Some text) is low plain make =
-    (Make (Some text) [] [], record { of_kind = is; of_id = refl; limits = (plain, omega arith, omega arith, λ none. cc); members = (All-nil IsKey, All-nil IsKey) })
+    (Make (Some text) [] [], record { of_kind = is; of_id = refl; limits = (plain.0, omega arith, omega arith, λ none. cc); members = (All-nil IsItemText, All-nil IsItemText) })
 least_of sites (suc (suc (suc m))) kind id is low plain make = absurd (omega (arith, low))
 
 least : (sites : ℕ) (rows : List EventRow) → ((k : ℕ) (row : EventRow) → slice_get rows k ≡ Some row → (j : ℕ) × IsEvent j row) → (bodies : List Body) × AreBodies sites rows bodies

@@ -6,12 +6,13 @@ use Rattle.std.proofs.lemmas.Bool.Decides.{eqb_tells}
 use Rattle.std.proofs.lemmas.List.{append-nil, length-map, map-id, length-take-le, nil_from_length}
 use Rattle.std.proofs.lemmas.List.Elements.{All-head, All-tail, All-nil, All-cons}
 use Rattle.epc_core.specs.Items.{uri_key}
-use Rattle.epc_core.specs.Spellings.{IsKey, IsPlain, SpellsNumber}
+use Rattle.epc_core.specs.Spellings.{SpellsNumber}
 use Rattle.event_json.specs.Events.{IsIdentifier}
 use Rattle.event_json.specs.Sites.{Site}
 use Rattle.event_json.specs.declared.bodies.Body.TheVariants.{Note, Ship, Make}
 use Rattle.site_rows.specs.BadParts.{IsBodyOf}
 use Rattle.site_rows.specs.PartsInTurn.{IsMemberAt, IsListRead, IsPast, AreAllRead, IsWanting, IsBodyRead, IsStuck}
+use Rattle.site_rows.specs.Texts.{IsItemText, IsPlainText}
 use Rattle.site_rows.specs.RecordRows.{body_rows, name_of, part_row, part_rows}
 use Rattle.site_rows.specs.declared.rows.PartRow.{PartRow}
 use Rattle.site_rows.proofs.ListsInTurn.{two_lists}
@@ -127,27 +128,27 @@ pub some_id : (id : Option (List ℕ)) (b : Bool) → is_some id ≡ not b → b
 some_id id b is some none = let wrong : false ≡ true = ap is_some (sym none) ∙ is ∙ ap not some in cc
 
 -- ---- what was seen
-note_only : (sites : List Site) (event : ℕ) (rows : List PartRow) (from to : ℕ) (items : List (List ℕ)) → IsListRead IsKey (λ t. t) event 0 1000 rows from to items
+note_only : (sites : List Site) (event : ℕ) (rows : List PartRow) (from to : ℕ) (items : List (List ℕ)) → IsListRead IsItemText (λ t. t) event 0 1000 rows from to items
     → AreAllRead sites event (pos 0) None (body_rows sites event (Note items)) (slice_get rows to)
 note_only sites event rows from to items read (Note others) on behind good first past e =
-    (same_texts IsKey event 0 1000 rows from to items others on behind read good.members good.limits first (past_higher event 0 behind past) e).1
+    (same_texts IsItemText event 0 1000 rows from to items others on behind read good.members good.limits first (past_higher event 0 behind past) e).1
 note_only sites event rows from to items read (Ship others sent outside) on behind good first past e = absurd (unlike 0 1 (λ is. omega arith) good.of_kind)
 note_only sites event rows from to items read (Make id ins outs) on behind good first past e = absurd (unlike 0 2 (λ is. omega arith) good.of_kind)
 
-pub note_read : (sites : List Site) (event : ℕ) (rows : List PartRow) (from to : ℕ) (items : List (List ℕ)) → IsListRead IsKey (λ t. t) event 0 1000 rows from to items
+pub note_read : (sites : List Site) (event : ℕ) (rows : List PartRow) (from to : ℕ) (items : List (List ℕ)) → IsListRead IsItemText (λ t. t) event 0 1000 rows from to items
     → IsBodyRead sites event (pos 0) None rows from to (Note items)
 note_read sites event rows from to items read = record {
   within = read.within;
   good = record { of_kind = refl; of_id = refl; limits = read.few; members = read.all };
-  listed = texts_listed IsKey event 0 1000 rows from to items read;
+  listed = texts_listed IsItemText event 0 1000 rows from to items read;
   only = note_only sites event rows from to items read;
 }
 
 -- ---- what was shipped
 pub record IsShipRead (sites : List Site) (event : ℕ) (rows : List PartRow) (from second third to : ℕ) (items : List (List ℕ)) (sent : List ℕ) (outside : List (List ℕ)) : Type 0 where
-  pub seen : IsListRead IsKey (λ t. t) event 0 1000 rows from second items
+  pub seen : IsListRead IsItemText (λ t. t) event 0 1000 rows from second items
   pub shipped : IsListRead (λ (t : ℕ). t < length sites) (name_of sites) event 1 1000 rows second third sent
-  pub left : IsListRead IsPlain (λ t. t) event 2 (1000 - length sent) rows third to outside
+  pub left : IsListRead IsPlainText (λ t. t) event 2 (1000 - length sent) rows third to outside
 
 -- three lists, one behind the other
 in_turn : (a b c d : List PartRow) → ((a ++ b) ++ c) ++ d ≡ a ++ (b ++ (c ++ d))
@@ -173,13 +174,13 @@ same_shipment sites event rows from second third end items sent outside read oth
     let last : Higher event 1 (c2 ++ behind) =
     subst (λ ts. Higher event 1 (part_rows event 2 ts ++ behind)) (map-id texts) (higher_list (λ t. t) event 1 2 0 texts behind (omega arith) (past_higher event 2 behind past)) in
     let front : Higher event 0 (b2 ++ (c2 ++ behind)) = higher_list (name_of sites) event 0 1 0 to (c2 ++ behind) (omega arith) last in
-    let at_third = next_there rows third end c on read.shipped.within read.left.within (texts_listed IsPlain event 2 (1000 - length sent) rows third end outside read.left) first in
+    let at_third = next_there rows third end c on read.shipped.within read.left.within (texts_listed IsPlainText event 2 (1000 - length sent) rows third end outside read.left) first in
     let at_second = next_there rows second third b (c ++ on) read.seen.within read.shipped.within read.shipped.listed at_third in
-    let one = same_texts IsKey event 0 1000 rows from second items others (b ++ (c ++ on)) (b2 ++ (c2 ++ behind)) read.seen good.members.0 good.limits.0 at_second front all in
+    let one = same_texts IsItemText event 0 1000 rows from second items others (b ++ (c ++ on)) (b2 ++ (c2 ++ behind)) read.seen good.members.0 good.limits.0 at_second front all in
     let limits : length to + length texts ≤ 1000 = good.limits.2 in
     let two = same_members (λ (t : ℕ). t < length sites) (name_of sites) event 1 1000 rows second third sent to (c ++ on) (c2 ++ behind) read.shipped good.members.1 (omega (arith, limits)) at_third last one.1 in
     let size : length sent ≡ length to = sym (length-map sent (name_of sites)) ∙ ap length two.0 ∙ length-map to (name_of sites) in
-    let three = same_texts IsPlain event 2 (1000 - length sent) rows third end outside texts on behind read.left good.members.2 (omega (arith, limits, size)) first (past_higher event 2 behind past) two.1 in
+    let three = same_texts IsPlainText event 2 (1000 - length sent) rows third end outside texts on behind read.left good.members.2 (omega (arith, limits, size)) first (past_higher event 2 behind past) two.1 in
     record { names = two.0; away = three.0; same = three.1 }
 
 ship_listed : (sites : List Site) (event : ℕ) (rows : List PartRow) (from second third end : ℕ) (items : List (List ℕ)) (sent : List ℕ) (outside : List (List ℕ))
@@ -188,9 +189,9 @@ ship_listed sites event rows from second third end items sent outside read =
     let a = part_rows event 0 items in
     let b = part_rows event 1 (map (name_of sites) sent) in
     let c = part_rows event 2 outside in
-    let one = texts_listed IsKey event 0 1000 rows from second items read.seen in
+    let one = texts_listed IsItemText event 0 1000 rows from second items read.seen in
     let two = two_lists (take from rows) a b (take second rows) (take third rows) one read.shipped.listed in
-    two_lists (take from rows) (a ++ b) c (take third rows) (take end rows) two (texts_listed IsPlain event 2 (1000 - length sent) rows third end outside read.left)
+    two_lists (take from rows) (a ++ b) c (take third rows) (take end rows) two (texts_listed IsPlainText event 2 (1000 - length sent) rows third end outside read.left)
 
 ship_only : (sites : List Site) (event : ℕ) (rows : List PartRow) (from second third end : ℕ) (items : List (List ℕ)) (sent : List ℕ) (outside : List (List ℕ))
     → IsShipRead sites event rows from second third end items sent outside → AreAllRead sites event (pos 1) None (body_rows sites event (Ship items sent outside)) (slice_get rows end)
@@ -217,8 +218,9 @@ ship_read sites event rows from second third end items sent outside read some = 
 abbrev pub some_text : List ℕ
 some_text = 120 ∷ []
 
-pub some_plain : IsPlain some_text
-some_plain = record { some = omega arith; few = omega arith; allowed = refl }
+pub some_plain : IsPlainText some_text
+unfolding lib.Utf8.encode
+some_plain = (record { some = omega arith; few = omega arith; allowed = refl }, (some_text, (refl, refl)))
 
 ship_wanting : (sites : List Site) (event : ℕ) (rows : List PartRow) (from second third end : ℕ) (items : List (List ℕ)) (sent : List ℕ) (outside : List (List ℕ))
     → IsShipRead sites event rows from second third end items sent outside → length sent ≡ 0 → length outside ≡ 0
@@ -247,7 +249,7 @@ ship_stuck sites event rows from second third end items sent outside read no_sit
         of_kind = refl;
         of_id = refl;
         limits = (read.seen.few, omega arith, omega (arith, no_site));
-        members = (read.seen.all, read.shipped.all, All-cons IsPlain some_text [] some_plain (All-nil IsPlain));
+        members = (read.seen.all, read.shipped.all, All-cons IsPlainText some_text [] some_plain (All-nil IsPlainText));
       };
       more = last;
       begins = ap (λ xs. xs ++ last) (sym (append-nil (a ++ b))) ∙ ap (λ ts. ((a ++ b) ++ part_rows event 2 ts) ++ last) (sym (nil_from_length outside none));
@@ -256,8 +258,8 @@ ship_stuck sites event rows from second third end items sent outside read no_sit
 
 -- ---- what was made
 record IsMakeRead (event : ℕ) (rows : List PartRow) (from second to : ℕ) (ins outs : List (List ℕ)) : Type 0 where
-  pub inputs : IsListRead IsKey (λ t. t) event 3 1000 rows from second ins
-  pub outputs : IsListRead IsKey (λ t. t) event 4 1000 rows second to outs
+  pub inputs : IsListRead IsItemText (λ t. t) event 3 1000 rows from second ins
+  pub outputs : IsListRead IsItemText (λ t. t) event 4 1000 rows second to outs
 
 record IsSameMake (ins ins2 outs outs2 : List (List ℕ)) (on behind : List PartRow) : Type 0 where
   inputs : ins ≡ ins2
@@ -277,16 +279,16 @@ same_make sites event rows from second end id ins outs read id2 ins2 outs2 on be
     let b2 = part_rows event 4 outs2 in
     let all : a ++ (b ++ on) ≡ part_rows event 3 ins2 ++ (b2 ++ behind) = sym (append_assoc a b on) ∙ e ∙ append_assoc (part_rows event 3 ins2) b2 behind in
     let last = past_higher event 4 behind past in
-    let at_second = next_there rows second end b on read.inputs.within read.outputs.within (texts_listed IsKey event 4 1000 rows second end outs read.outputs) first in
-    let one = same_texts IsKey event 3 1000 rows from second ins ins2 (b ++ on) (b2 ++ behind) read.inputs good.members.0 good.limits.1 at_second (higher_texts event 3 4 outs2 behind (omega arith) last) all in
-    let two = same_texts IsKey event 4 1000 rows second end outs outs2 on behind read.outputs good.members.1 good.limits.2 first last one.1 in
+    let at_second = next_there rows second end b on read.inputs.within read.outputs.within (texts_listed IsItemText event 4 1000 rows second end outs read.outputs) first in
+    let one = same_texts IsItemText event 3 1000 rows from second ins ins2 (b ++ on) (b2 ++ behind) read.inputs good.members.0 good.limits.1 at_second (higher_texts event 3 4 outs2 behind (omega arith) last) all in
+    let two = same_texts IsItemText event 4 1000 rows second end outs outs2 on behind read.outputs good.members.1 good.limits.2 first last one.1 in
     record { inputs = one.0; outputs = two.0; same = two.1 }
 
 make_listed : (sites : List Site) (event : ℕ) (rows : List PartRow) (from second end : ℕ) (id : Option (List ℕ)) (ins outs : List (List ℕ)) → IsMakeRead event rows from second end ins outs
     → take end rows ≡ take from rows ++ body_rows sites event (Make id ins outs)
 make_listed sites event rows from second end id ins outs read =
     two_lists (take from rows) (part_rows event 3 ins) (part_rows event 4 outs) (take second rows) (take end rows)
-    (texts_listed IsKey event 3 1000 rows from second ins read.inputs) (texts_listed IsKey event 4 1000 rows second end outs read.outputs)
+    (texts_listed IsItemText event 3 1000 rows from second ins read.inputs) (texts_listed IsItemText event 4 1000 rows second end outs read.outputs)
 
 make_only : (sites : List Site) (event : ℕ) (rows : List PartRow) (from second end : ℕ) (id : Option (List ℕ)) (ins outs : List (List ℕ)) → IsMakeRead event rows from second end ins outs
     → AreAllRead sites event (pos 2) id (body_rows sites event (Make id ins outs)) (slice_get rows end)
@@ -296,7 +298,7 @@ make_only sites event rows from second end id ins outs read (Make id2 ins2 outs2
     (same_make sites event rows from second end id ins outs read id2 ins2 outs2 on behind good first past e).same
 
 pub make_read : (sites : List Site) (event : ℕ) (rows : List PartRow) (from second end : ℕ) (id : Option (List ℕ)) (ins outs : List (List ℕ))
-    → IsListRead IsKey (λ t. t) event 3 1000 rows from second ins → IsListRead IsKey (λ t. t) event 4 1000 rows second end outs
+    → IsListRead IsItemText (λ t. t) event 3 1000 rows from second ins → IsListRead IsItemText (λ t. t) event 4 1000 rows second end outs
     → IsIdentifier id → (id ≡ None → (0 < length ins) × (0 < length outs)) → IsBodyRead sites event (pos 2) id rows from end (Make id ins outs)
 make_read sites event rows from second end id ins outs inputs outputs plain some =
     let read : IsMakeRead event rows from second end ins outs = record { inputs = inputs; outputs = outputs } in
@@ -308,7 +310,8 @@ make_read sites event rows from second end id ins outs inputs outputs plain some
     }
 
 -- the key of an item
-some_key : IsKey (uri_key some_text)
+some_key : IsItemText (uri_key some_text)
+unfolding lib.Utf8.encode
 some_key =
     let other : (k : List ℕ) → SpellsNumber some_text k → ⊥ = λ k spells. elim spells [
       | inl sgtin ↦ elim sgtin [
@@ -320,31 +323,31 @@ some_key =
         | inr link ↦ let is = link.is in cc
       ]
     ] in
-    (some_text, record { plain = some_plain; item = inr (record { other = other; names = refl }) })
+    ((some_text, record { plain = some_plain.0; item = inr (record { other = other; names = refl }) }), (uri_key some_text, (refl, refl)))
 
-pub some_keys : All IsKey (uri_key some_text ∷ [])
-some_keys = All-cons IsKey (uri_key some_text) [] some_key (All-nil IsKey)
+pub some_keys : All IsItemText (uri_key some_text ∷ [])
+some_keys = All-cons IsItemText (uri_key some_text) [] some_key (All-nil IsItemText)
 
 -- an input is missing
-no_inputs : (sites : List Site) (event : ℕ) (rows : List PartRow) (from second : ℕ) (id : Option (List ℕ)) (ins : List (List ℕ)) → IsListRead IsKey (λ t. t) event 3 1000 rows from second ins
+no_inputs : (sites : List Site) (event : ℕ) (rows : List PartRow) (from second : ℕ) (id : Option (List ℕ)) (ins : List (List ℕ)) → IsListRead IsItemText (λ t. t) event 3 1000 rows from second ins
     → id ≡ None → length ins ≡ 0 → IsWanting sites event (pos 2) id (part_rows event 3 ins) (slice_get rows second)
 no_inputs sites event rows from second id ins read no_id none (Note others) on behind good first past e = unlike 2 0 (λ is. omega arith) good.of_kind
 no_inputs sites event rows from second id ins read no_id none (Ship others to texts) on behind good first past e = unlike 2 1 (λ is. omega arith) good.of_kind
 no_inputs sites event rows from second id ins read no_id none (Make id2 ins2 outs2) on behind good first past e =
     let b2 = part_rows event 4 outs2 in
     let all : part_rows event 3 ins ++ on ≡ part_rows event 3 ins2 ++ (b2 ++ behind) = e ∙ append_assoc (part_rows event 3 ins2) b2 behind in
-    let one = same_texts IsKey event 3 1000 rows from second ins ins2 on (b2 ++ behind) read good.members.0 good.limits.1 first (higher_texts event 3 4 outs2 behind (omega arith) (past_higher event 4 behind past)) all in
+    let one = same_texts IsItemText event 3 1000 rows from second ins ins2 on (b2 ++ behind) read good.members.0 good.limits.1 first (higher_texts event 3 4 outs2 behind (omega arith) (past_higher event 4 behind past)) all in
     let some : 0 < length ins2 = (good.limits.3 (sym good.of_id ∙ no_id)).0 in
     omega (arith, none, some, ap length one.0)
 
-pub make_without_input : (sites : List Site) (event : ℕ) (rows : List PartRow) (from second : ℕ) (id : Option (List ℕ)) (ins : List (List ℕ)) → IsListRead IsKey (λ t. t) event 3 1000 rows from second ins
+pub make_without_input : (sites : List Site) (event : ℕ) (rows : List PartRow) (from second : ℕ) (id : Option (List ℕ)) (ins : List (List ℕ)) → IsListRead IsItemText (λ t. t) event 3 1000 rows from second ins
     → IsIdentifier id → id ≡ None → length ins ≡ 0 → IsStuck sites event (pos 2) id rows from second
 make_without_input sites event rows from second id ins read plain no_id none =
     let keys = uri_key some_text ∷ [] in
     record {
       within = read.within;
       read = part_rows event 3 ins;
-      listed = texts_listed IsKey event 3 1000 rows from second ins read;
+      listed = texts_listed IsItemText event 3 1000 rows from second ins read;
       body = Make id keys keys;
       good = record { of_kind = refl; of_id = refl; limits = (plain, omega arith, omega arith, λ _. (omega arith, omega arith)); members = (some_keys, some_keys) };
       more = part_rows event 3 keys ++ part_rows event 4 keys;
@@ -363,7 +366,7 @@ no_outputs sites event rows from second end id ins outs read no_id none (Make id
     omega (arith, none, some, ap length same.outputs)
 
 pub make_without_output : (sites : List Site) (event : ℕ) (rows : List PartRow) (from second end : ℕ) (id : Option (List ℕ)) (ins outs : List (List ℕ))
-    → IsListRead IsKey (λ t. t) event 3 1000 rows from second ins → IsListRead IsKey (λ t. t) event 4 1000 rows second end outs
+    → IsListRead IsItemText (λ t. t) event 3 1000 rows from second ins → IsListRead IsItemText (λ t. t) event 4 1000 rows second end outs
     → IsIdentifier id → id ≡ None → 0 < length ins → length outs ≡ 0 → IsStuck sites event (pos 2) id rows from end
 make_without_output sites event rows from second end id ins outs inputs outputs plain no_id some none =
     let keys = uri_key some_text ∷ [] in

@@ -17,11 +17,12 @@ use Rattle.trace_core.specs.Sites.{SiteEvents}
 use Rattle.site_rows.specs.BadRows.{IsStore}
 use Rattle.site_rows.specs.Laws.{HoldsItems, IsKept}
 use Rattle.site_rows.specs.ReadRows.{IsBadRow, IsStateFault}
-use Rattle.site_rows.specs.RecordRows.{rows_of, site_row}
+use Rattle.site_rows.specs.RecordRows.{rows_under, site_row}
 use Rattle.site_rows.specs.declared.reading.StateFault.{StateFault}
 use Rattle.site_rows.specs.declared.reading.StateFault.TheVariants.{NoMemory, BadRow}
 use Rattle.site_rows.specs.declared.reading_sites.StoreNumbers.{StoreNumbers}
 use Rattle.site_rows.specs.declared.rows.Rows.{Rows}
+use Rattle.site_rows.specs.declared.tables.Version.{Version}
 use Rattle.site_rows.specs.declared.rows.SiteRow.{SiteRow}
 use Rattle.site_rows.specs.declared.rows.StoreRow.{StoreRow}
 use Rattle.site_rows.proofs.GoodAddresses.{mapped_at, numbered_there}
@@ -44,8 +45,8 @@ listed_site sites me listed =
     let number : p.0.0 ≡ me = same_number p.0.0 me (ap (λ (r : SiteRow). r.no) p.2 ∙ listed.4) in
     omega (arith, low, at.0, number)
 
-pub sound_parts : (sites : List Site) (captured : SiteEvents) (q : Quarantine) (d : Engagement) (table : List SiteRow) (stores : List StoreRow) (numbers : StoreNumbers) (m n : ℕ)
-    → m ≡ length sites → n ≡ length sites → table ≡ map site_row (enumerate_from 0 sites) → IsStore table stores numbers → captured.me ≡ numbers.me
+pub sound_parts : {v : Version} (sites : List Site) (captured : SiteEvents) (q : Quarantine) (d : Engagement) (table : List SiteRow) (stores : List StoreRow) (numbers : StoreNumbers) (m n : ℕ)
+    → m ≡ length sites → n ≡ length sites → table ≡ map site_row (enumerate_from 0 sites) → IsStore v table stores numbers → captured.me ≡ numbers.me
     → (d.me ≡ numbers.me) × (d.next_message ≡ numbers.next_message) × (d.next_recall ≡ numbers.next_recall) → All (λ (e : Content). ShipsAmong (length sites) e.body) captured.events
     → ((r : Recall) → IsSome (get q r) → IsRecallAmong m r) → HasNoEmptySet q → IsEngagementAmong n d
     → IsSound (record { sites = sites; captured = captured; quarantine = q; engagement = d })
@@ -66,8 +67,8 @@ sound_parts sites captured q d table stores numbers m n held_size size named sto
       next_recall = subst IsNextNumber (sym of_store.2) store.next_recall;
     }
 
-pub read_back : (rows : Rows) (result : Result Record StateFault) → IfOk result (λ state. rows_of state ≡ rows) → IfOk result (λ state. IsKept state) → IfErr result (λ fault. IsStateFault rows fault)
-    → (s : Record) → IsKept s → HoldsItems s → rows_of s ≡ rows → MatchResult result (λ state. state ≡ s) (λ fault. fault ≡ NoMemory)
-read_back rows (Ok state) read kept bad s is_kept holds same = same_record state s kept is_kept (read ∙ sym same)
+pub read_back : (rows : Rows) (result : Result Record StateFault) → IfOk result (λ state. rows_under rows.version state ≡ rows) → IfOk result (λ state. IsKept state) → IfErr result (λ fault. IsStateFault rows fault)
+    → (s : Record) → IsKept s → HoldsItems s → rows_under rows.version s ≡ rows → MatchResult result (λ state. state ≡ s) (λ fault. fault ≡ NoMemory)
+read_back rows (Ok state) read kept bad s is_kept holds same = same_record rows.version state s kept is_kept (read ∙ sym same)
 read_back rows (Err NoMemory) read kept bad s is_kept holds same = refl
-read_back rows (Err (BadRow b)) read kept bad s is_kept holds same = absurd (rows_are_good s is_kept holds b.table b.row (subst (λ r. IsBadRow r b.table b.row) (sym same) bad.1))
+read_back rows (Err (BadRow b)) read kept bad s is_kept holds same = absurd (rows_are_good rows.version s is_kept holds b.table b.row (subst (λ r. IsBadRow r b.table b.row) (sym same) bad.1))

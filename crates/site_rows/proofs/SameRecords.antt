@@ -9,7 +9,8 @@ use Rattle.site_rows.specs.declared.rows.AddressRow.{AddressRow}
 use Rattle.site_rows.specs.declared.rows.StoreRow.{StoreRow}
 use Rattle.site_rows.specs.declared.rows.Rows.{Rows}
 use Rattle.site_rows.specs.Laws.{IsKept}
-use Rattle.site_rows.specs.RecordRows.{address_row, outbox_row, seen_row, parent_row, recall_row, store_row, rows_of, parts_of, addresses_of}
+use Rattle.site_rows.specs.declared.tables.Version.{Version}
+use Rattle.site_rows.specs.RecordRows.{address_row, outbox_row, seen_row, parent_row, recall_row, store_row, rows_under, parts_of, addresses_of}
 use Rattle.site_rows.proofs.SameEvents.{same_events}
 use Rattle.site_rows.proofs.SameQuarantines.{same_quarantine}
 use Rattle.site_rows.proofs.SameRecalls.{same_map_rows, same_number, outbox_row_same, seen_row_same, parent_row_same, recall_row_same}
@@ -22,15 +23,15 @@ address_row_same a b is =
     let place = same_number a.1.place b.1.place (ap (λ (r : AddressRow). r.place) is) in
     λ i. (text i, record { site = site i; place = place i })
 
-module _ (s t : Record) (hs : IsKept s) (ht : IsKept t) (e : rows_of s ≡ rows_of t) where
+module _ (v : Version) (s t : Record) (hs : IsKept s) (ht : IsKept t) (e : rows_under v s ≡ rows_under v t) where
   sites : s.sites ≡ t.sites
   sites =
       let names = same_names 0 s.sites t.sites (ap (λ (r : Rows). r.site) e) in
       let addresses = same_map_rows address_row address_row_same (addresses_of s.sites) (addresses_of t.sites) (ap (λ (r : Rows). r.address) e) in
       same_site_lists s.sites t.sites hs.sites ht.sites names addresses
 
-  store : store_row s ≡ store_row t
-  store = let both : store_row s ∷ [] ≡ store_row t ∷ [] = ap (λ (r : Rows). r.store) e in cc
+  store : store_row v s ≡ store_row v t
+  store = let both : store_row v s ∷ [] ≡ store_row v t ∷ [] = ap (λ (r : Rows). r.store) e in cc
 
   events : s.captured.events ≡ t.captured.events
   events =
@@ -61,10 +62,10 @@ module _ (s t : Record) (hs : IsKept s) (ht : IsKept t) (e : rows_of s ≡ rows_
       let site : s.captured.me ≡ t.captured.me = hs.sound.one_site ∙ me ∙ sym ht.sound.one_site in
       λ i. record { me = site i; events = events i }
 
-pub same_record : (s t : Record) → IsKept s → IsKept t → rows_of s ≡ rows_of t → s ≡ t
-same_record s t hs ht e =
-    let one = sites s t hs ht e in
-    let two = captured s t hs ht e in
-    let three = quarantine s t hs ht e in
-    let four = engagement s t hs ht e in
+pub same_record : (v : Version) (s t : Record) → IsKept s → IsKept t → rows_under v s ≡ rows_under v t → s ≡ t
+same_record v s t hs ht e =
+    let one = sites v s t hs ht e in
+    let two = captured v s t hs ht e in
+    let three = quarantine v s t hs ht e in
+    let four = engagement v s t hs ht e in
     λ i. record { sites = one i; captured = two i; quarantine = three i; engagement = four i }

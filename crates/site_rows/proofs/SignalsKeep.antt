@@ -1,19 +1,17 @@
 -- What a signal leaves of a record that a site may keep.
 use Rattle.std.proofs.Common.{◌≡◌, ℕ, All, List, Some, length, sym, subst}
-use Rattle.std.specs.Prelude.{IsUtf8}
 use Rattle.std.specs.FinMap.{get}
-use Rattle.epc_core.specs.Spellings.{IsKey}
+use Rattle.site_rows.specs.Texts.{IsItemText}
 use Rattle.event_json.specs.Sites.{AreSites, Site}
 use Rattle.frame_core.specs.declared.frames.Frame.TheVariants as frames
 use Rattle.frame_core.specs.declared.rows.Row.{Row}
-use Rattle.frame_core.specs.Numbers.{Recall, Message}
+use Rattle.frame_core.specs.Numbers.{Message}
 use Rattle.scholten_core.specs.Effects.{Clears}
 use Rattle.scholten_core.specs.Engagement.{Engagement}
 use Rattle.scholten_core.specs.declared.own_recalls.Own.{Own}
 use Rattle.trace_core.specs.Sites.{SiteEvents}
 use Rattle.site_core.specs.Laws.{StepsStaySound}
-use Rattle.site_core.specs.Quarantines.{Items, Quarantine}
-use Rattle.site_core.specs.ItemSets as set
+use Rattle.site_core.specs.Quarantines.{Quarantine}
 use Rattle.site_core.specs.Records.{Record}
 use Rattle.site_core.specs.StepLaws.{SignalsClear}
 use Rattle.site_core.specs.Steps.{Does}
@@ -21,7 +19,7 @@ use Rattle.site_core.specs.Ways.{ClearsRow}
 use Rattle.site_core.specs.declared.inputs.SiteInput.TheVariants.{Deliver}
 use Rattle.site_core.specs.declared.outcomes.Effects.{Effects}
 use Rattle.site_core.specs.declared.outcomes.Effects.TheVariants as effects
-use Rattle.site_rows.specs.Laws.{IsKept, HoldsItems, HoldsKeys, HoldsTexts, IsEventAmong, IsSiteInUtf8, IsEventInUtf8, SignalsKeepItems}
+use Rattle.site_rows.specs.Laws.{HasTexts, HoldsItems, HoldsKeys, IsEventAmong, SignalsKeepItems}
 
 -- what is asked of the engagement: the text of each message and of each own recall's root
 record IsOfTexts (P : List ℕ → Type 0) (d : Engagement) : Type 0 where
@@ -48,34 +46,27 @@ same_parts P Q R s t n row c it = (
 
 items_stay : (s t : Record) (n : ℕ) (row : Row) → ClearsRow s t n row → HoldsItems s → HoldsItems t
 items_stay s t n row c it =
-    let parts = same_parts (λ _. Unit {0}) (λ sites captured. All (IsEventAmong (length sites)) captured.events) HoldsKeys s t n row c (tt, it.events, it.quarantine) in
-    let texts = texts_stay IsKey s.engagement t.engagement n row c.clears (record { outbox = it.engagement.outbox; own = it.engagement.own }) in
-    record { events = parts.1; quarantine = parts.2; engagement = record { outbox = texts.outbox; own = texts.own } }
-
-utf8_stays : (s t : Record) (n : ℕ) (row : Row) → ClearsRow s t n row → HoldsTexts s → HoldsTexts t
-utf8_stays s t n row c it =
-    let parts = same_parts (All IsSiteInUtf8) (λ _ captured. All IsEventInUtf8 captured.events)
-    (λ q. (r : Recall) (items : Items) → get q r ≡ Some items → All IsUtf8 (set.items items)) s t n row c (it.sites, it.events, it.quarantine) in
-    let texts = texts_stay IsUtf8 s.engagement t.engagement n row c.clears (record { outbox = it.outbox; own = it.own }) in
-    record { sites = parts.0; events = parts.1; quarantine = parts.2; outbox = texts.outbox; own = texts.own }
+    let parts = same_parts (All HasTexts) (λ sites captured. All (IsEventAmong (length sites)) captured.events) HoldsKeys s t n row c (it.sites, it.events, it.quarantine) in
+    let texts = texts_stay IsItemText s.engagement t.engagement n row c.clears (record { outbox = it.engagement.outbox; own = it.engagement.own }) in
+    record { sites = parts.0; events = parts.1; quarantine = parts.2; engagement = record { outbox = texts.outbox; own = texts.own } }
 
 abbrev Stay : Record → Record → Type 0
-Stay s t = (AreSites s.sites → AreSites t.sites) × (HoldsItems s → HoldsItems t) × (HoldsTexts s → HoldsTexts t)
+Stay s t = (AreSites s.sites → AreSites t.sites) × (HoldsItems s → HoldsItems t)
 
 cleared : (s t : Record) (n : ℕ) (row : Row) → ClearsRow s t n row → Stay s t
-cleared s t n row c = (λ it. subst AreSites (sym c.sites) it, items_stay s t n row c, utf8_stays s t n row c)
+cleared s t n row c = (λ it. subst AreSites (sym c.sites) it, items_stay s t n row c)
 
 stay : SignalsClear → (s t : Record) (m : Message) (by : ℕ) (told : Effects) → Does s (Deliver (frames.Signal m by)) told t → Stay s t
 stay clears s t m by effects.Cleared does = let c = (clears s t m by).0 does in cleared s t m.number c.row c.clears
 stay clears s t m by (effects.ParentDue parent) does = let c = (clears s t m by).1 parent does in cleared s t m.number c.row c.clears
 stay clears s t m by (effects.Ended recall) does = let c = (clears s t m by).2 recall does in cleared s t m.number c.row c.clears
-stay clears s t m by effects.Stale does = (λ it. subst (λ (x : Record). AreSites x.sites) (sym does.1) it, λ it. subst HoldsItems (sym does.1) it, λ it. subst HoldsTexts (sym does.1) it)
+stay clears s t m by effects.Stale does = (λ it. subst (λ (x : Record). AreSites x.sites) (sym does.1) it, λ it. subst HoldsItems (sym does.1) it)
 stay clears s t m by effects.Repeat does = absurd does
 stay clears s t m by (effects.Captured fresh known skipped) does = absurd does
 stay clears s t m by (effects.Started recall quarantined numbered ended) does = absurd does
 stay clears s t m by (effects.Received quarantined numbered owed) does = absurd does
 
 pub signals_keep : SignalsClear → StepsStaySound → SignalsKeepItems
-signals_keep clears sound s t m by told does kept items texts =
+signals_keep clears sound s t m by told does kept items =
     let it = stay clears s t m by told does in
-    (record { sites = it.0 kept.sites; sound = sound s (Deliver (frames.Signal m by)) told t kept.sound does }, it.1 items, it.2 texts)
+    (record { sites = it.0 kept.sites; sound = sound s (Deliver (frames.Signal m by)) told t kept.sound does }, it.1 items)

@@ -47,11 +47,14 @@ start_leads : (s : Record) (root : List ℕ) (new : List (List ℕ)) (out : List
 start_leads s root new out newly =
     let e = s.engagement in
     record {
+      version = refl;
       store = refl;
       site = refl;
       address = refl;
       event = sym (append-nil _);
       part = sym (append-nil _);
+      pack = refl;
+      packed = refl;
       quarantine = newly_held_rows s.quarantine (next_own e) new newly.ascending (λ j there. ((newly.exact j).0 there).1);
       outbox = numbered_messages e.outbox e.next_message (next_own e) out;
       seen = nothing_more _;

@@ -195,12 +195,15 @@ recalls_stand m row =
 
 pub rows_stand : RowsStandForTheRecord
 rows_stand = λ s kept. record {
+  version = refl;
   store = refl;
   site = λ row. (numbered_from 0 (λ j. j) from_none site_row s.sites row, λ t. numbered_to 0 (λ j. j) from_none site_row s.sites row t.0 t.1 t.2 t.3);
   address = addresses_stand s.sites kept.sites;
   events = length-map (enumerate_from 1 s.captured.events) event_row ∙ length-enumerate_from 1 s.captured.events;
   event = event_told s.captured.events;
   part = λ row. (members_from s row, members_to s row);
+  pack = refl;
+  packed = refl;
   quarantine = λ row. (
     held_in_rows s.quarantine row,
     λ t. subst (Contains (flat_map quarantine_rows (entries s.quarantine))) (sym t.3) (row_of_held s.quarantine t.0 t.1 t.2),

@@ -22,6 +22,7 @@ use Rattle.site_rows.specs.declared.changes.RowChanges.{RowChanges}
 use Rattle.site_rows.specs.declared.rows.ParentRow.{ParentRow}
 use Rattle.site_rows.specs.declared.rows.StoreRow.{StoreRow}
 use Rattle.site_rows.specs.RecordRows.{quarantine_row, seen_row, parent_row, store_row, rows_of}
+use Rattle.site_rows.specs.declared.tables.Version.TheVariants.{Second}
 use Rattle.site_rows.specs.StepRows.{LeadsTo, AreChangesOf, no_changes, no_rows, counts_of, counts_told, numbers_of, numbers_changed, renumbered}
 use Rattle.site_rows.proofs.CapturesLead.{nothing_more}
 use Rattle.site_rows.proofs.ChangedEntries.{new_row}
@@ -81,10 +82,10 @@ after_taking s m r new out owed = record s { quarantine = with_items s.quarantin
 
 store_by : (s : Record) (m : Message) (r : Recall) (new : List (List ℕ)) (out : List (ℕ × List ℕ)) (owed : Bool) (b : Bool)
     → nat_lt s.engagement.next_message (s.engagement.next_message + length out) ≡ b
-    → store_row (after_taking s m r new out owed) ∷ [] ≡ renumbered (if b then Some (numbers_of (taken s.engagement m r out owed)) else None) (store_row s ∷ [])
+    → store_row Second (after_taking s m r new out owed) ∷ [] ≡ renumbered (if b then Some (numbers_of (taken s.engagement m r out owed)) else None) (store_row Second s ∷ [])
 store_by s m r new out owed true is = refl
 store_by s m r new out owed false is =
-    let numbered_to : ℕ → StoreRow = λ k. record (store_row s) { next_message = pos k } in
+    let numbered_to : ℕ → StoreRow = λ k. record (store_row Second s) { next_message = pos k } in
     ap (λ k. numbered_to k ∷ []) (unraised s.engagement.next_message (length out) is)
 
 parent_by : (e : Engagement) (m : Message) (r : Recall) (owed : Bool) → HadNone e r owed
@@ -107,11 +108,14 @@ take_leads : (s : Record) (m : Message) (r : Recall) (i : List ℕ) (new : List 
 take_leads s m r i new out owed unseen newly none =
     let e = s.engagement in
     record {
+      version = refl;
       store = store_by s m r new out owed (nat_lt e.next_message (e.next_message + length out)) refl;
       site = refl;
       address = refl;
       event = sym (append-nil _);
       part = sym (append-nil _);
+      pack = refl;
+      packed = refl;
       quarantine = newly_held_rows s.quarantine r new newly.ascending (λ j there. ((newly.exact j).0 there).1);
       outbox = numbered_messages e.outbox e.next_message r out;
       seen = new_row message_total message_exact seen_row e.seen m r unseen;

@@ -1,9 +1,8 @@
 -- The rows of addresses that stand in no record's rows.
 use Rattle.std.specs.Prelude.{◌≡◌, ◌⊎◌, ℕ, ℤ, pos, ◌-ℤ◌, ◌+◌, ◌<◌, ⊤, Any, List, take, Some, slice_get}
 use Rattle.std.specs.declared.cmp.Ordering.TheVariants.{Less}
-use Rattle.epc_core.specs.Spellings.{IsPlain}
 use Rattle.site_rows.specs.BadRows.{IsSiteNumber}
-use Rattle.site_rows.specs.Texts.{text_cmp}
+use Rattle.site_rows.specs.Texts.{IsPlainText, text_cmp}
 use Rattle.site_rows.specs.declared.reading_entries.TableFault.{TableFault}
 use Rattle.site_rows.specs.declared.reading_entries.TableFault.TheVariants.{NoMemory, BadRow}
 use Rattle.site_rows.specs.declared.rows.AddressRow.{AddressRow}
@@ -17,10 +16,11 @@ pub record IsPlace (n : ℤ) (place : ℕ) : Type 0 where
   pub place_of : n ≡ pos place
   pub small : place < 16
 
--- the row at place k, from 0, is one of an address of one of so many sites: its text is plain, its place is 0 to 15, no
--- row before it is of the same place, the place before it has a row too, and its text comes after the row before it
+-- the row at place k, from 0, is one of an address of one of so many sites: its text is plain and UTF-8, its
+-- place is 0 to 15, no row before it is of the same place, the place before it has a row too, and its text comes after the
+-- row before it
 pub record IsAddress (sites : ℕ) (rows : List AddressRow) (k : ℕ) (row : AddressRow) : Type 0 where
-  pub plain : IsPlain row.text
+  pub plain : IsPlainText row.text
   pub site : (s : ℕ) × IsSiteNumber sites row.site s
   pub place : (p : ℕ) × IsPlace row.place p
   pub once : Stands (take k rows) row.site row.place → ⊥

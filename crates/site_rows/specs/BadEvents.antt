@@ -1,6 +1,6 @@
 -- The rows of events that stand in no record's rows, the members of their lists aside.
 use Rattle.std.specs.Prelude.{◌≡◌, ◌⊎◌, ℕ, ℤ, pos, ◌+◌, ◌<◌, ⊤, List, Some, None, slice_get}
-use Rattle.event_json.specs.Events.{IsIdentifier}
+use Rattle.site_rows.specs.Texts.{IsTextOrNone}
 use Rattle.site_rows.specs.declared.reading_entries.TableFault.{TableFault}
 use Rattle.site_rows.specs.declared.reading_entries.TableFault.TheVariants.{NoMemory, BadRow}
 use Rattle.site_rows.specs.declared.rows.EventRow.{EventRow}
@@ -10,15 +10,15 @@ pub record IsBelow (most : ℕ) (n : ℤ) (m : ℕ) : Type 0 where
   pub number : n ≡ pos m
   pub below : m < most
 
--- the row at place k, from 0, is one of an event: its number is the next one, from 1, its eventID is plain where it has
--- one, its nanoseconds are 0 to 999,999,999, its kind is a Note, a Ship or a Make, and only a Make has a
--- transformationID, which is plain
+-- the row at place k, from 0, is one of an event: its number is the next one, from 1, its eventID is plain and UTF-8
+-- where it has one, its nanoseconds are 0 to 999,999,999, its kind is a Note, a Ship or a Make, and only a Make has a
+-- transformationID, which is plain and UTF-8
 pub record IsEvent (k : ℕ) (row : EventRow) : Type 0 where
   pub number : row.no ≡ pos (k + 1)
-  pub id : IsIdentifier row.id
+  pub id : IsTextOrNone row.id
   pub nanos : (n : ℕ) × IsBelow 1_000_000_000 row.nanos n
   pub kind : (n : ℕ) × IsBelow 3 row.kind n
-  pub make_id : IsIdentifier row.make_id
+  pub make_id : IsTextOrNone row.make_id
   pub of_make : (row.kind ≡ pos 2) ⊎ (row.make_id ≡ None)
 
 -- the rows of all events

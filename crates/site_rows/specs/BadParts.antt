@@ -1,13 +1,13 @@
 -- The rows of the lists of events that stand in no record's rows.
 use Rattle.std.specs.Prelude.{◌≡◌, ◌<◌, ℕ, ℤ, pos, ⊤, All, List, [], ◌∷◌, flat_map, length, Option}
 use Rattle.std.specs.List.{enumerate_from}
-use Rattle.epc_core.specs.Spellings.{IsKey, IsPlain}
 use Rattle.event_json.specs.Contents.{kind_of, id_of}
 use Rattle.event_json.specs.Events.{IsBody}
 use Rattle.event_json.specs.Sites.{Site}
 use Rattle.event_json.specs.declared.bodies.Body.{Body}
 use Rattle.event_json.specs.declared.bodies.Body.TheVariants.{Note, Ship, Make}
 use Rattle.site_rows.specs.RecordRows.{body_rows}
+use Rattle.site_rows.specs.Texts.{IsItemText, IsPlainText}
 use Rattle.site_rows.specs.declared.rows.EventRow.{EventRow}
 use Rattle.site_rows.specs.declared.rows.PartRow.{PartRow}
 use Rattle.site_rows.specs.declared.rows.SiteRow.{SiteRow}
@@ -17,11 +17,11 @@ abbrev pub site_of_row : SiteRow → Site
 site_of_row row = record { name = row.name; addresses = [] }
 
 -- the items of an event are items, the sites that it ships to are of a list of this length, and the destinations outside
--- are plain
+-- are plain; all of them are UTF-8
 abbrev pub AreMembers : ℕ → Body → Type 0
-AreMembers sites (Note items) = All IsKey items
-AreMembers sites (Ship items to outside) = All IsKey items × All (λ t. t < sites) to × All IsPlain outside
-AreMembers sites (Make id ins outs) = All IsKey ins × All IsKey outs
+AreMembers sites (Note items) = All IsItemText items
+AreMembers sites (Ship items to outside) = All IsItemText items × All (λ t. t < sites) to × All IsPlainText outside
+AreMembers sites (Make id ins outs) = All IsItemText ins × All IsItemText outs
 
 -- an event of this kind and transformationID may say this of its items: its lists are within the limits of an event,
 -- and their members are items, sites and destinations

@@ -4,7 +4,6 @@ use Rattle.std.specs.List.{enumerate_from}
 use Rattle.std.specs.FinMap.{FinMap, entries}
 use Rattle.std.specs.Ordering.{nat_cmp}
 use Rattle.std.specs.declared.cmp.Ordering.{Ordering}
-use Rattle.epc_core.specs.Spellings.{IsKey}
 use Rattle.event_json.specs.Sites.{Site, AreSites}
 use Rattle.frame_core.specs.Identifiers.{recall_cmp, message_cmp}
 use Rattle.frame_core.specs.Numbers.{Recall, Message}
@@ -13,10 +12,12 @@ use Rattle.frame_core.specs.declared.rows.Row.{Row}
 use Rattle.scholten_core.specs.declared.own_recalls.Own.{Own}
 use Rattle.site_core.specs.Records.{IsNumber, IsRecallAmong, IsMessageAmong, IsRowAmong}
 use Rattle.site_rows.specs.HeldItems.{held_cmp}
-use Rattle.site_rows.specs.RecordRows.{site_row, quarantine_row, outbox_row, seen_row, parent_row, recall_row}
+use Rattle.site_rows.specs.Texts.{IsItemText}
+use Rattle.site_rows.specs.RecordRows.{version_number, site_row, quarantine_row, outbox_row, seen_row, parent_row, recall_row}
 use Rattle.site_rows.specs.declared.reading_entries.TableFault.{TableFault}
 use Rattle.site_rows.specs.declared.reading_entries.TableFault.TheVariants.{NoMemory, BadRow}
 use Rattle.site_rows.specs.declared.reading_sites.StoreNumbers.{StoreNumbers}
+use Rattle.site_rows.specs.declared.tables.Version.{Version}
 use Rattle.site_rows.specs.declared.rows.StoreRow.{StoreRow}
 use Rattle.site_rows.specs.declared.rows.SiteRow.{SiteRow}
 use Rattle.site_rows.specs.declared.rows.QuarantineRow.{QuarantineRow}
@@ -67,28 +68,32 @@ pub record IsMessageRow (sites : ℕ) (s n : ℤ) (message : Message) : Type 0 w
   pub number : n ≡ pos message.number
   pub among : IsMessageAmong sites message
 
--- a text of a row is the key of an item
+-- a text of a row is the key of an item, in UTF-8
 pub record IsItemRow (text i : List ℕ) : Type 0 where
   pub same : i ≡ text
-  pub key : IsKey text
+  pub key : IsItemText text
 
 -- ---- the tables of the sites
 
--- the one row of `store`: version 1, a site of the table `site` whose number is 0 to 15, and next numbers 1 to 2^62 + 1
-pub record IsStore (sites : List SiteRow) (rows : List StoreRow) (n : StoreNumbers) : Type 0 where
-  pub same : rows ≡ record { version = pos 1; me = pos n.me; next_message = pos n.next_message; next_recall = pos n.next_recall } ∷ []
+-- the one row of `store`: the number of the version, a site of the table `site` whose number is 0 to 15, and next numbers 1 to 2^62 + 1
+pub record IsStore (version : Version) (sites : List SiteRow) (rows : List StoreRow) (n : StoreNumbers) : Type 0 where
+  pub same : rows ≡ record { version = version_number version; me = pos n.me; next_message = pos n.next_message; next_recall = pos n.next_recall } ∷ []
   pub small : n.me < 16
   pub listed : Any (λ s. s.no ≡ pos n.me) sites
   pub next_message : IsNextNumber n.next_message
   pub next_recall : IsNextNumber n.next_recall
 
-abbrev pub IsStoreTable : List SiteRow → List StoreRow → Type 0
-IsStoreTable sites rows = (n : StoreNumbers) × IsStore sites rows n
+abbrev pub IsStoreTable : Version → List SiteRow → List StoreRow → Type 0
+IsStoreTable version sites rows = (n : StoreNumbers) × IsStore version sites rows n
 
 -- the rows of `site`: at most 16 sites, numbered from 0, each with a name that is 1 to 16 letters, digits, `_` or `-`, no
 -- two with one name
 abbrev pub IsSiteTable : List SiteRow → Type 0
 IsSiteTable rows = (sites : List Site) × AreSites sites × (rows ≡ map site_row (enumerate_from 0 sites))
+
+-- ---- a table that has no rows
+abbrev pub IsEmptyTable : {R : Type 0} → List R → Type 0
+IsEmptyTable rows = rows ≡ []
 
 -- ---- tables that are finite maps: each row is that of an entry, and their keys rise
 
@@ -110,7 +115,7 @@ pub record AreOfMap {R K V : Type 0} (cmp : K → K → Ordering) (Is : R → K 
 pub record IsOutboxEntry (sites : ℕ) (row : OutboxRow) (number : ℕ) (message : Row) : Type 0 where
   pub same : row ≡ outbox_row (number, message)
   pub among : IsRowAmong sites number message
-  pub item : IsKey message.item
+  pub item : IsItemText message.item
 
 -- a message that was handled: both numbers are 1 to 2^62, and both sites are of the list
 pub record IsSeenEntry (sites : ℕ) (row : SeenRow) (m : Message) (r : Recall) : Type 0 where
@@ -128,13 +133,13 @@ pub record IsParentEntry (sites : ℕ) (row : ParentRow) (r : Recall) (m : Messa
 pub record IsOwnEntry (row : RecallRow) (n : ℕ) (own : Own) : Type 0 where
   pub same : row ≡ recall_row (n, own)
   pub number : IsNumber n
-  pub root : IsKey own.root
+  pub root : IsItemText own.root
 
 -- an item that is quarantined under a recall
 pub record IsHeldRow (sites : ℕ) (row : QuarantineRow) (r : Recall) (i : List ℕ) : Type 0 where
   pub same : row ≡ quarantine_row r i
   pub among : IsRecallAmong sites r
-  pub item : IsKey i
+  pub item : IsItemText i
 
 abbrev pub IsHeldEntry : ℕ → QuarantineRow → Recall × List ℕ → ⊤ → Type 0
 IsHeldEntry sites row p u = IsHeldRow sites row p.0 p.1

@@ -9,7 +9,6 @@ pub mod Laws
 pub mod PartsInTurn
 pub mod ReadRows
 pub mod RecordRows
-pub mod Shown
 pub mod StepRows
 pub mod TableLaws
 pub mod Texts

@@ -4,22 +4,24 @@ use Rattle.std.specs.List.{AllByRecursion}
 use Rattle.site_rows.specs.BadAddresses.{IsFirstBadAddress}
 use Rattle.site_rows.specs.BadEvents.{IsFirstBadEvent}
 use Rattle.site_rows.specs.BadParts.{IsPartTable, site_of_row}
-use Rattle.site_rows.specs.BadRows.{IsFirstBad, IsStoreTable, IsSiteTable, IsQuarantineTable, IsOutboxTable, IsSeenTable, IsParentTable, IsRecallTable}
+use Rattle.site_rows.specs.BadRows.{IsEmptyTable, IsFirstBad, IsStoreTable, IsSiteTable, IsQuarantineTable, IsOutboxTable, IsSeenTable, IsParentTable, IsRecallTable}
 use Rattle.site_rows.specs.declared.reading.StateFault.{StateFault}
 use Rattle.site_rows.specs.declared.reading.StateFault.TheVariants as fault
 use Rattle.site_rows.specs.declared.tables.Table.{Table}
-use Rattle.site_rows.specs.declared.tables.Table.TheVariants.{Store, Site, Address, Event, Part, Quarantine, Outbox, Seen, Parent, Recall}
+use Rattle.site_rows.specs.declared.tables.Table.TheVariants.{Store, Site, Address, Event, Part, Pack, Packed, Quarantine, Outbox, Seen, Parent, Recall}
 use Rattle.site_rows.specs.declared.reading_entries.TableFault.{TableFault}
 use Rattle.site_rows.specs.declared.reading_entries.TableFault.TheVariants.{NoMemory, BadRow}
 use Rattle.site_rows.specs.declared.rows.Rows.{Rows}
 
 -- the row at a place, from 1, is the first bad one of its table
 abbrev pub IsBadRow : Rows → Table → ℕ → Type 0
-IsBadRow rows Store place = IsFirstBad (IsStoreTable rows.site) rows.store place
+IsBadRow rows Store place = IsFirstBad (IsStoreTable rows.version rows.site) rows.store place
 IsBadRow rows Site place = IsFirstBad IsSiteTable rows.site place
 IsBadRow rows Address place = IsFirstBadAddress (length rows.site) rows.address place
 IsBadRow rows Event place = IsFirstBadEvent rows.event place
 IsBadRow rows Part place = IsFirstBad (IsPartTable (map site_of_row rows.site) rows.event) rows.part place
+IsBadRow rows Pack place = IsFirstBad IsEmptyTable rows.pack place
+IsBadRow rows Packed place = IsFirstBad IsEmptyTable rows.packed place
 IsBadRow rows Quarantine place = IsFirstBad (IsQuarantineTable (length rows.site)) rows.quarantine place
 IsBadRow rows Outbox place = IsFirstBad (IsOutboxTable (length rows.site)) rows.outbox place
 IsBadRow rows Seen place = IsFirstBad (IsSeenTable (length rows.site)) rows.seen place
@@ -36,7 +38,7 @@ HaveNoBadRow rows tables = AllByRecursion (HasNoBadRow rows) tables
 
 -- the tables in the order in which they are read
 abbrev pub tables_in_order : List Table
-tables_in_order = Store ∷ Site ∷ Address ∷ Event ∷ Part ∷ Quarantine ∷ Outbox ∷ Seen ∷ Parent ∷ Recall ∷ []
+tables_in_order = Store ∷ Site ∷ Address ∷ Event ∷ Part ∷ Pack ∷ Packed ∷ Quarantine ∷ Outbox ∷ Seen ∷ Parent ∷ Recall ∷ []
 
 -- the tables in their order are some without a bad row, then this one, and others
 abbrev pub AreGoodBefore : Rows → Table → Type 0

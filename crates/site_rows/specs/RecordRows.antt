@@ -17,6 +17,8 @@ use Rattle.site_core.specs.Quarantines.{Items}
 use Rattle.site_core.specs.Records.{Record}
 use Rattle.site_rows.specs.Texts.{text_cmp}
 use Rattle.site_rows.specs.declared.address_rows.Address.{Address}
+use Rattle.site_rows.specs.declared.tables.Version.{Version}
+use Rattle.site_rows.specs.declared.tables.Version.TheVariants.{First, Second}
 use Rattle.site_rows.specs.declared.rows.StoreRow.{StoreRow}
 use Rattle.site_rows.specs.declared.rows.SiteRow.{SiteRow}
 use Rattle.site_rows.specs.declared.rows.AddressRow.{AddressRow}
@@ -29,9 +31,14 @@ use Rattle.site_rows.specs.declared.rows.ParentRow.{ParentRow}
 use Rattle.site_rows.specs.declared.rows.RecallRow.{RecallRow}
 use Rattle.site_rows.specs.declared.rows.Rows.{Rows}
 
--- the site's own number and the next numbers, under version 1
-abbrev pub store_row : Record → StoreRow
-store_row s = record { version = pos 1; me = pos s.engagement.me; next_message = pos s.engagement.next_message; next_recall = pos s.engagement.next_recall }
+-- the number of a version of the tables
+abbrev pub version_number : Version → ℤ
+version_number First = pos 1
+version_number Second = pos 2
+
+-- the site's own number and the next numbers, under a version
+abbrev pub store_row : Version → Record → StoreRow
+store_row v s = record { version = version_number v; me = pos s.engagement.me; next_message = pos s.engagement.next_message; next_recall = pos s.engagement.next_recall }
 
 -- a site at its number
 abbrev pub site_row : ℕ × Site → SiteRow
@@ -122,17 +129,24 @@ parent_row e = record { recall_site = pos e.0.site; recall_no = pos e.0.number; 
 abbrev pub recall_row : ℕ × Own → RecallRow
 recall_row e = record { number = pos e.0; root = e.1.root; ended = pos (cond e.1.ended 1 0) }
 
--- the rows of all tables
-abbrev pub rows_of : Record → Rows
-rows_of s = record {
-  store = store_row s ∷ [];
+-- the rows of all tables, under a version; nothing was packed yet
+abbrev pub rows_under : Version → Record → Rows
+rows_under v s = record {
+  version = v;
+  store = store_row v s ∷ [];
   site = map site_row (enumerate_from 0 s.sites);
   address = map address_row (finite.entries (addresses_of s.sites));
   event = map event_row (enumerate_from 1 s.captured.events);
   part = flat_map (parts_of s.sites) (enumerate_from 1 s.captured.events);
+  pack = [];
+  packed = [];
   quarantine = flat_map quarantine_rows (finite.entries s.quarantine);
   outbox = map outbox_row (finite.entries s.engagement.outbox);
   seen = map seen_row (finite.entries s.engagement.seen);
   parent = map parent_row (finite.entries s.engagement.parents);
   recall = map recall_row (finite.entries s.engagement.own);
 }
+
+-- those under the second version, which a site's own file has
+abbrev pub rows_of : Record → Rows
+rows_of = rows_under Second

@@ -44,11 +44,14 @@ renumbered (Some n) rows = map (with_numbers n) rows
 -- The changes lead from some rows to others. Events and their members come after those that stand; the rows of every
 -- other table are in any order.
 pub record LeadsTo (changes : RowChanges) (before after : Rows) : Type 0 where
+  pub version : after.version ≡ before.version
   pub store : after.store ≡ renumbered changes.numbers before.store
   pub site : after.site ≡ before.site
   pub address : after.address ≡ before.address
   pub event : after.event ≡ before.event ++ changes.event
   pub part : after.part ≡ before.part ++ changes.part
+  pub pack : after.pack ≡ before.pack
+  pub packed : after.packed ≡ before.packed
   pub quarantine : IsPermutation (before.quarantine ++ changes.quarantine) after.quarantine
   pub outbox : IsPermutation (fold without_message (fold put_message before.outbox changes.outbox) changes.signalled) after.outbox
   pub seen : IsPermutation (before.seen ++ changes.seen) after.seen

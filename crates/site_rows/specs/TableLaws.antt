@@ -13,6 +13,7 @@ use Rattle.site_core.specs.Records.{Record}
 use Rattle.site_rows.specs.BadEvents.{IsBelow}
 use Rattle.site_rows.specs.Laws.{IsKept}
 use Rattle.site_rows.specs.RecordRows.{name_of, rows_of}
+use Rattle.site_rows.specs.declared.tables.Version.TheVariants.{Second}
 use Rattle.site_rows.specs.declared.rows.SiteRow.{SiteRow}
 use Rattle.site_rows.specs.declared.rows.AddressRow.{AddressRow}
 use Rattle.site_rows.specs.declared.rows.EventRow.{EventRow}
@@ -66,13 +67,16 @@ pub record IsRowOfMember (s : Record) (row : PartRow) : Type 0 where
 
 -- the rows stand for the record: what is found in the record has its row, and each row stands for something that is found
 pub record StandFor (s : Record) (rows : Rows) : Type 0 where
-  pub store : rows.store ≡ record { version = pos 1; me = pos s.engagement.me; next_message = pos s.engagement.next_message; next_recall = pos s.engagement.next_recall } ∷ []
+  pub version : rows.version ≡ Second
+  pub store : rows.store ≡ record { version = pos 2; me = pos s.engagement.me; next_message = pos s.engagement.next_message; next_recall = pos s.engagement.next_recall } ∷ []
   pub site : (row : SiteRow) → Contains rows.site row ↔ ((no : ℕ) × (site : Site) × (slice_get s.sites no ≡ Some site) × (row ≡ record { no = pos no; name = site.name }))
   pub address : (row : AddressRow) → Contains rows.address row
       ↔ ((no place : ℕ) × (site : Site) × (text : List ℕ) × (slice_get s.sites no ≡ Some site) × (slice_get site.addresses place ≡ Some text) × (row ≡ record { text = text; site = pos no; place = pos place }))
   pub events : length rows.event ≡ length s.captured.events
   pub event : (k : ℕ) (row : EventRow) → slice_get rows.event k ≡ Some row → (e : Content) × (slice_get s.captured.events k ≡ Some e) × IsRowOfEvent k e row
   pub part : (row : PartRow) → Contains rows.part row ↔ IsRowOfMember s row
+  pub pack : rows.pack ≡ []
+  pub packed : rows.packed ≡ []
   pub quarantine : (row : QuarantineRow) → Contains rows.quarantine row ↔ ((r : Recall) × (i : List ℕ) × IsTrue (held s.quarantine r i) × (row ≡ record { recall_site = pos r.site; recall_no = pos r.number; item = i }))
   pub outbox : (row : OutboxRow) → Contains rows.outbox row
       ↔ ((number : ℕ) × (m : Row) × (get s.engagement.outbox number ≡ Some m) × (row ≡ record { number = pos number; dest = pos m.dest; recall_site = pos m.recall.site; recall_no = pos m.recall.number; item = m.item }))

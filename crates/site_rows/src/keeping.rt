@@ -1,6 +1,7 @@
 //! What the types of all that a site keeps say of its texts.
-ghost use Rattle.std.specs.Prelude.{◌≡◌, ℕ, List, All, Contains, IfSome, IsUtf8, Some, length, option_map, slice_get};
+ghost use Rattle.std.specs.Prelude.{◌≡◌, ℕ, List, All, Contains, IsUtf8, Some, length, option_map, slice_get};
 ghost use Rattle.std.specs.FinMap.{get};
+ghost use Rattle.event_json.specs.Contents.{id_of};
 ghost use Rattle.event_json.specs.Sites.{ShipsAmong, Site};
 ghost use Rattle.frame_core.specs.Numbers.{Recall};
 ghost use Rattle.frame_core.specs.declared.rows.Row.{Row};
@@ -8,10 +9,10 @@ ghost use Rattle.scholten_core.specs.declared.own_recalls.Own.{Own};
 ghost use Rattle.site_core.specs.ItemSets as set;
 ghost use Rattle.site_core.specs.Quarantines.{Items};
 ghost use Rattle.site_rows.specs.BadParts.{AreMembers};
-ghost use Rattle.site_rows.specs.Laws.{HoldsItems, HoldsTexts, IsBodyInUtf8, IsKept, IsSiteInUtf8};
-ghost use Rattle.site_rows.specs.Shown.{IsEventOfTexts, IsItemText, IsPlainText};
+ghost use Rattle.site_rows.specs.Laws.{HasTexts, HoldsItems, IsEventAmong, IsKept};
+ghost use Rattle.site_rows.specs.Texts.{IsItemText, IsPlainText, IsTextOrNone};
 
-use crate::address_rows::{ADDRESSES, address_at, name_at};
+use crate::address_rows::{ADDRESSES, address_at};
 use epc_core::Epc;
 use event_json::{Body, PlainText, Sites};
 use frame_core::tables::Key;
@@ -20,13 +21,12 @@ use scholten_core::Own;
 use site_core::{ItemSet, SiteState};
 use std::collections::{BTreeMap, BTreeSet};
 
-/// What a site keeps is a record whose rows can be read back: its events are within their limits, its texts are those of
-/// items, sites and plain destinations, and each is UTF-8. It is for proofs: it goes through all that the site keeps,
-/// says nothing and changes nothing.
+/// What a site keeps is a record whose rows can be read back: its events are within their limits, and its texts are those
+/// of items, sites and plain destinations, in UTF-8. It is for proofs: it goes through all that the site keeps, says
+/// nothing and changes nothing.
 pub fn sites_keep_items(state: &SiteState)
     ensures kept { IsKept state.now }
     ensures items { HoldsItems state.now }
-    ensures texts { HoldsTexts state.now }
 {
     // Their readers show the proof that the sites are in order and the record is sound.
     let sites = state.sites();
@@ -38,35 +38,18 @@ pub fn sites_keep_items(state: &SiteState)
     show_own_recalls(state);
 }
 
-/// The texts of each site are UTF-8.
+/// The addresses of each site are UTF-8.
 fn show_sites(sites: &Sites)
-    ensures { All IsSiteInUtf8 sites.now }
+    ensures { All HasTexts sites.now }
 {
     for number in 0..sites.len() {
-        show_site(sites, number);
+        show_addresses(sites, number);
     }
 }
 
-/// The texts of the site of a number are.
-fn show_site(sites: &Sites, number: u64)
-    ensures { (site : Site) → slice_get sites.now number ≡ Some site → IsSiteInUtf8 site }
-{
-    show_name(sites, number);
-    show_addresses(sites, number);
-}
-
-/// Its name is.
-fn show_name(sites: &Sites, number: u64)
-    ensures { (site : Site) → slice_get sites.now number ≡ Some site → IsUtf8 site.name }
-{
-    if let Some(name) = name_at(sites, number) {
-        let _name = name.as_bytes();
-    }
-}
-
-/// Each of its addresses is.
+/// Those of the site of a number are.
 fn show_addresses(sites: &Sites, number: u64)
-    ensures { (site : Site) → slice_get sites.now number ≡ Some site → All IsUtf8 site.addresses }
+    ensures { (site : Site) → slice_get sites.now number ≡ Some site → HasTexts site }
 {
     // A site of a list has at most 16.
     let _few = sites.len();
@@ -84,9 +67,9 @@ fn show_address(sites: &Sites, number: u64, place: u64)
     }
 }
 
-/// Each captured event is one, with its texts in UTF-8.
+/// Each captured event is one.
 fn show_events(state: &SiteState)
-    ensures { All (IsEventOfTexts (length state.now.sites)) state.now.captured.events }
+    ensures { All (IsEventAmong (length state.now.sites)) state.now.captured.events }
 {
     for place in 0..state.captured().len() {
         show_event(state, place);
@@ -95,7 +78,7 @@ fn show_events(state: &SiteState)
 
 /// The event at a place is one.
 fn show_event(state: &SiteState, place: usize)
-    ensures { (e : _) → slice_get state.now.captured.events place ≡ Some e → IsEventOfTexts (length state.now.sites) e }
+    ensures { (e : _) → slice_get state.now.captured.events place ≡ Some e → IsEventAmong (length state.now.sites) e }
 {
     // Its reader shows the proof that events ship to sites of the list.
     let _me = state.me();
@@ -106,19 +89,19 @@ fn show_event(state: &SiteState, place: usize)
     }
 }
 
-/// An id is UTF-8, where there is one.
+/// An id is plain, where there is one.
 fn show_id(id: Option<&PlainText>)
-    ensures { IfSome (option_map (λ t. t.now) id.entry) IsUtf8 }
+    ensures { IsTextOrNone (option_map (λ t. t.now) id.entry) }
 {
     if let Some(text) = id {
         show_text(text);
     }
 }
 
-/// The members of an event are items, sites of the list and plain destinations, and its texts are UTF-8.
+/// The members of an event are items, sites of the list and plain destinations, and its transformationID is plain.
 fn show_body(body: &Body)
     ensures members { (sites : _) → ShipsAmong sites body.now → AreMembers sites body.now }
-    ensures texts { IsBodyInUtf8 body.now }
+    ensures id { IsTextOrNone (id_of body.now) }
 {
     match body {
         Body::Note { items } => show_items(items.as_slice()),
@@ -213,7 +196,7 @@ struct OfItems {}
 impl EntryFact<RecallId, ItemSet> for OfItems {
     ghost use Rattle.std.specs.Prelude.{All};
     ghost use Rattle.site_core.specs.ItemSets as set;
-    ghost use Rattle.site_rows.specs.Shown.{IsItemText};
+    ghost use Rattle.site_rows.specs.Texts.{IsItemText};
 
     ghost holds = { λ _ _ items. All IsItemText (set.items items) };
 
@@ -223,7 +206,7 @@ impl EntryFact<RecallId, ItemSet> for OfItems {
 }
 
 impl EntryFact<u64, Row> for OfItems {
-    ghost use Rattle.site_rows.specs.Shown.{IsItemText};
+    ghost use Rattle.site_rows.specs.Texts.{IsItemText};
 
     ghost holds = { λ _ _ row. IsItemText row.item };
 
@@ -233,7 +216,7 @@ impl EntryFact<u64, Row> for OfItems {
 }
 
 impl EntryFact<u64, Own> for OfItems {
-    ghost use Rattle.site_rows.specs.Shown.{IsItemText};
+    ghost use Rattle.site_rows.specs.Texts.{IsItemText};
 
     ghost holds = { λ _ _ own. IsItemText own.root };
 

@@ -20,6 +20,7 @@ mod reading_lists;
 mod reading_numbers;
 mod reading_recalls;
 mod reading_sites;
+mod reading_texts;
 mod recall_rows;
 mod rows;
 mod step_changes;
@@ -31,10 +32,10 @@ pub use changes::{Numbers, RecallKey, RowChanges};
 pub use keeping::sites_keep_items;
 pub use reading::{BadRow, StateFault, state_of};
 pub use rows::{
-    AddressRow, EventRow, OutboxRow, ParentRow, PartRow, QuarantineRow, RecallRow, Rows, SeenRow,
-    SiteRow, StoreRow,
+    AddressRow, EventRow, OutboxRow, PackRow, PackedRow, ParentRow, PartRow, QuarantineRow,
+    RecallRow, Rows, SeenRow, SiteRow, StoreRow,
 };
 pub use step_changes::{changes_of, signal_changes_of};
-pub use tables::Table;
+pub use tables::{Table, Version};
 pub use texts::Text;
 pub use writing::rows_of;

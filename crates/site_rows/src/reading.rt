@@ -1,17 +1,17 @@
 //! The record of a site, read back from the rows of its tables.
-ghost use Rattle.std.specs.Prelude.{◌≡◌, ◌≤◌, ◌∷◌, [], flat_map, length, map, All, IfOk, IfErr, MatchResult};
+ghost use Rattle.std.specs.Prelude.{◌≡◌, ◌≤◌, ◌∷◌, [], flat_map, length, map, All, IfOk, IfErr, MatchResult, OnOk};
 ghost use Rattle.std.specs.FinMap.{entries};
 ghost use Rattle.std.specs.List.{enumerate_from};
 ghost use Rattle.frame_core.specs.Unsignalled.{IsNextNumber};
 ghost use Rattle.site_core.specs.Records.{IsEngagementAmong, Record};
-ghost use Rattle.site_rows.specs.Laws.{HoldsItems, IsEventAmong, IsKept, NamesItems};
-ghost use Rattle.site_rows.specs.RecordRows.{rows_of, addresses_of, parts_of, address_row, event_row, outbox_row, parent_row, recall_row, seen_row, site_row};
+ghost use Rattle.site_rows.specs.Laws.{HasTexts, HoldsItems, IsEventAmong, IsKept, NamesItems};
+ghost use Rattle.site_rows.specs.RecordRows.{rows_under, addresses_of, parts_of, address_row, event_row, outbox_row, parent_row, recall_row, seen_row, site_row};
 ghost use Rattle.site_rows.specs.ReadRows.{HasNoBadRow, HaveNoBadRow, IsStateFault, IsFaultIn};
 ghost use Rattle.site_rows.specs.declared.reading.StateFault.TheVariants.{NoMemory};
 
 use crate::reading_addressed::addressed;
 use crate::reading_captured::captured_of;
-use crate::reading_entries::TableFault;
+use crate::reading_entries::{TableFault, check_empty};
 use crate::reading_events::check_events;
 use crate::reading_held::quarantine_of;
 use crate::reading_recalls::{outbox_of, own_of, parents_of, seen_of};
@@ -53,36 +53,37 @@ impl From<AllocError> for StateFault {
     }
 }
 
-/// The record whose rows these are, with the keys of the hash by which items are numbered, drawn at random, so that
-/// nobody can choose texts that collide.
+/// The record whose rows these are under their version, with the keys of the hash by which items are numbered, drawn at
+/// random, so that nobody can choose texts that collide.
 ///
 /// # Errors
 /// A bad row of the first table that has one, in the order of [`Table`]: the first bad one of that table. A row that is
 /// missing is named by the place where it would stand. And out of memory, which alone comes where the rows are those of
 /// a record.
 pub fn state_of(alloc: Global, keys: RandomState, rows: &Rows) -> Result<SiteState, StateFault>
-    ensures read { IfOk result (λ state. rows_of state ≡ rows.now) }
+    ensures read { IfOk result (λ state. rows_under rows.now.version state ≡ rows.now) }
     ensures bad { IfErr result (λ fault. IsStateFault rows.now fault) }
     ensures kept { IfOk result (λ state. IsKept state) }
     ensures items { IfOk result (λ state. HoldsItems state) }
-    ensures same { (s : Record) → IsKept s → HoldsItems s → rows_of s ≡ rows.now → MatchResult result (λ state. state ≡ s) (λ fault. fault ≡ NoMemory) }
+    ensures same { (s : Record) → IsKept s → HoldsItems s → rows_under rows.now.version s ≡ rows.now → MatchResult result (λ state. state ≡ s) (λ fault. fault ≡ NoMemory) }
 {
     read_state(alloc, keys, rows)
 }
 
 /// The record whose rows these are, which a site may keep.
 fn read_state(alloc: Global, keys: RandomState, rows: &Rows) -> Result<SiteState, StateFault>
-    ensures read { IfOk result (λ state. rows_of state ≡ rows.now) }
+    ensures read { IfOk result (λ state. rows_under rows.now.version state ≡ rows.now) }
     ensures kept { IfOk result (λ state. IsKept state) }
     ensures items { IfOk result (λ state. HoldsItems state) }
     ensures bad { IfErr result (λ fault. IsStateFault rows.now fault) }
 {
-    let numbers = match store_of(rows.site.as_slice(), rows.store.as_slice()) {
+    let numbers = match store_of(rows.version, rows.site.as_slice(), rows.store.as_slice()) {
         Ok(numbers) => numbers,
         Err(fault) => return Err(in_table(Table::Store, fault)),
     };
     let sites = sites_of(alloc, rows)?;
     let captured = events_of(alloc, keys, numbers.me, &sites, rows)?;
+    no_packs(rows)?;
     let quarantine = match quarantine_of(alloc, sites.len(), rows.quarantine.as_slice()) {
         Ok(quarantine) => quarantine,
         Err(fault) => return Err(in_table(Table::Quarantine, fault)),
@@ -106,6 +107,7 @@ fn sites_of(alloc: Global, rows: &Rows) -> Result<Sites, StateFault>
     requires good { HaveNoBadRow rows.now (Table.Store ∷ []) }
     ensures site { IfOk result (λ sites. rows.now.site ≡ map site_row (enumerate_from 0 sites)) }
     ensures address { IfOk result (λ sites. rows.now.address ≡ map address_row (entries (addresses_of sites))) }
+    ensures texts { IfOk result (λ sites. All HasTexts sites) }
     ensures good { IfOk result (λ _. HasNoBadRow rows.now Table.Site × HasNoBadRow rows.now Table.Address) }
     ensures bad { IfErr result (λ fault. IsStateFault rows.now fault) }
 {
@@ -154,6 +156,22 @@ fn events_of(
     }
 }
 
+/// Tests that nothing was packed, since no event of this kind is read yet.
+fn no_packs(rows: &Rows) -> Result<(), StateFault>
+    requires good { HaveNoBadRow rows.now (Table.Store ∷ Table.Site ∷ Table.Address ∷ Table.Event ∷ Table.Part ∷ []) }
+    ensures pack { OnOk result (rows.now.pack ≡ []) }
+    ensures packed { OnOk result (rows.now.packed ≡ []) }
+    ensures bad { IfErr result (λ fault. IsStateFault rows.now fault) }
+{
+    if let Err(fault) = check_empty(rows.pack.as_slice()) {
+        return Err(in_table(Table::Pack, fault));
+    }
+    match check_empty(rows.packed.as_slice()) {
+        Ok(()) => Ok(()),
+        Err(fault) => Err(in_table(Table::Packed, fault)),
+    }
+}
+
 /// The site's part in recalls, what is quarantined aside.
 fn diffusion_of(
     alloc: Global,
@@ -165,7 +183,7 @@ fn diffusion_of(
     requires count { sites ≡ length rows.now.site }
     requires next_message { IsNextNumber numbers.next_message }
     requires next_recall { IsNextNumber numbers.next_recall }
-    requires good { HaveNoBadRow rows.now (Table.Store ∷ Table.Site ∷ Table.Address ∷ Table.Event ∷ Table.Part ∷ Table.Quarantine ∷ []) }
+    requires good { HaveNoBadRow rows.now (Table.Store ∷ Table.Site ∷ Table.Address ∷ Table.Event ∷ Table.Part ∷ Table.Pack ∷ Table.Packed ∷ Table.Quarantine ∷ []) }
     ensures numbers { IfOk result (λ d. (d.me ≡ numbers.me) × (d.next_message ≡ numbers.next_message) × (d.next_recall ≡ numbers.next_recall)) }
     ensures outbox { IfOk result (λ d. rows.now.outbox ≡ map outbox_row (entries d.outbox)) }
     ensures seen { IfOk result (λ d. rows.now.seen ≡ map seen_row (entries d.seen)) }

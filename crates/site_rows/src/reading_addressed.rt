@@ -1,10 +1,11 @@
 //! The sites with their addresses, read back.
-ghost use Rattle.std.specs.Prelude.{◌≡◌, ◌≤◌, ◌↔◌, ◌++◌, ◌∷◌, [], List, ℕ, length, map, option_map, pos, IfOk, IfErr, IsTrue, OnOk, None};
+ghost use Rattle.std.specs.Prelude.{All, ◌≡◌, ◌≤◌, ◌↔◌, ◌++◌, ◌∷◌, [], List, ℕ, length, map, option_map, pos, IfOk, IfErr, IsTrue, OnOk, None};
 ghost use Rattle.std.specs.FinMap.{entries};
 ghost use Rattle.event_json.specs.Sites.{AreSites, Site, sites_fault};
 ghost use Rattle.site_rows.specs.AddressesInTurn.{AreTextsOf, HaveAddresses, IsRowAt};
 ghost use Rattle.site_rows.specs.BadAddresses.{IsAddressFault, IsAddressTable};
 ghost use Rattle.site_rows.specs.BadRows.{Tells};
+ghost use Rattle.site_rows.specs.Laws.{HasTexts};
 ghost use Rattle.site_rows.specs.RecordRows.{address_row, addresses_of};
 
 use crate::address_rows::name_at;
@@ -30,6 +31,7 @@ pub(crate) fn addressed(
     ensures names { IfOk result (λ sites. map (λ s. s.name) sites ≡ map (λ s. s.name) names.now) }
     ensures addresses { IfOk result (λ sites. rows.now ≡ map address_row (entries (addresses_of sites))) }
     ensures in_order { IfOk result AreSites }
+    ensures texts { IfOk result (λ sites. All HasTexts sites) }
     ensures bad { IfErr result (λ fault. IsAddressFault (length names.now) rows.now fault) }
 {
     check_addresses(names.len(), rows)?;
@@ -90,7 +92,11 @@ fn texts_of<'a>(
     let mut texts = Vec::new(alloc);
     for place in 0..ADDRESSES {
         match row_at(rows, number, place) {
-            Some(row) => texts.push(row.text.as_str())?,
+            Some(row) => match row.text.as_str() {
+                Some(text) => texts.push(text)?,
+                // A good row's text is UTF-8.
+                None => unreachable!(),
+            },
             None => return Ok(texts),
         }
     }

@@ -1,15 +1,14 @@
 //! The rows of the addresses, tested.
 ghost use Rattle.std.specs.Prelude.{◌≡◌, ◌≤◌, ◌↔◌, ◌⊎◌, ◌+◌, pos, ◌-ℤ◌, ℕ, Some, take, slice_get, IfErr, IsTrue, IsSome, OnOk};
 ghost use Rattle.std.specs.declared.cmp.Ordering.TheVariants.{Less};
-ghost use Rattle.epc_core.specs.Spellings.{IsPlain};
 ghost use Rattle.site_rows.specs.BadAddresses.{IsAddress, IsAddressFault, IsAddressTable, IsPlace, Stands};
 ghost use Rattle.site_rows.specs.BadRows.{IsSiteNumber};
 ghost use Rattle.site_rows.specs.Texts.{text_cmp};
 
 use crate::reading_entries::TableFault;
 use crate::reading_numbers::site_of;
+use crate::reading_texts::is_plain_text;
 use crate::rows::AddressRow;
-use epc_core::is_plain;
 use std::cmp::Ordering;
 
 /// The most addresses of a site.
@@ -18,8 +17,8 @@ const ADDRESSES: i64 = 16;
 /// Tests that the rows are those of addresses of so many sites. Does not allocate.
 ///
 /// # Errors
-/// The first row that is no address's: its text isn't plain or doesn't come after the text before it, its site isn't one
-/// of these, its place is not 0 to 15, an earlier row is of the same place, or no row is of the place before it.
+/// The first row that is no address's: its text isn't plain and UTF-8 or doesn't come after the text before it, its site
+/// isn't one of these, its place is not 0 to 15, an earlier row is of the same place, or no row is of the place before it.
 pub(crate) fn check_addresses(sites: u64, rows: &[AddressRow]) -> Result<(), TableFault>
     requires few { sites ≤ 16 }
     ensures good { OnOk result (IsAddressTable sites rows.now) }
@@ -39,7 +38,7 @@ fn is_address(sites: u64, rows: &[AddressRow], place: usize, row: &AddressRow) -
     requires there { slice_get rows.now place ≡ Some row.now }
     ensures { IsTrue result ↔ IsAddress sites rows.now place row.now }
 {
-    if !is_plain(row.text.as_str()) || !is_place(row.place) {
+    if !is_plain_text(&row.text) || !is_place(row.place) {
         return false;
     }
     let Some(_site) = site_of(sites, row.site) else {

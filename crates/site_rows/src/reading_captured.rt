@@ -2,16 +2,18 @@
 ghost use Rattle.std.specs.Prelude.{◌≡◌, ◌≤◌, ◌<◌, ◌⊎◌, ◌+◌, ◌^◌, ℕ, None, flat_map, length, map, option_map, pos, All, IfOk, IfErr, IfSome};
 ghost use Rattle.std.specs.Int.{int_div_euclid, int_rem_euclid};
 ghost use Rattle.std.specs.List.{enumerate_from};
-ghost use Rattle.event_json.specs.Events.{IsIdentifier, IsInstant};
+ghost use Rattle.event_json.specs.Events.{IsInstant};
 ghost use Rattle.site_rows.specs.BadEvents.{IsBelow, IsEvent, IsEventTable};
 ghost use Rattle.site_rows.specs.BadParts.{IsPartTable};
 ghost use Rattle.site_rows.specs.BadRows.{IsFaultOf};
 ghost use Rattle.site_rows.specs.Laws.{IsEventAmong};
 ghost use Rattle.site_rows.specs.PartsInTurn.{IsBodyAnswer};
 ghost use Rattle.site_rows.specs.RecordRows.{SECOND, event_row, parts_of};
+ghost use Rattle.site_rows.specs.Texts.{IsTextOrNone};
 
 use crate::reading_bodies::{make_at, note_at, ship_at};
 use crate::reading_entries::TableFault;
+use crate::reading_texts::plain_text_of;
 use crate::rows::{EventRow, PartRow};
 use crate::texts::Text;
 use event_json::{Body, Event, PlainText, SiteNo, Sites};
@@ -91,7 +93,7 @@ fn body_at(
 ) -> Result<Option<Body>, AllocError>
     requires within { at.old ≤ length parts.now }
     requires kind { (n : ℕ) × IsBelow 3 row.now.kind n }
-    requires make_id { IsIdentifier row.now.make_id }
+    requires make_id { IsTextOrNone row.now.make_id }
     requires of_make { (row.now.kind ≡ pos 2) ⊎ (row.now.make_id ≡ None) }
     ensures { IfOk result (λ body. IsBodyAnswer sites.now event row.now.kind row.now.make_id parts.now at.old at.new body) }
 {
@@ -107,14 +109,11 @@ fn body_at(
 
 /// A plain text, where there is one.
 fn identifier(alloc: Global, text: &Option<Text>) -> Result<Option<PlainText>, AllocError>
-    requires plain { IsIdentifier text.now }
+    requires plain { IsTextOrNone text.now }
     ensures { IfOk result (λ id. id ≡ text.now) }
 {
     match text {
-        Some(text) => match PlainText::read(alloc, text.as_str())? {
-            Some(id) => Ok(Some(id)),
-            None => Ok(None),
-        },
+        Some(text) => plain_text_of(alloc, text),
         None => Ok(None),
     }
 }

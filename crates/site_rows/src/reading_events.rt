@@ -1,13 +1,13 @@
 //! The rows of the events, tested.
 ghost use Rattle.std.specs.Prelude.{◌≡◌, ◌↔◌, ◌⊎◌, ◌+◌, pos, ℕ, Some, None, slice_get, IfErr, IsTrue, OnOk};
-ghost use Rattle.event_json.specs.Events.{IsIdentifier};
 ghost use Rattle.site_rows.specs.BadEvents.{IsBelow, IsEvent, IsEventFault, IsEventTable};
+ghost use Rattle.site_rows.specs.Texts.{IsTextOrNone};
 
 use crate::reading_entries::TableFault;
 use crate::reading_numbers::natural;
+use crate::reading_texts::is_plain_text;
 use crate::rows::EventRow;
 use crate::texts::Text;
-use epc_core::is_plain;
 
 /// A second has as many nanoseconds.
 const SECOND: u64 = 1_000_000_000;
@@ -22,7 +22,7 @@ const MAKE: i64 = 2;
 ///
 /// # Errors
 /// The first row that is no event's: its number isn't the next one, from 1, its eventID or its transformationID isn't
-/// plain, its nanoseconds or its kind are out of range, or it has a transformationID and makes no items.
+/// plain and UTF-8, its nanoseconds or its kind are out of range, or it has a transformationID and makes no items.
 pub(crate) fn check_events(rows: &[EventRow]) -> Result<(), TableFault>
     ensures good { OnOk result (IsEventTable rows.now) }
     ensures bad { IfErr result (λ fault. IsEventFault rows.now fault) }
@@ -58,12 +58,12 @@ fn is_next(place: usize, number: i64) -> bool
     }
 }
 
-/// Whether a text is plain, where there is one.
+/// Whether a text is plain and UTF-8, where there is one.
 fn is_identifier(text: &Option<Text>) -> bool
-    ensures { IsTrue result ↔ IsIdentifier text.now }
+    ensures { IsTrue result ↔ IsTextOrNone text.now }
 {
     match text {
-        Some(text) => is_plain(text.as_str()),
+        Some(text) => is_plain_text(text),
         None => true,
     }
 }

@@ -5,6 +5,7 @@ ghost use Rattle.site_rows.specs.PartsInTurn.{IsListRead, IsMemberAt};
 ghost use Rattle.site_rows.specs.RecordRows.{part_row};
 
 use crate::reading_numbers::natural;
+use crate::reading_texts::{item_of_key, plain_text_of};
 use crate::rows::PartRow;
 use crate::texts::Text;
 use epc_core::Epc;
@@ -30,26 +31,26 @@ pub(crate) trait Member: Drop + Sized {
 }
 
 impl Member for Epc {
-    ghost use Rattle.epc_core.specs.Spellings.{IsKey};
+    ghost use Rattle.site_rows.specs.Texts.{IsItemText};
 
-    ghost is = { λ _ item. IsKey item };
+    ghost is = { λ _ item. IsItemText item };
 
     ghost written = { λ _ item. item };
 
     fn read(alloc: Global, _sites: &Sites, text: &Text) -> Result<Option<Epc>, AllocError> {
-        Epc::from_key(alloc, text.as_str())
+        item_of_key(alloc, text)
     }
 }
 
 impl Member for PlainText {
-    ghost use Rattle.epc_core.specs.Spellings.{IsPlain};
+    ghost use Rattle.site_rows.specs.Texts.{IsPlainText};
 
-    ghost is = { λ _ text. IsPlain text };
+    ghost is = { λ _ text. IsPlainText text };
 
     ghost written = { λ _ text. text };
 
     fn read(alloc: Global, _sites: &Sites, text: &Text) -> Result<Option<PlainText>, AllocError> {
-        PlainText::read(alloc, text.as_str())
+        plain_text_of(alloc, text)
     }
 }
 
@@ -62,7 +63,12 @@ impl Member for SiteNo {
     ghost written = { name_of };
 
     fn read(_alloc: Global, sites: &Sites, text: &Text) -> Result<Option<SiteNo>, AllocError> {
-        Ok(sites.find(text.as_str()))
+        // The length shows the proof that these are sites, whose names are UTF-8.
+        let _count = sites.len();
+        match text.as_str() {
+            Some(name) => Ok(sites.find(name)),
+            None => Ok(None),
+        }
     }
 }
 

@@ -1,10 +1,10 @@
 //! Numbers, recalls, messages and items of rows, read back.
 ghost use Rattle.std.specs.Prelude.{◌≡◌, ◌≤◌, pos, IfOk};
-ghost use Rattle.epc_core.specs.Spellings.{IsKey};
 ghost use Rattle.frame_core.specs.Unsignalled.{IsNextNumber};
 ghost use Rattle.site_core.specs.Records.{IsNumber};
 ghost use Rattle.site_rows.specs.BadRows.{Tells, IsSiteNumber, IsRecallRow, IsMessageRow, IsItemRow};
 
+use crate::reading_texts::item_of_key;
 use crate::texts::Text;
 use epc_core::Epc;
 use event_json::SiteNo;
@@ -78,5 +78,5 @@ pub(crate) fn message_of(sites: u64, sender: i64, number: i64) -> Option<MsgId>
 pub(crate) fn item_of(alloc: Global, key: &Text) -> Result<Option<Epc>, AllocError>
     ensures { IfOk result (λ item. Tells item (IsItemRow key.now)) }
 {
-    Epc::from_key(alloc, key.as_str())
+    item_of_key(alloc, key)
 }

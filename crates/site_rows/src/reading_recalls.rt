@@ -2,7 +2,6 @@
 ghost use Rattle.std.specs.Prelude.{◌≡◌, ◌≤◌, ℕ, Some, map, IfOk, IfErr};
 ghost use Rattle.std.specs.FinMap.{entries, get};
 ghost use Rattle.std.specs.Ordering.{nat_cmp};
-ghost use Rattle.epc_core.specs.Spellings.{IsKey};
 ghost use Rattle.frame_core.specs.Identifiers.{recall_cmp, message_cmp};
 ghost use Rattle.frame_core.specs.Numbers.{Recall, Message};
 ghost use Rattle.frame_core.specs.Tables.{as_map};
@@ -11,6 +10,7 @@ ghost use Rattle.scholten_core.specs.declared.own_recalls.Own.{Own};
 ghost use Rattle.site_core.specs.Records.{IsNumber, IsRecallAmong, IsMessageAmong, IsRowAmong};
 ghost use Rattle.site_rows.specs.BadRows.{Tells, IsFaultOf, IsOutboxTable, IsSeenTable, IsParentTable, IsRecallTable, IsOutboxEntry, IsSeenEntry, IsParentEntry, IsOwnEntry};
 ghost use Rattle.site_rows.specs.RecordRows.{outbox_row, seen_row, parent_row, recall_row};
+ghost use Rattle.site_rows.specs.Texts.{IsItemText};
 
 use crate::reading_entries::{EntryRow, TableFault, append, entries_of};
 use crate::reading_numbers::{item_of, message_of, number_of, recall_of, site_of};
@@ -174,7 +174,7 @@ pub(crate) fn outbox_of(
 ) -> Result<BTreeMap<u64, Row>, TableFault>
     requires few { sites ≤ 16 }
     ensures rows { IfOk result (λ m. rows.now ≡ map outbox_row (entries (as_map nat_cmp m))) }
-    ensures among { IfOk result (λ m. (n : ℕ) (row : Row) → get (as_map nat_cmp m) n ≡ Some row → IsRowAmong sites n row × IsKey row.item) }
+    ensures among { IfOk result (λ m. (n : ℕ) (row : Row) → get (as_map nat_cmp m) n ≡ Some row → IsRowAmong sites n row × IsItemText row.item) }
     ensures bad { IfErr result (λ fault. IsFaultOf (IsOutboxTable sites) rows.now fault) }
 {
     entries_of(alloc, sites, rows)
@@ -220,7 +220,7 @@ pub(crate) fn parents_of(
 /// The first row that is no such entry's, or whose key doesn't come after the key before it; and out of memory.
 pub(crate) fn own_of(alloc: Global, rows: &[RecallRow]) -> Result<BTreeMap<u64, Own>, TableFault>
     ensures rows { IfOk result (λ m. rows.now ≡ map recall_row (entries (as_map nat_cmp m))) }
-    ensures among { IfOk result (λ m. (n : ℕ) (own : Own) → get (as_map nat_cmp m) n ≡ Some own → IsNumber n × IsKey own.root) }
+    ensures among { IfOk result (λ m. (n : ℕ) (own : Own) → get (as_map nat_cmp m) n ≡ Some own → IsNumber n × IsItemText own.root) }
     ensures bad { IfErr result (λ fault. IsFaultOf IsRecallTable rows.now fault) }
 {
     entries_of(alloc, 0, rows)

@@ -8,11 +8,9 @@ ghost use Rattle.site_rows.specs.RecordRows.{site_row};
 use crate::reading_entries::TableFault;
 use crate::reading_numbers::{natural, next_number_of, site_of};
 use crate::rows::{SiteRow, StoreRow};
+use crate::tables::Version;
 use event_json::{SiteNo, Sites, SitesFault};
 use std::alloc::{AllocError, Global};
-
-/// The version of the tables.
-const VERSION: i64 = 1;
 
 /// The most sites.
 const SITES: u64 = 16;
@@ -28,18 +26,22 @@ pub struct StoreNumbers {
     pub next_recall: u64,
 }
 
-/// What the one row of the site itself says.
+/// What the one row of the site itself says, under a version of the tables.
 ///
 /// # Errors
 /// The row, where it is bad or missing, and a second row.
-pub(crate) fn store_of(sites: &[SiteRow], rows: &[StoreRow]) -> Result<StoreNumbers, TableFault>
-    ensures read { IfOk result (λ numbers. IsStore sites.now rows.now numbers) }
-    ensures bad { IfErr result (λ fault. IsFaultOf (IsStoreTable sites.now) rows.now fault) }
+pub(crate) fn store_of(
+    version: Version,
+    sites: &[SiteRow],
+    rows: &[StoreRow],
+) -> Result<StoreNumbers, TableFault>
+    ensures read { IfOk result (λ numbers. IsStore version sites.now rows.now numbers) }
+    ensures bad { IfErr result (λ fault. IsFaultOf (IsStoreTable version sites.now) rows.now fault) }
 {
     let Some(row) = rows.first() else {
         return Err(TableFault::BadRow(1));
     };
-    let Some(numbers) = store_numbers(sites, row) else {
+    let Some(numbers) = store_numbers(version, sites, row) else {
         return Err(TableFault::BadRow(1));
     };
     if rows.len() > 1 {
@@ -49,10 +51,10 @@ pub(crate) fn store_of(sites: &[SiteRow], rows: &[StoreRow]) -> Result<StoreNumb
 }
 
 /// What a row of the site itself says.
-fn store_numbers(sites: &[SiteRow], row: &StoreRow) -> Option<StoreNumbers>
-    ensures { Tells result (IsStore sites.now (row.now ∷ [])) }
+fn store_numbers(version: Version, sites: &[SiteRow], row: &StoreRow) -> Option<StoreNumbers>
+    ensures { Tells result (IsStore version sites.now (row.now ∷ [])) }
 {
-    if row.version != VERSION || !is_listed(sites, row.me) {
+    if row.version != version.number() || !is_listed(sites, row.me) {
         return None;
     }
     let me = site_of(SITES, row.me);
@@ -103,7 +105,10 @@ fn add_name(names: &mut Sites, row: &SiteRow) -> Result<bool, AllocError>
         Some(number) if number == names.len() => {}
         _ => return Ok(false),
     }
-    match names.add(row.name.as_str(), &[]) {
+    let Some(name) = row.name.as_str() else {
+        return Ok(false);
+    };
+    match names.add(name, &[]) {
         Ok(_) => Ok(true),
         Err(SitesFault::NoMemory) => Err(AllocError),
         Err(_) => Ok(false),

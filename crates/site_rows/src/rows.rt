@@ -1,11 +1,12 @@
 //! The rows of the tables of a site's file. Numbers are as a database keeps them; each table's rows ascend by its key.
+use crate::tables::Version;
 use crate::texts::Text;
 use event_json::Sequence;
 
 /// The one row of `store`.
 #[derive(Clone, Copy, Debug, PartialEq, Eq)]
 pub struct StoreRow {
-    /// The version of the tables, 1.
+    /// The number of the version of the tables, 1 or 2.
     pub version: i64,
     /// The site's own number.
     pub me: i64,
@@ -62,6 +63,28 @@ pub struct PartRow {
     /// Its place in its list, from 0.
     pub place: i64,
     /// The item's key, the site's name, or the destination's text.
+    pub text: Text,
+}
+
+/// What was put into a container or taken out of it, by event.
+#[derive(Debug, Drop, PartialEq, Eq)]
+pub struct PackRow {
+    /// The number of the event.
+    pub event: i64,
+    /// 0 where items were put in, 1 where they were seen in it, 2 where they were taken out.
+    pub action: i64,
+    /// The container's key, where the event names one.
+    pub parent: Option<Text>,
+}
+
+/// An item of such an event, by event and place.
+#[derive(Debug, Drop, PartialEq, Eq)]
+pub struct PackedRow {
+    /// The number of the event.
+    pub event: i64,
+    /// Its place in the event's list, from 0.
+    pub place: i64,
+    /// The item's key.
     pub text: Text,
 }
 
@@ -131,6 +154,8 @@ pub struct RecallRow {
 /// The rows of all tables of a site's file.
 #[derive(Debug, Drop, PartialEq, Eq)]
 pub struct Rows {
+    /// The version of the tables; the first one has no rows of `pack` and `packed`.
+    pub version: Version,
     /// The row of `store`.
     pub store: Sequence<StoreRow>,
     /// The rows of `site`.
@@ -141,6 +166,10 @@ pub struct Rows {
     pub event: Sequence<EventRow>,
     /// The rows of `part`.
     pub part: Sequence<PartRow>,
+    /// The rows of `pack`; none yet, since no event of this kind is read.
+    pub pack: Sequence<PackRow>,
+    /// The rows of `packed`; none yet.
+    pub packed: Sequence<PackedRow>,
     /// The rows of `quarantine`.
     pub quarantine: Sequence<QuarantineRow>,
     /// The rows of `outbox`.

@@ -1,6 +1,8 @@
-//! The tables of a site's file.
+//! The tables of a site's file, and their versions.
+ghost use Rattle.std.specs.Prelude.{◌≡◌};
+ghost use Rattle.site_rows.specs.RecordRows.{version_number};
 
-/// A table of a site's file, in the order in which they are made.
+/// A table of a site's file, in the order in which faults of their rows are told.
 #[derive(Clone, Copy, Debug, PartialEq, Eq)]
 pub enum Table {
     /// The site itself.
@@ -13,6 +15,10 @@ pub enum Table {
     Event,
     /// The members of their lists.
     Part,
+    /// What was put into containers, or taken out of them.
+    Pack,
+    /// The items that were.
+    Packed,
     /// What is quarantined.
     Quarantine,
     /// The messages that aren't signalled.
@@ -23,4 +29,25 @@ pub enum Table {
     Parent,
     /// The own recalls.
     Recall,
+}
+
+/// A version of the tables.
+#[derive(Clone, Copy, Debug, PartialEq, Eq)]
+pub enum Version {
+    /// Without [`Table::Pack`] and [`Table::Packed`].
+    First,
+    /// All of them.
+    Second,
+}
+
+impl Version {
+    /// The number that the row of `store` has under it.
+    pub fn number(self) -> i64
+        ensures { result ≡ version_number self }
+    {
+        match self {
+            Version::First => 1,
+            Version::Second => 2,
+        }
+    }
 }

@@ -1,8 +1,9 @@
-//! A text of a row.
-ghost use Rattle.std.specs.Prelude.{◌≡◌, IfOk, Some, string_bytes, refl, nat_eq};
+//! A text of a row, as the database has it: bytes, which need not be UTF-8.
+ghost use Rattle.std.specs.Prelude.{◌≡◌, IfOk, Some, option_map, string_bytes, refl, nat_eq};
 ghost use Rattle.std.specs.Cmp as Cmp;
 ghost use Rattle.std.specs.Cmp.Lexicographic.{slice_cmp, pointwise, nat_list_cmp_total, nat_list_eq_equiv, texts_ties, texts_po};
 ghost use Rattle.std.specs.Ordering.{nat_cmp};
+ghost use Rattle.site_rows.specs.Texts.{Reads};
 
 use std::alloc::{AllocError, Global};
 use std::cmp::Ordering;
@@ -11,15 +12,15 @@ use std::marker::Model;
 /// A text of a row, which contracts see as its bytes.
 #[derive(Debug, Drop)]
 pub struct Text {
-    text: String,
+    bytes: Vec<u8>,
 }
 
 impl Model for Text {
-    ghost use Rattle.std.specs.Prelude.{List, ℕ, string_bytes};
+    ghost use Rattle.std.specs.Prelude.{List, ℕ};
 
     ghost Value = { List ℕ };
 
-    ghost view = { λ t. string_bytes t.text };
+    ghost view = { λ t. t.bytes.items };
 }
 
 impl Text {
@@ -27,30 +28,46 @@ impl Text {
     pub fn from_string(text: String) -> Text
         ensures { result ≡ string_bytes text }
     {
-        Text { text }
+        Text {
+            bytes: text.into_bytes(),
+        }
+    }
+
+    /// The text of these bytes.
+    pub fn from_bytes(alloc: Global, bytes: &[u8]) -> Result<Text, AllocError>
+        ensures { IfOk result (λ t. t ≡ bytes.now) }
+    {
+        Ok(Text {
+            bytes: Vec::from_slice(alloc, bytes)?,
+        })
     }
 
     /// A copy of a text.
     pub fn of(alloc: Global, text: &str) -> Result<Text, AllocError>
         ensures { IfOk result (λ t. t ≡ text.now) }
     {
-        Ok(Text {
-            text: String::from_str(alloc, text)?,
-        })
+        Text::from_bytes(alloc, text.as_bytes())
     }
 
-    /// The text.
-    pub fn as_str(&self) -> &str
+    /// Its bytes.
+    pub fn as_bytes(&self) -> &[u8]
         ensures { result.now ≡ self.now }
     {
-        self.text.as_str()
+        self.bytes.as_slice()
+    }
+
+    /// The text, where it is UTF-8.
+    pub fn as_str(&self) -> Option<&str>
+        ensures { Reads (option_map (λ t. t.now) result) self.now }
+    {
+        str::from_utf8(self.as_bytes()).ok()
     }
 
     /// An equal text.
     pub fn copy(&self, alloc: Global) -> Result<Text, AllocError>
         ensures { IfOk result (λ t. t ≡ self.now) }
     {
-        Text::of(alloc, self.text.as_str())
+        Text::from_bytes(alloc, self.as_bytes())
     }
 }
 
@@ -60,7 +77,7 @@ impl PartialEq for Text {
     ghost laws = { Cmp.partial_equiv_from_equiv nat_list_eq_equiv };
 
     fn eq(&self, other: &Text) -> bool {
-        self.text.as_str() == other.text.as_str()
+        self.as_bytes() == other.as_bytes()
     }
 }
 
@@ -88,6 +105,6 @@ impl Ord for Text {
     ghost matches_eq = { texts_ties };
 
     fn cmp(&self, other: &Text) -> Ordering {
-        self.text.as_str().cmp(other.text.as_str())
+        self.as_bytes().cmp(other.as_bytes())
     }
 }

@@ -1,26 +1,25 @@
 //! The rows of what a site keeps.
 ghost use Rattle.std.specs.Prelude.{◌≡◌, ◌∷◌, [], IfOk};
 ghost use Rattle.site_rows.specs.RecordRows.{store_row, rows_of};
+ghost use Rattle.site_rows.specs.declared.tables.Version.TheVariants.{Second};
 
 use crate::address_rows::{address_rows, rows_of_sites};
 use crate::event_rows::{event_rows, part_rows};
 use crate::numbers::stored;
 use crate::recall_rows::{outbox_rows, parent_rows, quarantine_rows, recall_rows, seen_rows};
 use crate::rows::{Rows, StoreRow};
+use crate::tables::Version;
 use event_json::Sequence;
 use site_core::SiteState;
 use std::alloc::{AllocError, Global};
 
-/// The version of the tables.
-const VERSION: i64 = 1;
-
 /// The row of the site itself.
 fn store_rows(alloc: Global, state: &SiteState) -> Result<Sequence<StoreRow>, AllocError>
-    ensures { IfOk result (λ rows. rows ≡ store_row state.now ∷ []) }
+    ensures { IfOk result (λ rows. rows ≡ store_row Second state.now ∷ []) }
 {
     let mut rows = Vec::new(alloc);
     rows.push(StoreRow {
-        version: VERSION,
+        version: Version::Second.number(),
         me: stored(state.me().number())?,
         next_message: stored(state.next_message())?,
         next_recall: stored(state.next_recall())?,
@@ -28,16 +27,19 @@ fn store_rows(alloc: Global, state: &SiteState) -> Result<Sequence<StoreRow>, Al
     Ok(Sequence::from_vec(rows))
 }
 
-/// The rows of all tables that stand for what a site keeps. Fails where memory runs out.
+/// The rows of all tables of the second version that stand for what a site keeps. Fails where memory runs out.
 pub fn rows_of(alloc: Global, state: &SiteState) -> Result<Rows, AllocError>
     ensures { IfOk result (λ rows. rows ≡ rows_of state.now) }
 {
     Ok(Rows {
+        version: Version::Second,
         store: store_rows(alloc, state)?,
         site: rows_of_sites(alloc, state.sites())?,
         address: address_rows(alloc, state.sites())?,
         event: event_rows(alloc, state.captured(), 0)?,
         part: part_rows(alloc, state.sites(), state.captured(), 0)?,
+        pack: Sequence::new(alloc),
+        packed: Sequence::new(alloc),
         quarantine: quarantine_rows(alloc, state.quarantine())?,
         outbox: outbox_rows(alloc, state)?,
         seen: seen_rows(alloc, state)?,

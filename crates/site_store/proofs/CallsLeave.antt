@@ -1,5 +1,5 @@
 -- What each call of a site leaves in a crash, and in which records that may be opened.
-use Rattle.std.proofs.Common.{◌≡◌, ◌⊎◌, ℕ, List, Bool, true, false, Option, Some, None, Result, Ok, Err, MatchResult, inl, inr, sym, ◌∙◌, subst, arith, ⊎_elim}
+use Rattle.std.proofs.Common.{◌≡◌, ◌⊎◌, ℕ, List, Bool, true, false, Option, Some, None, Result, Ok, Err, MatchResult, inl, inr, sym, ◌∙◌, subst, arith}
 use Rattle.std.proofs.lemmas.Option.{same_Some}
 use Rattle.std.proofs.Math.Logic.{∥∥₁_map}
 use Rattle.sqlite_disk.specs.declared.Disk as disk
@@ -14,14 +14,13 @@ use Rattle.keeper_core.specs.declared.faults.Keep.{Keep}
 use Rattle.keeper_core.specs.declared.faults.Keep.TheVariants.{Old, New}
 use Rattle.keeper_core.specs.declared.faults.KeepFault.{KeepFault}
 use Rattle.keeper_core.specs.declared.faults.KeepFault.TheVariants as faults
-use Rattle.keeper_core.specs.declared.faults.Unopened.{Unopened}
 use Rattle.keeper_core.specs.Keeping.{Applies, Stops, IsAfter, MayBeOldOrNew}
 use Rattle.site_store.specs.declared.kept.Kept.{Kept}
 use Rattle.site_store.specs.declared.opening.OpenFault.{OpenFault}
 use Rattle.site_store.specs.declared.sites.Link.{Link}
 use Rattle.site_store.specs.declared.sites.Link.TheVariants.{Connected, Unconnected}
 use Rattle.site_store.specs.declared.sites.StoredSite.{StoredSite}
-use Rattle.site_store.specs.Crashes.{AreLeftBehind, StandsFor, AreAmong, HasConnection, Reopening, CallsLeaveOwn, CallsKeepToOldOrNew}
+use Rattle.site_store.specs.Crashes.{AreLeftBehind, AreLeftOrMigrated, AreAmong, HasConnection, Reopening, CallsLeaveOwn, CallsKeepToOldOrNew}
 use Rattle.site_store.specs.Kept.{MayIn}
 use Rattle.site_store.specs.Leavings.{LinkLeaves, LeavesOwnAt, LeavesOwn}
 use Rattle.site_store.specs.Opened.{IsNotOpened}
@@ -80,11 +79,11 @@ stopped_in old input New false None may h r stands = absurd h
 module _ {D : Type 0} {g : disk.Ghosts D} where
   -- ---- from call to call
 
-  -- what a failed opening leaves was left before
+  -- what a failed opening leaves was left before, or was committed by it
   refused_leaves : (before after : Held (FileStore D g)) (name : List ℕ) (fault : OpenFault) → IsNotOpened before name after fault
-      → (files : Files D) → AreLeftBehind (Connected after) files → AreLeftBehind (Connected before) files
+      → (files : Files D) → AreLeftBehind (Connected after) files → AreLeftOrMigrated before fault files
   refused_leaves before after name fault it files left =
-      (omega (arith, it.crash.clean, left.0), ∥∥₁_map left.1 (λ x. (x.0, ⊎_elim (λ was. was) (λ none. absurd none) (it.crash.crash left.0 x.0 x.1), x.2)))
+      (omega (arith, it.crash.clean, left.0), ∥∥₁_map left.1 (λ x. (x.0, it.crash.crash left.0 x.0 x.1, x.2)))
 
   module _ (stays : SeenMayStay g) where
     reopened_at : (old link : Link D g) (kept : Kept) → IsReopened old link → LinkLeaves (MayIn kept) old → HasConnection link → LinkLeaves (MayIn kept) link

@@ -1,6 +1,6 @@
 -- Why a step that closes failed.
 use Rattle.std.specs.Prelude.{⊤}
-use Rattle.std.proofs.Common.{◌≡◌, ◌⊎◌, Bool, true, false, inl, inr, Result, Ok, Err, IfErr, IsTrue, refl, sym, ◌∙◌, ap, subst, if◌then◌else◌}
+use Rattle.std.proofs.Common.{◌≡◌, Bool, true, false, inl, inr, IsTrue, refl, sym, ◌∙◌, ap, subst, if◌then◌else◌}
 use Rattle.sqlite_trees.specs.declared.error.StoreError.{StoreError}
 use Rattle.sqlite_trees.specs.declared.error.StoreError.TheVariants.{OutOfMemory, Io, Corrupt, Full, Broken, Unstorable}
 use Rattle.sqlite_disk.specs.Disk.{MoreFaults}
@@ -9,7 +9,6 @@ use Rattle.sqlite.specs.declared.error.Error.{Error}
 use Rattle.sqlite.specs.declared.error.Error.TheVariants.{SqliteFailure, SqlInputError, InvalidQuery}
 use Rattle.sqlite.specs.declared.error.ErrorCode.{ErrorCode}
 use Rattle.sqlite.specs.declared.error.ErrorCode.TheVariants as code
-use Rattle.keeper_core.specs.declared.faults.KeepFault.{KeepFault}
 use Rattle.keeper_core.specs.declared.faults.KeepFault.TheVariants.{NoMemory, Device, Store}
 use Rattle.site_core.specs.declared.outcomes.Refusal.{Refusal}
 use Rattle.site_core.specs.declared.outcomes.Refusal.TheVariants as refusals
@@ -19,7 +18,7 @@ use Rattle.site_tables.specs.Reads.{FailsToRead}
 use Rattle.site_tables.specs.Unreadable.{IsUnreadable}
 use Rattle.site_tables.specs.declared.faults.ReadFault.TheVariants.{Database}
 use Rattle.site_store.specs.Openings.{opening_fault}
-use Rattle.site_store.specs.Faults.{is_of_device, is_of_memory, is_code_of_device, closing_fault, IsCaused, IsFailedIn, IsOfStore}
+use Rattle.site_store.specs.Faults.{is_of_device, is_of_memory, is_code_of_device, closing_fault, IsCaused, IsFailedIn}
 use Rattle.site_tables.proofs.Refusals.{refusals_are_named}
 
 -- no refusal is an error of the device
@@ -97,7 +96,7 @@ fails_to_read old new error is (inr (same, limited)) = absurd (let e : false ≡
 
 -- a reading for which the device is blamed
 pub reading_failed : (old new : State) (error : Error) → opening_fault error ≡ Device → IsUnreadable old new (Database error) → IsFailedIn old new
-reading_failed old new error is h = fails_to_read old new error (blamed_device error is) h.1
+reading_failed old new error is h = fails_to_read old new error (blamed_device error is) h.1.1
 
 -- over a connection that was open
 pub failed_in : (old new : State) → IsTrue old.is_open → IsFailedIn old new → MoreFaults old.faults new.faults

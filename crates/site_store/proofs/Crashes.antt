@@ -11,9 +11,10 @@ use Rattle.sqlite.specs.Held.{Held}
 use Rattle.sqlite.specs.Files.{HoldsDatabase, image_of, file_state}
 use Rattle.sqlite.specs.State.{HasCleanDisk}
 use Rattle.site_core.specs.Records.{Record}
+use Rattle.site_rows.specs.declared.tables.Version.TheVariants.{Second}
 use Rattle.site_store.specs.declared.kept.Kept.{Kept}
 use Rattle.site_store.specs.declared.opening.OpenFault.{OpenFault}
-use Rattle.site_store.specs.declared.opening.OpenFault.TheVariants.{NoMemory, NotAStore, Version, OtherSite, BadRow, Device, Store}
+use Rattle.site_store.specs.declared.opening.OpenFault.TheVariants.{NoMemory, NotAStore, Version as OpenVersion, OtherSite, BadRow, Device, Store}
 use Rattle.site_store.specs.declared.opening.Unfound.{Unfound}
 use Rattle.site_store.specs.declared.sites.Link.{Link}
 use Rattle.site_store.specs.declared.sites.Link.TheVariants.{Connected, Unconnected}
@@ -21,7 +22,7 @@ use Rattle.site_store.specs.declared.sites.StoredSite.{StoredSite}
 use Rattle.site_store.specs.Crashes.{AreLeftBehind, IsAfterCrash, StandsFor, AreNamed, OpensAfter}
 use Rattle.site_store.specs.Kept.{MayIn}
 use Rattle.site_store.specs.Leavings.{LinkLeaves, LeavesOwnAt, LeavesOwn}
-use Rattle.site_store.specs.Opened.{MayBeFound, IsOfMachine, ReadsAt, IsCleanAt, IsOpenedAs, IsNotOpened, IsLeftOf, FindsLeft}
+use Rattle.site_store.specs.Opened.{MayBeFound, IsOfMachine, ReadsAt, MigratesAt, IsCleanAt, IsOpenedAs, IsNotOpened, IsLeftOf, FindsLeft}
 use Rattle.site_store.specs.Sites.{shown_at, IsKeptOver}
 use Rattle.site_store.specs.StepWritten.{HoldsRecord}
 use Rattle.site_store.proofs.Findings.{no_limit}
@@ -35,7 +36,7 @@ of_machine conn NoMemory unlimited is = inl refl
 of_machine conn Device unlimited is = inr refl
 of_machine conn Store unlimited is = absurd (∥∥₁_elim is (λ a b. absurd a) (λ limit. no_limit conn.step_limit unlimited limit))
 of_machine conn NotAStore unlimited is = absurd (∥∥₁_elim is (λ a b. absurd a) (λ none. none))
-of_machine conn (Version found) unlimited is = absurd (∥∥₁_elim is (λ a b. absurd a) (λ none. none))
+of_machine conn (OpenVersion found) unlimited is = absurd (∥∥₁_elim is (λ a b. absurd a) (λ none. none))
 of_machine conn (OtherSite found) unlimited is = absurd (∥∥₁_elim is (λ a b. absurd a) (λ none. none))
 of_machine conn (BadRow bad) unlimited is = absurd (∥∥₁_elim is (λ a b. absurd a) (λ none. none))
 
@@ -77,7 +78,7 @@ module _ {D : Type 0} {g : disk.Ghosts D} where
   stands_may link kept r (inr may) = may.1
 
   is_left : (site : StoredSite D g) (conn : Held (FileStore D g)) (name : List ℕ) → ((r : Record) → MayIn site.kept r → MayBeFound r) → LeavesOwn site → AreNamed site name → IsAfterCrash site conn → HasCleanDisk (file_state conn)
-      → ∥ ((r : Record) × StandsFor site r × IsLeftOf conn name r) ∥₁
+      → ∥ ((r : Record) × StandsFor site r × IsLeftOf conn name Second r) ∥₁
   is_left site conn name found own named after clean =
       let made = after.2 in
       ∥∥₁_map (hold site.link site.kept after.0 own after.1) (λ x. (
@@ -94,16 +95,17 @@ module _ {D : Type 0} {g : disk.Ghosts D} where
   reads_clean : (conn : Held (FileStore D g)) (name : List ℕ) (again : StoredSite D g) → IsOpenedAs conn name again → IsCleanAt again.link → HasCleanDisk (file_state conn)
   reads_clean conn name again it clean = at again.link it.reads clean
     where
-      at : (link : Link D g) → ReadsAt conn it.shown link → IsCleanAt link → HasCleanDisk (file_state conn)
-      at (Connected after) reads clean = omega (arith, reads.0.clean, clean)
+      at : (link : Link D g) → ReadsAt conn it.shown link ⊎ MigratesAt conn it.shown link → IsCleanAt link → HasCleanDisk (file_state conn)
+      at (Connected after) (inl reads) clean = omega (arith, reads.0.clean, clean)
+      at (Connected after) (inr migrates) clean = omega (arith, migrates.0.clean, clean)
       at (Unconnected files) reads clean = absurd clean
 
   pub opens_after : (site : StoredSite D g) (conn : Held (FileStore D g)) (name : List ℕ) (result : Result (StoredSite D g) (Unfound D g)) → ((r : Record) → MayIn site.kept r → MayBeFound r)
       → IfOk result (IsOpenedAs conn name) → IfErr result (λ left. IsNotOpened conn name left.conn left.fault) → FindsLeft conn name result → LeavesOwn site → AreNamed site name → IsAfterCrash site conn → OpensAfter site result
   opens_after site conn name (Ok again) found is refused finds own named after = (
-    λ clean. ∥∥₁_map (is_left site conn name found own named after (reads_clean conn name again is clean)) (λ x. (x.0, x.1, finds clean x.0 x.2)),
+    λ clean. ∥∥₁_map (is_left site conn name found own named after (reads_clean conn name again is clean)) (λ x. (x.0, x.1, finds clean Second x.0 x.2)),
     shown_leaves again.link again.kept is.shown is.shows (is.kept (λ clean. (after.2.opens clean, image_of g after.0, (after.2.finds clean).reads))),
   )
   opens_after site conn name (Err left) found is refused finds own named after = λ clean.
       let was : HasCleanDisk (file_state conn) = omega (arith, refused.crash.clean, clean) in
-      of_machine conn left.fault after.2.unlimited (∥∥₁_map (is_left site conn name found own named after was) (λ x. finds clean x.0 x.2))
+      of_machine conn left.fault after.2.unlimited (∥∥₁_map (is_left site conn name found own named after was) (λ x. finds clean Second x.0 x.2))

@@ -8,7 +8,9 @@ pub mod KeptFailures
 pub mod KeptSteps
 pub mod KeptStops
 pub mod LeftRows
+pub mod Migrated
 pub mod Named
+pub mod Openers
 pub mod OpeningReads
 pub mod OwnSteps
 pub mod ReadableRows
@@ -19,4 +21,3 @@ pub mod SameRows
 pub mod SiteSteps
 pub mod Standings
 pub mod StepWrites
-pub mod TextsOfRows

@@ -15,8 +15,7 @@ use Rattle.sqlite_store.specs.FileStore as store
 use Rattle.sqlite.specs.declared.error.Error.{Error}
 use Rattle.sqlite.specs.Tree.{Trees}
 use Rattle.sqlite.specs.Held.{Held, AreDatabases}
-use Rattle.sqlite.specs.State.{HasCleanDisk}
-use Rattle.sqlite.specs.Files.{HoldsDatabase, image_of, file_state}
+use Rattle.sqlite.specs.Files.{HoldsDatabase, image_of}
 use Rattle.sqlite.proofs.Theorems.{opens_again}
 use Rattle.site_core.specs.Records.{Record}
 use Rattle.keeper_core.specs.declared.faults.Unopened.{Unopened}

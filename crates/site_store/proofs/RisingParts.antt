@@ -15,7 +15,8 @@ use Rattle.event_json.specs.Sites.{Site}
 use Rattle.event_json.specs.declared.bodies.Body.{Body}
 use Rattle.event_json.specs.declared.bodies.Body.TheVariants.{Note, Ship, Make}
 use Rattle.site_core.specs.Records.{Record}
-use Rattle.site_rows.specs.RecordRows.{body_rows, name_of, part_row, part_rows, parts_of, rows_of}
+use Rattle.site_rows.specs.RecordRows.{body_rows, name_of, part_row, part_rows, parts_of, rows_under}
+use Rattle.site_rows.specs.declared.tables.Version.{Version}
 use Rattle.site_rows.specs.declared.rows.PartRow.{PartRow}
 use Rattle.site_tables.specs.Reads.{IsStrict, key_order}
 use Rattle.site_tables.specs.Tables.{part}
@@ -121,5 +122,5 @@ module _ (sites : List Site) where
       joined (IsOf n) (IsLater n) (events_rise n) (body_rows sites n e.body) (flat_map (parts_of sites) (enumerate_from (n + 1) es))
       (body_is_of n e.body) (later n (n + 1) es (omega arith)) (body_rises n e.body) (parts_rise (n + 1) es)
 
-pub rises_part : (r : Record) → IsStrict part (map part_values (rows_of r).part)
-rises_part r = ascending-map (λ (a b : Row). key_order part a b ≡ Less) part_values (rows_of r).part (parts_rise r.sites 1 r.captured.events)
+pub rises_part : (v : Version) (r : Record) → IsStrict part (map part_values (rows_under v r).part)
+rises_part v r = ascending-map (λ (a b : Row). key_order part a b ≡ Less) part_values (rows_under v r).part (parts_rise r.sites 1 r.captured.events)

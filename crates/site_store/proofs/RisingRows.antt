@@ -24,7 +24,8 @@ use Rattle.site_core.specs.ItemSets as set
 use Rattle.site_core.specs.Quarantines.{Items}
 use Rattle.site_core.specs.Records.{Record}
 use Rattle.site_rows.specs.HeldItems.{Held, all_held, held_cmp, held_of, held_under}
-use Rattle.site_rows.specs.RecordRows.{address_row, addresses_of, event_row, outbox_row, parent_row, quarantine_row, quarantine_rows, recall_row, rows_of, seen_row, site_row}
+use Rattle.site_rows.specs.RecordRows.{address_row, addresses_of, event_row, outbox_row, parent_row, quarantine_row, quarantine_rows, recall_row, rows_under, seen_row, site_row}
+use Rattle.site_rows.specs.declared.tables.Version.{Version}
 use Rattle.site_rows.specs.declared.rows.QuarantineRow.{QuarantineRow}
 use Rattle.site_rows.proofs.HeldInTurn.{all_ascend}
 use Rattle.site_tables.specs.Reads.{IsStrict, key_order}
@@ -107,29 +108,29 @@ of_map : {K V R : Type 0} {cmp : K → K → Ordering} (table : Table) (values :
 of_map {cmp = cmp} table values row same m = rise_alike table values row (λ a b. cmp a.0 b.0) same (entries m) (entries_rise cmp (entries m) (entries_sorted m))
 
 -- ---- the tables
-pub rises_store : (r : Record) → IsStrict store (map store_values (rows_of r).store)
-rises_store r = (tt, tt)
+pub rises_store : (v : Version) (r : Record) → IsStrict store (map store_values (rows_under v r).store)
+rises_store v r = (tt, tt)
 
-pub rises_site : (r : Record) → IsStrict site (map site_values (rows_of r).site)
-rises_site r = of_list site site_values site_row (λ a b. by_number a.0 b.0) 0 r.sites
+pub rises_site : (v : Version) (r : Record) → IsStrict site (map site_values (rows_under v r).site)
+rises_site v r = of_list site site_values site_row (λ a b. by_number a.0 b.0) 0 r.sites
 
-pub rises_address : (r : Record) → IsStrict address (map address_values (rows_of r).address)
-rises_address r = of_map address address_values address_row (λ a b. by_text a.0 b.0) (addresses_of r.sites)
+pub rises_address : (v : Version) (r : Record) → IsStrict address (map address_values (rows_under v r).address)
+rises_address v r = of_map address address_values address_row (λ a b. by_text a.0 b.0) (addresses_of r.sites)
 
-pub rises_event : (r : Record) → IsStrict event (map event_values (rows_of r).event)
-rises_event r = of_list event event_values event_row (λ a b. by_number a.0 b.0) 1 r.captured.events
+pub rises_event : (v : Version) (r : Record) → IsStrict event (map event_values (rows_under v r).event)
+rises_event v r = of_list event event_values event_row (λ a b. by_number a.0 b.0) 1 r.captured.events
 
-pub rises_outbox : (r : Record) → IsStrict outbox (map outbox_values (rows_of r).outbox)
-rises_outbox r = of_map outbox outbox_values outbox_row (λ a b. by_number a.0 b.0) r.engagement.outbox
+pub rises_outbox : (v : Version) (r : Record) → IsStrict outbox (map outbox_values (rows_under v r).outbox)
+rises_outbox v r = of_map outbox outbox_values outbox_row (λ a b. by_number a.0 b.0) r.engagement.outbox
 
-pub rises_recall : (r : Record) → IsStrict recall (map recall_values (rows_of r).recall)
-rises_recall r = of_map recall recall_values recall_row (λ a b. by_number a.0 b.0) r.engagement.own
+pub rises_recall : (v : Version) (r : Record) → IsStrict recall (map recall_values (rows_under v r).recall)
+rises_recall v r = of_map recall recall_values recall_row (λ a b. by_number a.0 b.0) r.engagement.own
 
-pub rises_seen : (r : Record) → IsStrict seen (map seen_values (rows_of r).seen)
-rises_seen r = of_map seen seen_values seen_row (λ a b. by_numbers a.0.site b.0.site a.0.number b.0.number) r.engagement.seen
+pub rises_seen : (v : Version) (r : Record) → IsStrict seen (map seen_values (rows_under v r).seen)
+rises_seen v r = of_map seen seen_values seen_row (λ a b. by_numbers a.0.site b.0.site a.0.number b.0.number) r.engagement.seen
 
-pub rises_parent : (r : Record) → IsStrict parent (map parent_values (rows_of r).parent)
-rises_parent r = of_map parent parent_values parent_row (λ a b. by_numbers a.0.site b.0.site a.0.number b.0.number) r.engagement.parents
+pub rises_parent : (v : Version) (r : Record) → IsStrict parent (map parent_values (rows_under v r).parent)
+rises_parent v r = of_map parent parent_values parent_row (λ a b. by_numbers a.0.site b.0.site a.0.number b.0.number) r.engagement.parents
 
 -- the items under all recalls
 abbrev held_row : Held → QuarantineRow
@@ -139,8 +140,8 @@ rows_of_held : (es : List (Recall × Items)) → map held_row (flat_map held_und
 rows_of_held [] = refl
 rows_of_held (e ∷ es) = map-append held_row (held_under e) (flat_map held_under es) ∙ ap₂ ◌++◌ (map-map held_row (held_of e.0) (set.items e.1)) (rows_of_held es)
 
-pub rises_quarantine : (r : Record) → IsStrict quarantine (map quarantine_values (rows_of r).quarantine)
-rises_quarantine r =
+pub rises_quarantine : (v : Version) (r : Record) → IsStrict quarantine (map quarantine_values (rows_under v r).quarantine)
+rises_quarantine v r =
     let q = r.quarantine in
     subst (λ rows. IsStrict quarantine (map quarantine_values rows)) (rows_of_held (entries q))
     (rise_alike quarantine quarantine_values held_row (λ a b. held_cmp a.0 b.0) (λ a b. by_numbers_and_text a.0.0.site b.0.0.site a.0.0.number b.0.0.number a.0.1 b.0.1) (all_held q)

@@ -1,5 +1,5 @@
 -- The test whether rows are the same says what it means.
-use Rattle.std.proofs.Common.{◌≡◌, ◌∙◌, ℕ, ℤ, Bool, List, Option, Some, None, nat_eq, ◌&&◌, refl, ap}
+use Rattle.std.proofs.Common.{◌≡◌, ◌∙◌, ℕ, ℤ, Bool, true, false, List, Option, Some, None, nat_eq, ◌&&◌, refl, ap}
 use mathlib.Core.Bool.{false≢true}
 use Rattle.std.specs.Bool.{Decides}
 use Rattle.std.specs.Option.{option_eq}
@@ -11,6 +11,8 @@ use Rattle.site_rows.specs.declared.rows.StoreRow.{StoreRow}
 use Rattle.site_rows.specs.declared.rows.SiteRow.{SiteRow}
 use Rattle.site_rows.specs.declared.rows.AddressRow.{AddressRow}
 use Rattle.site_rows.specs.declared.rows.EventRow.{EventRow}
+use Rattle.site_rows.specs.declared.rows.PackRow.{PackRow}
+use Rattle.site_rows.specs.declared.rows.PackedRow.{PackedRow}
 use Rattle.site_rows.specs.declared.rows.PartRow.{PartRow}
 use Rattle.site_rows.specs.declared.rows.QuarantineRow.{QuarantineRow}
 use Rattle.site_rows.specs.declared.rows.OutboxRow.{OutboxRow}
@@ -18,6 +20,8 @@ use Rattle.site_rows.specs.declared.rows.SeenRow.{SeenRow}
 use Rattle.site_rows.specs.declared.rows.ParentRow.{ParentRow}
 use Rattle.site_rows.specs.declared.rows.RecallRow.{RecallRow}
 use Rattle.site_rows.specs.declared.rows.Rows.{Rows}
+use Rattle.site_rows.specs.declared.tables.Version.{Version}
+use Rattle.site_rows.specs.declared.tables.Version.TheVariants.{First, Second}
 
 abbrev pub same_text : List ℕ → List ℕ → Bool
 same_text = pointwise nat_eq
@@ -162,21 +166,63 @@ recall_row_fields a b h =
 recall_row_decides : (a b : RecallRow) → Decides (same_recall_row a b) (a ≡ b)
 recall_row_decides a b = Decides-like _ (recall_row_fields a b) (λ h. (ap (λ (r : RecallRow). r.number) h, (ap (λ (r : RecallRow). r.root) h, ap (λ (r : RecallRow). r.ended) h))) (Decides-and _ _ (Decides-int_eq a.number b.number) (Decides-and _ _ (text_decides a.root b.root) (Decides-int_eq a.ended b.ended)))
 
-abbrev pub same_rows : Rows → Rows → Bool
-same_rows a b = pointwise same_store_row a.store b.store && (pointwise same_site_row a.site b.site && (pointwise same_address_row a.address b.address && (pointwise same_event_row a.event b.event && (pointwise same_part_row a.part b.part && (pointwise same_quarantine_row a.quarantine b.quarantine && (pointwise same_outbox_row a.outbox b.outbox && (pointwise same_seen_row a.seen b.seen && (pointwise same_parent_row a.parent b.parent && pointwise same_recall_row a.recall b.recall))))))))
+abbrev pub same_pack_row : PackRow → PackRow → Bool
+same_pack_row a b = int_eq a.event b.event && (int_eq a.action b.action && option_eq same_text a.parent b.parent)
 
-rows_fields : (a b : Rows) → (a.store ≡ b.store) × ((a.site ≡ b.site) × ((a.address ≡ b.address) × ((a.event ≡ b.event) × ((a.part ≡ b.part) × ((a.quarantine ≡ b.quarantine) × ((a.outbox ≡ b.outbox) × ((a.seen ≡ b.seen) × ((a.parent ≡ b.parent) × (a.recall ≡ b.recall))))))))) → a ≡ b
+pack_row_fields : (a b : PackRow) → (a.event ≡ b.event) × ((a.action ≡ b.action) × (a.parent ≡ b.parent)) → a ≡ b
+pack_row_fields a b h =
+    ap (λ (x : ℤ). record a { event = x }) h.0
+    ∙ ap (λ (x : ℤ). record a { event = b.event; action = x }) h.1.0
+    ∙ ap (λ (x : Option (List ℕ)). record a { event = b.event; action = b.action; parent = x }) h.1.1
+
+pack_row_decides : (a b : PackRow) → Decides (same_pack_row a b) (a ≡ b)
+pack_row_decides a b = Decides-like _ (pack_row_fields a b) (λ h. (ap (λ (r : PackRow). r.event) h, (ap (λ (r : PackRow). r.action) h, ap (λ (r : PackRow). r.parent) h)))
+    (Decides-and _ _ (Decides-int_eq a.event b.event) (Decides-and _ _ (Decides-int_eq a.action b.action) (option_decides a.parent b.parent)))
+
+abbrev pub same_packed_row : PackedRow → PackedRow → Bool
+same_packed_row a b = int_eq a.event b.event && (int_eq a.place b.place && same_text a.text b.text)
+
+packed_row_fields : (a b : PackedRow) → (a.event ≡ b.event) × ((a.place ≡ b.place) × (a.text ≡ b.text)) → a ≡ b
+packed_row_fields a b h =
+    ap (λ (x : ℤ). record a { event = x }) h.0
+    ∙ ap (λ (x : ℤ). record a { event = b.event; place = x }) h.1.0
+    ∙ ap (λ (x : List ℕ). record a { event = b.event; place = b.place; text = x }) h.1.1
+
+packed_row_decides : (a b : PackedRow) → Decides (same_packed_row a b) (a ≡ b)
+packed_row_decides a b = Decides-like _ (packed_row_fields a b) (λ h. (ap (λ (r : PackedRow). r.event) h, (ap (λ (r : PackedRow). r.place) h, ap (λ (r : PackedRow). r.text) h)))
+    (Decides-and _ _ (Decides-int_eq a.event b.event) (Decides-and _ _ (Decides-int_eq a.place b.place) (text_decides a.text b.text)))
+
+abbrev pub same_version : Version → Version → Bool
+same_version First First = true
+same_version Second Second = true
+same_version a b = false
+
+version_decides : (a b : Version) → Decides (same_version a b) (a ≡ b)
+version_decides First First = (λ _. refl, λ _. refl)
+version_decides First Second = (λ h. absurd (false≢true h), λ e. cc)
+version_decides Second First = (λ h. absurd (false≢true h), λ e. cc)
+version_decides Second Second = (λ _. refl, λ _. refl)
+
+abbrev pub same_rows : Rows → Rows → Bool
+same_rows a b = same_version a.version b.version && (pointwise same_store_row a.store b.store && (pointwise same_site_row a.site b.site && (pointwise same_address_row a.address b.address && (pointwise same_event_row a.event b.event && (pointwise same_part_row a.part b.part && (pointwise same_pack_row a.pack b.pack && (pointwise same_packed_row a.packed b.packed && (pointwise same_quarantine_row a.quarantine b.quarantine && (pointwise same_outbox_row a.outbox b.outbox && (pointwise same_seen_row a.seen b.seen && (pointwise same_parent_row a.parent b.parent && (pointwise same_recall_row a.recall b.recall))))))))))))
+
+rows_fields : (a b : Rows) → (a.version ≡ b.version) × ((a.store ≡ b.store) × ((a.site ≡ b.site) × ((a.address ≡ b.address) × ((a.event ≡ b.event) × ((a.part ≡ b.part) × ((a.pack ≡ b.pack) × ((a.packed ≡ b.packed) × ((a.quarantine ≡ b.quarantine) × ((a.outbox ≡ b.outbox) × ((a.seen ≡ b.seen) × ((a.parent ≡ b.parent) × ((a.recall ≡ b.recall))))))))))))) → a ≡ b
 rows_fields a b h =
-    ap (λ (x : List StoreRow). record a { store = x }) h.0
-    ∙ ap (λ (x : List SiteRow). record a { store = b.store; site = x }) h.1.0
-    ∙ ap (λ (x : List AddressRow). record a { store = b.store; site = b.site; address = x }) h.1.1.0
-    ∙ ap (λ (x : List EventRow). record a { store = b.store; site = b.site; address = b.address; event = x }) h.1.1.1.0
-    ∙ ap (λ (x : List PartRow). record a { store = b.store; site = b.site; address = b.address; event = b.event; part = x }) h.1.1.1.1.0
-    ∙ ap (λ (x : List QuarantineRow). record a { store = b.store; site = b.site; address = b.address; event = b.event; part = b.part; quarantine = x }) h.1.1.1.1.1.0
-    ∙ ap (λ (x : List OutboxRow). record a { store = b.store; site = b.site; address = b.address; event = b.event; part = b.part; quarantine = b.quarantine; outbox = x }) h.1.1.1.1.1.1.0
-    ∙ ap (λ (x : List SeenRow). record a { store = b.store; site = b.site; address = b.address; event = b.event; part = b.part; quarantine = b.quarantine; outbox = b.outbox; seen = x }) h.1.1.1.1.1.1.1.0
-    ∙ ap (λ (x : List ParentRow). record a { store = b.store; site = b.site; address = b.address; event = b.event; part = b.part; quarantine = b.quarantine; outbox = b.outbox; seen = b.seen; parent = x }) h.1.1.1.1.1.1.1.1.0
-    ∙ ap (λ (x : List RecallRow). record a { store = b.store; site = b.site; address = b.address; event = b.event; part = b.part; quarantine = b.quarantine; outbox = b.outbox; seen = b.seen; parent = b.parent; recall = x }) h.1.1.1.1.1.1.1.1.1
+    ap (λ (x : Version). record a { version = x }) h.0
+    ∙ ap (λ (x : List StoreRow). record a { version = b.version; store = x }) h.1.0
+    ∙ ap (λ (x : List SiteRow). record a { version = b.version; store = b.store; site = x }) h.1.1.0
+    ∙ ap (λ (x : List AddressRow). record a { version = b.version; store = b.store; site = b.site; address = x }) h.1.1.1.0
+    ∙ ap (λ (x : List EventRow). record a { version = b.version; store = b.store; site = b.site; address = b.address; event = x }) h.1.1.1.1.0
+    ∙ ap (λ (x : List PartRow). record a { version = b.version; store = b.store; site = b.site; address = b.address; event = b.event; part = x }) h.1.1.1.1.1.0
+    ∙ ap (λ (x : List PackRow). record a { version = b.version; store = b.store; site = b.site; address = b.address; event = b.event; part = b.part; pack = x }) h.1.1.1.1.1.1.0
+    ∙ ap (λ (x : List PackedRow). record a { version = b.version; store = b.store; site = b.site; address = b.address; event = b.event; part = b.part; pack = b.pack; packed = x }) h.1.1.1.1.1.1.1.0
+    ∙ ap (λ (x : List QuarantineRow). record a { version = b.version; store = b.store; site = b.site; address = b.address; event = b.event; part = b.part; pack = b.pack; packed = b.packed; quarantine = x }) h.1.1.1.1.1.1.1.1.0
+    ∙ ap (λ (x : List OutboxRow). record a { version = b.version; store = b.store; site = b.site; address = b.address; event = b.event; part = b.part; pack = b.pack; packed = b.packed; quarantine = b.quarantine; outbox = x }) h.1.1.1.1.1.1.1.1.1.0
+    ∙ ap (λ (x : List SeenRow). record a { version = b.version; store = b.store; site = b.site; address = b.address; event = b.event; part = b.part; pack = b.pack; packed = b.packed; quarantine = b.quarantine; outbox = b.outbox; seen = x }) h.1.1.1.1.1.1.1.1.1.1.0
+    ∙ ap (λ (x : List ParentRow). record a { version = b.version; store = b.store; site = b.site; address = b.address; event = b.event; part = b.part; pack = b.pack; packed = b.packed; quarantine = b.quarantine; outbox = b.outbox; seen = b.seen; parent = x }) h.1.1.1.1.1.1.1.1.1.1.1.0
+    ∙ ap (λ (x : List RecallRow). record a { version = b.version; store = b.store; site = b.site; address = b.address; event = b.event; part = b.part; pack = b.pack; packed = b.packed; quarantine = b.quarantine; outbox = b.outbox; seen = b.seen; parent = b.parent; recall = x }) h.1.1.1.1.1.1.1.1.1.1.1.1
 
 pub rows_decides : (a b : Rows) → Decides (same_rows a b) (a ≡ b)
-rows_decides a b = Decides-like _ (rows_fields a b) (λ h. (ap (λ (r : Rows). r.store) h, (ap (λ (r : Rows). r.site) h, (ap (λ (r : Rows). r.address) h, (ap (λ (r : Rows). r.event) h, (ap (λ (r : Rows). r.part) h, (ap (λ (r : Rows). r.quarantine) h, (ap (λ (r : Rows). r.outbox) h, (ap (λ (r : Rows). r.seen) h, (ap (λ (r : Rows). r.parent) h, ap (λ (r : Rows). r.recall) h)))))))))) (Decides-and _ _ (list_decides store_row_decides a.store b.store) (Decides-and _ _ (list_decides site_row_decides a.site b.site) (Decides-and _ _ (list_decides address_row_decides a.address b.address) (Decides-and _ _ (list_decides event_row_decides a.event b.event) (Decides-and _ _ (list_decides part_row_decides a.part b.part) (Decides-and _ _ (list_decides quarantine_row_decides a.quarantine b.quarantine) (Decides-and _ _ (list_decides outbox_row_decides a.outbox b.outbox) (Decides-and _ _ (list_decides seen_row_decides a.seen b.seen) (Decides-and _ _ (list_decides parent_row_decides a.parent b.parent) (list_decides recall_row_decides a.recall b.recall))))))))))
+rows_decides a b =
+    Decides-like _ (rows_fields a b) (λ h. (ap (λ (r : Rows). r.version) h, (ap (λ (r : Rows). r.store) h, (ap (λ (r : Rows). r.site) h, (ap (λ (r : Rows). r.address) h, (ap (λ (r : Rows). r.event) h, (ap (λ (r : Rows). r.part) h, (ap (λ (r : Rows). r.pack) h, (ap (λ (r : Rows). r.packed) h, (ap (λ (r : Rows). r.quarantine) h, (ap (λ (r : Rows). r.outbox) h, (ap (λ (r : Rows). r.seen) h, (ap (λ (r : Rows). r.parent) h, (ap (λ (r : Rows). r.recall) h))))))))))))))
+    (Decides-and _ _ (version_decides a.version b.version) (Decides-and _ _ (list_decides store_row_decides a.store b.store) (Decides-and _ _ (list_decides site_row_decides a.site b.site) (Decides-and _ _ (list_decides address_row_decides a.address b.address) (Decides-and _ _ (list_decides event_row_decides a.event b.event) (Decides-and _ _ (list_decides part_row_decides a.part b.part) (Decides-and _ _ (list_decides pack_row_decides a.pack b.pack) (Decides-and _ _ (list_decides packed_row_decides a.packed b.packed) (Decides-and _ _ (list_decides quarantine_row_decides a.quarantine b.quarantine) (Decides-and _ _ (list_decides outbox_row_decides a.outbox b.outbox) (Decides-and _ _ (list_decides seen_row_decides a.seen b.seen) (Decides-and _ _ (list_decides parent_row_decides a.parent b.parent) (list_decides recall_row_decides a.recall b.recall)))))))))))))

@@ -1,6 +1,6 @@
 -- The steps and stops of a site that files keep are those of a keeper.
 use Rattle.std.specs.Prelude.{is_some, option_map, IfOk, IfErr, MatchResult}
-use Rattle.std.proofs.Common.{◌≡◌, ◌≤◌, Bool, true, false, Option, Some, None, Result, Ok, Err, IsTrue, inl, inr, refl, sym, ◌∙◌, ap, subst, arith, ⊎_elim}
+use Rattle.std.proofs.Common.{◌≡◌, ◌≤◌, Bool, true, false, Option, Some, None, Result, Ok, Err, IsTrue, refl, ◌∙◌, ap, subst, arith}
 use Rattle.sqlite_disk.specs.declared.Disk as disk
 use Rattle.sqlite_store.specs.declared.store.FileStore.{FileStore}
 use Rattle.sqlite.specs.Held.{Held}

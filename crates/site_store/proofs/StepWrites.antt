@@ -13,7 +13,7 @@ use Rattle.site_rows.specs.declared.changes.Numbers.{Numbers}
 use Rattle.site_rows.specs.declared.changes.RowChanges.{RowChanges}
 use Rattle.site_tables.specs.Causes.{HasReason}
 use Rattle.site_tables.specs.Changed.{changed, rows_written, numbers_written}
-use Rattle.site_tables.specs.Stored.{Contents, Holds, IsStored, contents_of}
+use Rattle.site_tables.specs.Stored.{Contents, Holds, IsStored, after, contents_of}
 use Rattle.site_store.specs.Faults.{is_of_memory}
 use Rattle.site_store.specs.declared.writing.Unwritten.TheVariants.{NoMemory, Failed}
 use Rattle.site_store.specs.StepWritten.{Keeps, KeepsWhereFailed, FailsToWrite, LeavesOneOf, cause_of, total, IsCounted}
@@ -21,7 +21,7 @@ use Rattle.site_tables.proofs.Leading.{holds_after}
 
 -- a crash leaves what it left before, or what the changes made
 pub crash_leaves : (changes : RowChanges) (old new : Record) (s t : State) → LeadsTo changes (rows_of old) (rows_of new)
-    → Survives s t (λ db. (before : Contents) → IsStored before s → Holds (changed changes before) db) → HasCleanDisk t → Keeps old s → LeavesOneOf old new t
+    → Survives s t (λ db. (before : Contents) → IsStored before s → Holds (after (changed changes) before) db) → HasCleanDisk t → Keeps old s → LeavesOneOf old new t
 crash_leaves changes old new s t leads survives clean it db may =
     ⊎_elim (λ was. inl (it.crash db was)) (λ made. inr (holds_after changes (rows_of old) (rows_of new) db leads (made (contents_of (rows_of old)) it))) (survives.crash clean db may)
 

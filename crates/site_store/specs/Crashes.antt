@@ -23,7 +23,7 @@ use Rattle.site_store.specs.declared.sites.Link.{Link}
 use Rattle.site_store.specs.declared.sites.Link.TheVariants.{Connected, Unconnected}
 use Rattle.site_store.specs.declared.sites.StoredSite.{StoredSite}
 use Rattle.site_store.specs.Leavings.{LeavesOwn, KeepsOwn}
-use Rattle.site_store.specs.Opened.{own_name, IsCleanAt, IsNotOpened}
+use Rattle.site_store.specs.Opened.{own_name, CommitsWhere, IsCleanAt, IsNotOpened}
 use Rattle.site_store.specs.Sites.{shown_by, MayBy, link_of, AppliesBy, StopsBy, ReopensBy}
 
 module _ {D : Type 0} {g : disk.Ghosts D} where
@@ -37,6 +37,12 @@ module _ {D : Type 0} {g : disk.Ghosts D} where
       × ∥ ((db : Trees) × (file_state conn).may_leave db × HoldsDatabase (image_of g files) db) ∥₁
   AreLeftBehind (Unconnected before) files =
       AreClean g before.log before.db × outcomes g before.log before.db (image_of g files)
+
+  -- the same of a connection whose site wasn't opened, or what that committed
+  abbrev pub AreLeftOrMigrated : Held (FileStore D g) → OpenFault → Files D → Type 0
+  AreLeftOrMigrated conn fault files =
+      HasCleanDisk (file_state conn)
+      × ∥ ((db : Trees) × ((file_state conn).may_leave db ⊎ CommitsWhere fault (file_state conn) db) × HoldsDatabase (image_of g files) db) ∥₁
 
   -- a connection just made to these files, which are read as the database reads them; no query of it has a limit
   pub record IsMadeOver (files : Files D) (conn : Held (FileStore D g)) : Type 0 where
@@ -83,7 +89,7 @@ Reopening {D} g = Result (StoredSite D g) (Unopened (StoredSite D g))
 
 -- A site that shows a record which it keeps as its own leaves it in a crash; and from call to call what a crash leaves
 -- is the site's own, but for a reopening that gets no connection. After an opening by name that failed it leaves what it
--- might have left before.
+-- might have left before, or where the machine failed in a migration the second version of what the first held.
 pub record CallsLeaveOwn {D : Type 0} (g : disk.Ghosts D) : Type 0 where
   pub shown : (site : StoredSite D g) (r : Record) → shown_by site ≡ Some r → KeepsOwn site → LeavesOwn site
   pub kept : (site : StoredSite D g) → LeavesOwn site → KeepsOwn site
@@ -96,7 +102,7 @@ pub record CallsLeaveOwn {D : Type 0} (g : disk.Ghosts D) : Type 0 where
       → MatchResult result LeavesOwn (λ left. HasConnection (link_of left.keeper) → LeavesOwn left.keeper)
   pub refused : (before after : Held (FileStore D g)) (name : List ℕ) (fault : OpenFault)
       → IsNotOpened before name after fault
-      → (files : Files D) → AreLeftBehind (Connected after) files → AreLeftBehind (Connected before) files
+      → (files : Files D) → AreLeftBehind (Connected after) files → AreLeftOrMigrated before fault files
 
 -- A site that showed a record stands after a step or a stop for that record, or for the one after the input, and for no
 -- third; and one that showed none stands after a reopening for no other record than before.

@@ -12,9 +12,10 @@ use Rattle.keeper_core.specs.declared.faults.Keep.{Keep}
 use Rattle.keeper_core.specs.declared.faults.KeepFault.{KeepFault}
 use Rattle.keeper_core.specs.declared.faults.KeepFault.TheVariants.{Closed, Device, Store}
 use Rattle.keeper_core.specs.declared.faults.Unopened.{Unopened}
+use Rattle.site_rows.specs.declared.tables.Version.{Version}
 use Rattle.site_tables.specs.AllReads.{AreListed}
-use Rattle.site_tables.specs.Stored.{Contents, IsStored}
-use Rattle.site_tables.specs.Tables.{site_schema}
+use Rattle.site_tables.specs.Stored.{Contents, IsStoredUnder}
+use Rattle.site_tables.specs.Tables.{schema_under}
 use Rattle.site_store.specs.declared.kept.Kept.{Kept}
 use Rattle.site_store.specs.declared.sites.Link.{Link}
 use Rattle.site_store.specs.declared.sites.Link.TheVariants.{Connected, Unconnected}
@@ -66,9 +67,12 @@ module _ {D : Type 0} {g : disk.Ghosts D} where
   abbrev pub IsKeptBy : StoredSite D g → Record → Type 0
   IsKeptBy site = IsKeptAt site.link
 
-  -- where the disk is honest, rows that the queries list are stored: a crash leaves these and no others
+  -- where the disk is honest, rows that the queries list are stored, under the version of the tables: a crash leaves these
+  -- and no others
   abbrev pub StoresListed : Held (FileStore D g) → Type 0
-  StoresListed conn = HasCleanDisk (file_state conn) → (file_state conn).now.schema ≡ site_schema → (rows : Contents) → AreListed rows (file_state conn).now.trees → IsStored rows (file_state conn)
+  StoresListed conn =
+      HasCleanDisk (file_state conn) → (v : Version) → (file_state conn).now.schema ≡ schema_under v → (rows : Contents) → AreListed v rows (file_state conn).now.trees
+      → IsStoredUnder v rows (file_state conn)
 
   -- ---- steps
 

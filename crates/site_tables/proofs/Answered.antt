@@ -28,7 +28,8 @@ use Rattle.sqlite.proofs.StateLemmas.{survives_weaker}
 use Rattle.sqlite.specs.Listing.{understood}
 use Rattle.sqlite.proofs.Callers.{IsPlain, reads_as, begins_as, never_commits}
 use Rattle.sqlite_schema.specs.Names.{place_of}
-use Rattle.site_tables.specs.Tables.{site_schema}
+use Rattle.site_rows.specs.declared.tables.Version.{Version}
+use Rattle.site_tables.specs.Tables.{schema_under}
 use Rattle.site_tables.specs.TableRows.{visible, key_of}
 use Rattle.site_tables.specs.Reads.{key_order, IsListed, Selects}
 use Rattle.site_tables.specs.Commands.{over_all, places, by_key, selects_all}
@@ -64,10 +65,10 @@ map_alike f h (x ∷ xs) same = ap₂ ◌∷◌ (same x) (map_alike f h xs same)
 as_visible : (table : Table) (params row : Row) → eval_all (by_key table).project (params ∷ row ∷ []) ≡ visible table row
 as_visible table params row = map-map (λ t. eval t (params ∷ row ∷ [])) (λ at. col 1 (place_of table at)) (places table)
 
-pub reads_whole : (table : Table) (sql : List ℕ) → Selects table sql
-    → (old new : State) (rows : List Row) → old.now.schema ≡ site_schema → Shown sql [] old new rows → IsWhole (by_key table) (old.now.trees table.tree) [] rows
-reads_whole table sql is old new rows has h =
-    let read = reads_as sql [] old new site_schema has (selects_all table) is.command is.plain is.listing rows h in
+pub reads_whole : {v : Version} (table : Table) (sql : List ℕ) → Selects v table sql
+    → (old new : State) (rows : List Row) → old.now.schema ≡ schema_under v → Shown sql [] old new rows → IsWhole (by_key table) (old.now.trees table.tree) [] rows
+reads_whole {v = v} table sql is old new rows has h =
+    let read = reads_as sql [] old new (schema_under v) has (selects_all table) is.command is.plain is.listing rows h in
     whole_answer table.tree _ _ old.now.trees [] rows (read.answer Null)
 
 abbrev IsKeyed : Table → Type 0
@@ -107,30 +108,30 @@ whole_listed table keyed tree rows whole = record {
   sorted = rows_sorted table keyed tree rows whole;
 }
 
-pub reads_table : (table : Table) → (sql : List ℕ) → Selects table sql
-    → (old new : State) (rows : List Row) → old.now.schema ≡ site_schema → Shown sql [] old new rows → IsListed table (old.now.trees table.tree) rows
-reads_table table sql is old new rows has h = whole_listed table is.keyed (old.now.trees table.tree) rows (reads_whole table sql is old new rows has h)
+pub reads_table : {v : Version} (table : Table) → (sql : List ℕ) → Selects v table sql
+    → (old new : State) (rows : List Row) → old.now.schema ≡ schema_under v → Shown sql [] old new rows → IsListed table (old.now.trees table.tree) rows
+reads_table {v = v} table sql is old new rows has h = whole_listed table is.keyed (old.now.trees table.tree) rows (reads_whole table sql is old new rows has h)
 
 -- rows with which an answer begins are the first of the table by their keys
-pub begins_table : (table : Table) → (sql : List ℕ) → Selects table sql
-    → (s : State) (rows : List Row) → s.now.schema ≡ site_schema → Begins sql [] s rows → (others : List Row) × IsListed table (s.now.trees table.tree) (rows ++ others)
-begins_table table sql is s rows has h =
-    let first = begins_as sql [] s s site_schema has (selects_all table) is.command is.plain is.listing rows h in
+pub begins_table : {v : Version} (table : Table) → (sql : List ℕ) → Selects v table sql
+    → (s : State) (rows : List Row) → s.now.schema ≡ schema_under v → Begins sql [] s rows → (others : List Row) × IsListed table (s.now.trees table.tree) (rows ++ others)
+begins_table {v = v} table sql is s rows has h =
+    let first = begins_as sql [] s s (schema_under v) has (selects_all table) is.command is.plain is.listing rows h in
     let whole = whole_answer table.tree _ _ s.now.trees [] (rows ++ first.1.0) (first.1.1 Null) in
     (first.1.0, whole_listed table is.keyed (s.now.trees table.tree) (rows ++ first.1.0) whole)
 
 -- ---- a query that is read one row at a time
 
-pub plain_at : (sql : List ℕ) → IsPlain (understood site_schema sql) → (s : State) → s.now.schema ≡ site_schema → IsPlain (understood s.now.schema sql)
-plain_at sql plain s has = rw has plain
+pub plain_at : (v : Version) (sql : List ℕ) → IsPlain (understood (schema_under v) sql) → (s : State) → s.now.schema ≡ schema_under v → IsPlain (understood s.now.schema sql)
+plain_at v sql plain s has = rw has plain
 
 pub commits_nothing : (sql : List ℕ) (params : Row) (old new : State) → IsPlain (understood old.now.schema sql) → Survives old new (CommitsShowing sql params old) → Survives old new (λ _. ⊥)
 commits_nothing sql params old new plain = survives_weaker old new _ _ (λ _ db. never_commits sql params old db plain)
 
 -- the query answered over a state that is the first one still
-pub reads_still : (table : Table) → (sql : List ℕ) → Selects table sql
-    → (first old new : State) (rows : List Row) → first.now.schema ≡ site_schema → IsUnchanged first old → Shown sql [] old new rows → IsListed table (first.now.trees table.tree) rows
-reads_still table sql is first old new rows has same h =
+pub reads_still : {v : Version} (table : Table) → (sql : List ℕ) → Selects v table sql
+    → (first old new : State) (rows : List Row) → first.now.schema ≡ schema_under v → IsUnchanged first old → Shown sql [] old new rows → IsListed table (first.now.trees table.tree) rows
+reads_still {v = v} table sql is first old new rows has same h =
     subst (λ (d : Database). IsListed table (d.trees table.tree) rows) same.0.now_is (reads_table table sql is old new rows (ap (λ (d : Database). d.schema) same.0.now_is ∙ has) h)
 
 -- ---- a query with conditions

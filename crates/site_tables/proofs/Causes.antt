@@ -1,5 +1,5 @@
 -- Why a text that writes fails inside a transaction.
-use Rattle.std.proofs.Common.{◌≡◌, inl, inr, ℕ, ◌≤◌, List, length, Bool, true, false, ◌||◌, ◌&&◌, Ok, Err, Result, IfErr, IsTrue, refl, sym, ap, subst, ◌∙◌, arith, rules, tests, nat_le}
+use Rattle.std.proofs.Common.{◌≡◌, inl, inr, ℕ, ◌≤◌, List, length, true, false, ◌||◌, ◌&&◌, Ok, Err, Result, IfErr, IsTrue, refl, sym, ap, subst, ◌∙◌, arith, rules, tests, nat_le}
 use Rattle.std.specs.Prelude.{⊤}
 use Rattle.sqlite_trees.specs.declared.error.StoreError.{StoreError}
 use Rattle.sqlite_trees.specs.declared.error.StoreError.TheVariants.{OutOfMemory, Io, Corrupt, Full, Broken, Unstorable}

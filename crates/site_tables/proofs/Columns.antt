@@ -1,9 +1,5 @@
 -- A row of so many columns.
-use Rattle.std.proofs.Common.{◌≡◌, ◌≢◌, ℕ, List, [], ◌∷◌, Option, None, Some, length, ap, ap₂, arith}
-use Rattle.std.specs.Prelude.{IsUtf8}
-use Rattle.sqlite.specs.Values.{or_null}
-use Rattle.sqlite.specs.declared.types.Value.TheVariants.{Null, Text}
-use Rattle.site_tables.specs.Reads.{AreTexts}
+use Rattle.std.proofs.Common.{◌≡◌, [], ◌∷◌, length, ap, ap₂, arith}
 use Rattle.sqlite_value.specs.declared.value.Value.{Value}
 use Rattle.sqlite.specs.Order.{Row}
 use Rattle.sqlite_value.specs.Order.{column}
@@ -47,8 +43,3 @@ six_columns (s ∷ t ∷ u ∷ []) a b c d e f len p0 p1 p2 p3 p4 p5 = absurd (o
 six_columns (s ∷ t ∷ u ∷ v ∷ []) a b c d e f len p0 p1 p2 p3 p4 p5 = absurd (omega (arith, len))
 six_columns (s ∷ t ∷ u ∷ v ∷ w ∷ []) a b c d e f len p0 p1 p2 p3 p4 p5 = absurd (omega (arith, len))
 six_columns (s ∷ t ∷ u ∷ v ∷ w ∷ x ∷ y ∷ r) a b c d e f len p0 p1 p2 p3 p4 p5 = absurd (omega (arith, len))
-
--- a column that is neither NULL nor a text in UTF-8 shows no text that may be missing
-pub no_text : (r : Row) (at : ℕ) (o : Option (List ℕ)) → column r at ≡ or_null Text o → AreTexts r → column r at ≢ Null → ((t : List ℕ) → column r at ≡ Text t → ¬ IsUtf8 t) → ⊥
-no_text r at None shown texts some bad = some shown
-no_text r at (Some t) shown texts some bad = bad t shown (texts at t shown)

@@ -4,7 +4,6 @@ use Rattle.std.proofs.lemmas.Bool.{cases_Bool}
 use Rattle.sqlite.specs.Table.{Table}
 use Rattle.sqlite.specs.Schema.{Schema}
 use Rattle.sqlite.specs.Command.TheVariants.{CreateTable}
-use Rattle.sqlite.specs.Compile.{table_defined_by}
 use Rattle.sqlite.specs.Change.{created, next_tree}
 use Rattle.sqlite_catalog.specs.Change.{KeepsRows}
 use Rattle.sqlite_catalog.specs.Listing.{Lists}
@@ -12,23 +11,13 @@ use Rattle.sqlite_trees.specs.Objects.{catalog_tree}
 use Rattle.sqlite.specs.declared.error.Error.{Error}
 use Rattle.sqlite.specs.Effect.{Database}
 use Rattle.sqlite.specs.Does.{Tally, lacks_sequence}
-use Rattle.sqlite.specs.Listing.{understood}
 use Rattle.sqlite.specs.State.{State, Writes, Executes, ExecutesInside}
-use Rattle.sqlite.proofs.Callers.{IsPlain, command_of, statement_of, runs_as}
+use Rattle.sqlite.proofs.Callers.{runs_as}
+use Rattle.site_tables.specs.Made.{IsMade}
 use Rattle.site_tables.specs.TableRows.{Makes, Creates}
-use Rattle.site_tables.specs.Causes.{IsAlone}
 use Rattle.site_tables.proofs.Causes.{fails_for}
 use Rattle.site_tables.proofs.Inserted.{went, same_value}
 use Rattle.site_tables.proofs.Steps.{Ran, keeps}
-
--- the text makes this table in a database of this schema
-pub record IsMade (text : List ℕ) (schema : Schema) (table : Table) : Type 0 where
-  pub command : command_of (understood schema text) ≡ CreateTable
-  pub plain : IsPlain (understood schema text)
-  pub alone : IsAlone schema text 0
-  pub whole : statement_of text (understood schema text) ≡ text
-  pub defined : table_defined_by text ≡ Ok table
-  pub counts : lacks_sequence (created schema table) ≡ false
 
 pub made : (text : List ℕ) (schema : Schema) (table : Table) → IsMade text schema table → (old new : State) (count : ℕ) → old.now.schema ≡ schema → Executes text [] old new (Ok count)
     → (new.now.schema ≡ created schema table) × (new.now.trees (next_tree schema) ≡ []) × KeepsRows schema.tables old.now.trees new.now.trees

@@ -6,10 +6,10 @@ use Rattle.std.proofs.lemmas.Fmt.{decimal_digit}
 use Rattle.sqlite_value.specs.Keys.{plain}
 use Rattle.sqlite_catalog.specs.Listing.{automatic}
 use Rattle.sqlite.specs.Table.{Table}
-use Rattle.site_tables.specs.Known.{declared, IsNamed, HasUniques, column_as, uniques_as, checks_as, references_as}
+use Rattle.site_tables.specs.Known.{table_as, IsNamed, HasUniques, column_as, uniques_as, checks_as, references_as}
 use Rattle.site_tables.specs.declared.declarations.Declaration.{Declaration}
 
-pub table_is : (t : Table) (d : Declaration) → IsNamed d t → t.columns ≡ map column_as d.columns.now → HasUniques (uniques_as d.unique.now) t → t.references ≡ references_as d.parent → t.checks ≡ checks_as d.check → t ≡ declared d
+pub table_is : (t : Table) (d : Declaration) → IsNamed d t → t.columns ≡ map column_as d.columns.now → HasUniques (uniques_as d.unique.now) t → t.references ≡ references_as d.parent → t.checks ≡ checks_as d.check → t ≡ table_as d
 table_is t d named shown unique referred checked = λ i. record {
   name = named.name_is i;
   tree = named.tree_is i;
@@ -33,7 +33,7 @@ pub record HasParts (t : Table) (d : Declaration) : Type 0 where
   pub references : t.references ≡ references_as d.parent
   pub checks : t.checks ≡ checks_as d.check
 
-pub parts_are : (t : Table) (d : Declaration) → t ≡ declared d → HasParts t d
+pub parts_are : (t : Table) (d : Declaration) → t ≡ table_as d → HasParts t d
 parts_are t d is = record {
   named = record {
     name_is = ap (λ (x : Table). x.name) is;

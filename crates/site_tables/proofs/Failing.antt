@@ -17,7 +17,8 @@ use Rattle.site_rows.specs.declared.tables.Table.{«Table» as SiteTable}
 use Rattle.site_tables.specs.declared.faults.ReadFault.{ReadFault}
 use Rattle.site_tables.specs.declared.faults.ReadFault.TheVariants.{NoMemory, OtherTables, BadRow, Database as OfDatabase}
 use Rattle.site_tables.specs.Reads.{IsListed, Selects, HasBadRow, ShowsBadRow, FailsToRead, FailsToList, IsReadFault}
-use Rattle.site_tables.specs.Tables.{site_schema}
+use Rattle.site_rows.specs.declared.tables.Version.{Version}
+use Rattle.site_tables.specs.Tables.{schema_under}
 use Rattle.site_tables.proofs.Answered.{begins_table}
 
 -- ---- errors of the database
@@ -28,9 +29,9 @@ at_most a b h = search (rules, tests)
 same_ok : {A B : Type 0} (a b : A) → ◌≡◌ {A = Result A B} (Ok a) (Ok b) → a ≡ b
 same_ok a b e = cc
 
-is_statement : (table : Table) (sql : List ℕ) → Selects table sql → (s : State) (e : Error) → s.now.schema ≡ site_schema → IsNoStatement s sql [] e → ⊥
-is_statement table sql is s e has (inl (fault, known, told)) = subst IsPlain (sym (ap (λ x. understood x sql) has) ∙ known) is.plain
-is_statement table sql is s e has (inr (c, known, why)) =
+is_statement : {v : Version} (table : Table) (sql : List ℕ) → Selects v table sql → (s : State) (e : Error) → s.now.schema ≡ schema_under v → IsNoStatement s sql [] e → ⊥
+is_statement {v = v} table sql is s e has (inl (fault, known, told)) = subst IsPlain (sym (ap (λ x. understood x sql) has) ∙ known) is.plain
+is_statement {v = v} table sql is s e has (inr (c, known, why)) =
     let read = sym (ap (λ x. understood x sql) has) ∙ known in
     let bare : IsPlain (Ok c) = subst IsPlain read is.plain in
     let same : is.alone.0 ≡ c = same_ok _ c (sym is.alone.1 ∙ read) in
@@ -42,16 +43,16 @@ is_statement table sql is s e has (inr (c, known, why)) =
       | inr (inr timed) ↦ timed.0 bare.1
     ]
 
-pub fails_read : (table : Table) (sql : List ℕ) → Selects table sql → (old new : State) (e : Error) → old.now.schema ≡ site_schema → FailsToQuery sql [] old new e → FailsToRead old new e
+pub fails_read : {v : Version} (table : Table) (sql : List ℕ) → Selects v table sql → (old new : State) (e : Error) → old.now.schema ≡ schema_under v → FailsToQuery sql [] old new e → FailsToRead old new e
 unfolding FailsToQuery IsNotRun
-fails_read table sql is old new e has (inl (inl h)) = absurd (is_statement table sql is old e has h.0)
-fails_read table sql is old new e has (inl (inr h)) = inl (h.0, h.1, h.2)
-fails_read table sql is old new e has (inr h) =
+fails_read {v = v} table sql is old new e has (inl (inl h)) = absurd (is_statement table sql is old e has h.0)
+fails_read {v = v} table sql is old new e has (inl (inr h)) = inl (h.0, h.1, h.2)
+fails_read {v = v} table sql is old new e has (inr h) =
     let known = sym h.1.is ∙ ap (λ s. understood s sql) has in
     let bare = subst IsPlain (sym known) is.plain in
     let it = rw (bare.0, bare.1) at h.2 in
     let db : it.0 ≡ old.now = subst (λ b. IsSourceOf b old.now it.0) (ap (λ s. reads_listing s sql) has ∙ is.listing) it.1 in
-    let whole : old.now ≡ record { schema = site_schema; trees = old.now.trees } = ap (λ s. record { schema = s; trees = old.now.trees }) has in
+    let whole : old.now ≡ record { schema = schema_under v; trees = old.now.trees } = ap (λ s. record { schema = s; trees = old.now.trees }) has in
     inr (is.accepted old.step_limit old.now.trees e (subst₂ (λ k d. RefusesToRead old.step_limit k d [] e) (ap command_of known ∙ is.command) (db ∙ whole) it.2))
 
 -- ---- after reads that changed nothing
@@ -70,7 +71,7 @@ fails_later old mid new e same survives (inr h) = inr (h.0, subst IsSome survive
 
 -- ---- bad rows
 
-pub bad_read : {X : Type 0} (table : Table) (sql : List ℕ) (row_of : X → Row) → Selects table sql → (place : ℕ) (old new : State) → old.now.schema ≡ site_schema → ShowsBadRow sql row_of place old new → HasBadRow table row_of place (old.now.trees table.tree)
+pub bad_read : {v : Version} {X : Type 0} (table : Table) (sql : List ℕ) (row_of : X → Row) → Selects v table sql → (place : ℕ) (old new : State) → old.now.schema ≡ schema_under v → ShowsBadRow sql row_of place old new → HasBadRow table row_of place (old.now.trees table.tree)
 bad_read table sql row_of is place old new has h =
     let now : new.now ≡ old.now = h.0.0.now_is in
     let begun = begins_table table sql is new (map row_of h.1 ++ h.2 ∷ []) (ap (λ (d : Database). d.schema) now ∙ has) h.3 in
@@ -79,13 +80,13 @@ bad_read table sql row_of is place old new has h =
 
 -- ---- a reading of one table
 
-module _ {S X : Type 0} (g : Ghosts S) (named : SiteTable) (table : Table) (row_of : X → Row) (sql : List ℕ) (is : Selects table sql) (old new : Held S) (has : old.schema ≡ site_schema) where
-  pub read_fault : (fault : ReadFault) → FailsToList g named sql row_of old new fault → IsReadFault named table row_of (state g old) (state g new) fault
+module _ {v : Version} {S X : Type 0} (g : Ghosts S) (named : SiteTable) (table : Table) (row_of : X → Row) (sql : List ℕ) (is : Selects v table sql) (old new : Held S) (has : old.schema ≡ schema_under v) where
+  pub read_fault : (fault : ReadFault) → FailsToList g named sql row_of old new fault → IsReadFault v named table row_of (state g old) (state g new) fault
   read_fault NoMemory h = has
   read_fault OtherTables h = absurd h
   read_fault (BadRow t place) h = (has, h.0, bad_read table sql row_of is place (state g old) (state g new) has h.1, h.1.0)
   read_fault (OfDatabase e) (inl h) = (has, fails_read table sql is (state g old) (state g new) e has h)
   read_fault (OfDatabase e) (inr h) =
       let mid = state g h.0 in
-      let still : mid.now.schema ≡ site_schema = ap (λ (d : Database). d.schema) h.1.0.now_is ∙ has in
+      let still : mid.now.schema ≡ schema_under v = ap (λ (d : Database). d.schema) h.1.0.now_is ∙ has in
       (has, fails_later (state g old) mid (state g new) e h.1 h.2 (fails_read table sql is mid (state g new) e still h.3))

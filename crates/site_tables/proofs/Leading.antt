@@ -25,13 +25,16 @@ use Rattle.site_rows.specs.declared.rows.StoreRow.{StoreRow}
 use Rattle.site_rows.specs.declared.changes.Numbers.{Numbers}
 use Rattle.site_rows.specs.declared.changes.RecallKey.{RecallKey}
 use Rattle.site_rows.specs.declared.changes.RowChanges.{RowChanges}
+use Rattle.site_rows.specs.declared.tables.Table.{«Table» as SiteTable}
+use Rattle.site_rows.specs.declared.tables.Table.TheVariants.{Store, Site, Address, Event, Part, Pack, Packed, Quarantine, Outbox, Seen, Parent, Recall}
 use Rattle.site_rows.specs.StepRows as step
 use Rattle.site_tables.specs.Changed.{changed, drops_outbox, drops_parent, renumbers}
 use Rattle.sqlite.specs.State.{State}
-use Rattle.site_tables.specs.Stored.{Holds, IsStored, contents_of}
-use Rattle.site_tables.specs.Tables.{outbox, parent, recall}
+use Rattle.site_tables.specs.Stored.{Holds, IsStored, after, contents_of}
+use Rattle.site_tables.specs.Tables.{declared, outbox, parent, recall}
 use Rattle.site_tables.specs.TableRows.{HasRows, has_key, without_key, puts, changes_each}
 use Rattle.site_tables.specs.Values.{store_values, event_values, part_values, quarantine_values, outbox_values, seen_values, parent_values, recall_values, recall_key}
+use Rattle.site_tables.proofs.StoreTable.{numbers_set}
 
 truth_is : (o : Ordering) → is_true (from_truth (Some (is_eq o))) ≡ is_eq o
 truth_is Less = refl
@@ -91,36 +94,39 @@ has_other_order table values held xs ys tree is same has = record {
 has_same : (table : Table) (held rows tree : List Row) → held ≡ rows → HasRows table held tree → HasRows table rows tree
 has_same table held rows tree is has = subst (λ rows. HasRows table rows tree) is has
 
-renumbered_is : (numbers : Option Numbers) (rows : List StoreRow) → renumbers numbers rows ≡ step.renumbered numbers rows
+renumbered_is : (numbers : Option Numbers) (rows : List StoreRow) → renumbers numbers (map store_values rows) ≡ map store_values (step.renumbered numbers rows)
 renumbered_is None rows = refl
-renumbered_is (Some n) rows = refl
+renumbered_is (Some n) rows = numbers_set n rows
 
 -- where the changes lead from some rows to others, tables that hold the former hold the latter once they are made
-pub holds_after : (changes : RowChanges) (before after : Rows) (trees : Trees) → step.LeadsTo changes before after → Holds (changed changes (contents_of before)) trees → Holds (contents_of after) trees
-holds_after changes before after trees leads h = record {
-  lists = h.lists;
-  store = has_same _ _ _ _ (ap (map store_values) (renumbered_is changes.numbers before.store ∙ sym leads.store)) h.store;
-  site = has_same _ _ _ _ (ap (map _) (sym leads.site)) h.site;
-  address = has_same _ _ _ _ (ap (map _) (sym leads.address)) h.address;
-  event = has_same _ _ _ _ (sym (map-append event_values before.event changes.event) ∙ ap (map event_values) (sym leads.event)) h.event;
-  part = has_same _ _ _ _ (sym (map-append part_values before.part changes.part) ∙ ap (map part_values) (sym leads.part)) h.part;
-  quarantine = has_other_order _ quarantine_values _ _ after.quarantine _ (sym (map-append quarantine_values before.quarantine changes.quarantine)) leads.quarantine h.quarantine;
-  outbox = has_other_order _ outbox_values _ _ after.outbox _
+module _ (changes : RowChanges) (before next : Rows) (trees : Trees) (leads : step.LeadsTo changes before next) where
+  has_after : (t : SiteTable) → HasRows (declared t) (changed changes t (contents_of before t)) (trees (declared t).tree) → HasRows (declared t) (contents_of next t) (trees (declared t).tree)
+  has_after Store h = has_same _ _ _ _ (renumbered_is changes.numbers before.store ∙ ap (map store_values) (sym leads.store)) h
+  has_after Site h = has_same _ _ _ _ (ap (map _) (sym leads.site)) h
+  has_after Address h = has_same _ _ _ _ (ap (map _) (sym leads.address)) h
+  has_after Event h = has_same _ _ _ _ (sym (map-append event_values before.event changes.event) ∙ ap (map event_values) (sym leads.event)) h
+  has_after Part h = has_same _ _ _ _ (sym (map-append part_values before.part changes.part) ∙ ap (map part_values) (sym leads.part)) h
+  has_after Pack h = has_same _ _ _ _ (ap (map _) (sym leads.pack)) h
+  has_after Packed h = has_same _ _ _ _ (ap (map _) (sym leads.packed)) h
+  has_after Quarantine h = has_other_order _ quarantine_values _ _ next.quarantine _ (sym (map-append quarantine_values before.quarantine changes.quarantine)) leads.quarantine h
+  has_after Outbox h = has_other_order _ outbox_values _ _ next.outbox _
       (ap (drops_outbox changes.signalled) (each_is outbox_values (λ row. puts outbox (outbox_values row)) step.put_message message_put changes.outbox before.outbox)
-      ∙ each_is outbox_values (λ number. without_key outbox (Int number ∷ [])) step.without_message message_without changes.signalled (fold step.put_message before.outbox changes.outbox)) leads.outbox h.outbox;
-  seen = has_other_order _ seen_values _ _ after.seen _ (sym (map-append seen_values before.seen changes.seen)) leads.seen h.seen;
-  parent = has_other_order _ parent_values _ _ after.parent _
+      ∙ each_is outbox_values (λ number. without_key outbox (Int number ∷ [])) step.without_message message_without changes.signalled (fold step.put_message before.outbox changes.outbox)) leads.outbox h
+  has_after Seen h = has_other_order _ seen_values _ _ next.seen _ (sym (map-append seen_values before.seen changes.seen)) leads.seen h
+  has_after Parent h = has_other_order _ parent_values _ _ next.parent _
       (ap (drops_parent changes.left) (sym (map-append parent_values before.parent changes.parent))
-      ∙ each_is parent_values (λ key. without_key parent (recall_key key)) step.without_parent parent_without changes.left (before.parent ++ changes.parent)) leads.parent h.parent;
-  recall = has_other_order _ recall_values _ _ after.recall _ (each_is recall_values (λ row. puts recall (recall_values row)) step.put_recall recall_put changes.recall before.recall) leads.recall h.recall;
-}
+      ∙ each_is parent_values (λ key. without_key parent (recall_key key)) step.without_parent parent_without changes.left (before.parent ++ changes.parent)) leads.parent h
+  has_after Recall h = has_other_order _ recall_values _ _ next.recall _ (each_is recall_values (λ row. puts recall (recall_values row)) step.put_recall recall_put changes.recall before.recall) leads.recall h
 
-pub stored_after : (changes : RowChanges) (before after : Rows) (s : State) → step.LeadsTo changes before after → IsStored (changed changes (contents_of before)) s → IsStored (contents_of after) s
-stored_after changes before after s leads it = record {
+  pub holds_after : Holds (after (changed changes) (contents_of before)) trees → Holds (contents_of next) trees
+  holds_after h = record { lists = h.lists; has = λ t there. has_after t (h.has t there) }
+
+pub stored_after : (changes : RowChanges) (before next : Rows) (s : State) → step.LeadsTo changes before next → IsStored (after (changed changes) (contents_of before)) s → IsStored (contents_of next) s
+stored_after changes before next s leads it = record {
   is_open = it.is_open;
   autocommit = it.autocommit;
   settled = it.settled;
   schema = it.schema;
-  holds = holds_after changes before after s.committed.trees leads it.holds;
-  crash = λ db may. holds_after changes before after db leads (it.crash db may);
+  holds = holds_after changes before next s.committed.trees leads it.holds;
+  crash = λ db may. holds_after changes before next db leads (it.crash db may);
 }

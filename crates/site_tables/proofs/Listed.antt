@@ -13,7 +13,8 @@ use Rattle.site_tables.specs.declared.faults.ReadFault.{ReadFault}
 use Rattle.site_tables.specs.declared.faults.ReadFault.TheVariants as faults
 use Rattle.sqlite_sql.proofs.QueryLemmas.{key_cmp_total}
 use Rattle.site_tables.specs.Reads.{key_order, IsBadRow, IsStrict, IsListed, FailsToList, Selects}
-use Rattle.site_tables.specs.Tables.{site_schema}
+use Rattle.site_rows.specs.declared.tables.Version.{Version}
+use Rattle.site_tables.specs.Tables.{schema_under}
 use Rattle.site_tables.specs.TableRows.{visible, HasRows, key_of}
 use Rattle.site_tables.proofs.Answered.{reads_still}
 use Rattle.site_tables.proofs.Order.{sorted_is}
@@ -24,7 +25,7 @@ listed_is table xs rows tree has strict listed =
     let shown = map (visible table) tree in
     sorted_is (key_order table) (on_total (key_of table) (key_cmp_total _ 0)) xs rows strict (IsPermutation-trans xs shown rows (IsPermutation-sym shown xs has.same) listed.same) listed.sorted
 
-module _ {S : Type 0} (g : Ghosts S) (table : Table) {X : Type 0} (row_of : X → Row) (sql : List ℕ) (is : Selects table sql) (old new : Held S) (has : old.schema ≡ site_schema) where
+module _ {v : Version} {S : Type 0} (g : Ghosts S) (table : Table) {X : Type 0} (row_of : X → Row) (sql : List ℕ) (is : Selects v table sql) (old new : Held S) (has : old.schema ≡ schema_under v) where
   -- what `read_each` says of a text that shows a whole table
   pub read_listed : {Y : Type 0} (r : Result (Vec X Global) Y) → IfOk r (λ rows. (mid : Held S) × IsUnchanged (state g old) (state g mid) × Shown sql [] (state g mid) (state g new) (map row_of rows.items))
       → IfOk r (λ rows. IsListed table ((state g old).now.trees table.tree) (map row_of rows.items))

@@ -1,6 +1,6 @@
 -- A command that writes is refused by the errors that are refusals, and by no other.
-use Rattle.std.proofs.Common.{◌≡◌, ◌⊎◌, inl, inr, ℕ, ℤ, Bool, true, false, List, [], ◌∷◌, Option, Some, None, Result, Ok, Err, refl, sym, ap, subst, ◌∙◌, ⊎_elim, if◌then◌else◌}
-use Rattle.std.specs.Prelude.{IsSome, MatchBool, IsTrue, option_map, is_some}
+use Rattle.std.proofs.Common.{◌≡◌, ◌⊎◌, inl, inr, ℕ, ℤ, Bool, true, false, List, [], ◌∷◌, Option, Some, None, Result, Ok, Err, refl, sym, ap, subst, ◌∙◌}
+use Rattle.std.specs.Prelude.{MatchBool, option_map, is_some}
 use Rattle.sqlite_trees.specs.Tree.{Trees}
 use Rattle.sqlite_schema.specs.declared.command.Conflict.{Conflict}
 use Rattle.sqlite_schema.specs.declared.command.Conflict.TheVariants.{Abort, Ignore, Replace}
@@ -10,14 +10,11 @@ use Rattle.sqlite_schema.specs.declared.command.Source.TheVariants as source
 use Rattle.sqlite_schema.specs.declared.command.Upsert.{Upsert}
 use Rattle.sqlite_schema.specs.declared.command.Command.TheVariants.{Insert, InsertOr, Update, Delete, CreateTable}
 use Rattle.sqlite_schema.specs.declared.program.Program.{Program}
-use Rattle.sqlite_schema.specs.declared.schema.Among.{Among}
-use Rattle.sqlite_schema.specs.declared.schema.Keys.{Keys}
-use Rattle.sqlite_schema.specs.declared.schema.Schema.{Schema}
 use Rattle.sqlite_schema.specs.declared.schema.Table.{Table}
 use Rattle.sqlite_rules.specs.declared.error.Refusal.{Refusal}
 use Rattle.sqlite_rules.specs.declared.error.Refusal.TheVariants.{Violates, Mismatch, NoRowid, BadReference, TooDeep}
 use Rattle.sqlite_rules.specs.Cast.{cast_row}
-use Rattle.sqlite_rules.specs.Edit.{Edit, with_rowid}
+use Rattle.sqlite_rules.specs.Edit.{with_rowid}
 use Rattle.sqlite_catalog.specs.declared.error.Refusal as alter
 use Rattle.sqlite_catalog.specs.declared.error.Refusal.TheVariants as why
 use Rattle.sqlite.specs.declared.error.Error.{Error}
@@ -27,7 +24,7 @@ use Rattle.sqlite.specs.Command.{Command}
 use Rattle.sqlite.specs.Does.{Does, Tally, AtPlace, sequence_text, OnRows, Concludes, Returns, Shows, WritesRows, Redefines, MakesTable, MakesSequence}
 use Rattle.sqlite.specs.Effect.{Database, RefusesQuery, RefusesSource, RefusesToAlter, IsNoText, edit_error, alter_error}
 use Rattle.sqlite.specs.Order.{Row}
-use Rattle.sqlite.specs.Rows.{Part, Gives, Refuses, Then, Queried, Sourced, Edited, Written, Task, sequence, Counter, CounterIn, Counts, CountsIn, Updates, Deletes, Inserts, InsertsOr, Puts, Clears, Resolves, Meets, Upserts, Judged, Tries, TriesEach, rowids_for, mended, count_of, nothing}
+use Rattle.sqlite.specs.Rows.{Gives, Refuses, Queried, Sourced, Written, Task, sequence, Counter, CounterIn, Counts, CountsIn, Updates, Deletes, Inserts, InsertsOr, Puts, Clears, Resolves, Upserts, Judged, Tries, TriesEach, rowids_for, mended, count_of, nothing}
 use Rattle.site_tables.specs.Causes.{is_of_refusal, is_write, IsRefusal}
 
 -- the error of a statement is that of the part that stopped it

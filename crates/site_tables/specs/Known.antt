@@ -35,8 +35,8 @@ references_as None = []
 references_as (Some p) = to (p.place ∷ []) p.table.now p.column.now ∷ []
 
 -- the table of a declaration
-abbrev pub declared : Declaration → Table
-declared d = table_of d.name.now d.tree (map column_as d.columns.now) d.key d.primary.now (uniques_as d.unique.now) (checks_as d.check) (references_as d.parent)
+abbrev pub table_as : Declaration → Table
+table_as d = table_of d.name.now d.tree (map column_as d.columns.now) d.key d.primary.now (uniques_as d.unique.now) (checks_as d.check) (references_as d.parent)
 
 -- the index of a UNIQUE
 abbrev pub index_as : Index → SqlIndex

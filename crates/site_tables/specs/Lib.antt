@@ -6,11 +6,11 @@ pub mod Filled
 pub mod Inserting
 pub mod Known
 pub mod Made
+pub mod Migrated
 pub mod Reads
 pub mod Stored
 pub mod TableRows
 pub mod Tables
-pub mod Texts
 pub mod Trying
 pub mod Unreadable
 pub mod Values

@@ -1,18 +1,16 @@
 -- What the queries of the tables find.
-use Rattle.std.specs.Prelude.{◌≡◌, ◌≢◌, ◌⊎◌, ⊤, false, ℕ, ◌+◌, nat_le, List, [], ◌∷◌, ◌++◌, map, length, IsPermutation, IsSorted, IsSome, IsTrue, IsUtf8, Option, Ok}
+use Rattle.std.specs.Prelude.{◌≡◌, ◌≢◌, ◌⊎◌, ⊤, false, ℕ, ◌+◌, nat_le, List, [], ◌∷◌, ◌++◌, map, length, IsPermutation, IsSorted, IsSome, IsTrue, Option, Ok}
 use Rattle.std.specs.Ordering.{on}
 use Rattle.std.specs.declared.cmp.Ordering.{Ordering}
 use Rattle.std.specs.declared.cmp.Ordering.TheVariants.{Less}
 use Rattle.sqlite.specs.Collation.TheVariants.{Binary}
 use Rattle.sqlite_value.specs.Keys.{ascending}
-use Rattle.sqlite_value.specs.Order.{column}
 use Rattle.sqlite_trees.specs.Tree.{IsAscending}
 use Rattle.sqlite_sql.specs.Query.{key_cmp}
 use Rattle.sqlite_trees.specs.declared.error.StoreError.{StoreError}
 use Rattle.sqlite.specs.declared.error.Error.{Error}
 use Rattle.sqlite.specs.declared.error.Error.TheVariants.{SqliteFailure}
 use Rattle.sqlite.specs.declared.error.ErrorCode.TheVariants.{OperationInterrupted}
-use Rattle.sqlite.specs.declared.types.Value.TheVariants.{Text}
 use Rattle.sqlite.specs.Effect.{RefusesToRead}
 use Rattle.sqlite.specs.Order.{Row}
 use Rattle.sqlite.specs.Tree.{Trees}
@@ -28,7 +26,8 @@ use Rattle.site_tables.specs.Commands.{by_key, selects_all}
 use Rattle.site_rows.specs.declared.tables.Table.{«Table» as SiteTable}
 use Rattle.site_tables.specs.declared.faults.ReadFault.{ReadFault}
 use Rattle.site_tables.specs.declared.faults.ReadFault.TheVariants.{NoMemory, OtherTables, BadRow, Database}
-use Rattle.site_tables.specs.Tables.{site_schema}
+use Rattle.site_rows.specs.declared.tables.Version.{Version}
+use Rattle.site_tables.specs.Tables.{schema_under}
 use Rattle.site_tables.specs.TableRows.{key_of, visible}
 
 abbrev pub key_order : Table → Row → Row → Ordering
@@ -43,25 +42,21 @@ pub record IsListed (table : Table) (tree rows : List Row) : Type 0 where
   pub same : IsPermutation (map (visible table) tree) rows
   pub sorted : IsSorted (key_order table) rows
 
--- the text shows the rows of the table by their keys
-pub record Selects (table : Table) (sql : List ℕ) : Type 0 where
-  pub command : command_of (understood site_schema sql) ≡ selects_all table
-  pub plain : IsPlain (understood site_schema sql)
+-- in a database of the version the text shows the rows of the table by their keys
+pub record Selects (v : Version) (table : Table) (sql : List ℕ) : Type 0 where
+  pub command : command_of (understood (schema_under v) sql) ≡ selects_all table
+  pub plain : IsPlain (understood (schema_under v) sql)
   -- it is one statement, with no parameter
-  pub alone : (c : _) × (understood site_schema sql ≡ Ok c) × IsTrue (nat_le (length sql) c.tail) × (c.names ≡ [])
-  pub listing : reads_listing site_schema sql ≡ false
+  pub alone : (c : _) × (understood (schema_under v) sql ≡ Ok c) × IsTrue (nat_le (length sql) c.tail) × (c.names ≡ [])
+  pub listing : reads_listing (schema_under v) sql ≡ false
   -- only the limit on steps refuses it
-  pub accepted : (limit : Option ℕ) (trees : Trees) (e : Error) → RefusesToRead limit (selects_all table) (record { schema = site_schema; trees = trees }) [] e → (e ≡ SqliteFailure OperationInterrupted) × IsSome limit
+  pub accepted : (limit : Option ℕ) (trees : Trees) (e : Error) → RefusesToRead limit (selects_all table) (record { schema = schema_under v; trees = trees }) [] e → (e ≡ SqliteFailure OperationInterrupted) × IsSome limit
   -- the query's key of a row is that of the row as it is shown
   pub keyed : (row : Row) → (output (by_key table) ([] ∷ row ∷ [])).0 ≡ key_of table (visible table row)
 
--- its texts are UTF-8
-abbrev pub AreTexts : Row → Type 0
-AreTexts row = (at : ℕ) (t : List ℕ) → column row at ≡ Text t → IsUtf8 t
-
 -- no value of a type stands for the row
 abbrev pub IsBadRow : {X : Type 0} → (X → Row) → Row → Type 0
-IsBadRow {X} row_of row = AreTexts row → (x : X) → row ≢ row_of x
+IsBadRow {X} row_of row = (x : X) → row ≢ row_of x
 
 -- the rows of the table by their keys are some that are read, then this one, at this place from 1, for which no value
 -- stands, and others
@@ -74,13 +69,13 @@ HasBadRow {X} table row_of place tree =
 abbrev pub FailsToRead : State → State → Error → Type 0
 FailsToRead old new e = ((cause : StoreError) × (e ≡ store_error cause) × HasCause old new ⊥ cause) ⊎ ((e ≡ SqliteFailure OperationInterrupted) × IsSome old.step_limit)
 
--- why the rows of a table aren't read: the tables are another's, or they are a site's, and memory ran out, or the table
--- has a bad row, and nothing is changed, or the database failed
-abbrev pub IsReadFault : {X : Type 0} → SiteTable → Table → (X → Row) → State → State → ReadFault → Type 0
-IsReadFault named table row_of old new OtherTables = old.now.schema ≢ site_schema
-IsReadFault named table row_of old new NoMemory = old.now.schema ≡ site_schema
-IsReadFault named table row_of old new (BadRow t place) = (old.now.schema ≡ site_schema) × (t ≡ named) × HasBadRow table row_of place (old.now.trees table.tree) × IsUnchanged old new
-IsReadFault named table row_of old new (Database e) = (old.now.schema ≡ site_schema) × FailsToRead old new e
+-- why the rows of a table of the version aren't read: the tables aren't those of the version, or they are, and memory ran
+-- out, or the table has a bad row, and nothing is changed, or the database failed
+abbrev pub IsReadFault : {X : Type 0} → Version → SiteTable → Table → (X → Row) → State → State → ReadFault → Type 0
+IsReadFault v named table row_of old new OtherTables = old.now.schema ≢ schema_under v
+IsReadFault v named table row_of old new NoMemory = old.now.schema ≡ schema_under v
+IsReadFault v named table row_of old new (BadRow t place) = (old.now.schema ≡ schema_under v) × (t ≡ named) × HasBadRow table row_of place (old.now.trees table.tree) × IsUnchanged old new
+IsReadFault v named table row_of old new (Database e) = (old.now.schema ≡ schema_under v) × FailsToRead old new e
 
 -- ---- a query whose rows are read one at a time
 

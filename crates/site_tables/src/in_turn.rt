@@ -2,6 +2,7 @@
 ghost use Rattle.std.specs.Prelude.{◌≡◌, ◌+◌, length, min, OnOk};
 ghost use Rattle.sqlite.specs.Held.{state};
 ghost use Rattle.site_tables.specs.TableRows.{Writes, changes_each};
+ghost use Rattle.site_tables.specs.Tables.{declared};
 
 use sqlite::{Alter, Error, Transaction};
 
@@ -9,13 +10,13 @@ use sqlite::{Alter, Error, Transaction};
 pub trait TableChange {
     ghost use Rattle.std.specs.Prelude.{List};
     ghost use Rattle.sqlite.specs.Order.{Row as SqlRow};
-    ghost use Rattle.sqlite.specs.Table.{Table as SqlTable};
+    ghost use Rattle.site_rows.specs.declared.tables.Table.{«Table» as SiteTable};
 
     /// What the text takes its values from.
     type Element;
 
     // The table, and what an element makes of its rows.
-    ghost changed: { SqlTable };
+    ghost named: { SiteTable };
 
     ghost change: { Self.Element → List SqlRow → List SqlRow };
 
@@ -26,7 +27,7 @@ pub trait TableChange {
         written: &mut u64,
     ) -> Result<usize, Error>
         ensures same_reference { tx.new.conn.ghost_name ≡ tx.old.conn.ghost_name }
-        ensures wrote { Writes changed (change element.now) (state S.Store tx.old.conn.now) (state S.Store tx.new.conn.now) result }
+        ensures wrote { Writes (declared named) (change element.now) (state S.Store tx.old.conn.now) (state S.Store tx.new.conn.now) result }
         ensures counted { written.new ≡ min 18_446_744_073_709_551_615 (written.old + 1) };
 }
 
@@ -37,7 +38,7 @@ pub fn write_each<C: TableChange, S: Alter>(
     written: &mut u64,
 ) -> Result<(), Error>
     ensures same_reference { tx.new.conn.ghost_name ≡ tx.old.conn.ghost_name }
-    ensures wrote { Writes C.changed (changes_each C.change elements.now) (state S.Store tx.old.conn.now) (state S.Store tx.new.conn.now) result }
+    ensures wrote { Writes (declared C.named) (changes_each C.change elements.now) (state S.Store tx.old.conn.now) (state S.Store tx.new.conn.now) result }
     ensures counted { OnOk result (written.new ≡ min 18_446_744_073_709_551_615 (written.old + length elements.now)) }
 {
     // The count fits its type.

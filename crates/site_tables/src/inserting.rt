@@ -1,46 +1,31 @@
 //! Rows that are inserted into their tables: eight by one text while there are as many, since a text costs the
 //! database as much again as the row, and the others one by one.
-ghost use Rattle.std.specs.Prelude.{◌≡◌, ◌+◌, ◌*◌, ◌/◌, ◌++◌, length, map, min, take, IfSome, OnOk};
+ghost use Rattle.std.specs.Prelude.{◌≡◌, ◌+◌, ◌*◌, ◌/◌, length, map, min, take, OnOk};
 ghost use Rattle.sqlite.specs.Held.{state};
-ghost use Rattle.sqlite.specs.Values.{bound};
 ghost use Rattle.site_tables.specs.Inserting.{Inserts};
 ghost use Rattle.site_tables.specs.TableRows.{Writes, adds};
+ghost use Rattle.site_tables.specs.Tables.{declared};
 
 use crate::counting::count_one;
-use crate::stored::Stored;
+use crate::table_row::TableRow;
 use sqlite::types::ValueRef;
 use sqlite::{Alter, Error, ErrorCode, Transaction};
-use std::alloc::{AllocError, Global};
+use std::alloc::Global;
 
 /// How many rows a text inserts that inserts several.
 const TOGETHER: usize = 8;
 
-/// A row that is inserted into its table.
-pub trait Inserted: Stored {
-    /// The text that inserts one row.
-    fn one_row() -> &'static str
-        ensures { Inserts Self.listed Self.shown 1 result.now };
-
-    /// The text that inserts eight rows, for a table that is given many at once.
-    fn eight_rows() -> Option<&'static str>
-        ensures { IfSome result (λ text. Inserts Self.listed Self.shown 8 text.now) };
-
-    /// Puts the values of its columns behind the others, in order.
-    fn push_values<'a>(&'a self, values: &mut Vec<ValueRef<'a>>) -> Result<(), AllocError>
-        ensures { OnOk result (bound values.new.items ≡ bound values.old.items ++ Self.shown self.now) };
-}
-
 /// Inserts the rows by a text for as many, and counts each as written.
-fn insert_together<'a, T: Inserted, S: Alter>(
+fn insert_together<'a, T: TableRow, S: Alter>(
     tx: &mut Transaction<'_, S>,
     text: &str,
     rows: &'a [T],
     values: &mut Vec<ValueRef<'a>>,
     written: &mut u64,
 ) -> Result<(), Error>
-    requires { Inserts T.Stored.listed T.Stored.shown (length rows.now) text.now }
+    requires { Inserts (declared T.TableRow.named) T.TableRow.shown (length rows.now) text.now }
     ensures same_reference { tx.new.conn.ghost_name ≡ tx.old.conn.ghost_name }
-    ensures wrote { Writes T.Stored.listed (adds (map T.Stored.shown rows.now)) (state S.Store tx.old.conn.now) (state S.Store tx.new.conn.now) result }
+    ensures wrote { Writes (declared T.TableRow.named) (adds (map T.TableRow.shown rows.now)) (state S.Store tx.old.conn.now) (state S.Store tx.new.conn.now) result }
     ensures counted { OnOk result (written.new ≡ min 18_446_744_073_709_551_615 (written.old + length rows.now)) }
 {
     // The count fits its type.
@@ -57,16 +42,16 @@ fn insert_together<'a, T: Inserted, S: Alter>(
 }
 
 /// Inserts the rows, but for the last ones that are fewer than eight, by a text for eight.
-fn insert_eights<'a, T: Inserted, S: Alter>(
+fn insert_eights<'a, T: TableRow, S: Alter>(
     tx: &mut Transaction<'_, S>,
     text: &str,
     rows: &'a [T],
     values: &mut Vec<ValueRef<'a>>,
     written: &mut u64,
 ) -> Result<(), Error>
-    requires { Inserts T.Stored.listed T.Stored.shown 8 text.now }
+    requires { Inserts (declared T.TableRow.named) T.TableRow.shown 8 text.now }
     ensures same_reference { tx.new.conn.ghost_name ≡ tx.old.conn.ghost_name }
-    ensures wrote { Writes T.Stored.listed (adds (map T.Stored.shown (take (length rows.now / 8 * 8) rows.now))) (state S.Store tx.old.conn.now) (state S.Store tx.new.conn.now) result }
+    ensures wrote { Writes (declared T.TableRow.named) (adds (map T.TableRow.shown (take (length rows.now / 8 * 8) rows.now))) (state S.Store tx.old.conn.now) (state S.Store tx.new.conn.now) result }
     ensures counted { OnOk result (written.new ≡ min 18_446_744_073_709_551_615 (written.old + length rows.now / 8 * 8)) }
 {
     // The count fits its type.
@@ -79,26 +64,32 @@ fn insert_eights<'a, T: Inserted, S: Alter>(
 }
 
 /// Inserts the rows into their table, in their order.
-pub fn insert_each<T: Inserted, S: Alter>(
+pub fn insert_each<T: TableRow, S: Alter>(
     alloc: Global,
     tx: &mut Transaction<'_, S>,
     rows: &[T],
     written: &mut u64,
 ) -> Result<(), Error>
     ensures same_reference { tx.new.conn.ghost_name ≡ tx.old.conn.ghost_name }
-    ensures wrote { Writes T.Stored.listed (adds (map T.Stored.shown rows.now)) (state S.Store tx.old.conn.now) (state S.Store tx.new.conn.now) result }
+    ensures wrote { Writes (declared T.TableRow.named) (adds (map T.TableRow.shown rows.now)) (state S.Store tx.old.conn.now) (state S.Store tx.new.conn.now) result }
     ensures counted { OnOk result (written.new ≡ min 18_446_744_073_709_551_615 (written.old + length rows.now)) }
 {
     // The count fits its type.
     let _written = *written;
     let mut values = Vec::new(alloc);
     let mut done = 0;
-    if let Some(text) = T::eight_rows() {
+    if let Some(text) = T::insert_eight_text() {
         insert_eights(tx, text, rows, &mut values, written)?;
         done = rows.len() / TOGETHER * TOGETHER;
     }
     for at in done..rows.len() {
-        insert_together(tx, T::one_row(), &rows[at..at + 1], &mut values, written)?;
+        insert_together(
+            tx,
+            T::insert_text(),
+            &rows[at..at + 1],
+            &mut values,
+            written,
+        )?;
     }
     Ok(())
 }

@@ -1,33 +1,40 @@
 //! The tables of a site in a database: made, read, and what a step changes written in one transaction.
 #![tactic(auto)]
 
-mod all_rows;
+mod address_table;
+mod all_tables;
 mod beginning;
 mod counting;
-mod create;
 mod declarations;
+mod event_table;
 mod faults;
 mod in_turn;
 mod inserting;
-mod inserts;
 mod known_checks;
 mod known_parts;
 mod known_tables;
 pub mod laws;
+mod migrating;
+mod outbox_table;
+mod pack_table;
+mod packed_table;
+mod parent_table;
+mod part_table;
+mod quarantine_table;
 mod reads;
-mod replacing;
+mod recall_table;
+mod seen_table;
+mod site_table;
 mod step;
+mod store_table;
 mod stored;
-mod stored_events;
-mod stored_messages;
-mod stored_recalls;
-mod stored_sites;
+mod table_row;
 mod trying;
 
-pub use all_rows::read_rows;
+pub use all_tables::read_rows;
 pub use beginning::create_site;
 pub use faults::ReadFault;
-pub use known_tables::is_site_schema;
-pub use reads::read_table;
+pub use known_tables::version_of;
+pub use migrating::migrate;
 pub use step::store_changes;
 pub use trying::{Left, settled, try_changes};

@@ -1,15 +1,19 @@
 //! The rows that a step changes, written in one transaction.
-ghost use Rattle.std.specs.Prelude.{◌≡◌, ◌+◌, false, length, min, IsTrue, IfErr, OnOk, OnErr};
+ghost use Rattle.std.specs.Prelude.{◌≡◌, ◌+◌, [], ◌∷◌, false, length, min, IsTrue, IfErr, OnOk, OnErr};
 ghost use Rattle.sqlite.specs.Tree.{Trees};
 ghost use Rattle.sqlite.specs.State.{HasCleanDisk, IsUnchanged, Survives};
 ghost use Rattle.sqlite.specs.Held.{state};
+ghost use Rattle.site_rows.specs.declared.tables.Table.TheVariants.{Store, Event, Part, Quarantine, Outbox, Seen, Parent, Recall};
 ghost use Rattle.site_tables.specs.Causes.{HasReason};
-ghost use Rattle.site_tables.specs.Changed.{captured, recalled, signalled, renumbered, changed, rows_written, numbers_written};
-ghost use Rattle.site_tables.specs.Stored.{Contents, Holds, IsStored, IsStopped, WritesAll};
+ghost use Rattle.site_tables.specs.Changed.{put, dropped, changed, rows_written, numbers_written};
+ghost use Rattle.site_tables.specs.Stored.{Contents, Holds, IsStored, IsStopped, WritesAll, after, only};
 
 use crate::in_turn::write_each;
 use crate::inserting::insert_each;
-use crate::replacing::{DropsOutbox, DropsParent, PutsOutbox, PutsRecall, update_store};
+use crate::outbox_table::{DropsOutbox, PutsOutbox};
+use crate::parent_table::DropsParent;
+use crate::recall_table::PutsRecall;
+use crate::store_table::update_store;
 use site_rows::RowChanges;
 use sqlite::{Alter, Connection, Error, Transaction};
 use std::alloc::Global;
@@ -22,7 +26,7 @@ fn write_captured<S: Alter>(
     written: &mut u64,
 ) -> Result<(), Error>
     ensures same_reference { tx.new.conn.ghost_name ≡ tx.old.conn.ghost_name }
-    ensures wrote { WritesAll (captured changes.now) (state S.Store tx.old.conn.now) (state S.Store tx.new.conn.now) result }
+    ensures wrote { WritesAll (only (Event ∷ Part ∷ []) (put changes.now)) (state S.Store tx.old.conn.now) (state S.Store tx.new.conn.now) result }
     ensures counted { OnOk result (written.new ≡ min 18_446_744_073_709_551_615 (written.old + (length changes.now.event + length changes.now.part))) }
 {
     insert_each(alloc, tx, changes.event.as_slice(), written)?;
@@ -37,7 +41,7 @@ fn write_recalled<S: Alter>(
     written: &mut u64,
 ) -> Result<(), Error>
     ensures same_reference { tx.new.conn.ghost_name ≡ tx.old.conn.ghost_name }
-    ensures wrote { WritesAll (recalled changes.now) (state S.Store tx.old.conn.now) (state S.Store tx.new.conn.now) result }
+    ensures wrote { WritesAll (only (Quarantine ∷ Outbox ∷ Seen ∷ Parent ∷ []) (put changes.now)) (state S.Store tx.old.conn.now) (state S.Store tx.new.conn.now) result }
     ensures counted { OnOk result (written.new ≡ min 18_446_744_073_709_551_615 (written.old + (length changes.now.quarantine + length changes.now.outbox + length changes.now.seen + length changes.now.parent))) }
 {
     insert_each(alloc, tx, changes.quarantine.as_slice(), written)?;
@@ -53,7 +57,7 @@ fn write_signalled<S: Alter>(
     written: &mut u64,
 ) -> Result<(), Error>
     ensures same_reference { tx.new.conn.ghost_name ≡ tx.old.conn.ghost_name }
-    ensures wrote { WritesAll (signalled changes.now) (state S.Store tx.old.conn.now) (state S.Store tx.new.conn.now) result }
+    ensures wrote { WritesAll (λ t rows. only (Recall ∷ []) (put changes.now) t (dropped changes.now t rows)) (state S.Store tx.old.conn.now) (state S.Store tx.new.conn.now) result }
     ensures counted { OnOk result (written.new ≡ min 18_446_744_073_709_551_615 (written.old + (length changes.now.signalled + length changes.now.left + length changes.now.recall))) }
 {
     write_each::<DropsOutbox, _>(tx, changes.signalled.as_slice(), written)?;
@@ -68,7 +72,7 @@ fn write_numbers<S: Alter>(
     written: &mut u64,
 ) -> Result<(), Error>
     ensures same_reference { tx.new.conn.ghost_name ≡ tx.old.conn.ghost_name }
-    ensures wrote { WritesAll (renumbered changes.now) (state S.Store tx.old.conn.now) (state S.Store tx.new.conn.now) result }
+    ensures wrote { WritesAll (only (Store ∷ []) (put changes.now)) (state S.Store tx.old.conn.now) (state S.Store tx.new.conn.now) result }
     ensures counted { OnOk result (written.new ≡ min 18_446_744_073_709_551_615 (written.old + numbers_written changes.now.numbers)) }
 {
     // The count fits its type.
@@ -112,10 +116,10 @@ pub fn store_changes<S: Alter>(
     requires outside { conn.old.in_transaction ≡ false }
     ensures mode { conn.new.in_transaction ≡ false }
     ensures done { HasCleanDisk (state S.Store conn.new) → (before : Contents) → IsStored before (state S.Store conn.old)
-        → OnOk result (IsStored (changed changes.now before) (state S.Store conn.new)) }
+        → OnOk result (IsStored (after (changed changes.now) before) (state S.Store conn.new)) }
     ensures stopped { HasCleanDisk (state S.Store conn.new) → (before : Contents) → IsStored before (state S.Store conn.old)
-        → OnErr result (IsStopped before (changed changes.now before) (state S.Store conn.new)) }
-    ensures crash { Survives (state S.Store conn.old) (state S.Store conn.new) (λ db. (before : Contents) → IsStored before (state S.Store conn.old) → Holds (changed changes.now before) db) }
+        → OnErr result (IsStopped before (after (changed changes.now) before) (state S.Store conn.new)) }
+    ensures crash { Survives (state S.Store conn.old) (state S.Store conn.new) (λ db. (before : Contents) → IsStored before (state S.Store conn.old) → Holds (after (changed changes.now) before) db) }
     ensures cause { HasCleanDisk (state S.Store conn.new) → (before : Contents) → IsStored before (state S.Store conn.old)
         → IfErr result (HasReason (state S.Store conn.old) (state S.Store conn.new)) }
     ensures counted { OnOk result (written.new ≡ min 18_446_744_073_709_551_615 (written.old + rows_written changes.now)) }

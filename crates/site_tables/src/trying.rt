@@ -6,7 +6,7 @@ ghost use Rattle.sqlite.specs.Held.{state};
 ghost use Rattle.site_tables.specs.Causes.{HasReason};
 ghost use Rattle.site_tables.specs.Trying.{error_in};
 ghost use Rattle.site_tables.specs.Changed.{changed, rows_written};
-ghost use Rattle.site_tables.specs.Stored.{Contents, Holds, IsStored, IsStopped};
+ghost use Rattle.site_tables.specs.Stored.{Contents, Holds, IsStored, IsStopped, after};
 
 use crate::step::store_changes;
 use site_rows::RowChanges;
@@ -48,12 +48,12 @@ pub fn try_changes<S: Alter>(
 ) -> Result<(), Left>
     requires outside { conn.old.in_transaction ≡ false }
     ensures done { HasCleanDisk (state S.Store conn.new) → (before : Contents) → IsStored before (state S.Store conn.old)
-        → OnOk result (IsStored (changed changes.now before) (state S.Store conn.new)) }
+        → OnOk result (IsStored (after (changed changes.now) before) (state S.Store conn.new)) }
     ensures kept { HasCleanDisk (state S.Store conn.new) → (before : Contents) → IsStored before (state S.Store conn.old)
         → IfErr result (λ left. (e : _) → left ≡ Left.Kept e → IsStored before (state S.Store conn.new)) }
     ensures cause { HasCleanDisk (state S.Store conn.new) → (before : Contents) → IsStored before (state S.Store conn.old)
         → IfErr result (λ left. HasReason (state S.Store conn.old) (state S.Store conn.new) (error_in left)) }
-    ensures crash { Survives (state S.Store conn.old) (state S.Store conn.new) (λ db. (before : Contents) → IsStored before (state S.Store conn.old) → Holds (changed changes.now before) db) }
+    ensures crash { Survives (state S.Store conn.old) (state S.Store conn.new) (λ db. (before : Contents) → IsStored before (state S.Store conn.old) → Holds (after (changed changes.now) before) db) }
     ensures counted { OnOk result (written.new ≡ min 18_446_744_073_709_551_615 (written.old + rows_written changes.now)) }
 {
     match store_changes(alloc, conn, changes, written) {

@@ -1,5 +1,5 @@
 use Rattle.site_core.proofs.OneAfterAnother.{PassedBelow}
-use Rattle.site_rows.specs.Shown.{IsItemText}
+use Rattle.site_rows.specs.Texts.{IsItemText}
 use Rattle.site_rows.proofs.keeping.show_items.Given as goal
 
 -- it is so of those below the place

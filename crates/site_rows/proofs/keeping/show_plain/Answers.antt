@@ -1,6 +1,6 @@
 use Rattle.std.proofs.Common.{arith}
 use Rattle.site_core.proofs.OneAfterAnother.{one_more_passed, all_below_passed}
-use Rattle.site_rows.specs.Shown.{IsPlainText}
+use Rattle.site_rows.specs.Texts.{IsPlainText}
 use Rattle.site_rows.proofs.EachShown.{all_of_members}
 use Rattle.site_rows.proofs.keeping.show_plain.Goals as goal
 

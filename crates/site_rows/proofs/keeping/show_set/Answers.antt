@@ -1,5 +1,5 @@
 use Rattle.site_core.proofs.OneAfterAnother.{one_passed, all_passed}
-use Rattle.site_rows.specs.Shown.{IsItemText}
+use Rattle.site_rows.specs.Texts.{IsItemText}
 use Rattle.site_rows.proofs.EachShown.{all_of_members}
 use Rattle.site_rows.proofs.keeping.show_set.Goals as goal
 

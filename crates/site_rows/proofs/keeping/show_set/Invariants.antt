@@ -1,5 +1,5 @@
 use Rattle.site_core.proofs.OneAfterAnother.{AllBut}
-use Rattle.site_rows.specs.Shown.{IsItemText}
+use Rattle.site_rows.specs.Texts.{IsItemText}
 use Rattle.site_rows.proofs.keeping.show_set.Given as goal
 
 -- the items before the ones to come have keys of items

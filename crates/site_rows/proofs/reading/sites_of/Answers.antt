@@ -22,7 +22,7 @@ returns-in-Ok-addressed-clause-good c =
     let sites = c.in-Ok-addressed.sites in
     let is : rows.site ≡ map site_row (enumerate_from 0 sites) = sym c.as_slice.ensures ∙ c.in-Ok.ensures.read ∙ rows_of_names 0 c.in-Ok.names sites (sym c.in-Ok-addressed.ensures.names) in
     let are = c.in-Ok-addressed.ensures.in_order in
-    (good_sites rows sites is are, good_address rows sites is (sym c.as_slice-2.ensures ∙ c.in-Ok-addressed.ensures.addresses) are)
+    (good_sites rows sites is are, good_address rows sites is (sym c.as_slice-2.ensures ∙ c.in-Ok-addressed.ensures.addresses) are c.in-Ok-addressed.ensures.texts)
 
 pub returns-clause-bad : goal.returns-clause-bad
 returns-clause-bad c =

@@ -57,4 +57,4 @@ returns-clause-among c =
     let place = c.loop-place.place in
     let events = c.args.events.now in
     let so_far = c.loop-place.invariant in
-    all_among (length c.args.sites.now) 1 (take place events) c.loop-place.captured.events so_far.each so_far.events (λ k row there. (c.requires.table k row (taken_there events place k row there).0).id)
+    all_among (length c.args.sites.now) 1 (take place events) c.loop-place.captured.events so_far.each so_far.events (λ k row there. let it = c.requires.table k row (taken_there events place k row there).0 in (it.id, it.make_id))

@@ -1,7 +1,7 @@
 use Rattle.std.specs.Ordering.{nat_cmp}
 use Rattle.std.specs.FinMap.{nat_cmp-IsAntisymmetric}
 use Rattle.std.proofs.lemmas.Cmp.{nat_cmp_total}
-use Rattle.epc_core.specs.Spellings.{IsKey}
+use Rattle.site_rows.specs.Texts.{IsItemText}
 use Rattle.site_core.specs.Records.{IsNumber}
 use Rattle.site_rows.specs.BadRows.{IsOwnEntry}
 use Rattle.site_rows.specs.RecordRows.{recall_row}
@@ -12,4 +12,4 @@ pub returns-clause-rows : goal.returns-clause-rows
 returns-clause-rows c = rows_told IsOwnEntry nat_cmp c.args.rows.now recall_row (λ _ _ _ is. is.same) c.entries_of.result c.entries_of.ensures.read c.entries_of.ensures.ascending
 
 pub returns-clause-among : goal.returns-clause-among
-returns-clause-among c = each_told IsOwnEntry nat_cmp c.args.rows.now nat_cmp_total nat_cmp-IsAntisymmetric (λ n own. IsNumber n × IsKey own.root) (λ _ _ _ is. (is.number, is.root)) c.entries_of.result c.entries_of.ensures.read c.entries_of.ensures.ascending
+returns-clause-among c = each_told IsOwnEntry nat_cmp c.args.rows.now nat_cmp_total nat_cmp-IsAntisymmetric (λ n own. IsNumber n × IsItemText own.root) (λ _ _ _ is. (is.number, is.root)) c.entries_of.result c.entries_of.ensures.read c.entries_of.ensures.ascending

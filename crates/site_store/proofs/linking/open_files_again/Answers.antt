@@ -4,10 +4,10 @@ use Rattle.site_store.proofs.InOrder.{stored_as_read}
 use Rattle.site_store.proofs.linking.open_files_again.Goals as goal
 
 pub returns-in-Ok-clause-stores : goal.returns-in-Ok-clause-stores
-returns-in-Ok-clause-stores g c clean has rows listed =
+returns-in-Ok-clause-stores g c clean v has rows listed =
     let it = c.in-Ok.ensures in
     let opened = it.opened clean in
-    stored_as_read _ (file_state c.in-Ok.conn) opened.0 opened.1 (it.found clean).reads c.settled.ensures has rows listed
+    stored_as_read v _ (file_state c.in-Ok.conn) opened.0 opened.1 (it.found clean).reads c.settled.ensures has rows listed
 
 pub returns-in-Ok-clause-made : goal.returns-in-Ok-clause-made
 returns-in-Ok-clause-made g c clean =

@@ -2,7 +2,7 @@ use Rattle.std.proofs.Common.{◌≡◌, IfErr, OnOk, OnErr, sym, subst, refl, r
 use Rattle.sqlite.specs.State.{HasCleanDisk, Survives}
 use Rattle.sqlite.specs.Held.{state}
 use Rattle.site_tables.specs.Causes.{HasReason}
-use Rattle.site_tables.specs.Stored.{Contents, Holds, IsStored, IsStopped}
+use Rattle.site_tables.specs.Stored.{Contents, Holds, IsStored, IsStopped, after}
 use Rattle.site_tables.specs.Changed.{changed}
 use Rattle.site_tables.proofs.Steps.{on_ok, on_failed}
 use Rattle.site_tables.proofs.Committed.{where_committed, where_refused, where_ended, where_dropped, where_failed, stored_schema}
@@ -13,7 +13,7 @@ returns-clause-done g c clean before it =
     let end = c.commit.new.self.0 in
     let same : end ≡ c.conn-2-1.given.0 = search rules in
     let late = subst (λ h. HasCleanDisk (state g.S.Store h)) (sym same) clean in
-    subst (λ h. OnOk c.commit.result (IsStored (changed c.args.changes.now before) (state g.S.Store h))) same
+    subst (λ h. OnOk c.commit.result (IsStored (after (changed c.args.changes.now) before) (state g.S.Store h))) same
     (where_committed g.S.Store g.met.S.Store.settled (changed c.args.changes.now) c.args.conn.now c.transaction-tx.result.conn.now c.write_changes.new.tx.conn.now end c.requires.outside c.transaction-tx.ensures.begun
     c.write_changes.result c.in_ok-write_changes.field-0 c.in_ok-write_changes.was c.write_changes.ensures.wrote c.commit.ensures.survives c.commit.result before late it
     (on_ok c.commit.result (λ h. h.1) (c.commit.ensures.ok late)))
@@ -23,7 +23,7 @@ returns-clause-stopped g c clean before it =
     let end = c.commit.new.self.0 in
     let same : end ≡ c.conn-2-1.given.0 = search rules in
     let late = subst (λ h. HasCleanDisk (state g.S.Store h)) (sym same) clean in
-    subst (λ h. OnErr c.commit.result (IsStopped before (changed c.args.changes.now before) (state g.S.Store h))) same
+    subst (λ h. OnErr c.commit.result (IsStopped before (after (changed c.args.changes.now) before) (state g.S.Store h))) same
     (where_refused g.S.Store g.met.S.Store.settled (changed c.args.changes.now) c.args.conn.now c.transaction-tx.result.conn.now c.write_changes.new.tx.conn.now end c.requires.outside c.transaction-tx.ensures.begun
     c.write_changes.result c.in_ok-write_changes.field-0 c.in_ok-write_changes.was c.write_changes.ensures.wrote c.commit.ensures.survives c.commit.result before late it (c.commit.ensures.err late))
 
@@ -32,7 +32,7 @@ returns-clause-crash g c =
     let end = c.commit.new.self.0 in
     let same : end ≡ c.conn-2-1.given.0 = search rules in
     let old = state g.S.Store c.args.conn.now in
-    subst (λ h. Survives old (state g.S.Store h) (λ db. (before : Contents) → IsStored before old → Holds (changed c.args.changes.now before) db)) same
+    subst (λ h. Survives old (state g.S.Store h) (λ db. (before : Contents) → IsStored before old → Holds (after (changed c.args.changes.now) before) db)) same
     (where_ended g.S.Store g.met.S.Store.settled (changed c.args.changes.now) c.args.conn.now c.transaction-tx.result.conn.now c.write_changes.new.tx.conn.now end c.requires.outside c.transaction-tx.ensures.begun
     c.write_changes.result c.in_ok-write_changes.field-0 c.in_ok-write_changes.was c.write_changes.ensures.wrote c.commit.ensures.survives)
 
@@ -41,7 +41,7 @@ returns-in_err-write_changes-clause-stopped g c clean before it =
     let end = c.drop-tx.new.self.0 in
     let same : end ≡ c.conn-1.given.0 = search rules in
     let late = subst (λ h. HasCleanDisk (state g.S.Store h)) (sym same) clean in
-    on_failed c.from_residual.result c.from_residual.ensures.0 (subst (λ h. IsStopped before (changed c.args.changes.now before) (state g.S.Store h)) same
+    on_failed c.from_residual.result c.from_residual.ensures.0 (subst (λ h. IsStopped before (after (changed c.args.changes.now) before) (state g.S.Store h)) same
     (where_dropped g.S.Store g.met.S.Store.settled (changed c.args.changes.now) c.args.conn.now c.transaction-tx.result.conn.now c.write_changes.new.tx.conn.now end c.requires.outside c.transaction-tx.ensures.begun
     c.write_changes.result (rw c.in_err-write_changes.was refl) c.write_changes.ensures.wrote c.drop-tx.ensures.undone c.drop-tx.ensures.survives late before it))
 

@@ -1,6 +1,10 @@
-use Rattle.site_tables.proofs.Whole.{event_in_all, part_in_all, all_then}
+use Rattle.std.proofs.Common.{refl}
+use Rattle.site_rows.specs.declared.tables.Table.TheVariants.{Event, Part}
+use Rattle.site_tables.specs.Changed.{put}
+use Rattle.site_tables.proofs.Whole.{in_all, both_then}
 use Rattle.site_tables.proofs.step.write_captured.Goals as goal
 
 pub returns-clause-wrote : goal.returns-clause-wrote
 returns-clause-wrote g c =
-    all_then c.in_ok-insert_each.was (event_in_all (rw c.as_slice.ensures at c.insert_each.ensures.wrote)) (part_in_all (rw c.as_slice-2.ensures at c.insert_each-2.ensures.wrote))
+    let puts = put c.args.changes.now in
+    both_then _ _ _ refl c.in_ok-insert_each.was (in_all Event puts (rw c.as_slice.ensures at c.insert_each.ensures.wrote)) (in_all Part puts (rw c.as_slice-2.ensures at c.insert_each-2.ensures.wrote))

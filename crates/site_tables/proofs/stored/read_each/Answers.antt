@@ -29,7 +29,7 @@ returns-in_default-clause-rows g c clean =
     let now = c.next.follows.lender-at-none.conn.now in
     let late : HasCleanDisk (state g.S.Store now) = search rules in
     let was = c.rows.invariant.2 (omega (arith, moved.survives.clean)) in
-    let shown = (rw (c.in_ok-row.was, c.in_default.is) at (moved.ok late)) c.args.sql.now [] (map g.T.Stored.shown c.rows.read.items) was.0 in
+    let shown = (rw (c.in_ok-row.was, c.in_default.is) at (moved.ok late)) c.args.sql.now [] (map g.T.TableRow.shown c.rows.read.items) was.0 in
     let there : now ≡ c.conn-in_default-1.given.0 = search rules in
     rw (← there) (c.rows.rows.conn.now, was.1, shown)
 
@@ -41,12 +41,12 @@ rows-preserved g c = (
       let moved = c.next.follows.holds-at-none in
       let now = c.next.follows.lender-at-none.conn.now in
       let was = c.rows.invariant.2 (omega (arith, moved.survives.clean)) in
-      let given = map g.T.Stored.shown c.rows.read.items in
+      let given = map g.T.TableRow.shown c.rows.read.items in
       let next = (rw (c.in_ok-row.was, c.in-Some.is) at (moved.ok clean)) c.args.sql.now [] given was.0 in
       let same = rw c.in_ok-row.was at (moved.same clean) in
       let read = c.in_ok-row_of.field-0 in
-      let more : given ++ c.in-Some.row.now ∷ [] ≡ map g.T.Stored.shown c.add.new.list.items =
-      ap (λ r. given ++ r ∷ []) c.in_ok-row_of.ensures.ok ∙ sym (map_push g.T.Stored.shown c.rows.read.items read) ∙ ap (map g.T.Stored.shown) (sym c.in_ok-add.ensures) in
+      let more : given ++ c.in-Some.row.now ∷ [] ≡ map g.T.TableRow.shown c.add.new.list.items =
+      ap (λ r. given ++ r ∷ []) c.in_ok-row_of.ensures.ok ∙ sym (map_push g.T.TableRow.shown c.rows.read.items read) ∙ ap (map g.T.TableRow.shown) (sym c.in_ok-add.ensures) in
       (subst (HasGiven g.S.Store c.args.sql.now [] now) more next, unchanged_then _ _ _ was.1 same),
 )
 
@@ -64,7 +64,7 @@ returns-in_err-row-clause-cause g c clean =
     let late : HasCleanDisk (state g.S.Store now) = search rules in
     let was = c.rows.invariant.2 (omega (arith, moved.survives.clean)) in
     let same : c.from_residual-in_err-row.result ≡ Err (Database c.in_err-row.field-0.0) = search rules in
-    let fails = (rw c.in_err-row.was at (moved.err late)) c.args.sql.now [] (map g.T.Stored.shown c.rows.read.items) was.0 in
+    let fails = (rw c.in_err-row.was at (moved.err late)) c.args.sql.now [] (map g.T.TableRow.shown c.rows.read.items) was.0 in
     let there : now ≡ c.conn-in_err-row-1.given.0 = search rules in
     rw (same, ← there) (inr (c.rows.rows.conn.now, was.1, c.rows.invariant.1, fails))
 
@@ -74,9 +74,9 @@ returns-in_err-row_of-clause-cause g c clean =
     let now = c.next.follows.lender-at-none.conn.now in
     let late : HasCleanDisk (state g.S.Store now) = search rules in
     let was = c.rows.invariant.2 (omega (arith, moved.survives.clean)) in
-    let given = map g.T.Stored.shown c.rows.read.items in
+    let given = map g.T.TableRow.shown c.rows.read.items in
     let next = (rw (c.in_ok-row.was, c.in-Some.is) at (moved.ok late)) c.args.sql.now [] given was.0 in
     let same : c.from_residual-in_err-row_of.result ≡ Err c.in_err-row_of.field-0.0 = search rules in
     let still = unchanged_then _ _ _ was.1 (rw c.in_ok-row.was at (moved.same late)) in
     let there : now ≡ c.conn-in_err-row_of-1.given.0 = search rules in
-    rw (same, ← there) (bad_row g.S.Store c.args.table c.args.sql.now g.T.Stored.shown c.args.conn.now now (c.len.result + 1) c.in_err-row_of.field-0.0 c.in-Some.row.now c.rows.read.items still (given_begin g.S.Store c.args.sql.now [] now _ next) (search rules) c.in_err-row_of.ensures.err)
+    rw (same, ← there) (bad_row g.S.Store c.args.table c.args.sql.now g.T.TableRow.shown c.args.conn.now now (c.len.result + 1) c.in_err-row_of.field-0.0 c.in-Some.row.now c.rows.read.items still (given_begin g.S.Store c.args.sql.now [] now _ next) (search rules) c.in_err-row_of.ensures.err)

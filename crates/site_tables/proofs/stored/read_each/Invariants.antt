@@ -9,4 +9,4 @@ invariant-rows g l =
     let old = state g.S.Store l.fn.conn in
     let now = state g.S.Store l.rows.conn.now in
     (l.rows.conn.ghost_name ≡ l.initial.rows.conn.ghost_name) × Survives old now (λ _. ⊥)
-    × (HasCleanDisk now → HasGiven g.S.Store l.sql [] l.rows.conn.now (map g.T.Stored.shown l.read.items) × IsUnchanged old now)
+    × (HasCleanDisk now → HasGiven g.S.Store l.sql [] l.rows.conn.now (map g.T.TableRow.shown l.read.items) × IsUnchanged old now)

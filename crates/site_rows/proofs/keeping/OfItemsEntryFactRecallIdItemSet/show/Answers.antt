@@ -1,5 +1,5 @@
 use Rattle.std.proofs.Common.{All, subst}
-use Rattle.site_rows.specs.Shown.{IsItemText}
+use Rattle.site_rows.specs.Texts.{IsItemText}
 use Rattle.site_rows.proofs.keeping.OfItemsEntryFactRecallIdItemSet.show.Goals as goal
 
 pub returns : goal.returns

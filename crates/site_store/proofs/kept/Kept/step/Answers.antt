@@ -1,7 +1,6 @@
-use Rattle.std.proofs.Common.{◌≡◌, IfErr, Result, Err, sym, ap, subst, ◌∙◌}
+use Rattle.std.proofs.Common.{◌≡◌, IfErr, Err, sym, ap, subst, ◌∙◌}
 use Rattle.sqlite.specs.Held.{state}
 use Rattle.site_store.specs.Faults.{IsCaused}
-use Rattle.site_store.specs.Standing.{Standing}
 use Rattle.site_store.specs.StepTried.{Tried, StepsTo, LeavesTried, FailsTried}
 use Rattle.site_store.specs.declared.kept.Kept.{Kept}
 use Rattle.site_store.specs.declared.standing.Untaken.{Untaken}

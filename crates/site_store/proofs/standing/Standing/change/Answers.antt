@@ -3,7 +3,7 @@ use Rattle.sqlite.specs.Held.{state}
 use Rattle.site_core.specs.Records.{Record}
 use Rattle.site_core.specs.Steps.{Does, changes}
 use Rattle.site_store.specs.Standing.{Standing, IsFoundAfter}
-use Rattle.site_store.specs.StepWritten.{Keeps, KeepsWhereFailed, AreStatements}
+use Rattle.site_store.specs.StepWritten.{Keeps, KeepsWhereFailed, FailsToWrite, AreStatements}
 use Rattle.site_store.proofs.Standings.{written_steps, leaves_pending}
 use Rattle.site_store.proofs.standing.Standing.change.Goals as goal
 
@@ -81,3 +81,10 @@ returns-in-Err-Failed-clause-disk g c = λ clean it.
     let are = c.changes_of-changes.ensures s does c.in-Ok.ensures.undo in
     let failed = subst (KeepsWhereFailed s new after) c.in-Err-Failed.field-0-is (c.in-Err-Failed.ensures.failed s new told are clean held) in
     leaves_pending (record { state = s; pending = None }) (record { state = c.take_back-in-Err-Failed.new.self; pending = Some input }) input new after (told, does) (ap as_pending back) failed
+
+pub returns-in-Err-Failed-clause-cause : goal.returns-in-Err-Failed-clause-cause
+returns-in-Err-Failed-clause-cause g c = λ clean it.
+    let s = c.self.inside.state in
+    let same : s ≡ c.args.self.now.state = ap (λ (x : Standing). x.state) c.self.view_is in
+    let held = subst (λ (x : Record). Keeps x (state g.S.Store c.args.conn.now)) (sym same) it in
+    subst (FailsToWrite (state g.S.Store c.args.conn.now) (state g.S.Store c.write_found.new.conn)) c.in-Err-Failed.field-0-is (c.in-Err-Failed.ensures.cause s clean held)

@@ -3,7 +3,7 @@ use Rattle.sqlite.specs.Held.{state}
 use Rattle.site_core.specs.Records.{Record}
 use Rattle.site_core.specs.Steps.{Does, CopiesRecord, changes}
 use Rattle.site_store.specs.Standing.{Standing}
-use Rattle.site_store.specs.StepWritten.{Keeps, KeepsWhereFailed, AreStatements}
+use Rattle.site_store.specs.StepWritten.{Keeps, KeepsWhereFailed, FailsToWrite, AreStatements}
 use Rattle.site_store.proofs.Standings.{next_of, next_does, as_signal, does_change, done_as_foreseen, not_idle, written_steps, leaves_pending}
 use Rattle.site_store.proofs.standing.Standing.clear.Goals as goal
 
@@ -86,3 +86,10 @@ returns-in-Err-Failed-clause-disk g c = λ clean it.
     let held = subst (λ (x : Record). Keeps x (state g.S.Store c.args.conn.now)) (sym same) it in
     let failed = subst (KeepsWhereFailed s next after) c.in-Err-Failed.field-0-is (c.in-Err-Failed.ensures.failed s next told are clean held) in
     leaves_pending (record { state = s; pending = None }) (record { state = s; pending = Some input }) input next after (told, does) refl failed
+
+pub returns-in-Err-Failed-clause-cause : goal.returns-in-Err-Failed-clause-cause
+returns-in-Err-Failed-clause-cause g c = λ clean it.
+    let s = c.self.inside.state in
+    let same : s ≡ c.args.self.now.state = ap (λ (x : Standing). x.state) c.self.view_is in
+    let held = subst (λ (x : Record). Keeps x (state g.S.Store c.args.conn.now)) (sym same) it in
+    rw c.in-Err-Failed.field-0-is (subst (FailsToWrite (state g.S.Store c.args.conn.now) (state g.S.Store c.write_found.new.conn)) c.in-Err-Failed.field-0-is (c.in-Err-Failed.ensures.cause s clean held))

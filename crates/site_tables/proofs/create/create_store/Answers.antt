@@ -1,8 +1,0 @@
-use Rattle.site_tables.proofs.MadeTables.{made_one}
-use Rattle.site_tables.proofs.Meanings.{create_store_is}
-use Rattle.site_tables.proofs.Created.{creates}
-use Rattle.site_tables.proofs.Steps.{ran}
-use Rattle.site_tables.proofs.create.create_store.Goals as goal
-
-pub returns-clause-made : goal.returns-clause-made
-returns-clause-made g c = let it = c.execute.ensures in made_one (creates create_store_is (ran g.S.Store it.ended it.runs it.survives))

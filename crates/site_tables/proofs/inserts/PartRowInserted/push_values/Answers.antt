@@ -1,7 +1,0 @@
-use Rattle.std.proofs.Common.{refl}
-use Rattle.site_tables.specs.Values.{part_values}
-use Rattle.site_tables.proofs.InsertTexts.{pushed}
-use Rattle.site_tables.proofs.inserts.PartRowInserted.push_values.Goals as goal
-
-pub returns : goal.returns
-returns c = pushed c.extend_from_slice.result c.args.values.now.items _ c.extend_from_slice.new.self.items (part_values c.args.self.now) c.extend_from_slice.ensures.items (rw (c.params-to_sql.ensures, c.params-to_sql-2.ensures, c.params-to_sql-3.ensures, c.params-to_sql-4.ensures, c.as_str.ensures) refl)
