@@ -143,7 +143,7 @@ if command -v sqlite3 >/dev/null; then
     spoilt NotAStore "i isn't of a site" 'create index i on event (id)'
     spoilt NotAStore "v isn't of a site" 'create view v as select no from event'
     spoilt NotAStore 'the table seen is missing' 'drop table seen'
-    spoilt NotAStore 'the table store is empty' 'delete from store'
+    spoilt NotAStore 'the table store has no row of the version of the tables' 'delete from store'
     spoilt NotAStore 'a table is declared otherwise' 'drop table seen; create table seen (sender integer) strict'
     spoilt NotAStore "a row breaks a rule of its table, or a declaration isn't read" 'delete from event where no = 1'
 else
