@@ -8,9 +8,11 @@ use Rattle.std.proofs.lemmas.Bool.Decides.{Decides-and, Decides-eqb, Decides-int
 use Rattle.std.proofs.lemmas.Slice.Eq.{bytes_eq-Decides, slice_eq-Decides}
 use Rattle.event_json.specs.Events.{Content}
 use Rattle.event_json.specs.Sites.{Site}
+use Rattle.event_json.specs.declared.bodies.Action.{Action}
+use Rattle.event_json.specs.declared.bodies.Action.TheVariants.{Add, Observe, Delete}
 use Rattle.event_json.specs.declared.bodies.Body.{Body}
-use Rattle.event_json.specs.declared.bodies.Body.TheVariants.{Note, Ship, Make}
-use Rattle.event_json.specs.Contents.{same_text, same_texts, same_body, same_content, same_site}
+use Rattle.event_json.specs.declared.bodies.Body.TheVariants.{Note, Ship, Make, Pack}
+use Rattle.event_json.specs.Contents.{number_of, same_text, same_texts, same_body, same_content, same_site}
 
 texts_decides : (xs ys : List (List ℕ)) → Decides (same_texts xs ys) (xs ≡ ys)
 texts_decides xs ys = slice_eq-Decides (λ a b. bytes_eq-Decides a b) xs ys _ refl
@@ -24,6 +26,17 @@ option_decides None (Some b) = (λ h. absurd (false≢true h), λ e. cc)
 option_decides (Some a) None = (λ h. absurd (false≢true h), λ e. cc)
 option_decides (Some a) (Some b) = Decides-like _ (λ e. ap Some e) (λ e. cc) (bytes_eq-Decides a b)
 
+action_decides : (a b : Action) → Decides (Rattle.std.specs.Prelude.nat_eq (number_of a) (number_of b)) (a ≡ b)
+action_decides Add Add = (λ _. refl, λ _. refl)
+action_decides Add Observe = (λ h. absurd (false≢true h), λ e. cc)
+action_decides Add Delete = (λ h. absurd (false≢true h), λ e. cc)
+action_decides Observe Add = (λ h. absurd (false≢true h), λ e. cc)
+action_decides Observe Observe = (λ _. refl, λ _. refl)
+action_decides Observe Delete = (λ h. absurd (false≢true h), λ e. cc)
+action_decides Delete Add = (λ h. absurd (false≢true h), λ e. cc)
+action_decides Delete Observe = (λ h. absurd (false≢true h), λ e. cc)
+action_decides Delete Delete = (λ _. refl, λ _. refl)
+
 pub body_decides : (b c : Body) → Decides (same_body b c) (b ≡ c)
 unfolding same_body
 body_decides (Note items) (Note items') = Decides-like _ (λ e. ap Note e) (λ e. cc) (texts_decides items items')
@@ -35,6 +48,13 @@ body_decides (Ship items sites outside) (Make id' ins' outs') = (λ h. absurd (f
 body_decides (Make id ins outs) (Note items') = (λ h. absurd (false≢true h), λ e. cc)
 body_decides (Make id ins outs) (Ship items' sites' outside') = (λ h. absurd (false≢true h), λ e. cc)
 body_decides (Make id ins outs) (Make id' ins' outs') = Decides-like _ (λ e. cc) (λ e. (cc, (cc, cc))) (Decides-and _ _ (option_decides id id') (Decides-and _ _ (texts_decides outs outs') (texts_decides ins ins')))
+body_decides (Note items) (Pack action' parent' children') = (λ h. absurd (false≢true h), λ e. cc)
+body_decides (Ship items sites outside) (Pack action' parent' children') = (λ h. absurd (false≢true h), λ e. cc)
+body_decides (Make id ins outs) (Pack action' parent' children') = (λ h. absurd (false≢true h), λ e. cc)
+body_decides (Pack action parent children) (Note items') = (λ h. absurd (false≢true h), λ e. cc)
+body_decides (Pack action parent children) (Ship items' sites' outside') = (λ h. absurd (false≢true h), λ e. cc)
+body_decides (Pack action parent children) (Make id' ins' outs') = (λ h. absurd (false≢true h), λ e. cc)
+body_decides (Pack action parent children) (Pack action' parent' children') = Decides-like _ (λ e. cc) (λ e. (cc, (cc, cc))) (Decides-and _ _ (action_decides action action') (Decides-and _ _ (option_decides parent parent') (texts_decides children children')))
 
 same_parts : (e f : Content) → (e.id ≡ f.id) × ((e.instant ≡ f.instant) × (e.body ≡ f.body)) → e ≡ f
 same_parts e f h =

@@ -7,7 +7,7 @@ use Rattle.std.proofs.lemmas.List.Quantifiers.{position-Some}
 use Rattle.serde_json.specs.Data.{Data, Items, no_items, item}
 use Rattle.serde_json.specs.Read.{read}
 use Rattle.event_json.specs.declared.bodies.Body.{Body}
-use Rattle.event_json.specs.declared.bodies.Body.TheVariants.{Note, Ship, Make}
+use Rattle.event_json.specs.declared.bodies.Body.TheVariants.{Note, Ship, Make, Pack}
 use Rattle.event_json.specs.declared.checks.Head.{Head}
 use Rattle.event_json.specs.declared.doc_faults.DocField.TheVariants as fields
 use Rattle.event_json.specs.declared.doc_faults.DocFaultKind.TheVariants as kinds
@@ -15,9 +15,9 @@ use Rattle.event_json.specs.declared.doc_faults.Flaw.{Flaw}
 use Rattle.event_json.specs.declared.documents.Doc.{Doc}
 use Rattle.event_json.specs.declared.event_types.EventType.{EventType}
 use Rattle.event_json.specs.declared.event_types.EventType.TheVariants.{Object, Aggregation, Transaction, Transformation, Association}
-use Rattle.event_json.specs.Checks.{event_type, without_declaration, without_quantities, head_of, action_checked}
+use Rattle.event_json.specs.Checks.{event_type, without_declaration, without_quantities, head_of, action_checked, action_of}
 use Rattle.event_json.specs.Documents.{whole, numbered_event, events_of, document_of, text_document}
-use Rattle.event_json.specs.EventReading.{shipment, object_event, made, transformation_event, kept, event_of_type, event_of}
+use Rattle.event_json.specs.EventReading.{parent_of, aggregation_event, shipment, object_event, made, transformation_event, kept, event_of_type, event_of}
 use Rattle.event_json.specs.Events.{Content}
 use Rattle.event_json.specs.Faults.{◌>>=◌}
 use Rattle.event_json.specs.ItemLists.{epcs_of, destinations_of}
@@ -98,6 +98,17 @@ transformation_among sites d e is =
     let body = after (made id.0 ins.0 outs.0) _ e id.2 in
     body_among sites head.0 body.0 e body.2 (made_among sites id.0 ins.0 outs.0 body.0 body.1)
 
+aggregation_among : (sites : ℕ) (d : Data) (e : Content) → aggregation_event d ≡ Ok e → ShipsAmong sites e.body
+unfolding aggregation_event
+aggregation_among sites d e is =
+    let declared = after (without_declaration d) _ e is in
+    let counted = after (without_quantities fields.ChildQuantityList d) _ e declared.2 in
+    let head = after (head_of d) _ e counted.2 in
+    let action = after (action_of d) _ e head.2 in
+    let parent = after (parent_of action.0 d) _ e action.2 in
+    let children = after (epcs_of fields.ChildEpcs d) _ e parent.2 in
+    body_among sites head.0 (Pack action.0 parent.0 children.0) e children.2 tt
+
 -- an event that isn't skipped
 abbrev KeptAmong : ℕ → Option Content → Type 0
 KeptAmong sites None = ⊤
@@ -111,7 +122,7 @@ of_type_among : (sites : List Site) (its_type : EventType) (d : Data) (o : Optio
 unfolding event_of_type
 of_type_among sites Object d o is = kept_among (length sites) (object_event sites d) o (object_among sites d) is
 of_type_among sites Transformation d o is = kept_among (length sites) (transformation_event d) o (transformation_among (length sites) d) is
-of_type_among sites Aggregation d o is = subst (KeptAmong (length sites)) (same_ok _ _ is) tt
+of_type_among sites Aggregation d o is = kept_among (length sites) (aggregation_event d) o (aggregation_among (length sites) d) is
 of_type_among sites Transaction d o is = subst (KeptAmong (length sites)) (same_ok _ _ is) tt
 of_type_among sites Association d o is = subst (KeptAmong (length sites)) (same_ok _ _ is) tt
 

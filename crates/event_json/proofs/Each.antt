@@ -1,13 +1,10 @@
 -- Finding one thing after another, as a loop does.
-use Rattle.std.proofs.Common.{◌≡◌, ℕ, ◌+◌, ◌≤◌, ◌<◌, List, [], ◌∷◌, ◌++◌, Result, Ok, Err, length, drop, get_or, refl, sym, ap, ◌∙◌, append_assoc}
-use Rattle.std.proofs.lemmas.List.{append-nil, drop_more, drop_all}
+use Rattle.std.proofs.Common.{◌≡◌, ℕ, ◌+◌, ◌≤◌, ◌<◌, List, [], ◌∷◌, ◌++◌, Result, Ok, Err, length, take, drop, get_or, map, refl, sym, ap, ◌∙◌, append_assoc}
+use Rattle.std.proofs.lemmas.List.{append-nil, drop_more, drop_all, take_all, map_more}
 use Rattle.serde_json.specs.Data.{Data}
 use Rattle.serde_json.specs.View.{view, items_view}
 use Rattle.serde_json.specs.declared.value.Value.{Value}
-use Rattle.event_json.specs.declared.doc_faults.Flaw.{Flaw}
-use Rattle.event_json.specs.declared.doc_faults.CheckFault.{CheckFault}
-use Rattle.event_json.specs.declared.doc_faults.CheckFault.TheVariants as checks
-use Rattle.event_json.specs.Faults.{◌>>=◌, Fails}
+use Rattle.event_json.specs.Faults.{◌>>=◌}
 use Rattle.event_json.specs.Members.{each}
 
 -- what was found before, and what is still found
@@ -41,8 +38,18 @@ each_done f n front vs i total le so_far =
     let one : after front (each f n (items_view (drop i vs))) ≡ Ok front = rw (drop_all i vs le) (ap Ok (append-nil front)) in
     sym so_far ∙ one
 
--- the same of a check that may also run out of memory
-pub each_check_fails : {A : Type 0} (c : CheckFault) (f : ℕ → Data → Result A Flaw) (n : ℕ) (front : List A) (vs : List Value) (i : ℕ) (v : Value) (total : Result (List A) Flaw)
-    → i < length vs → Fails c (f n (view (get_or vs i v))) → after front (each f n (items_view (drop i vs))) ≡ total → Fails c total
-each_check_fails checks.NoMemory f n front vs i v total lt found so_far = tt
-each_check_fails (checks.Flaw flaw) f n front vs i v total lt found so_far = each_fails f n front vs i v flaw total lt found so_far
+-- one more passes, where what is found of each is what it lends
+pub lent_more : {A E : Type 0} (f : ℕ → Data → Result A E) (lent : Value → A)
+    (n : ℕ) (vs : List Value) (i : ℕ) (v : Value) (total : Result (List A) E)
+    → i < length vs → f n (view (get_or vs i v)) ≡ Ok (lent (get_or vs i v))
+    → after (map lent (take i vs)) (each f n (items_view (drop i vs))) ≡ total
+    → after (map lent (take (i + 1) vs)) (each f (n + 1) (items_view (drop (i + 1) vs))) ≡ total
+lent_more f lent n vs i v total lt found so_far =
+    rw (map_more lent vs i v lt) (each_more f n (map lent (take i vs)) vs i v (lent (get_or vs i v)) total lt found so_far)
+
+-- none is left
+pub lent_done : {A E : Type 0} (f : ℕ → Data → Result A E) (lent : Value → A)
+    (n : ℕ) (vs : List Value) (i : ℕ) (total : Result (List A) E)
+    → length vs ≤ i → after (map lent (take i vs)) (each f n (items_view (drop i vs))) ≡ total → total ≡ Ok (map lent vs)
+lent_done f lent n vs i total le so_far =
+    each_done f n (map lent (take i vs)) vs i total le so_far ∙ ap (λ l. Ok (map lent l)) (take_all i vs le)

@@ -1,8 +1,10 @@
+pub mod Actions
 pub mod Apart
 pub mod ContentLaws
 pub mod Destinations
 pub mod Each
 pub mod Gathered
+pub mod Lent
 pub mod Lists
 pub mod Carried
 pub mod Plain

@@ -4,6 +4,8 @@ use Rattle.std.specs.Prelude.{ℕ, ℤ, ◌+◌, ◌-◌, ◌*◌, Bool, ◌&&�
 use Rattle.serde_json.specs.Data.{Data}
 use Rattle.serde_json.specs.Find.{as_str, as_array, as_object}
 use Rattle.jiff.specs.Words.{parse_timestamp}
+use Rattle.event_json.specs.declared.bodies.Action.{Action}
+use Rattle.event_json.specs.declared.bodies.Action.TheVariants.{Add, Observe, Delete}
 use Rattle.event_json.specs.declared.event_types.EventType.{EventType}
 use Rattle.event_json.specs.declared.event_types.EventType.TheVariants.{Object, Aggregation, Transaction, Transformation, Association}
 use Rattle.event_json.specs.declared.doc_faults.DocField.{DocField}
@@ -88,3 +90,16 @@ unfoldable pub action_checked : Data → Result ⊤ Flaw
 action_checked d = do
   text ← text_of fields.Action (member_of fields.Action d)
   if bytes_eq text (codes "ADD") || bytes_eq text (codes "OBSERVE") || bytes_eq text (codes "DELETE") then Ok tt else Err (record { field = fields.Action; kind = kinds.Action })
+
+-- the actions of the standard
+unfoldable pub action_named : List ℕ → Option Action
+action_named text =
+    if bytes_eq text (codes "ADD") then Some Add else
+    if bytes_eq text (codes "OBSERVE") then Some Observe else
+    if bytes_eq text (codes "DELETE") then Some Delete else None
+
+-- what was done to the children
+unfoldable pub action_of : Data → Result Action Flaw
+action_of d = do
+  text ← text_of fields.Action (member_of fields.Action d)
+  or_flaw (record { field = fields.Action; kind = kinds.Action }) (action_named text)

@@ -1,12 +1,6 @@
 -- Why a document is refused. The JSON form of an event is that of GS1 EPCIS 2.0.
 use Rattle.std.specs.Prelude.{◌≡◌, ℕ, Result, Ok, Err, ⊤}
-use Rattle.epc_core.specs.declared.items.EpcFault.{EpcFault}
-use Rattle.epc_core.specs.declared.items.EpcFault.TheVariants as epcs
-use Rattle.event_json.specs.declared.doc_faults.DocField.{DocField}
-use Rattle.event_json.specs.declared.doc_faults.DocFaultKind.TheVariants as kinds
 use Rattle.event_json.specs.declared.doc_faults.Flaw.{Flaw}
-use Rattle.event_json.specs.declared.doc_faults.CheckFault.{CheckFault}
-use Rattle.event_json.specs.declared.doc_faults.CheckFault.TheVariants as checks
 use Rattle.event_json.specs.declared.doc_faults.DocFault.{DocFault}
 use Rattle.event_json.specs.declared.doc_faults.ReadFault.{ReadFault}
 use Rattle.event_json.specs.declared.doc_faults.ReadFault.TheVariants as reads
@@ -22,24 +16,10 @@ abbrev pub Shows : {X Y E : Type 0} → (X → Y) → Result X E → Result Y E 
 Shows view (Ok x) found = found ≡ Ok (view x)
 Shows view (Err e) found = found ≡ Err e
 
--- what a check returned is what its definition finds, unless memory ran out
-abbrev pub Fails : {Y : Type 0} → CheckFault → Result Y Flaw → Type 0
-Fails checks.NoMemory found = Unit {0}
-Fails (checks.Flaw flaw) found = found ≡ Err flaw
-
-abbrev pub Finds : {X : Type 0} → Result X CheckFault → Result X Flaw → Type 0
-Finds (Ok x) found = found ≡ Ok x
-Finds (Err e) found = Fails e found
-
 -- what a check that does not allocate and keeps nothing returned is whether its definition finds something, or else the fault
 abbrev pub Passes : {Y E : Type 0} → Result ⊤ E → Result Y E → Type 0
 Passes {Y} (Ok _) found = (y : Y) × (found ≡ Ok y)
 Passes (Err e) found = found ≡ Err e
-
--- the same of a check that keeps what view shows of it
-abbrev pub PassesAs : {X Y E : Type 0} → (Y → X) → Result X E → Result Y E → Type 0
-PassesAs {X} {Y} view (Ok x) found = (y : Y) × (found ≡ Ok y) × (view y ≡ x)
-PassesAs view (Err e) found = found ≡ Err e
 
 -- what a call returned is what the definition gives, unless memory ran out
 abbrev pub Refuses : {Y : Type 0} → ReadFault → Result Y DocFault → Type 0
@@ -54,10 +34,3 @@ Gives (Err e) given = Refuses e given
 abbrev pub at_event : {A : Type 0} → ℕ → Result A Flaw → Result A DocFault
 at_event n (Ok x) = Ok x
 at_event n (Err flaw) = Err (record { event = n; field = flaw.field; kind = flaw.kind })
-
--- why a text of this field wasn't read as an EPC, as a fault of a check
-abbrev pub check_fault_of : DocField → EpcFault → CheckFault
-check_fault_of field epcs.NoMemory = checks.NoMemory
-check_fault_of field epcs.Empty = checks.Flaw (record { field = field; kind = kinds.BadEpc })
-check_fault_of field epcs.TooLong = checks.Flaw (record { field = field; kind = kinds.BadEpc })
-check_fault_of field (epcs.BadByte place) = checks.Flaw (record { field = field; kind = kinds.BadEpc })

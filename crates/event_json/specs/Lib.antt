@@ -1,3 +1,4 @@
+pub mod Checked
 pub mod Checks
 pub mod Contents
 pub mod Documents
@@ -5,6 +6,7 @@ pub mod EventReading
 pub mod Events
 pub mod Faults
 pub mod ItemLists
+pub mod Lent
 pub mod Members
 pub mod Names
 pub mod Laws

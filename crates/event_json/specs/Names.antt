@@ -43,6 +43,9 @@ field_name fields.DestinationList = codes "destinationList"
 field_name fields.InputEpcList = codes "inputEPCList"
 field_name fields.OutputEpcList = codes "outputEPCList"
 field_name fields.TransformationId = codes "transformationID"
+field_name fields.ParentId = codes "parentID"
+field_name fields.ChildEpcs = codes "childEPCs"
+field_name fields.ChildQuantityList = codes "childQuantityList"
 
 -- why a site isn't added
 abbrev pub sites_fault_name : SitesFault → List ℕ

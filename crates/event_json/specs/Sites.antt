@@ -2,7 +2,7 @@ use Rattle.std.specs.Prelude.{⊤, ◌<◌, All, ℕ, Bool, false, not, ◌&&◌
 use Rattle.std.specs.List.{list_all, list_any}
 use Rattle.epc_core.specs.Items.{is_plain}
 use Rattle.event_json.specs.declared.bodies.Body.{Body}
-use Rattle.event_json.specs.declared.bodies.Body.TheVariants.{Note, Ship, Make}
+use Rattle.event_json.specs.declared.bodies.Body.TheVariants.{Note, Ship, Make, Pack}
 use Rattle.event_json.specs.declared.site_lists.SitesFault.{SitesFault}
 use Rattle.event_json.specs.declared.site_lists.SitesFault.TheVariants.{NoMemory, BadName, NameTaken, TooMany, BadAddress, AddressTaken}
 
@@ -32,6 +32,7 @@ abbrev pub ShipsAmong : ℕ → Body → Type 0
 ShipsAmong sites (Note items) = ⊤
 ShipsAmong sites (Ship items to outside) = All (λ t. t < sites) to
 ShipsAmong sites (Make id ins outs) = ⊤
+ShipsAmong sites (Pack action parent children) = ⊤
 
 -- some text stands twice
 abbrev pub repeats : List (List ℕ) → Bool

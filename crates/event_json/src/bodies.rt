@@ -1,5 +1,6 @@
 //! What an event says of its items, its copies and comparisons.
 ghost use Rattle.std.specs.Prelude.{◌≡◌, IfOk};
+ghost use Rattle.event_json.specs.Checks.{action_named};
 
 use crate::copies::copy_id;
 use crate::sequences::Sequence;
@@ -7,6 +8,35 @@ use crate::site_numbers::SiteNo;
 use crate::texts::PlainText;
 use epc_core::Epc;
 use std::alloc::{AllocError, Global};
+
+/// What is said of the children of an aggregation (GS1 EPCIS 2.0, section 7.4.3).
+#[derive(Clone, Copy, Debug, PartialEq, Eq)]
+pub enum Action {
+    /// They were put into the parent.
+    Add,
+    /// They were seen in it.
+    Observe,
+    /// They were taken out of it.
+    Delete,
+}
+
+impl Action {
+    /// The action that is written so.
+    #[tactic(auto, unfolding(crate::specs::Checks::action_named))]
+    pub(crate) fn named(text: &str) -> Option<Action>
+        ensures { result ≡ action_named text.now }
+    {
+        if text == "ADD" {
+            Some(Action::Add)
+        } else if text == "OBSERVE" {
+            Some(Action::Observe)
+        } else if text == "DELETE" {
+            Some(Action::Delete)
+        } else {
+            None
+        }
+    }
+}
 
 /// What an event says of its items.
 #[derive(Debug, Drop)]
@@ -27,6 +57,22 @@ pub enum Body {
         ins: Sequence<Epc>,
         outs: Sequence<Epc>,
     },
+    /// The children were put into the parent, seen in it, or taken out of it.
+    Pack {
+        action: Action,
+        parent: Option<Epc>,
+        children: Sequence<Epc>,
+    },
+}
+
+/// An equal item, where there is one.
+fn copy_parent(alloc: Global, parent: &Option<Epc>) -> Result<Option<Epc>, AllocError>
+    ensures { IfOk result (λ copy. copy ≡ parent.now) }
+{
+    match parent {
+        Some(item) => Ok(Some(item.copy(alloc)?)),
+        None => Ok(None),
+    }
 }
 
 impl Body {
@@ -51,6 +97,15 @@ impl Body {
                 id: copy_id(alloc, id)?,
                 ins: ins.copy(alloc)?,
                 outs: outs.copy(alloc)?,
+            }),
+            Body::Pack {
+                action,
+                parent,
+                children,
+            } => Ok(Body::Pack {
+                action: *action,
+                parent: copy_parent(alloc, parent)?,
+                children: children.copy(alloc)?,
             }),
         }
     }
@@ -89,6 +144,18 @@ impl PartialEq for Body {
                     outs: outs2,
                 },
             ) => id == id2 && outs == outs2 && ins == ins2,
+            (
+                Body::Pack {
+                    action,
+                    parent,
+                    children,
+                },
+                Body::Pack {
+                    action: action2,
+                    parent: parent2,
+                    children: children2,
+                },
+            ) => action == action2 && parent == parent2 && children == children2,
             _ => false,
         }
     }

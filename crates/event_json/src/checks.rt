@@ -2,23 +2,22 @@
 
 ghost use Rattle.std.specs.Prelude.{◌≡◌, ◌<◌, IfOk, option_map};
 ghost use Rattle.serde_json.specs.View.{view};
-ghost use Rattle.event_json.specs.Checks.{type_text, event_type, without_declaration, without_quantities, instant_of, is_number_below, is_offset, offset_checked, head_of, action_checked};
-ghost use Rattle.event_json.specs.Events.{IsIdentifier, IsInstant};
-ghost use Rattle.event_json.specs.Faults.{Finds};
+ghost use Rattle.event_json.specs.Checks.{action_of, type_text, event_type, without_declaration, without_quantities, instant_of, is_number_below, is_offset, offset_checked, head_of, action_checked};
+ghost use Rattle.event_json.specs.Events.{IsInstant};
 
-use crate::doc_faults::{CheckFault, DocFaultKind, DocField, Flaw};
+use crate::bodies::Action;
+use crate::doc_faults::{DocFaultKind, DocField, Flaw};
 use crate::event_types::EventType;
+use crate::lent_texts::PlainStr;
 use crate::members::{identifier, member, text};
-use crate::texts::PlainText;
 use jiff::Timestamp;
 use serde_json::Value;
-use std::alloc::Global;
 
 /// What each event says of itself.
 #[derive(Debug, Drop)]
-pub struct Head {
+pub struct Head<'v> {
     /// The eventID, where there is one.
-    pub id: Option<PlainText>,
+    pub id: Option<PlainStr<'v>>,
     /// The instant, in nanoseconds from 1970 in UTC.
     pub instant: i128,
 }
@@ -140,29 +139,35 @@ pub fn check_offset(text: &str) -> Result<(), Flaw>
 
 /// The eventID and the instant; the offset is only checked.
 #[tactic(auto, unfolding(crate::specs::Checks::head_of))]
-pub fn read_head(alloc: Global, value: &Value) -> Result<Head, CheckFault>
-    ensures found { Finds result (head_of (view value.now)) }
-    ensures identifier { IfOk result (λ h. IsIdentifier h.id) }
+pub fn head_of<'v>(value: &'v Value) -> Result<Head<'v>, Flaw>
+    ensures value { result ≡ head_of (view value.now) }
     ensures instant { IfOk result (λ h. IsInstant h.instant) }
 {
-    let id = identifier(alloc, value, DocField::EventId)?;
+    let id = identifier(value, DocField::EventId)?;
     let instant = instant(text(value, DocField::EventTime)?)?;
     check_offset(text(value, DocField::EventTimeZoneOffset)?)?;
     Ok(Head { id, instant })
 }
 
+/// What was done to the children.
+#[tactic(auto, unfolding(crate::specs::Checks::action_of))]
+pub fn action_of(value: &Value) -> Result<Action, Flaw>
+    ensures { result ≡ action_of (view value.now) }
+{
+    match Action::named(text(value, DocField::Action)?) {
+        Some(action) => Ok(action),
+        None => Err(Flaw {
+            field: DocField::Action,
+            kind: DocFaultKind::Action,
+        }),
+    }
+}
+
 /// Refuses an action that isn't one of the standard's.
-#[tactic(auto, unfolding(crate::specs::Checks::action_checked))]
+#[tactic(auto, using(crate::proofs::Actions::checked_by_name))]
 pub fn check_action(value: &Value) -> Result<(), Flaw>
     ensures { result ≡ action_checked (view value.now) }
 {
-    let action = text(value, DocField::Action)?;
-    if action == "ADD" || action == "OBSERVE" || action == "DELETE" {
-        Ok(())
-    } else {
-        Err(Flaw {
-            field: DocField::Action,
-            kind: DocFaultKind::Action,
-        })
-    }
+    action_of(value)?;
+    Ok(())
 }

@@ -114,6 +114,12 @@ pub enum DocField {
     OutputEpcList,
     /// `transformationID`
     TransformationId,
+    /// `parentID`
+    ParentId,
+    /// `childEPCs`
+    ChildEpcs,
+    /// `childQuantityList`
+    ChildQuantityList,
 }
 
 impl DocField {
@@ -139,6 +145,9 @@ impl DocField {
             DocField::InputEpcList => "inputEPCList",
             DocField::OutputEpcList => "outputEPCList",
             DocField::TransformationId => "transformationID",
+            DocField::ParentId => "parentID",
+            DocField::ChildEpcs => "childEPCs",
+            DocField::ChildQuantityList => "childQuantityList",
         }
     }
 }
@@ -182,43 +191,6 @@ pub enum ReadFault {
 pub struct Flaw {
     pub field: DocField,
     pub kind: DocFaultKind,
-}
-
-/// Why a check of an event didn't pass.
-#[derive(Clone, Copy, Debug, PartialEq, Eq)]
-pub enum CheckFault {
-    NoMemory,
-    Flaw(Flaw),
-}
-
-impl From<AllocError> for CheckFault {
-    ghost use Rattle.event_json.specs.declared.doc_faults.CheckFault.TheVariants as checks;
-
-    ghost from_gives = { λ _ e. e ≡ checks.NoMemory };
-
-    fn from(_error: AllocError) -> CheckFault {
-        CheckFault::NoMemory
-    }
-}
-
-impl<T: Drop> From<AllocFailed<T>> for CheckFault {
-    ghost use Rattle.event_json.specs.declared.doc_faults.CheckFault.TheVariants as checks;
-
-    ghost from_gives = { λ _ e. e ≡ checks.NoMemory };
-
-    fn from(_error: AllocFailed<T>) -> CheckFault {
-        CheckFault::NoMemory
-    }
-}
-
-impl From<Flaw> for CheckFault {
-    ghost use Rattle.event_json.specs.declared.doc_faults.CheckFault.TheVariants as checks;
-
-    ghost from_gives = { λ flaw e. e ≡ checks.Flaw flaw };
-
-    fn from(flaw: Flaw) -> CheckFault {
-        CheckFault::Flaw(flaw)
-    }
 }
 
 impl From<AllocError> for ReadFault {

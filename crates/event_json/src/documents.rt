@@ -4,24 +4,23 @@ ghost use Rattle.std.specs.Prelude.{◌≡◌, ◌≤◌, ◌<◌, IsUtf8, IsOk,
 ghost use Rattle.serde_json.specs.View.{view, items_view};
 ghost use Rattle.event_json.specs.Documents.{whole, listed, event_list, few_events, numbered_event, events_of, document_of, text_document};
 ghost use Rattle.event_json.specs.Faults.{Shows, Gives};
+ghost use Rattle.event_json.specs.declared.limits.TheConstants.{MAX_EVENTS};
 ghost use Rattle.event_json.specs.declared.doc_faults.DocField.TheVariants as fields;
 ghost use Rattle.event_json.specs.declared.doc_faults.DocFaultKind.TheVariants as kinds;
 
 use crate::checks::type_text;
-use crate::doc_faults::{CheckFault, DocFault, DocFaultKind, DocField, ReadFault};
-use crate::event_reading::event;
+use crate::doc_faults::{DocFault, DocFaultKind, DocField, ReadFault};
+use crate::event_building::build;
+use crate::event_checks::{check_events, numbered_event};
 use crate::event_types::EventType;
 use crate::events::Event;
 use crate::foreign_faults::json_fault;
+use crate::limits::MAX_EVENTS;
 use crate::members::{member, member_named};
-use crate::passing::check_events;
 use crate::sequences::Sequence;
 use crate::site_lists::Sites;
 use serde_json::Value;
 use std::alloc::{AllocError, Global};
-
-/// The most events that a document may have, skipped ones too.
-const LIMIT: usize = 1000;
 
 /// What a document says.
 #[derive(Debug, Drop)]
@@ -86,7 +85,7 @@ fn event_list(value: &Value) -> Result<&[Value], DocFault>
 }
 
 /// The event of this number, `None` where it is skipped.
-fn numbered_event(
+fn read_event(
     alloc: Global,
     sites: &Sites,
     number: u64,
@@ -94,26 +93,21 @@ fn numbered_event(
 ) -> Result<Option<Event>, ReadFault>
     ensures { Gives result (numbered_event sites.now number (view value.now)) }
 {
-    match event(alloc, sites, value) {
-        Ok(found) => Ok(found),
-        Err(CheckFault::NoMemory) => Err(ReadFault::NoMemory),
-        Err(CheckFault::Flaw(flaw)) => Err(ReadFault::Doc(DocFault {
-            event: number,
-            field: flaw.field,
-            kind: flaw.kind,
-        })),
+    match numbered_event(number, value)? {
+        Some(checked) => Ok(Some(build(alloc, sites, &checked)?)),
+        None => Ok(None),
     }
 }
 
 /// The events of a list, the first of them being number 1.
 fn each_event(alloc: Global, sites: &Sites, list: &[Value]) -> Result<Doc, ReadFault>
-    requires { length list.now ≤ 1000 }
+    requires { length list.now ≤ MAX_EVENTS }
     ensures { Gives result (events_of sites.now (items_view list.now)) }
 {
     let mut events = Vec::new(alloc);
     let mut skipped = 0;
     for (place, value) in list.iter().enumerate() {
-        match numbered_event(alloc, sites, place as u64 + 1, value)? {
+        match read_event(alloc, sites, place as u64 + 1, value)? {
             Some(event) => events.push(event)?,
             None => skipped += 1,
         }
@@ -128,9 +122,9 @@ fn each_event(alloc: Global, sites: &Sites, list: &[Value]) -> Result<Doc, ReadF
 #[tactic(auto, using(crate::proofs::Lists::items_count), unfolding(crate::specs::Documents::few_events))]
 fn check_count(list: &[Value]) -> Result<(), DocFault>
     ensures checked { result ≡ few_events (items_view list.now) }
-    ensures few { OnOk result (length list.now ≤ 1000) }
+    ensures few { OnOk result (length list.now ≤ MAX_EVENTS) }
 {
-    if list.len() > LIMIT {
+    if list.len() > MAX_EVENTS {
         Err(whole(DocField::EventList, DocFaultKind::TooManyEvents))
     } else {
         Ok(())

@@ -3,12 +3,10 @@
 ghost use Rattle.std.specs.Prelude.{◌≡◌, ◌↔◌};
 ghost use Rattle.serde_json.specs.Errors.{IsMemory};
 ghost use Rattle.event_json.specs.Documents.{whole};
-ghost use Rattle.event_json.specs.Faults.{check_fault_of};
 ghost use Rattle.event_json.specs.declared.doc_faults.DocField.TheVariants as fields;
 ghost use Rattle.event_json.specs.declared.doc_faults.DocFaultKind.TheVariants as kinds;
 
-use crate::doc_faults::{CheckFault, DocFault, DocFaultKind, DocField, Flaw, ReadFault};
-use epc_core::EpcFault;
+use crate::doc_faults::{DocFault, DocFaultKind, DocField, ReadFault};
 
 /// Why bytes weren't read as JSON: out of memory where the error says so, and else they are no JSON
 /// text.
@@ -24,18 +22,5 @@ pub(crate) fn json_fault(error: &serde_json::Error) -> ReadFault
             field: DocField::Document,
             kind: DocFaultKind::Syntax,
         })
-    }
-}
-
-/// Why a text of this field wasn't read as an EPC: out of memory, or it is none.
-pub(crate) fn epc_fault(field: DocField, fault: &EpcFault) -> CheckFault
-    ensures { result ≡ check_fault_of field fault.now }
-{
-    match fault {
-        EpcFault::NoMemory => CheckFault::NoMemory,
-        EpcFault::Empty | EpcFault::TooLong | EpcFault::BadByte(_) => CheckFault::Flaw(Flaw {
-            field,
-            kind: DocFaultKind::BadEpc,
-        }),
     }
 }

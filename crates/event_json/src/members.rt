@@ -1,17 +1,14 @@
 //! The members of a JSON object.
 
-ghost use Rattle.std.specs.Prelude.{◌≡◌, option_map, IfOk};
-ghost use Rattle.epc_core.specs.Spellings.{IsPlain};
+ghost use Rattle.std.specs.Prelude.{◌≡◌, option_map, OnOk};
 ghost use Rattle.serde_json.specs.View.{view, items_view};
-ghost use Rattle.event_json.specs.Events.{IsIdentifier};
-ghost use Rattle.event_json.specs.Faults.{Shows, Finds};
+ghost use Rattle.event_json.specs.Faults.{Shows};
+ghost use Rattle.event_json.specs.Lent.{IsPlainValue};
 ghost use Rattle.event_json.specs.Members.{member_named, member_of, text_of, plain_of, identifier_of, list_of};
 
-use crate::doc_faults::{CheckFault, DocFaultKind, DocField, Flaw};
-use crate::texts::PlainText;
-use epc_core::is_plain;
+use crate::doc_faults::{DocFaultKind, DocField, Flaw};
+use crate::lent_texts::PlainStr;
 use serde_json::Value;
-use std::alloc::Global;
 
 /// The member of this name; one that is null counts as absent.
 pub fn member_named<'v>(value: &'v Value, name: &str) -> Option<&'v Value>
@@ -50,34 +47,29 @@ pub fn text<'v>(value: &'v Value, field: DocField) -> Result<&'v str, Flaw>
 }
 
 /// The plain text of a value.
-pub fn plain(alloc: Global, value: &Value, field: DocField) -> Result<PlainText, CheckFault>
-    ensures found { Finds result (plain_of field (view value.now)) }
-    ensures plain { IfOk result IsPlain }
+pub fn plain<'v>(value: &'v Value, field: DocField) -> Result<PlainStr<'v>, Flaw>
+    ensures value { result ≡ plain_of field (view value.now) }
+    ensures plain { OnOk result (IsPlainValue value.now) }
 {
     let wrong = Flaw {
         field,
         kind: DocFaultKind::WrongShape,
     };
     let Some(text) = value.as_str() else {
-        return Err(CheckFault::Flaw(wrong));
+        return Err(wrong);
     };
-    if !is_plain(text) {
-        return Err(CheckFault::Flaw(wrong));
+    match PlainStr::of(text) {
+        Some(plain) => Ok(plain),
+        None => Err(wrong),
     }
-    Ok(PlainText::of(alloc, text)?)
 }
 
 /// The plain text of a member that may be absent.
-pub fn identifier(
-    alloc: Global,
-    value: &Value,
-    field: DocField,
-) -> Result<Option<PlainText>, CheckFault>
-    ensures found { Finds result (identifier_of field (member_of field (view value.now))) }
-    ensures plain { IfOk result IsIdentifier }
+pub fn identifier<'v>(value: &'v Value, field: DocField) -> Result<Option<PlainStr<'v>>, Flaw>
+    ensures { result ≡ identifier_of field (member_of field (view value.now)) }
 {
     match member(value, field) {
-        Some(found) => Ok(Some(plain(alloc, found, field)?)),
+        Some(found) => Ok(Some(plain(found, field)?)),
         None => Ok(None),
     }
 }

@@ -5,6 +5,7 @@ ghost use Rattle.std.specs.List.{list_all, list_any};
 ghost use Rattle.epc_core.specs.Items.{is_plain};
 ghost use Rattle.event_json.specs.Sites.{is_name_byte, is_site_name, repeats};
 
+use crate::limits::MAX_NAME_BYTES;
 use epc_core::is_plain;
 
 /// Whether a site's name may have this byte.
@@ -19,7 +20,7 @@ pub(crate) fn is_site_name(text: &str) -> bool
     ensures { result ≡ is_site_name text.now }
 {
     let bytes = text.as_bytes();
-    1 <= bytes.len() && bytes.len() <= 16 && are_name_bytes(bytes)
+    1 <= bytes.len() && bytes.len() <= MAX_NAME_BYTES && are_name_bytes(bytes)
 }
 
 /// Whether a site's name may have each of the bytes.

@@ -5,6 +5,7 @@ ghost use Rattle.std.specs.List.{list_any};
 ghost use Rattle.event_json.specs.Names.{sites_fault_name};
 ghost use Rattle.event_json.specs.Sites.{named, addressed, sites_fault, AreSites, IsCause};
 
+use crate::limits::{MAX_ADDRESSES, MAX_SITES};
 use crate::site_checks::{are_plain, is_site_name, repeats};
 use crate::site_entries::{Entry, addresses_of, copy_entries, place_addressed, place_named};
 use crate::site_numbers::SiteNo;
@@ -12,9 +13,6 @@ use std::alloc::{AllocError, AllocFailed, Global};
 use std::error::Error;
 use std::fmt;
 use std::marker::Model;
-
-/// The most sites, and the most addresses of a site.
-const LIMIT: usize = 16;
 
 /// Why a site isn't added.
 #[derive(Clone, Copy, Debug, PartialEq, Eq)]
@@ -218,7 +216,7 @@ impl Sites {
         if self.find(name).is_some() {
             return Some(SitesFault::NameTaken);
         }
-        if self.sites.len() >= LIMIT || addresses.len() > LIMIT {
+        if self.sites.len() >= MAX_SITES || addresses.len() > MAX_ADDRESSES {
             return Some(SitesFault::TooMany);
         }
         if !are_plain(addresses) {

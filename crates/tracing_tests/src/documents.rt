@@ -32,6 +32,12 @@ const TRANSFORMATION: Around = (
     "}",
 );
 
+/// A row is further members of an AggregationEvent of x into p.
+const AGGREGATION: Around = (
+    r#"{"type":"AggregationEvent","eventTime":"2024-05-01T08:00:00Z","eventTimeZoneOffset":"+00:00","action":"ADD","parentID":"p","childEPCs":["x"]"#,
+    "}",
+);
+
 /// The text of a row with what stands around it.
 fn within(alloc: Global, around: Around, row: &str) -> Result<String, AllocError> {
     let (before, behind) = around;

@@ -1,6 +1,8 @@
 //! Each kind of fault as it is printed, with its event and field. None is reported as out of memory.
 
-use super::{EVENTS, NOTHING, OBJECT, TRANSFORMATION, have_outcomes, is_outcome, within};
+use super::{
+    AGGREGATION, EVENTS, NOTHING, OBJECT, TRANSFORMATION, have_outcomes, is_outcome, within,
+};
 use std::alloc::{AllocError, Global};
 use std::test::*;
 
@@ -125,6 +127,52 @@ fn of_object_events(rt: HostRuntime) -> Result<(), Fail> {
         ),
     ];
     assert!(rt; have_outcomes(rt.alloc(), OBJECT, &rows)?);
+    Ok(())
+}
+
+#[test]
+fn of_aggregations(rt: HostRuntime) -> Result<(), Fail> {
+    let rows = [
+        (
+            r#","errorDeclaration":{},"childQuantityList":[1]"#,
+            "ErrorDeclared event 1 field errorDeclaration",
+        ),
+        (
+            r#","childQuantityList":[1],"eventID":5"#,
+            "Quantities event 1 field childQuantityList",
+        ),
+        (
+            r#","eventTime":null,"action":null"#,
+            "Missing event 1 field eventTime",
+        ),
+        (
+            r#","action":"X","parentID":null"#,
+            "Action event 1 field action",
+        ),
+        (
+            r#","parentID":null,"childEPCs":5"#,
+            "Missing event 1 field parentID",
+        ),
+        (
+            r#","parentID":5,"childEPCs":5"#,
+            "WrongShape event 1 field parentID",
+        ),
+        (
+            r#","parentID":"a b","childEPCs":5"#,
+            "BadEpc event 1 field parentID",
+        ),
+        (
+            r#","childEPCs":["x","a b"]"#,
+            "BadEpc event 1 field childEPCs",
+        ),
+        (r#","childEPCs":null"#, "read 1 skipped 0"),
+        (r#","action":"OBSERVE","parentID":null"#, "read 1 skipped 0"),
+        (
+            r#","action":"DELETE","parentID":null,"childEPCs":[]"#,
+            "read 1 skipped 0",
+        ),
+    ];
+    assert!(rt; have_outcomes(rt.alloc(), AGGREGATION, &rows)?);
     Ok(())
 }
 

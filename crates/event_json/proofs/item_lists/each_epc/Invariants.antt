@@ -1,12 +1,6 @@
-use Rattle.std.proofs.Common.{◌≡◌, ◌+◌, length, drop}
-use Rattle.serde_json.specs.View.{items_view}
-use Rattle.event_json.specs.Members.{each}
-use Rattle.event_json.specs.ItemLists.{epc_of}
-use Rattle.event_json.proofs.Each.{after}
+use Rattle.std.proofs.Common.{◌≡◌, ◌++◌, map, drop}
+use Rattle.event_json.specs.Lent.{key_in}
 use Rattle.event_json.proofs.item_lists.each_epc.Given as goal
 
 abbrev pub invariant-loop-value : goal.invariant-loop-value
-invariant-loop-value l = record {
-  found : after l.items.items (each (λ _. epc_of l.field) (l.value-index + 1) (items_view (drop l.value-index l.list))) ≡ each (λ _. epc_of l.field) 1 (items_view l.list);
-  count : length l.items.items ≡ l.value-index;
-}
+invariant-loop-value l = l.items.items ++ map key_in (drop l.value-index l.list) ≡ map key_in l.list
