@@ -5,27 +5,23 @@ use Rattle.std.specs.Bool.{Decides}
 use Rattle.std.specs.BTreeSet.{BTreeSet, Updates}
 use Rattle.std.specs.List.{Any, Contains}
 use Rattle.std.proofs.lemmas.Bool.Decides.{Decides-and, Decides-or, Decides-eqb}
-use Rattle.std.proofs.lemmas.Bool.{or_cases}
 use Rattle.std.proofs.lemmas.List.{take_all}
-use Rattle.std.proofs.lemmas.List.Elements.{Contains-append_left, Contains-push, Contains-push_cases}
+use Rattle.std.proofs.lemmas.List.Elements.{Contains-push}
 use Rattle.std.proofs.lemmas.Map.Views.{btree_set_contains_iff}
 use Rattle.event_json.specs.Events.{Content}
 use Rattle.event_json.specs.declared.bodies.Body.{Body}
 use Rattle.trace_core.specs.declared.pairs.Pair.{Pair}
-use Rattle.trace_core.specs.Gathering.{is_in, added_by, sent_to}
-use Rattle.trace_core.specs.Pairs.{pair_cmp, Ships, TakesIn, GivesOut, make_id, HaveOneId, AreOneMake, IsMade, IsRelated}
+use Rattle.trace_core.specs.Carried.{SendsBy}
+use Rattle.trace_core.specs.Gathering.{is_in, added_by}
+use Rattle.trace_core.specs.Pairs.{pair_cmp, TakesIn, GivesOut, make_id, HaveOneId, AreOneMake, IsMade, IsRelated}
 use Rattle.trace_core.specs.Searches.{IsFound}
-use Rattle.trace_core.specs.Sendings.{IsNewlySent}
-use Rattle.trace_core.specs.SiteSets.{has_site, sites_in}
 use Rattle.trace_core.specs.Sites.{SiteEvents}
-use Rattle.trace_core.specs.Spreads.{with_event, IsNewlyMade, IsNewTarget}
-use Rattle.trace_core.proofs.Booleans.{or_true}
+use Rattle.trace_core.specs.Spreads.{with_event, IsNewlyMade}
+use Rattle.trace_core.proofs.Carrying.{earlier, still, sent_with}
 use Rattle.trace_core.proofs.Members.{contains_none}
 use Rattle.trace_core.proofs.PairOrder.{pairs_total, pairs_exact}
 use Rattle.trace_core.proofs.PairTestsDecide.{any_decides, takes_decides, gives_decides, same_id_decides}
-use Rattle.trace_core.proofs.SendingSteps.{sent_when}
 use Rattle.trace_core.proofs.SetMembers.{contains_more, found-remove}
-use Rattle.trace_core.proofs.ShippedPlaces.{sent_decides, sent_in}
 
 module _ (s : SiteEvents) (e : Content) (i : List ℕ) where
   -- the event makes the pair's item of the item, by itself or joined to an event that gives it out
@@ -46,12 +42,6 @@ module _ (s : SiteEvents) (e : Content) (i : List ℕ) where
       (Decides-and _ _ (any_decides _ _ (λ f. Decides-and _ _ (takes_decides i f.body) (same_id_decides (make_id f.body) (make_id e.body))) s.events)
       (Decides-and _ _ (Decides-eqb q.site s.me) (gives_decides q.item e.body)))
 
-  earlier : (P : Content → Type 0) → Any P (s.events ++ e ∷ []) → Any P s.events ⊎ P e
-  earlier P (k, f, lt, at, h) = ⊎_elim
-      (λ (l, lt', at'). inl (l, f, lt', at', h))
-      (λ last. inr (subst P (sym last) h))
-      (Contains-push_cases s.events e f (k, lt, at))
-
   made_with : (q : Pair) → IsMade (with_event s e) i q → IsMade s i q ⊎ AddedBy q
   made_with q (here, any) = ⊎_elim
       (λ (k, f, lt, at, (takes, gives)). ⊎_elim
@@ -60,7 +50,7 @@ module _ (s : SiteEvents) (e : Content) (i : List ℕ) where
       (λ same. inr (inl (here, (subst (λ (x : Content). TakesIn i x.body) same takes, inl out))))
       (λ id. inr (inr ((k, f, lt, at, (takes, id)), (here, out))))
       one)
-      (earlier (λ g. AreOneMake f g × GivesOut q.item g.body) gives))
+      (earlier s.events e (λ g. AreOneMake f g × GivesOut q.item g.body) gives))
       (λ (takes, gives). inr (inl (
         here,
         (
@@ -71,21 +61,21 @@ module _ (s : SiteEvents) (e : Content) (i : List ℕ) where
               (λ id. inr (l, g, lt, at, (id, out)))
               one)
               (λ (one, out). inl out)
-              (earlier (λ g. AreOneMake e g × GivesOut q.item g.body) gives),
+              (earlier s.events e (λ g. AreOneMake e g × GivesOut q.item g.body) gives),
         ),
       )))
-      (earlier (λ f. TakesIn i f.body × Any (λ g. AreOneMake f g × GivesOut q.item g.body) (s.events ++ e ∷ [])) any)
+      (earlier s.events e (λ f. TakesIn i f.body × Any (λ g. AreOneMake f g × GivesOut q.item g.body) (s.events ++ e ∷ [])) any)
 
-  -- the event ships the item to the pair
+  -- the event sends the item to the pair
   abbrev pub ShippedBy : Pair → Type 0
-  ShippedBy q = (q.site ≡ s.me → ⊥) × (Ships i q.site e.body × (i ≡ q.item))
+  ShippedBy q = (q.site ≡ s.me → ⊥) × (SendsBy s.events e.body i q.site × (i ≡ q.item))
 
   pub related_with : (q : Pair) → IsRelated (with_event s e) i q → IsRelated s i q ⊎ ((ShippedBy q ⊎ MadeBy q) ⊎ JoinedBy q)
   related_with q h = ⊎_elim
-      (λ (other, same, any). ⊎_elim
+      (λ (other, same, sent). ⊎_elim
       (λ before. inl (inl (other, same, before)))
-      (λ ships. inr (inl (inl (other, (ships, sym same)))))
-      (sent_when s.events e i q.site any))
+      (λ sends. inr (inl (inl (other, (sends, sym same)))))
+      (sent_with s.events e i q.site sent))
       (λ made. ⊎_elim
       (λ before. inl (inr before))
       (λ added. inr (⊎_elim (λ by. inl (inr by)) (λ joined. inr joined) added))
@@ -94,9 +84,6 @@ module _ (s : SiteEvents) (e : Content) (i : List ℕ) where
 
   the_last : Contains (s.events ++ e ∷ []) e
   the_last = Contains-push s.events e
-
-  still : (P : Content → Type 0) → Any P s.events → Any P (s.events ++ e ∷ [])
-  still P (k, f, lt, at, h) = let there = Contains-append_left s.events (e ∷ []) f (k, lt, at) in (there.0, f, there.1, there.2, h)
 
   added_made : (q : Pair) → AddedBy q → IsMade (with_event s e) i q
   added_made q h = ⊎_elim
@@ -111,14 +98,14 @@ module _ (s : SiteEvents) (e : Content) (i : List ℕ) where
             takes,
             ⊎_elim
                 (λ out. (the_last.0, e, the_last.1, the_last.2, (inl refl, out)))
-                (λ (k, f, lt, at, (id, out)). still (λ g. AreOneMake e g × GivesOut q.item g.body) (k, f, lt, at, (inr id, out)))
+                (λ (k, f, lt, at, (id, out)). still s.events e (λ g. AreOneMake e g × GivesOut q.item g.body) (k, f, lt, at, (inr id, out)))
                 gives,
           ),
         ),
       ))
       (λ ((k, f, lt, at, (takes, id)), (here, out)). (
         here,
-        still (λ f. TakesIn i f.body × Any (λ g. AreOneMake f g × GivesOut q.item g.body) (s.events ++ e ∷ []))
+        still s.events e (λ f. TakesIn i f.body × Any (λ g. AreOneMake f g × GivesOut q.item g.body) (s.events ++ e ∷ []))
             (k, f, lt, at, (takes, (the_last.0, e, the_last.1, the_last.2, (inr id, out)))),
       ))
       h
@@ -165,21 +152,4 @@ module _ (s : SiteEvents) (b : Body) (i : List ℕ) where
           (λ old. absurd (new old))
           (λ added. (left q).1 ((by_event q).1 added, λ there. contains_none q there))
           (made_with s e i q made),
-    )
-
--- what is newly made and what is newly sent
-pub new_found : (s : SiteEvents) (e : Content) (i : List ℕ) (made set : BTreeSet Pair) (mask : ℕ) (pairs : List Pair) → pairs ≡ set.keys → ((q : Pair) → IsFound pair_cmp made q ↔ IsNewlyMade s e i q)
-    → ((t : ℕ) → has_site mask t ≡ true ↔ IsNewlySent s.events e i t) → ((q : Pair) → is_in set q ≡ (is_in made q || sent_to s.me i (sites_in mask) q))
-    → (q : Pair) → Contains pairs q ↔ IsNewTarget s e i q
-new_found s e i made set mask pairs keys makes sends is q =
-    let both = btree_set_contains_iff pairs_total pairs_exact set q in
-    let decides = sent_decides s.me i (sites_in mask) (IsNewlySent s.events e i) (sent_in mask (IsNewlySent s.events e i) sends) q in (
-      λ h. ⊎_elim
-          (λ found. let (now, new) = (makes q).0 found in (inr now, λ related. ⊎_elim (λ shipped. shipped.0 now.0) (λ old. new old) related))
-          (λ sent. let (other, same, (now, new)) = decides.0 sent in (inl (other, same, now), λ related. ⊎_elim (λ shipped. new shipped.2) (λ old. other old.0) related))
-          (or_cases (is_in made q) (sent_to s.me i (sites_in mask) q) (sym (is q) ∙ both.1 (subst (λ ps. Contains ps q) keys h))),
-      λ (related, new). subst (λ ps. Contains ps q) (sym keys) (both.0 (is q ∙ ⊎_elim
-          (λ (other, same, now). ap (λ b. is_in made q || b) (decides.1 (other, same, (now, λ before. new (inl (other, same, before))))) ∙ or_true (is_in made q))
-          (λ now. ap (λ b. b || sent_to s.me i (sites_in mask) q) ((makes q).1 (now, λ old. new (inr old))))
-          related)),
     )

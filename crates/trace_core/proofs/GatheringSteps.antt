@@ -1,4 +1,4 @@
--- The pairs that a site's events relate an item to, event by event, and what one more pair adds.
+-- What a site's events make of an item, event by event, and what one more pair adds.
 use Rattle.std.proofs.Common.{◌≡◌, ◌==◌, ◌<◌, ◌+◌, ℕ, Bool, true, false, cond, not, ◌&&◌, ◌||◌, List, [], ◌∷◌, ◌++◌, length, take, get_or, Option, Some, None, is_some, option_map, refl, sym, ap, ◌∙◌, arith}
 use Rattle.std.proofs.lemmas.Bool.{true≢false}
 use Rattle.std.proofs.lemmas.Bool.Decides.{nat_tests}
@@ -9,14 +9,14 @@ use Rattle.std.specs.List.{list_any}
 use Rattle.event_json.specs.Events.{Content}
 use Rattle.event_json.specs.declared.bodies.Body.{Body}
 use Rattle.trace_core.specs.declared.pairs.Pair.{Pair}
-use Rattle.trace_core.specs.Gathering.{is_in, sent_to, joined_by, related_by}
+use Rattle.trace_core.specs.Gathering.{is_in, sent_to, joined_by, made_by}
 use Rattle.trace_core.proofs.PairOrder.{pair_is_eq}
 use Rattle.trace_core.specs.Pairs.{pair_cmp, make_id}
-use Rattle.trace_core.specs.PairTests.{same_item, lists, ships, takes_in, gives_out, same_id, ships_at, inside_at, is_related}
+use Rattle.trace_core.specs.PairTests.{same_item, lists, takes_in, gives_out, same_id, inside_at}
 use Rattle.trace_core.specs.SiteSets.{has_site, sites_below}
 use Rattle.trace_core.specs.Sites.{SiteEvents}
 use Rattle.trace_core.proofs.SiteSetSteps.{one_below, none_below}
-use Rattle.trace_core.proofs.Booleans.{and_false, or_false, and_or, and_assoc, list_any-or, list_any-and_left, list_any-and_right, list_any-same, more_at_sites, more_inside}
+use Rattle.trace_core.proofs.Booleans.{and_false, or_false, and_or, list_any-or, list_any-and_left, list_any-same, more_at_sites, more_inside}
 
 cond_or : (a b : Bool) → cond a true b ≡ (b || a)
 cond_or true true = refl
@@ -28,26 +28,17 @@ cond_or false false = refl
 pub is_in-insert : (old new : BTreeSet Pair) (k : Pair) → Updates pair_cmp old new k true → (p : Pair) → is_in new p ≡ (is_in old p || (p.site == k.site && same_item k.item p.item))
 is_in-insert old new k h p = h.0 p ∙ cond_or _ (is_in old p) ∙ ap (λ b. is_in old p || b) (pair_is_eq k p)
 
--- the related pairs are those that the events relate the item to, one by one
-pub is_related-by_events : (s : SiteEvents) (item : List ℕ) (p : Pair) → is_related s item p ≡ list_any (λ e. related_by s.me s.events item e.body p) s.events
-unfolding is_related ships_at inside_at
-is_related-by_events s item p =
-    let other = not (p.site == s.me) in
+-- what is made of an item is what the events make of it, one by one
+pub is_made-by_events : (s : SiteEvents) (item : List ℕ) (p : Pair) → (p.site == s.me && inside_at s.events item p.item) ≡ list_any (λ e. made_by s.me s.events item e.body p) s.events
+unfolding inside_at
+is_made-by_events s item p =
     let own = p.site == s.me in
-    let same = same_item item p.item in
-    let ship : Content → Bool = λ e. ships item p.site e.body in
     let take : Content → Bool = λ e. takes_in item e.body in
     let give : Content → Bool = λ e. gives_out p.item e.body in
     let join : Content → Bool = λ e. joined_by s.events e.body p.item in
-    let shipped : list_any (λ e. other && (ship e && same)) s.events ≡ ((other && list_any ship s.events) && same) =
-    list_any-and_left other (λ e. ship e && same) s.events ∙ ap (λ b. other && b) (list_any-and_right same ship s.events) ∙ sym (and_assoc other (list_any ship s.events) same) in
-    let made : list_any (λ e. own && (take e && (give e || join e))) s.events ≡ (own && (list_any (λ e. take e && give e) s.events || list_any (λ e. take e && join e) s.events)) =
-    list_any-and_left own (λ e. take e && (give e || join e)) s.events
+    sym (list_any-and_left own (λ e. take e && (give e || join e)) s.events
     ∙ ap (λ b. own && b) (list_any-same (λ e. take e && (give e || join e)) (λ e. (take e && give e) || (take e && join e)) (λ e. and_or (take e) (give e) (join e)) s.events
-    ∙ list_any-or (λ e. take e && give e) (λ e. take e && join e) s.events) in
-    sym (list_any-or (λ e. other && (ship e && same)) (λ e. own && (take e && (give e || join e))) s.events
-    ∙ ap (λ b. b || list_any (λ e. own && (take e && (give e || join e))) s.events) shipped
-    ∙ ap (λ b. ((other && list_any ship s.events) && same) || b) made)
+    ∙ list_any-or (λ e. take e && give e) (λ e. take e && join e) s.events))
 
 -- a list's item is one more of the items at the site
 pub one_more_item : (old cur new : BTreeSet Pair) (me : ℕ) (items : List (List ℕ)) (i : ℕ) (y : List ℕ) → i < length items → y ≡ get_or items i y

@@ -12,18 +12,18 @@ use Rattle.event_json.specs.Events.{Content}
 use Rattle.event_json.specs.declared.bodies.Body.{Body}
 use Rattle.trace_core.specs.declared.groups.Group.{Group}
 use Rattle.trace_core.specs.declared.pairs.Pair.{Pair}
-use Rattle.trace_core.specs.Gathering.{shipped_by, made_by, joined_by, related_by}
+use Rattle.trace_core.specs.Gathering.{made_by, joined_by}
 use Rattle.trace_core.specs.Groups.{group_cmp, IsSeen, Sees, outs_of, Gives, IsGiven, AddsUnseen, SeesOnly, IsSeenAt, HasSeenTakers, StaysSeen, first_of, made_at, IsSought}
 use Rattle.trace_core.specs.Pairs.{make_id, IsShipped, IsMade}
-use Rattle.trace_core.specs.PairTests.{same_id, same_item, ships, takes_in, gives_out}
+use Rattle.trace_core.specs.PairTests.{same_id, gives_out}
 use Rattle.trace_core.specs.Places.{at_place, places_where, takes_item}
 use Rattle.trace_core.specs.Searches.{IsFound}
 use Rattle.trace_core.specs.Sites.{SiteEvents}
 use Rattle.trace_core.proofs.Booleans.{list_any-same}
-use Rattle.trace_core.proofs.GatheringSteps.{is_related-by_events}
-use Rattle.trace_core.proofs.Members.{contains_none, list_any_member, list_any_witness}
+use Rattle.trace_core.proofs.GatheringSteps.{is_made-by_events}
+use Rattle.trace_core.proofs.Members.{contains_none, list_any_member}
 use Rattle.trace_core.proofs.NumberLists.{some_is}
-use Rattle.trace_core.proofs.PairTestsDecide.{same_id_decides, related_decides}
+use Rattle.trace_core.proofs.PairTestsDecide.{same_id_decides, made_decides}
 use Rattle.trace_core.proofs.PlaceLists.{place_there, place_passes, any_at_places}
 use Rattle.trace_core.proofs.RelatedPlaces.{slice_there, ins_listed}
 use Rattle.trace_core.proofs.SetMembers.{contains_more}
@@ -245,20 +245,9 @@ module _ (s : SiteEvents) (item : List ℕ) (q : Pair) where
 
   pub made_places : (list_any (λ k. made_at s.me s.events k q) (places_where (takes_item item) s.events) ≡ true) ↔ IsMade s item q
   made_places =
-      let by_events = is_related-by_events s item q in
-      let decides = related_decides s item q in (
-        λ h.
-            let (e, there, made) = list_any_witness (λ e. made_by s.me s.events item e.body q) s.events (sym made_by_takers ∙ h) in
-            let own = (and_parts (q.site == s.me) (takes_in item e.body && outs_of s.events q.item e.body) made).0 in
-            let related = list_any_member (λ e. related_by s.me s.events item e.body q) s.events e there (either (shipped_by s.me item e.body q) (made_by s.me s.events item e.body q) (inr made)) in
-            ⊎_elim (λ (other, same, any). absurd (other (eqb-true q.site s.me own))) (λ is. is) (decides.0 (by_events ∙ related)),
-        λ (own, any).
-            let (e, there, by) = list_any_witness (λ e. related_by s.me s.events item e.body q) s.events (sym by_events ∙ decides.1 (inr (own, any))) in
-            ⊎_elim
-            (λ ship. absurd (false≢true (sym (ap not (eq-eqb q.site s.me own)) ∙ (and_parts (not (q.site == s.me)) (ships item q.site e.body && same_item item q.item) ship).0)))
-            (λ made. made_by_takers ∙ list_any_member (λ e. made_by s.me s.events item e.body q) s.events e there made)
-            (or_cases (shipped_by s.me item e.body q) (made_by s.me s.events item e.body q) by),
-      )
+      let is = made_by_takers ∙ sym (is_made-by_events s item q) in
+      let decides = made_decides s item q in
+      (λ h. decides.0 (sym is ∙ h), λ made. is ∙ decides.1 made)
 
 module _ (ships : Bool) (s : SiteEvents) (item : List ℕ) (site : ℕ) where
   -- shipped, where shipments are asked for

@@ -13,17 +13,19 @@ use Rattle.std.proofs.lemmas.List.Elements.{Contains-append_right}
 use Rattle.std.proofs.lemmas.Option.{slice_get_within}
 use Rattle.event_json.specs.Events.{Content}
 use Rattle.event_json.specs.declared.bodies.Body.{Body}
-use Rattle.event_json.specs.declared.bodies.Body.TheVariants.{Note, Ship, Make}
+use Rattle.event_json.specs.declared.bodies.Body.TheVariants.{Note, Ship, Make, Pack}
 use Rattle.trace_core.specs.declared.event_items.Members.{Members}
 use Rattle.trace_core.specs.declared.indexes.Index.{Index}
 use Rattle.trace_core.specs.Indexes.{HasPlaces, NotesItems, ForgetsItems, KeepsItems}
 use Rattle.trace_core.specs.Numbers.{Named, with_names, numbered, names_of, item_places, outs_in, numbers_of, HasMembers}
 use Rattle.trace_core.specs.PairTests.{lists}
+use Rattle.trace_core.specs.PutIn.{children_in}
 use Rattle.trace_core.specs.Places.{kept, places_where, names_item, takes_item, IsIndex}
 use Rattle.trace_core.specs.Spreads.{items_of, ins_in}
 use Rattle.trace_core.proofs.Members.{contains_none, list_any_witness, list_any_member}
 use Rattle.trace_core.proofs.NumberLists.{none_is, none_numbered, with_more, numbered_named, numbered_more, numbers_stay, slice_pushed, slice_stays, slice_last}
 use Rattle.trace_core.proofs.NamedLists.{no_places_of, found_in_front}
+use Rattle.trace_core.proofs.PackedSteps.{none_packed}
 use Rattle.trace_core.proofs.PairTestsDecide.{lists_decides}
 use Rattle.trace_core.proofs.RelatedPlaces.{slice_there, ins_listed, takes_named}
 use Rattle.trace_core.proofs.SendingSteps.{no_events}
@@ -55,6 +57,7 @@ outs_named : (b : Body) (i : List ℕ) → Contains (outs_in b) i → lists (ite
 outs_named (Note items) i h = absurd (contains_none i h)
 outs_named (Ship items sites outside) i h = absurd (contains_none i h)
 outs_named (Make id ins outs) i h = (lists_decides (ins ++ outs) i).1 (Contains-append_right ins outs i h)
+outs_named (Pack action parent children) i h = absurd (contains_none i h)
 
 -- the outputs of an event are numbered
 pub outs_numbered : (events : List Content) (k : ℕ) (e : Content) → slice_get events k ≡ Some e → (i : List ℕ) → Contains (outs_in e.body) i → lists (numbered events) i ≡ true
@@ -167,8 +170,10 @@ module _ (old new : List Named) (events : List Content) (e : Content) (b : Body)
   names_gone = names_back events taken.left new known gone_more.0 gone_more.1 taken.taken (sym before)
 
 -- before any event
-pub nothing_there : (index : Index) → index.items ≡ [] → index.members.items ≡ [] → index.ids.entries ≡ [] → index.parts.entries ≡ [] → index.sent ≡ [] → index.counts.items ≡ [] → HasPlaces index []
-nothing_there index items members ids parts sent counts = record {
+pub nothing_there : (index : Index) → index.items ≡ [] → index.members.items ≡ [] → index.ids.entries ≡ [] → index.parts.entries ≡ [] → index.sent ≡ [] → index.counts.items ≡ []
+    → ((n : ℕ) → children_in index.packed n ≡ []) → HasPlaces index []
+nothing_there index items members ids parts sent counts packed = record {
+  packed = none_packed (children_in index.packed) packed;
   sent = no_events index.sent index.counts.items sent counts;
   items = record {
     places = λ i. ap (λ (xs : List Named). item_places xs i) items;

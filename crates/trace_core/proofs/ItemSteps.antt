@@ -1,11 +1,12 @@
 -- The items of an event are noted and taken back, one after another.
-use Rattle.std.proofs.Common.{◌≡◌, ◌<◌, ◌≤◌, ◌+◌, ℕ, true, ◌||◌, List, [], ◌∷◌, ◌++◌, length, take, get_or, Some, unwrap_or, refl, sym, ap, subst, ◌∙◌, append-nil, append_assoc}
+use Rattle.std.proofs.Common.{◌≡◌, ◌<◌, ◌≤◌, ◌+◌, ℕ, true, ◌||◌, List, [], ◌∷◌, ◌++◌, length, take, get_or, Option, Some, unwrap_or, refl, sym, ap, subst, ◌∙◌, append-nil, append_assoc}
 use Rattle.std.specs.List.{Contains}
 use Rattle.std.proofs.lemmas.List.{take_all, take_more, map-append}
 use Rattle.trace_core.specs.Indexes.{KnowsItems, KnowsSomeItems, NotesItems, NotesSomeItems, ForgetsPlace, ForgetsItems, KeepsItems}
 use Rattle.trace_core.specs.Numbers.{Named, with_names, names_of, number_in, numbers_of, item_places, changed, known_too, noted}
 use Rattle.trace_core.specs.Places.{with_last, without_last, or_none}
 use Rattle.trace_core.specs.PairTests.{lists, same_item}
+use Rattle.trace_core.specs.Spreads.{parents}
 use Rattle.trace_core.proofs.Booleans.{or_true}
 use Rattle.trace_core.proofs.NumberLists.{with_one, with_more, with_names-append, lists_with, numbers_stay}
 use Rattle.trace_core.proofs.NamedLists.{known_found, known_names, noted_found, noted_names, forgotten_found, changed_names}
@@ -130,3 +131,27 @@ taken_again first second third place before ins one two is = record {
   names = two.forgotten.names ∙ one.names;
   taken = two.taken ∙ ap (λ n. take n two.left) is;
 }
+
+-- ---- a parent and its children
+
+pub knows_parent : (old new : List Named) (parent : Option (List ℕ)) (p : List ℕ) → parent ≡ Some p → new ≡ known_too p old → KnowsItems old new (parents parent)
+knows_parent old new parent p is known = subst (λ o. KnowsItems old new (parents o)) (sym is) (record {
+  same = λ i. ap (λ (ys : List Named). item_places ys i) known ∙ known_found p old i;
+  names = ap names_of known ∙ known_names p old;
+})
+
+module _ (first second third : List Named) (xs : List (List ℕ)) (one : KnowsItems first second xs) where
+  pub knows_both : (ys : List (List ℕ)) → KnowsItems second third ys → KnowsItems first third (xs ++ ys)
+  knows_both ys two = record {
+    same = λ i. two.same i ∙ one.same i;
+    names = two.names ∙ ap (λ ns. with_names ns ys) one.names ∙ sym (with_names-append xs (names_of first) ys);
+  }
+
+  pub knows_some_then : KnowsSomeItems second third → KnowsSomeItems first third
+  knows_some_then two =
+      let (more, is) = with_more xs (names_of first) in
+      record {
+        same = λ i. two.same i ∙ one.same i;
+        more = more ++ two.more;
+        names = two.names ∙ ap (λ ns. ns ++ two.more) (one.names ∙ is) ∙ append_assoc (names_of first) more two.more;
+      }

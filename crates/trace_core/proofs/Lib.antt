@@ -4,7 +4,9 @@ pub mod AddingSteps
 pub mod BatchOrder
 pub mod BeyondSteps
 pub mod Booleans
+pub mod Carrying
 pub mod ChainLaws
+pub mod Following
 pub mod FoundSteps
 pub mod GainSteps
 pub mod Gathered
@@ -13,6 +15,7 @@ pub mod GroupOrder
 pub mod GroupSteps
 pub mod Growing
 pub mod HasTargets
+pub mod HeldItems
 pub mod IndexSteps
 pub mod ItemSteps
 pub mod KeptMembers
@@ -21,10 +24,11 @@ pub mod LookSteps
 pub mod MarkSteps
 pub mod Members
 pub mod NamedLists
-pub mod NewSites
+pub mod NewTargets
 pub mod NodeOrder
 pub mod NodeSteps
 pub mod NumberLists
+pub mod PackedSteps
 pub mod PairLaws
 pub mod PairOrder
 pub mod PairSources

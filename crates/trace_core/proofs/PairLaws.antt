@@ -6,17 +6,47 @@ use Rattle.std.proofs.lemmas.Bool.{cases_order}
 use Rattle.std.proofs.lemmas.List.{get_or_default}
 use Rattle.std.proofs.lemmas.List.Elements.{Contains-push_cases}
 use Rattle.event_json.specs.Events.{Content}
+use Rattle.event_json.specs.declared.bodies.Action.{Action}
+use Rattle.event_json.specs.declared.bodies.Action.TheVariants.{Add, Observe, Delete}
 use Rattle.event_json.specs.declared.bodies.Body.{Body}
-use Rattle.event_json.specs.declared.bodies.Body.TheVariants.{Note, Ship, Make}
+use Rattle.event_json.specs.declared.bodies.Body.TheVariants.{Note, Ship, Make, Pack}
 use Rattle.trace_core.specs.declared.pairs.Pair.{Pair}
-use Rattle.trace_core.specs.Laws.{ShipRelates, MakeRelates, JoinedMakesRelate, AddsNothing, OthersAddNothing, HaveOwnNumbers, RelatedPairsAreOfTheirSite}
-use Rattle.trace_core.specs.Pairs.{Ships, TakesIn, GivesOut, make_id, AreOneMake, IsRelated}
+use Rattle.trace_core.specs.Laws.{ShipRelates, PackNames, PackRelates, PackedFollow, MakeRelates, JoinedMakesRelate, AddsNothing, OthersAddNothing, HaveOwnNumbers, RelatedPairsAreOfTheirSite}
+use Rattle.trace_core.specs.Pairs.{Ships, Packs, TakesIn, GivesOut, make_id, AreOneMake, IsRelated}
 use Rattle.trace_core.specs.Sites.{SiteEvents}
-use Rattle.trace_core.proofs.Members.{contains_none}
+use Rattle.trace_core.specs.Spreads.{items_of}
+use Rattle.trace_core.proofs.Carrying.{PutsNothing, earlier, carried_before, sent_on, sent_itself, same_parent, no_parent, observes, deletes}
+use Rattle.trace_core.proofs.Members.{contains_here, contains_there, contains_cases, contains_none}
 
 pub ship_relates : ShipRelates
 ship_relates s e items sites outside item to (k, lt, at) is listed goes other =
-    inl (other, refl, (k, e, lt, at, subst (λ b. Ships item to b) (sym is) (listed, goes)))
+    inl (other, refl, sent_itself s.events item to (k, e, lt, at, subst (Ships item to) (sym is) (listed, goes)))
+
+pub pack_names : PackNames
+pack_names e action parent children item is =
+    (λ h. named parent (subst (λ b. Contains (items_of b) item) is h), λ h. subst (λ b. Contains (items_of b) item) (sym is) (names parent h))
+  where
+    named : (o : Option (List ℕ)) → Contains (items_of (Pack action o children)) item → (o ≡ Some item) ⊎ Contains children item
+    named None h = inr h
+    named (Some p) h = ⊎_elim (λ same. inl (ap Some same)) (λ child. inr child) (contains_cases p item children h)
+
+    names : (o : Option (List ℕ)) → (o ≡ Some item) ⊎ Contains children item → Contains (items_of (Pack action o children)) item
+    names None h = ⊎_elim (λ is. absurd (no_parent item is)) (λ child. child) h
+    names (Some p) h = ⊎_elim
+        (λ is. subst (Contains (p ∷ children)) (same_parent p item is) (contains_here p children))
+        (λ child. contains_there p item children child)
+        h
+
+pub pack_relates : PackRelates
+pack_relates s e f items sites outside parent child children to (k, lt, at) (l, lt', at') is is' listed put goes other =
+    let sent = sent_itself s.events parent to (k, e, lt, at, subst (Ships parent to) (sym is) (listed, goes)) in
+    inl (other, refl, sent_on s.events parent child to sent (l, f, lt', at', subst (Packs parent child) (sym is') (refl, refl, put)))
+
+pub packed_follow : PackedFollow
+packed_follow s e parent child children to (k, lt, at) is put other related = ⊎_elim
+    (λ (elsewhere, same, sent). inl (other, refl, sent_on s.events parent child to sent (k, e, lt, at, subst (Packs parent child) (sym is) (refl, refl, put))))
+    (λ (here, made). absurd (other here))
+    related
 
 pub make_relates : MakeRelates
 make_relates s e id ins outs i j (k, lt, at) is takes gives =
@@ -38,9 +68,10 @@ joined_makes_relate s e f id ins outs ins' outs' i j (k, lt, at) (l, lt', at') i
       ),
     )
 
--- a body that ships nothing elsewhere, and takes in nothing or gives out nothing
+-- a body that ships nothing elsewhere, puts nothing into anything, and takes in nothing or gives out nothing
 pub record IsIdle (me : ℕ) (body : Body) : Type 0 where
   pub ships : (item : List ℕ) (site : ℕ) → Ships item site body → site ≡ me
+  pub packs : PutsNothing body
   pub id : make_id body ≡ None
   pub makes : (i j : List ℕ) → TakesIn i body → GivesOut j body → ⊥
 
@@ -48,23 +79,19 @@ no_id : (id : Option (List ℕ)) (a : List ℕ) → id ≡ None → id ≡ Some 
 no_id id a h k = cc
 
 module _ (me : ℕ) (events : List Content) (e : Content) (idle : IsIdle me e.body) where
-  -- one of the events but the last
-  earlier : (P : Content → Type 0) → Any P (events ++ e ∷ []) → Any P events ⊎ P e
-  earlier P (k, f, lt, at, h) = ⊎_elim
-      (λ (l, lt', at'). inl (l, f, lt', at', h))
-      (λ last. inr (subst P (sym last) h))
-      (Contains-push_cases events e f (k, lt, at))
-
   pub idle_adds_nothing : (item : List ℕ) (q : Pair) → IsRelated (record { me = me; events = events ++ e ∷ [] }) item q → IsRelated (record { me = me; events = events }) item q
   idle_adds_nothing item q h = ⊎_elim
-      (λ (other, same, any). ⊎_elim (λ before. inl (other, same, before)) (λ ships. absurd (other (idle.ships item q.site ships))) (earlier (λ e. Ships item q.site e.body) any))
+      (λ (other, same, (carrier, any, carried)). ⊎_elim
+      (λ before. inl (other, same, (carrier, before, carried_before events e idle.packs carrier item carried)))
+      (λ ships. absurd (other (idle.ships carrier q.site ships)))
+      (earlier events e (λ f. Ships carrier q.site f.body) any))
       (λ (here, (k, f, lt, at, (takes, gives))). ⊎_elim
       (λ given. ⊎_elim
       (λ (l, lt', at'). inr (here, (l, f, lt', at', (takes, given))))
       (λ last. absurd (alone f (sym last) takes given))
       (Contains-push_cases events e f (k, lt, at)))
       (λ (one, out). absurd (last_gives f takes one out))
-      (earlier (λ g. AreOneMake f g × GivesOut q.item g.body) gives))
+      (earlier events e (λ g. AreOneMake f g × GivesOut q.item g.body) gives))
       h
     where
       -- the last event takes the item in: then it is of one make with itself alone
@@ -87,13 +114,20 @@ only_member : (x y : ℕ) → Contains (x ∷ []) y → y ≡ x
 only_member x y (zero, lt, at) = sym at
 only_member x y (suc k, lt, at) = absurd (omega (arith, lt))
 
+moves_nothing : (me : ℕ) (action : Action) (parent : Option (List ℕ)) (children : List (List ℕ)) → PutsNothing (Pack action parent children)
+    → IsIdle me (Pack action parent children)
+moves_nothing me action parent children none = record { ships = λ item site h. absurd h; packs = none; id = refl; makes = λ i j takes gives. takes }
+
 pub others_add_nothing : OthersAddNothing
 others_add_nothing = (
-  λ me items. adds_nothing me (Note items) (record { ships = λ item site h. absurd h; id = refl; makes = λ i j takes gives. takes }),
-  λ me items outside. adds_nothing me (Ship items (me ∷ []) outside) (record { ships = λ item site h. only_member me site h.1; id = refl; makes = λ i j takes gives. takes }),
-  λ me items outside. adds_nothing me (Ship items [] outside) (record { ships = λ item site h. absurd (contains_none site h.1); id = refl; makes = λ i j takes gives. takes }),
-  λ me ins. adds_nothing me (Make None ins []) (record { ships = λ item site h. absurd h; id = refl; makes = λ i j takes gives. contains_none j gives }),
-  λ me outs. adds_nothing me (Make None [] outs) (record { ships = λ item site h. absurd h; id = refl; makes = λ i j takes gives. contains_none i takes }),
+  λ me items. adds_nothing me (Note items) (record { ships = λ item site h. absurd h; packs = λ x y h. h; id = refl; makes = λ i j takes gives. takes }),
+  λ me items outside. adds_nothing me (Ship items (me ∷ []) outside) (record { ships = λ item site h. only_member me site h.1; packs = λ x y h. h; id = refl; makes = λ i j takes gives. takes }),
+  λ me items outside. adds_nothing me (Ship items [] outside) (record { ships = λ item site h. absurd (contains_none site h.1); packs = λ x y h. h; id = refl; makes = λ i j takes gives. takes }),
+  λ me ins. adds_nothing me (Make None ins []) (record { ships = λ item site h. absurd h; packs = λ x y h. h; id = refl; makes = λ i j takes gives. contains_none j gives }),
+  λ me outs. adds_nothing me (Make None [] outs) (record { ships = λ item site h. absurd h; packs = λ x y h. h; id = refl; makes = λ i j takes gives. contains_none i takes }),
+  λ me parent children. adds_nothing me (Pack Observe parent children) (moves_nothing me Observe parent children (λ x y h. observes h.0)),
+  λ me parent children. adds_nothing me (Pack Delete parent children) (moves_nothing me Delete parent children (λ x y h. deletes h.0)),
+  λ me parent. adds_nothing me (Pack Add parent []) (moves_nothing me Add parent [] (λ x y h. contains_none y h.2)),
 )
 
 -- members of one number are one member

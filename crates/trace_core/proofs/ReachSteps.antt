@@ -12,7 +12,6 @@ use Rattle.trace_core.specs.declared.groups.Group.{Group}
 use Rattle.trace_core.specs.declared.nodes.Node.{Node}
 use Rattle.trace_core.specs.declared.pairs.Pair.{Pair}
 use Rattle.trace_core.specs.Chains.{Related, RelatesFrom}
-use Rattle.trace_core.specs.Gathering.{related_by}
 use Rattle.trace_core.specs.Groups.{IsGiven, IsGivenBy, SeesOnly, IsSought}
 use Rattle.trace_core.specs.Nodes.{Stands, Had, Gains, ReachedFromNodes}
 use Rattle.trace_core.specs.Numbers.{number_in, numbered}
@@ -21,13 +20,13 @@ use Rattle.trace_core.specs.Places.{names_item}
 use Rattle.trace_core.specs.Relations.{Reaches}
 use Rattle.trace_core.specs.Searches.{AreUnseen}
 use Rattle.trace_core.specs.Sites.{SiteEvents}
+use Rattle.trace_core.specs.Spreads.{items_of}
 use Rattle.trace_core.proofs.ChainLaws.{reaches_itself, reaches_step, reached_holds}
-use Rattle.trace_core.proofs.GatheringSteps.{is_related-by_events}
 use Rattle.trace_core.proofs.GroupSteps.{adds_same}
-use Rattle.trace_core.proofs.Members.{contains_none, contains_cases, list_any_witness, list_any_member}
+use Rattle.trace_core.proofs.Members.{contains_none, contains_cases, list_any_member}
 use Rattle.trace_core.proofs.NodeSteps.{more_nodes, gains_none, gains_retold}
 use Rattle.trace_core.proofs.NumberLists.{some_is, none_is, number_stands, unnumbered, numbered_named, numbered_apart}
-use Rattle.trace_core.proofs.PairTestsDecide.{related_decides}
+use Rattle.trace_core.proofs.PairTestsDecide.{lists_decides}
 use Rattle.trace_core.proofs.RelatedPlaces.{related_named}
 use Rattle.trace_core.proofs.SetMembers.{contains_pushed}
 use Rattle.trace_core.proofs.Visiting.{BySites, one_site, all_sites_added, none_given_by}
@@ -35,8 +34,8 @@ use Rattle.trace_core.proofs.Visiting.{BySites, one_site, all_sites_added, none_
 -- an item that no event names is related to nothing
 pub unrelated : (s : SiteEvents) (i : List ℕ) → number_in (numbered s.events) i ≡ None → (q : Pair) → IsRelated s i q → ⊥
 unrelated s i unknown q h =
-    let (e, there, by) = list_any_witness (λ e. related_by s.me s.events i e.body q) s.events (sym (is_related-by_events s i q) ∙ (related_decides s i q).1 h) in
-    false≢true (sym (unnumbered (numbered s.events) i unknown) ∙ numbered_named s.events i ∙ list_any_member (names_item i) s.events e there (related_named s.me s.events i e.body q by))
+    let (k, e, lt, at, named) = related_named s i q h in
+    false≢true (sym (unnumbered (numbered s.events) i unknown) ∙ numbered_named s.events i ∙ list_any_member (names_item i) s.events e (k, lt, at) ((lists_decides (items_of e.body) i).1 named))
 
 module _ (sites : List SiteEvents) where
   -- a node stands for one pair

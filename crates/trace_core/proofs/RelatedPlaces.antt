@@ -1,48 +1,52 @@
 -- Events that relate an item name it, and the places of ids lead to what is joined.
-use Rattle.std.proofs.Common.{◌≡◌, ◌==◌, not, ◌&&◌, ◌<◌, ◌≤◌, ℕ, Bool, true, false, ◌||◌, List, take, length, get_or, slice_get, ◌↔◌, Option, Some, None, refl, sym, ap, subst, ◌∙◌, ⊎_elim}
+use Rattle.std.proofs.Common.{◌≡◌, ◌&&◌, ◌<◌, ◌≤◌, ℕ, Bool, true, false, ◌||◌, List, take, length, get_or, slice_get, ◌↔◌, Option, Some, None, refl, sym, ap, subst, ◌∙◌, ⊎_elim}
 use mathlib.Core.Bool.{false≢true}
-use Rattle.std.specs.List.{list_any, Contains}
-use Rattle.std.proofs.lemmas.Bool.{or_cases, and_parts}
+use Rattle.std.specs.List.{list_any, Any, Contains}
 use Rattle.std.proofs.lemmas.Bool.Decides.{same_from_decides}
 use Rattle.std.proofs.lemmas.List.{take_all}
+use Rattle.std.proofs.lemmas.List.Elements.{Contains-append_left}
 use Rattle.std.proofs.lemmas.List.Folds.{list_any-append}
 use Rattle.std.proofs.lemmas.Option.{slice_get-get_or, slice_get_cases, get_or_from_slice_get}
 use Rattle.event_json.specs.Events.{Content}
 use Rattle.event_json.specs.declared.bodies.Body.{Body}
-use Rattle.event_json.specs.declared.bodies.Body.TheVariants.{Note, Ship, Make}
+use Rattle.event_json.specs.declared.bodies.Body.TheVariants.{Note, Ship, Make, Pack}
 use Rattle.trace_core.specs.declared.pairs.Pair.{Pair}
-use Rattle.trace_core.specs.Gathering.{shipped_by, made_by, joined_by, joins, related_by}
-use Rattle.trace_core.specs.PairTests.{lists, same_id, same_item, ships, takes_in, gives_out}
-use Rattle.trace_core.specs.Pairs.{make_id, HaveOneId}
+use Rattle.trace_core.specs.Gathering.{joined_by, joins}
+use Rattle.trace_core.specs.PairTests.{lists, same_id, same_item, takes_in, gives_out}
+use Rattle.trace_core.specs.Pairs.{TakesIn, make_id, HaveOneId, IsRelated}
 use Rattle.trace_core.specs.Places.{places_where, at_place, IsPartAt}
+use Rattle.trace_core.specs.Sites.{SiteEvents}
 use Rattle.trace_core.specs.Spreads.{items_of, ins_in}
+use Rattle.trace_core.proofs.Carrying.{sent_named}
 use Rattle.trace_core.proofs.PlaceLists.{place_there, place_passes, any_at_places}
 use Rattle.trace_core.proofs.Booleans.{list_any-same}
 use Rattle.trace_core.proofs.PairTestsDecide.{same_id_decides}
-
-ships_named : (item : List ℕ) (site : ℕ) (b : Body) → ships item site b ≡ true → lists (items_of b) item ≡ true
-ships_named item site (Note items) h = absurd (false≢true h)
-ships_named item site (Ship items sites outside) h = (and_parts (lists items item) (list_any (λ s. s == site) sites) h).0
-ships_named item site (Make id ins outs) h = absurd (false≢true h)
 
 -- the inputs of a transformation, and the test of one
 pub ins_listed : (i : List ℕ) (b : Body) → lists (ins_in b) i ≡ takes_in i b
 ins_listed i (Note items) = refl
 ins_listed i (Ship items sites outside) = refl
 ins_listed i (Make id ins outs) = refl
+ins_listed i (Pack action parent children) = refl
 
 pub takes_named : (item : List ℕ) (b : Body) → takes_in item b ≡ true → lists (items_of b) item ≡ true
 takes_named item (Note items) h = absurd (false≢true h)
 takes_named item (Ship items sites outside) h = absurd (false≢true h)
+takes_named item (Pack action parent children) h = absurd (false≢true h)
 takes_named item (Make id ins outs) h = list_any-append (λ i. same_item i item) ins outs ∙ ap (λ b. b || lists outs item) h
 
-pub related_named : (me : ℕ) (events : List Content) (item : List ℕ) (b : Body) (p : Pair) → related_by me events item b p ≡ true → lists (items_of b) item ≡ true
-related_named me events item b p h = ⊎_elim
-    (λ ship. let shipped = (and_parts (not (p.site == me)) (ships item p.site b && same_item item p.item) ship).1 in
-    ships_named item p.site b (and_parts (ships item p.site b) (same_item item p.item) shipped).0)
-    (λ make. let made = (and_parts (p.site == me) (takes_in item b && (gives_out p.item b || joined_by events b p.item)) make).1 in
-    takes_named item b (and_parts (takes_in item b) (gives_out p.item b || joined_by events b p.item) made).0)
-    (or_cases (shipped_by me item b p) (made_by me events item b p) h)
+input_named : (item : List ℕ) (b : Body) → TakesIn item b → Contains (items_of b) item
+input_named item (Note items) h = absurd h
+input_named item (Ship items sites outside) h = absurd h
+input_named item (Make id ins outs) h = Contains-append_left ins outs item h
+input_named item (Pack action parent children) h = absurd h
+
+-- an event names what is related to anything
+pub related_named : (s : SiteEvents) (item : List ℕ) (q : Pair) → IsRelated s item q → Any (λ e. Contains (items_of e.body) item) s.events
+related_named s item q h = ⊎_elim
+    (λ (other, same, sent). sent_named s.events item q.site sent)
+    (λ (own, (k, e, lt, at, (takes, gives))). (k, e, lt, at, input_named item e.body takes))
+    h
 
 absent : {X : Type 0} (o : Option X) (x : X) → o ≡ None → o ≡ Some x → ⊥
 absent o x none some = cc

@@ -1,14 +1,15 @@
 -- Sets of sites as masks: a bit that is looked at, set and cleared, and the sites in their order.
-use Rattle.std.proofs.Common.{◌≡◌, ◌==◌, ◌&&◌, ◌||◌, ◌<◌, ◌+◌, ◌*◌, ◌/◌, ◌%◌, ◌^◌, ◌-◌, ◌↔◌, ℕ, zero, suc, Bool, true, false, not, cond, nat_eq, nat_lt, bit_and, bit_or, [], ◌∷◌, ◌++◌, refl, sym, ap, ◌∙◌, subst, ⊎_elim, arith, append-nil}
+use Rattle.std.proofs.Common.{◌≡◌, ◌==◌, ◌&&◌, ◌||◌, ◌<◌, ◌+◌, ◌*◌, ◌/◌, ◌%◌, ◌^◌, ◌-◌, ◌↔◌, ℕ, zero, suc, Bool, true, false, not, cond, nat_eq, nat_lt, bit_and, bit_or, List, [], ◌∷◌, ◌++◌, take, length, get_or, refl, sym, ap, ◌∙◌, subst, inl, inr, ⊎_elim, arith, append-nil}
 use mathlib.Core.Bool.{false≢true}
 use Rattle.std.specs.Int.{bit_at, w16}
 use Rattle.std.specs.List.{Contains}
-use Rattle.std.proofs.lemmas.Bool.{cases_Bool, cases_eq, cases_lt, and_parts, eq-eqb, ne_eqb, ltb-true, lt-ltb}
+use Rattle.std.proofs.lemmas.Bool.{cases_Bool, cases_eq, cases_lt, and_parts, or_cases, eqb-true, eq-eqb, ne_eqb, ltb-true, lt-ltb}
 use Rattle.std.proofs.lemmas.List.Elements.{Contains-append_left, Contains-append_right, Contains-append_cases}
 use Rattle.std.proofs.lemmas.Nat.Bits.{bit_at-zero, shr_and_one, bit_at_set_same, bit_at_set_other, bit_at_clear_same, bit_at_clear_other}
 use Rattle.trace_core.specs.SiteSets.{has_site, sites_below, sites_in}
-use Rattle.trace_core.proofs.Booleans.{and_false}
+use Rattle.trace_core.proofs.Booleans.{and_false, or_true}
 use Rattle.trace_core.proofs.Members.{contains_here, contains_none, contains_cases}
+use Rattle.trace_core.proofs.SetMembers.{contains_more}
 
 -- nothing is in the set of no site
 pub none_has : (t : ℕ) → has_site 0 t ≡ false
@@ -113,3 +114,22 @@ small_site mask t has = ltb-true t 16 (and_parts (nat_lt t 16) (bit_at mask t ==
 -- they are just those that are in it
 pub in_set : (mask t : ℕ) → Contains (sites_in mask) t ↔ has_site mask t ≡ true
 in_set mask t = (λ h. below_has 16 mask t h, λ has. below_there 16 mask t (small_site mask t has) has)
+
+-- ---- a set that is filled from a list
+
+pub no_member : (set : ℕ) → ((t : ℕ) → has_site set t ≡ false) → (t : ℕ) → has_site set t ≡ true ↔ Contains [] t
+no_member set none t = (λ h. absurd (false≢true (sym (none t) ∙ h)), λ there. absurd (contains_none t there))
+
+pub one_member : (set set' : ℕ) (sites : List ℕ) (n site : ℕ) → n < length sites → site ≡ get_or sites n site → ((t : ℕ) → has_site set' t ≡ ((site == t) || has_site set t))
+    → ((t : ℕ) → has_site set t ≡ true ↔ Contains (take n sites) t) → (t : ℕ) → has_site set' t ≡ true ↔ Contains (take (n + 1) sites) t
+one_member set set' sites n site below at added so_far t =
+    let more = contains_more sites n site below at t in (
+      λ h. more.1 (⊎_elim
+          (λ now. inr (eqb-true site t now))
+          (λ before. inl ((so_far t).0 before))
+          (or_cases (site == t) (has_site set t) (sym (added t) ∙ h))),
+      λ h. added t ∙ ⊎_elim
+          (λ before. ap (λ b. (site == t) || b) ((so_far t).1 before) ∙ or_true (site == t))
+          (λ now. ap (λ b. b || has_site set t) (eq-eqb site t now))
+          (more.0 h),
+    )

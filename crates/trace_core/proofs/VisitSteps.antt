@@ -8,7 +8,7 @@ use Rattle.std.proofs.lemmas.Option.{slice_get-get_or}
 use Rattle.std.proofs.lemmas.Slice.Eq.{bytes_eq-Decides}
 use Rattle.event_json.specs.Events.{Content}
 use Rattle.event_json.specs.declared.bodies.Body.{Body}
-use Rattle.event_json.specs.declared.bodies.Body.TheVariants.{Note, Ship, Make}
+use Rattle.event_json.specs.declared.bodies.Body.TheVariants.{Note, Ship, Make, Pack}
 use Rattle.trace_core.specs.declared.nodes.Node.{Node}
 use Rattle.trace_core.specs.declared.pairs.Pair.{Pair}
 use Rattle.trace_core.specs.Gathering.{sent_to}
@@ -32,6 +32,7 @@ use Rattle.trace_core.proofs.SetMembers.{contains-from_map, contains-from_flat_m
 
 given_out : (b : Body) (j : List ℕ) → gives_out j b ≡ lists (outs_in b) j
 given_out (Note items) j = refl
+given_out (Pack action parent children) j = refl
 given_out (Ship items sites outside) j = refl
 given_out (Make id ins outs) j = refl
 
@@ -150,6 +151,7 @@ module _ (sites : List SiteEvents) (s : SiteEvents) (site : ℕ) (at_site : slic
 
 counted : (b : Body) → length (outs_in b) ≡ output_count b
 counted (Note items) = refl
+counted (Pack action parent children) = refl
 counted (Ship items sites outside) = refl
 counted (Make id ins outs) = refl
 

@@ -6,7 +6,7 @@ use Rattle.event_json.specs.Events.{Content}
 use Rattle.event_json.specs.declared.bodies.Body.{Body}
 use Rattle.trace_core.specs.declared.pairs.Pair.{Pair}
 use Rattle.trace_core.specs.Pairs.{pair_cmp, make_id}
-use Rattle.trace_core.specs.PairTests.{same_item, ships, takes_in, gives_out, same_id}
+use Rattle.trace_core.specs.PairTests.{same_item, takes_in, gives_out, same_id}
 
 abbrev pub is_in : BTreeSet Pair → Pair → Bool
 is_in pairs p = contains pair_cmp pairs p
@@ -15,10 +15,6 @@ is_in pairs p = contains pair_cmp pairs p
 abbrev pub sent_to : ℕ → List ℕ → List ℕ → Pair → Bool
 sent_to me item sites p = not (p.site == me) && (list_any (λ s. s == p.site) sites && same_item item p.item)
 
--- shipped by this event
-abbrev pub shipped_by : ℕ → List ℕ → Body → Pair → Bool
-shipped_by me item body p = not (p.site == me) && (ships item p.site body && same_item item p.item)
-
 -- an output of a transformation that has this one's id
 abbrev pub joined_by : List Content → Body → List ℕ → Bool
 joined_by events body j = list_any (λ f. same_id (make_id body) (make_id f.body) && gives_out j f.body) events
@@ -26,9 +22,6 @@ joined_by events body j = list_any (λ f. same_id (make_id body) (make_id f.body
 -- made by this event, or by one that is joined to it
 abbrev pub made_by : ℕ → List Content → List ℕ → Body → Pair → Bool
 made_by me events item body p = p.site == me && (takes_in item body && (gives_out p.item body || joined_by events body p.item))
-
-abbrev pub related_by : ℕ → List Content → List ℕ → Body → Pair → Bool
-related_by me events item body p = shipped_by me item body p || made_by me events item body p
 
 -- one of the events takes the item into a transformation that has this one's id
 abbrev pub joins : List Content → List ℕ → Body → Bool

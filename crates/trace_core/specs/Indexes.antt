@@ -8,6 +8,7 @@ use Rattle.trace_core.specs.declared.indexes.Index.{Index}
 use Rattle.trace_core.specs.declared.event_items.Members.{Members}
 use Rattle.trace_core.specs.Numbers.{Named, numbered, with_names, names_of, item_places, HasMembers}
 use Rattle.trace_core.specs.PairTests.{lists}
+use Rattle.trace_core.specs.PutIn.{children_in, HasPacked}
 use Rattle.trace_core.specs.Sendings.{HasSent}
 use Rattle.trace_core.specs.Places.{text_places, takes_item, has_id, has_part, IsIndex, Notes, NotesSome, Forgets, KeepsNone}
 
@@ -27,6 +28,7 @@ pub record HasPlaces (index : Index) (events : List Content) : Type 0 where
   pub items : HasItems index.items index.members.items events
   pub ids : HasIds index.ids index.parts events
   pub sent : HasSent events index.sent index.counts.items
+  pub packed : HasPacked (children_in index.packed) events
 
 -- what takes items in stays
 abbrev pub SamePlaces : List Named → List Named → Type 0

@@ -1,9 +1,11 @@
 -- Laws of related pairs, of reach and of adding events.
-use Rattle.std.specs.Prelude.{◌≡◌, ◌≢◌, ℕ, ◌+◌, ◌<◌, ◌↔◌, Bool, true, IsTrue, List, [], ◌∷◌, ◌++◌, length, Option, Some, None, Ok, Err, Any, AllPairs, Contains, ◌⊎◌}
+use Rattle.std.specs.Prelude.{◌≡◌, ◌≢◌, ℕ, ◌+◌, ◌<◌, ◌↔◌, Bool, true, IsTrue, List, [], ◌∷◌, ◌++◌, length, Option, Some, None, Ok, Err, ⊤, Any, AllPairs, Contains, ◌⊎◌}
 use Rattle.std.specs.List.{AllZip}
 use Rattle.event_json.specs.Events.{Content}
 use Rattle.event_json.specs.declared.bodies.Body.{Body}
-use Rattle.event_json.specs.declared.bodies.Body.TheVariants.{Note, Ship, Make}
+use Rattle.event_json.specs.declared.bodies.Body.TheVariants.{Note, Ship, Make, Pack}
+use Rattle.event_json.specs.declared.bodies.Action.{Action}
+use Rattle.event_json.specs.declared.bodies.Action.TheVariants.{Add, Observe, Delete}
 use Rattle.trace_core.specs.declared.adding.Standing.{Standing}
 use Rattle.trace_core.specs.declared.adding.Standing.TheVariants.{Fresh, Known, Taken}
 use Rattle.trace_core.specs.declared.pairs.Pair.{Pair}
@@ -11,8 +13,9 @@ use Rattle.trace_core.specs.Adding.{Addition, adding, standing_among}
 use Rattle.trace_core.specs.Chains.{Related}
 use Rattle.trace_core.specs.PairTests.{is_related}
 use Rattle.trace_core.specs.Pairs.{IsStrictlyAscending, HaveOneId, IsRelated}
-use Rattle.trace_core.specs.Relations.{Reaches, Chain}
+use Rattle.trace_core.specs.Relations.{Reaches, Chain, last_of}
 use Rattle.trace_core.specs.Sites.{SiteEvents}
+use Rattle.trace_core.specs.Spreads.{items_of}
 
 -- the same site with further events
 abbrev pub IsExtendedTo : SiteEvents → SiteEvents → Type 0
@@ -100,12 +103,34 @@ StandingIsRight = (events : List Content) (e : Content) → StandingSays events 
 abbrev pub StandingByMembers : Type 0
 StandingByMembers = (xs ys : List Content) → ((x : Content) → Contains xs x ↔ Contains ys x) → (e : Content) → standing_among xs e ≡ standing_among ys e
 
+-- an aggregation names its parent, where it has one, and its children, and no other item
+abbrev pub PackNames : Type 0
+PackNames =
+    (e : Content) (action : Action) (parent : Option (List ℕ)) (children : List (List ℕ)) (item : List ℕ)
+    → e.body ≡ Pack action parent children → Contains (items_of e.body) item ↔ ((parent ≡ Some item) ⊎ Contains children item)
+
 -- an item that was shipped to another site is related to itself there
 abbrev pub ShipRelates : Type 0
 ShipRelates =
     (s : SiteEvents) (e : Content) (items : List (List ℕ)) (sites : List ℕ) (outside : List (List ℕ)) (item : List ℕ) (to : ℕ)
     → Contains s.events e → e.body ≡ Ship items sites outside → Contains items item → Contains sites to → to ≢ s.me
     → IsRelated s item (record { site = to; item = item })
+
+-- what was put into an item that was shipped to another site is related to itself there
+abbrev pub PackRelates : Type 0
+PackRelates =
+    (s : SiteEvents) (e f : Content) (items : List (List ℕ)) (sites : List ℕ) (outside : List (List ℕ)) (parent child : List ℕ) (children : List (List ℕ)) (to : ℕ)
+    → Contains s.events e → Contains s.events f → e.body ≡ Ship items sites outside → f.body ≡ Pack Add (Some parent) children
+    → Contains items parent → Contains children child → Contains sites to → to ≢ s.me
+    → IsRelated s child (record { site = to; item = child })
+
+-- so is what was put into that, and so on: where a parent is related to itself at another site, its children are
+abbrev pub PackedFollow : Type 0
+PackedFollow =
+    (s : SiteEvents) (e : Content) (parent child : List ℕ) (children : List (List ℕ)) (to : ℕ)
+    → Contains s.events e → e.body ≡ Pack Add (Some parent) children → Contains children child → to ≢ s.me
+    → IsRelated s parent (record { site = to; item = parent })
+    → IsRelated s child (record { site = to; item = child })
 
 -- an input of a transformation is related to each output
 abbrev pub MakeRelates : Type 0
@@ -121,7 +146,21 @@ JoinedMakesRelate =
     → Contains s.events e → Contains s.events f → e.body ≡ Make (Some id) ins outs → f.body ≡ Make (Some id) ins' outs' → Contains ins i → Contains outs' j
     → IsRelated s i (record { site = s.me; item = j })
 
--- a shipment of the site's events lists the item and has the site of the pair among its destinations, another one; the item is the same
+-- an aggregation of the site's events put the child into the parent
+pub record IsPut (s : SiteEvents) (parent child : List ℕ) : Type 0 where
+  pub event : Content
+  pub children : List (List ℕ)
+  pub there : Contains s.events event
+  pub says : event.body ≡ Pack Add (Some parent) children
+  pub listed : Contains children child
+
+-- each of the items was put into the one before it, and the first into the carrier
+abbrev pub ArePutIn : SiteEvents → List ℕ → List (List ℕ) → Type 0
+ArePutIn s carrier [] = ⊤
+ArePutIn s carrier (next ∷ rest) = IsPut s carrier next × ArePutIn s next rest
+
+-- a shipment of the site's events lists the item, or what it lies in, and has the site of the pair among its destinations, another one; the
+-- item is the same
 pub record IsOfShipment (s : SiteEvents) (item : List ℕ) (q : Pair) : Type 0 where
   pub event : Content
   pub items : List (List ℕ)
@@ -129,7 +168,11 @@ pub record IsOfShipment (s : SiteEvents) (item : List ℕ) (q : Pair) : Type 0 w
   pub outside : List (List ℕ)
   pub there : Contains s.events event
   pub says : event.body ≡ Ship items sites outside
-  pub listed : Contains items item
+  pub carrier : List ℕ
+  pub listed : Contains items carrier
+  pub chain : List (List ℕ)
+  pub packed : ArePutIn s carrier chain
+  pub last : last_of carrier chain ≡ item
   pub goes : Contains sites q.site
   pub elsewhere : q.site ≢ s.me
   pub same : q.item ≡ item
@@ -163,7 +206,7 @@ pub record IsOfTwoMakes (s : SiteEvents) (item : List ℕ) (q : Pair) : Type 0 w
   pub given : Contains outs' q.item
   pub here : q.site ≡ s.me
 
--- there are no related pairs but these: with the three laws above it is exact
+-- there are no related pairs but these: with the five laws above that relate an item it is exact
 abbrev pub RelatedPairsComeFromEvents : Type 0
 RelatedPairsComeFromEvents = (s : SiteEvents) (item : List ℕ) (q : Pair) → IsRelated s item q → IsOfShipment s item q ⊎ (IsOfOneMake s item q ⊎ IsOfTwoMakes s item q)
 
@@ -173,7 +216,8 @@ AddsNothing me body =
     (events : List Content) (e : Content) → e.body ≡ body → (item : List ℕ) (q : Pair)
     → IsRelated (record { me = me; events = events ++ e ∷ [] }) item q → IsRelated (record { me = me; events = events }) item q
 
--- a note adds no pair; nor does a shipment to the own site or out of the traced ones, nor a transformation without an id and inputs or outputs
+-- a note adds no pair; nor does a shipment to the own site or out of the traced ones, nor a transformation without an id and inputs or outputs,
+-- nor an aggregation that observes or deletes, or one without children
 abbrev pub OthersAddNothing : Type 0
 OthersAddNothing =
     ((me : ℕ) (items : List (List ℕ)) → AddsNothing me (Note items))
@@ -181,6 +225,9 @@ OthersAddNothing =
     × ((me : ℕ) (items outside : List (List ℕ)) → AddsNothing me (Ship items [] outside))
     × ((me : ℕ) (ins : List (List ℕ)) → AddsNothing me (Make None ins []))
     × ((me : ℕ) (outs : List (List ℕ)) → AddsNothing me (Make None [] outs))
+    × ((me : ℕ) (parent : Option (List ℕ)) (children : List (List ℕ)) → AddsNothing me (Pack Observe parent children))
+    × ((me : ℕ) (parent : Option (List ℕ)) (children : List (List ℕ)) → AddsNothing me (Pack Delete parent children))
+    × ((me : ℕ) (parent : Option (List ℕ)) → AddsNothing me (Pack Add parent []))
 
 -- the tests of pairs decide the relation
 abbrev pub PairTestsAgree : Type 0

@@ -1,5 +1,6 @@
 pub mod Adding
 pub mod Beyond
+pub mod Carried
 pub mod Chains
 pub mod Found
 pub mod Gathering
@@ -14,6 +15,7 @@ pub mod PairTests
 pub mod Pairs
 pub mod Parts
 pub mod Places
+pub mod PutIn
 pub mod Relations
 pub mod Searches
 pub mod Sendings

@@ -1,9 +1,9 @@
 -- Items by number: each item that events name has a number, in the order in which they are first named.
-use Rattle.std.specs.Prelude.{◌≡◌, ℕ, zero, suc, cond, List, [], ◌∷◌, ◌++◌, Option, Some, None, map, length, take, slice_get, option_map, unwrap_or}
+use Rattle.std.specs.Prelude.{◌≡◌, ◌↔◌, ℕ, zero, suc, cond, List, [], ◌∷◌, ◌++◌, Option, Some, None, map, length, take, slice_get, option_map, unwrap_or, Contains}
 use Rattle.std.specs.List.{flat_map}
 use Rattle.event_json.specs.Events.{Content}
 use Rattle.event_json.specs.declared.bodies.Body.{Body}
-use Rattle.event_json.specs.declared.bodies.Body.TheVariants.{Note, Ship, Make}
+use Rattle.event_json.specs.declared.bodies.Body.TheVariants.{Note, Ship, Make, Pack}
 use Rattle.trace_core.specs.declared.event_items.Members.{Members}
 use Rattle.trace_core.specs.PairTests.{lists, same_item}
 use Rattle.trace_core.specs.Places.{kept, with_last}
@@ -66,16 +66,22 @@ abbrev pub outs_in : Body → List (List ℕ)
 outs_in (Note items) = []
 outs_in (Ship items sites outside) = []
 outs_in (Make id ins outs) = outs
+outs_in (Pack action parent children) = []
 
--- the items that an event ships or makes
+-- the items that an event ships, makes or puts into another, sees there or takes out
 abbrev pub moved_in : Body → List (List ℕ)
 moved_in (Note items) = []
 moved_in (Ship items sites outside) = items
 moved_in (Make id ins outs) = outs
+moved_in (Pack action parent children) = children
 
 -- the numbers of known items
 abbrev pub numbers_of : List (List ℕ) → List (List ℕ) → List ℕ
 numbers_of names items = map (λ i. unwrap_or (number_in names i) 0) items
+
+-- just the numbers of the known ones of the items
+abbrev pub AreNumbersOf : List (List ℕ) → List (List ℕ) → List ℕ → Type 0
+AreNumbersOf names items numbers = (n : ℕ) → Contains numbers n ↔ ((i : List ℕ) × Contains items i × (number_in names i ≡ Some n))
 
 -- the numbers of the outputs of the event at a place
 abbrev pub outs_at : List Content → Option Content → List ℕ

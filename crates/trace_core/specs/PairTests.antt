@@ -1,10 +1,11 @@
 -- The relation of pairs as tests that compute.
-use Rattle.std.specs.Prelude.{◌==◌, ℕ, Bool, false, not, ◌&&◌, ◌||◌, List, Option, Some, None, nat_eq}
-use Rattle.std.specs.List.{list_any}
+use Rattle.std.specs.Prelude.{◌==◌, ℕ, zero, suc, Bool, false, not, cond, ◌&&◌, ◌||◌, List, [], ◌++◌, length, Option, Some, None, nat_eq}
+use Rattle.std.specs.List.{list_any, flat_map}
 use Rattle.std.specs.Cmp.Lexicographic.{pointwise}
 use Rattle.event_json.specs.Events.{Content}
 use Rattle.event_json.specs.declared.bodies.Body.{Body}
-use Rattle.event_json.specs.declared.bodies.Body.TheVariants.{Note, Ship, Make}
+use Rattle.event_json.specs.declared.bodies.Body.TheVariants.{Note, Ship, Make, Pack}
+use Rattle.event_json.specs.declared.bodies.Action.TheVariants.{Add, Observe, Delete}
 use Rattle.trace_core.specs.declared.pairs.Pair.{Pair}
 use Rattle.trace_core.specs.Pairs.{make_id}
 use Rattle.trace_core.specs.Sites.{SiteEvents}
@@ -17,23 +18,51 @@ same_item = pointwise nat_eq
 abbrev pub lists : List (List ℕ) → List ℕ → Bool
 lists items item = list_any (λ i. same_item i item) items
 
--- a shipment of the item to the site
-abbrev pub ships : List ℕ → ℕ → Body → Bool
-ships item site (Note items) = false
-ships item site (Ship items sites outside) = lists items item && list_any (λ s. s == site) sites
-ships item site (Make id ins outs) = false
+-- the items that an event ships to the site
+abbrev pub shipped_at : ℕ → Body → List (List ℕ)
+shipped_at site (Note items) = []
+shipped_at site (Ship items sites outside) = cond (list_any (λ s. s == site) sites) items []
+shipped_at site (Make id ins outs) = []
+shipped_at site (Pack action parent children) = []
+
+-- the items that an event puts into another
+abbrev pub put_in : Body → List (List ℕ)
+put_in (Note items) = []
+put_in (Ship items sites outside) = []
+put_in (Make id ins outs) = []
+put_in (Pack Add None children) = []
+put_in (Pack Add (Some parent) children) = children
+put_in (Pack Observe parent children) = []
+put_in (Pack Delete parent children) = []
+
+-- those that it puts into one of these
+abbrev pub put_into : List (List ℕ) → Body → List (List ℕ)
+put_into items (Note noted) = []
+put_into items (Ship shipped sites outside) = []
+put_into items (Make id ins outs) = []
+put_into items (Pack Add None children) = []
+put_into items (Pack Add (Some parent) children) = cond (lists items parent) children []
+put_into items (Pack Observe parent children) = []
+put_into items (Pack Delete parent children) = []
+
+-- the items, with what lies in them, and in that, so many times
+abbrev pub carried_in : List Content → ℕ → List (List ℕ) → List (List ℕ)
+carried_in events zero items = items
+carried_in events (suc n) items = carried_in events n (items ++ flat_map (λ e. put_into items e.body) events)
 
 -- the item is an input of a transformation
 abbrev pub takes_in : List ℕ → Body → Bool
 takes_in item (Note items) = false
 takes_in item (Ship items sites outside) = false
 takes_in item (Make id ins outs) = lists ins item
+takes_in item (Pack action parent children) = false
 
 -- the item is an output of a transformation
 abbrev pub gives_out : List ℕ → Body → Bool
 gives_out item (Note items) = false
 gives_out item (Ship items sites outside) = false
 gives_out item (Make id ins outs) = lists outs item
+gives_out item (Pack action parent children) = false
 
 -- whether both have an id, and it is the same
 abbrev pub same_id : Option (List ℕ) → Option (List ℕ) → Bool
@@ -41,9 +70,14 @@ same_id (Some a) (Some b) = pointwise nat_eq a b
 same_id (Some a) None = false
 same_id None b = false
 
--- the site `me` shipped the item to another site
+-- the item, or what it lies in, was shipped to the site: as many times as there are items put into others are enough
+unfoldable pub is_sent : List Content → List ℕ → ℕ → Bool
+is_sent events item site =
+    lists (carried_in events (length (flat_map (λ e. put_in e.body) events)) (flat_map (λ e. shipped_at site e.body) events)) item
+
+-- the site `me` shipped the item, or what it lies in, to another site
 unfoldable pub ships_at : ℕ → List Content → List ℕ → ℕ → Bool
-ships_at me events item site = not (site == me) && list_any (λ e. ships item site e.body) events
+ships_at me events item site = not (site == me) && is_sent events item site
 
 -- i is an input and j an output of one transformation, or of two with equal id
 unfoldable pub inside_at : List Content → List ℕ → List ℕ → Bool

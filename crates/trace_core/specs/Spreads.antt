@@ -1,12 +1,12 @@
 -- What is made of items inside one site, and what one more event adds.
-use Rattle.std.specs.Prelude.{◌≤◌, ◌+◌, ◌-◌, ◌^◌, ◌||◌, ℕ, Bool, cond, min, List, [], ◌∷◌, ◌++◌, length, Contains, sum_by}
+use Rattle.std.specs.Prelude.{◌≤◌, ◌+◌, ◌-◌, ◌^◌, ◌||◌, ℕ, Bool, cond, min, List, [], ◌∷◌, ◌++◌, Option, Some, None, length, Contains, sum_by}
 use Rattle.std.specs.List.{list_any}
 use Rattle.std.specs.List.Sorted.{IsStrictlySortedBy}
 use Rattle.std.specs.Ordering.{nat_cmp}
 use Rattle.std.specs.Cmp.Lexicographic.{slice_cmp}
 use Rattle.event_json.specs.Events.{Content}
 use Rattle.event_json.specs.declared.bodies.Body.{Body}
-use Rattle.event_json.specs.declared.bodies.Body.TheVariants.{Note, Ship, Make}
+use Rattle.event_json.specs.declared.bodies.Body.TheVariants.{Note, Ship, Make, Pack}
 use Rattle.trace_core.specs.declared.pairs.Pair.{Pair}
 use Rattle.trace_core.specs.Gathering.{joins}
 use Rattle.trace_core.specs.Pairs.{IsMade, IsRelated}
@@ -26,23 +26,31 @@ Inside s i j = IsRelated s i (record { site = s.me; item = j })
 abbrev pub IsSpread : SiteEvents → List (List ℕ) → List ℕ → Type 0
 IsSpread s items j = ReachedFrom (Inside s) items j
 
+-- the parent, where there is one
+abbrev pub parents : Option (List ℕ) → List (List ℕ)
+parents None = []
+parents (Some p) = p ∷ []
+
 -- the items that an event names
 abbrev pub items_of : Body → List (List ℕ)
 items_of (Note items) = items
 items_of (Ship items sites outside) = items
 items_of (Make id ins outs) = ins ++ outs
+items_of (Pack action parent children) = parents parent ++ children
 
 -- the inputs of a transformation
 abbrev pub ins_in : Body → List (List ℕ)
 ins_in (Note items) = []
 ins_in (Ship items sites outside) = []
 ins_in (Make id ins outs) = ins
+ins_in (Pack action parent children) = []
 
 -- how many output members an event has
 abbrev pub output_count : Body → ℕ
 output_count (Note items) = 0
 output_count (Ship items sites outside) = 0
 output_count (Make id ins outs) = length outs
+output_count (Pack action parent children) = 0
 
 -- the list has each item that an event of the site names
 abbrev pub HasEachItem : SiteEvents → List (List ℕ) → Type 0

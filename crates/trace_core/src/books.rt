@@ -6,21 +6,22 @@ ghost use Rattle.event_json.specs.Events.{Content};
 ghost use Rattle.trace_core.specs.Adding.{standing_among};
 ghost use Rattle.trace_core.specs.Groups.{outputs_at};
 ghost use Rattle.trace_core.specs.Looks.{one_look, more_looks, LooksAtEach};
-ghost use Rattle.trace_core.specs.Numbers.{numbered, number_in, outs_at};
-ghost use Rattle.trace_core.specs.Pairs.{make_id, IsSentTo};
-ghost use Rattle.trace_core.specs.PairTests.{same_id};
-ghost use Rattle.trace_core.specs.Sendings.{IsNewlySent};
+ghost use Rattle.trace_core.specs.Numbers.{numbered, number_in, outs_at, AreNumbersOf};
+ghost use Rattle.trace_core.specs.Pairs.{make_id, Carries, IsSentTo};
+ghost use Rattle.trace_core.specs.PairTests.{lists, same_id};
+ghost use Rattle.trace_core.specs.Relations.{ReachedFrom};
+ghost use Rattle.trace_core.specs.Sendings.{AreNewlySent, HasItemOf};
 ghost use Rattle.trace_core.specs.SiteSets.{has_site};
 ghost use Rattle.trace_core.specs.Places.{at_place, names_item, takes_item, places_where};
 
 use crate::adding::Standing;
-use crate::gathering::shipped_to;
 use crate::ids::places_of_id;
 use crate::indexes::Index;
 use crate::looks::{count_look, count_looks};
+use crate::sendings::{Sending, Sent};
 use crate::site_sets::SiteSet;
 use epc_core::Epc;
-use event_json::{Body, Event, PlainText};
+use event_json::{Event, PlainText, SiteNo};
 use std::alloc::{AllocError, Global};
 use std::hash::RandomState;
 use std::marker::Model;
@@ -161,19 +162,38 @@ impl Book {
         }
     }
 
-    /// The sites that an event would send an item to, and that it wasn't sent to yet.
-    pub fn new_sites(&self, body: &Body, item: &Epc) -> SiteSet
-        ensures { (e : Content) → e.body ≡ body.now → (t : ℕ)
-            → has_site result t ≡ true ↔ IsNewlySent self.now e item.now t }
+    /// What the last event sent that wasn't sent before it, none where there is no event.
+    pub fn last_sent(&self) -> &[Sending]
+        ensures new { (before : List Content) (e : Content) → self.now ≡ before ++ e ∷ []
+            → AreNewlySent (numbered self.now) before e result.now }
+        ensures none { self.now ≡ [] → result.now ≡ [] }
     {
-        let mut sites = SiteSet::new();
-        let had = self.sites_of(item);
-        for site in shipped_to(item, body) {
-            if !had.has(*site) {
-                sites.insert(*site);
+        self.index.last_sent()
+    }
+
+    /// The numbers of the known ones of some items, and of all that lies in these, as sendings to a site.
+    pub fn carried_with(&self, site: SiteNo, items: &[Epc]) -> Result<Sent, AllocError>
+        ensures { IfOk result (λ found. (i : List ℕ) → HasItemOf self.now found i
+            ↔ ((lists (numbered self.now) i ≡ true) × ReachedFrom (Carries self.now) items.now i)) }
+    {
+        let numbers = self.known_numbers(items)?;
+        let mut found = Sent::new(self.alloc());
+        found.note_at(&numbers, site)?;
+        found.follow(&self.index.packed, 0)?;
+        Ok(found)
+    }
+
+    /// The numbers of the known ones of some items.
+    fn known_numbers(&self, items: &[Epc]) -> Result<Vec<usize>, AllocError>
+        ensures { IfOk result (λ numbers. AreNumbersOf (numbered self.now) items.now numbers.items) }
+    {
+        let mut numbers = Vec::new(self.alloc());
+        for item in items {
+            if let Some(number) = self.number_of(item) {
+                numbers.push(number)?;
             }
         }
-        sites
+        Ok(numbers)
     }
 
     /// The numbers of the outputs of the event at a place, none where there is no transformation. Each is a look.

@@ -1,9 +1,12 @@
 //! The events that a site has captured, and what they relate.
-ghost use Rattle.std.specs.Prelude.{◌≡◌, ◌↔◌, ◌<◌, ◌++◌, ◌∷◌, ℕ, [], Ok, IfOk, IfErr, OnOk, OnErr, IsTrue, Any, AllPairs, Contains, length, take, slice_get, option_map};
+ghost use Rattle.std.specs.Prelude.{◌≡◌, ◌↔◌, ◌<◌, ◌++◌, ◌∷◌, ℕ, List, [], Ok, IfOk, IfErr, OnOk, OnErr, IsTrue, Any, AllPairs, Contains, length, take, slice_get, option_map};
 ghost use Rattle.trace_core.specs.declared.pairs.Pair.{Pair};
+ghost use Rattle.event_json.specs.Events.{Content};
 ghost use Rattle.trace_core.specs.Adding.{standing_among, with_fresh, adding, FaultOf};
+ghost use Rattle.trace_core.specs.Numbers.{numbered};
 ghost use Rattle.trace_core.specs.Pairs.{IsRelated, IsShipped, IsStrictlyAscending};
 ghost use Rattle.trace_core.specs.Places.{IsPartAt};
+ghost use Rattle.trace_core.specs.Sendings.{AreNewlySent};
 ghost use Rattle.trace_core.specs.Spreads.{items_of};
 
 use crate::adding::{AddFault, Added, Standing, add_if_fresh, append_fresh};
@@ -12,6 +15,7 @@ use crate::gathering::gather_at_sites;
 use crate::ordered_keys::keys_in_order;
 use crate::pairs::Pair;
 use crate::seen::Seen;
+use crate::sendings::Sending;
 use crate::targets::unseen_targets;
 use epc_core::Epc;
 use event_json::{Event, PlainText, Sequence, SiteNo};
@@ -180,6 +184,23 @@ impl Captured {
     {
         let alloc = self.book.alloc();
         copy_places(alloc, self.book.parts_of(Some(id)))
+    }
+
+    /// What the last event sent that wasn't sent before it, none where there is no event: the numbers of the items that
+    /// it ships, or puts into what was sent somewhere, and of all that lies in them, each with a site.
+    pub fn last_sent(&self) -> &[Sending]
+        ensures new { (before : List Content) (e : Content) → self.now.events ≡ before ++ e ∷ []
+            → AreNewlySent (numbered self.now.events) before e result.now }
+        ensures none { self.now.events ≡ [] → result.now ≡ [] }
+    {
+        self.book.last_sent()
+    }
+
+    /// The item of a number, in the order in which items are first named.
+    pub fn item(&self, number: usize) -> Option<&Epc>
+        ensures { option_map (λ i. i.now) result ≡ slice_get (numbered self.now.events) number }
+    {
+        self.book.item(number)
     }
 
     /// The events, and the index of what they name.

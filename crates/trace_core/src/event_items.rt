@@ -1,15 +1,16 @@
 //! The items of an event: how they get their numbers, and how the transformations that take them in are noted and
 //! taken back.
-ghost use Rattle.std.specs.Prelude.{◌≡◌, ◌++◌, [], List, IfOk, OnOk, OnErr, ℕ};
+ghost use Rattle.std.specs.Prelude.{◌≡◌, ◌++◌, [], List, IfOk, OnOk, OnErr, ℕ, length, option_map};
 ghost use Rattle.trace_core.specs.Indexes.{KnowsItems, KnowsSomeItems, NotesItems, NotesSomeItems, KeepsItems, ForgetsPlace, ForgetsItems};
 ghost use Rattle.trace_core.specs.Numbers.{names_of, numbers_of, outs_in, moved_in};
 ghost use Rattle.trace_core.specs.PairTests.{lists};
-ghost use Rattle.trace_core.specs.Spreads.{items_of, ins_in};
+ghost use Rattle.trace_core.specs.PutIn.{filled, parent_number};
+ghost use Rattle.trace_core.specs.Spreads.{items_of, ins_in, parents};
 
 use crate::items::Items;
 use crate::numbers::Numbers;
 use epc_core::Epc;
-use event_json::Body;
+use event_json::{Action, Body};
 use std::alloc::{AllocError, Global};
 
 /// What is kept of the members of an event.
@@ -90,8 +91,35 @@ fn know_observed(alloc: Global, known: &mut Items, items: &[Epc]) -> Result<Numb
     Ok(Numbers::new(alloc))
 }
 
+/// Gives a parent a number, where there is one. After an `Err` it has none that it didn't have.
+fn know_parent(alloc: Global, known: &mut Items, parent: &Option<Epc>) -> Result<(), AllocError>
+    ensures ok { OnOk result (KnowsItems known.old known.new (parents parent.now)) }
+    ensures err { OnErr result (KnowsSomeItems known.old known.new) }
+{
+    if let Some(item) = parent {
+        known.know(alloc, item)?;
+    }
+    Ok(())
+}
+
+/// Gives a parent, where there is one, and children numbers, and returns those of the children. After an `Err` some of
+/// the items have one.
+fn know_packed(
+    alloc: Global,
+    known: &mut Items,
+    parent: &Option<Epc>,
+    children: &[Epc],
+) -> Result<Numbers, AllocError>
+    ensures ok { OnOk result (KnowsItems known.old known.new (parents parent.now ++ children.now)) }
+    ensures numbers { IfOk result (λ numbers. numbers ≡ numbers_of (names_of known.new) children.now) }
+    ensures err { OnErr result (KnowsSomeItems known.old known.new) }
+{
+    know_parent(alloc, known, parent)?;
+    know_numbers(alloc, known, children)
+}
+
 /// Gives the items of the event at a place numbers and notes its inputs. Returns the numbers of the items that it
-/// ships or makes. After an `Err` some of that is done.
+/// ships, makes or tells of as children. After an `Err` some of that is done.
 fn note_some_of(
     alloc: Global,
     known: &mut Items,
@@ -108,11 +136,16 @@ fn note_some_of(
         Body::Make { ins, outs, .. } => {
             note_made(alloc, known, ins.as_slice(), outs.as_slice(), place)
         }
+        Body::Pack {
+            parent,
+            children,
+            ..
+        } => know_packed(alloc, known, parent, children.as_slice()),
     }
 }
 
 /// Gives the items of the event at a place numbers and notes its inputs. Returns the numbers of the items that it
-/// ships or makes. After an `Err` none is noted, and no item is new.
+/// ships, makes or tells of as children. After an `Err` none is noted, and no item is new.
 pub fn note_items_of(
     alloc: Global,
     known: &mut Items,
@@ -141,6 +174,42 @@ pub fn kept_numbers(alloc: Global, body: &Body, numbers: Numbers) -> Numbers
     match body {
         Body::Make { .. } => numbers,
         _ => Numbers::new(alloc),
+    }
+}
+
+/// The item that an event puts others into.
+fn filled(body: &Body) -> Option<&Epc>
+    ensures { option_map (λ i. i.now) result ≡ filled body.now }
+{
+    match body {
+        Body::Pack {
+            action: Action::Add,
+            parent,
+            ..
+        } => parent.as_ref(),
+        _ => None,
+    }
+}
+
+/// The number of the item that an event puts others into.
+pub fn parent_number(known: &Items, body: &Body) -> Option<usize>
+    ensures { result ≡ parent_number (names_of known.now) body.now }
+{
+    match filled(body) {
+        Some(parent) => known.number(parent),
+        None => None,
+    }
+}
+
+/// How many items an event ships, makes or tells of as children.
+pub fn moved_count(body: &Body) -> usize
+    ensures { result ≡ length (moved_in body.now) }
+{
+    match body {
+        Body::Note { .. } => 0,
+        Body::Ship { items, .. } => items.as_slice().len(),
+        Body::Make { outs, .. } => outs.as_slice().len(),
+        Body::Pack { children, .. } => children.as_slice().len(),
     }
 }
 

@@ -1,11 +1,11 @@
 //! The pairs that one event more would relate an item to, gathered from the lists of the event.
-ghost use Rattle.std.specs.Prelude.{◌≡◌, ◌==◌, ◌&&◌, ◌||◌, ◌↔◌, ◌∷◌, [], ℕ, OnOk, Contains, length, option_map, slice_get, sum_by};
+ghost use Rattle.std.specs.Prelude.{◌≡◌, ◌==◌, ◌&&◌, ◌||◌, ◌∷◌, [], OnOk, length, option_map, slice_get, sum_by};
 ghost use Rattle.trace_core.specs.declared.pairs.Pair.{Pair};
 ghost use Rattle.trace_core.specs.Gathering.{is_in, made_by, sent_to, joined_by};
 ghost use Rattle.trace_core.specs.Groups.{parts_of, outputs_at};
 ghost use Rattle.trace_core.specs.Looks.{one_look, LooksAtMost};
 ghost use Rattle.trace_core.specs.PairTests.{same_item, takes_in, gives_out, lists};
-ghost use Rattle.trace_core.specs.Pairs.{make_id, Ships};
+ghost use Rattle.trace_core.specs.Pairs.{make_id};
 ghost use Rattle.trace_core.specs.Places.{at_place};
 ghost use Rattle.trace_core.specs.SiteSets.{sites_in};
 ghost use Rattle.trace_core.specs.Spreads.{output_count};
@@ -174,16 +174,6 @@ pub fn takes_in(item: &Epc, body: &Body) -> bool
     match body {
         Body::Make { ins, .. } => lists(ins, item),
         _ => false,
-    }
-}
-
-/// The sites that an event ships the item to.
-pub fn shipped_to<'a>(item: &Epc, body: &'a Body) -> &'a [SiteNo]
-    ensures { (t : ℕ) → Contains result.now t ↔ Ships item.now t body.now }
-{
-    match body {
-        Body::Ship { items, sites, .. } if lists(items, item) => sites.as_slice(),
-        _ => &[],
     }
 }
 

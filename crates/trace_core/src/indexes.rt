@@ -1,24 +1,29 @@
 //! What is looked up of a list of events: kept with it, event by event.
-ghost use Rattle.std.specs.Prelude.{◌≡◌, ◌++◌, ◌∷◌, [], List, OnOk, OnErr, length, slice_get, option_map};
+ghost use Rattle.std.specs.Prelude.{◌≡◌, ◌++◌, ◌∷◌, [], ℕ, List, OnOk, OnErr, length, slice_get, option_map};
 ghost use Rattle.event_json.specs.Events.{Content};
 ghost use Rattle.trace_core.specs.Indexes.{HasIds, HasItems, HasPlaces};
-ghost use Rattle.trace_core.specs.Sendings.{Extends, HasSent, NotesSendings, sendings_of};
+ghost use Rattle.trace_core.specs.Numbers.{numbered};
+ghost use Rattle.trace_core.specs.PutIn.{children_in, put_at};
+ghost use Rattle.trace_core.specs.Sendings.{AreNewlySent, Extends, Goes, HasSent, SendsOn};
 
-use crate::event_items::{Members, forget_items_of, kept_numbers, note_items_of};
+use crate::event_items::{
+    Members, forget_items_of, kept_numbers, moved_count, note_items_of, parent_number,
+};
 use crate::gathering::make_id;
 use crate::ids::{forget_id, note_id};
 use crate::items::Items;
-use crate::numbers::Numbers;
+use crate::packed::Packed;
 use crate::places::Places;
-use crate::sendings::Sent;
+use crate::sendings::{Sending, Sent};
 use event_json::Event;
 use std::alloc::{AllocError, Global};
 use std::collections::BTreeMap;
 use std::hash::RandomState;
 
-/// Which items a list of events names, the transformations that take each of them in and the sites that it was sent
-/// to; at which places eventIDs and the ids of transformations stand, and which outputs each event has. No choice of
-/// texts makes a look-up slow: ids stand in ordered maps, and the hash by which items are numbered has random keys.
+/// Which items a list of events names, the transformations that take each of them in, what was put into it and the
+/// sites that it was sent to; at which places eventIDs and the ids of transformations stand, and which outputs each
+/// event has. No choice of texts makes a look-up slow: ids stand in ordered maps, and the hash by which items are
+/// numbered has random keys.
 #[derive(Debug, Drop)]
 pub struct Index {
     /// By item: its number, and the transformations that take it in.
@@ -33,6 +38,8 @@ pub struct Index {
     pub sent: Sent,
     /// By event: how much was sent before it.
     pub counts: Vec<usize>,
+    /// What all events put into items, by their numbers.
+    pub packed: Packed,
 }
 
 impl Index {
@@ -48,6 +55,7 @@ impl Index {
             parts: BTreeMap::new(alloc),
             sent: Sent::new(alloc),
             counts: Vec::new(alloc),
+            packed: Packed::new(alloc),
         }
     }
 
@@ -62,13 +70,16 @@ impl Index {
         self.members.reserve(1)?;
         self.counts.reserve(1)?;
         let numbers = note_items_of(alloc, &mut self.items, event.body(), place)?;
+        let parent = parent_number(&self.items, event.body());
         match note_rest(
             alloc,
             &mut self.sent,
+            &mut self.packed,
             &mut self.ids,
             &mut self.parts,
             event,
-            &numbers,
+            parent,
+            numbers.as_slice(),
             place,
         ) {
             Ok(()) => {
@@ -92,10 +103,24 @@ impl Index {
         self.members.get(place)
     }
 
+    /// What the last event sent that wasn't sent before it, none where there is no event.
+    pub fn last_sent(&self) -> &[Sending]
+        ensures new { (events : List Content) (e : Content) → HasPlaces self.now (events ++ e ∷ [])
+            → AreNewlySent (numbered (events ++ e ∷ [])) events e result.now }
+        ensures none { HasPlaces self.now [] → result.now ≡ [] }
+    {
+        match self.counts.last() {
+            Some(before) => self.sent.since(*before),
+            None => &[],
+        }
+    }
+
     /// Takes away the last event, which stood at a place. Does not allocate.
     pub fn forget(&mut self, event: &Event, place: usize)
         ensures { (events : List Content) → place ≡ length events → HasPlaces self.old (events ++ event.now ∷ []) → HasPlaces self.new events }
     {
+        let parent = parent_number(&self.items, event.body());
+        self.packed.forget(parent, moved_count(event.body()));
         forget_members(&mut self.items, &mut self.members, event, place);
         forget_sent(&mut self.sent, &mut self.counts);
         forget_id(&mut self.ids, event.id(), place);
@@ -122,26 +147,40 @@ fn forget_sent(sent: &mut Sent, counts: &mut Vec<usize>)
     }
 }
 
-/// Notes what the event that comes at a place sends, which ships or makes the items of these numbers, and its ids.
-/// An `Err` changes no id, and leaves all sendings that were there.
+/// Notes what the event that comes at a place sends and what it puts into a parent, which ships, makes or tells of the
+/// items of these numbers, and its ids. An `Err` changes no id and puts nothing into anything, and leaves all sendings
+/// that were there.
 fn note_rest(
     alloc: Global,
     sent: &mut Sent,
+    packed: &mut Packed,
     ids: &mut BTreeMap<String, Places>,
     parts: &mut BTreeMap<String, Places>,
     event: &Event,
-    numbers: &Numbers,
+    parent: Option<usize>,
+    numbers: &[usize],
     place: usize,
 ) -> Result<(), AllocError>
-    ensures sent { OnOk result (NotesSendings sent.old sent.new (sendings_of numbers.now event.now.body)) }
+    ensures sent { OnOk result (SendsOn (children_in packed.old) numbers.now (Goes sent.old event.now.body parent)
+        sent.old sent.new) }
     ensures front { Extends sent.old sent.new }
+    ensures packed { OnOk result ((n : ℕ)
+        → children_in packed.new n ≡ children_in packed.old n ++ put_at parent numbers.now n) }
+    ensures kept { OnErr result ((n : ℕ) → children_in packed.new n ≡ children_in packed.old n) }
     ensures ok { OnOk result ((events : List Content) → place ≡ length events → HasIds ids.old parts.old events
         → HasIds ids.new parts.new (events ++ event.now ∷ [])) }
     ensures err { OnErr result ((events : List Content) → place ≡ length events
         → HasIds ids.old parts.old events → HasIds ids.new parts.new events) }
 {
-    sent.note_event(event.body(), numbers.as_slice())?;
-    note_ids(alloc, ids, parts, event, place)
+    sent.note_event(packed, event.body(), parent, numbers)?;
+    packed.note(alloc, parent, numbers)?;
+    match note_ids(alloc, ids, parts, event, place) {
+        Ok(()) => Ok(()),
+        Err(_) => {
+            packed.forget(parent, numbers.len());
+            Err(AllocError)
+        }
+    }
 }
 
 /// Notes the ids of the event that comes at a place. An `Err` changes nothing that can be looked up.

@@ -1,7 +1,7 @@
 //! Laws of related pairs, of reach and of adding events, for proofs of the crates above. Each is a function with an
 //! empty body whose contract is the law.
 
-ghost use Rattle.trace_core.specs.Laws.{ReachHasItsRoot, ReachIsClosed, ReachIsLeast, ReachIsInClosedList, ChainFormsAgree, AddingAppends, AddingKeepsAll, FirstTakenIsTold, AddingKeepsFresh, StandingIsRight, StandingByMembers, ShipRelates, MakeRelates, JoinedMakesRelate, RelatedPairsComeFromEvents, OthersAddNothing, PairTestsAgree, RelatedStays, ReachGrows, AscendingListsAgree, RelatedPairsAreOfTheirSite};
+ghost use Rattle.trace_core.specs.Laws.{ReachHasItsRoot, ReachIsClosed, ReachIsLeast, ReachIsInClosedList, ChainFormsAgree, AddingAppends, AddingKeepsAll, FirstTakenIsTold, AddingKeepsFresh, StandingIsRight, StandingByMembers, PackNames, ShipRelates, PackRelates, PackedFollow, MakeRelates, JoinedMakesRelate, RelatedPairsComeFromEvents, OthersAddNothing, PairTestsAgree, RelatedStays, ReachGrows, AscendingListsAgree, RelatedPairsAreOfTheirSite};
 
 /// A pair reaches itself.
 pub fn reach_has_its_root()
@@ -59,9 +59,24 @@ pub fn standing_by_members()
     ensures { StandingByMembers }
 {}
 
+/// An aggregation names its parent and its children, and no other item.
+pub fn pack_names()
+    ensures { PackNames }
+{}
+
 /// A shipped item is related to itself at the other site.
 pub fn ship_relates()
     ensures { ShipRelates }
+{}
+
+/// What was put into a shipped item is related to itself at the other site.
+pub fn pack_relates()
+    ensures { PackRelates }
+{}
+
+/// Where a parent is related to itself at another site, its children are: so is all that lies in a shipped item.
+pub fn packed_follow()
+    ensures { PackedFollow }
 {}
 
 /// An input of a transformation is related to each of its outputs.
@@ -74,14 +89,14 @@ pub fn joined_makes_relate()
     ensures { JoinedMakesRelate }
 {}
 
-/// Whatever an item is related to comes from a shipment of it, from a transformation that takes it in, or from two
-/// transformations with one id, of which the first takes it in.
+/// Whatever an item is related to comes from a shipment of it or of what it lies in, from a transformation that takes it
+/// in, or from two transformations with one id, of which the first takes it in.
 pub fn related_pairs_come_from_events()
     ensures { RelatedPairsComeFromEvents }
 {}
 
-/// What adds no pair: a note, a shipment to the own site or out of the traced sites, and a
-/// transformation without an id that lacks inputs or outputs.
+/// What adds no pair: a note, a shipment to the own site or out of the traced sites, a transformation without an id that
+/// lacks inputs or outputs, and an aggregation that observes or deletes, or has no children.
 pub fn others_add_nothing()
     ensures { OthersAddNothing }
 {}

@@ -1,7 +1,7 @@
 //! What a site's captured events relate, and what is reached through the events of several sites.
 //!
-//! A pair of a site and an item is related to another where an item was shipped from site to site,
-//! or made into another item at a site. Reach of a pair is all that chains of related pairs find.
+//! A pair of a site and an item is related to another where an item was shipped from site to site, by itself or with
+//! what it lies in, or made into another item at a site. Reach of a pair is all that chains of related pairs find.
 #![tactic(auto)]
 
 mod adding;
@@ -9,6 +9,7 @@ mod batches;
 mod beyond;
 mod books;
 mod captured;
+mod carried;
 mod chains;
 mod event_items;
 mod found_items;
@@ -23,6 +24,7 @@ mod marks;
 mod nodes;
 mod numbers;
 mod ordered_keys;
+mod packed;
 mod pairs;
 mod parts;
 mod places;
@@ -41,4 +43,5 @@ pub use captured::Captured;
 pub use chains::reach;
 pub use pairs::Pair;
 pub use seen::Seen;
+pub use sendings::Sending;
 pub use trails::trails_to;

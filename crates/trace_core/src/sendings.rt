@@ -1,10 +1,12 @@
 //! What events sent: a log of items with the sites that they were sent to, and each item's sites.
-ghost use Rattle.std.specs.Prelude.{◌≡◌, ◌∷◌, [], ◌-◌, ◌==◌, ◌<◌, ◌&&◌, ◌||◌, ◌↔◌, ℕ, true, not, OnOk, OnErr, Contains, length, take};
+ghost use Rattle.std.specs.Prelude.{◌≡◌, ◌∷◌, [], ◌-◌, ◌==◌, ◌<◌, ◌&&◌, ◌||◌, ◌↔◌, ℕ, true, not, OnOk, OnErr, Contains, drop, length, take};
 ghost use Rattle.std.specs.List.{flat_map};
 ghost use Rattle.std.specs.Vec.{vec_len};
-ghost use Rattle.trace_core.specs.Sendings.{Extends, NotesSendings, sendings_of, item_sendings, set_at};
-ghost use Rattle.trace_core.specs.SiteSets.{has_site};
+ghost use Rattle.trace_core.specs.PutIn.{children_in};
+ghost use Rattle.trace_core.specs.Sendings.{AreDistinct, Extends, NotesSendings, Starts, Follows, SendsOn, WasSent, Goes, at_site, set_at};
+ghost use Rattle.trace_core.specs.SiteSets.{has_site, sites_in};
 
+use crate::packed::Packed;
 use crate::site_sets::SiteSet;
 use event_json::{Body, SiteNo};
 use std::alloc::{AllocError, Global};
@@ -81,37 +83,115 @@ impl Sent {
         Ok(())
     }
 
-    /// Notes that an item was sent to some sites. After an `Err` some of that is noted.
-    fn note_sites(&mut self, item: usize, sites: &[SiteNo]) -> Result<(), AllocError>
-        ensures ok { OnOk result (NotesSendings self.old self.new (item_sendings sites.now item)) }
-        ensures front { Extends self.old self.new }
-    {
-        for site in sites {
-            self.note(item, *site)?;
-        }
-        Ok(())
-    }
-
-    /// Notes that items were sent to some sites. After an `Err` some of that is noted.
-    fn note_items(&mut self, items: &[usize], sites: &[SiteNo]) -> Result<(), AllocError>
-        ensures ok { OnOk result (NotesSendings self.old self.new (flat_map (item_sendings sites.now) items.now)) }
+    /// Notes that items were sent to a site. After an `Err` some of that is noted.
+    pub fn note_at(&mut self, items: &[usize], site: SiteNo) -> Result<(), AllocError>
+        ensures ok { OnOk result (NotesSendings self.old self.new (at_site items.now site)) }
         ensures front { Extends self.old self.new }
     {
         for item in items {
-            self.note_sites(*item, sites)?;
+            self.note(*item, site)?;
         }
         Ok(())
     }
 
-    /// Notes what an event sends that ships or makes the items of these numbers. After an `Err` some of that is
-    /// noted, behind all that was there.
-    pub fn note_event(&mut self, body: &Body, items: &[usize]) -> Result<(), AllocError>
-        ensures ok { OnOk result (NotesSendings self.old self.new (sendings_of items.now body.now)) }
+    /// Notes that items were sent to each site of a set. After an `Err` some of that is noted.
+    fn note_at_each(&mut self, items: &[usize], sites: SiteSet) -> Result<(), AllocError>
+        ensures ok { OnOk result (NotesSendings self.old self.new (flat_map (at_site items.now) (sites_in sites))) }
         ensures front { Extends self.old self.new }
     {
+        for number in 0..16 {
+            if let Some(site) = sites.at(number) {
+                self.note_at(items, site)?;
+            }
+        }
+        Ok(())
+    }
+
+    /// The sites that the item of a number was sent to, none where there is no number.
+    fn sites_of_parent(&self, parent: Option<usize>) -> SiteSet
+        ensures { (t : ℕ) → has_site result t ≡ true ↔ WasSent self.now parent t }
+    {
+        match parent {
+            Some(number) => self.sites_of(number),
+            None => SiteSet::new(),
+        }
+    }
+
+    /// Where the items of an event go: to the sites of a shipment, and else to those that the parent was sent to.
+    fn destinations(&self, body: &Body, parent: Option<usize>) -> SiteSet
+        ensures { (t : ℕ) → has_site result t ≡ true ↔ Goes self.now body.now parent t }
+    {
         match body {
-            Body::Ship { sites, .. } => self.note_items(items, sites.as_slice()),
-            _ => Ok(()),
+            Body::Ship { sites, .. } => SiteSet::of(sites.as_slice()),
+            _ => self.sites_of_parent(parent),
+        }
+    }
+
+    /// Notes the items of an event where they go. After an `Err` some of that is noted.
+    fn note_starts(
+        &mut self,
+        body: &Body,
+        parent: Option<usize>,
+        items: &[usize],
+    ) -> Result<(), AllocError>
+        ensures ok { OnOk result (Starts items.now (Goes self.old body.now parent) self.old self.new) }
+        ensures front { Extends self.old self.new }
+    {
+        let sites = self.destinations(body, parent);
+        self.note_at_each(items, sites)
+    }
+
+    /// Notes what lies in the items of the sendings from a place on, and in that, each at its site. Items may lie in
+    /// each other: each sending is noted once. After an `Err` some of that is noted.
+    pub fn follow(&mut self, packed: &Packed, from: usize) -> Result<(), AllocError>
+        ensures ok { OnOk result (Follows (children_in packed.now) from self.old self.new) }
+        ensures front { Extends self.old self.new }
+    {
+        let mut place = from;
+        while place < self.len() {
+            let sending = self.as_slice()[place];
+            self.note_at(packed.children_of(sending.item), sending.site)?;
+            place += 1;
+        }
+        Ok(())
+    }
+
+    /// Notes the items of an event where they go, and all that lies in them. After an `Err` some of that is noted,
+    /// behind all that was there.
+    pub fn note_event(
+        &mut self,
+        packed: &Packed,
+        body: &Body,
+        parent: Option<usize>,
+        items: &[usize],
+    ) -> Result<(), AllocError>
+        ensures ok { OnOk result (SendsOn (children_in packed.now) items.now (Goes self.old body.now parent)
+            self.old self.new) }
+        ensures front { Extends self.old self.new }
+    {
+        let from = self.len();
+        self.note_starts(body, parent, items)?;
+        self.follow(packed, from)
+    }
+
+    /// The sendings in order.
+    pub fn as_slice(&self) -> &[Sending]
+        ensures members { result.now ≡ self.now }
+        ensures once { AreDistinct self.now }
+    {
+        self.log.as_slice()
+    }
+
+    /// The sendings from a place on.
+    pub fn since(&self, place: usize) -> &[Sending]
+        ensures members { result.now ≡ drop place self.now }
+        ensures once { AreDistinct self.now }
+    {
+        let all = self.as_slice();
+        if place <= all.len() {
+            &all[place..]
+        } else {
+            &[]
         }
     }
 

@@ -1,5 +1,5 @@
 //! Sets of sites.
-ghost use Rattle.std.specs.Prelude.{◌≡◌, ◌==◌, ◌&&◌, ◌||◌, ℕ, true, false, not, is_some, IfSome, IsTrue};
+ghost use Rattle.std.specs.Prelude.{◌≡◌, ◌↔◌, ◌==◌, ◌&&◌, ◌||◌, ℕ, true, false, not, is_some, IfSome, IsTrue, Contains};
 ghost use Rattle.trace_core.specs.SiteSets.{has_site};
 
 use event_json::SiteNo;
@@ -25,6 +25,17 @@ impl SiteSet {
         ensures { (t : ℕ) → has_site result t ≡ false }
     {
         SiteSet { mask: 0 }
+    }
+
+    /// The set of some sites.
+    pub fn of(sites: &[SiteNo]) -> SiteSet
+        ensures { (t : ℕ) → has_site result t ≡ true ↔ Contains sites.now t }
+    {
+        let mut set = SiteSet::new();
+        for site in sites {
+            set.insert(*site);
+        }
+        set
     }
 
     /// Whether no site is in the set.

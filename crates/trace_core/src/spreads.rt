@@ -10,13 +10,13 @@ ghost use Rattle.trace_core.specs.Pairs.{pair_cmp, IsStrictlyAscending};
 ghost use Rattle.trace_core.specs.PairTests.{takes_in};
 ghost use Rattle.trace_core.specs.Places.{at_place};
 ghost use Rattle.trace_core.specs.Searches.{IsFound};
-ghost use Rattle.trace_core.specs.Spreads.{AreAscendingItems, IsSpread, AreLooks, IsNewlyMade, IsNewTarget};
+ghost use Rattle.trace_core.specs.Spreads.{AreAscendingItems, IsSpread, AreLooks, IsNewlyMade};
 ghost use Rattle.event_json.specs.Events.{Content};
 
 use crate::batches::push_items;
 use crate::books::Book;
 use crate::captured::Captured;
-use crate::gathering::{gather_at_sites, gather_made, gather_outputs, make_id, takes_in};
+use crate::gathering::{gather_made, gather_outputs, make_id, takes_in};
 use crate::looks::count_look;
 use crate::nodes::{Node, Nodes};
 use crate::ordered_keys::{in_order, keys_in_order};
@@ -58,16 +58,15 @@ impl Captured {
         Ok((items, looks))
     }
 
-    /// The targets of the pairs from an item that adding an event would give, and that aren't there
-    /// yet, ascending and without repeats.
-    pub fn new_targets(&self, event: &Event, item: &Epc) -> Result<Vec<Pair>, AllocError>
+    /// The pairs that adding an event would make of an item, and that aren't made of it yet, ascending and without
+    /// repeats.
+    pub fn new_made(&self, event: &Event, item: &Epc) -> Result<Vec<Pair>, AllocError>
         ensures ascending { IfOk result (λ pairs. IsStrictlyAscending pairs.items) }
-        ensures exact { IfOk result (λ pairs. (q : Pair) → Contains pairs.items q ↔ IsNewTarget self.now event.now item.now q) }
+        ensures exact { IfOk result (λ pairs. (p : Pair)
+            → Contains pairs.items p ↔ IsNewlyMade self.now event.now item.now p) }
     {
         let alloc = self.alloc();
-        let mut pairs = new_made(alloc, self, item, event.body())?;
-        let sites = self.book().new_sites(event.body(), item);
-        gather_at_sites(alloc, self.me(), item, sites, &mut pairs)?;
+        let pairs = new_made(alloc, self, item, event.body())?;
         keys_in_order(alloc, pairs)
     }
 }

@@ -14,3 +14,8 @@ pub returns-in-Ship-clause-err : goal.returns-in-Ship-clause-err
 returns-in-Ship-clause-err c = on_err_weaker c.know_numbers.result
     (λ some. subst (NotesSomeItems c.args.known.now c.know_numbers.new.known c.args.place) (ap ins_in (sym c.in-Ship.is)) (some_noted c.args.known.now c.know_numbers.new.known c.args.place some))
     c.know_numbers.ensures.err
+
+pub returns-in-Pack-clause-err : goal.returns-in-Pack-clause-err
+returns-in-Pack-clause-err c = on_err_weaker c.know_packed.result
+    (λ some. subst (NotesSomeItems c.args.known.now c.know_packed.new.known c.args.place) (ap ins_in (sym c.in-Pack.is)) (some_noted c.args.known.now c.know_packed.new.known c.args.place some))
+    c.know_packed.ensures.err
