@@ -13,7 +13,7 @@ use Rattle.std.proofs.lemmas.Bool.Decides.{Decides-and, Decides-eqb, Decides-not
 use Rattle.std.proofs.lemmas.List.Folds.{list_all_at}
 use Rattle.event_json.specs.Events.{Content}
 use Rattle.event_json.specs.declared.bodies.Body.{Body}
-use Rattle.event_json.specs.declared.bodies.Body.TheVariants.{Note, Ship, Make}
+use Rattle.event_json.specs.declared.bodies.Body.TheVariants.{Note, Ship, Make, Pack}
 use Rattle.frame_core.specs.Identifiers.{recall_cmp}
 use Rattle.frame_core.specs.Numbers.{Recall}
 use Rattle.trace_core.specs.declared.pairs.Pair.{Pair}
@@ -23,11 +23,11 @@ use Rattle.trace_core.specs.Spreads.{IsNewTarget}
 use Rattle.trace_core.proofs.AddedPairs.{related_with}
 use Rattle.trace_core.proofs.Members.{contains_cases, contains_none, list_any_witness, list_any_member}
 use Rattle.site_core.specs.Capturing.{IsBlockedBy, IsFree, IsHeldHere}
-use Rattle.site_core.specs.Blocks.{IsBlockFrom, IsFirstBlockOf, LeadsToOutputs, holds_outputs}
+use Rattle.site_core.specs.Blocks.{IsMaking, IsBlockFrom, IsFirstBlockOf, JoinsAsPart, holds_outputs}
 use Rattle.site_core.specs.Quarantines.{Quarantine, held, item_cmp}
 use Rattle.site_core.proofs.Ascending.{head_least, tail_ascends}
 use Rattle.site_core.proofs.Held.{none_held}
-use Rattle.site_core.proofs.SourcesFound.{parts_relate}
+use Rattle.site_core.proofs.SourcesFound.{makes_only, parts_relate}
 
 pub list_all_member : {X : Type 0} (p : X → Bool) (xs : List X) (x : X) → Contains xs x → list_all p xs ≡ true → p x ≡ true
 list_all_member p xs x (k, lt, at) all = elim (p x) as (λ b. p x ≡ b → p x ≡ true) [
@@ -88,28 +88,29 @@ module _ (s : SiteEvents) (q : Quarantine) (e : Content) (i : List ℕ) (r : Rec
 -- Where the event leads an item to its own outputs alone.
 gives_made : (q : Quarantine) (b : Body) (r : Recall) (j : List ℕ) → holds_outputs q b r ≡ true → GivesOut j b → IsTrue (held q r j)
 gives_made q (Note items) r j all gives = absurd gives
+gives_made q (Pack action parent children) r j all gives = absurd gives
 gives_made q (Ship items sites outside) r j all gives = absurd gives
 gives_made q (Make id ins outs) r j all gives = list_all_member (λ i. held q r i) outs j gives all
 
-outputs_alone : (s : SiteEvents) (e : Content) (i : List ℕ) → LeadsToOutputs s e.body i → (p : Pair) → IsNewTarget s e i p → (p.site ≡ s.me) × GivesOut p.item e.body
-outputs_alone s e i leads p (related, new) = ⊎_elim
+outputs_alone : (s : SiteEvents) (e : Content) (i : List ℕ) → IsMaking e.body → JoinsAsPart s e.body i → (p : Pair) → IsNewTarget s e i p → (p.site ≡ s.me) × GivesOut p.item e.body
+outputs_alone s e i making joins p (related, new) = ⊎_elim
     (λ before. absurd (new before))
     (λ added. ⊎_elim
     (λ own. ⊎_elim
-    (λ (other, (ships, same)). absurd (leads.ships_nowhere p.site ships))
+    (λ (other, (sends, same)). absurd (makes_only s.events e.body p.site making sends.0))
     (λ (here, (takes, gives)). ⊎_elim
     (λ out. (here, out))
-    (λ (k, f, lt, at, ((id, first, second), out)). absurd (new (parts_relate s id i p (leads.joined id first) (k, f, lt, at, (second, out)) here)))
+    (λ (k, f, lt, at, ((id, first, second), out)). absurd (new (parts_relate s id i p (joins id first) (k, f, lt, at, (second, out)) here)))
     gives)
     own)
     (λ (joined, inside). inside)
     added)
     (related_with s e i p related)
 
-pub stays_inside : (s : SiteEvents) (q : Quarantine) (e : Content) (b : Body) (i : List ℕ) (recalls : List Recall) → b ≡ e.body → LeadsToOutputs s b i
+pub stays_inside : (s : SiteEvents) (q : Quarantine) (e : Content) (b : Body) (i : List ℕ) (recalls : List Recall) → b ≡ e.body → IsMaking e.body → JoinsAsPart s b i
     → list_all (λ r. holds_outputs q b r) recalls ≡ true → (r : Recall) → Contains recalls r → IsBlockedBy s q e i r → ⊥
-stays_inside s q e b i recalls is leads all r there blocked =
-    let (here, out) = outputs_alone s e i (subst (λ (c : Body). LeadsToOutputs s c i) is leads) blocked.target blocked.new in
+stays_inside s q e b i recalls is making joins all r there blocked =
+    let (here, out) = outputs_alone s e i making (subst (λ (c : Body). JoinsAsPart s c i) is joins) blocked.target blocked.new in
     let holds : holds_outputs q e.body r ≡ true = ap (λ (c : Body). holds_outputs q c r) (sym is) ∙ list_all_member (λ r. holds_outputs q b r) recalls r there all in
     blocked.leaves (here, gives_made q e.body r blocked.target.item holds out)
 

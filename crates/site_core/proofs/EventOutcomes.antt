@@ -1,5 +1,5 @@
 -- The events of a document are captured, or one of them is refused first.
-use Rattle.std.proofs.Common.{◌≡◌, ◌≢◌, ◌⊎◌, ◌==◌, inl, inr, ℕ, zero, suc, ◌≤◌, ◌&&◌, not, Bool, true, false, List, ◌++◌, length, Some, refl, sym, subst, ◌∙◌, arith}
+use Rattle.std.proofs.Common.{◌≡◌, ◌≢◌, ◌⊎◌, ◌==◌, inl, inr, ℕ, zero, suc, ◌≤◌, ◌&&◌, not, Bool, true, false, List, [], ◌∷◌, ◌++◌, length, Some, refl, sym, subst, ◌∙◌, arith}
 use Rattle.std.specs.Prelude.{IsTrue}
 use mathlib.Core.Bool.{false≢true}
 use Rattle.std.specs.Bool.{Decides}
@@ -8,7 +8,6 @@ use Rattle.std.specs.List.{Contains, flat_map, list_any, slice_get}
 use Rattle.std.specs.declared.cmp.Ordering.TheVariants.{Greater}
 use Rattle.std.proofs.lemmas.Bool.{cases_lt}
 use Rattle.std.proofs.lemmas.Bool.Decides.{Decides-and, Decides-eqb, Decides-not}
-use Rattle.std.proofs.lemmas.List.Elements.{Contains-append_left, Contains-append_right}
 use Rattle.event_json.specs.Events.{Content}
 use Rattle.frame_core.specs.Identifiers.{recall_cmp}
 use Rattle.frame_core.specs.Numbers.{Recall}
@@ -17,7 +16,7 @@ use Rattle.trace_core.specs.Adding.{judged, kept_with, standing_among}
 use Rattle.trace_core.specs.PairTests.{is_related}
 use Rattle.trace_core.specs.Pairs.{IsRelated}
 use Rattle.trace_core.specs.Sites.{SiteEvents}
-use Rattle.trace_core.specs.Spreads.{with_event}
+use Rattle.trace_core.specs.Spreads.{items_of, with_event}
 use Rattle.trace_core.specs.Targets.{site_targets}
 use Rattle.trace_core.specs.declared.adding.Standing.TheVariants.{Fresh, Known, Taken}
 use Rattle.trace_core.specs.declared.pairs.Pair.{Pair}
@@ -27,13 +26,12 @@ use Rattle.trace_core.proofs.PairTestsDecide.{related_decides}
 use Rattle.site_core.specs.Capturing.{IsBlockedBy, IsFirstBlock, IsFree, IsHeldHere, IsPassed, IsReason, Reason, taken, blocked, site_before, EachPassesBefore, IsFirstRefused}
 use Rattle.site_core.specs.CapturingLaws.{BlockedEventsLeadOut, EventsHaveAnOutcome}
 use Rattle.site_core.specs.Quarantines.{Quarantine, held, item_cmp}
-use Rattle.site_core.specs.Sources.{moved_items}
 use Rattle.site_core.proofs.Captures.{none_refused}
 use Rattle.site_core.proofs.Holders.{holding, holders_exact}
 use Rattle.site_core.proofs.ItemOrder.{item_total, item_exact}
 use Rattle.site_core.proofs.Places.{some_stands}
 use Rattle.site_core.proofs.Questions.{Decided, least_or_none}
-use Rattle.site_core.proofs.SourcesFound.{new_pair_source, taken_moved}
+use Rattle.site_core.proofs.SourcesFound.{related_named}
 
 module _ (s : SiteEvents) (q : Quarantine) (e : Content) where
   module _ (i : List ℕ) (r : Recall) where
@@ -72,17 +70,15 @@ module _ (s : SiteEvents) (q : Quarantine) (e : Content) where
     | inr none ↦ inr (λ r b. none r ((holders_exact i q r).1 b.source) b)
   ]
 
-  -- the items from which a new pair can lead
+  -- the items from which a new pair can lead: those that events name
   candidates : List (List ℕ)
-  candidates = moved_items e.body ++ flat_map (λ (f : Content). moved_items f.body) s.events
+  candidates = flat_map (λ (f : Content). items_of f.body) (s.events ++ e ∷ [])
 
   is_candidate : (i : List ℕ) (r : Recall) → IsBlockedBy s q e i r → Contains candidates i
   unfolding candidates
-  is_candidate i r b = elim (new_pair_source s e i b.target b.new) [
-    | inl moves ↦ Contains-append_left (moved_items e.body) (flat_map (λ (f : Content). moved_items f.body) s.events) i moves
-    | inr part ↦ Contains-append_right (moved_items e.body) (flat_map (λ (f : Content). moved_items f.body) s.events) i
-        (contains-flat_map (λ (f : Content). moved_items f.body) s.events part.2.1 i (part.2.0, part.2.2, part.2.3) (taken_moved i part.2.1.body part.2.4.1))
-  ]
+  is_candidate i r b =
+      let (k, f, lt, at, named) = related_named (with_event s e) i b.target b.new.0 in
+      contains-flat_map (λ (g : Content). items_of g.body) (s.events ++ e ∷ []) f i (k, lt, at) named
 
   blocks_item : (i : List ℕ) → Decided ((r : Recall) × IsBlockedBy s q e i r)
   unfolding LeastFrom

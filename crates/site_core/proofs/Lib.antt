@@ -34,6 +34,7 @@ pub mod Questions
 pub mod Records
 pub mod Results
 pub mod SameLists
+pub mod SentBlocks
 pub mod Shipped
 pub mod ShipsAmong
 pub mod Soundness

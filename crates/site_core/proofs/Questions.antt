@@ -42,13 +42,13 @@ pub record IsLeastOf {K : Type 0} (cmp : K → K → Ordering) (P : K → Type 0
   pub least : (j : K) → Contains xs j → P j → cmp k j ≢ Greater
 
 module _ {K : Type 0} (cmp : K → K → Ordering) (total : IsTotalOrder cmp) (exact : IsAntisymmetric cmp) where
-  not_above_itself : (x y : K) → x ≡ y → cmp x y ≢ Greater
+  pub not_above_itself : (x y : K) → x ≡ y → cmp x y ≢ Greater
   not_above_itself x y same greater = let tie : cmp x y ≡ Equal = subst (λ z. cmp x z ≡ Equal) same (tied_itself total x) in cc
 
-  not_above : (x y : K) → cmp y x ≡ Greater → cmp x y ≢ Greater
+  pub not_above : (x y : K) → cmp y x ≡ Greater → cmp x y ≢ Greater
   not_above x y above greater = let below : cmp x y ≡ Less = total.antisymm x y ∙ ap ordering_reverse above in cc
 
-  up_to : (x y z : K) → cmp x y ≢ Greater → cmp y z ≢ Greater → cmp x z ≢ Greater
+  pub up_to : (x y z : K) → cmp x y ≢ Greater → cmp y z ≢ Greater → cmp x z ≢ Greater
   up_to x y z first second = elim (cmp x y) as (λ o. cmp x y ≡ o → cmp x z ≢ Greater) [
     | Less ↦ λ e. elim (cmp y z) as (λ o. cmp y z ≡ o → cmp x z ≢ Greater) [
       | Less ↦ λ f greater. let below : cmp x z ≡ Less = total.trans x y z e f in cc

@@ -6,7 +6,7 @@ use Rattle.event_json.specs.Events.{Content}
 use Rattle.event_json.specs.Laws.{ShipsToSites}
 use Rattle.event_json.specs.Sites.{Site, ShipsAmong}
 use Rattle.event_json.specs.declared.bodies.Body.{Body}
-use Rattle.event_json.specs.declared.bodies.Body.TheVariants.{Note, Ship, Make}
+use Rattle.event_json.specs.declared.bodies.Body.TheVariants.{Note, Ship, Make, Pack}
 use Rattle.event_json.specs.declared.documents.Doc.{Doc}
 use Rattle.event_json.proofs.Destinations.{text_ships}
 use Rattle.trace_core.specs.Adding.{Addition, is_fresh, judged, standing_among}
@@ -24,6 +24,7 @@ AllShipAmong sites events = All (λ e. ShipsAmong sites e.body) events
 -- a site that an event ships to
 pub shipped_within : (sites : ℕ) (i : List ℕ) (to : ℕ) (body : Body) → ShipsAmong sites body → Ships i to body → to < sites
 shipped_within sites i to (Note items) among ships = absurd ships
+shipped_within sites i to (Pack action parent children) among ships = absurd ships
 shipped_within sites i to (Ship items traced outside) among ships = All-contains (λ t. t < sites) traced to among ships.1
 shipped_within sites i to (Make id ins outs) among ships = absurd ships
 
@@ -32,8 +33,8 @@ pub shipments_within : (sites : ℕ) (s : SiteEvents) (items : List (List ℕ)) 
     → (to : ℕ) (i : List ℕ) → Contains out (to, i) → to < sites
 shipments_within sites s items out all are to i there =
     let shipped : IsShipped s i (record { site = to; item = i }) = ((are.exact to i).0 there).1 in
-    let (k, e, lt, at, ships) = shipped.2 in
-    shipped_within sites i to e.body (All-contains (λ (f : Content). ShipsAmong sites f.body) s.events e all (k, lt, at)) ships
+    let (carrier, (k, e, lt, at, ships), carried) = shipped.2 in
+    shipped_within sites carrier to e.body (All-contains (λ (f : Content). ShipsAmong sites f.body) s.events e all (k, lt, at)) ships
 
 -- events and how they stand
 numbered_among : (sites n : ℕ) (given : List Content) → AllShipAmong sites given → All (λ (p : ℕ × Content). ShipsAmong sites p.1.body) (enumerate_from n given)

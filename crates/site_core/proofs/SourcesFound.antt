@@ -7,37 +7,57 @@ use Rattle.std.specs.List.{Contains, slice_get}
 use Rattle.std.specs.Ordering.{nat_cmp}
 use Rattle.std.proofs.lemmas.Cmp.{nat_list_cmp_total}
 use Rattle.std.proofs.lemmas.List.{take_all}
+use Rattle.std.proofs.lemmas.List.Elements.{Contains-append_left}
 use Rattle.std.proofs.lemmas.Map.Lookups.{exact_bytes}
 use Rattle.std.proofs.lemmas.Map.Views.{btree_set_contains_iff}
 use Rattle.std.proofs.lemmas.Option.{slice_get-get_or}
 use Rattle.event_json.specs.Events.{Content}
 use Rattle.event_json.specs.declared.bodies.Body.{Body}
-use Rattle.event_json.specs.declared.bodies.Body.TheVariants.{Note, Ship, Make}
+use Rattle.event_json.specs.declared.bodies.Body.TheVariants.{Note, Ship, Make, Pack}
 use Rattle.frame_core.specs.Numbers.{Recall}
 use Rattle.trace_core.specs.declared.pairs.Pair.{Pair}
-use Rattle.trace_core.specs.Pairs.{Ships, TakesIn, GivesOut, make_id, IsRelated}
+use Rattle.trace_core.specs.Pairs.{TakesIn, GivesOut, make_id, IsRelated}
 use Rattle.trace_core.specs.Parts.{TakesInAsPart}
 use Rattle.trace_core.specs.Places.{IsPartAt}
 use Rattle.trace_core.specs.Searches.{IsFound}
 use Rattle.trace_core.specs.Sites.{SiteEvents}
-use Rattle.trace_core.specs.Spreads.{IsNewTarget}
+use Rattle.trace_core.specs.Carried.{GoTo}
+use Rattle.trace_core.specs.Spreads.{IsNewTarget, ins_in, items_of}
 use Rattle.trace_core.proofs.AddedPairs.{related_with}
+use Rattle.trace_core.proofs.Carrying.{sent_named}
 use Rattle.trace_core.proofs.Members.{contains_cases, contains_none}
 use Rattle.trace_core.proofs.SetMembers.{found-insert, contains_more}
 use Rattle.site_core.specs.HeldIndex.{Index, IsIndex}
 use Rattle.site_core.specs.Quarantines.{Quarantine, held, item_cmp}
-use Rattle.site_core.specs.Sources.{moved_items, FindsAlso, FindsMovedAt, FindsParts, FindsIfInput, FindsHeldInputs, FindsJoined}
+use Rattle.site_core.specs.Blocks.{IsMaking}
+use Rattle.site_core.specs.Sources.{FindsAlso, FindsInputsAt, FindsParts, FindsIfInput, FindsHeldInputs, FindsJoined}
 use Rattle.site_core.proofs.HeldIndex.{held_entry}
 
-ships_moved : (i : List ℕ) (site : ℕ) (b : Body) → Ships i site b → Contains (moved_items b) i
-ships_moved i site (Note items) h = absurd h
-ships_moved i site (Ship items sites outside) h = h.0
-ships_moved i site (Make id ins outs) h = absurd h
+pub taken_in : (i : List ℕ) (b : Body) → TakesIn i b → Contains (ins_in b) i
+taken_in i (Note items) h = absurd h
+taken_in i (Ship items sites outside) h = absurd h
+taken_in i (Make id ins outs) h = h
+taken_in i (Pack action parent children) h = absurd h
 
-pub taken_moved : (i : List ℕ) (b : Body) → TakesIn i b → Contains (moved_items b) i
-taken_moved i (Note items) h = absurd h
-taken_moved i (Ship items sites outside) h = absurd h
-taken_moved i (Make id ins outs) h = h
+-- a transformation sends nothing
+pub makes_only : (events : List Content) (b : Body) (site : ℕ) → IsMaking b → GoTo events b site → ⊥
+makes_only events (Note items) site making goes = making
+makes_only events (Ship items sites outside) site making goes = making
+makes_only events (Make id ins outs) site making goes = goes
+makes_only events (Pack action parent children) site making goes = making
+
+-- what an item is related to comes of events that name it
+taken_named : (i : List ℕ) (b : Body) → TakesIn i b → Contains (items_of b) i
+taken_named i (Note items) h = absurd h
+taken_named i (Ship items sites outside) h = absurd h
+taken_named i (Make id ins outs) h = Contains-append_left ins outs i h
+taken_named i (Pack action parent children) h = absurd h
+
+pub related_named : (s : SiteEvents) (i : List ℕ) (p : Pair) → IsRelated s i p → Any (λ e. Contains (items_of e.body) i) s.events
+related_named s i p related = ⊎_elim
+    (λ shipped. sent_named s.events i p.site shipped.2)
+    (λ (here, (k, e, lt, at, (takes, gives))). (k, e, lt, at, taken_named i e.body takes))
+    related
 
 -- one more item is found
 pub found_more : (first old new : BTreeSet (List ℕ)) (items : List (List ℕ)) (k : ℕ) (i copy : List ℕ) → k < length items → i ≡ get_or items k i → copy ≡ i → Updates item_cmp old new copy true
@@ -52,20 +72,20 @@ found_more first old new items k i copy below at same upd so_far =
 -- what the events at the places move is found
 pub record FindsAtPlaces (events : List Content) (places : List ℕ) (old new : BTreeSet (List ℕ)) : Type 0 where
   pub stay : (i : List ℕ) → IsFound item_cmp old i → IsFound item_cmp new i
-  pub all : (k : ℕ) → Contains places k → (e : Content) → slice_get events k ≡ Some e → (i : List ℕ) → Contains (moved_items e.body) i → IsFound item_cmp new i
+  pub all : (k : ℕ) → Contains places k → (e : Content) → slice_get events k ≡ Some e → (i : List ℕ) → Contains (ins_in e.body) i → IsFound item_cmp new i
 
-moved_stays : (o : Option Content) (old new : BTreeSet (List ℕ)) → FindsMovedAt o old new → (i : List ℕ) → IsFound item_cmp old i → IsFound item_cmp new i
-moved_stays None old new also = also.stay
-moved_stays (Some e) old new also = also.stay
+inputs_stay : (o : Option Content) (old new : BTreeSet (List ℕ)) → FindsInputsAt o old new → (i : List ℕ) → IsFound item_cmp old i → IsFound item_cmp new i
+inputs_stay None old new also = also.stay
+inputs_stay (Some e) old new also = also.stay
 
 -- one place more
-pub place_found : (events : List Content) (places : List ℕ) (n k : ℕ) (first old new : BTreeSet (List ℕ)) → n < length places → k ≡ get_or places n k → FindsMovedAt (slice_get events k) old new
+pub place_found : (events : List Content) (places : List ℕ) (n k : ℕ) (first old new : BTreeSet (List ℕ)) → n < length places → k ≡ get_or places n k → FindsInputsAt (slice_get events k) old new
     → FindsAtPlaces events (take n places) first old → FindsAtPlaces events (take (n + 1) places) first new
 place_found events places n k first old new below at moved so_far = record {
-  stay = λ i h. moved_stays (slice_get events k) old new moved i (so_far.stay i h);
+  stay = λ i h. inputs_stay (slice_get events k) old new moved i (so_far.stay i h);
   all = λ j there e stands i moves. ⊎_elim
-      (λ before. moved_stays (slice_get events k) old new moved i (so_far.all j before e stands i moves))
-      (λ same. let found : FindsAlso old new (moved_items e.body) = subst (λ o. FindsMovedAt o old new) (ap (slice_get events) same ∙ stands) moved in found.all i moves)
+      (λ before. inputs_stay (slice_get events k) old new moved i (so_far.all j before e stands i moves))
+      (λ same. let found : FindsAlso old new (ins_in e.body) = subst (λ o. FindsInputsAt o old new) (ap (slice_get events) same ∙ stands) moved in found.all i moves)
       ((contains_more places n k below at j).0 there);
 }
 
@@ -83,7 +103,7 @@ all_parts events id places n first found past exact so_far = record {
 pub held_among_parts : (events : List Content) (q : Quarantine) (id : List ℕ) (old new : BTreeSet (List ℕ)) → FindsParts (Some id) events old new → FindsHeldInputs events q id old new
 held_among_parts events q id old new parts = record {
   stay = parts.stay;
-  all = λ i r h (k, f, lt, at, (is, takes)). parts.all f (k, lt, at) (id, is, refl) i (taken_moved i f.body takes);
+  all = λ i r h (k, f, lt, at, (is, takes)). parts.all f (k, lt, at) (id, is, refl) i (taken_in i f.body takes);
 }
 
 pub input_found : (events : List Content) (id item copy : List ℕ) (old new : BTreeSet (List ℕ)) → copy ≡ item → Updates item_cmp old new copy true → FindsIfInput events id item old new
@@ -145,15 +165,15 @@ module _ (s : SiteEvents) (id i : List ℕ) (q : Pair) where
   pub parts_relate : TakesInAsPart s.events id i → Any (λ g. (make_id g.body ≡ Some id) × GivesOut q.item g.body) s.events → q.site ≡ s.me → IsRelated s i q
   parts_relate (k, f, lt, at, (is, takes)) (l, g, lt', at', (named, gives)) here = inr (here, (k, f, lt, at, (takes, (l, g, lt', at', (inr (id, is, named), gives)))))
 
--- a new pair begins in an item that the event moves, or in one that a part of its transformation takes in
-pub new_pair_source : (s : SiteEvents) (e : Content) (i : List ℕ) (q : Pair) → IsNewTarget s e i q
-    → Contains (moved_items e.body) i ⊎ ((id : List ℕ) × (make_id e.body ≡ Some id) × TakesInAsPart s.events id i)
-new_pair_source s e i q (related, new) = ⊎_elim
+-- a new pair of a transformation begins in an item that it takes in, or that another part of it does
+pub new_pair_source : (s : SiteEvents) (e : Content) (i : List ℕ) (q : Pair) → IsMaking e.body → IsNewTarget s e i q
+    → Contains (ins_in e.body) i ⊎ ((id : List ℕ) × (make_id e.body ≡ Some id) × TakesInAsPart s.events id i)
+new_pair_source s e i q making (related, new) = ⊎_elim
     (λ before. absurd (new before))
     (λ added. ⊎_elim
     (λ own. ⊎_elim
-    (λ (other, (ships, same)). inl (ships_moved i q.site e.body ships))
-    (λ (here, (takes, gives)). inl (taken_moved i e.body takes))
+    (λ (other, (sends, same)). absurd (makes_only s.events e.body q.site making sends.0))
+    (λ (here, (takes, gives)). inl (taken_in i e.body takes))
     own)
     (λ ((k, f, lt, at, (takes, (id, first, second))), (here, gives)).
     inr (id, second, (k, f, lt, at, (first, takes))))
@@ -161,11 +181,11 @@ new_pair_source s e i q (related, new) = ⊎_elim
     (related_with s e i q related)
 
 -- the list has each quarantined source of a new pair
-pub sources_listed : (s : SiteEvents) (q : Quarantine) (e : Content) (b b' : Body) (first own all : BTreeSet (List ℕ)) (items : List (List ℕ)) → b ≡ e.body → b' ≡ e.body → FindsAlso first own (moved_items b)
-    → FindsJoined s.events q b' own all → items ≡ all.keys → (i : List ℕ) (r : Recall) (p : Pair) → IsTrue (held q r i) → IsNewTarget s e i p → Contains items i
-sources_listed s q e b b' first own all items is is' also joined keys i r p h new =
+pub sources_listed : (s : SiteEvents) (q : Quarantine) (e : Content) (b b' : Body) (first own all : BTreeSet (List ℕ)) (items : List (List ℕ)) → b ≡ e.body → b' ≡ e.body → FindsAlso first own (ins_in b)
+    → FindsJoined s.events q b' own all → items ≡ all.keys → (i : List ℕ) (r : Recall) (p : Pair) → IsMaking e.body → IsTrue (held q r i) → IsNewTarget s e i p → Contains items i
+sources_listed s q e b b' first own all items is is' also joined keys i r p making h new =
     let found : IsFound item_cmp all i = ⊎_elim
-    (λ moves. joined.stay i (also.all i (subst (λ c. Contains (moved_items c) i) (sym is) moves)))
+    (λ takes. joined.stay i (also.all i (subst (λ c. Contains (ins_in c) i) (sym is) takes)))
     (λ (id, named, takes). joined.all id i r (ap make_id is' ∙ named) h takes)
-    (new_pair_source s e i p new) in
+    (new_pair_source s e i p making new) in
     subst (λ xs. Contains xs i) (sym keys) ((btree_set_contains_iff nat_list_cmp_total exact_bytes all i).0 found)

@@ -4,11 +4,11 @@ use Rattle.std.specs.declared.cmp.Ordering.TheVariants.{Greater}
 use Rattle.std.specs.List.{list_all}
 use Rattle.event_json.specs.Events.{Content}
 use Rattle.event_json.specs.declared.bodies.Body.{Body}
-use Rattle.event_json.specs.declared.bodies.Body.TheVariants.{Note, Ship, Make}
+use Rattle.event_json.specs.declared.bodies.Body.TheVariants.{Note, Ship, Make, Pack}
 use Rattle.frame_core.specs.Identifiers.{recall_cmp}
 use Rattle.frame_core.specs.Numbers.{Recall}
 use Rattle.trace_core.specs.Adding.{standing_among}
-use Rattle.trace_core.specs.Pairs.{Ships, make_id}
+use Rattle.trace_core.specs.Pairs.{make_id}
 use Rattle.trace_core.specs.Parts.{TakesInAsPart}
 use Rattle.trace_core.specs.Sites.{SiteEvents}
 use Rattle.trace_core.specs.declared.adding.Standing.{Standing}
@@ -23,16 +23,23 @@ abbrev pub IsLeastBlock : SiteEvents → Quarantine → Content → List ℕ →
 IsLeastBlock s q e i None = (r : Recall) → IsBlockedBy s q e i r → ⊥
 IsLeastBlock s q e i (Some r) = IsBlockedBy s q e i r × ((other : Recall) → IsBlockedBy s q e i other → recall_cmp r other ≢ Greater)
 
--- the body doesn't ship the item, and where it is a part of a transformation that has other parts, one of those takes the item in
-pub record LeadsToOutputs (s : SiteEvents) (b : Body) (i : List ℕ) : Type 0 where
-  pub ships_nowhere : (site : ℕ) → Ships i site b → ⊥
-  pub joined : (id : List ℕ) → make_id b ≡ Some id → TakesInAsPart s.events id i
+-- a transformation
+abbrev pub IsMaking : Body → Type 0
+IsMaking (Note items) = ⊥
+IsMaking (Ship items sites outside) = ⊥
+IsMaking (Make id ins outs) = ⊤
+IsMaking (Pack action parent children) = ⊥
+
+-- where the body is a part of a transformation with an id, a captured part of it takes the item in
+abbrev pub JoinsAsPart : SiteEvents → Body → List ℕ → Type 0
+JoinsAsPart s b i = (id : List ℕ) → make_id b ≡ Some id → TakesInAsPart s.events id i
 
 -- whether all outputs of the body are quarantined under the recall
 abbrev pub holds_outputs : Quarantine → Body → Recall → Bool
 holds_outputs q (Note items) r = true
 holds_outputs q (Ship items sites outside) r = true
 holds_outputs q (Make id ins outs) r = list_all (λ j. held q r j) outs
+holds_outputs q (Pack action parent children) r = true
 
 -- the least recall by which it is blocked, with the item
 abbrev pub IsBlockFrom : SiteEvents → Quarantine → Content → List ℕ → Option (Recall × List ℕ) → Type 0

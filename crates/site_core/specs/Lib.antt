@@ -12,6 +12,7 @@ pub mod Naming
 pub mod Plans
 pub mod Quarantines
 pub mod Records
+pub mod SentBlocks
 pub mod Shipments
 pub mod Shipping
 pub mod Shortcuts

@@ -1,22 +1,25 @@
 //! What capturing events makes of a site with a quarantine, and when an event is refused.
-ghost use Rattle.std.specs.Prelude.{◌≡◌, ◌==◌, IfOk, IfErr, OnErr, IsTrue, Contains, not, ◌&&◌, length, take};
+ghost use Rattle.std.specs.Prelude.{◌≡◌, ◌↔◌, ◌==◌, ◌++◌, ◌∷◌, [], ℕ, List, Some, IfOk, IfErr, OnErr, IsTrue, Contains, not, ◌&&◌, length, take, option_map};
+ghost use Rattle.event_json.specs.Events.{Content};
 ghost use Rattle.frame_core.specs.Numbers.{Recall};
 ghost use Rattle.std.specs.List.{list_all, list_any};
 ghost use Rattle.site_core.specs.Quarantines.{held};
 ghost use Rattle.site_core.specs.Capturing.{IsCaptured, IsBlockedBy, TellsRefusal};
 ghost use Rattle.trace_core.specs.Adding.{standing_among, with_fresh};
 ghost use Rattle.trace_core.specs.declared.adding.Standing.TheVariants.{Fresh};
-ghost use Rattle.site_core.specs.Blocks.{IsLeastBlock, IsBlockFrom, IsFirstBlockOf, LeadsToOutputs, holds_outputs, Passes, Refuses};
+ghost use Rattle.site_core.specs.Blocks.{IsMaking, IsLeastBlock, IsBlockFrom, IsFirstBlockOf, JoinsAsPart, holds_outputs, Passes, Refuses};
+ghost use Rattle.site_core.specs.SentBlocks.{IsHeldAway, IsLeastHolder, IsLeastSent, IsLesser};
 
-use crate::holding::holders;
+use crate::holding::{holders, is_held};
 use crate::quarantines::Quarantine;
 use crate::sources::{part_id, sources};
 use epc_core::Epc;
 use event_json::{Body, Event, SiteNo};
 use frame_core::RecallId;
 use std::alloc::{AllocError, Global};
+use std::cmp::Ordering;
 use thiserror::Error;
-use trace_core::{Added, Captured, Pair, Standing};
+use trace_core::{Added, Captured, Pair, Sending, Standing};
 
 /// Why a document's events weren't captured. Nothing was changed then.
 #[derive(Debug, Drop, PartialEq, Eq, Error)]
@@ -126,6 +129,35 @@ fn capture_fresh(
     ensures refused { IfErr result (λ fault. Refuses captured.old quarantine.now event number fault) }
     ensures unchanged { OnErr result (captured.new ≡ captured.old) }
 {
+    if is_making(event.body()) {
+        capture_made(alloc, captured, quarantine, event, number)
+    } else {
+        capture_sent(alloc, captured, quarantine, event, number)
+    }
+}
+
+/// Whether it is a transformation.
+fn is_making(body: &Body) -> bool
+    ensures { IsTrue result ↔ IsMaking body.now }
+{
+    matches!(body, Body::Make { .. })
+}
+
+/// Captures a transformation that is fresh, unless it is blocked, which is found before it is added.
+fn capture_made(
+    alloc: Global,
+    captured: &mut Captured,
+    quarantine: &Quarantine,
+    event: Event,
+    number: u64,
+) -> Result<Standing, CaptureFault>
+    requires fresh { standing_among captured.old.events event ≡ Fresh }
+    requires making { IsMaking event.body }
+    ensures passed { IfOk result (λ standing. Passes captured.old quarantine.now event standing) }
+    ensures ok { IfOk result (λ standing. captured.new ≡ record captured.old { events = with_fresh captured.old.events event standing }) }
+    ensures refused { IfErr result (λ fault. Refuses captured.old quarantine.now event number fault) }
+    ensures unchanged { OnErr result (captured.new ≡ captured.old) }
+{
     match first_block(alloc, captured, quarantine, &event) {
         Err(_) => Err(CaptureFault::NoMemory),
         Ok(Some((recall, item))) => Err(CaptureFault::Blocked {
@@ -140,14 +172,129 @@ fn capture_fresh(
     }
 }
 
-/// The least item, and then the least recall, by which the event is blocked: it would lead from the item,
+/// Captures an event that is fresh and no transformation, unless it is blocked: it is added, what it newly sends is
+/// looked through, and where that is quarantined it is taken back.
+fn capture_sent(
+    alloc: Global,
+    captured: &mut Captured,
+    quarantine: &Quarantine,
+    event: Event,
+    number: u64,
+) -> Result<Standing, CaptureFault>
+    requires fresh { standing_among captured.old.events event ≡ Fresh }
+    requires sending { IsMaking event.body → ⊥ }
+    ensures passed { IfOk result (λ standing. Passes captured.old quarantine.now event standing) }
+    ensures ok { IfOk result (λ standing. captured.new ≡ record captured.old { events = with_fresh captured.old.events event standing }) }
+    ensures refused { IfErr result (λ fault. Refuses captured.old quarantine.now event number fault) }
+    ensures unchanged { OnErr result (captured.new ≡ captured.old) }
+{
+    let before = captured.len();
+    match captured.add_event(event) {
+        Err(_) => Err(CaptureFault::NoMemory),
+        Ok(standing) => match sent_block(alloc, captured, quarantine) {
+            Ok(None) => Ok(standing),
+            Ok(Some((recall, item))) => {
+                captured.truncate(before);
+                Err(CaptureFault::Blocked {
+                    recall,
+                    item,
+                    event: number,
+                })
+            }
+            Err(_) => {
+                captured.truncate(before);
+                Err(CaptureFault::NoMemory)
+            }
+        },
+    }
+}
+
+/// The least item, and then the least recall, by which the last event, no transformation, would have been blocked.
+fn sent_block(
+    alloc: Global,
+    captured: &Captured,
+    quarantine: &Quarantine,
+) -> Result<Option<(RecallId, Epc)>, AllocError>
+    ensures { IfOk result (λ block. (before : List Content) (e : Content) → captured.now.events ≡ before ++ e ∷ []
+        → (IsMaking e.body → ⊥) → IsFirstBlockOf (record captured.now { events = before }) quarantine.now e block) }
+{
+    if quarantine.is_empty() {
+        return Ok(None);
+    }
+    match least_sent(captured, quarantine) {
+        Some(item) => least_holder(alloc, quarantine, item),
+        None => Ok(None),
+    }
+}
+
+/// The least recall under which an item is quarantined, with the item.
+fn least_holder(
+    alloc: Global,
+    quarantine: &Quarantine,
+    item: &Epc,
+) -> Result<Option<(RecallId, Epc)>, AllocError>
+    ensures { IfOk result (IsLeastHolder quarantine.now item.now) }
+{
+    let recalls = holders(alloc, quarantine, item)?;
+    match recalls.first() {
+        Some(recall) => Ok(Some((*recall, item.copy(alloc)?))),
+        None => Ok(None),
+    }
+}
+
+/// The least of the quarantined items that the last event newly sent to another site.
+fn least_sent<'c>(captured: &'c Captured, quarantine: &Quarantine) -> Option<&'c Epc>
+    ensures { (before : List Content) (e : Content) → captured.now.events ≡ before ++ e ∷ []
+        → IsLeastSent (record captured.now { events = before }) quarantine.now e (option_map (λ i. i.now) result) }
+{
+    let mut least = None;
+    for sending in captured.last_sent() {
+        if let Some(item) = held_away(captured, quarantine, sending) {
+            least = Some(lesser(least, item));
+        }
+    }
+    least
+}
+
+/// The item of a sending to another site, where it is quarantined.
+fn held_away<'c>(
+    captured: &'c Captured,
+    quarantine: &Quarantine,
+    sending: &Sending,
+) -> Option<&'c Epc>
+    ensures { IsHeldAway captured.now quarantine.now sending.now (option_map (λ i. i.now) result) }
+{
+    if sending.site == captured.me() {
+        return None;
+    }
+    match captured.item(sending.item) {
+        Some(item) if is_held(quarantine, item) => Some(item),
+        _ => None,
+    }
+}
+
+/// The lesser of two items, or the one that there is.
+fn lesser<'c>(least: Option<&'c Epc>, item: &'c Epc) -> &'c Epc
+    ensures { IsLesser (option_map (λ i. i.now) least.entry) item.now result.now }
+{
+    match least {
+        Some(other) => match other.cmp(item) {
+            Ordering::Greater => item,
+            _ => other,
+        },
+        None => item,
+    }
+}
+
+/// The least item, and then the least recall, by which a transformation is blocked: it would lead from the item,
 /// which is quarantined under the recall, to a pair that isn't at this site and quarantined under it.
-pub fn first_block(
+fn first_block(
     alloc: Global,
     captured: &Captured,
     quarantine: &Quarantine,
     event: &Event,
 ) -> Result<Option<(RecallId, Epc)>, AllocError>
+    requires { IsMaking event.now.body }
     ensures { IfOk result (λ block. IsFirstBlockOf captured.now quarantine.now event.now block) }
 {
     if quarantine.is_empty() {
@@ -162,7 +309,7 @@ pub fn first_block(
     Ok(None)
 }
 
-/// The least recall by which the event is blocked from the item, with the item.
+/// The least recall by which a transformation is blocked from the item, with the item.
 fn block_from(
     alloc: Global,
     captured: &Captured,
@@ -170,6 +317,7 @@ fn block_from(
     event: &Event,
     item: Epc,
 ) -> Result<Option<(RecallId, Epc)>, AllocError>
+    requires { IsMaking event.now.body }
     ensures { IfOk result (λ block. IsBlockFrom captured.now quarantine.now event.now item block) }
 {
     match least_recall(alloc, captured, quarantine, event, &item)? {
@@ -178,7 +326,7 @@ fn block_from(
     }
 }
 
-/// The least recall by which the event is blocked from the item.
+/// The least recall by which a transformation is blocked from the item.
 fn least_recall(
     alloc: Global,
     captured: &Captured,
@@ -186,6 +334,7 @@ fn least_recall(
     event: &Event,
     item: &Epc,
 ) -> Result<Option<RecallId>, AllocError>
+    requires { IsMaking event.now.body }
     ensures { IfOk result (λ recall. IsLeastBlock captured.now quarantine.now event.now item.now recall) }
 {
     let recalls = holders(alloc, quarantine, item)?;
@@ -195,7 +344,7 @@ fn least_recall(
     if stays_inside(captured, quarantine, event, item, &recalls) {
         return Ok(None);
     }
-    let targets = captured.new_targets(event, item)?;
+    let targets = captured.new_made(event, item)?;
     for recall in recalls {
         if leads_out(captured.me(), quarantine, recall, &targets) {
             return Ok(Some(recall));
@@ -204,7 +353,7 @@ fn least_recall(
     Ok(None)
 }
 
-/// Whether the event leads the item to outputs of its own alone, all of which are quarantined under each
+/// Whether a transformation leads the item to outputs of its own alone, all of which are quarantined under each
 /// of the recalls. It is found by look-ups, without what the item is related to.
 fn stays_inside(
     captured: &Captured,
@@ -213,24 +362,22 @@ fn stays_inside(
     item: &Epc,
     recalls: &[RecallId],
 ) -> bool
+    requires { IsMaking event.now.body }
     ensures { IsTrue result → (r : Recall) → Contains recalls.now r
         → IsBlockedBy captured.now quarantine.now event.now item.now r → ⊥ }
 {
     let body = event.body();
-    leads_to_outputs(captured, body, item) && each_holds_outputs(quarantine, recalls, body)
+    joins_as_part(captured, body, item) && each_holds_outputs(quarantine, recalls, body)
 }
 
-/// Whether new pairs from the item by the body are outputs of the body: those of the captured parts of its
-/// transformation aren't new where one of them takes the item in.
-fn leads_to_outputs(captured: &Captured, body: &Body, item: &Epc) -> bool
-    ensures { IsTrue result → LeadsToOutputs captured.now body.now item.now }
+/// Whether a captured part of the body's transformation takes the item in, if it has an id: then the outputs of those
+/// parts aren't new.
+fn joins_as_part(captured: &Captured, body: &Body, item: &Epc) -> bool
+    ensures { IsTrue result → JoinsAsPart captured.now body.now item.now }
 {
-    match body {
-        Body::Ship { .. } => false,
-        _ => match part_id(body) {
-            Some(id) => captured.is_part_input(id, item),
-            None => true,
-        },
+    match part_id(body) {
+        Some(id) => captured.is_part_input(id, item),
+        None => true,
     }
 }
 

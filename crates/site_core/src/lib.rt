@@ -27,7 +27,7 @@ pub mod step_laws;
 mod steps;
 mod undoing;
 
-pub use capturing::{CaptureFault, capture_all, first_block};
+pub use capturing::{CaptureFault, capture_all};
 pub use emitting::emittable;
 pub use inputs::SiteInput;
 pub use item_sets::ItemSet;

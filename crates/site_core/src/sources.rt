@@ -1,11 +1,12 @@
-//! The items from which an event that comes would give new pairs.
+//! The items from which a transformation that comes would give new pairs.
 ghost use Rattle.std.specs.Prelude.{◌≡◌, ◌↔◌, IfOk, OnOk, ℕ, List, Some, Contains, IsTrue, option_map, slice_get};
 ghost use Rattle.frame_core.specs.Numbers.{Recall};
 ghost use Rattle.trace_core.specs.declared.pairs.Pair.{Pair};
 ghost use Rattle.trace_core.specs.Pairs.{make_id};
-ghost use Rattle.trace_core.specs.Spreads.{AreAscendingItems, IsNewTarget};
+ghost use Rattle.trace_core.specs.Spreads.{AreAscendingItems, IsNewTarget, ins_in};
 ghost use Rattle.site_core.specs.Quarantines.{held};
-ghost use Rattle.site_core.specs.Sources.{moved_items, FindsAlso, FindsMovedAt, FindsParts, FindsIfInput, FindsHeldInputs, FindsJoined};
+ghost use Rattle.site_core.specs.Blocks.{IsMaking};
+ghost use Rattle.site_core.specs.Sources.{FindsAlso, FindsInputsAt, FindsParts, FindsIfInput, FindsHeldInputs, FindsJoined};
 
 use crate::ordered_keys::keys_in_order;
 use crate::quarantines::Quarantine;
@@ -15,7 +16,7 @@ use std::alloc::{AllocError, Global};
 use std::collections::BTreeSet;
 use trace_core::Captured;
 
-/// All quarantined items from which the event would give new pairs, and maybe others, ascending. Of a part of
+/// All quarantined items from which a transformation would give new pairs, and maybe others, ascending. Of a part of
 /// a transformation with an id they are looked for among what is quarantined, or among the inputs of the
 /// captured parts of the transformation, whichever are fewer.
 pub fn sources(
@@ -24,12 +25,13 @@ pub fn sources(
     quarantine: &Quarantine,
     event: &Event,
 ) -> Result<Vec<Epc>, AllocError>
+    requires { IsMaking event.now.body }
     ensures ascending { IfOk result (λ items. AreAscendingItems items.items) }
     ensures all { IfOk result (λ items. (i : List ℕ) (r : Recall) (q : Pair) → IsTrue (held quarantine.now r i)
         → IsNewTarget captured.now event.now i q → Contains items.items i) }
 {
     let mut found = BTreeSet::new(alloc);
-    add_moved(alloc, event.body(), &mut found)?;
+    add_inputs(alloc, event.body(), &mut found)?;
     add_joined(alloc, captured, quarantine, event.body(), &mut found)?;
     keys_in_order(alloc, found)
 }
@@ -100,7 +102,7 @@ fn add_if_input(
     Ok(())
 }
 
-/// Adds what the captured parts of a transformation move.
+/// Adds what the captured parts of a transformation take in.
 fn add_parts(
     alloc: Global,
     captured: &Captured,
@@ -111,22 +113,22 @@ fn add_parts(
 {
     let places = captured.parts_of(id)?;
     for place in &places {
-        add_moved_at(alloc, captured, *place, found)?;
+        add_inputs_at(alloc, captured, *place, found)?;
     }
     Ok(())
 }
 
-/// Adds what the event at a place moves.
-fn add_moved_at(
+/// Adds what the event at a place takes in.
+fn add_inputs_at(
     alloc: Global,
     captured: &Captured,
     place: usize,
     found: &mut BTreeSet<Epc>,
 ) -> Result<(), AllocError>
-    ensures { OnOk result (FindsMovedAt (slice_get captured.now.events place) found.old found.new) }
+    ensures { OnOk result (FindsInputsAt (slice_get captured.now.events place) found.old found.new) }
 {
     match captured.event(place) {
-        Some(event) => add_moved(alloc, event.body(), found),
+        Some(event) => add_inputs(alloc, event.body(), found),
         None => Ok(()),
     }
 }
@@ -141,14 +143,13 @@ pub fn part_id(body: &Body) -> Option<&PlainText>
     }
 }
 
-/// Adds the items that an event moves.
-fn add_moved(alloc: Global, body: &Body, found: &mut BTreeSet<Epc>) -> Result<(), AllocError>
-    ensures { OnOk result (FindsAlso found.old found.new (moved_items body.now)) }
+/// Adds the items that an event takes in.
+fn add_inputs(alloc: Global, body: &Body, found: &mut BTreeSet<Epc>) -> Result<(), AllocError>
+    ensures { OnOk result (FindsAlso found.old found.new (ins_in body.now)) }
 {
     match body {
-        Body::Note { .. } => Ok(()),
-        Body::Ship { items, .. } => add_all(alloc, items.as_slice(), found),
         Body::Make { ins, .. } => add_all(alloc, ins.as_slice(), found),
+        _ => Ok(()),
     }
 }
 

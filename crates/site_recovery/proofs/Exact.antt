@@ -37,8 +37,8 @@ module _ (records : List Record) (places : AreInPlace records) where
       let nothing : (world_of records p.site).captured.events ≡ [] = ap (λ z. z.captured.events) (get_or_past records p.site (fresh [] p.site) past) in
       let none : (P : Content → Type 0) → Any P (world_of records p.site).captured.events → ⊥ = λ P any. absurd (omega (arith, ap length nothing, any.2)) in
       elim leads as (λ _. ⊥) [
-        | inl here ↦ elim here.1 as (λ _. ⊥) [ inl shipped ↦ none _ shipped.2 | inr made ↦ none _ made.1 ]
-        | inr away ↦ none _ away.0.2
+        | inl here ↦ elim here.1 as (λ _. ⊥) [ inl shipped ↦ none _ shipped.2.1 | inr made ↦ none _ made.1 ]
+        | inr away ↦ none _ away.0.2.1
       ]
 
   related_within : (p q : Pair) → p.site < length records → LeadsTo (world_of records) p q → IsRelated (world_of records p.site).captured p.item q

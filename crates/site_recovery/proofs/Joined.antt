@@ -117,9 +117,9 @@ module _ (records : List Record) (all : AreAllSites records) where
 
   ships_to_one : (s : ℕ) (i : List ℕ) (t : ℕ) → s < length records → Ships W s i t → t < length records
   ships_to_one s i t below ships =
-      let (k, e, lt, at, is) = ships.2 in
+      let (carrier, (k, e, lt, at, is), carried) = ships.2 in
       let among : ShipsAmong (length (W s).sites) e.body = All-contains (λ (g : Content). ShipsAmong (length (W s).sites) g.body) (W s).captured.events e (all s below).sound.events (k, lt, at) in
-      subst (λ n. t < n) (all s below).all (shipped_within (length (W s).sites) i t e.body among is)
+      subst (λ n. t < n) (all s below).all (shipped_within (length (W s).sites) carrier t e.body among is)
 
   past_fits : (c : Condition) (s : ℕ) → length records ≤ s → FitAt W c s
   past_fits Closed s past = λ r i j h _. absurd (no_item s past r i h)

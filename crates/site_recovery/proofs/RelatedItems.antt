@@ -9,7 +9,7 @@ use Rattle.std.specs.Prelude.{IsTrue}
 use Rattle.frame_core.specs.Orders.{recall_total, recall_exact}
 use Rattle.frame_core.specs.declared.rows.Row.{Row}
 use Rattle.frame_core.proofs.Lookups.{one_key}
-use Rattle.trace_core.specs.Pairs.{Ships, IsShipped, IsRelated}
+use Rattle.trace_core.specs.Pairs.{IsSentTo, IsShipped, IsRelated}
 use Rattle.trace_core.specs.Sites.{SiteEvents}
 use Rattle.trace_core.specs.Spreads.{Inside}
 use Rattle.trace_core.specs.declared.pairs.Pair.{Pair}
@@ -48,7 +48,7 @@ related_at c d i pairs same is listed exact = subst (λ ps. AreRelated c i ps) (
 
 shipped_to : (c : SiteEvents) (i : List ℕ) (to : ℕ) (p : Pair) → c.me ≢ to → p.site ≡ to → IsRelated c i p → IsShipped c i (record { site = to; item = i })
 shipped_to c i to p apart at related = elim related as (λ _. IsShipped c i (record { site = to; item = i })) [
-  | inl shipped ↦ (λ here. apart (sym here), refl, subst (λ t. Any (λ e. Ships i t e.body) c.events) at shipped.2)
+  | inl shipped ↦ (λ here. apart (sym here), refl, subst (λ t. IsSentTo c.events i t) at shipped.2)
   | inr made ↦ absurd (apart (sym made.0 ∙ at))
 ]
 
