@@ -7,8 +7,9 @@ use Rattle.std.specs.List.Sorted.{IsStrictlySortedBy}
 use Rattle.std.specs.Prelude.{IsTrue}
 use Rattle.std.proofs.lemmas.List.{get_or_past, get_or_default}
 use Rattle.std.proofs.lemmas.Map.Views.{btree_set_contains_iff}
+use Rattle.event_json.specs.Events.{Content}
 use Rattle.event_json.specs.declared.bodies.Body.{Body}
-use Rattle.event_json.specs.declared.bodies.Body.TheVariants.{Note, Ship, Make}
+use Rattle.event_json.specs.declared.bodies.Body.TheVariants.{Note, Ship, Make, Pack}
 use Rattle.frame_core.specs.Identifiers.{recall_cmp}
 use Rattle.frame_core.specs.Numbers.{Recall}
 use Rattle.site_core.specs.ItemSets.{Items}
@@ -20,39 +21,57 @@ use Rattle.site_recovery.specs.Checking.{records_at}
 use Rattle.site_recovery.specs.Laws.{AreInPlace}
 use Rattle.site_recovery.specs.Looks.{world_of}
 use Rattle.site_recovery.proofs.Exact.{within_or_past}
+use Rattle.trace_core.specs.Pairs.{Carries, IsCarriedWith}
+use Rattle.trace_core.specs.Relations.{ReachedFrom}
 use Rattle.trace_core.proofs.Members.{contains-map, contains_none}
 use Rattle.trace_core.proofs.SetMembers.{contains-from_map}
 use Rattle.report_core.specs.Destinations.{outside_cmp}
-use Rattle.report_core.specs.Gathering.{Found, IsIn, OneTells, BodyTells, RecordTells}
-use Rattle.report_core.specs.Outside.{ShipsOut, IsOutside, AreOutside}
+use Rattle.report_core.specs.Gathering.{Found, IsIn, ItemGoes, OneTells, BodyTells, RecordTells, ShipmentTells}
+use Rattle.report_core.specs.Outside.{ShipsOut, WentOut, IsOutside, AreOutside}
 use Rattle.report_core.specs.declared.outside.OutsideShipment.{OutsideShipment}
 use Rattle.report_core.proofs.Adding.{outside_total, outside_exact}
 
 -- what an event says, part by part
-pub body_told : (site : ℕ) (items : Items) (body : Body) (x : OutsideShipment) → BodyTells site items body x ↔ ((x.site ≡ site) × IsTrue (set.contains items x.item) × ShipsOut x.item x.destination body)
-body_told site items (Note xs) x = (λ h. absurd h, λ h. absurd h.2)
-body_told site items (Make id ins outs) x = (λ h. absurd h, λ h. absurd h.2)
-body_told site items (Ship xs sites outside) x = (
-  λ (item, among, (has, (d, there, goes))).
-      let same : item ≡ x.item = ap (λ y. y.item) goes in
-      (ap (λ y. y.site) (sym goes), subst (λ i. IsTrue (set.contains items i)) same has, (subst (Contains xs) same among, subst (Contains outside) (ap (λ y. y.destination) goes) there)),
-  λ (at, has, (among, there)). (x.item, among, (has, (x.destination, there, (λ i. record { site = sym at i; item = x.item; destination = x.destination })))),
+pub body_told : (events : List Content) (site : ℕ) (items : Items) (body : Body) (x : OutsideShipment)
+    → BodyTells events site items body x ↔ ((x.site ≡ site) × IsTrue (set.contains items x.item) × ((carrier : List ℕ) × ShipsOut carrier x.destination body × IsCarriedWith events carrier x.item))
+body_told events site items (Note xs) x = (λ h. absurd h, λ h. absurd h.2.1)
+body_told events site items (Make id ins outs) x = (λ h. absurd h, λ h. absurd h.2.1)
+body_told events site items (Pack action parent children) x = (λ h. absurd h, λ h. absurd h.2.1)
+body_told events site items (Ship xs sites outside) x = (
+  λ (item, (carrier, among, carries), (has, (d, there, goes))).
+      let same : item ≡ x.item = ap (λ y. y.item) goes in (
+        ap (λ y. y.site) (sym goes),
+        subst (λ i. IsTrue (set.contains items i)) same has,
+        (carrier, (among, subst (Contains outside) (ap (λ y. y.destination) goes) there), subst (IsCarriedWith events carrier) same carries),
+      ),
+  λ (at, has, (carrier, (among, there), carries)).
+      (x.item, (carrier, among, carries), (has, (x.destination, there, (λ i. record { site = sym at i; item = x.item; destination = x.destination })))),
+)
+
+-- what is carried with the items of a shipment, by the list of it
+pub carried_tells : (events : List Content) (site : ℕ) (items : Items) (shipped destinations carried lent : List (List ℕ)) → lent ≡ carried
+    → ((j : List ℕ) → Contains carried j ↔ ReachedFrom (Carries events) shipped j) → (x : OutsideShipment)
+    → OneTells lent (ItemGoes site items destinations) x ↔ ShipmentTells events site items shipped destinations x
+carried_tells events site items shipped destinations carried lent is exact x = (
+  λ (i, there, goes). (i, (exact i).0 (subst (λ is. Contains is i) is there), goes),
+  λ (i, reached, goes). (i, subst (λ is. Contains is i) (sym is) ((exact i).1 reached), goes),
 )
 
 module _ (recall : Recall) (records : List Record) (places : AreInPlace records) where
   pub told_outside : (x : OutsideShipment) → OneTells records (RecordTells recall) x ↔ IsOutside (world_of records) recall x
   told_outside x = (
     λ (r, (k, below, at), (e, among, tells)).
-        let here = (body_told r.engagement.me (items_under r.quarantine recall) e.body x).0 tells in
+        let here = (body_told r.captured.events r.engagement.me (items_under r.quarantine recall) e.body x).0 tells in
         let is : world_of records k ≡ r = get_or_default records k (fresh [] k) r below ∙ at in
         let number : k ≡ x.site = sym (places k below).engagement ∙ ap (λ z. z.engagement.me) is ∙ sym here.0 in
         let found : r ≡ world_of records x.site = sym is ∙ ap (world_of records) number in
-        subst (λ (z : Record). IsTrue (held z.quarantine recall x.item) × ((f : _) × Contains z.captured.events f × ShipsOut x.item x.destination f.body)) found (here.1, (e, among, here.2)),
-    λ (has, (e, among, ships)). elim (within_or_past x.site (length records)) [
+        let (carrier, ships, carries) = here.2 in
+        subst (λ (z : Record). IsTrue (held z.quarantine recall x.item) × WentOut (λ _. z) x.site x.item x.destination) found (here.1, (carrier, (e, among, ships), carries)),
+    λ (has, (carrier, (e, among, ships), carries)). elim (within_or_past x.site (length records)) [
       | inl below ↦ (
         world_of records x.site,
         (x.site, below, get_or_default records x.site (world_of records x.site) (fresh [] x.site) below),
-        (e, among, (body_told (world_of records x.site).engagement.me (items_under (world_of records x.site).quarantine recall) e.body x).1 (sym (places x.site below).engagement, has, ships)),
+        (e, among, (body_told (world_of records x.site).captured.events (world_of records x.site).engagement.me (items_under (world_of records x.site).quarantine recall) e.body x).1 (sym (places x.site below).engagement, has, (carrier, ships, carries))),
       )
       | inr past ↦
           let nothing : world_of records x.site ≡ fresh [] x.site = get_or_past records x.site (fresh [] x.site) past in
@@ -83,7 +102,7 @@ told_of_records recall refs x = (
 -- no event says anything where nothing is held under the recall
 pub none_told : (recall : Recall) (r : Record) (q : Quarantine) → q ≡ r.quarantine → None ≡ finite.get q recall → (x : OutsideShipment) → RecordTells recall r x → ⊥
 none_told recall r q same none x (e, among, tells) =
-    let has = ((body_told r.engagement.me (items_under r.quarantine recall) e.body x).0 tells).1 in
+    let has = ((body_told r.captured.events r.engagement.me (items_under r.quarantine recall) e.body x).0 tells).1 in
     let nothing = none_held r.quarantine recall x.item (ap (λ z. finite.get z recall) (sym same) ∙ sym none) in
     false≢true (sym nothing ∙ has)
 

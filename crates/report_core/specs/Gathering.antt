@@ -3,8 +3,10 @@ use Rattle.std.specs.Prelude.{◌≡◌, ◌⊎◌, ◌↔◌, ℕ, IsTrue, List
 use Rattle.std.specs.BTreeSet.{BTreeSet, contains}
 use Rattle.event_json.specs.Events.{Content}
 use Rattle.event_json.specs.declared.bodies.Body.{Body}
-use Rattle.event_json.specs.declared.bodies.Body.TheVariants.{Note, Ship, Make}
+use Rattle.event_json.specs.declared.bodies.Body.TheVariants.{Note, Ship, Make, Pack}
 use Rattle.frame_core.specs.Numbers.{Recall}
+use Rattle.trace_core.specs.Pairs.{Carries}
+use Rattle.trace_core.specs.Relations.{ReachedFrom}
 use Rattle.site_core.specs.ItemSets.{Items}
 use Rattle.site_core.specs.ItemSets as set
 use Rattle.site_core.specs.Quarantines.{items_under}
@@ -34,12 +36,18 @@ Goes site item destination x = record { site = site; item = item; destination = 
 abbrev pub ItemGoes : ℕ → Items → List (List ℕ) → List ℕ → OutsideShipment → Type 0
 ItemGoes site held destinations item x = IsTrue (set.contains held item) × OneTells destinations (Goes site item) x
 
--- the event ships one of the items held
-abbrev pub BodyTells : ℕ → Items → Body → OutsideShipment → Type 0
-BodyTells site held (Note items) x = ⊥
-BodyTells site held (Ship items sites outside) x = OneTells items (ItemGoes site held outside) x
-BodyTells site held (Make id ins outs) x = ⊥
+-- what is carried with one of the items, and is among those held, went to one of the destinations
+abbrev pub ShipmentTells : List Content → ℕ → Items → List (List ℕ) → List (List ℕ) → OutsideShipment → Type 0
+ShipmentTells events site held items destinations x = (i : List ℕ) × ReachedFrom (Carries events) items i × ItemGoes site held destinations i x
 
--- one of the site's events ships an item that it holds under the recall
+-- the event ships one of the items held, or what it lies in
+abbrev pub BodyTells : List Content → ℕ → Items → Body → OutsideShipment → Type 0
+BodyTells events site held (Note items) x = ⊥
+BodyTells events site held (Ship items sites outside) x = ShipmentTells events site held items outside x
+BodyTells events site held (Make id ins outs) x = ⊥
+BodyTells events site held (Pack action parent children) x = ⊥
+
+-- one of the site's events ships an item that it holds under the recall, or what it lies in
 abbrev pub RecordTells : Recall → Record → OutsideShipment → Type 0
-RecordTells recall r x = OneTells r.captured.events (λ (e : Content). BodyTells r.engagement.me (items_under r.quarantine recall) e.body) x
+RecordTells recall r x =
+    OneTells r.captured.events (λ (e : Content). BodyTells r.captured.events r.engagement.me (items_under r.quarantine recall) e.body) x

@@ -1,11 +1,12 @@
 -- What of a recall was shipped to places outside the traced sites (GS1 EPCIS 2.0, section 7.4: an ObjectEvent with
--- destinations ships its items to each).
+-- destinations ships its items to each, and with them what lies in them).
 use Rattle.std.specs.Prelude.{◌↔◌, ℕ, List, Contains}
 use Rattle.std.specs.List.Sorted.{IsStrictlySortedBy}
 use Rattle.event_json.specs.Events.{Content}
 use Rattle.event_json.specs.declared.bodies.Body.{Body}
-use Rattle.event_json.specs.declared.bodies.Body.TheVariants.{Note, Ship, Make}
+use Rattle.event_json.specs.declared.bodies.Body.TheVariants.{Note, Ship, Make, Pack}
 use Rattle.frame_core.specs.Numbers.{Recall}
+use Rattle.trace_core.specs.Pairs.{IsCarriedWith}
 use Rattle.site_recovery.specs.Looks.{World, Held}
 use Rattle.report_core.specs.Destinations.{outside_cmp}
 use Rattle.report_core.specs.declared.outside.OutsideShipment.{OutsideShipment}
@@ -15,12 +16,14 @@ abbrev pub ShipsOut : List ℕ → List ℕ → Body → Type 0
 ShipsOut item destination (Note items) = ⊥
 ShipsOut item destination (Ship items sites outside) = Contains items item × Contains outside destination
 ShipsOut item destination (Make id ins outs) = ⊥
+ShipsOut item destination (Pack action parent children) = ⊥
 
--- one of the events that the site captured ships the item to the destination
+-- one of the events that the site captured ships something to the destination that the item is carried with
 abbrev pub WentOut : World → ℕ → List ℕ → List ℕ → Type 0
-WentOut W s item destination = (e : Content) × Contains (W s).captured.events e × ShipsOut item destination e.body
+WentOut W s item destination =
+    (carrier : List ℕ) × ((e : Content) × Contains (W s).captured.events e × ShipsOut carrier destination e.body) × IsCarriedWith (W s).captured.events carrier item
 
--- the item is quarantined at the site under the recall, and was shipped from there to the destination
+-- the item is quarantined at the site under the recall, and was shipped from there to the destination, by itself or with what it lies in
 abbrev pub IsOutside : World → Recall → OutsideShipment → Type 0
 IsOutside W recall x = Held W x.site recall x.item × WentOut W x.site x.item x.destination
 

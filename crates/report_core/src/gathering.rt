@@ -1,6 +1,6 @@
 //! How the shipments out of the traced sites are found, each event once.
 ghost use Rattle.std.specs.Prelude.{◌≡◌, OnOk};
-ghost use Rattle.report_core.specs.Gathering.{Adds, BodyTells, Goes, ItemGoes, OneTells, RecordTells};
+ghost use Rattle.report_core.specs.Gathering.{Adds, BodyTells, Goes, ItemGoes, OneTells, RecordTells, ShipmentTells};
 
 use crate::destinations::Destination;
 use crate::outside::OutsideShipment;
@@ -10,6 +10,7 @@ use frame_core::RecallId;
 use site_core::{ItemSet, SiteState};
 use std::alloc::{AllocError, Global};
 use std::collections::BTreeSet;
+use trace_core::Captured;
 
 /// Adds what one site shipped out of what it holds under the recall.
 pub(crate) fn add_of_site(
@@ -26,7 +27,7 @@ pub(crate) fn add_of_site(
     let captured = state.captured();
     for place in 0..captured.len() {
         if let Some(event) = captured.event(place) {
-            add_of_body(alloc, state.me(), held, event.body(), found)?;
+            add_of_body(alloc, captured, state.me(), held, event.body(), found)?;
         }
     }
     Ok(())
@@ -35,24 +36,45 @@ pub(crate) fn add_of_site(
 /// Adds what an event of the site ships out of these items.
 fn add_of_body(
     alloc: Global,
+    captured: &Captured,
     site: SiteNo,
     held: &ItemSet,
     body: &Body,
     found: &mut BTreeSet<OutsideShipment>,
 ) -> Result<(), AllocError>
-    ensures { OnOk result (Adds found.old found.new (BodyTells site held.now body.now)) }
+    ensures { OnOk result (Adds found.old found.new (BodyTells captured.now.events site held.now body.now)) }
 {
     match body {
-        Body::Ship { items, outside, .. } => add_of_items(
+        Body::Ship { items, outside, .. } => add_of_shipment(
             alloc,
+            captured,
             site,
             held,
             items.as_slice(),
             outside.as_slice(),
             found,
         ),
-        Body::Note { .. } | Body::Make { .. } => Ok(()),
+        Body::Note { .. } | Body::Make { .. } | Body::Pack { .. } => Ok(()),
     }
+}
+
+/// Adds those items that are held and carried with the items of a shipment, with each destination.
+fn add_of_shipment(
+    alloc: Global,
+    captured: &Captured,
+    site: SiteNo,
+    held: &ItemSet,
+    items: &[Epc],
+    destinations: &[PlainText],
+    found: &mut BTreeSet<OutsideShipment>,
+) -> Result<(), AllocError>
+    ensures { OnOk result (Adds found.old found.new (ShipmentTells captured.now.events site held.now items.now destinations.now)) }
+{
+    if destinations.is_empty() {
+        return Ok(());
+    }
+    let carried = captured.carried_with(items)?;
+    add_of_items(alloc, site, held, &carried, destinations, found)
 }
 
 /// Adds those of the items that are held, with each destination.

@@ -22,7 +22,8 @@ returns-in_default c =
 pub loop-place-preserved : goal.loop-place-preserved
 loop-place-preserved c =
     let me = c.args.state.now.engagement.me in
-    let tells = λ (e : Content). BodyTells me c.in-Some.held.now e.body in
+    let all = c.captured-captured.result.now.events in
+    let tells = λ (e : Content). BodyTells all me c.in-Some.held.now e.body in
     let events = c.captured-captured.result.now.events in
     let place = c.loop-place.place in
     let start = c.args.found.now in
@@ -30,8 +31,8 @@ loop-place-preserved c =
       | in-Some-event+in_ok-add_of_body w ↦
           let event = w.in-Some-event.event.now in
           let there = sym (sym (ap (option_map (λ e. e.now)) w.in-Some-event.is) ∙ c.event.ensures) in
-          let adds = subst (λ m. Adds c.loop-place.found w.add_of_body.new.found (BodyTells m c.in-Some.held.now event.body)) w.me.ensures.me
-          (subst (λ b. Adds c.loop-place.found w.add_of_body.new.found (BodyTells w.me.result c.in-Some.held.now b)) w.body.ensures.value w.in_ok-add_of_body.ensures) in
+          let adds = subst (λ m. Adds c.loop-place.found w.add_of_body.new.found (BodyTells all m c.in-Some.held.now event.body)) w.me.ensures.me
+          (subst (λ b. Adds c.loop-place.found w.add_of_body.new.found (BodyTells all w.me.result c.in-Some.held.now b)) w.body.ensures.value w.in_ok-add_of_body.ensures) in
           subst (λ f. Adds start f (OneTells (take (place + 1) events) tells)) (sym w.found-is)
           (one_more tells events place event start c.loop-place.found w.add_of_body.new.found (slice_get_within events place event there) (sym (get_or_from_slice_get events place event event there)) c.loop-place.invariant adds)
       | in_default-event w ↦
@@ -47,6 +48,7 @@ returns c =
     let found = c.loop-place.found in
     let some = sym (ap (option_map (λ items. items.now)) c.in-Some.is) ∙ c.under.ensures in
     let is = held_set c.args.recall c.args.state.now c.quarantine.result.now c.in-Some.held.now c.quarantine.ensures some in
-    let all = all_added (λ (e : Content). BodyTells me c.in-Some.held.now e.body) c.captured-captured.result.now.events c.loop-place.place start found (omega (arith, c.len-place-end.ensures)) c.loop-place.invariant in
-    subst (λ (h : Items). Adds start found (OneTells c.args.state.now.captured.events (λ (e : Content). BodyTells me h e.body))) is
-    (subst (λ (s : SiteEvents). Adds start found (OneTells s.events (λ (e : Content). BodyTells me c.in-Some.held.now e.body))) c.captured-captured.ensures all)
+    let events = c.captured-captured.result.now.events in
+    let all = all_added (λ (e : Content). BodyTells events me c.in-Some.held.now e.body) events c.loop-place.place start found (omega (arith, c.len-place-end.ensures)) c.loop-place.invariant in
+    subst (λ (h : Items). Adds start found (OneTells c.args.state.now.captured.events (λ (e : Content). BodyTells c.args.state.now.captured.events me h e.body))) is
+    (subst (λ (s : SiteEvents). Adds start found (OneTells s.events (λ (e : Content). BodyTells s.events me c.in-Some.held.now e.body))) c.captured-captured.ensures all)
