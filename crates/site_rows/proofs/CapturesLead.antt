@@ -14,7 +14,7 @@ use Rattle.site_core.specs.declared.outcomes.Effects.TheVariants as effects
 use Rattle.site_core.specs.Records.{Record}
 use Rattle.site_core.specs.Steps.{Captures}
 use Rattle.site_rows.specs.declared.changes.RowChanges.{RowChanges}
-use Rattle.site_rows.specs.RecordRows.{event_row, parts_of, rows_of}
+use Rattle.site_rows.specs.RecordRows.{children_of, event_row, packs_of, parts_of, rows_of}
 use Rattle.site_rows.specs.StepRows.{LeadsTo, AreChangesOf, Counts, no_changes, no_rows, counts_of}
 use Rattle.site_rows.proofs.Permuted.{same_permuted}
 
@@ -35,6 +35,8 @@ abbrev pub event_changes : Record → List Content → RowChanges
 event_changes s new = record no_changes {
   event = map event_row (enumerate_from (length s.captured.events + 1) new);
   part = flat_map (parts_of s.sites) (enumerate_from (length s.captured.events + 1) new);
+  pack = flat_map packs_of (enumerate_from (length s.captured.events + 1) new);
+  packed = flat_map children_of (enumerate_from (length s.captured.events + 1) new);
 }
 
 events_lead : (s : Record) (new : List Content) → LeadsTo (event_changes s new) (rows_of s) (rows_of (with_events s (s.captured.events ++ new)))
@@ -47,8 +49,8 @@ events_lead s new =
       address = refl;
       event = ap (map event_row) (numbered_apart 1 old new) ∙ map-append event_row (enumerate_from 1 old) (enumerate_from (length old + 1) new);
       part = ap (flat_map (parts_of s.sites)) (numbered_apart 1 old new) ∙ flat_map-append (parts_of s.sites) (enumerate_from 1 old) (enumerate_from (length old + 1) new);
-      pack = refl;
-      packed = refl;
+      pack = ap (flat_map packs_of) (numbered_apart 1 old new) ∙ flat_map-append packs_of (enumerate_from 1 old) (enumerate_from (length old + 1) new);
+      packed = ap (flat_map children_of) (numbered_apart 1 old new) ∙ flat_map-append children_of (enumerate_from 1 old) (enumerate_from (length old + 1) new);
       quarantine = nothing_more _;
       outbox = IsPermutation-refl _;
       seen = nothing_more _;

@@ -70,8 +70,8 @@ module _ (s t : Record) (n : ℕ) (parents : FinMap recall_cmp Message) (own : F
     address = refl;
     event = sym (append-nil _);
     part = sym (append-nil _);
-    pack = refl;
-    packed = refl;
+    pack = sym (append-nil _);
+    packed = sym (append-nil _);
     quarantine = nothing_more _;
     outbox = signalled_message s.engagement.outbox n;
     seen = nothing_more _;

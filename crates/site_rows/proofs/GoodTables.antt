@@ -16,11 +16,11 @@ use Rattle.site_core.specs.Quarantines.{Quarantine}
 use Rattle.site_core.specs.Records.{IsMessageAmong, IsRecallAmong, IsRowAmong}
 use Rattle.site_rows.specs.BadAddresses.{IsAddressTable}
 use Rattle.site_rows.specs.BadEvents.{IsEventTable}
-use Rattle.site_rows.specs.BadParts.{IsPartTable, site_of_row}
-use Rattle.site_rows.specs.BadRows.{AreOfMap, IsEmptyTable, IsFirstBad, IsOutboxEntry, IsParentEntry, IsQuarantineTable, IsSeenEntry, IsSiteTable, IsStore, IsStoreTable}
+use Rattle.site_rows.specs.BadParts.{IsPackTable, IsPackedTable, IsPartTable, site_of_row}
+use Rattle.site_rows.specs.BadRows.{AreOfMap, IsOutboxEntry, IsParentEntry, IsQuarantineTable, IsSeenEntry, IsSiteTable, IsStore, IsStoreTable}
 use Rattle.site_rows.specs.Laws.{HasTexts, HoldsKeys, IsEventAmong}
 use Rattle.site_rows.specs.ReadRows.{AreGoodBefore, HasNoBadRow, HaveNoBadRow}
-use Rattle.site_rows.specs.RecordRows.{address_row, addresses_of, event_row, outbox_row, parent_row, parts_of, quarantine_rows, seen_row, site_row}
+use Rattle.site_rows.specs.RecordRows.{address_row, addresses_of, children_of, event_row, kinds_under, outbox_row, pack_rows, packed_rows, packs_of, parent_row, parts_of, quarantine_rows, seen_row, site_row}
 use Rattle.site_rows.specs.declared.reading_sites.StoreNumbers.{StoreNumbers}
 use Rattle.site_rows.specs.declared.rows.EventRow.{EventRow}
 use Rattle.site_rows.specs.declared.rows.Rows.{Rows}
@@ -29,8 +29,8 @@ use Rattle.site_rows.specs.declared.rows.StoreRow.{StoreRow}
 use Rattle.site_rows.specs.declared.tables.Table.{Table}
 use Rattle.site_rows.specs.declared.tables.Table.TheVariants.{Store, Site as SiteTable, Address, Event, Part, Pack, Packed, Quarantine as QuarantineTable, Outbox, Seen, Parent, Recall as RecallTable}
 use Rattle.site_rows.proofs.GoodAddresses.{good_addresses}
-use Rattle.site_rows.proofs.GoodRows.{map_stands, none_bad, parts_stand, quarantine_stands}
-use Rattle.site_rows.proofs.ReadFaults.{as_many_sites}
+use Rattle.site_rows.proofs.GoodRows.{map_stands, none_bad, packs_stand, parts_stand, quarantine_stands}
+use Rattle.site_rows.proofs.ReadFaults.{as_many_sites, names_of_rows, sites_of_rows, table_alike}
 
 module _ (rows : Rows) where
   -- ---- which tables come before one
@@ -50,24 +50,24 @@ module _ (rows : Rows) where
   before_part good events = (Store ∷ SiteTable ∷ Address ∷ Event ∷ [], _, refl, (good.0, (good.1.0, (good.1.1.0, (events, tt)))))
 
   -- those of the sites and of the events
-  abbrev pub Five : Type 0
-  Five = HaveNoBadRow rows (Store ∷ SiteTable ∷ Address ∷ Event ∷ Part ∷ [])
+  abbrev pub Four : Type 0
+  Four = HaveNoBadRow rows (Store ∷ SiteTable ∷ Address ∷ Event ∷ [])
 
-  pub five_good : HasNoBadRow rows Store → HasNoBadRow rows SiteTable × HasNoBadRow rows Address → HasNoBadRow rows Event × HasNoBadRow rows Part → Five
-  five_good store sites events = (store, (sites.0, (sites.1, (events.0, (events.1, tt)))))
+  pub four_good : HaveNoBadRow rows (Store ∷ SiteTable ∷ Address ∷ []) → HasNoBadRow rows Event → Four
+  four_good good events = (good.0, (good.1.0, (good.1.1.0, (events, tt))))
 
-  pub before_pack : Five → AreGoodBefore rows Pack
-  before_pack good = (Store ∷ SiteTable ∷ Address ∷ Event ∷ Part ∷ [], _, refl, good)
+  pub before_pack : Four → HasNoBadRow rows Part → AreGoodBefore rows Pack
+  before_pack good part = (Store ∷ SiteTable ∷ Address ∷ Event ∷ Part ∷ [], _, refl, (good.0, (good.1.0, (good.1.1.0, (good.1.1.1.0, (part, tt))))))
 
-  pub before_packed : Five → HasNoBadRow rows Pack → AreGoodBefore rows Packed
-  before_packed good pack = (Store ∷ SiteTable ∷ Address ∷ Event ∷ Part ∷ Pack ∷ [], _, refl, (good.0, (good.1.0, (good.1.1.0, (good.1.1.1.0, (good.1.1.1.1.0, (pack, tt)))))))
+  pub before_packed : Four → HasNoBadRow rows Part → HasNoBadRow rows Pack → AreGoodBefore rows Packed
+  before_packed good part pack = (Store ∷ SiteTable ∷ Address ∷ Event ∷ Part ∷ Pack ∷ [], _, refl, (good.0, (good.1.0, (good.1.1.0, (good.1.1.1.0, (part, (pack, tt)))))))
 
-  -- and what was packed
+  -- and of their lists
   abbrev Seven : Type 0
   Seven = HaveNoBadRow rows (Store ∷ SiteTable ∷ Address ∷ Event ∷ Part ∷ Pack ∷ Packed ∷ [])
 
-  pub seven_good : Five → HasNoBadRow rows Pack → HasNoBadRow rows Packed → Seven
-  seven_good good pack packed = (good.0, (good.1.0, (good.1.1.0, (good.1.1.1.0, (good.1.1.1.1.0, (pack, (packed, tt)))))))
+  pub seven_good : HasNoBadRow rows Store → HasNoBadRow rows SiteTable × HasNoBadRow rows Address → HaveNoBadRow rows (Event ∷ Part ∷ Pack ∷ Packed ∷ []) → Seven
+  seven_good store sites events = (store, (sites.0, (sites.1, events)))
 
   pub before_quarantine : Seven → AreGoodBefore rows QuarantineTable
   before_quarantine good = (Store ∷ SiteTable ∷ Address ∷ Event ∷ Part ∷ Pack ∷ Packed ∷ [], _, refl, good)
@@ -115,8 +115,9 @@ module _ (rows : Rows) where
   good_address sites is there are texts = λ place bad.
       bad.bad (subst (IsAddressTable (length rows.site)) (sym there) (subst (λ n. IsAddressTable n (map address_row (entries (addresses_of sites)))) (as_many_sites sites rows.site is) (good_addresses sites are texts)) bad.before bad.row bad.there)
 
-  pub good_events : (table : List EventRow) → table ≡ rows.event → IsEventTable table → HasNoBadRow rows Event
-  good_events table same stand = λ place bad. bad.bad (subst IsEventTable same stand bad.before bad.row bad.there)
+  pub good_events : (kinds : ℕ) (table : List EventRow) → kinds ≡ kinds_under rows.version → table ≡ rows.event → IsEventTable kinds table → HasNoBadRow rows Event
+  good_events kinds table many same stand = λ place bad.
+      bad.bad (subst (IsEventTable (kinds_under rows.version)) same (subst (λ n. IsEventTable n table) many stand) bad.before bad.row bad.there)
 
   pub good_parts : (sites : List Site) (es : List Content) → rows.site ≡ map site_row (enumerate_from 0 sites) → rows.event ≡ map event_row (enumerate_from 1 es)
       → rows.part ≡ flat_map (parts_of sites) (enumerate_from 1 es) → All (IsEventAmong (length sites)) es → HasNoBadRow rows Part
@@ -126,14 +127,36 @@ module _ (rows : Rows) where
       let of_events = subst (λ xs. IsPartTable (map site_of_row rows.site) xs (flat_map (parts_of sites) (enumerate_from 1 es))) (sym events) of_sites in
       none_bad (IsPartTable (map site_of_row rows.site) rows.event) rows.part place (subst (IsPartTable (map site_of_row rows.site) rows.event) (sym parts) of_events) bad
 
+  -- the tables of lists stand
+  pub part_good : (sites : List Site) → rows.site ≡ map site_row (enumerate_from 0 sites) → IsPartTable sites rows.event rows.part → HasNoBadRow rows Part
+  part_good sites is stand = λ place bad.
+      let read : List Site = map site_of_row (map site_row (enumerate_from 0 sites)) in
+      let here = table_alike sites read (λ t. sym (names_of_rows 0 sites t)) (sym (sites_of_rows 0 sites)) rows.event rows.part stand in
+      none_bad (IsPartTable (map site_of_row rows.site) rows.event) rows.part place (subst (λ ss. IsPartTable (map site_of_row ss) rows.event rows.part) (sym is) here) bad
+
+  pub pack_good : (sites : List Site) → rows.site ≡ map site_row (enumerate_from 0 sites) → IsPackTable (length sites) rows.event rows.pack → HasNoBadRow rows Pack
+  pack_good sites is stand = λ place bad.
+      none_bad (IsPackTable (length rows.site) rows.event) rows.pack place (subst (λ n. IsPackTable n rows.event rows.pack) (as_many_sites sites rows.site is) stand) bad
+
+  pub packed_good : (sites : List Site) → rows.site ≡ map site_row (enumerate_from 0 sites) → IsPackedTable (length sites) rows.event rows.packed → HasNoBadRow rows Packed
+  packed_good sites is stand = λ place bad.
+      none_bad (IsPackedTable (length rows.site) rows.event) rows.packed place (subst (λ n. IsPackedTable n rows.event rows.packed) (as_many_sites sites rows.site is) stand) bad
+
+  -- those of the events of a record do
+  pub lists_good : (sites : List Site) (es : List Content) → rows.site ≡ map site_row (enumerate_from 0 sites) → rows.event ≡ map event_row (enumerate_from 1 es)
+      → rows.part ≡ flat_map (parts_of sites) (enumerate_from 1 es) → rows.pack ≡ flat_map packs_of (enumerate_from 1 es) → rows.packed ≡ flat_map children_of (enumerate_from 1 es)
+      → All (IsEventAmong (length sites)) es → HasNoBadRow rows Event → HaveNoBadRow rows (Event ∷ Part ∷ Pack ∷ Packed ∷ [])
+  lists_good sites es is events parts packs children among event =
+      let n = length sites in
+      let pack = subst (IsPackTable n rows.event) (sym packs) (subst (λ xs. IsPackTable n xs (flat_map packs_of (enumerate_from 1 es))) (sym events) (packs_stand pack_rows n es among)) in
+      let packed = subst (IsPackedTable n rows.event) (sym children) (subst (λ xs. IsPackedTable n xs (flat_map children_of (enumerate_from 1 es))) (sym events) (packs_stand packed_rows n es among)) in
+      (event, (good_parts sites es is events parts among, (pack_good sites is pack, (packed_good sites is packed, tt))))
+
   pub good_quarantine : (n : ℕ) (q : Quarantine) → n ≡ length rows.site → rows.quarantine ≡ flat_map quarantine_rows (entries q)
       → ((r : Recall) → IsSome (get q r) → IsRecallAmong n r) → HoldsKeys q → HasNoBadRow rows QuarantineTable
   good_quarantine n q size is among holds = λ place bad.
       let stand = subst (λ k. IsQuarantineTable k (flat_map quarantine_rows (entries q))) size (quarantine_stands n q among holds) in
       none_bad (IsQuarantineTable (length rows.site)) rows.quarantine place (subst (IsQuarantineTable (length rows.site)) (sym is) stand) bad
-
-  pub good_empty : {R : Type 0} (xs : List R) (place : ℕ) → xs ≡ [] → IsFirstBad IsEmptyTable xs place → ⊥
-  good_empty xs place none bad = none_bad IsEmptyTable xs place none bad
 
   -- ---- the tables of maps
   pub good_outbox : (n : ℕ) (m : FinMap nat_cmp Row) → n ≡ length rows.site → rows.outbox ≡ map outbox_row (entries m)

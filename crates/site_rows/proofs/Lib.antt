@@ -6,6 +6,7 @@ pub mod CapturesLead
 pub mod ChangedEntries
 pub mod ClearsLead
 pub mod EachShown
+pub mod EventsInTurn
 pub mod FreeAddresses
 pub mod GoodAddresses
 pub mod GoodRows
@@ -14,10 +15,12 @@ pub mod HeldInTurn
 pub mod InTurn
 pub mod KeyTests
 pub mod ListsInTurn
+pub mod MembersInTurn
 pub mod MessageRows
 pub mod NamesInTurn
 pub mod NamesOfSites
 pub mod OneEntry
+pub mod PacksInTurn
 pub mod PartTables
 pub mod PartsInTurn
 pub mod Permuted
@@ -27,6 +30,7 @@ pub mod ReadBack
 pub mod RowsOfMaps
 pub mod SameEvents
 pub mod SameLists
+pub mod SamePacks
 pub mod SameQuarantines
 pub mod SameRecalls
 pub mod SameRecords

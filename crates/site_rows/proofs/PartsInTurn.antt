@@ -1,40 +1,24 @@
 -- The rows of an event's lists, read in turn: they are the only ones that begin so.
-use Rattle.std.proofs.Common.{◌≡◌, ◌⊎◌, inl, inr, ℕ, zero, suc, ◌+◌, ◌-◌, ◌<◌, ◌≤◌, pos, Bool, true, false, Option, Some, None, List, [], ◌∷◌, ◌++◌, length, map, take, refl, sym, ap, subst, ◌∙◌, append_assoc, arith}
+use Rattle.std.proofs.Common.{◌≡◌, inl, inr, ℕ, ◌+◌, ◌-◌, ◌<◌, ◌≤◌, pos, Bool, true, false, Option, Some, None, List, [], ◌∷◌, ◌++◌, length, map, take, refl, sym, ap, subst, ◌∙◌, append_assoc, arith}
 use Rattle.std.specs.Prelude.{⊤, ◌==◌, is_some, not}
 use Rattle.std.specs.List.{All, enumerate_from, slice_get}
 use Rattle.std.proofs.lemmas.Bool.Decides.{eqb_tells}
-use Rattle.std.proofs.lemmas.List.{append-nil, length-map, map-id, length-take-le, nil_from_length}
-use Rattle.std.proofs.lemmas.List.Elements.{All-head, All-tail, All-nil, All-cons}
+use Rattle.std.proofs.lemmas.List.{append-nil, length-map, map-id, nil_from_length}
+use Rattle.std.proofs.lemmas.List.Elements.{All-nil, All-cons}
 use Rattle.epc_core.specs.Items.{uri_key}
 use Rattle.epc_core.specs.Spellings.{SpellsNumber}
 use Rattle.event_json.specs.Events.{IsIdentifier}
 use Rattle.event_json.specs.Sites.{Site}
-use Rattle.event_json.specs.declared.bodies.Body.TheVariants.{Note, Ship, Make}
+use Rattle.event_json.specs.declared.bodies.Body.TheVariants.{Note, Ship, Make, Pack}
 use Rattle.site_rows.specs.BadParts.{IsBodyOf}
-use Rattle.site_rows.specs.PartsInTurn.{IsMemberAt, IsListRead, IsPast, AreAllRead, IsWanting, IsBodyRead, IsStuck}
+use Rattle.site_rows.specs.PartsInTurn.{IsListRead, IsPast, AreAllRead, IsWanting, IsBodyRead, IsStuck}
 use Rattle.site_rows.specs.Texts.{IsItemText, IsPlainText}
 use Rattle.site_rows.specs.RecordRows.{body_rows, name_of, part_row, part_rows}
 use Rattle.site_rows.specs.declared.rows.PartRow.{PartRow}
+use Rattle.site_rows.proofs.EventsInTurn.{next_there}
 use Rattle.site_rows.proofs.ListsInTurn.{two_lists}
+use Rattle.site_rows.proofs.MembersInTurn.{IsOff, same_members as only_members}
 use Rattle.site_rows.proofs.SameRecalls.{same_number}
-
--- what stands behind the first rows
-taken_next : {X : Type 0} (rows : List X) (a b : ℕ) (x : X) (xs : List X) → take b rows ≡ take a rows ++ x ∷ xs → slice_get rows a ≡ Some x
-taken_next [] zero zero x xs e = cc
-taken_next [] zero (suc b) x xs e = cc
-taken_next [] (suc a) zero x xs e = cc
-taken_next [] (suc a) (suc b) x xs e = cc
-taken_next (y ∷ rows) zero zero x xs e = cc
-taken_next (y ∷ rows) zero (suc b) x xs e = let same : y ≡ x = cc in ap Some same
-taken_next (y ∷ rows) (suc a) zero x xs e = cc
-taken_next (y ∷ rows) (suc a) (suc b) x xs e = let tail : take b rows ≡ take a rows ++ x ∷ xs = cc in taken_next rows a b x xs tail
-
-pub next_there : {X : Type 0} (rows : List X) (a b : ℕ) (xs on : List X) → a ≤ length rows → b ≤ length rows → take b rows ≡ take a rows ++ xs → slice_get on 0 ≡ slice_get rows b → slice_get (xs ++ on) 0 ≡ slice_get rows a
-next_there rows a b [] on low high e next =
-    let same : take b rows ≡ take a rows = e ∙ append-nil (take a rows) in
-    let at : b ≡ a = sym (length-take-le b rows high) ∙ ap length same ∙ length-take-le a rows low in
-    next ∙ ap (slice_get rows) at
-next_there rows a b (x ∷ xs) on low high e next = sym (taken_next rows a b x xs e)
 
 -- the first row, where there is one and it is of the event, is of a higher role
 abbrev Higher : ℕ → ℕ → List PartRow → Type 0
@@ -57,38 +41,19 @@ higher_list : {M : Type 0} (text : M → List ℕ) (event low high n : ℕ) (ms 
 higher_list text event low high n [] rows less above = higher_yet event low high rows less above
 higher_list text event low high n (m ∷ ms) rows less above = λ same k is. let one : high ≡ k = same_number high k is in omega arith
 
--- a list that was read to its end is the only one: the rows behind it are those behind any list of these rows
-same_list : {M : Type 0} (Is : M → Type 0) (text : M → List ℕ) (event role most n : ℕ) (ms other : List M) (next : Option PartRow) (on behind : List PartRow)
-    → (n + length ms ≡ most) ⊎ ((m : M) → IsMemberAt Is text event role (n + length ms) next m → ⊥)
-    → All Is other → n + length other ≤ most → slice_get on 0 ≡ next → Higher event role behind
-    → listed text event role n ms ++ on ≡ listed text event role n other ++ behind → (map text ms ≡ map text other) × (on ≡ behind)
-same_list Is text event role most n [] [] next on behind ends all few first above e = (refl, e)
-same_list {M = M} Is text event role most n [] (o ∷ other) next on behind ends all few first above e = elim ends [
-  | inl full ↦ absurd (omega (arith, full, few))
-  | inr none ↦
-      let at : n ≡ n + 0 = omega arith in
-      let there : next ≡ Some (part_row event role (n, text o)) = sym first ∙ ap (λ xs. slice_get xs 0) e in
-      absurd (none o (record { there = there ∙ ap (λ k. Some (part_row event role (k, text o))) at; is = All-head Is o other all }))
-]
-same_list Is text event role most n (m ∷ ms) [] next on behind ends all few first above e =
-    let wrong : role < role = subst (Higher event role) (sym e) above refl role refl in
-    absurd (omega (arith, wrong))
-same_list {M = M} Is text event role most n (m ∷ ms) (o ∷ other) next on behind ends all few first above e =
-    let head : part_row event role (n, text m) ≡ part_row event role (n, text o) = cc in
-    let tail : listed text event role (n + 1) ms ++ on ≡ listed text event role (n + 1) other ++ behind = cc in
-    let size : n + suc (length ms) ≡ n + 1 + length ms = omega arith in
-    let ended = subst (λ k. (k ≡ most) ⊎ ((x : M) → IsMemberAt Is text event role k next x → ⊥)) size ends in
-    let rest = same_list Is text event role most (n + 1) ms other next on behind ended (All-tail Is o other all) (omega (arith, few)) first above tail in
-    let one = ap (λ (r : PartRow). r.text) head in
-    ((λ i. one i ∷ rest.0 i), rest.1)
+-- so it is none of a lower list
+off_list : (event role : ℕ) (rows : List PartRow) → Higher event role rows → IsOff (part_row event role) (λ (r : PartRow). r.text) (λ p. refl) rows
+off_list event role [] above = λ p is. cc
+off_list event role (row ∷ rows) above = λ p is.
+    let same : row ≡ part_row event role p = cc in
+    let wrong : role < role = subst (λ r. Higher event role (r ∷ rows)) same above refl role refl in
+    omega (arith, wrong)
 
 same_members : {M : Type 0} (Is : M → Type 0) (text : M → List ℕ) (event role most : ℕ) (rows : List PartRow) (from to : ℕ) (ms other : List M) (on behind : List PartRow)
     → IsListRead Is text event role most rows from to ms → All Is other → length other ≤ most → slice_get on 0 ≡ slice_get rows to → Higher event role behind
     → part_rows event role (map text ms) ++ on ≡ part_rows event role (map text other) ++ behind → (map text ms ≡ map text other) × (on ≡ behind)
-same_members {M = M} Is text event role most rows from to ms other on behind read all few first above e =
-    let size : length ms ≡ 0 + length ms = omega arith in
-    let ended = subst (λ k. (k ≡ most) ⊎ ((x : M) → IsMemberAt Is text event role k (slice_get rows to) x → ⊥)) size read.ends in
-    same_list Is text event role most 0 ms other (slice_get rows to) on behind ended all (omega (arith, few)) first above e
+same_members Is text event role most rows from to ms other on behind read all few first above e =
+    only_members (part_row event role) (λ (r : PartRow). r.text) (λ p. refl) Is text most rows from to ms other on behind read all few first (off_list event role behind above) e
 
 -- the same of members that are their texts
 same_texts : (Is : List ℕ → Type 0) (event role most : ℕ) (rows : List PartRow) (from to : ℕ) (ms other : List (List ℕ)) (on behind : List PartRow)
@@ -134,6 +99,7 @@ note_only sites event rows from to items read (Note others) on behind good first
     (same_texts IsItemText event 0 1000 rows from to items others on behind read good.members good.limits first (past_higher event 0 behind past) e).1
 note_only sites event rows from to items read (Ship others sent outside) on behind good first past e = absurd (unlike 0 1 (λ is. omega arith) good.of_kind)
 note_only sites event rows from to items read (Make id ins outs) on behind good first past e = absurd (unlike 0 2 (λ is. omega arith) good.of_kind)
+note_only sites event rows from to items read (Pack action parent children) on behind good first past e = absurd (unlike 0 3 (λ is. omega arith) good.of_kind)
 
 pub note_read : (sites : List Site) (event : ℕ) (rows : List PartRow) (from to : ℕ) (items : List (List ℕ)) → IsListRead IsItemText (λ t. t) event 0 1000 rows from to items
     → IsBodyRead sites event (pos 0) None rows from to (Note items)
@@ -199,6 +165,7 @@ ship_only sites event rows from second third end items sent outside read (Note o
 ship_only sites event rows from second third end items sent outside read (Ship others to texts) on behind good first past e =
     (same_shipment sites event rows from second third end items sent outside read others to texts on behind good first past e).same
 ship_only sites event rows from second third end items sent outside read (Make id ins outs) on behind good first past e = absurd (unlike 1 2 (λ is. omega arith) good.of_kind)
+ship_only sites event rows from second third end items sent outside read (Pack action parent children) on behind good first past e = absurd (unlike 1 3 (λ is. omega arith) good.of_kind)
 
 pub ship_read : (sites : List Site) (event : ℕ) (rows : List PartRow) (from second third end : ℕ) (items : List (List ℕ)) (sent : List ℕ) (outside : List (List ℕ))
     → IsShipRead sites event rows from second third end items sent outside → 0 < length sent + length outside → IsBodyRead sites event (pos 1) None rows from end (Ship items sent outside)
@@ -233,6 +200,7 @@ ship_wanting sites event rows from second third end items sent outside read no_s
     let some : 0 < length to + length texts = good.limits.1 in
     omega (arith, size, away, no_site, none, some)
 ship_wanting sites event rows from second third end items sent outside read no_site none (Make id ins outs) on behind good first past e = unlike 1 2 (λ is. omega arith) good.of_kind
+ship_wanting sites event rows from second third end items sent outside read no_site none (Pack action parent children) on behind good first past e = unlike 1 3 (λ is. omega arith) good.of_kind
 
 pub ship_stuck : (sites : List Site) (event : ℕ) (rows : List PartRow) (from second third end : ℕ) (items : List (List ℕ)) (sent : List ℕ) (outside : List (List ℕ))
     → IsShipRead sites event rows from second third end items sent outside → length sent ≡ 0 → length outside ≡ 0 → IsStuck sites event (pos 1) None rows from end
@@ -296,6 +264,7 @@ make_only sites event rows from second end id ins outs read (Note others) on beh
 make_only sites event rows from second end id ins outs read (Ship others to texts) on behind good first past e = absurd (unlike 2 1 (λ is. omega arith) good.of_kind)
 make_only sites event rows from second end id ins outs read (Make id2 ins2 outs2) on behind good first past e =
     (same_make sites event rows from second end id ins outs read id2 ins2 outs2 on behind good first past e).same
+make_only sites event rows from second end id ins outs read (Pack action parent children) on behind good first past e = absurd (unlike 2 3 (λ is. omega arith) good.of_kind)
 
 pub make_read : (sites : List Site) (event : ℕ) (rows : List PartRow) (from second end : ℕ) (id : Option (List ℕ)) (ins outs : List (List ℕ))
     → IsListRead IsItemText (λ t. t) event 3 1000 rows from second ins → IsListRead IsItemText (λ t. t) event 4 1000 rows second end outs
@@ -339,6 +308,7 @@ no_inputs sites event rows from second id ins read no_id none (Make id2 ins2 out
     let one = same_texts IsItemText event 3 1000 rows from second ins ins2 on (b2 ++ behind) read good.members.0 good.limits.1 first (higher_texts event 3 4 outs2 behind (omega arith) (past_higher event 4 behind past)) all in
     let some : 0 < length ins2 = (good.limits.3 (sym good.of_id ∙ no_id)).0 in
     omega (arith, none, some, ap length one.0)
+no_inputs sites event rows from second id ins read no_id none (Pack action parent children) on behind good first past e = unlike 2 3 (λ is. omega arith) good.of_kind
 
 pub make_without_input : (sites : List Site) (event : ℕ) (rows : List PartRow) (from second : ℕ) (id : Option (List ℕ)) (ins : List (List ℕ)) → IsListRead IsItemText (λ t. t) event 3 1000 rows from second ins
     → IsIdentifier id → id ≡ None → length ins ≡ 0 → IsStuck sites event (pos 2) id rows from second
@@ -364,6 +334,7 @@ no_outputs sites event rows from second end id ins outs read no_id none (Make id
     let same = same_make sites event rows from second end id ins outs read id2 ins2 outs2 on behind good first past e in
     let some : 0 < length outs2 = (good.limits.3 (sym good.of_id ∙ no_id)).1 in
     omega (arith, none, some, ap length same.outputs)
+no_outputs sites event rows from second end id ins outs read no_id none (Pack action parent children) on behind good first past e = unlike 2 3 (λ is. omega arith) good.of_kind
 
 pub make_without_output : (sites : List Site) (event : ℕ) (rows : List PartRow) (from second end : ℕ) (id : Option (List ℕ)) (ins outs : List (List ℕ))
     → IsListRead IsItemText (λ t. t) event 3 1000 rows from second ins → IsListRead IsItemText (λ t. t) event 4 1000 rows second end outs

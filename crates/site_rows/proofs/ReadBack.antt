@@ -17,7 +17,7 @@ use Rattle.trace_core.specs.Sites.{SiteEvents}
 use Rattle.site_rows.specs.BadRows.{IsStore}
 use Rattle.site_rows.specs.Laws.{HoldsItems, IsKept}
 use Rattle.site_rows.specs.ReadRows.{IsBadRow, IsStateFault}
-use Rattle.site_rows.specs.RecordRows.{rows_under, site_row}
+use Rattle.site_rows.specs.RecordRows.{HasTables, rows_under, site_row}
 use Rattle.site_rows.specs.declared.reading.StateFault.{StateFault}
 use Rattle.site_rows.specs.declared.reading.StateFault.TheVariants.{NoMemory, BadRow}
 use Rattle.site_rows.specs.declared.reading_sites.StoreNumbers.{StoreNumbers}
@@ -68,7 +68,7 @@ sound_parts sites captured q d table stores numbers m n held_size size named sto
     }
 
 pub read_back : (rows : Rows) (result : Result Record StateFault) → IfOk result (λ state. rows_under rows.version state ≡ rows) → IfOk result (λ state. IsKept state) → IfErr result (λ fault. IsStateFault rows fault)
-    → (s : Record) → IsKept s → HoldsItems s → rows_under rows.version s ≡ rows → MatchResult result (λ state. state ≡ s) (λ fault. fault ≡ NoMemory)
-read_back rows (Ok state) read kept bad s is_kept holds same = same_record rows.version state s kept is_kept (read ∙ sym same)
-read_back rows (Err NoMemory) read kept bad s is_kept holds same = refl
-read_back rows (Err (BadRow b)) read kept bad s is_kept holds same = absurd (rows_are_good rows.version s is_kept holds b.table b.row (subst (λ r. IsBadRow r b.table b.row) (sym same) bad.1))
+    → HasTables rows → (s : Record) → IsKept s → HoldsItems s → rows_under rows.version s ≡ rows → MatchResult result (λ state. state ≡ s) (λ fault. fault ≡ NoMemory)
+read_back rows (Ok state) read kept bad tables s is_kept holds same = same_record rows.version state s kept is_kept (read ∙ sym same)
+read_back rows (Err NoMemory) read kept bad tables s is_kept holds same = refl
+read_back rows (Err (BadRow b)) read kept bad tables s is_kept holds same = absurd (rows_are_good rows.version s is_kept holds (subst HasTables (sym same) tables) b.table b.row (subst (λ r. IsBadRow r b.table b.row) (sym same) bad.1))

@@ -39,7 +39,7 @@ module _ (v : Version) (s t : Record) (hs : IsKept s) (ht : IsKept t) (e : rows_
       let parts : flat_map (parts_of s.sites) (enumerate_from 1 s.captured.events) ≡ flat_map (parts_of s.sites) (enumerate_from 1 t.captured.events) =
       ap (λ (r : Rows). r.part) e ∙ ap (λ (ss : List Site). flat_map (parts_of ss) (enumerate_from 1 t.captured.events)) (sym sites) in
       same_events s.sites (names_tell s.sites hs.sites) 1 s.captured.events t.captured.events hs.sound.events
-      (subst (λ (ss : List Site). ships ss t.captured.events) (sym sites) ht.sound.events) (ap (λ (r : Rows). r.event) e) parts
+      (subst (λ (ss : List Site). ships ss t.captured.events) (sym sites) ht.sound.events) (ap (λ (r : Rows). r.event) e) parts (ap (λ (r : Rows). r.pack) e) (ap (λ (r : Rows). r.packed) e)
 
   quarantine : s.quarantine ≡ t.quarantine
   quarantine = same_quarantine s.quarantine t.quarantine hs.sound.no_empty_set ht.sound.no_empty_set (ap (λ (r : Rows). r.quarantine) e)

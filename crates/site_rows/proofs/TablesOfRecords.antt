@@ -1,5 +1,5 @@
 -- The rows of a record stand for it, table by table.
-use Rattle.std.proofs.Common.{◌≡◌, inl, inr, ℕ, ◌+◌, ◌<◌, ℤ, pos, Bool, true, false, cond, Some, List, ◌++◌, map, refl, sym, ap, subst, ◌∙◌, arith}
+use Rattle.std.proofs.Common.{◌≡◌, inl, inr, ℕ, ◌+◌, ◌<◌, ℤ, pos, Bool, true, false, cond, Some, List, [], ◌∷◌, ◌++◌, map, refl, sym, ap, subst, ◌∙◌, arith}
 use lib.IntN.{negsuc}
 use Rattle.std.specs.Prelude.{◌↔◌, ◌*ℤ◌, ◌+ℤ◌}
 use Rattle.std.specs.Cmp.{IsTotalOrder}
@@ -16,21 +16,26 @@ use Rattle.std.proofs.lemmas.List.FromFn.{length-enumerate_from}
 use Rattle.std.proofs.lemmas.List.Elements.{Contains-append_cases, Contains-append_left, Contains-append_right}
 use Rattle.std.proofs.lemmas.Map.Lookups.{exact_unsigned}
 use Rattle.std.proofs.lemmas.Option.{slice_get-get_or}
+use Rattle.event_json.specs.Contents.{number_of}
 use Rattle.event_json.specs.Events.{Content}
 use Rattle.event_json.specs.Sites.{AreSites, Site}
+use Rattle.event_json.specs.declared.bodies.Action.{Action}
+use Rattle.event_json.specs.declared.bodies.Action.TheVariants.{Add, Observe, Delete}
 use Rattle.event_json.specs.declared.bodies.Body.{Body}
-use Rattle.event_json.specs.declared.bodies.Body.TheVariants.{Note, Ship, Make}
+use Rattle.event_json.specs.declared.bodies.Body.TheVariants.{Note, Ship, Make, Pack}
 use Rattle.frame_core.specs.Orders.{message_exact, message_total, recall_exact, recall_total}
 use Rattle.scholten_core.specs.declared.own_recalls.Own.{Own}
 use Rattle.site_core.proofs.Entries.{entry_found, entry_there}
 use Rattle.site_core.specs.Records.{Record}
-use Rattle.trace_core.proofs.Members.{contains-flat_map, contains-map}
+use Rattle.trace_core.proofs.Members.{contains-flat_map, contains-map, contains_cases, contains_here, contains_none}
 use Rattle.trace_core.proofs.SetMembers.{contains-from_map, contains-from_flat_map}
-use Rattle.site_rows.specs.RecordRows.{SECOND, address_row, addresses_of, body_rows, event_row, name_of, outbox_row, parent_row, part_row, part_rows, parts_of, quarantine_rows, recall_row, seen_row, site_row}
-use Rattle.site_rows.specs.TableLaws.{HasList, IsRowOfEvent, IsRowOfMember, RowsStandForTheRecord, SaysEnd, SaysKind}
+use Rattle.site_rows.specs.RecordRows.{SECOND, address_row, addresses_of, body_rows, children_of, event_row, name_of, outbox_row, pack_rows, packed_row, packed_rows, packs_of, parent_row, part_row, part_rows, parts_of, quarantine_rows, recall_row, seen_row, site_row}
+use Rattle.site_rows.specs.TableLaws.{HasList, IsRowOfChild, IsRowOfEvent, IsRowOfMember, IsRowOfPack, RowsStandForTheRecord, SaysAction, SaysEnd, SaysKind}
 use Rattle.site_rows.specs.declared.address_rows.Address.{Address}
 use Rattle.site_rows.specs.declared.rows.AddressRow.{AddressRow}
 use Rattle.site_rows.specs.declared.rows.EventRow.{EventRow}
+use Rattle.site_rows.specs.declared.rows.PackRow.{PackRow}
+use Rattle.site_rows.specs.declared.rows.PackedRow.{PackedRow}
 use Rattle.site_rows.specs.declared.rows.PartRow.{PartRow}
 use Rattle.site_rows.specs.declared.rows.RecallRow.{RecallRow}
 use Rattle.site_rows.proofs.GoodAddresses.{address_told, mapped_at, numbered_there, row_there}
@@ -82,6 +87,7 @@ kind_told n e = elim e.body as (λ b. e.body ≡ b → SaysKind e.body (event_ro
   | Note items ↦ λ is. rw is (refl, refl)
   | Ship items to outside ↦ λ is. rw is (refl, refl)
   | Make id ins outs ↦ λ is. rw is (refl, refl)
+  | Pack action parent children ↦ λ is. rw is (refl, refl)
 ] refl
 
 event_told : (es : List Content) (k : ℕ) (row : EventRow) → slice_get (map event_row (enumerate_from 1 es)) k ≡ Some row → (e : Content) × (slice_get es k ≡ Some e) × IsRowOfEvent k e row
@@ -123,6 +129,7 @@ module _ (s : Record) (row : PartRow) where
     | inl h ↦ of_list k e 3 ins there (rw is (inl (refl, refl))) h
     | inr h ↦ of_list k e 4 outs there (rw is (inr (refl, refl))) h
   ]
+  of_body k e (Pack action parent children) is there h = absurd (contains_none row h)
 
   members_from : Contains (flat_map (parts_of s.sites) (enumerate_from 1 s.captured.events)) row → IsRowOfMember s row
   members_from h =
@@ -148,6 +155,7 @@ module _ (s : Record) (row : PartRow) where
     | inl e ↦ Contains-append_left (part_rows n 3 ins) (part_rows n 4 outs) row (subst (λ r. Contains (part_rows n r ins) row) e.0 (subst (λ xs. Contains (part_rows n role xs) row) e.1 h))
     | inr e ↦ Contains-append_right (part_rows n 3 ins) (part_rows n 4 outs) row (subst (λ r. Contains (part_rows n r outs) row) e.0 (subst (λ xs. Contains (part_rows n role xs) row) e.1 h))
   ]
+  to_body n (Pack action parent children) role texts has h = absurd has
 
   members_to : IsRowOfMember s row → Contains (flat_map (parts_of s.sites) (enumerate_from 1 s.captured.events)) row
   members_to m =
@@ -156,6 +164,82 @@ module _ (s : Record) (row : PartRow) where
       let here = to_body (m.k + 1) m.event.body m.role m.texts m.list member in
       let there = subst (λ j. Contains (enumerate_from 1 es) (j, m.event)) (from_one m.k) (numbered 1 es m.k m.event m.captured) in
       contains-flat_map (parts_of s.sites) (enumerate_from 1 es) (m.k + 1, m.event) row there here
+
+-- ---- packs
+-- what stands in a table that is listed event by event
+module _ {R : Type 0} (rows_by : ℕ → Body → List R) (es : List Content) (row : R) where
+  listed_from : Contains (flat_map (λ (p : ℕ × Content). rows_by p.0 p.1.body) (enumerate_from 1 es)) row
+      → (k : ℕ) × (e : Content) × (slice_get es k ≡ Some e) × Contains (rows_by (k + 1) e.body) row
+  listed_from h =
+      let (p, among, here) = contains-from_flat_map (λ (p : ℕ × Content). rows_by p.0 p.1.body) (enumerate_from 1 es) row h in
+      let there = numbered_there 1 es among.0 p (slice_get-get_or (enumerate_from 1 es) among.0 p among.1 ∙ ap Some among.2) in
+      let number : p.0 ≡ among.0 + 1 = there.0 ∙ from_one among.0 in
+      (among.0, p.1, there.1, subst (λ j. Contains (rows_by j p.1.body) row) number here)
+
+  listed_to : (k : ℕ) (e : Content) → slice_get es k ≡ Some e → Contains (rows_by (k + 1) e.body) row → Contains (flat_map (λ (p : ℕ × Content). rows_by p.0 p.1.body) (enumerate_from 1 es)) row
+  listed_to k e is here =
+      let there = subst (λ j. Contains (enumerate_from 1 es) (j, e)) (from_one k) (numbered 1 es k e is) in
+      contains-flat_map (λ (p : ℕ × Content). rows_by p.0 p.1.body) (enumerate_from 1 es) (k + 1, e) row there here
+
+says_action : (action : Action) → SaysAction action (pos (number_of action))
+says_action Add = refl
+says_action Observe = refl
+says_action Delete = refl
+
+action_is : (action : Action) (n : ℤ) → SaysAction action n → n ≡ pos (number_of action)
+action_is Add n is = is
+action_is Observe n is = is
+action_is Delete n is = is
+
+module _ (s : Record) (row : PackRow) where
+  pack_of : (k : ℕ) (e : Content) (body : Body) → e.body ≡ body → slice_get s.captured.events k ≡ Some e → Contains (pack_rows (k + 1) body) row → IsRowOfPack s row
+  pack_of k e (Note items) is there h = absurd (contains_none row h)
+  pack_of k e (Ship items to outside) is there h = absurd (contains_none row h)
+  pack_of k e (Make id ins outs) is there h = absurd (contains_none row h)
+  pack_of k e (Pack action parent children) is there h =
+      let made : PackRow = record { event = pos (k + 1); action = pos (number_of action); parent = parent } in
+      elim (contains_cases made row [] h) [
+        | inl same ↦ record {
+          k = k;
+          event = e;
+          action = action;
+          parent = parent;
+          children = children;
+          captured = there;
+          packs = is;
+          number = sym (ap (λ (r : PackRow). r.event) same);
+          says = subst (SaysAction action) (ap (λ (r : PackRow). r.action) same) (says_action action);
+          parent_is = sym (ap (λ (r : PackRow). r.parent) same);
+        }
+        | inr none ↦ absurd (contains_none row none)
+      ]
+
+  packs_from : Contains (flat_map packs_of (enumerate_from 1 s.captured.events)) row → IsRowOfPack s row
+  packs_from h = let it = listed_from pack_rows s.captured.events row h in pack_of it.0 it.1 it.1.body refl it.2 it.3
+
+  packs_to : IsRowOfPack s row → Contains (flat_map packs_of (enumerate_from 1 s.captured.events)) row
+  packs_to p =
+      let action = action_is p.action row.action p.says in
+      let same : ◌≡◌ {A = PackRow} (record { event = pos (p.k + 1); action = pos (number_of p.action); parent = p.parent }) row = sym (λ i. record { event = p.number i; action = action i; parent = p.parent_is i }) in
+      let here : Contains (pack_rows (p.k + 1) (Pack p.action p.parent p.children)) row = subst (λ r. Contains (r ∷ []) row) (sym same) (contains_here row []) in
+      listed_to pack_rows s.captured.events row p.k p.event p.captured (subst (λ b. Contains (pack_rows (p.k + 1) b) row) (sym p.packs) here)
+
+module _ (s : Record) (row : PackedRow) where
+  child_of : (k : ℕ) (e : Content) (body : Body) → e.body ≡ body → slice_get s.captured.events k ≡ Some e → Contains (packed_rows (k + 1) body) row → IsRowOfChild s row
+  child_of k e (Note items) is there h = absurd (contains_none row h)
+  child_of k e (Ship items to outside) is there h = absurd (contains_none row h)
+  child_of k e (Make id ins outs) is there h = absurd (contains_none row h)
+  child_of k e (Pack action parent children) is there h =
+      let (place, text, child, same) = numbered_from 0 (λ j. j) from_none (packed_row (k + 1)) children row h in
+      record { k = k; event = e; action = action; parent = parent; children = children; place = place; text = text; captured = there; packs = is; child = child; is = same }
+
+  children_from : Contains (flat_map children_of (enumerate_from 1 s.captured.events)) row → IsRowOfChild s row
+  children_from h = let it = listed_from packed_rows s.captured.events row h in child_of it.0 it.1 it.1.body refl it.2 it.3
+
+  children_to : IsRowOfChild s row → Contains (flat_map children_of (enumerate_from 1 s.captured.events)) row
+  children_to c =
+      let here : Contains (packed_rows (c.k + 1) (Pack c.action c.parent c.children)) row = numbered_to 0 (λ j. j) from_none (packed_row (c.k + 1)) c.children row c.place c.text c.child c.is in
+      listed_to packed_rows s.captured.events row c.k c.event c.captured (subst (λ b. Contains (packed_rows (c.k + 1) b) row) (sym c.packs) here)
 
 -- ---- addresses
 module _ (sites : List Site) (are : AreSites sites) (row : AddressRow) where
@@ -202,8 +286,8 @@ rows_stand = λ s kept. record {
   events = length-map (enumerate_from 1 s.captured.events) event_row ∙ length-enumerate_from 1 s.captured.events;
   event = event_told s.captured.events;
   part = λ row. (members_from s row, members_to s row);
-  pack = refl;
-  packed = refl;
+  pack = λ row. (packs_from s row, packs_to s row);
+  packed = λ row. (children_from s row, children_to s row);
   quarantine = λ row. (
     held_in_rows s.quarantine row,
     λ t. subst (Contains (flat_map quarantine_rows (entries s.quarantine))) (sym t.3) (row_of_held s.quarantine t.0 t.1 t.2),

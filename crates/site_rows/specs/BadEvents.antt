@@ -11,30 +11,30 @@ pub record IsBelow (most : ℕ) (n : ℤ) (m : ℕ) : Type 0 where
   pub below : m < most
 
 -- the row at place k, from 0, is one of an event: its number is the next one, from 1, its eventID is plain and UTF-8
--- where it has one, its nanoseconds are 0 to 999,999,999, its kind is a Note, a Ship or a Make, and only a Make has a
--- transformationID, which is plain and UTF-8
-pub record IsEvent (k : ℕ) (row : EventRow) : Type 0 where
+-- where it has one, its nanoseconds are 0 to 999,999,999, its kind is one of so many (a Note, a Ship, a Make and a Pack),
+-- and only a Make has a transformationID, which is plain and UTF-8
+pub record IsEvent (kinds k : ℕ) (row : EventRow) : Type 0 where
   pub number : row.no ≡ pos (k + 1)
   pub id : IsTextOrNone row.id
   pub nanos : (n : ℕ) × IsBelow 1_000_000_000 row.nanos n
-  pub kind : (n : ℕ) × IsBelow 3 row.kind n
+  pub kind : (n : ℕ) × IsBelow kinds row.kind n
   pub make_id : IsTextOrNone row.make_id
   pub of_make : (row.kind ≡ pos 2) ⊎ (row.make_id ≡ None)
 
 -- the rows of all events
-abbrev pub IsEventTable : List EventRow → Type 0
-IsEventTable rows = (k : ℕ) (row : EventRow) → slice_get rows k ≡ Some row → IsEvent k row
+abbrev pub IsEventTable : ℕ → List EventRow → Type 0
+IsEventTable kinds rows = (k : ℕ) (row : EventRow) → slice_get rows k ≡ Some row → IsEvent kinds k row
 
 -- the first row that is none, by its place from 1
-pub record IsFirstBadEvent (rows : List EventRow) (place : ℕ) : Type 0 where
+pub record IsFirstBadEvent (kinds : ℕ) (rows : List EventRow) (place : ℕ) : Type 0 where
   pub before : ℕ
   pub next : place ≡ before + 1
   pub row : EventRow
   pub there : slice_get rows before ≡ Some row
-  pub good : (k : ℕ) (r : EventRow) → k < before → slice_get rows k ≡ Some r → IsEvent k r
-  pub bad : IsEvent before row → ⊥
+  pub good : (k : ℕ) (r : EventRow) → k < before → slice_get rows k ≡ Some r → IsEvent kinds k r
+  pub bad : IsEvent kinds before row → ⊥
 
 -- the fault of the table
-abbrev pub IsEventFault : List EventRow → TableFault → Type 0
-IsEventFault rows NoMemory = ⊤
-IsEventFault rows (BadRow place) = IsFirstBadEvent rows place
+abbrev pub IsEventFault : ℕ → List EventRow → TableFault → Type 0
+IsEventFault kinds rows NoMemory = ⊤
+IsEventFault kinds rows (BadRow place) = IsFirstBadEvent kinds rows place

@@ -91,10 +91,6 @@ IsStoreTable version sites rows = (n : StoreNumbers) × IsStore version sites ro
 abbrev pub IsSiteTable : List SiteRow → Type 0
 IsSiteTable rows = (sites : List Site) × AreSites sites × (rows ≡ map site_row (enumerate_from 0 sites))
 
--- ---- a table that has no rows
-abbrev pub IsEmptyTable : {R : Type 0} → List R → Type 0
-IsEmptyTable rows = rows ≡ []
-
 -- ---- tables that are finite maps: each row is that of an entry, and their keys rise
 
 abbrev pub Match : {R K V : Type 0} → (R → K → V → Type 0) → List R → List (K × V) → Type 0

@@ -1,7 +1,7 @@
 -- Laws of the rows of a record.
-use Rattle.std.specs.Prelude.{◌≡◌, ℕ, All, IsUtf8, Some, length}
+use Rattle.std.specs.Prelude.{◌≡◌, ◌≢◌, ◌↔◌, ℕ, All, IsUtf8, Some, length, slice_get}
 use Rattle.std.specs.FinMap as finite
-use Rattle.event_json.specs.Contents.{id_of}
+use Rattle.event_json.specs.Contents.{id_of, kind_of}
 use Rattle.event_json.specs.Events.{Content, IsBody}
 use Rattle.event_json.specs.Sites.{AreSites, Site}
 use Rattle.frame_core.specs.Numbers.{Recall, Message}
@@ -17,10 +17,11 @@ use Rattle.site_core.specs.declared.inputs.SiteInput.TheVariants.{Deliver}
 use Rattle.site_core.specs.declared.outcomes.Effects.{Effects}
 use Rattle.site_rows.specs.BadParts.{AreMembers}
 use Rattle.site_rows.specs.ReadRows.{IsBadRow}
-use Rattle.site_rows.specs.RecordRows.{rows_under}
+use Rattle.site_rows.specs.RecordRows.{HasTables, rows_under}
 use Rattle.site_rows.specs.Texts.{IsItemText, IsTextOrNone}
 use Rattle.site_rows.specs.declared.tables.Table.{Table}
 use Rattle.site_rows.specs.declared.tables.Version.{Version}
+use Rattle.site_rows.specs.declared.tables.Version.TheVariants.{First}
 
 -- a record that a site may keep
 pub record IsKept (s : Record) : Type 0 where
@@ -59,9 +60,13 @@ pub record HoldsItems (s : Record) : Type 0 where
   pub quarantine : HoldsKeys s.quarantine
   pub engagement : NamesItems s.engagement
 
--- no row of such a record is a bad one, and none is missing
+-- no row of such a record is a bad one, and none is missing, where its rows stand in tables of the version
 abbrev pub RowsOfRecordsAreGood : Type 0
-RowsOfRecordsAreGood = (v : Version) (s : Record) → IsKept s → HoldsItems s → (table : Table) (place : ℕ) → IsBadRow (rows_under v s) table place → ⊥
+RowsOfRecordsAreGood = (v : Version) (s : Record) → IsKept s → HoldsItems s → HasTables (rows_under v s) → (table : Table) (place : ℕ) → IsBadRow (rows_under v s) table place → ⊥
+
+-- the first version has tables for all rows of a record just where no event is a pack
+abbrev pub FirstVersionHasNoPacks : Type 0
+FirstVersionHasNoPacks = (s : Record) → HasTables (rows_under First s) ↔ ((k : ℕ) (e : Content) → slice_get s.captured.events k ≡ Some e → kind_of e.body ≢ 3)
 
 -- after a signal a record that a site may keep is one still, with the texts of items and sites
 abbrev pub SignalsKeepItems : Type 0

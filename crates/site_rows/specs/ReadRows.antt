@@ -3,8 +3,9 @@ use Rattle.std.specs.Prelude.{◌≡◌, ℕ, ⊤, List, [], ◌∷◌, ◌++◌
 use Rattle.std.specs.List.{AllByRecursion}
 use Rattle.site_rows.specs.BadAddresses.{IsFirstBadAddress}
 use Rattle.site_rows.specs.BadEvents.{IsFirstBadEvent}
-use Rattle.site_rows.specs.BadParts.{IsPartTable, site_of_row}
-use Rattle.site_rows.specs.BadRows.{IsEmptyTable, IsFirstBad, IsStoreTable, IsSiteTable, IsQuarantineTable, IsOutboxTable, IsSeenTable, IsParentTable, IsRecallTable}
+use Rattle.site_rows.specs.BadParts.{IsPackTable, IsPackedTable, IsPartTable, site_of_row}
+use Rattle.site_rows.specs.BadRows.{IsFirstBad, IsStoreTable, IsSiteTable, IsQuarantineTable, IsOutboxTable, IsSeenTable, IsParentTable, IsRecallTable}
+use Rattle.site_rows.specs.RecordRows.{kinds_under}
 use Rattle.site_rows.specs.declared.reading.StateFault.{StateFault}
 use Rattle.site_rows.specs.declared.reading.StateFault.TheVariants as fault
 use Rattle.site_rows.specs.declared.tables.Table.{Table}
@@ -18,10 +19,10 @@ abbrev pub IsBadRow : Rows → Table → ℕ → Type 0
 IsBadRow rows Store place = IsFirstBad (IsStoreTable rows.version rows.site) rows.store place
 IsBadRow rows Site place = IsFirstBad IsSiteTable rows.site place
 IsBadRow rows Address place = IsFirstBadAddress (length rows.site) rows.address place
-IsBadRow rows Event place = IsFirstBadEvent rows.event place
+IsBadRow rows Event place = IsFirstBadEvent (kinds_under rows.version) rows.event place
 IsBadRow rows Part place = IsFirstBad (IsPartTable (map site_of_row rows.site) rows.event) rows.part place
-IsBadRow rows Pack place = IsFirstBad IsEmptyTable rows.pack place
-IsBadRow rows Packed place = IsFirstBad IsEmptyTable rows.packed place
+IsBadRow rows Pack place = IsFirstBad (IsPackTable (length rows.site) rows.event) rows.pack place
+IsBadRow rows Packed place = IsFirstBad (IsPackedTable (length rows.site) rows.event) rows.packed place
 IsBadRow rows Quarantine place = IsFirstBad (IsQuarantineTable (length rows.site)) rows.quarantine place
 IsBadRow rows Outbox place = IsFirstBad (IsOutboxTable (length rows.site)) rows.outbox place
 IsBadRow rows Seen place = IsFirstBad (IsSeenTable (length rows.site)) rows.seen place

@@ -1,14 +1,14 @@
 -- The rows of a record: what each table of a site's file holds of what the site keeps. Items stand as their keys, sites
 -- as their numbers, and each table's rows ascend by its key.
-use Rattle.std.specs.Prelude.{ℕ, ℤ, pos, ◌++◌, cond, List, [], ◌∷◌, map, flat_map, fold, Option, Some, None, slice_get}
+use Rattle.std.specs.Prelude.{◌≡◌, ℕ, ℤ, pos, ◌++◌, cond, List, [], ◌∷◌, map, flat_map, fold, Option, Some, None, slice_get}
 use Rattle.std.specs.Int.{int_div_euclid, int_rem_euclid}
 use Rattle.std.specs.List.{enumerate_from}
 use Rattle.std.specs.FinMap as finite
-use Rattle.event_json.specs.Contents.{kind_of, id_of}
+use Rattle.event_json.specs.Contents.{kind_of, id_of, number_of}
 use Rattle.event_json.specs.Events.{Content}
 use Rattle.event_json.specs.Sites.{Site}
 use Rattle.event_json.specs.declared.bodies.Body.{Body}
-use Rattle.event_json.specs.declared.bodies.Body.TheVariants.{Note, Ship, Make}
+use Rattle.event_json.specs.declared.bodies.Body.TheVariants.{Note, Ship, Make, Pack}
 use Rattle.frame_core.specs.Numbers.{Recall, Message}
 use Rattle.frame_core.specs.declared.rows.Row.{Row}
 use Rattle.scholten_core.specs.declared.own_recalls.Own.{Own}
@@ -24,6 +24,8 @@ use Rattle.site_rows.specs.declared.rows.SiteRow.{SiteRow}
 use Rattle.site_rows.specs.declared.rows.AddressRow.{AddressRow}
 use Rattle.site_rows.specs.declared.rows.EventRow.{EventRow}
 use Rattle.site_rows.specs.declared.rows.PartRow.{PartRow}
+use Rattle.site_rows.specs.declared.rows.PackRow.{PackRow}
+use Rattle.site_rows.specs.declared.rows.PackedRow.{PackedRow}
 use Rattle.site_rows.specs.declared.rows.QuarantineRow.{QuarantineRow}
 use Rattle.site_rows.specs.declared.rows.OutboxRow.{OutboxRow}
 use Rattle.site_rows.specs.declared.rows.SeenRow.{SeenRow}
@@ -35,6 +37,11 @@ use Rattle.site_rows.specs.declared.rows.Rows.{Rows}
 abbrev pub version_number : Version → ℤ
 version_number First = pos 1
 version_number Second = pos 2
+
+-- there are so many kinds of events: the first version has no tables for packs
+abbrev pub kinds_under : Version → ℕ
+kinds_under First = 3
+kinds_under Second = 4
 
 -- the site's own number and the next numbers, under a version
 abbrev pub store_row : Version → Record → StoreRow
@@ -102,9 +109,33 @@ abbrev pub body_rows : List Site → ℕ → Body → List PartRow
 body_rows sites event (Note items) = part_rows event 0 items
 body_rows sites event (Ship items to outside) = (part_rows event 0 items ++ part_rows event 1 (map (name_of sites) to)) ++ part_rows event 2 outside
 body_rows sites event (Make id ins outs) = part_rows event 3 ins ++ part_rows event 4 outs
+body_rows sites event (Pack action parent children) = []
 
 abbrev pub parts_of : List Site → ℕ × Content → List PartRow
 parts_of sites p = body_rows sites p.0 p.1.body
+
+-- what is said of the children of a pack, and its parent
+abbrev pub pack_rows : ℕ → Body → List PackRow
+pack_rows event (Note items) = []
+pack_rows event (Ship items to outside) = []
+pack_rows event (Make id ins outs) = []
+pack_rows event (Pack action parent children) = record { event = pos event; action = pos (number_of action); parent = parent } ∷ []
+
+abbrev pub packs_of : ℕ × Content → List PackRow
+packs_of p = pack_rows p.0 p.1.body
+
+-- the children of a pack, each at its place
+abbrev pub packed_row : ℕ → ℕ × List ℕ → PackedRow
+packed_row event p = record { event = pos event; place = pos p.0; text = p.1 }
+
+abbrev pub packed_rows : ℕ → Body → List PackedRow
+packed_rows event (Note items) = []
+packed_rows event (Ship items to outside) = []
+packed_rows event (Make id ins outs) = []
+packed_rows event (Pack action parent children) = map (packed_row event) (enumerate_from 0 children)
+
+abbrev pub children_of : ℕ × Content → List PackedRow
+children_of p = packed_rows p.0 p.1.body
 
 -- an item under a recall
 abbrev pub quarantine_row : Recall → List ℕ → QuarantineRow
@@ -129,7 +160,7 @@ parent_row e = record { recall_site = pos e.0.site; recall_no = pos e.0.number; 
 abbrev pub recall_row : ℕ × Own → RecallRow
 recall_row e = record { number = pos e.0; root = e.1.root; ended = pos (cond e.1.ended 1 0) }
 
--- the rows of all tables, under a version; nothing was packed yet
+-- the rows of all tables, under a version
 abbrev pub rows_under : Version → Record → Rows
 rows_under v s = record {
   version = v;
@@ -138,14 +169,19 @@ rows_under v s = record {
   address = map address_row (finite.entries (addresses_of s.sites));
   event = map event_row (enumerate_from 1 s.captured.events);
   part = flat_map (parts_of s.sites) (enumerate_from 1 s.captured.events);
-  pack = [];
-  packed = [];
+  pack = flat_map packs_of (enumerate_from 1 s.captured.events);
+  packed = flat_map children_of (enumerate_from 1 s.captured.events);
   quarantine = flat_map quarantine_rows (finite.entries s.quarantine);
   outbox = map outbox_row (finite.entries s.engagement.outbox);
   seen = map seen_row (finite.entries s.engagement.seen);
   parent = map parent_row (finite.entries s.engagement.parents);
   recall = map recall_row (finite.entries s.engagement.own);
 }
+
+-- the rows stand in tables that their version has: the first one has none for packs, so a record with a pack has no rows
+-- under it
+abbrev pub HasTables : Rows → Type 0
+HasTables rows = rows.version ≡ First → rows.pack ≡ []
 
 -- those under the second version, which a site's own file has
 abbrev pub rows_of : Record → Rows

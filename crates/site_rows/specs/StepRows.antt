@@ -41,7 +41,7 @@ abbrev pub renumbered : Option Numbers → List StoreRow → List StoreRow
 renumbered None rows = rows
 renumbered (Some n) rows = map (with_numbers n) rows
 
--- The changes lead from some rows to others. Events and their members come after those that stand; the rows of every
+-- The changes lead from some rows to others. Events, their members and their packs come after those that stand; the rows of every
 -- other table are in any order.
 pub record LeadsTo (changes : RowChanges) (before after : Rows) : Type 0 where
   pub version : after.version ≡ before.version
@@ -50,8 +50,8 @@ pub record LeadsTo (changes : RowChanges) (before after : Rows) : Type 0 where
   pub address : after.address ≡ before.address
   pub event : after.event ≡ before.event ++ changes.event
   pub part : after.part ≡ before.part ++ changes.part
-  pub pack : after.pack ≡ before.pack
-  pub packed : after.packed ≡ before.packed
+  pub pack : after.pack ≡ before.pack ++ changes.pack
+  pub packed : after.packed ≡ before.packed ++ changes.packed
   pub quarantine : IsPermutation (before.quarantine ++ changes.quarantine) after.quarantine
   pub outbox : IsPermutation (fold without_message (fold put_message before.outbox changes.outbox) changes.signalled) after.outbox
   pub seen : IsPermutation (before.seen ++ changes.seen) after.seen
@@ -60,7 +60,7 @@ pub record LeadsTo (changes : RowChanges) (before after : Rows) : Type 0 where
 
 -- no row is changed
 abbrev pub no_changes : RowChanges
-no_changes = record { event = []; part = []; quarantine = []; outbox = []; seen = []; parent = []; signalled = []; left = []; recall = []; numbers = None }
+no_changes = record { event = []; part = []; pack = []; packed = []; quarantine = []; outbox = []; seen = []; parent = []; signalled = []; left = []; recall = []; numbers = None }
 
 -- the numbers that a site gives next, and where it numbered messages since
 abbrev pub numbers_of : Engagement → Numbers
@@ -69,7 +69,7 @@ numbers_of e = record { next_message = pos e.next_message; next_recall = pos e.n
 abbrev pub numbers_changed : Engagement → Engagement → Option Numbers
 numbers_changed old new = if nat_lt old.next_message new.next_message then Some (numbers_of new) else None
 
--- How many rows of each table are inserted, put or taken away, but for the members of events.
+-- How many rows of each table are inserted, put or taken away, but for the members and the packs of events.
 pub record Counts : Type 0 where
   pub event : ℕ
   pub quarantine : ℕ

@@ -1,5 +1,7 @@
 //! The rows that a step changes.
-use crate::rows::{EventRow, OutboxRow, ParentRow, PartRow, QuarantineRow, RecallRow, SeenRow};
+use crate::rows::{
+    EventRow, OutboxRow, PackRow, PackedRow, ParentRow, PartRow, QuarantineRow, RecallRow, SeenRow,
+};
 use event_json::Sequence;
 
 /// The numbers that a site gives next.
@@ -27,6 +29,10 @@ pub struct RowChanges {
     pub event: Sequence<EventRow>,
     /// Members of their lists to insert.
     pub part: Sequence<PartRow>,
+    /// Packs to insert.
+    pub pack: Sequence<PackRow>,
+    /// Their children to insert.
+    pub packed: Sequence<PackedRow>,
     /// Quarantined items to insert.
     pub quarantine: Sequence<QuarantineRow>,
     /// Messages to put in place of those of their numbers, or besides the others.

@@ -1,14 +1,14 @@
 //! The rows of the captured events and of their lists.
 ghost use Rattle.std.specs.Prelude.{◌≡◌, ◌≤◌, ◌++◌, ◌∷◌, ◌+◌, [], drop, flat_map, map, length, option_map, pos, IfOk, OnOk};
 ghost use Rattle.std.specs.List.{enumerate_from};
-ghost use Rattle.event_json.specs.Contents.{kind_of, id_of};
-ghost use Rattle.site_rows.specs.RecordRows.{event_row, part_row, part_rows, body_rows, parts_of, name_of};
+ghost use Rattle.event_json.specs.Contents.{kind_of, id_of, number_of};
+ghost use Rattle.site_rows.specs.RecordRows.{event_row, part_row, part_rows, body_rows, parts_of, pack_rows, packs_of, packed_row, packed_rows, children_of, name_of};
 
 use crate::numbers::stored;
-use crate::rows::{EventRow, PartRow};
+use crate::rows::{EventRow, PackRow, PackedRow, PartRow};
 use crate::texts::Text;
 use epc_core::Epc;
-use event_json::{Body, Event, PlainText, Sequence, SiteNo, Sites};
+use event_json::{Action, Body, Event, PlainText, Sequence, SiteNo, Sites};
 use std::alloc::{AllocError, Global};
 use trace_core::Captured;
 
@@ -26,7 +26,7 @@ pub(crate) const INPUT: u64 = 3;
 
 pub(crate) const OUTPUT: u64 = 4;
 
-/// The kind of an event by its number: 0 a Note, 1 a Ship, 2 a Make.
+/// The kind of an event by its number: 0 a Note, 1 a Ship, 2 a Make, 3 a Pack.
 fn kind_of(body: &Body) -> i64
     ensures { result ≡ pos (kind_of body.now) }
 {
@@ -34,6 +34,7 @@ fn kind_of(body: &Body) -> i64
         Body::Note { .. } => 0,
         Body::Ship { .. } => 1,
         Body::Make { .. } => 2,
+        Body::Pack { .. } => 3,
     }
 }
 
@@ -53,7 +54,7 @@ fn make_id_of(alloc: Global, body: &Body) -> Result<Option<Text>, AllocError>
 {
     match body {
         Body::Make { id, .. } => text_of(alloc, id.as_ref()),
-        Body::Note { .. } | Body::Ship { .. } => Ok(None),
+        Body::Note { .. } | Body::Ship { .. } | Body::Pack { .. } => Ok(None),
     }
 }
 
@@ -186,6 +187,8 @@ fn push_body(
             push_items(alloc, rows, event, INPUT, ins.as_slice())?;
             push_items(alloc, rows, event, OUTPUT, outs.as_slice())
         }
+        // Its children stand in a table of their own.
+        Body::Pack { .. } => Ok(()),
     }
 }
 
@@ -202,6 +205,125 @@ pub fn part_rows(
     for place in from..captured.len() {
         if let Some(event) = captured.event(place) {
             push_body(alloc, &mut rows, place as u64 + 1, sites, event.body())?;
+        }
+    }
+    Ok(Sequence::from_vec(rows))
+}
+
+/// An action by its number: 0 ADD, 1 OBSERVE, 2 DELETE.
+fn number_of(action: Action) -> i64
+    ensures { result ≡ pos (number_of action) }
+{
+    match action {
+        Action::Add => 0,
+        Action::Observe => 1,
+        Action::Delete => 2,
+    }
+}
+
+/// The key of an item, where there is one.
+fn key_of(alloc: Global, item: &Option<Epc>) -> Result<Option<Text>, AllocError>
+    ensures { IfOk result (λ key. key ≡ item.now) }
+{
+    match item {
+        Some(item) => Ok(Some(Text::from_string(item.key(alloc)?))),
+        None => Ok(None),
+    }
+}
+
+/// Adds the action and the parent of an event of this number, where it is a pack.
+fn push_pack(
+    alloc: Global,
+    rows: &mut Vec<PackRow>,
+    event: u64,
+    body: &Body,
+) -> Result<(), AllocError>
+    ensures { OnOk result (rows.new.items ≡ rows.old.items ++ pack_rows event body.now) }
+{
+    match body {
+        Body::Pack { action, parent, .. } => {
+            rows.push(PackRow {
+                event: stored(event)?,
+                action: number_of(*action),
+                parent: key_of(alloc, parent)?,
+            })?;
+            Ok(())
+        }
+        Body::Note { .. } | Body::Ship { .. } | Body::Make { .. } => Ok(()),
+    }
+}
+
+/// The rows of the actions and the parents of the captured packs from this place on, which counts from 0, by event.
+pub fn pack_rows(
+    alloc: Global,
+    captured: &Captured,
+    from: usize,
+) -> Result<Sequence<PackRow>, AllocError>
+    ensures { IfOk result (λ rows. rows ≡ flat_map packs_of (enumerate_from (from + 1) (drop from captured.now.events))) }
+{
+    let mut rows = Vec::new(alloc);
+    for place in from..captured.len() {
+        if let Some(event) = captured.event(place) {
+            push_pack(alloc, &mut rows, place as u64 + 1, event.body())?;
+        }
+    }
+    Ok(Sequence::from_vec(rows))
+}
+
+/// The row of a child.
+fn packed_row(event: u64, place: u64, text: Text) -> Result<PackedRow, AllocError>
+    ensures { IfOk result (λ row. row ≡ packed_row event (place, text)) }
+{
+    Ok(PackedRow {
+        event: stored(event)?,
+        place: stored(place)?,
+        text,
+    })
+}
+
+/// Adds the children of an event.
+fn push_children(
+    alloc: Global,
+    rows: &mut Vec<PackedRow>,
+    event: u64,
+    children: &[Epc],
+) -> Result<(), AllocError>
+    ensures { OnOk result (rows.new.items ≡ rows.old.items ++ map (packed_row event) (enumerate_from 0 children.now)) }
+{
+    for (place, item) in children.iter().enumerate() {
+        let key = Text::from_string(item.key(alloc)?);
+        rows.push(packed_row(event, place as u64, key)?)?;
+    }
+    Ok(())
+}
+
+/// Adds the children of an event of this number, where it is a pack.
+fn push_packed(
+    alloc: Global,
+    rows: &mut Vec<PackedRow>,
+    event: u64,
+    body: &Body,
+) -> Result<(), AllocError>
+    ensures { OnOk result (rows.new.items ≡ rows.old.items ++ packed_rows event body.now) }
+{
+    match body {
+        Body::Pack { children, .. } => push_children(alloc, rows, event, children.as_slice()),
+        Body::Note { .. } | Body::Ship { .. } | Body::Make { .. } => Ok(()),
+    }
+}
+
+/// The rows of the children of the captured packs from this place on, which counts from 0, by event and place.
+pub fn packed_rows(
+    alloc: Global,
+    captured: &Captured,
+    from: usize,
+) -> Result<Sequence<PackedRow>, AllocError>
+    ensures { IfOk result (λ rows. rows ≡ flat_map children_of (enumerate_from (from + 1) (drop from captured.now.events))) }
+{
+    let mut rows = Vec::new(alloc);
+    for place in from..captured.len() {
+        if let Some(event) = captured.event(place) {
+            push_packed(alloc, &mut rows, place as u64 + 1, event.body())?;
         }
     }
     Ok(Sequence::from_vec(rows))

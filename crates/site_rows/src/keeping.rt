@@ -1,5 +1,5 @@
 //! What the types of all that a site keeps say of its texts.
-ghost use Rattle.std.specs.Prelude.{◌≡◌, ℕ, List, All, Contains, IsUtf8, Some, length, option_map, slice_get};
+ghost use Rattle.std.specs.Prelude.{◌≡◌, ℕ, List, All, Contains, IfSome, IsUtf8, Some, length, option_map, slice_get};
 ghost use Rattle.std.specs.FinMap.{get};
 ghost use Rattle.event_json.specs.Contents.{id_of};
 ghost use Rattle.event_json.specs.Sites.{ShipsAmong, Site};
@@ -114,6 +114,14 @@ fn show_body(body: &Body)
             show_items(ins.as_slice());
             show_items(outs.as_slice());
         }
+        Body::Pack {
+            parent,
+            children,
+            ..
+        } => {
+            show_parent(parent);
+            show_items(children.as_slice());
+        }
     }
 }
 
@@ -122,6 +130,15 @@ fn show_item(item: &Epc)
     ensures { IsItemText item.now }
 {
     let _form = item.form();
+}
+
+/// A parent has the key of an item, where there is one.
+fn show_parent(parent: &Option<Epc>)
+    ensures { IfSome parent.now IsItemText }
+{
+    if let Some(item) = parent {
+        show_item(item);
+    }
 }
 
 /// Items have keys of items.

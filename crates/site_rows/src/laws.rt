@@ -1,6 +1,6 @@
 //! Laws of the rows, for proofs of the crates above. Each is a function with an empty body whose contract is the law.
 
-ghost use Rattle.site_rows.specs.Laws.{RowsOfRecordsAreGood, RowsTellTheRecord, SignalsKeepItems};
+ghost use Rattle.site_rows.specs.Laws.{FirstVersionHasNoPacks, RowsOfRecordsAreGood, RowsTellTheRecord, SignalsKeepItems};
 ghost use Rattle.site_rows.specs.TableLaws.{RowsStandForTheRecord};
 
 use site_core::laws::steps_stay_sound;
@@ -11,7 +11,13 @@ pub fn rows_tell_the_record()
     ensures { RowsTellTheRecord }
 {}
 
-/// No row of a record that a site may keep is a bad one, so `state_of` refuses none of them.
+/// The first version of the tables has none for packs, so a record has rows under it just where no event is a pack.
+pub fn the_first_version_has_no_packs()
+    ensures { FirstVersionHasNoPacks }
+{}
+
+/// No row of a record that a site may keep is a bad one where it stands in a table of the version, so `state_of` refuses none
+/// of them.
 pub fn rows_of_a_record_are_good()
     ensures { RowsOfRecordsAreGood }
 {}

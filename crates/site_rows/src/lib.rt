@@ -18,6 +18,7 @@ mod reading_events;
 mod reading_held;
 mod reading_lists;
 mod reading_numbers;
+mod reading_packs;
 mod reading_recalls;
 mod reading_sites;
 mod reading_texts;

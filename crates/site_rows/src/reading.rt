@@ -1,17 +1,17 @@
 //! The record of a site, read back from the rows of its tables.
-ghost use Rattle.std.specs.Prelude.{◌≡◌, ◌≤◌, ◌∷◌, [], flat_map, length, map, All, IfOk, IfErr, MatchResult, OnOk};
+ghost use Rattle.std.specs.Prelude.{◌≡◌, ◌≤◌, ◌∷◌, [], flat_map, length, map, All, IfOk, IfErr, MatchResult};
 ghost use Rattle.std.specs.FinMap.{entries};
 ghost use Rattle.std.specs.List.{enumerate_from};
 ghost use Rattle.frame_core.specs.Unsignalled.{IsNextNumber};
 ghost use Rattle.site_core.specs.Records.{IsEngagementAmong, Record};
 ghost use Rattle.site_rows.specs.Laws.{HasTexts, HoldsItems, IsEventAmong, IsKept, NamesItems};
-ghost use Rattle.site_rows.specs.RecordRows.{rows_under, addresses_of, parts_of, address_row, event_row, outbox_row, parent_row, recall_row, seen_row, site_row};
+ghost use Rattle.site_rows.specs.RecordRows.{HasTables, rows_under, addresses_of, children_of, packs_of, parts_of, address_row, event_row, outbox_row, parent_row, recall_row, seen_row, site_row};
 ghost use Rattle.site_rows.specs.ReadRows.{HasNoBadRow, HaveNoBadRow, IsStateFault, IsFaultIn};
 ghost use Rattle.site_rows.specs.declared.reading.StateFault.TheVariants.{NoMemory};
 
 use crate::reading_addressed::addressed;
 use crate::reading_captured::captured_of;
-use crate::reading_entries::{TableFault, check_empty};
+use crate::reading_entries::TableFault;
 use crate::reading_events::check_events;
 use crate::reading_held::quarantine_of;
 use crate::reading_recalls::{outbox_of, own_of, parents_of, seen_of};
@@ -59,13 +59,13 @@ impl From<AllocError> for StateFault {
 /// # Errors
 /// A bad row of the first table that has one, in the order of [`Table`]: the first bad one of that table. A row that is
 /// missing is named by the place where it would stand. And out of memory, which alone comes where the rows are those of
-/// a record.
+/// a record, in tables that their version has.
 pub fn state_of(alloc: Global, keys: RandomState, rows: &Rows) -> Result<SiteState, StateFault>
     ensures read { IfOk result (λ state. rows_under rows.now.version state ≡ rows.now) }
     ensures bad { IfErr result (λ fault. IsStateFault rows.now fault) }
     ensures kept { IfOk result (λ state. IsKept state) }
     ensures items { IfOk result (λ state. HoldsItems state) }
-    ensures same { (s : Record) → IsKept s → HoldsItems s → rows_under rows.now.version s ≡ rows.now → MatchResult result (λ state. state ≡ s) (λ fault. fault ≡ NoMemory) }
+    ensures same { HasTables rows.now → (s : Record) → IsKept s → HoldsItems s → rows_under rows.now.version s ≡ rows.now → MatchResult result (λ state. state ≡ s) (λ fault. fault ≡ NoMemory) }
 {
     read_state(alloc, keys, rows)
 }
@@ -83,7 +83,6 @@ fn read_state(alloc: Global, keys: RandomState, rows: &Rows) -> Result<SiteState
     };
     let sites = sites_of(alloc, rows)?;
     let captured = events_of(alloc, keys, numbers.me, &sites, rows)?;
-    no_packs(rows)?;
     let quarantine = match quarantine_of(alloc, sites.len(), rows.quarantine.as_slice()) {
         Ok(quarantine) => quarantine,
         Err(fault) => return Err(in_table(Table::Quarantine, fault)),
@@ -136,11 +135,13 @@ fn events_of(
     ensures me { IfOk result (λ c. c.me ≡ me) }
     ensures event { IfOk result (λ c. rows.now.event ≡ map event_row (enumerate_from 1 c.events)) }
     ensures part { IfOk result (λ c. rows.now.part ≡ flat_map (parts_of sites.now) (enumerate_from 1 c.events)) }
+    ensures pack { IfOk result (λ c. rows.now.pack ≡ flat_map packs_of (enumerate_from 1 c.events)) }
+    ensures packed { IfOk result (λ c. rows.now.packed ≡ flat_map children_of (enumerate_from 1 c.events)) }
     ensures among { IfOk result (λ c. All (IsEventAmong (length sites.now)) c.events) }
-    ensures good { IfOk result (λ _. HasNoBadRow rows.now Table.Event × HasNoBadRow rows.now Table.Part) }
+    ensures good { IfOk result (λ _. HaveNoBadRow rows.now (Table.Event ∷ Table.Part ∷ Table.Pack ∷ Table.Packed ∷ [])) }
     ensures bad { IfErr result (λ fault. IsStateFault rows.now fault) }
 {
-    if let Err(fault) = check_events(rows.event.as_slice()) {
+    if let Err(fault) = check_events(rows.version.kinds(), rows.event.as_slice()) {
         return Err(in_table(Table::Event, fault));
     }
     match captured_of(
@@ -150,25 +151,11 @@ fn events_of(
         sites,
         rows.event.as_slice(),
         rows.part.as_slice(),
+        rows.pack.as_slice(),
+        rows.packed.as_slice(),
     ) {
         Ok(captured) => Ok(captured),
-        Err(fault) => Err(in_table(Table::Part, fault)),
-    }
-}
-
-/// Tests that nothing was packed, since no event of this kind is read yet.
-fn no_packs(rows: &Rows) -> Result<(), StateFault>
-    requires good { HaveNoBadRow rows.now (Table.Store ∷ Table.Site ∷ Table.Address ∷ Table.Event ∷ Table.Part ∷ []) }
-    ensures pack { OnOk result (rows.now.pack ≡ []) }
-    ensures packed { OnOk result (rows.now.packed ≡ []) }
-    ensures bad { IfErr result (λ fault. IsStateFault rows.now fault) }
-{
-    if let Err(fault) = check_empty(rows.pack.as_slice()) {
-        return Err(in_table(Table::Pack, fault));
-    }
-    match check_empty(rows.packed.as_slice()) {
-        Ok(()) => Ok(()),
-        Err(fault) => Err(in_table(Table::Packed, fault)),
+        Err(fault) => Err(fault),
     }
 }
 

@@ -1,8 +1,8 @@
 //! A table whose rows are the entries of a map, read back.
-ghost use Rattle.std.specs.Prelude.{◌≡◌, ◌≤◌, ◌↔◌, ◌++◌, ◌∷◌, [], T, IfOk, IfErr, IsTrue, OnOk};
+ghost use Rattle.std.specs.Prelude.{◌≡◌, ◌≤◌, ◌↔◌, ◌++◌, ◌∷◌, [], T, IfOk, IfErr, IsTrue};
 ghost use Rattle.std.specs.FinMap.{is_sorted};
 ghost use Rattle.frame_core.specs.Tables.{as_map};
-ghost use Rattle.site_rows.specs.BadRows.{AreOfMap, IsEmptyTable, IsFaultOf, Match, StandForOne};
+ghost use Rattle.site_rows.specs.BadRows.{AreOfMap, IsFaultOf, Match, StandForOne};
 ghost use Rattle.site_rows.specs.Appending.{IsAppended};
 
 use frame_core::tables::{Key, put};
@@ -26,21 +26,6 @@ impl From<AllocError> for TableFault {
 
     fn from(_error: AllocError) -> TableFault {
         TableFault::NoMemory
-    }
-}
-
-/// Tests that a table has no rows.
-///
-/// # Errors
-/// Its first row.
-pub(crate) fn check_empty<R>(rows: &[R]) -> Result<(), TableFault>
-    ensures good { OnOk result (rows.now ≡ []) }
-    ensures bad { IfErr result (λ fault. IsFaultOf IsEmptyTable rows.now fault) }
-{
-    if rows.is_empty() {
-        Ok(())
-    } else {
-        Err(TableFault::BadRow(1))
     }
 }
 

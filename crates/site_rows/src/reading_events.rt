@@ -12,23 +12,20 @@ use crate::texts::Text;
 /// A second has as many nanoseconds.
 const SECOND: u64 = 1_000_000_000;
 
-/// There are so many kinds of events: Note, Ship and Make.
-const KINDS: u64 = 3;
-
 /// The kind of an event that makes items.
 const MAKE: i64 = 2;
 
-/// Tests that the rows are those of events, the members of their lists aside. Does not allocate.
+/// Tests that the rows are those of events of so many kinds, the members of their lists aside. Does not allocate.
 ///
 /// # Errors
 /// The first row that is no event's: its number isn't the next one, from 1, its eventID or its transformationID isn't
 /// plain and UTF-8, its nanoseconds or its kind are out of range, or it has a transformationID and makes no items.
-pub(crate) fn check_events(rows: &[EventRow]) -> Result<(), TableFault>
-    ensures good { OnOk result (IsEventTable rows.now) }
-    ensures bad { IfErr result (λ fault. IsEventFault rows.now fault) }
+pub(crate) fn check_events(kinds: u64, rows: &[EventRow]) -> Result<(), TableFault>
+    ensures good { OnOk result (IsEventTable kinds rows.now) }
+    ensures bad { IfErr result (λ fault. IsEventFault kinds rows.now fault) }
 {
     for (place, row) in rows.iter().enumerate() {
-        if !is_event(place, row) {
+        if !is_event(kinds, place, row) {
             return Err(TableFault::BadRow(place as u64 + 1));
         }
     }
@@ -36,13 +33,13 @@ pub(crate) fn check_events(rows: &[EventRow]) -> Result<(), TableFault>
 }
 
 /// Whether the row at a place is one of an event.
-fn is_event(place: usize, row: &EventRow) -> bool
-    ensures { IsTrue result ↔ IsEvent place row.now }
+fn is_event(kinds: u64, place: usize, row: &EventRow) -> bool
+    ensures { IsTrue result ↔ IsEvent kinds place row.now }
 {
     if !is_next(place, row.no) || !is_identifier(&row.id) || !is_identifier(&row.make_id) {
         return false;
     }
-    if !is_below(SECOND, row.nanos) || !is_below(KINDS, row.kind) {
+    if !is_below(SECOND, row.nanos) || !is_below(kinds, row.kind) {
         return false;
     }
     row.kind == MAKE || row.make_id.is_none()

@@ -1,12 +1,11 @@
 //! The lists of events, read back from their rows in turn.
 ghost use Rattle.std.specs.Prelude.{◌≡◌, ◌≤◌, ◌↔◌, length, slice_get, IfOk, IsTrue};
 ghost use Rattle.site_rows.specs.BadRows.{Tells};
-ghost use Rattle.site_rows.specs.PartsInTurn.{IsListRead, IsMemberAt};
-ghost use Rattle.site_rows.specs.RecordRows.{part_row};
+ghost use Rattle.site_rows.specs.PartsInTurn.{IsListBy, IsMemberBy};
 
 use crate::reading_numbers::natural;
 use crate::reading_texts::{item_of_key, plain_text_of};
-use crate::rows::PartRow;
+use crate::rows::{PackedRow, PartRow};
 use crate::texts::Text;
 use epc_core::Epc;
 use event_json::{PlainText, Sequence, SiteNo, Sites};
@@ -83,16 +82,78 @@ pub(crate) struct ListKey {
     pub(crate) most: u64,
 }
 
+/// A row of a member of a list.
+pub(crate) trait ListRow {
+    ghost use Rattle.std.specs.Prelude.{◌≡◌, ◌↔◌, List, ℕ, IsTrue};
+
+    /// The row of an event and a role, at a place, with a text.
+    ghost row_of: { ℕ → ℕ → ℕ × List ℕ → Self };
+
+    /// Its text.
+    ghost text_of: { Self → List ℕ };
+
+    /// It is that with which the row is made.
+    ghost tells: { (event role : ℕ) (p : ℕ × List ℕ) → text_of (row_of event role p) ≡ p.1 };
+
+    /// Whether it is that of a place of a list.
+    fn is_at(&self, list: ListKey, place: u64) -> bool
+        ensures { IsTrue result ↔ (self.now ≡ row_of list.event list.role (place, text_of self.now)) };
+
+    /// Its text.
+    fn text(&self) -> &Text
+        ensures { result.now ≡ text_of self.now };
+}
+
+impl ListRow for PartRow {
+    ghost use Rattle.std.specs.Prelude.{refl};
+    ghost use Rattle.site_rows.specs.RecordRows.{part_row};
+
+    ghost row_of = { part_row };
+
+    ghost text_of = { λ row. row.text };
+
+    ghost tells = { λ _ _ _. refl };
+
+    fn is_at(&self, list: ListKey, place: u64) -> bool {
+        natural(self.event) == Some(list.event)
+            && natural(self.role) == Some(list.role)
+            && natural(self.place) == Some(place)
+    }
+
+    fn text(&self) -> &Text {
+        &self.text
+    }
+}
+
+impl ListRow for PackedRow {
+    ghost use Rattle.std.specs.Prelude.{refl};
+    ghost use Rattle.site_rows.specs.RecordRows.{packed_row};
+
+    ghost row_of = { λ event _. packed_row event };
+
+    ghost text_of = { λ row. row.text };
+
+    ghost tells = { λ _ _ _. refl };
+
+    fn is_at(&self, list: ListKey, place: u64) -> bool {
+        natural(self.event) == Some(list.event) && natural(self.place) == Some(place)
+    }
+
+    fn text(&self) -> &Text {
+        &self.text
+    }
+}
+
 /// The members of a list from the row at a place on, as many as there are; the place is left behind them.
-pub(crate) fn list_at<M: Member>(
+pub(crate) fn list_at<M: Member, R: ListRow>(
     alloc: Global,
     sites: &Sites,
-    rows: &[PartRow],
+    rows: &[R],
     at: &mut usize,
     list: ListKey,
 ) -> Result<Sequence<M>, AllocError>
     requires within { at.old ≤ length rows.now }
-    ensures { IfOk result (λ members. IsListRead (M.is sites.now) (M.written sites.now) list.event list.role list.most rows.now at.old at.new members) }
+    ensures { IfOk result (λ members. IsListBy (R.row_of list.event list.role) (M.is sites.now) (M.written sites.now) list.most rows.now at.old at.new members) }
 {
     let mut members = Vec::new(alloc);
     for place in 0..list.most {
@@ -117,30 +178,21 @@ fn trimmed<M: Member>(members: Vec<M>) -> Sequence<M>
 }
 
 /// The member whose row stands at a place, where it is that of this place of the list.
-fn member_at<M: Member>(
+fn member_at<M: Member, R: ListRow>(
     alloc: Global,
     sites: &Sites,
-    rows: &[PartRow],
+    rows: &[R],
     at: usize,
     list: ListKey,
     place: u64,
 ) -> Result<Option<M>, AllocError>
-    ensures { IfOk result (λ member. Tells member (IsMemberAt (M.is sites.now) (M.written sites.now) list.event list.role place (slice_get rows.now at))) }
+    ensures { IfOk result (λ member. Tells member (IsMemberBy (R.row_of list.event list.role) (M.is sites.now) (M.written sites.now) place (slice_get rows.now at))) }
 {
     let Some(row) = rows.get(at) else {
         return Ok(None);
     };
-    if !is_at(row, list, place) {
+    if !row.is_at(list, place) {
         return Ok(None);
     }
-    M::read(alloc, sites, &row.text)
-}
-
-/// Whether a row is that of a place of a list.
-fn is_at(row: &PartRow, list: ListKey, place: u64) -> bool
-    ensures { IsTrue result ↔ (row.now ≡ part_row list.event list.role (place, row.now.text)) }
-{
-    natural(row.event) == Some(list.event)
-        && natural(row.role) == Some(list.role)
-        && natural(row.place) == Some(place)
+    M::read(alloc, sites, row.text())
 }

@@ -47,7 +47,7 @@ pub struct EventRow {
     pub seconds: i64,
     /// The rest of its instant in nanoseconds, 0 to 999,999,999.
     pub nanos: i64,
-    /// 0 where items were seen, 1 where they were shipped, 2 where they were made.
+    /// 0 where items were seen, 1 where they were shipped, 2 where they were made, 3 where they were packed.
     pub kind: i64,
     /// Its transformationID, where it has one.
     pub make_id: Option<Text>,
@@ -66,14 +66,14 @@ pub struct PartRow {
     pub text: Text,
 }
 
-/// What was put into a container or taken out of it, by event.
+/// A pack: what was put into a container, seen in it or taken out of it, by event.
 #[derive(Debug, Drop, PartialEq, Eq)]
 pub struct PackRow {
     /// The number of the event.
     pub event: i64,
     /// 0 where items were put in, 1 where they were seen in it, 2 where they were taken out.
     pub action: i64,
-    /// The container's key, where the event names one.
+    /// The container's key, where the event names one; what is put in has one.
     pub parent: Option<Text>,
 }
 
@@ -154,7 +154,7 @@ pub struct RecallRow {
 /// The rows of all tables of a site's file.
 #[derive(Debug, Drop, PartialEq, Eq)]
 pub struct Rows {
-    /// The version of the tables; the first one has no rows of `pack` and `packed`.
+    /// The version of the tables; the first one has no tables `pack` and `packed`.
     pub version: Version,
     /// The row of `store`.
     pub store: Sequence<StoreRow>,
@@ -166,9 +166,9 @@ pub struct Rows {
     pub event: Sequence<EventRow>,
     /// The rows of `part`.
     pub part: Sequence<PartRow>,
-    /// The rows of `pack`; none yet, since no event of this kind is read.
+    /// The rows of `pack`.
     pub pack: Sequence<PackRow>,
-    /// The rows of `packed`; none yet.
+    /// The rows of `packed`.
     pub packed: Sequence<PackedRow>,
     /// The rows of `quarantine`.
     pub quarantine: Sequence<QuarantineRow>,

@@ -14,7 +14,7 @@ use crate::changed_rows::{
     parent_rows_of, recall_keys_at, rows_held, seen_rows_of,
 };
 use crate::changes::{RecallKey, RowChanges};
-use crate::event_rows::{event_rows, part_rows};
+use crate::event_rows::{event_rows, pack_rows, packed_rows, part_rows};
 use crate::rows::RecallRow;
 use event_json::Sequence;
 use frame_core::{Frame, MsgId, RecallId};
@@ -22,7 +22,7 @@ use site_core::{Effects, SiteInput, SiteState, StepUndo};
 use std::alloc::{AllocError, Global};
 
 /// The rows that a step changed that is no signal: what it added, and what it put in place. They are found at the record
-/// after it and at what takes the step back. The effects count them, but for the members of events. Fails where memory
+/// after it and at what takes the step back. The effects count them, but for the members and the packs of events. Fails where memory
 /// runs out.
 pub fn changes_of(
     alloc: Global,
@@ -64,6 +64,8 @@ fn no_changes(alloc: Global) -> RowChanges
     RowChanges {
         event: Sequence::new(alloc),
         part: Sequence::new(alloc),
+        pack: Sequence::new(alloc),
+        packed: Sequence::new(alloc),
         quarantine: Sequence::new(alloc),
         outbox: Sequence::new(alloc),
         seen: Sequence::new(alloc),
@@ -81,9 +83,13 @@ fn captured_changes(alloc: Global, from: usize, new: &SiteState) -> Result<RowCh
 {
     let event = event_rows(alloc, new.captured(), from)?;
     let part = part_rows(alloc, new.sites(), new.captured(), from)?;
+    let pack = pack_rows(alloc, new.captured(), from)?;
+    let packed = packed_rows(alloc, new.captured(), from)?;
     Ok(RowChanges {
         event,
         part,
+        pack,
+        packed,
         quarantine: Sequence::new(alloc),
         outbox: Sequence::new(alloc),
         seen: Sequence::new(alloc),
@@ -126,6 +132,8 @@ fn begun_changes(
     Ok(RowChanges {
         event: Sequence::new(alloc),
         part: Sequence::new(alloc),
+        pack: Sequence::new(alloc),
+        packed: Sequence::new(alloc),
         quarantine,
         outbox,
         seen: Sequence::new(alloc),
@@ -175,6 +183,8 @@ fn received_changes(
     Ok(RowChanges {
         event: Sequence::new(alloc),
         part: Sequence::new(alloc),
+        pack: Sequence::new(alloc),
+        packed: Sequence::new(alloc),
         quarantine,
         outbox,
         seen,
@@ -224,6 +234,8 @@ fn cleared_changes(
     Ok(RowChanges {
         event: Sequence::new(alloc),
         part: Sequence::new(alloc),
+        pack: Sequence::new(alloc),
+        packed: Sequence::new(alloc),
         quarantine: Sequence::new(alloc),
         outbox: Sequence::new(alloc),
         seen: Sequence::new(alloc),

@@ -1,6 +1,6 @@
 //! The tables of a site's file, and their versions.
 ghost use Rattle.std.specs.Prelude.{◌≡◌};
-ghost use Rattle.site_rows.specs.RecordRows.{version_number};
+ghost use Rattle.site_rows.specs.RecordRows.{kinds_under, version_number};
 
 /// A table of a site's file, in the order in which faults of their rows are told.
 #[derive(Clone, Copy, Debug, PartialEq, Eq)]
@@ -15,7 +15,7 @@ pub enum Table {
     Event,
     /// The members of their lists.
     Part,
-    /// What was put into containers, or taken out of them.
+    /// What was put into containers, seen in them or taken out of them.
     Pack,
     /// The items that were.
     Packed,
@@ -48,6 +48,16 @@ impl Version {
         match self {
             Version::First => 1,
             Version::Second => 2,
+        }
+    }
+
+    /// How many kinds of events it has: the first one has no packs.
+    pub(crate) fn kinds(self) -> u64
+        ensures { result ≡ kinds_under self }
+    {
+        match self {
+            Version::First => 3,
+            Version::Second => 4,
         }
     }
 }

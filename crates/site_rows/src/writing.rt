@@ -4,7 +4,7 @@ ghost use Rattle.site_rows.specs.RecordRows.{store_row, rows_of};
 ghost use Rattle.site_rows.specs.declared.tables.Version.TheVariants.{Second};
 
 use crate::address_rows::{address_rows, rows_of_sites};
-use crate::event_rows::{event_rows, part_rows};
+use crate::event_rows::{event_rows, pack_rows, packed_rows, part_rows};
 use crate::numbers::stored;
 use crate::recall_rows::{outbox_rows, parent_rows, quarantine_rows, recall_rows, seen_rows};
 use crate::rows::{Rows, StoreRow};
@@ -38,8 +38,8 @@ pub fn rows_of(alloc: Global, state: &SiteState) -> Result<Rows, AllocError>
         address: address_rows(alloc, state.sites())?,
         event: event_rows(alloc, state.captured(), 0)?,
         part: part_rows(alloc, state.sites(), state.captured(), 0)?,
-        pack: Sequence::new(alloc),
-        packed: Sequence::new(alloc),
+        pack: pack_rows(alloc, state.captured(), 0)?,
+        packed: packed_rows(alloc, state.captured(), 0)?,
         quarantine: quarantine_rows(alloc, state.quarantine())?,
         outbox: outbox_rows(alloc, state)?,
         seen: seen_rows(alloc, state)?,

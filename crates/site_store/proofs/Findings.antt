@@ -10,7 +10,7 @@ use Rattle.sqlite.specs.State.{State, IsUnchanged, HasCause, store_error}
 use Rattle.event_json.specs.Sites.{Site}
 use Rattle.site_core.specs.Records.{Record}
 use Rattle.site_rows.specs.Laws.{IsKept, HoldsItems}
-use Rattle.site_rows.specs.RecordRows.{rows_of, rows_under, store_row, site_row, version_number}
+use Rattle.site_rows.specs.RecordRows.{HasTables, rows_of, rows_under, store_row, site_row, version_number}
 use Rattle.site_rows.specs.declared.tables.Version.{Version}
 use Rattle.site_rows.specs.declared.tables.Version.TheVariants.{First, Second}
 use Rattle.site_rows.proofs.SameRecalls.{same_number}
@@ -18,13 +18,16 @@ use Rattle.site_rows.specs.declared.rows.Rows.{Rows}
 use Rattle.site_rows.specs.declared.rows.SiteRow.{SiteRow}
 use Rattle.site_rows.specs.declared.rows.StoreRow.{StoreRow}
 use Rattle.site_rows.specs.declared.tables.Table.{«Table» as SiteTable}
+use Rattle.site_rows.specs.declared.tables.Table.TheVariants.{Pack}
 use Rattle.site_rows.proofs.GoodRows.{rows_are_good}
 use Rattle.site_tables.specs.AllReads.{AreListed}
 use Rattle.site_tables.specs.Reads.{FailsToRead}
 use Rattle.site_tables.specs.Stored.{contents_of}
 use Rattle.sqlite.specs.Schema.{Schema}
+use Rattle.sqlite.specs.Tree.{Trees}
 use Rattle.site_tables.specs.Tables.{Has, schema_under}
 use Rattle.site_tables.specs.Unreadable.{IsUnreadable}
+use Rattle.site_tables.specs.Values.{pack_values}
 use Rattle.site_tables.specs.declared.faults.ReadFault.{ReadFault}
 use Rattle.site_tables.specs.declared.faults.ReadFault.TheVariants as reads
 use Rattle.site_tables.proofs.OnlyRows.{only_rows, no_bad_row}
@@ -102,24 +105,32 @@ one_version First Second is = absurd (let one : 1 ≡ 2 = same_number 1 2 is in 
 one_version Second First is = absurd (let one : 2 ≡ 1 = same_number 2 1 is in cc)
 one_version Second Second is = refl
 
-pub not_refused : (v : Version) (r : Record) (name : List ℕ) (fault : OpenFault) → IsKept r → HoldsItems r → own_name r ≡ name → IsRefused name (rows_under v r) fault → fault ≡ NoMemory
-not_refused v r name NoMemory kept items named h = refl
-not_refused v r name NotAStore kept items named (inl h) = absurd (let e : store_row v r ∷ [] ≡ [] = h in cc)
-not_refused v r name NotAStore kept items named (inr h) =
+-- what was listed stands in tables of its version
+unmapped : {X Y : Type 0} (f : X → Y) (xs : List X) → map f xs ≡ [] → xs ≡ []
+unmapped f [] e = refl
+unmapped f (x ∷ xs) e = cc
+
+pub has_tables : (rows : Rows) (trees : Trees) → AreListed rows.version (contents_of rows) trees → HasTables rows
+has_tables rows trees listed first = unmapped pack_values rows.pack (listed.rest Pack (λ has. subst (λ w. Has w Pack) first has))
+
+pub not_refused : (v : Version) (r : Record) (name : List ℕ) (fault : OpenFault) → IsKept r → HoldsItems r → HasTables (rows_under v r) → own_name r ≡ name → IsRefused name (rows_under v r) fault → fault ≡ NoMemory
+not_refused v r name NoMemory kept items tables named h = refl
+not_refused v r name NotAStore kept items tables named (inl h) = absurd (let e : store_row v r ∷ [] ≡ [] = h in cc)
+not_refused v r name NotAStore kept items tables named (inr h) =
     let same : h.0 ≡ store_row v r = first_is v r h.0 h.1 h.3 in
     absurd (h.5 (one_version h.2 v (sym h.4 ∙ ap (λ (x : StoreRow). x.version) same)))
-not_refused v r name (OpenVersion found) kept items named h =
+not_refused v r name (OpenVersion found) kept items tables named h =
     let same : h.0 ≡ store_row v r = first_is v r h.0 h.1 h.2 in
     absurd (h.4 v (sym h.3 ∙ ap (λ (x : StoreRow). x.version) same))
-not_refused v r name (OtherSite found) kept items named h = absurd (h.1 (sym (named_own v r (rows_under v r) (string_bytes found) refl h.0) ∙ named))
-not_refused v r name (BadRow bad) kept items named (inl h) =
+not_refused v r name (OtherSite found) kept items tables named h = absurd (h.1 (sym (named_own v r (rows_under v r) (string_bytes found) refl h.0) ∙ named))
+not_refused v r name (BadRow bad) kept items tables named (inl h) =
     let me = r.engagement.me in
     let same : h.0.row ≡ store_row v r = first_is v r h.0.row h.0.rest h.0.first in
     let none : name_at (map site_row (enumerate_from 0 r.sites)) (pos me) ≡ None = subst (λ (x : StoreRow). name_at (map site_row (enumerate_from 0 r.sites)) x.me ≡ None) same h.0.name_is in
     absurd (unnamed r.sites me kept.sound.me none)
-not_refused v r name (BadRow bad) kept items named (inr h) = absurd (rows_are_good v r kept items bad.table bad.row h.1.1)
-not_refused v r name Device kept items named h = absurd h
-not_refused v r name Store kept items named h = absurd h
+not_refused v r name (BadRow bad) kept items tables named (inr h) = absurd (rows_are_good v r kept items tables bad.table bad.row h.1.1)
+not_refused v r name Device kept items tables named h = absurd h
+not_refused v r name Store kept items tables named h = absurd h
 
 -- ---- a keeper that isn't open
 

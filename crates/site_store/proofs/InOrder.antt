@@ -86,6 +86,7 @@ stored_as_read v image s opens live found settles has rows listed =
       lists = lists;
       has = λ t there. holds_listed (declared t) (rows t) (s.committed.trees (declared t).tree)
           (found_in_order image s.committed.trees (schema_under v) found lists (declared t) (in_schema v t there) (low_tree t)) (read.of t there);
+      rest = read.rest;
     } in
     record {
       is_open = opens.is_open;

@@ -1,5 +1,5 @@
 -- A connection just made lists the rows that a crash left.
-use Rattle.std.proofs.Common.{◌≡◌, ◌∙◌, ℕ, List, [], refl, sym, ap, subst}
+use Rattle.std.proofs.Common.{◌≡◌, ◌∙◌, ℕ, List, sym, ap, subst}
 use Rattle.sqlite.specs.Effect.{Database}
 use Rattle.sqlite.specs.State.{State, IsLive, Opens}
 use Rattle.sqlite_trees.specs.Objects.{catalog_tree}
@@ -10,28 +10,19 @@ use Rattle.sqlite.specs.Held.{Held}
 use Rattle.sqlite.specs.Files.{file_state}
 use Rattle.site_core.specs.Records.{Record}
 use Rattle.site_rows.specs.RecordRows.{rows_under}
-use Rattle.site_rows.specs.declared.tables.Table.{«Table» as SiteTable}
-use Rattle.site_rows.specs.declared.tables.Table.TheVariants.{Pack, Packed}
 use Rattle.site_rows.specs.declared.tables.Version.{Version}
-use Rattle.site_rows.specs.declared.tables.Version.TheVariants.{First, Second}
 use Rattle.site_tables.specs.AllReads.{AreListed}
 use Rattle.site_tables.specs.Stored.{HoldsUnder, contents_of}
-use Rattle.site_tables.specs.Tables.{Has, declared, schema_under}
+use Rattle.site_tables.specs.Tables.{declared, schema_under}
 use Rattle.site_tables.proofs.OnlyRows.{is_listed}
 use Rattle.site_store.specs.Opened.{IsLeftOf, ListsSite}
 use Rattle.site_store.specs.Openings.{ListsUnder}
 use Rattle.site_store.proofs.ReadableRows.{rows_rise}
 
-none_under : (v : Version) (r : Record) (t : SiteTable) → ¬ Has v t → contents_of (rows_under v r) t ≡ []
-none_under Second r t lacks = absurd (lacks tt)
-none_under First r Pack lacks = refl
-none_under First r Packed lacks = refl
-none_under First r other lacks = absurd (lacks tt)
-
 lists_left : (v : Version) (r : Record) (s : State) → Opens s → IsLive s → HoldsUnder v (contents_of (rows_under v r)) s.committed.trees → ListsUnder v r s
 lists_left v r s opens live holds =
     let schema : s.committed.schema ≡ schema_under v = lists_once (s.committed.trees catalog_tree) s.committed.schema (schema_under v) (live opens.is_open).1.lists holds.lists in
-    let listed : AreListed v (contents_of (rows_under v r)) s.committed.trees = record { of = λ t there. is_listed (declared t) _ _ (rows_rise v r t) (holds.has t there); rest = none_under v r } in
+    let listed : AreListed v (contents_of (rows_under v r)) s.committed.trees = record { of = λ t there. is_listed (declared t) _ _ (rows_rise v r t) (holds.has t there); rest = holds.rest } in
     record {
       schema = ap (λ (d : Database). d.schema) opens.clean ∙ schema;
       listed = subst (λ (d : Database). AreListed v (contents_of (rows_under v r)) d.trees) (sym opens.clean) listed;

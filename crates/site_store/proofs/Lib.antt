@@ -15,6 +15,7 @@ pub mod OpeningReads
 pub mod OwnSteps
 pub mod ReadableRows
 pub mod Reopenings
+pub mod RisingPacks
 pub mod RisingParts
 pub mod RisingRows
 pub mod SameRows

@@ -13,7 +13,7 @@ use Rattle.sqlite_trees.proofs.ListLemmas.{all_of, all_weaker, all-append, all-m
 use Rattle.event_json.specs.Events.{Content}
 use Rattle.event_json.specs.Sites.{Site}
 use Rattle.event_json.specs.declared.bodies.Body.{Body}
-use Rattle.event_json.specs.declared.bodies.Body.TheVariants.{Note, Ship, Make}
+use Rattle.event_json.specs.declared.bodies.Body.TheVariants.{Note, Ship, Make, Pack}
 use Rattle.site_core.specs.Records.{Record}
 use Rattle.site_rows.specs.RecordRows.{body_rows, name_of, part_row, part_rows, parts_of, rows_under}
 use Rattle.site_rows.specs.declared.tables.Version.{Version}
@@ -40,16 +40,16 @@ abbrev IsOfEarlier : ℕ → ℕ → PartRow → Type 0
 IsOfEarlier event role row = (r : ℕ) × (r < role) × IsOfList event r row
 
 -- ---- one row and another
-first_below : (r s : Ordering) → r ≡ Less → ordering_then r s ≡ Less
+pub first_below : (r s : Ordering) → r ≡ Less → ordering_then r s ≡ Less
 first_below r s low = ap (λ z. ordering_then z s) low
 
-first_ties : (r s : Ordering) → r ≡ Equal → s ≡ Less → ordering_then r s ≡ Less
+pub first_ties : (r s : Ordering) → r ≡ Equal → s ≡ Less → ordering_then r s ≡ Less
 first_ties r s tie low = ap (λ z. ordering_then z s) tie ∙ low
 
-value_below : (a b : ℤ) (m n : ℕ) → a ≡ pos m → b ≡ pos n → m < n → value_cmp (Int a) (Int b) ≡ Less
+pub value_below : (a b : ℤ) (m n : ℕ) → a ≡ pos m → b ≡ pos n → m < n → value_cmp (Int a) (Int b) ≡ Less
 value_below a b m n x y low = ap₂ (λ s t. value_cmp (Int s) (Int t)) x y ∙ numbers_alike m n ∙ nat_below m n low
 
-value_ties : (a b : ℤ) (n : ℕ) → a ≡ pos n → b ≡ pos n → value_cmp (Int a) (Int b) ≡ Equal
+pub value_ties : (a b : ℤ) (n : ℕ) → a ≡ pos n → b ≡ pos n → value_cmp (Int a) (Int b) ≡ Equal
 value_ties a b n x y = ap₂ (λ s t. value_cmp (Int s) (Int t)) x y ∙ numbers_alike n n ∙ tied_itself nat_cmp_total n
 
 events_rise : (event : ℕ) (a b : PartRow) → IsOf event a → IsLater event b → IsBelow a b
@@ -99,6 +99,7 @@ module _ (sites : List Site) where
       (all-append (IsOfEarlier event 2) front middle (earlier event 0 2 items (omega arith)) (earlier event 1 2 names (omega arith)))
       (one_more event 1 front names (earlier event 0 1 items (omega arith)) (list_rises event 0 items))
   body_rises event (Make id ins outs) = one_more event 4 (part_rows event 3 ins) outs (earlier event 3 4 ins (omega arith)) (list_rises event 3 ins)
+  body_rises event (Pack action parent children) = tt
 
   body_is_of : (event : ℕ) (body : Body) → AllByRecursion (IsOf event) (body_rows sites event body)
   body_is_of event (Note items) = is_of event 0 items
@@ -108,6 +109,7 @@ module _ (sites : List Site) where
       let middle = part_rows event 1 names in
       all-append (IsOf event) (front ++ middle) (part_rows event 2 outside) (all-append (IsOf event) front middle (is_of event 0 items) (is_of event 1 names)) (is_of event 2 outside)
   body_is_of event (Make id ins outs) = all-append (IsOf event) (part_rows event 3 ins) (part_rows event 4 outs) (is_of event 3 ins) (is_of event 4 outs)
+  body_is_of event (Pack action parent children) = tt
 
   later : (event n : ℕ) (es : List Content) → event < n → AllByRecursion (IsLater event) (flat_map (parts_of sites) (enumerate_from n es))
   later event n [] low = tt

@@ -41,21 +41,29 @@ numbers_are : (n : Option Numbers) → numbers_written n ≡ cond (is_some n) 1 
 numbers_are None = refl
 numbers_are (Some n) = refl
 
-regroup : (e p x y n : ℕ) → e + p + x + y + n ≡ e + x + y + n + p
-regroup e p x y n = omega arith
+regroup : (e p a b x y n : ℕ) → e + p + a + b + x + y + n ≡ e + x + y + n + p + a + b
+regroup e p a b x y n = omega arith
 
-rows_are : (changes : RowChanges) → rows_written changes ≡ total (counts_of changes) + length changes.part
+rows_are : (changes : RowChanges) → rows_written changes ≡ total (counts_of changes) + length changes.part + length changes.pack + length changes.packed
 rows_are changes =
     let c = counts_of changes in
-    ap (λ k. c.event + length changes.part + (c.quarantine + c.outbox + c.seen + c.parent) + (c.signalled + c.left + c.recall) + k) (numbers_are changes.numbers)
-    ∙ regroup c.event (length changes.part) (c.quarantine + c.outbox + c.seen + c.parent) (c.signalled + c.left + c.recall) c.numbers
+    ap (λ k. c.event + length changes.part + length changes.pack + length changes.packed + (c.quarantine + c.outbox + c.seen + c.parent) + (c.signalled + c.left + c.recall) + k) (numbers_are changes.numbers)
+    ∙ regroup c.event (length changes.part) (length changes.pack) (length changes.packed) (c.quarantine + c.outbox + c.seen + c.parent) (c.signalled + c.left + c.recall) c.numbers
 
--- the rows that were written are those that the step reports, and the members of events
+-- the rows that were written are those that the step reports, and the members and the packs of events
 pub is_counted : (changes : RowChanges) (old new : Record) (told : Effects) (written : ℕ) → LeadsTo changes (rows_of old) (rows_of new) → counts_of changes ≡ counts_told told
     → written ≡ min 18_446_744_073_709_551_615 (0 + rows_written changes) → IsCounted old told new written
 is_counted changes old new told written leads counts is = (
   rows_written changes,
-  record { parts = length changes.part; more = ap length leads.part ∙ length-append (rows_of old).part changes.part; all = rows_are changes ∙ ap (λ c. total c + length changes.part) counts },
+  record {
+    parts = length changes.part;
+    packs = length changes.pack;
+    children = length changes.packed;
+    more = ap length leads.part ∙ length-append (rows_of old).part changes.part;
+    more_packs = ap length leads.pack ∙ length-append (rows_of old).pack changes.pack;
+    more_children = ap length leads.packed ∙ length-append (rows_of old).packed changes.packed;
+    all = rows_are changes ∙ ap (λ c. total c + length changes.part + length changes.pack + length changes.packed) counts;
+  },
   is ∙ ap (min 18_446_744_073_709_551_615) (zero-add (rows_written changes)),
 )
 

@@ -58,11 +58,16 @@ cause_of error = if is_of_memory error then NoMemory else Failed error
 abbrev pub total : Counts → ℕ
 total c = c.event + (c.quarantine + c.outbox + c.seen + c.parent) + (c.signalled + c.left + c.recall) + c.numbers
 
--- a step with these effects writes so many rows: those that it reports, and the members of the lists of events
+-- a step with these effects writes so many rows: those that it reports, the members of the lists of events, and the packs
+-- with their children
 pub record ChangesRows (old : Record) (told : Effects) (new : Record) (rows : ℕ) : Type 0 where
   pub parts : ℕ
+  pub packs : ℕ
+  pub children : ℕ
   pub more : length (rows_of new).part ≡ length (rows_of old).part + parts
-  pub all : rows ≡ total (counts_told told) + parts
+  pub more_packs : length (rows_of new).pack ≡ length (rows_of old).pack + packs
+  pub more_children : length (rows_of new).packed ≡ length (rows_of old).packed + children
+  pub all : rows ≡ total (counts_told told) + parts + packs + children
 
 -- a count of them, which stays at 2^64 - 1
 abbrev pub IsCounted : Record → Effects → Record → ℕ → Type 0

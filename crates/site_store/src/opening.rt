@@ -5,7 +5,7 @@ ghost use Rattle.sqlite.specs.Held.{state};
 ghost use Rattle.site_core.specs.Records.{Record};
 ghost use Rattle.site_rows.specs.Laws.{IsKept, HoldsItems};
 ghost use Rattle.site_rows.specs.BadRows.{Tells};
-ghost use Rattle.site_rows.specs.RecordRows.{rows_under, version_number};
+ghost use Rattle.site_rows.specs.RecordRows.{HasTables, rows_under, version_number};
 ghost use Rattle.site_rows.specs.declared.tables.Version.{Version as TableVersion};
 ghost use Rattle.site_rows.specs.declared.tables.Version.TheVariants.{First};
 ghost use Rattle.site_tables.specs.Stored.{IsStoredUnder, contents_of};
@@ -126,7 +126,7 @@ fn check_name(alloc: Global, rows: &Rows, name: &str) -> Result<(), OpenFault>
     }
 }
 
-/// The record of these rows, where it is that of a site of this name.
+/// The record of these rows, where it is that of a site of this name. That of rows in tables that their version has is found.
 fn record_of(
     alloc: Global,
     keys: RandomState,
@@ -136,7 +136,7 @@ fn record_of(
     ensures read { IfOk result (λ state. rows_under rows.now.version state ≡ rows.now) }
     ensures named { IfOk result (λ state. own_name state ≡ name.now) }
     ensures refused { IfErr result (IsRefused name.now rows.now) }
-    ensures same { (r : Record) → IsKept r → HoldsItems r → own_name r ≡ name.now → rows.now ≡ rows_under rows.now.version r → MatchResult result (λ state. state ≡ r) (λ fault. fault ≡ OpenFault.NoMemory) }
+    ensures same { HasTables rows.now → (r : Record) → IsKept r → HoldsItems r → own_name r ≡ name.now → rows.now ≡ rows_under rows.now.version r → MatchResult result (λ state. state ≡ r) (λ fault. fault ≡ OpenFault.NoMemory) }
 {
     check_name(alloc, rows, name)?;
     match state_of(alloc, keys, rows) {

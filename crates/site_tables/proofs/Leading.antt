@@ -33,7 +33,7 @@ use Rattle.sqlite.specs.State.{State}
 use Rattle.site_tables.specs.Stored.{Holds, IsStored, after, contents_of}
 use Rattle.site_tables.specs.Tables.{declared, outbox, parent, recall}
 use Rattle.site_tables.specs.TableRows.{HasRows, has_key, without_key, puts, changes_each}
-use Rattle.site_tables.specs.Values.{store_values, event_values, part_values, quarantine_values, outbox_values, seen_values, parent_values, recall_values, recall_key}
+use Rattle.site_tables.specs.Values.{store_values, event_values, part_values, pack_values, packed_values, quarantine_values, outbox_values, seen_values, parent_values, recall_values, recall_key}
 use Rattle.site_tables.proofs.StoreTable.{numbers_set}
 
 truth_is : (o : Ordering) → is_true (from_truth (Some (is_eq o))) ≡ is_eq o
@@ -106,8 +106,8 @@ module _ (changes : RowChanges) (before next : Rows) (trees : Trees) (leads : st
   has_after Address h = has_same _ _ _ _ (ap (map _) (sym leads.address)) h
   has_after Event h = has_same _ _ _ _ (sym (map-append event_values before.event changes.event) ∙ ap (map event_values) (sym leads.event)) h
   has_after Part h = has_same _ _ _ _ (sym (map-append part_values before.part changes.part) ∙ ap (map part_values) (sym leads.part)) h
-  has_after Pack h = has_same _ _ _ _ (ap (map _) (sym leads.pack)) h
-  has_after Packed h = has_same _ _ _ _ (ap (map _) (sym leads.packed)) h
+  has_after Pack h = has_same _ _ _ _ (sym (map-append pack_values before.pack changes.pack) ∙ ap (map pack_values) (sym leads.pack)) h
+  has_after Packed h = has_same _ _ _ _ (sym (map-append packed_values before.packed changes.packed) ∙ ap (map packed_values) (sym leads.packed)) h
   has_after Quarantine h = has_other_order _ quarantine_values _ _ next.quarantine _ (sym (map-append quarantine_values before.quarantine changes.quarantine)) leads.quarantine h
   has_after Outbox h = has_other_order _ outbox_values _ _ next.outbox _
       (ap (drops_outbox changes.signalled) (each_is outbox_values (λ row. puts outbox (outbox_values row)) step.put_message message_put changes.outbox before.outbox)
@@ -119,7 +119,7 @@ module _ (changes : RowChanges) (before next : Rows) (trees : Trees) (leads : st
   has_after Recall h = has_other_order _ recall_values _ _ next.recall _ (each_is recall_values (λ row. puts recall (recall_values row)) step.put_recall recall_put changes.recall before.recall) leads.recall h
 
   pub holds_after : Holds (after (changed changes) (contents_of before)) trees → Holds (contents_of next) trees
-  holds_after h = record { lists = h.lists; has = λ t there. has_after t (h.has t there) }
+  holds_after h = record { lists = h.lists; has = λ t there. has_after t (h.has t there); rest = λ t lacks. absurd (lacks tt) }
 
 pub stored_after : (changes : RowChanges) (before next : Rows) (s : State) → step.LeadsTo changes before next → IsStored (after (changed changes) (contents_of before)) s → IsStored (contents_of next) s
 stored_after changes before next s leads it = record {

@@ -99,4 +99,5 @@ filled_hold fills begun mid end one two none = (two.schema (one.schema none), tw
     none_held = record {
       lists = one.lists none;
       has = λ t there. no_rows_in (declared t) (mid.now.trees (declared t).tree) (elim (one.empty none (declared t) (in_schema Second t there)) [ inl was ↦ absurd was | inr is ↦ is ]);
+      rest = λ t lacks. absurd (lacks tt);
     }

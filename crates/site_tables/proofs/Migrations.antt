@@ -59,7 +59,7 @@ module _ (before : Contents) (begun made : State) (one : DoesMake first_schema s
   in_each other = stays other tt
 
   packs_held : Holds (after with_packs before) made.now.trees
-  packs_held = record { lists = one.lists was; has = λ t there. in_each t }
+  packs_held = record { lists = one.lists was; has = λ t there. in_each t; rest = λ t lacks. absurd (lacks tt) }
 
 -- ---- the version that is written
 
@@ -77,4 +77,4 @@ pub migrated_hold : (before : Contents) (begun made mid : State) → DoesMake fi
 migrated_hold before begun made mid one two was held =
     let has = one.schema was in
     let it = two.holds has (after with_packs before) (packs_held before begun made one was held) in
-    (two.schema has, record { lists = it.lists; has = λ t there. subst (λ rows. HasRows (declared t) rows (mid.now.trees (declared t).tree)) (in_steps t (before t)) (it.has t there) })
+    (two.schema has, record { lists = it.lists; has = λ t there. subst (λ rows. HasRows (declared t) rows (mid.now.trees (declared t).tree)) (in_steps t (before t)) (it.has t there); rest = λ t lacks. absurd (lacks tt) })

@@ -3,7 +3,7 @@ use Rattle.std.proofs.Common.{◌≡◌, List, [], ◌∷◌, None, refl}
 use Rattle.sqlite.specs.Order.{Row}
 use Rattle.site_rows.specs.declared.changes.RowChanges.{RowChanges}
 use Rattle.site_rows.specs.declared.tables.Table.{«Table» as SiteTable}
-use Rattle.site_rows.specs.declared.tables.Table.TheVariants.{Store, Event, Part, Quarantine, Outbox, Seen, Parent, Recall}
+use Rattle.site_rows.specs.declared.tables.Table.TheVariants.{Store, Event, Part, Pack, Packed, Quarantine, Outbox, Seen, Parent, Recall}
 use Rattle.site_tables.specs.Changed.{put, dropped, changed}
 use Rattle.site_tables.specs.Stored.{only}
 
@@ -15,7 +15,7 @@ only_dropped changes other rows = refl
 
 -- the parts in their order are the whole
 pub in_parts : (changes : RowChanges) (t : SiteTable) (rows : List Row)
-    → only (Store ∷ []) (put changes) t (only (Recall ∷ []) (put changes) t (dropped changes t (only (Event ∷ Part ∷ Quarantine ∷ Outbox ∷ Seen ∷ Parent ∷ []) (put changes) t rows))) ≡ changed changes t rows
+    → only (Store ∷ []) (put changes) t (only (Recall ∷ []) (put changes) t (dropped changes t (only (Event ∷ Part ∷ Pack ∷ Packed ∷ Quarantine ∷ Outbox ∷ Seen ∷ Parent ∷ []) (put changes) t rows))) ≡ changed changes t rows
 unfolding only
 in_parts changes Store rows = refl
 in_parts changes other rows = refl

@@ -82,6 +82,7 @@ one_changed t change old new rows put same h = record {
     | inl is ↦ subst (λ u. HasRows (declared u) (only (t ∷ []) change u (rows u)) (new (declared u).tree)) (same_table t u is) (rw (refl_tree t) (put (rows t) (h.has t tt)))
     | inr other ↦ rw other (subst (λ tree. HasRows (declared u) (rows u) tree) (sym (same (declared u).tree (turned t u other) (is_plain u))) (h.has u tt))
   ];
+  rest = λ u lacks. absurd (lacks tt);
 }
   where
     refl_tree : (t : SiteTable) → ((declared t).tree == (declared t).tree) ≡ true
@@ -113,7 +114,7 @@ all_same {f = f} {h = h} {a = a} {b = b} {r = r} same p = record {
   done = λ clean. on_ok r (λ d. record {
     goes_on = d.goes_on;
     schema = d.schema;
-    holds = λ has rows held. let it = d.holds has rows held in record { lists = it.lists; has = λ t there. subst (λ now. HasRows (declared t) now (b.now.trees (declared t).tree)) (same t (rows t)) (it.has t there) };
+    holds = λ has rows held. let it = d.holds has rows held in record { lists = it.lists; has = λ t there. subst (λ now. HasRows (declared t) now (b.now.trees (declared t).tree)) (same t (rows t)) (it.has t there); rest = λ t lacks. absurd (lacks tt) };
   }) (p.done clean);
   undone = p.undone;
   cause = p.cause;

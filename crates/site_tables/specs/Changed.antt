@@ -8,11 +8,11 @@ use Rattle.site_rows.specs.declared.rows.RecallRow.{RecallRow}
 use Rattle.site_rows.specs.declared.changes.Numbers.{Numbers}
 use Rattle.site_rows.specs.declared.changes.RecallKey.{RecallKey}
 use Rattle.site_rows.specs.declared.changes.RowChanges.{RowChanges}
-use Rattle.site_rows.specs.declared.tables.Table.TheVariants.{Store, Event, Part, Quarantine, Outbox, Seen, Parent, Recall}
+use Rattle.site_rows.specs.declared.tables.Table.TheVariants.{Store, Event, Part, Pack, Packed, Quarantine, Outbox, Seen, Parent, Recall}
 use Rattle.site_tables.specs.Tables.{outbox, parent, recall}
 use Rattle.site_tables.specs.TableRows.{adds, without_key, puts, changes_each}
 use Rattle.site_tables.specs.Stored.{Change}
-use Rattle.site_tables.specs.Values.{event_values, part_values, quarantine_values, outbox_values, seen_values, parent_values, recall_values, recall_key, sets_numbers}
+use Rattle.site_tables.specs.Values.{event_values, part_values, pack_values, packed_values, quarantine_values, outbox_values, seen_values, parent_values, recall_values, recall_key, sets_numbers}
 
 -- each in place of the one of its number, or besides the others
 abbrev pub puts_outbox : List OutboxRow → List Row → List Row
@@ -38,6 +38,8 @@ abbrev pub put : RowChanges → Change
 put changes Store = renumbers changes.numbers
 put changes Event = adds (map event_values changes.event)
 put changes Part = adds (map part_values changes.part)
+put changes Pack = adds (map pack_values changes.pack)
+put changes Packed = adds (map packed_values changes.packed)
 put changes Quarantine = adds (map quarantine_values changes.quarantine)
 put changes Outbox = puts_outbox changes.outbox
 put changes Seen = adds (map seen_values changes.seen)
@@ -62,5 +64,5 @@ numbers_written (Some n) = 1
 -- how many rows the step writes
 abbrev pub rows_written : RowChanges → ℕ
 rows_written changes =
-    length changes.event + length changes.part + (length changes.quarantine + length changes.outbox + length changes.seen + length changes.parent)
+    length changes.event + length changes.part + length changes.pack + length changes.packed + (length changes.quarantine + length changes.outbox + length changes.seen + length changes.parent)
     + (length changes.signalled + length changes.left + length changes.recall) + numbers_written changes.numbers

@@ -27,11 +27,12 @@ contents_of rows t = map (values_of t) (rows_in rows t)
 abbrev pub no_rows : Contents
 no_rows t = []
 
--- the tables of the version hold these rows and no others, in any order; and the database lists these tables with their
--- indexes, and nothing else
+-- the tables of the version hold these rows and no others, in any order, and there are none of another table; and the
+-- database lists these tables with their indexes, and nothing else
 pub record HoldsUnder (v : Version) (rows : Contents) (trees : Trees) : Type 0 where
   pub lists : Lists (trees catalog_tree) (schema_under v)
   pub has : (t : SiteTable) → Has v t → HasRows (declared t) (rows t) (trees (declared t).tree)
+  pub rest : (t : SiteTable) → ¬ Has v t → rows t ≡ []
 
 abbrev pub Holds : Contents → Trees → Type 0
 Holds = HoldsUnder Second

@@ -3,7 +3,7 @@ ghost use Rattle.std.specs.Prelude.{◌≡◌, ◌+◌, [], ◌∷◌, false, le
 ghost use Rattle.sqlite.specs.Tree.{Trees};
 ghost use Rattle.sqlite.specs.State.{HasCleanDisk, IsUnchanged, Survives};
 ghost use Rattle.sqlite.specs.Held.{state};
-ghost use Rattle.site_rows.specs.declared.tables.Table.TheVariants.{Store, Event, Part, Quarantine, Outbox, Seen, Parent, Recall};
+ghost use Rattle.site_rows.specs.declared.tables.Table.TheVariants.{Store, Event, Part, Pack, Packed, Quarantine, Outbox, Seen, Parent, Recall};
 ghost use Rattle.site_tables.specs.Causes.{HasReason};
 ghost use Rattle.site_tables.specs.Changed.{put, dropped, changed, rows_written, numbers_written};
 ghost use Rattle.site_tables.specs.Stored.{Contents, Holds, IsStored, IsStopped, WritesAll, after, only};
@@ -18,7 +18,7 @@ use site_rows::RowChanges;
 use sqlite::{Alter, Connection, Error, Transaction};
 use std::alloc::Global;
 
-/// Writes the events and the members of their lists.
+/// Writes the events, the members of their lists, and the packs with their children.
 fn write_captured<S: Alter>(
     alloc: Global,
     tx: &mut Transaction<'_, S>,
@@ -26,11 +26,13 @@ fn write_captured<S: Alter>(
     written: &mut u64,
 ) -> Result<(), Error>
     ensures same_reference { tx.new.conn.ghost_name ≡ tx.old.conn.ghost_name }
-    ensures wrote { WritesAll (only (Event ∷ Part ∷ []) (put changes.now)) (state S.Store tx.old.conn.now) (state S.Store tx.new.conn.now) result }
-    ensures counted { OnOk result (written.new ≡ min 18_446_744_073_709_551_615 (written.old + (length changes.now.event + length changes.now.part))) }
+    ensures wrote { WritesAll (only (Event ∷ Part ∷ Pack ∷ Packed ∷ []) (put changes.now)) (state S.Store tx.old.conn.now) (state S.Store tx.new.conn.now) result }
+    ensures counted { OnOk result (written.new ≡ min 18_446_744_073_709_551_615 (written.old + (length changes.now.event + length changes.now.part + length changes.now.pack + length changes.now.packed))) }
 {
     insert_each(alloc, tx, changes.event.as_slice(), written)?;
-    insert_each(alloc, tx, changes.part.as_slice(), written)
+    insert_each(alloc, tx, changes.part.as_slice(), written)?;
+    insert_each(alloc, tx, changes.pack.as_slice(), written)?;
+    insert_each(alloc, tx, changes.packed.as_slice(), written)
 }
 
 /// Writes what came under recalls, and the messages and parents that came with it.

@@ -18,5 +18,8 @@ returns-in-Make-clause-members c = rw c.in-Make.is (λ sites among. (
   subst (All IsItemText) c.as_slice-in-Make-2.ensures c.show_items-in-Make-2.ensures,
 ))
 
+pub returns-in-Pack-clause-members : goal.returns-in-Pack-clause-members
+returns-in-Pack-clause-members c = rw c.in-Pack.is (λ sites among. (c.show_parent.ensures, subst (All IsItemText) c.as_slice-in-Pack.ensures c.show_items-in-Pack.ensures))
+
 pub returns-in-Make-clause-id : goal.returns-in-Make-clause-id
 returns-in-Make-clause-id c = rw c.in-Make.is (subst IsTextOrNone c.as_ref.ensures.value c.show_id.ensures)

@@ -1,7 +1,7 @@
-use Rattle.std.proofs.Common.{ℕ, length, subst, sym, ◌∙◌}
-use Rattle.site_rows.specs.BadRows.{IsEmptyTable, IsFirstBad, IsStoreTable}
+use Rattle.std.proofs.Common.{length, subst, sym, ◌∙◌}
+use Rattle.site_rows.specs.BadRows.{IsFirstBad, IsStoreTable}
 use Rattle.site_rows.specs.declared.tables.Table.TheVariants.{Store}
-use Rattle.site_rows.proofs.GoodTables.{before_quarantine, before_store, five_good, good_empty, good_quarantine, good_store, seven_good}
+use Rattle.site_rows.proofs.GoodTables.{before_quarantine, before_store, good_quarantine, good_store, seven_good}
 use Rattle.site_rows.proofs.PartTables.{all_ship_among}
 use Rattle.site_rows.proofs.ReadBack.{sound_parts}
 use Rattle.site_rows.proofs.ReadFaults.{as_many_sites, quarantine_fault, table_fault}
@@ -22,18 +22,12 @@ events_of-requires-clause-good c =
     let sites = c.in_ok-sites.ensures.good in
     (store, (sites.0, (sites.1, tt)))
 
-pub no_packs-requires : goal.no_packs-requires
-no_packs-requires c =
-    let store = good_store c.args.rows.now c.as_slice.result.now c.as_slice-2.result.now c.in-Ok.numbers c.as_slice.ensures c.as_slice-2.ensures c.in-Ok.ensures.read in
-    record { good = five_good c.args.rows.now store c.in_ok-sites.ensures.good c.in_ok-captured.ensures.good }
-
 pub returns-in-Err-quarantine_of-clause-bad : goal.returns-in-Err-quarantine_of-clause-bad
 returns-in-Err-quarantine_of-clause-bad c =
     let rows = c.args.rows.now in
     let size = c.len.ensures.count ∙ as_many_sites c.in_ok-sites.sites rows.site c.in_ok-sites.ensures.site in
     let store = good_store rows c.as_slice.result.now c.as_slice-2.result.now c.in-Ok.numbers c.as_slice.ensures c.as_slice-2.ensures c.in-Ok.ensures.read in
-    let five = five_good rows store c.in_ok-sites.ensures.good c.in_ok-captured.ensures.good in
-    let good = before_quarantine rows (seven_good rows five (λ place bad. good_empty rows rows.pack place c.in_ok-no_packs.ensures.pack bad) (λ place bad. good_empty rows rows.packed place c.in_ok-no_packs.ensures.packed bad)) in
+    let good = before_quarantine rows (seven_good rows store c.in_ok-sites.ensures.good c.in_ok-captured.ensures.good) in
     quarantine_fault rows c.len.result c.as_slice-3.result.now c.in-Err-quarantine_of.fault c.in_table-in-Err-quarantine_of.result size c.as_slice-3.ensures good c.in-Err-quarantine_of.ensures.bad c.in_table-in-Err-quarantine_of.ensures
 
 pub diffusion_of-requires-clause-good : goal.diffusion_of-requires-clause-good
@@ -45,9 +39,7 @@ diffusion_of-requires-clause-good c =
     let held = c.in-Ok-quarantine_of.ensures in
     let size = c.len.ensures.count ∙ as_many_sites c.in_ok-sites.sites rows.site c.in_ok-sites.ensures.site in
     let quarantine = good_quarantine rows c.len.result c.in-Ok-quarantine_of.quarantine size (sym c.as_slice-3.ensures ∙ held.rows) held.among held.items in
-    let pack = λ (place : ℕ) (bad : IsFirstBad IsEmptyTable rows.pack place). good_empty rows rows.pack place c.in_ok-no_packs.ensures.pack bad in
-    let packed = λ (place : ℕ) (bad : IsFirstBad IsEmptyTable rows.packed place). good_empty rows rows.packed place c.in_ok-no_packs.ensures.packed bad in
-    (store, (sites.0, (sites.1, (events.0, (events.1, (pack, (packed, (quarantine, tt))))))))
+    (store, (sites.0, (sites.1, (events.0, (events.1.0, (events.1.1.0, (events.1.1.1.0, (quarantine, tt))))))))
 
 pub diffusion_of-requires-clause-count : goal.diffusion_of-requires-clause-count
 diffusion_of-requires-clause-count c = c.len-2.ensures.count ∙ as_many_sites c.in_ok-sites.sites c.args.rows.now.site c.in_ok-sites.ensures.site

@@ -6,4 +6,4 @@ use Rattle.site_rows.proofs.reading_events.check_events.Given as goal
 
 -- each row so far is one of an event
 abbrev pub invariant-loop-place : goal.invariant-loop-place
-invariant-loop-place l = (k : ℕ) (r : EventRow) → k < l.place → slice_get l.rows k ≡ Some r → IsEvent k r
+invariant-loop-place l = (k : ℕ) (r : EventRow) → k < l.place → slice_get l.rows k ≡ Some r → IsEvent l.kinds k r

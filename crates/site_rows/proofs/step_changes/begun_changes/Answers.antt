@@ -13,12 +13,14 @@ returns c = λ old root quarantined count ended starts undo.
     _ (λ i. record {
       event = c.new.ensures i;
       part = c.new-2.ensures i;
+      pack = c.new-3.ensures i;
+      packed = c.new-4.ensures i;
       quarantine = c.in_ok-quarantine.quarantine;
       outbox = c.in_ok-outbox.outbox;
-      seen = c.new-3.ensures i;
-      parent = c.new-4.ensures i;
-      signalled = c.new-5.ensures i;
-      left = c.new-6.ensures i;
+      seen = c.new-5.ensures i;
+      parent = c.new-6.ensures i;
+      signalled = c.new-7.ensures i;
+      left = c.new-8.ensures i;
       recall = c.in_ok-own.own;
       numbers = Some (c.in_ok-numbers.ensures i);
     })

@@ -11,12 +11,14 @@ returns c = λ old dest item quarantined count takes undo.
     _ (λ i. record {
       event = c.new.ensures i;
       part = c.new-2.ensures i;
+      pack = c.new-3.ensures i;
+      packed = c.new-4.ensures i;
       quarantine = c.in_ok-quarantine.quarantine;
       outbox = c.in_ok-outbox.outbox;
       seen = c.in_ok-seen.ensures i;
       parent = c.in_ok-parent.ensures i;
-      signalled = c.new-3.ensures i;
-      left = c.new-4.ensures i;
-      recall = c.new-5.ensures i;
+      signalled = c.new-5.ensures i;
+      left = c.new-6.ensures i;
+      recall = c.new-7.ensures i;
       numbers = c.in_ok-numbers.ensures old.engagement undo.next i;
     })
