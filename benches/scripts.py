@@ -10,6 +10,12 @@ usage: scripts.py SHAPE N [--random] [--asks N] [--documents SITE]
   messages           a recall whose N messages come into one transformation of N inputs and N outputs
   recalls            N recalls of N items, and then a thousand shipments of others
   spread             one item made into N, all shipped to another site, and a recall of it
+  pallet             one item made into N, packed by the hundred into cartons, and those on a pallet, which is shipped over
+                     eight sites, each of which captured what was packed; and a recall of the item
+  late               a shipped pallet, and then N items in cartons of a thousand, which are put on it
+  repeats            N items in cartons on a pallet, and a thousand shipments of the pallet to one site
+  packs              a chain of N items, each put into the one before, of which the first is shipped
+  cycle              the same, with the first put into the last
 
 --random gives the items serial numbers in no order, as tags have them, in place of i0, i1, ..
 --asks N asks N times what the first item reaches. --documents SITE prints the documents of a site alone, one a line.
@@ -19,6 +25,7 @@ import random
 
 TIMES = '"eventTime":"2024-05-01T08:00:00Z","eventTimeZoneOffset":"+00:00"'
 MOST = 1000  # members of a list, and events of a document
+SITES = "ABCDEFGH"
 
 
 def texts(names):
@@ -39,9 +46,14 @@ def made(inputs, outputs, id=None):
     return f'{{"type":"TransformationEvent",{TIMES},{named}"inputEPCList":{texts(inputs)},"outputEPCList":{texts(outputs)}}}'
 
 
-def in_pieces(values):
+def packed(parent, children):
+    return (f'{{"type":"AggregationEvent",{TIMES},"action":"ADD","parentID":"{parent}",'
+            f'"childEPCs":{texts(children)}}}')
+
+
+def in_pieces(values, most=MOST):
     values = list(values)
-    return [values[at:at + MOST] for at in range(0, len(values), MOST)]
+    return [values[at:at + most] for at in range(0, len(values), most)]
 
 
 def documents(events):
@@ -55,6 +67,14 @@ def joined(inputs, outputs, id):
         yield made(piece, [], id)
     for piece in in_pieces(outputs):
         yield made([], piece, id)
+
+
+def cartons_of(items, each):
+    """The events that put items into cartons of so many, and these on the pallet `p`."""
+    pieces = in_pieces(items, each)
+    cartons = [f"c{place}" for place in range(len(pieces))]
+    return ([packed(carton, piece) for carton, piece in zip(cartons, pieces)]
+            + [packed("p", piece) for piece in in_pieces(cartons)])
 
 
 def lines_of(shape, n, name):
@@ -91,6 +111,20 @@ def lines_of(shape, n, name):
                 + at("A", others))
     if shape == "spread":
         return at("A", split + ships) + [f"recall A {name(2 * n)}"]
+    if shape == "pallet":
+        boxes = cartons_of(inputs, 100)
+        lines = at("A", split)
+        for place, site in enumerate(SITES[:7]):
+            lines += at(site, boxes + [shipped(["p"], SITES[place + 1].lower())])
+        return lines + [f"recall A {name(2 * n)}", "pump 9"]
+    if shape == "late":
+        return at("A", [shipped(["p"], "b")] + cartons_of(inputs, 1000))
+    if shape == "repeats":
+        return at("A", cartons_of(inputs, 1000) + [shipped(["p"], "b")] * 1000)
+    if shape in ("packs", "cycle"):
+        chain = [packed(one, [next]) for one, next in zip(inputs, inputs[1:])]
+        closed = [packed(inputs[-1], inputs[:1])] if shape == "cycle" else []
+        return at("A", chain + closed + [shipped(inputs[:1], "b")])
     raise SystemExit(f"no such shape: {shape}")
 
 
@@ -116,7 +150,8 @@ def main():
     if words.documents:
         print("\n".join(line[1] for line in lines if isinstance(line, tuple) and line[0] == words.documents))
         return
-    print("site A a\nsite B b")
+    for site in SITES if words.shape == "pallet" else SITES[:2]:
+        print(f"site {site} {site.lower()}")
     for line in lines:
         print(line if isinstance(line, str) else f"capture {line[0]} {line[1]}")
     for _ in range(words.asks):

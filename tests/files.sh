@@ -46,7 +46,7 @@ fresh() {
     mkdir "$1"
     wants 0 '' '' init "$1" "$chain/sites"
     wants 0 'captured 2 known 0 skipped 0' '' capture "$1" dairy "$chain/dairy.json"
-    wants 0 'captured 5 known 0 skipped 1' '' capture "$1" plant "$chain/plant.json"
+    wants 0 'captured 6 known 0 skipped 1' '' capture "$1" plant "$chain/plant.json"
 }
 
 echo "commands"
@@ -222,7 +222,7 @@ mkdir before
 wants 0 '' '' init before "$chain/sites"
 cp -r before stopped
 begun=$(date +%s%N)
-wants 0 'captured 5 known 0 skipped 1' '' capture stopped plant "$chain/plant.json"
+wants 0 'captured 6 known 0 skipped 1' '' capture stopped plant "$chain/plant.json"
 spent=$((($(date +%s%N) - begun) / 1000))
 
 # stop MOMENT WORD..: the program on these words, stopped after so many microseconds
@@ -241,13 +241,13 @@ for ((n = 0; n < stops; n++)); do
     stop $((spent * n / stops)) capture stopped plant "$chain/plant.json"
     wants 0 '' '' audit stopped
     case "$("$recall" capture stopped plant "$chain/plant.json")" in
-    'captured 5 known 0 skipped 1') old=$((old + 1)) ;;
-    'captured 0 known 5 skipped 1') ;;
+    'captured 6 known 0 skipped 1') old=$((old + 1)) ;;
+    'captured 0 known 6 skipped 1') ;;
     *) echo "a capture was kept in part" >&2; failed=1 ;;
     esac
 done
 echo "  $old of the captures left the record before"
-wants 0 'captured 5 known 0 skipped 1' '' capture before plant "$chain/plant.json"
+wants 0 'captured 6 known 0 skipped 1' '' capture before plant "$chain/plant.json"
 old=0
 for ((n = 0; n < stops; n++)); do
     rm -rf stopped && cp -r before stopped

@@ -11,42 +11,7 @@ if [ -z "$recall" ]; then
     "$here/recall" --help >/dev/null || exit 2
     recall="$here/crates/recall_cli/out/recall_cli"
 fi
-work=$(mktemp -d) || exit 2
-trap 'rm -rf "$work"' EXIT
-failed=0
-rows=0
-
-# row LINE ANSWER..: a line of the script, and the lines that it prints
-row() {
-    printf '%s\n' "$1" >>"$work/script"
-    shift
-    [ $# -eq 0 ] || printf '%s\n' "$@" >>"$work/wanted"
-    rows=$((rows + 1))
-}
-
-# begins LINE..: a new script, of these lines, which print nothing
-begins() {
-    : >"$work/wanted"
-    printf '%s\n' "$@" >"$work/script"
-}
-
-# ends NAME: the script prints what is wanted, with status 1 where a line of it is refused
-ends() {
-    local status=0
-    ! grep -q '^refused' "$work/wanted" || status=1
-    "$recall" sim <"$work/script" >"$work/printed"
-    [ $? -eq $status ] || failed=1
-    if ! diff -u --label 'as it should be' --label "$1" "$work/wanted" "$work/printed"; then
-        failed=1
-    fi
-}
-
-# repeated COUNT WORD: the word so many times, with commas between
-repeated() {
-    local all
-    all=$(printf "%0.s$2," $(seq "$1"))
-    printf '%s' "${all%,}"
-}
+. "$here/tests/rows.sh"
 
 # one KEY TEXT: a line that asks for an item at A, and what it prints where its key is this
 one() {
@@ -125,19 +90,10 @@ ends 'offsets'
 # The order of checks: a document with two faults has the first.
 
 begins 'site A a' 'site B b'
-# made MEMBERS ANSWER: a transformation with these members
-made() {
-    row "capture A {\"type\":\"TransformationEvent\",\"eventTime\":\"2024-05-01T08:00:00Z\",\"eventTimeZoneOffset\":\"+00:00\",$1}" "$2"
-}
 made '"outputEPCList":5,"inputEPCList":5' 'refused Doc WrongShape event 1 field inputEPCList'
 made '"transformationID":5,"inputEPCList":5' 'refused Doc WrongShape event 1 field inputEPCList'
 made '"transformationID":5,"outputEPCList":5' 'refused Doc WrongShape event 1 field outputEPCList'
 made '"transformationID":5,"inputEPCList":["x"]' 'refused Doc WrongShape event 1 field transformationID'
-# seen MEMBERS ANSWER: an object event with these members
-seen() {
-    row "capture A {\"type\":\"ObjectEvent\",$1}" "$2"
-}
-at='"eventTime":"2024-05-01T08:00:00Z","eventTimeZoneOffset":"+00:00"'
 seen "\"errorDeclaration\":{},\"quantityList\":5,\"eventID\":5" 'refused Doc ErrorDeclared event 1 field errorDeclaration'
 seen "\"quantityList\":5,\"eventID\":5" 'refused Doc WrongShape event 1 field quantityList'
 seen "\"eventID\":5,\"eventTime\":5" 'refused Doc WrongShape event 1 field eventID'
@@ -146,6 +102,19 @@ seen "\"eventTime\":\"2024-05-01T08:00:00Z\",\"eventTimeZoneOffset\":5,\"action\
 seen "$at,\"action\":5,\"epcList\":5" 'refused Doc WrongShape event 1 field action'
 seen "$at,\"action\":\"OBSERVE\",\"epcList\":5,\"destinationList\":5" 'refused Doc WrongShape event 1 field epcList'
 seen "$at,\"action\":\"OBSERVE\",\"epcList\":[],\"destinationList\":5" 'refused Doc WrongShape event 1 field destinationList'
+# packed MEMBERS ANSWER: an aggregation at A with these members
+packed() {
+    row "capture A {\"type\":\"AggregationEvent\",$1}" "$2"
+}
+packed "\"errorDeclaration\":{},\"childQuantityList\":5,\"eventID\":5" 'refused Doc ErrorDeclared event 1 field errorDeclaration'
+packed "\"childQuantityList\":5,\"eventID\":5" 'refused Doc WrongShape event 1 field childQuantityList'
+packed "\"eventID\":5,\"eventTime\":5" 'refused Doc WrongShape event 1 field eventID'
+packed "$at,\"action\":5,\"parentID\":5" 'refused Doc WrongShape event 1 field action'
+packed "$at,\"parentID\":5" 'refused Doc Missing event 1 field action'
+packed "$at,\"action\":\"ADD\",\"parentID\":5,\"childEPCs\":5" 'refused Doc WrongShape event 1 field parentID'
+packed "$at,\"action\":\"ADD\",\"parentID\":\"a b\",\"childEPCs\":5" 'refused Doc BadEpc event 1 field parentID'
+packed "$at,\"action\":\"ADD\",\"childEPCs\":5" 'refused Doc Missing event 1 field parentID'
+packed "$at,\"action\":\"DELETE\",\"childEPCs\":5" 'refused Doc WrongShape event 1 field childEPCs'
 ends 'the order of checks'
 
 # How much a document holds.
@@ -161,6 +130,8 @@ seen "$at,\"action\":\"OBSERVE\",\"epcList\":[$epcs],\"destinationList\":[$to,5]
 made "\"inputEPCList\":[$epcs],\"outputEPCList\":[$epcs]" 'captured 1 known 0 skipped 0'
 made "\"inputEPCList\":[$epcs,\"x\"],\"outputEPCList\":[$epcs]" 'refused Doc TooManyEpcs event 1 field inputEPCList'
 made "\"inputEPCList\":[$epcs],\"outputEPCList\":[$epcs,\"x\"]" 'refused Doc TooManyEpcs event 1 field outputEPCList'
+packed "$at,\"action\":\"ADD\",\"parentID\":\"p\",\"childEPCs\":[$epcs]" 'captured 1 known 0 skipped 0'
+packed "$at,\"action\":\"ADD\",\"parentID\":\"p\",\"childEPCs\":[$epcs,\"x\"]" 'refused Doc TooManyEpcs event 1 field childEPCs'
 row "capture B {\"type\":\"EPCISDocument\",\"epcisBody\":{\"eventList\":[$events,$event]}}" 'captured 1000 known 0 skipped 0'
 row "capture B {\"type\":\"EPCISDocument\",\"epcisBody\":{\"eventList\":[$events,$event,5]}}" 'refused Doc TooManyEvents event 0 field eventList'
 ends 'how much a document holds'

@@ -109,7 +109,7 @@ faults Device 'at/plant.db: in use by another program' "$recall" audit at
 faults Device 'at/plant.db: in use by another program' "$recall" start at plant "$tank"
 exec 9>&-
 wait
-[ "$(tail -1 fed)" = 'documents 1 captured 0 known 5 skipped 1 refused 0' ] || complain "a capture of lines: $(cat fed)"
+[ "$(tail -1 fed)" = 'documents 1 captured 0 known 6 skipped 1 refused 0' ] || complain "a capture of lines: $(cat fed)"
 must audit at
 
 echo "files that are no site's"
