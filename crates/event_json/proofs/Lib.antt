@@ -10,3 +10,4 @@ pub mod Carried
 pub mod Plain
 pub mod Listed
 pub mod SiteLemmas
+pub mod Counted

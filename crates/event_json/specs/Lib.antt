@@ -11,3 +11,4 @@ pub mod Members
 pub mod Names
 pub mod Laws
 pub mod Sites
+pub mod Untraced
