@@ -11,3 +11,5 @@ pub mod Plain
 pub mod Listed
 pub mod SiteLemmas
 pub mod Counted
+pub mod Skipped
+pub mod Aimless

@@ -12,3 +12,4 @@ pub mod Names
 pub mod Laws
 pub mod Sites
 pub mod Untraced
+pub mod UntracedLaws

@@ -1,4 +1,5 @@
 //! Laws of the definitions, each of which a call ensures.
+ghost use Rattle.event_json.specs.UntracedLaws.{SkippedAreCounted, AimlessAreSeen};
 ghost use Rattle.event_json.specs.Laws.{EventsAreRead, FirstFaultIsTold, AllPass, DocumentsAreLists, DestinationsAreDealt, DocumentsShipToSites, EqualIsSame};
 
 /// What is read of a list are its events, each at its place.
@@ -34,4 +35,14 @@ pub fn documents_ship_to_sites()
 /// Bodies, events and lists of sites that are compared as equal are the same, and only those.
 pub fn equal_is_same()
     ensures { EqualIsSame }
+{}
+
+/// The events of a document that is read are those of a skipped type, which are counted, and those that are kept.
+pub fn skipped_are_counted()
+    ensures { SkippedAreCounted }
+{}
+
+/// An event that ships without a destination is kept as an observation.
+pub fn aimless_are_seen()
+    ensures { AimlessAreSeen }
 {}
