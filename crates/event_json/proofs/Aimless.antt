@@ -1,10 +1,9 @@
 -- An event that ships without a destination is kept as an observation.
-use Rattle.std.proofs.Common.{◌≡◌, ℕ, suc, Bool, true, false, cond, List, [], ◌∷◌, bytes_eq, codes, Option, Some, None, Result, Ok, Err, refl, sym, ap, ◌∙◌, subst}
-use Rattle.std.specs.Prelude.{IsTrue, is_some, option_and_then, ◌==◌}
-use Rattle.std.proofs.lemmas.Bool.{and_parts}
+use Rattle.std.proofs.Common.{◌≡◌, ℕ, suc, Bool, true, false, cond, List, [], bytes_eq, codes, Option, Some, None, Result, Ok, Err, refl, sym, ap, ◌∙◌, subst, arith}
+use Rattle.std.specs.Prelude.{IsTrue, is_some, option_and_then}
+use Rattle.std.proofs.lemmas.Bool.{and_parts, eqb-true}
 use Rattle.serde_json.specs.Data.{Data, Items, no_items, item}
 use Rattle.serde_json.specs.Find.{as_object}
-use Rattle.event_json.specs.declared.bodies.Body.{Body}
 use Rattle.event_json.specs.declared.bodies.Body.TheVariants.{Note}
 use Rattle.event_json.specs.declared.doc_faults.DocField.TheVariants as fields
 use Rattle.event_json.specs.declared.doc_faults.DocFaultKind.TheVariants as kinds
@@ -14,7 +13,6 @@ use Rattle.event_json.specs.declared.event_types.EventType.TheVariants.{Object}
 use Rattle.event_json.specs.Checks.{type_named, type_text, event_type, without_declaration, without_quantities, head_of, action_checked}
 use Rattle.event_json.specs.EventReading.{shipment, object_event, kept, event_of_type, event_of}
 use Rattle.event_json.specs.Events.{Content}
-use Rattle.event_json.specs.Faults.{◌>>=◌}
 use Rattle.event_json.specs.ItemLists.{limit_checked, epcs_of, destinations_of}
 use Rattle.event_json.specs.Members.{member_of, list_of, or_flaw, count_of}
 use Rattle.event_json.specs.Sites.{Site}
@@ -28,7 +26,7 @@ text_there p None h = absurd (let no : ⊥ = cc in no)
 
 empty_there : {E : Type 0} (found : Result Items E) → is_empty_list found ≡ true → found ≡ Ok no_items
 empty_there (Ok no_items) h = refl
-empty_there (Ok (item d ds)) h = absurd (let no : ⊥ = cc in no)
+empty_there (Ok (item d ds)) h = absurd (let none : suc (count_of ds) ≡ 0 = eqb-true _ _ h in omega (arith, none))
 empty_there (Err flaw) h = absurd (let no : ⊥ = cc in no)
 
 object_named : (text : List ℕ) → bytes_eq text (codes "ObjectEvent") ≡ true → type_named text ≡ Some Object
@@ -90,8 +88,8 @@ parts : (d : Data) → is_aimless d ≡ true
 unfolding is_aimless
 parts d h =
     let both = and_parts _ _ h in
-    let rest = and_parts _ _ both.1 in
-    (text_there _ _ both.0, empty_there _ rest.1)
+    let said = and_parts _ _ both.0 in
+    (text_there _ _ said.0, empty_there _ both.1)
 
 pub aimless_seen : (sites : List Site) (d : Data) (found : Option Content) → IsTrue (is_aimless d) → event_of sites d ≡ Ok found
     → (e : Content) × (items : List (List ℕ)) × (found ≡ Some e) × (e.body ≡ Note items)

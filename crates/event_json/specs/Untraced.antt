@@ -1,5 +1,5 @@
 -- What a document says that isn't traced, in counts.
-use Rattle.std.specs.Prelude.{ℕ, Bool, true, false, ◌==◌, ◌&&◌, ◌||◌, List, [], ◌∷◌, length, codes, bytes_eq, count_by, sum_by, Option, Some, None, Result, Ok, Err, option_and_then, is_none}
+use Rattle.std.specs.Prelude.{ℕ, Bool, false, ◌==◌, ◌&&◌, ◌||◌, List, [], ◌∷◌, length, codes, bytes_eq, count_by, sum_by, Option, Some, None, Result, Ok, Err, option_and_then, is_none}
 use Rattle.serde_json.specs.Data.{Data, Items, no_items, item}
 use Rattle.serde_json.specs.Find.{as_str}
 use Rattle.event_json.specs.declared.bodies.Body.{Body}
