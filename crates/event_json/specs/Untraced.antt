@@ -23,7 +23,7 @@ is_shipping step =
     || bytes_eq step (codes "urn:epcglobal:cbv:bizstep:shipping")
     || bytes_eq step (codes "https://ref.gs1.org/cbv/BizStep-shipping")
 
--- an array without members; a member that is absent or null counts as one
+-- an array that is found and has no members
 abbrev pub is_empty_list : {E : Type 0} → Result Items E → Bool
 is_empty_list (Ok items) = count_of items == 0
 is_empty_list (Err flaw) = false
@@ -40,7 +40,7 @@ abbrev pub in_order : Items → List Data
 in_order no_items = []
 in_order (item d ds) = d ∷ in_order ds
 
--- the events of a document, none where it has no list
+-- the events of the list of a document, skipped ones too; none where it has no such list
 unfoldable pub listed_events : Data → List Data
 listed_events d = of_list (event_list d) where
   of_list : {E : Type 0} → Result Items E → List Data
