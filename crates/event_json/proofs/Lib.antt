@@ -9,4 +9,5 @@ pub mod Lists
 pub mod Carried
 pub mod Plain
 pub mod Listed
+pub mod Offsets
 pub mod SiteLemmas

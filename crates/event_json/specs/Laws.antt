@@ -11,6 +11,7 @@ use Rattle.event_json.specs.declared.doc_faults.DocFaultKind.TheVariants as kind
 use Rattle.event_json.specs.declared.doc_faults.Flaw.{Flaw}
 use Rattle.event_json.specs.declared.doc_faults.DocFault.{DocFault}
 use Rattle.event_json.specs.declared.documents.Doc.{Doc}
+use Rattle.event_json.specs.Checks.{offset_checked}
 use Rattle.event_json.specs.Contents.{same_body, same_content, same_site}
 use Rattle.event_json.specs.Documents.{whole, event_list, events_of, document_of, text_document}
 use Rattle.event_json.specs.EventReading.{event_of, shipment}
@@ -91,3 +92,21 @@ DocumentsShipToSites =
 -- the tests of `==` find what is equal
 abbrev pub EqualIsSame : Type 0
 EqualIsSame = ((b c : Body) → IsTrue (same_body b c) ↔ (b ≡ c)) × ((e f : Content) → IsTrue (same_content e f) ↔ (e ≡ f)) × ((s t : List Site) → IsTrue (pointwise same_site s t) ↔ (s ≡ t))
+
+-- the texts of an offset, by the six bytes that they have: `+` or `-`; 00 to 09 or 10 to 14; `:`; 00 to 59
+pub record IsOffsetText (text : List ℕ) : Type 0 where
+  pub sign : ℕ
+  pub tens : ℕ
+  pub hours : ℕ
+  pub ten_minutes : ℕ
+  pub minutes : ℕ
+  pub bytes : text ≡ sign ∷ (48 + tens) ∷ (48 + hours) ∷ 58 ∷ (48 + ten_minutes) ∷ (48 + minutes) ∷ []
+  pub signed : (sign ≡ 43) ⊎ (sign ≡ 45)
+  pub to_14 : ((tens ≡ 0) × (hours ≤ 9)) ⊎ ((tens ≡ 1) × (hours ≤ 4))
+  pub to_59 : (ten_minutes ≤ 5) × (minutes ≤ 9)
+
+-- these texts pass, and all others are refused as offsets
+abbrev pub OffsetsAreThese : Type 0
+OffsetsAreThese = (text : List ℕ)
+    → ((offset_checked text ≡ Ok tt) ↔ IsOffsetText text)
+    × ((offset_checked text ≡ Err (record { field = fields.EventTimeZoneOffset; kind = kinds.Offset })) ↔ (¬ IsOffsetText text))

@@ -1,5 +1,5 @@
 //! Laws of the definitions, each of which a call ensures.
-ghost use Rattle.event_json.specs.Laws.{EventsAreRead, FirstFaultIsTold, AllPass, DocumentsAreLists, DestinationsAreDealt, DocumentsShipToSites, EqualIsSame};
+ghost use Rattle.event_json.specs.Laws.{EventsAreRead, FirstFaultIsTold, AllPass, DocumentsAreLists, DestinationsAreDealt, DocumentsShipToSites, EqualIsSame, OffsetsAreThese};
 
 /// What is read of a list are its events, each at its place.
 pub fn events_are_read()
@@ -34,4 +34,9 @@ pub fn documents_ship_to_sites()
 /// Bodies, events and lists of sites that are compared as equal are the same, and only those.
 pub fn equal_is_same()
     ensures { EqualIsSame }
+{}
+
+/// The texts that pass as offsets of a clock, by their six bytes.
+pub fn offsets()
+    ensures { OffsetsAreThese }
 {}
