@@ -10,4 +10,5 @@ pub mod Carried
 pub mod Plain
 pub mod Listed
 pub mod Offsets
+pub mod Ordered
 pub mod SiteLemmas

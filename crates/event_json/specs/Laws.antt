@@ -1,11 +1,13 @@
 -- Laws of a document's reading, which any right definition of it meets. They fix what a list of events gives (`events_of`), and what a
 -- document's value gives by its list (`document_of`). They leave open which list a value has (`event_list`), what one event says
 -- (`event_of`), and which value is read of the bytes (`text_document`): these stand by their cases, and by rows of examples in tests.
-use Rattle.std.specs.Prelude.{All, ◌≡◌, ◌↔◌, ℕ, zero, suc, ◌+◌, ◌<◌, ◌≤◌, ◌⊎◌, IsTrue, IsOk, List, [], ◌∷◌, length, slice_get, filter, filter_map, is_none, Option, Some, None, Ok, Err}
+use Rattle.std.specs.Prelude.{All, ◌≡◌, ◌↔◌, ℕ, zero, suc, ◌+◌, ◌<◌, ◌≤◌, ◌⊎◌, IsTrue, IsOk, List, [], ◌∷◌, ◌++◌, length, codes, ⊤, Result, slice_get, filter, filter_map, is_none, Option, Some, None, Ok, Err}
 use Rattle.std.specs.Cmp.Lexicographic.{pointwise}
 use Rattle.serde_json.specs.Data.{Data, Items, no_items, item}
 use Rattle.event_json.specs.declared.bodies.Body.{Body}
 use Rattle.event_json.specs.declared.bodies.Body.TheVariants.{Note, Ship}
+use Rattle.event_json.specs.declared.event_types.EventType.{EventType}
+use Rattle.event_json.specs.declared.event_types.EventType.TheVariants.{Object, Aggregation, Transaction, Transformation, Association}
 use Rattle.event_json.specs.declared.doc_faults.DocField.TheVariants as fields
 use Rattle.event_json.specs.declared.doc_faults.DocFaultKind.TheVariants as kinds
 use Rattle.event_json.specs.declared.doc_faults.Flaw.{Flaw}
@@ -14,9 +16,10 @@ use Rattle.event_json.specs.declared.documents.Doc.{Doc}
 use Rattle.event_json.specs.Checks.{offset_checked}
 use Rattle.event_json.specs.Contents.{same_body, same_content, same_site}
 use Rattle.event_json.specs.Documents.{whole, event_list, events_of, document_of, text_document}
-use Rattle.event_json.specs.EventReading.{event_of, shipment}
+use Rattle.event_json.specs.EventReading.{event_of, event_of_type, shipment}
 use Rattle.event_json.specs.Events.{Content}
-use Rattle.event_json.specs.Members.{count_of}
+use Rattle.event_json.specs.Members.{count_of, member_named}
+use Rattle.event_json.specs.Names.{field_name}
 use Rattle.event_json.specs.Sites.{Site, addressed, ShipsAmong}
 
 -- the member of an array at this place, from 0
@@ -110,3 +113,36 @@ abbrev pub OffsetsAreThese : Type 0
 OffsetsAreThese = (text : List ℕ)
     → ((offset_checked text ≡ Ok tt) ↔ IsOffsetText text)
     × ((offset_checked text ≡ Err (record { field = fields.EventTimeZoneOffset; kind = kinds.Offset })) ↔ (¬ IsOffsetText text))
+
+-- the members of an event of each type in the order in which they are looked at, as the standard spells them
+abbrev pub order_of : EventType → List (List ℕ)
+order_of Object =
+    codes "errorDeclaration" ∷ codes "quantityList" ∷ codes "eventID" ∷ codes "eventTime" ∷ codes "eventTimeZoneOffset" ∷ codes "action"
+    ∷ codes "epcList" ∷ codes "destinationList" ∷ []
+order_of Transformation =
+    codes "errorDeclaration" ∷ codes "inputQuantityList" ∷ codes "outputQuantityList" ∷ codes "eventID" ∷ codes "eventTime" ∷ codes "eventTimeZoneOffset"
+    ∷ codes "inputEPCList" ∷ codes "outputEPCList" ∷ codes "transformationID" ∷ []
+order_of Aggregation =
+    codes "errorDeclaration" ∷ codes "childQuantityList" ∷ codes "eventID" ∷ codes "eventTime" ∷ codes "eventTimeZoneOffset" ∷ codes "action"
+    ∷ codes "parentID" ∷ codes "childEPCs" ∷ []
+order_of Transaction = []
+order_of Association = []
+
+-- both have the same members of these names
+abbrev pub HaveSame : List (List ℕ) → Data → Data → Type 0
+HaveSame [] d e = ⊤
+HaveSame (name ∷ names) d e = (member_named name d ≡ member_named name e) × HaveSame names d e
+
+-- a fault names a member of this order, and comes of it and of those before it: a value that has the same of these has the same
+-- fault, whatever stands in the later ones
+pub record IsFaultBy {A : Type 0} (order : List (List ℕ)) (read : Data → Result A Flaw) (d : Data) (flaw : Flaw) : Type 0 where
+  pub earlier : List (List ℕ)
+  pub later : List (List ℕ)
+  pub stands : order ≡ earlier ++ field_name flaw.field ∷ later
+  pub decides : (e : Data) → HaveSame (earlier ++ field_name flaw.field ∷ []) d e → read e ≡ Err flaw
+
+-- what an event says comes of these members alone, and its fault is the first in their order
+abbrev pub FaultsComeInOrder : Type 0
+FaultsComeInOrder = (sites : List Site) (its_type : EventType)
+    → ((d e : Data) → HaveSame (order_of its_type) d e → event_of_type sites its_type d ≡ event_of_type sites its_type e)
+    × ((d : Data) (flaw : Flaw) → event_of_type sites its_type d ≡ Err flaw → IsFaultBy (order_of its_type) (event_of_type sites its_type) d flaw)

@@ -1,5 +1,5 @@
 //! Laws of the definitions, each of which a call ensures.
-ghost use Rattle.event_json.specs.Laws.{EventsAreRead, FirstFaultIsTold, AllPass, DocumentsAreLists, DestinationsAreDealt, DocumentsShipToSites, EqualIsSame, OffsetsAreThese};
+ghost use Rattle.event_json.specs.Laws.{EventsAreRead, FirstFaultIsTold, AllPass, DocumentsAreLists, DestinationsAreDealt, DocumentsShipToSites, EqualIsSame, OffsetsAreThese, FaultsComeInOrder};
 
 /// What is read of a list are its events, each at its place.
 pub fn events_are_read()
@@ -39,4 +39,9 @@ pub fn equal_is_same()
 /// The texts that pass as offsets of a clock, by their six bytes.
 pub fn offsets()
     ensures { OffsetsAreThese }
+{}
+
+/// The fault of an event is that of the first of its members, in their order, that has one.
+pub fn faults_come_in_order()
+    ensures { FaultsComeInOrder }
 {}
