@@ -1,6 +1,6 @@
 -- The checks of an event, each of which looks at one member, come one after another.
 use Rattle.std.proofs.Common.{◌≡◌, ℕ, ◌+◌, Bool, true, false, cond, List, [], ◌∷◌, ◌++◌, length, Option, Some, None, Result, Ok, Err, refl, sym, ap, ◌∙◌, subst}
-use Rattle.std.specs.Prelude.{⊤, ℤ, codes, is_some, is_none, bytes_eq, ◌==◌, ◌&&◌, ◌||◌, option_and_then, nat_lt}
+use Rattle.std.specs.Prelude.{ℤ, codes, is_some, is_none, bytes_eq, ◌==◌, ◌&&◌, ◌||◌, nat_lt}
 use Rattle.std.proofs.lemmas.List.{append_assoc}
 use Rattle.serde_json.specs.Data.{Data, Items, no_items, item}
 use Rattle.serde_json.specs.Find.{as_str, as_array}
@@ -9,7 +9,6 @@ use Rattle.epc_core.specs.Items.{is_plain}
 use Rattle.epc_core.specs.Reading.{reading}
 use Rattle.event_json.specs.declared.bodies.Action.{Action}
 use Rattle.event_json.specs.declared.bodies.Action.TheVariants.{Add, Observe, Delete}
-use Rattle.event_json.specs.declared.bodies.Body.{Body}
 use Rattle.event_json.specs.declared.bodies.Body.TheVariants.{Make, Pack}
 use Rattle.event_json.specs.declared.checks.Head.{Head}
 use Rattle.event_json.specs.declared.doc_faults.DocField.{DocField}
@@ -49,9 +48,9 @@ same_back (name ∷ names) second d e h = same_back names second d e h.1
 then : {A B : Type 0} (first second : List (List ℕ)) (check : Data → Result A Flaw) (rest : A → Data → Result B Flaw)
     → Reads first check → ((x : A) → Reads second (rest x)) → Reads (first ++ second) (λ d. check d >>= λ x. rest x d)
 then {A} {B} first second check rest one more = record {
-    alike = λ d e h. both (check d) (check e) d e (one.alike d e (same_front first second d e h)) (same_back first second d e h);
-    fault = λ d flaw is. by (check d) d refl flaw is
-  }
+  alike = λ d e h. both (check d) (check e) d e (one.alike d e (same_front first second d e h)) (same_back first second d e h);
+  fault = λ d flaw is. by (check d) d refl flaw is;
+}
   where
     both : (x y : Result A Flaw) (d e : Data) → x ≡ y → HaveSame second d e → (x >>= λ z. rest z d) ≡ (y >>= λ z. rest z e)
     both (Ok x) y d e same h = subst (λ (t : Result A Flaw). (rest x d) ≡ (t >>= λ z. rest z e)) same ((more x).alike d e h)
@@ -71,8 +70,8 @@ then {A} {B} first second check rest one more = record {
           later = late.later;
           stands = ap (λ (l : List (List ℕ)). first ++ l) late.stands ∙ sym (append_assoc first late.earlier (field_name flaw.field ∷ late.later));
           decides = λ e h.
-            let same : HaveSame (first ++ (late.earlier ++ field_name flaw.field ∷ [])) d e = subst (λ (l : List (List ℕ)). HaveSame l d e) (append_assoc first late.earlier (field_name flaw.field ∷ [])) h in
-            after (check e) x e flaw (sym (one.alike d e (same_front first _ d e same)) ∙ found) (late.decides e (same_back first _ d e same))
+              let same : HaveSame (first ++ (late.earlier ++ field_name flaw.field ∷ [])) d e = subst (λ (l : List (List ℕ)). HaveSame l d e) (append_assoc first late.earlier (field_name flaw.field ∷ [])) h in
+              after (check e) x e flaw (sym (one.alike d e (same_front first _ d e same)) ∙ found) (late.decides e (same_back first _ d e same));
         }
     by (Err fault) d found flaw is =
         let early = one.fault d flaw (found ∙ ap Err (same_err {A = B} _ flaw is)) in
@@ -80,7 +79,7 @@ then {A} {B} first second check rest one more = record {
           earlier = early.earlier;
           later = early.later ++ second;
           stands = ap (λ (l : List (List ℕ)). l ++ second) early.stands ∙ append_assoc early.earlier (field_name flaw.field ∷ early.later) second;
-          decides = λ e h. at_once (check e) e flaw (early.decides e h)
+          decides = λ e h. at_once (check e) e flaw (early.decides e h);
         }
 
 -- a check of one member
@@ -89,17 +88,17 @@ look : {A : Type 0} (field : DocField) (check : Data → Result A Flaw)
     → ((d : Data) (flaw : Flaw) → check d ≡ Err flaw → flaw.field ≡ field)
     → Reads (field_name field ∷ []) check
 look field check same named = record {
-    alike = λ d e h. same d e h.0;
-    fault = λ d flaw is. by d flaw is (named d flaw is)
-  }
+  alike = λ d e h. same d e h.0;
+  fault = λ d flaw is. by d flaw is (named d flaw is);
+}
   where
     by : (d : Data) (flaw : Flaw) → check d ≡ Err flaw → flaw.field ≡ field → IsFaultBy (field_name field ∷ []) check d flaw
     by d flaw is at = record {
-        earlier = [];
-        later = [];
-        stands = ap (λ (f : DocField). field_name f ∷ []) (sym at);
-        decides = λ e h. sym (same d e (subst (λ (f : DocField). member_named (field_name f) d ≡ member_named (field_name f) e) at h.0)) ∙ is
-      }
+      earlier = [];
+      later = [];
+      stands = ap (λ (f : DocField). field_name f ∷ []) (sym at);
+      decides = λ e h. sym (same d e (subst (λ (f : DocField). member_named (field_name f) d ≡ member_named (field_name f) e) at h.0)) ∙ is;
+    }
 
 -- each fault of a result names this member
 names_ok : {A : Type 0} (field : DocField) (x : A) → (flaw : Flaw) → ◌≡◌ {A = Result A Flaw} (Ok x) (Err flaw) → flaw.field ≡ field
@@ -214,5 +213,138 @@ names_parent action d flaw is = by action is (member_of fields.ParentId d) refl
     by Observe is (Some value) at = named Observe value (rw at refl) is
     by Delete is (Some value) at = named Delete value (rw at refl) is
 
+-- nothing more is read
+nothing : {A : Type 0} (x : A) → Reads [] (λ _. Ok x)
+nothing {A} x = record { alike = λ d e h. refl; fault = λ d flaw is. absurd (let no : ⊥ = cc in no) }
+
+-- what is found either way is read alike
+read_so : {A : Type 0} (order : List (List ℕ)) (read other : Data → Result A Flaw) → ((d : Data) → read d ≡ other d) → Reads order read → Reads order other
+read_so order read other same reads = record {
+  alike = λ d e h. sym (same d) ∙ reads.alike d e h ∙ same e;
+  fault = λ d flaw is. so d flaw (reads.fault d flaw (same d ∙ is));
+}
+  where
+    so : (d : Data) (flaw : Flaw) → IsFaultBy order read d flaw → IsFaultBy order other d flaw
+    so d flaw by = record { earlier = by.earlier; later = by.later; stands = by.stands; decides = λ e h. sym (same e) ∙ by.decides e h }
+
+-- steps may be put together
+together : {A B C : Type 0} (first : Result A Flaw) (second : A → Result B Flaw) (third : B → Result C Flaw)
+    → ((first >>= second) >>= third) ≡ (first >>= λ x. second x >>= third)
+together (Ok x) second third = refl
+together (Err flaw) second third = refl
+
+declaration_read : Reads (codes "errorDeclaration" ∷ []) without_declaration
+unfolding without_declaration
+declaration_read = look fields.ErrorDeclaration without_declaration (λ d e h. cc)
+    (λ d. names_if fields.ErrorDeclaration (is_some (member_of fields.ErrorDeclaration d)) _ _ (names_err fields.ErrorDeclaration kinds.ErrorDeclared) (names_ok fields.ErrorDeclaration tt))
+
+quantities_read : (field : DocField) → Reads (field_name field ∷ []) (without_quantities field)
+unfolding without_quantities
+quantities_read field = look field (without_quantities field) (λ d e h. cc) (names_quantities field)
+
+epcs_read : (field : DocField) → Reads (field_name field ∷ []) (epcs_of field)
+unfolding epcs_of
+epcs_read field = look field (epcs_of field) (λ d e h. cc) (names_epcs field)
+
+id_read : Reads (codes "eventID" ∷ []) (λ d. identifier_of fields.EventId (member_of fields.EventId d))
+id_read = look fields.EventId _ (λ d e h. ap (identifier_of fields.EventId) h) (λ d. names_identifier fields.EventId (member_of fields.EventId d))
+
+time_read : Reads (codes "eventTime" ∷ []) (λ d. text_of fields.EventTime (member_of fields.EventTime d) >>= instant_of)
+time_read = look fields.EventTime _ (λ d e h. ap (λ (o : Option Data). text_of fields.EventTime o >>= instant_of) h)
+    (λ d. names_then fields.EventTime _ _ (names_text fields.EventTime (member_of fields.EventTime d)) names_instant)
+
+offset_read : (head : Head) → Reads (codes "eventTimeZoneOffset" ∷ []) (λ d. text_of fields.EventTimeZoneOffset (member_of fields.EventTimeZoneOffset d) >>= λ offset. offset_checked offset >>= λ _. Ok head)
+offset_read head = look fields.EventTimeZoneOffset _ (λ d e h. ap (λ (o : Option Data). text_of fields.EventTimeZoneOffset o >>= λ offset. offset_checked offset >>= λ _. Ok head) h)
+    (λ d. names_then fields.EventTimeZoneOffset _ _ (names_text fields.EventTimeZoneOffset (member_of fields.EventTimeZoneOffset d))
+    (λ offset. names_then fields.EventTimeZoneOffset _ _ (names_offset offset) (λ _. names_ok fields.EventTimeZoneOffset head)))
+
+head_read : Reads (codes "eventID" ∷ codes "eventTime" ∷ codes "eventTimeZoneOffset" ∷ []) head_of
+unfolding head_of
+head_read = then (codes "eventID" ∷ []) (codes "eventTime" ∷ codes "eventTimeZoneOffset" ∷ []) _ _ id_read
+    (λ id. read_so _ _ _ (λ d. together (text_of fields.EventTime (member_of fields.EventTime d)) instant_of _)
+    (then (codes "eventTime" ∷ []) (codes "eventTimeZoneOffset" ∷ []) _ (λ instant d. text_of fields.EventTimeZoneOffset (member_of fields.EventTimeZoneOffset d) >>= λ offset. offset_checked offset >>= λ _. Ok (record { id = id; instant = instant })) time_read
+    (λ instant. offset_read (record { id = id; instant = instant }))))
+
+text_read : {A : Type 0} (check : List ℕ → Result A Flaw) → ((text : List ℕ) (flaw : Flaw) → check text ≡ Err flaw → flaw.field ≡ fields.Action)
+    → Reads (codes "action" ∷ []) (λ d. text_of fields.Action (member_of fields.Action d) >>= check)
+text_read check named = look fields.Action _ (λ d e h. ap (λ (o : Option Data). text_of fields.Action o >>= check) h)
+    (λ d. names_then fields.Action _ check (names_text fields.Action (member_of fields.Action d)) named)
+
+checked_read : Reads (codes "action" ∷ []) action_checked
+unfolding action_checked
+checked_read = text_read _ (λ text. names_if fields.Action (bytes_eq text (codes "ADD") || bytes_eq text (codes "OBSERVE") || bytes_eq text (codes "DELETE")) _ _ (names_ok fields.Action tt) (names_err fields.Action kinds.Action))
+
+action_read : Reads (codes "action" ∷ []) action_of
+unfolding action_of
+action_read = text_read _ (λ text. names_or fields.Action kinds.Action (action_named text))
+
+parent_read : (action : Action) → Reads (codes "parentID" ∷ []) (parent_of action)
+unfolding parent_of
+parent_read Add = look fields.ParentId (parent_of Add) (λ d e h. rw h refl) (names_parent Add)
+parent_read Observe = look fields.ParentId (parent_of Observe) (λ d e h. rw h refl) (names_parent Observe)
+parent_read Delete = look fields.ParentId (parent_of Delete) (λ d e h. rw h refl) (names_parent Delete)
+
+-- the last member, and then the event
+last : {A B : Type 0} (name : List ℕ) (check : Data → Result A Flaw) (whole : A → B) → Reads (name ∷ []) check → Reads (name ∷ []) (λ d. check d >>= λ x. Ok (whole x))
+last name check whole reads = then (name ∷ []) [] check (λ x _. Ok (whole x)) reads (λ x. nothing (whole x))
+
+destinations_read : Reads (codes "destinationList" ∷ []) destinations_of
+unfolding destinations_of
+destinations_read = look fields.DestinationList destinations_of (λ d e h. cc) names_destinations
+
+object_read : (sites : List Site) → Reads (order_of Object) (object_event sites)
+unfolding object_event
+object_read sites =
+    then (codes "errorDeclaration" ∷ []) _ without_declaration _ declaration_read (λ _.
+    then (codes "quantityList" ∷ []) _ (without_quantities fields.QuantityList) _ (quantities_read fields.QuantityList) (λ _.
+    then (codes "eventID" ∷ codes "eventTime" ∷ codes "eventTimeZoneOffset" ∷ []) _ head_of _ head_read (λ head.
+    then (codes "action" ∷ []) _ action_checked _ checked_read (λ _.
+    then (codes "epcList" ∷ []) _ (epcs_of fields.EpcList) _ (epcs_read fields.EpcList) (λ items.
+    last (codes "destinationList") destinations_of (λ ds. record { id = head.id; instant = head.instant; body = shipment sites items ds }) destinations_read)))))
+
+-- a transformation's id, and then the event
+abbrev made_of : Head → List (List ℕ) → List (List ℕ) → Option Data → Result Content Flaw
+made_of head ins outs o = identifier_of fields.TransformationId o >>= λ id. made id ins outs >>= λ body. Ok (record { id = head.id; instant = head.instant; body = body })
+
+made_read : (head : Head) (ins outs : List (List ℕ)) → Reads (codes "transformationID" ∷ []) (λ d. made_of head ins outs (member_of fields.TransformationId d))
+made_read head ins outs = look fields.TransformationId _ (λ d e h. ap (made_of head ins outs) h)
+    (λ d. names_then fields.TransformationId _ _ (names_identifier fields.TransformationId (member_of fields.TransformationId d))
+    (λ id. names_then fields.TransformationId (made id ins outs) _
+    (names_if fields.TransformationId (is_none id && ((length ins == 0) || (length outs == 0))) _ _ (names_err fields.TransformationId kinds.HalfTransformation) (names_ok fields.TransformationId (Make id ins outs)))
+    (λ body. names_ok fields.TransformationId _)))
+
+transformation_read : Reads (order_of Transformation) transformation_event
+unfolding transformation_event
+transformation_read =
+    then (codes "errorDeclaration" ∷ []) _ without_declaration _ declaration_read (λ _.
+    then (codes "inputQuantityList" ∷ []) _ (without_quantities fields.InputQuantityList) _ (quantities_read fields.InputQuantityList) (λ _.
+    then (codes "outputQuantityList" ∷ []) _ (without_quantities fields.OutputQuantityList) _ (quantities_read fields.OutputQuantityList) (λ _.
+    then (codes "eventID" ∷ codes "eventTime" ∷ codes "eventTimeZoneOffset" ∷ []) _ head_of _ head_read (λ head.
+    then (codes "inputEPCList" ∷ []) _ (epcs_of fields.InputEpcList) _ (epcs_read fields.InputEpcList) (λ ins.
+    then (codes "outputEPCList" ∷ []) _ (epcs_of fields.OutputEpcList) _ (epcs_read fields.OutputEpcList) (λ outs.
+    made_read head ins outs))))))
+
+aggregation_read : Reads (order_of Aggregation) aggregation_event
+unfolding aggregation_event
+aggregation_read =
+    then (codes "errorDeclaration" ∷ []) _ without_declaration _ declaration_read (λ _.
+    then (codes "childQuantityList" ∷ []) _ (without_quantities fields.ChildQuantityList) _ (quantities_read fields.ChildQuantityList) (λ _.
+    then (codes "eventID" ∷ codes "eventTime" ∷ codes "eventTimeZoneOffset" ∷ []) _ head_of _ head_read (λ head.
+    then (codes "action" ∷ []) _ action_of _ action_read (λ action.
+    then (codes "parentID" ∷ []) _ (parent_of action) _ (parent_read action) (λ parent.
+    last (codes "childEPCs") (epcs_of fields.ChildEpcs) (λ children. record { id = head.id; instant = head.instant; body = Pack action parent children }) (epcs_read fields.ChildEpcs))))))
+
+-- an event that isn't skipped
+kept_read : (order : List (List ℕ)) (read : Data → Result Content Flaw) → Reads order read → Reads (order ++ []) (λ d. kept (read d))
+kept_read order read reads = then order [] read (λ e _. Ok (Some e)) reads (λ e. nothing (Some e))
+
+type_read : (sites : List Site) (its_type : EventType) → Reads (order_of its_type) (event_of_type sites its_type)
+unfolding event_of_type
+type_read sites Object = kept_read (order_of Object) (object_event sites) (object_read sites)
+type_read sites Transformation = kept_read (order_of Transformation) transformation_event transformation_read
+type_read sites Aggregation = kept_read (order_of Aggregation) aggregation_event aggregation_read
+type_read sites Transaction = nothing None
+type_read sites Association = nothing None
+
 pub in_order : FaultsComeInOrder
-in_order = ?
+in_order sites its_type = let reads = type_read sites its_type in (reads.alike, reads.fault)
