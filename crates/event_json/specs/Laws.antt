@@ -2,12 +2,16 @@
 -- document's value gives by its list (`document_of`). They leave open which list a value has (`event_list`), what one event says
 -- (`event_of`), and which value is read of the bytes (`text_document`): these stand by their cases, and by rows of examples in tests.
 use Rattle.std.specs.Prelude.{All, ◌≡◌, ◌↔◌, ℕ, zero, suc, ◌+◌, ◌<◌, ◌≤◌, ◌⊎◌, IsTrue, IsOk, List, [], ◌∷◌, ◌++◌, length, codes, ⊤, Result, slice_get, filter, filter_map, is_none, Option, Some, None, Ok, Err}
+use Rattle.std.specs.List.{Contains}
 use Rattle.std.specs.Cmp.Lexicographic.{pointwise}
 use Rattle.serde_json.specs.Data.{Data, Items, no_items, item}
+use Rattle.serde_json.specs.Find.{as_array}
 use Rattle.event_json.specs.declared.bodies.Body.{Body}
 use Rattle.event_json.specs.declared.bodies.Body.TheVariants.{Note, Ship}
 use Rattle.event_json.specs.declared.event_types.EventType.{EventType}
 use Rattle.event_json.specs.declared.event_types.EventType.TheVariants.{Object, Aggregation, Transaction, Transformation, Association}
+use Rattle.event_json.specs.declared.doc_faults.DocField.{DocField}
+use Rattle.event_json.specs.declared.site_lists.SitesFault.TheVariants.{TooMany}
 use Rattle.event_json.specs.declared.doc_faults.DocField.TheVariants as fields
 use Rattle.event_json.specs.declared.doc_faults.DocFaultKind.TheVariants as kinds
 use Rattle.event_json.specs.declared.doc_faults.Flaw.{Flaw}
@@ -18,9 +22,10 @@ use Rattle.event_json.specs.Contents.{same_body, same_content, same_site}
 use Rattle.event_json.specs.Documents.{whole, event_list, events_of, document_of, text_document}
 use Rattle.event_json.specs.EventReading.{event_of, event_of_type, shipment}
 use Rattle.event_json.specs.Events.{Content}
-use Rattle.event_json.specs.Members.{count_of, member_named}
+use Rattle.event_json.specs.Members.{count_of, member_named, member_of}
+use Rattle.event_json.specs.ItemLists.{epc_of, epcs_of, destination_of, destinations_of}
 use Rattle.event_json.specs.Names.{field_name}
-use Rattle.event_json.specs.Sites.{Site, addressed, ShipsAmong}
+use Rattle.event_json.specs.Sites.{Site, is_site_name, named, addressed, sites_fault, ShipsAmong}
 
 -- the member of an array at this place, from 0
 abbrev pub member_at : Items → ℕ → Option Data
@@ -146,3 +151,30 @@ abbrev pub FaultsComeInOrder : Type 0
 FaultsComeInOrder = (sites : List Site) (its_type : EventType)
     → ((d e : Data) → HaveSame (order_of its_type) d e → event_of_type sites its_type d ≡ event_of_type sites its_type e)
     × ((d : Data) (flaw : Flaw) → event_of_type sites its_type d ≡ Err flaw → IsFaultBy (order_of its_type) (event_of_type sites its_type) d flaw)
+
+-- of a list of at most 1,000 members something is found where each of them passes; a longer one is refused
+abbrev pub IsLimited : {A : Type 0} → DocField → (Data → Result A Flaw) → Items → Result (List A) Flaw → Type 0
+IsLimited field check items found =
+    (IsOk found ↔ ((count_of items ≤ 1000) × ((place : ℕ) (d : Data) → member_at items place ≡ Some d → IsOk (check d))))
+    × (1000 < count_of items → found ≡ Err (record { field = field; kind = kinds.TooManyEpcs }))
+
+-- lists of items have this limit, and the list of destinations has
+abbrev pub ListsAreLimited : Type 0
+ListsAreLimited =
+    ((field : DocField) (d list : Data) (items : Items) → member_of field d ≡ Some list → as_array list ≡ Some items → IsLimited field (epc_of field) items (epcs_of field d))
+    × ((d list : Data) (items : Items) → member_of fields.DestinationList d ≡ Some list → as_array list ≡ Some items
+    → IsLimited fields.DestinationList destination_of items (destinations_of d))
+
+-- the 64 characters that a site's name may have
+abbrev pub name_characters : List ℕ
+name_characters = codes "-0123456789ABCDEFGHIJKLMNOPQRSTUVWXYZ_abcdefghijklmnopqrstuvwxyz"
+
+-- a site's name is 1 to 16 of these characters, and each such text is one
+abbrev pub SiteNamesAreThese : Type 0
+SiteNamesAreThese = (name : List ℕ) → IsTrue (is_site_name name) ↔ ((1 ≤ length name) × (length name ≤ 16) × All (Contains name_characters) name)
+
+-- a site of a good new name is one too many after 16 sites, or with more than 16 addresses, and not before
+abbrev pub SitesAreLimited : Type 0
+SitesAreLimited = (sites : List Site) (name : List ℕ) (addresses : List (List ℕ))
+    → (sites_fault sites name addresses ≡ Some TooMany)
+    ↔ (IsTrue (is_site_name name) × (named sites name ≡ None) × ((16 ≤ length sites) ⊎ (16 < length addresses)))

@@ -1,5 +1,6 @@
 //! Laws of the definitions, each of which a call ensures.
-ghost use Rattle.event_json.specs.Laws.{EventsAreRead, FirstFaultIsTold, AllPass, DocumentsAreLists, DestinationsAreDealt, DocumentsShipToSites, EqualIsSame, OffsetsAreThese, FaultsComeInOrder};
+ghost use Rattle.std.specs.Prelude.{◌≡◌, length};
+ghost use Rattle.event_json.specs.Laws.{EventsAreRead, FirstFaultIsTold, AllPass, DocumentsAreLists, DestinationsAreDealt, DocumentsShipToSites, EqualIsSame, OffsetsAreThese, FaultsComeInOrder, ListsAreLimited, name_characters, SiteNamesAreThese, SitesAreLimited};
 
 /// What is read of a list are its events, each at its place.
 pub fn events_are_read()
@@ -44,4 +45,16 @@ pub fn offsets()
 /// The fault of an event is that of the first of its members, in their order, that has one.
 pub fn faults_come_in_order()
     ensures { FaultsComeInOrder }
+{}
+
+/// Lists of 1,000 items or destinations pass, and longer ones are refused.
+pub fn lists_are_limited()
+    ensures { ListsAreLimited }
+{}
+
+/// A site's name is 1 to 16 of 64 characters, and 16 sites of 16 addresses can be listed.
+pub fn sites_are_limited()
+    ensures counted { length name_characters ≡ 64 }
+    ensures names { SiteNamesAreThese }
+    ensures sites { SitesAreLimited }
 {}
