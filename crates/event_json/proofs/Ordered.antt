@@ -19,11 +19,11 @@ use Rattle.event_json.specs.declared.doc_faults.Flaw.{Flaw}
 use Rattle.event_json.specs.declared.event_types.EventType.{EventType}
 use Rattle.event_json.specs.declared.event_types.EventType.TheVariants.{Object, Aggregation, Transaction, Transformation, Association}
 use Rattle.event_json.specs.Checks.{without_declaration, without_quantities, instant_of, is_offset, offset_checked, head_of, action_checked, action_named, action_of}
-use Rattle.event_json.specs.EventReading.{parent_of, aggregation_event, shipment, object_event, made, transformation_event, kept, event_of_type}
+use Rattle.event_json.specs.EventReading.{parent_of, aggregation_event, shipment, object_event, made, transformation_event, kept, event_of_type, event_of}
 use Rattle.event_json.specs.Events.{Content}
 use Rattle.event_json.specs.Faults.{◌>>=◌}
 use Rattle.event_json.specs.ItemLists.{limit_checked, epc_of, epcs_of, destination_of, destinations_of}
-use Rattle.event_json.specs.Laws.{order_of, HaveSame, IsFaultBy, FaultsComeInOrder}
+use Rattle.event_json.specs.Laws.{order_of, HaveSame, IsFaultBy, FaultsComeInOrder, TypesComeFirst}
 use Rattle.event_json.specs.Members.{member_of, member_named, or_flaw, text_of, plain_of, identifier_of, list_of, count_of, each}
 use Rattle.event_json.specs.Names.{field_name}
 use Rattle.event_json.specs.Sites.{Site}
@@ -348,3 +348,7 @@ type_read sites Association = nothing None
 
 pub in_order : FaultsComeInOrder
 in_order sites its_type = let reads = type_read sites its_type in (reads.alike, reads.fault)
+
+pub type_first : TypesComeFirst
+unfolding event_of
+type_first sites d = (λ its_type is. rw is refl, λ flaw is. rw is refl)

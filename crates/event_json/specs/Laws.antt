@@ -17,7 +17,7 @@ use Rattle.event_json.specs.declared.doc_faults.DocFaultKind.TheVariants as kind
 use Rattle.event_json.specs.declared.doc_faults.Flaw.{Flaw}
 use Rattle.event_json.specs.declared.doc_faults.DocFault.{DocFault}
 use Rattle.event_json.specs.declared.documents.Doc.{Doc}
-use Rattle.event_json.specs.Checks.{offset_checked}
+use Rattle.event_json.specs.Checks.{event_type, offset_checked}
 use Rattle.event_json.specs.Contents.{same_body, same_content, same_site}
 use Rattle.event_json.specs.Documents.{whole, event_list, events_of, document_of, text_document}
 use Rattle.event_json.specs.EventReading.{event_of, event_of_type, shipment}
@@ -151,6 +151,12 @@ abbrev pub FaultsComeInOrder : Type 0
 FaultsComeInOrder = (sites : List Site) (its_type : EventType)
     → ((d e : Data) → HaveSame (order_of its_type) d e → event_of_type sites its_type d ≡ event_of_type sites its_type e)
     × ((d : Data) (flaw : Flaw) → event_of_type sites its_type d ≡ Err flaw → IsFaultBy (order_of its_type) (event_of_type sites its_type) d flaw)
+
+-- the type of an event is looked at before all of these
+abbrev pub TypesComeFirst : Type 0
+TypesComeFirst = (sites : List Site) (d : Data)
+    → ((its_type : EventType) → event_type d ≡ Ok its_type → event_of sites d ≡ event_of_type sites its_type d)
+    × ((flaw : Flaw) → event_type d ≡ Err flaw → event_of sites d ≡ Err flaw)
 
 -- of a list of at most 1,000 members something is found where each of them passes; a longer one is refused
 abbrev pub IsLimited : {A : Type 0} → DocField → (Data → Result A Flaw) → Items → Result (List A) Flaw → Type 0

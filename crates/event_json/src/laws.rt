@@ -1,6 +1,6 @@
 //! Laws of the definitions, each of which a call ensures.
 ghost use Rattle.std.specs.Prelude.{◌≡◌, length};
-ghost use Rattle.event_json.specs.Laws.{EventsAreRead, FirstFaultIsTold, AllPass, DocumentsAreLists, DestinationsAreDealt, DocumentsShipToSites, EqualIsSame, OffsetsAreThese, FaultsComeInOrder, ListsAreLimited, name_characters, SiteNamesAreThese, SitesAreLimited};
+ghost use Rattle.event_json.specs.Laws.{EventsAreRead, FirstFaultIsTold, AllPass, DocumentsAreLists, DestinationsAreDealt, DocumentsShipToSites, EqualIsSame, OffsetsAreThese, FaultsComeInOrder, TypesComeFirst, ListsAreLimited, name_characters, SiteNamesAreThese, SitesAreLimited};
 
 /// What is read of a list are its events, each at its place.
 pub fn events_are_read()
@@ -42,9 +42,10 @@ pub fn offsets()
     ensures { OffsetsAreThese }
 {}
 
-/// The fault of an event is that of the first of its members, in their order, that has one.
+/// The fault of an event is that of its type, or else of the first of its members, in their order, that has one.
 pub fn faults_come_in_order()
-    ensures { FaultsComeInOrder }
+    ensures first { TypesComeFirst }
+    ensures order { FaultsComeInOrder }
 {}
 
 /// Lists of 1,000 items or destinations pass, and longer ones are refused.
