@@ -1,8 +1,9 @@
 -- What capturing has to mean.
-use Rattle.std.specs.Prelude.{◌≡◌, ◌⊎◌, ℕ, IsTrue, List, [], ◌∷◌, ◌++◌, slice_get, Some}
+use Rattle.std.specs.Prelude.{◌≡◌, ◌⊎◌, ℕ, ◌<◌, IsTrue, List, [], ◌∷◌, ◌++◌, slice_get, Some}
 use Rattle.event_json.specs.Events.{Content}
 use Rattle.frame_core.specs.Numbers.{Recall}
 use Rattle.trace_core.specs.Adding.{Addition}
+use Rattle.trace_core.specs.Laws.{IsItemBelow}
 use Rattle.trace_core.specs.Pairs.{IsRelated}
 use Rattle.trace_core.specs.Sites.{SiteEvents}
 use Rattle.trace_core.specs.declared.pairs.Pair.{Pair}
@@ -47,3 +48,18 @@ BlockedEventsLeadOut =
     (s : SiteEvents) (q : Quarantine) (given : List Content) (place : ℕ) (r : Recall) (i : List ℕ)
     → IsFirstRefused s q given place (blocked r i)
     → (e : Content) × (slice_get given place ≡ Some e) × LeadsOut (site_before s given place) q e r i
+
+-- a recall is below those of higher sites, and those of its site with a higher number
+abbrev pub IsRecallBelow : Recall → Recall → Type 0
+IsRecallBelow r t = (r.site < t.site) ⊎ ((r.site ≡ t.site) × (r.number < t.number))
+
+-- the item is below the other one, or the two are one, and the recall is below the other or the same
+abbrev pub IsNamedBefore : List ℕ → Recall → List ℕ → Recall → Type 0
+IsNamedBefore i r j t = IsItemBelow i j ⊎ ((i ≡ j) × ((r ≡ t) ⊎ IsRecallBelow r t))
+
+-- of all items and recalls for which a blocked event leads out, the refusal names the least item, and the least recall of that item
+abbrev pub BlocksNameTheLeast : Type 0
+BlocksNameTheLeast =
+    (s : SiteEvents) (q : Quarantine) (given : List Content) (place : ℕ) (r : Recall) (i : List ℕ) (e : Content)
+    → IsFirstRefused s q given place (blocked r i) → slice_get given place ≡ Some e
+    → (t : Recall) (j : List ℕ) → LeadsOut (site_before s given place) q e t j → IsNamedBefore i r j t

@@ -29,7 +29,7 @@ differing_less : (front : List ℕ) (a b : ℕ) (more more' : List ℕ) → a < 
 differing_less [] a b more more' l = ap (λ n. ordering_then n (slice_cmp nat_cmp more more')) (lower a b l)
 differing_less (c ∷ front) a b more more' l = after_same c _ Less (differing_less front a b more more' l)
 
-item_less : (i j : List ℕ) → IsItemBelow i j → slice_cmp nat_cmp i j ≡ Less
+pub item_less : (i j : List ℕ) → IsItemBelow i j → slice_cmp nat_cmp i j ≡ Less
 item_less i j (inl h) = ap (λ k. slice_cmp nat_cmp i k) h.longer ∙ beginning_less i h.byte h.more
 item_less i j (inr h) = ap (λ k. slice_cmp nat_cmp k j) h.one ∙ ap (λ k. slice_cmp nat_cmp (h.front ++ h.low ∷ h.more) k) h.other
     ∙ differing_less h.front h.low h.high h.more h.more' h.lower
@@ -48,7 +48,7 @@ behind a b i j is (inr h) = inr (record {
   lower = h.lower;
 })
 
-item_below : (i j : List ℕ) → slice_cmp nat_cmp i j ≡ Less → IsItemBelow i j
+pub item_below : (i j : List ℕ) → slice_cmp nat_cmp i j ≡ Less → IsItemBelow i j
 item_below [] [] e = absurd (true≢false (sym (ap is_lt e)))
 item_below [] (b ∷ j) e = inl (record { byte = b; more = j; longer = refl })
 item_below (a ∷ i) [] e = absurd (true≢false (ap is_gt e))
