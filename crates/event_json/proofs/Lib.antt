@@ -5,8 +5,12 @@ pub mod Destinations
 pub mod Each
 pub mod Gathered
 pub mod Lent
+pub mod ListLimits
 pub mod Lists
 pub mod Carried
 pub mod Plain
 pub mod Listed
+pub mod Offsets
+pub mod Ordered
 pub mod SiteLemmas
+pub mod SiteLimits

@@ -1,22 +1,31 @@
 -- Laws of a document's reading, which any right definition of it meets. They fix what a list of events gives (`events_of`), and what a
 -- document's value gives by its list (`document_of`). They leave open which list a value has (`event_list`), what one event says
 -- (`event_of`), and which value is read of the bytes (`text_document`): these stand by their cases, and by rows of examples in tests.
-use Rattle.std.specs.Prelude.{All, ◌≡◌, ◌↔◌, ℕ, zero, suc, ◌+◌, ◌<◌, ◌≤◌, ◌⊎◌, IsTrue, IsOk, List, [], ◌∷◌, length, slice_get, filter, filter_map, is_none, Option, Some, None, Ok, Err}
+use Rattle.std.specs.Prelude.{All, ◌≡◌, ◌↔◌, ℕ, zero, suc, ◌+◌, ◌<◌, ◌≤◌, ◌⊎◌, IsTrue, IsOk, List, [], ◌∷◌, ◌++◌, length, codes, ⊤, Result, slice_get, filter, filter_map, is_none, Option, Some, None, Ok, Err}
+use Rattle.std.specs.List.{Contains}
 use Rattle.std.specs.Cmp.Lexicographic.{pointwise}
 use Rattle.serde_json.specs.Data.{Data, Items, no_items, item}
+use Rattle.serde_json.specs.Find.{as_array}
 use Rattle.event_json.specs.declared.bodies.Body.{Body}
 use Rattle.event_json.specs.declared.bodies.Body.TheVariants.{Note, Ship}
+use Rattle.event_json.specs.declared.event_types.EventType.{EventType}
+use Rattle.event_json.specs.declared.event_types.EventType.TheVariants.{Object, Aggregation, Transaction, Transformation, Association}
+use Rattle.event_json.specs.declared.doc_faults.DocField.{DocField}
+use Rattle.event_json.specs.declared.site_lists.SitesFault.TheVariants.{TooMany}
 use Rattle.event_json.specs.declared.doc_faults.DocField.TheVariants as fields
 use Rattle.event_json.specs.declared.doc_faults.DocFaultKind.TheVariants as kinds
 use Rattle.event_json.specs.declared.doc_faults.Flaw.{Flaw}
 use Rattle.event_json.specs.declared.doc_faults.DocFault.{DocFault}
 use Rattle.event_json.specs.declared.documents.Doc.{Doc}
+use Rattle.event_json.specs.Checks.{event_type, offset_checked}
 use Rattle.event_json.specs.Contents.{same_body, same_content, same_site}
 use Rattle.event_json.specs.Documents.{whole, event_list, events_of, document_of, text_document}
-use Rattle.event_json.specs.EventReading.{event_of, shipment}
+use Rattle.event_json.specs.EventReading.{event_of, event_of_type, shipment}
 use Rattle.event_json.specs.Events.{Content}
-use Rattle.event_json.specs.Members.{count_of}
-use Rattle.event_json.specs.Sites.{Site, addressed, ShipsAmong}
+use Rattle.event_json.specs.Members.{count_of, member_named, member_of}
+use Rattle.event_json.specs.ItemLists.{epc_of, epcs_of, destination_of, destinations_of}
+use Rattle.event_json.specs.Names.{field_name}
+use Rattle.event_json.specs.Sites.{Site, is_site_name, named, addressed, sites_fault, ShipsAmong}
 
 -- the member of an array at this place, from 0
 abbrev pub member_at : Items → ℕ → Option Data
@@ -91,3 +100,87 @@ DocumentsShipToSites =
 -- the tests of `==` find what is equal
 abbrev pub EqualIsSame : Type 0
 EqualIsSame = ((b c : Body) → IsTrue (same_body b c) ↔ (b ≡ c)) × ((e f : Content) → IsTrue (same_content e f) ↔ (e ≡ f)) × ((s t : List Site) → IsTrue (pointwise same_site s t) ↔ (s ≡ t))
+
+-- the texts of an offset, by the six bytes that they have: `+` or `-`; 00 to 09 or 10 to 14; `:`; 00 to 59
+pub record IsOffsetText (text : List ℕ) : Type 0 where
+  pub sign : ℕ
+  pub tens : ℕ
+  pub hours : ℕ
+  pub ten_minutes : ℕ
+  pub minutes : ℕ
+  pub bytes : text ≡ sign ∷ (48 + tens) ∷ (48 + hours) ∷ 58 ∷ (48 + ten_minutes) ∷ (48 + minutes) ∷ []
+  pub signed : (sign ≡ 43) ⊎ (sign ≡ 45)
+  pub to_14 : ((tens ≡ 0) × (hours ≤ 9)) ⊎ ((tens ≡ 1) × (hours ≤ 4))
+  pub to_59 : (ten_minutes ≤ 5) × (minutes ≤ 9)
+
+-- these texts pass, and all others are refused as offsets
+abbrev pub OffsetsAreThese : Type 0
+OffsetsAreThese = (text : List ℕ)
+    → ((offset_checked text ≡ Ok tt) ↔ IsOffsetText text)
+    × ((offset_checked text ≡ Err (record { field = fields.EventTimeZoneOffset; kind = kinds.Offset })) ↔ (¬ IsOffsetText text))
+
+-- the members of an event of each type in the order in which they are looked at, as the standard spells them
+abbrev pub order_of : EventType → List (List ℕ)
+order_of Object =
+    codes "errorDeclaration" ∷ codes "quantityList" ∷ codes "eventID" ∷ codes "eventTime" ∷ codes "eventTimeZoneOffset" ∷ codes "action"
+    ∷ codes "epcList" ∷ codes "destinationList" ∷ []
+order_of Transformation =
+    codes "errorDeclaration" ∷ codes "inputQuantityList" ∷ codes "outputQuantityList" ∷ codes "eventID" ∷ codes "eventTime" ∷ codes "eventTimeZoneOffset"
+    ∷ codes "inputEPCList" ∷ codes "outputEPCList" ∷ codes "transformationID" ∷ []
+order_of Aggregation =
+    codes "errorDeclaration" ∷ codes "childQuantityList" ∷ codes "eventID" ∷ codes "eventTime" ∷ codes "eventTimeZoneOffset" ∷ codes "action"
+    ∷ codes "parentID" ∷ codes "childEPCs" ∷ []
+order_of Transaction = []
+order_of Association = []
+
+-- both have the same members of these names
+abbrev pub HaveSame : List (List ℕ) → Data → Data → Type 0
+HaveSame [] d e = ⊤
+HaveSame (name ∷ names) d e = (member_named name d ≡ member_named name e) × HaveSame names d e
+
+-- a fault names a member of this order, and comes of it and of those before it: a value that has the same of these has the same
+-- fault, whatever stands in the later ones
+pub record IsFaultBy {A : Type 0} (order : List (List ℕ)) (read : Data → Result A Flaw) (d : Data) (flaw : Flaw) : Type 0 where
+  pub earlier : List (List ℕ)
+  pub later : List (List ℕ)
+  pub stands : order ≡ earlier ++ field_name flaw.field ∷ later
+  pub decides : (e : Data) → HaveSame (earlier ++ field_name flaw.field ∷ []) d e → read e ≡ Err flaw
+
+-- what an event says comes of these members alone, and its fault is the first in their order
+abbrev pub FaultsComeInOrder : Type 0
+FaultsComeInOrder = (sites : List Site) (its_type : EventType)
+    → ((d e : Data) → HaveSame (order_of its_type) d e → event_of_type sites its_type d ≡ event_of_type sites its_type e)
+    × ((d : Data) (flaw : Flaw) → event_of_type sites its_type d ≡ Err flaw → IsFaultBy (order_of its_type) (event_of_type sites its_type) d flaw)
+
+-- the type of an event is looked at before all of these
+abbrev pub TypesComeFirst : Type 0
+TypesComeFirst = (sites : List Site) (d : Data)
+    → ((its_type : EventType) → event_type d ≡ Ok its_type → event_of sites d ≡ event_of_type sites its_type d)
+    × ((flaw : Flaw) → event_type d ≡ Err flaw → event_of sites d ≡ Err flaw)
+
+-- of a list of at most 1,000 members something is found where each of them passes; a longer one is refused
+abbrev pub IsLimited : {A : Type 0} → DocField → (Data → Result A Flaw) → Items → Result (List A) Flaw → Type 0
+IsLimited field check items found =
+    (IsOk found ↔ ((count_of items ≤ 1000) × ((place : ℕ) (d : Data) → member_at items place ≡ Some d → IsOk (check d))))
+    × (1000 < count_of items → found ≡ Err (record { field = field; kind = kinds.TooManyEpcs }))
+
+-- lists of items have this limit, and the list of destinations has
+abbrev pub ListsAreLimited : Type 0
+ListsAreLimited =
+    ((field : DocField) (d list : Data) (items : Items) → member_of field d ≡ Some list → as_array list ≡ Some items → IsLimited field (epc_of field) items (epcs_of field d))
+    × ((d list : Data) (items : Items) → member_of fields.DestinationList d ≡ Some list → as_array list ≡ Some items
+    → IsLimited fields.DestinationList destination_of items (destinations_of d))
+
+-- the 64 characters that a site's name may have
+abbrev pub name_characters : List ℕ
+name_characters = codes "-0123456789ABCDEFGHIJKLMNOPQRSTUVWXYZ_abcdefghijklmnopqrstuvwxyz"
+
+-- a site's name is 1 to 16 of these characters, and each such text is one
+abbrev pub SiteNamesAreThese : Type 0
+SiteNamesAreThese = (name : List ℕ) → IsTrue (is_site_name name) ↔ ((1 ≤ length name) × (length name ≤ 16) × All (Contains name_characters) name)
+
+-- a site of a good new name is one too many after 16 sites, or with more than 16 addresses, and not before
+abbrev pub SitesAreLimited : Type 0
+SitesAreLimited = (sites : List Site) (name : List ℕ) (addresses : List (List ℕ))
+    → (sites_fault sites name addresses ≡ Some TooMany)
+    ↔ (IsTrue (is_site_name name) × (named sites name ≡ None) × ((16 ≤ length sites) ⊎ (16 < length addresses)))

@@ -1,5 +1,6 @@
 //! Laws of the definitions, each of which a call ensures.
-ghost use Rattle.event_json.specs.Laws.{EventsAreRead, FirstFaultIsTold, AllPass, DocumentsAreLists, DestinationsAreDealt, DocumentsShipToSites, EqualIsSame};
+ghost use Rattle.std.specs.Prelude.{◌≡◌, length};
+ghost use Rattle.event_json.specs.Laws.{EventsAreRead, FirstFaultIsTold, AllPass, DocumentsAreLists, DestinationsAreDealt, DocumentsShipToSites, EqualIsSame, OffsetsAreThese, FaultsComeInOrder, TypesComeFirst, ListsAreLimited, name_characters, SiteNamesAreThese, SitesAreLimited};
 
 /// What is read of a list are its events, each at its place.
 pub fn events_are_read()
@@ -34,4 +35,27 @@ pub fn documents_ship_to_sites()
 /// Bodies, events and lists of sites that are compared as equal are the same, and only those.
 pub fn equal_is_same()
     ensures { EqualIsSame }
+{}
+
+/// The texts that pass as offsets of a clock, by their six bytes.
+pub fn offsets()
+    ensures { OffsetsAreThese }
+{}
+
+/// The fault of an event is that of its type, or else of the first of its members, in their order, that has one.
+pub fn faults_come_in_order()
+    ensures first { TypesComeFirst }
+    ensures order { FaultsComeInOrder }
+{}
+
+/// Lists of 1,000 items or destinations pass, and longer ones are refused.
+pub fn lists_are_limited()
+    ensures { ListsAreLimited }
+{}
+
+/// A site's name is 1 to 16 of 64 characters, and 16 sites of 16 addresses can be listed.
+pub fn sites_are_limited()
+    ensures counted { length name_characters ≡ 64 }
+    ensures names { SiteNamesAreThese }
+    ensures sites { SitesAreLimited }
 {}
