@@ -55,7 +55,7 @@ shipment_among sites items destinations =
     by false = all_within sites destinations
 
 -- what was found before it, where a step was made
-after : {A B E : Type 0} (first : Result A E) (rest : A → Result B E) (y : B) → (first >>= rest) ≡ Ok y → (x : A) × (first ≡ Ok x) × (rest x ≡ Ok y)
+pub after : {A B E : Type 0} (first : Result A E) (rest : A → Result B E) (y : B) → (first >>= rest) ≡ Ok y → (x : A) × (first ≡ Ok x) × (rest x ≡ Ok y)
 after (Ok x) rest y is = (x, refl, is)
 after (Err e) rest y is = absurd (let no : ⊥ = cc in no)
 

@@ -14,3 +14,6 @@ pub mod Offsets
 pub mod Ordered
 pub mod SiteLemmas
 pub mod SiteLimits
+pub mod Counted
+pub mod Skipped
+pub mod Aimless

@@ -11,3 +11,5 @@ pub mod Members
 pub mod Names
 pub mod Laws
 pub mod Sites
+pub mod Untraced
+pub mod UntracedLaws

@@ -66,7 +66,7 @@ fn listed(value: &Value) -> Option<&[Value]>
 
 /// The events of a document, one where it is a bare event.
 #[tactic(auto, unfolding(crate::specs::Documents::event_list))]
-fn event_list(value: &Value) -> Result<&[Value], DocFault>
+pub(crate) fn event_list(value: &Value) -> Result<&[Value], DocFault>
     ensures { Shows (λ l. items_view l.now) result (event_list (view value.now)) }
 {
     let Some(text) = type_text(value) else {

@@ -1,6 +1,7 @@
 //! Laws of the definitions, each of which a call ensures.
 ghost use Rattle.std.specs.Prelude.{◌≡◌, length};
 ghost use Rattle.event_json.specs.Laws.{EventsAreRead, FirstFaultIsTold, AllPass, DocumentsAreLists, DestinationsAreDealt, DocumentsShipToSites, EqualIsSame, OffsetsAreThese, FaultsComeInOrder, TypesComeFirst, ListsAreLimited, name_characters, SiteNamesAreThese, SitesAreLimited};
+ghost use Rattle.event_json.specs.UntracedLaws.{SkippedAreCounted, AimlessAreSeen};
 
 /// What is read of a list are its events, each at its place.
 pub fn events_are_read()
@@ -58,4 +59,14 @@ pub fn sites_are_limited()
     ensures counted { length name_characters ≡ 64 }
     ensures names { SiteNamesAreThese }
     ensures sites { SitesAreLimited }
+{}
+
+/// The events of a document that is read are those of a skipped type, which are counted, and those that are kept.
+pub fn skipped_are_counted()
+    ensures { SkippedAreCounted }
+{}
+
+/// An event that ships without a destination is kept as an observation.
+pub fn aimless_are_seen()
+    ensures { AimlessAreSeen }
 {}

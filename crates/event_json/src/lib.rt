@@ -22,6 +22,7 @@ mod site_entries;
 mod site_lists;
 mod site_numbers;
 mod texts;
+mod untraced;
 
 pub use bodies::{Action, Body};
 pub use copies::Copyable;
@@ -33,3 +34,4 @@ pub use sequences::Sequence;
 pub use site_lists::{Sites, SitesFault};
 pub use site_numbers::SiteNo;
 pub use texts::PlainText;
+pub use untraced::{Untraced, read_untraced};

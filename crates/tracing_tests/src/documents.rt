@@ -3,6 +3,7 @@
 mod faults;
 mod readings;
 mod sites;
+mod untraced;
 
 use event_json::{Doc, Event, Sites, SitesFault, read_document};
 use std::alloc::{AllocError, Global};
