@@ -28,6 +28,7 @@ pub mod NewTargets
 pub mod NodeOrder
 pub mod NodeSteps
 pub mod NumberLists
+pub mod OrderLaws
 pub mod PackedSteps
 pub mod PairLaws
 pub mod PairOrder

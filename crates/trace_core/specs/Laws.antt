@@ -1,6 +1,7 @@
 -- Laws of related pairs, of reach and of adding events.
 use Rattle.std.specs.Prelude.{◌≡◌, ◌≢◌, ℕ, ◌+◌, ◌<◌, ◌↔◌, Bool, true, IsTrue, List, [], ◌∷◌, ◌++◌, length, Option, Some, None, Ok, Err, ⊤, Any, AllPairs, Contains, ◌⊎◌}
 use Rattle.std.specs.List.{AllZip}
+use Rattle.std.specs.declared.cmp.Ordering.TheVariants.{Less, Equal, Greater}
 use Rattle.event_json.specs.Events.{Content}
 use Rattle.event_json.specs.declared.bodies.Body.{Body}
 use Rattle.event_json.specs.declared.bodies.Body.TheVariants.{Note, Ship, Make, Pack}
@@ -12,7 +13,7 @@ use Rattle.trace_core.specs.declared.pairs.Pair.{Pair}
 use Rattle.trace_core.specs.Adding.{Addition, adding, standing_among}
 use Rattle.trace_core.specs.Chains.{Related}
 use Rattle.trace_core.specs.PairTests.{is_related}
-use Rattle.trace_core.specs.Pairs.{IsStrictlyAscending, HaveOneId, IsRelated}
+use Rattle.trace_core.specs.Pairs.{pair_cmp, IsStrictlyAscending, HaveOneId, IsRelated}
 use Rattle.trace_core.specs.Relations.{Reaches, Chain, last_of}
 use Rattle.trace_core.specs.Sites.{SiteEvents}
 use Rattle.trace_core.specs.Spreads.{items_of}
@@ -254,3 +255,37 @@ abbrev pub RelatedPairsAreOfTheirSite : Type 0
 RelatedPairsAreOfTheirSite =
     (sites : List SiteEvents) → HaveOwnNumbers sites → (s : SiteEvents) → Contains sites s
     → (p q : Pair) → s.me ≡ p.site → Related sites p q ↔ IsRelated s p.item q
+
+-- the one item is the other's beginning, and the other goes on
+pub record IsBeginning (i j : List ℕ) : Type 0 where
+  pub byte : ℕ
+  pub more : List ℕ
+  pub longer : j ≡ i ++ byte ∷ more
+
+-- the items begin alike, and at their first difference the one has the lower byte
+pub record DiffersBelow (i j : List ℕ) : Type 0 where
+  pub front : List ℕ
+  pub low : ℕ
+  pub high : ℕ
+  pub more : List ℕ
+  pub more' : List ℕ
+  pub one : i ≡ front ++ low ∷ more
+  pub other : j ≡ front ++ high ∷ more'
+  pub lower : low < high
+
+-- an item is below another one in the order of bytes
+abbrev pub IsItemBelow : List ℕ → List ℕ → Type 0
+IsItemBelow i j = IsBeginning i j ⊎ DiffersBelow i j
+
+-- a pair stands before those of higher sites, whatever their items, and before those of its site with an item above its own
+abbrev pub IsPairBefore : Pair → Pair → Type 0
+IsPairBefore p q = (p.site < q.site) ⊎ ((p.site ≡ q.site) × IsItemBelow p.item q.item)
+
+-- the order of pairs is this one
+pub record AreOrdered (p q : Pair) : Type 0 where
+  pub less : (pair_cmp p q ≡ Less) ↔ IsPairBefore p q
+  pub equal : (pair_cmp p q ≡ Equal) ↔ (p ≡ q)
+  pub greater : (pair_cmp p q ≡ Greater) ↔ IsPairBefore q p
+
+abbrev pub PairsAreInOrder : Type 0
+PairsAreInOrder = (p q : Pair) → AreOrdered p q

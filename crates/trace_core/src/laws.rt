@@ -1,7 +1,7 @@
 //! Laws of related pairs, of reach and of adding events, for proofs of the crates above. Each is a function with an
 //! empty body whose contract is the law.
 
-ghost use Rattle.trace_core.specs.Laws.{ReachHasItsRoot, ReachIsClosed, ReachIsLeast, ReachIsInClosedList, ChainFormsAgree, AddingAppends, AddingKeepsAll, FirstTakenIsTold, AddingKeepsFresh, StandingIsRight, StandingByMembers, PackNames, ShipRelates, PackRelates, PackedFollow, MakeRelates, JoinedMakesRelate, RelatedPairsComeFromEvents, OthersAddNothing, PairTestsAgree, RelatedStays, ReachGrows, AscendingListsAgree, RelatedPairsAreOfTheirSite};
+ghost use Rattle.trace_core.specs.Laws.{ReachHasItsRoot, ReachIsClosed, ReachIsLeast, ReachIsInClosedList, ChainFormsAgree, AddingAppends, AddingKeepsAll, FirstTakenIsTold, AddingKeepsFresh, StandingIsRight, StandingByMembers, PackNames, ShipRelates, PackRelates, PackedFollow, MakeRelates, JoinedMakesRelate, RelatedPairsComeFromEvents, OthersAddNothing, PairTestsAgree, RelatedStays, ReachGrows, AscendingListsAgree, RelatedPairsAreOfTheirSite, PairsAreInOrder};
 
 /// A pair reaches itself.
 pub fn reach_has_its_root()
@@ -124,4 +124,9 @@ pub fn ascending_lists_agree()
 /// Where each number has one site, related pairs are those of the pair's site.
 pub fn related_pairs_are_of_their_site()
     ensures { RelatedPairsAreOfTheirSite }
+{}
+
+/// Pairs are in order by their sites, and those of one site by the bytes of their items.
+pub fn pairs_are_in_order()
+    ensures { PairsAreInOrder }
 {}
