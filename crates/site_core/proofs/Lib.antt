@@ -12,6 +12,8 @@ pub mod Documents
 pub mod Entries
 pub mod EventsAmong
 pub mod EventOutcomes
+pub mod FirstBlocks
+pub mod FramesOfOthers
 pub mod Growths
 pub mod Held
 pub mod HeldIndex

@@ -1,8 +1,10 @@
 -- What capturing has to mean.
-use Rattle.std.specs.Prelude.{◌≡◌, ◌⊎◌, ℕ, IsTrue, List, [], ◌∷◌, ◌++◌, slice_get, Some}
+use Rattle.std.specs.Prelude.{◌≡◌, ◌≢◌, ◌⊎◌, Contains, ℕ, ◌<◌, IsTrue, List, [], ◌∷◌, ◌++◌, slice_get, Some}
 use Rattle.event_json.specs.Events.{Content}
+use Rattle.event_json.specs.declared.bodies.Body.TheVariants.{Ship}
 use Rattle.frame_core.specs.Numbers.{Recall}
 use Rattle.trace_core.specs.Adding.{Addition}
+use Rattle.trace_core.specs.Laws.{IsItemBelow}
 use Rattle.trace_core.specs.Pairs.{IsRelated}
 use Rattle.trace_core.specs.Sites.{SiteEvents}
 use Rattle.trace_core.specs.declared.pairs.Pair.{Pair}
@@ -47,3 +49,39 @@ BlockedEventsLeadOut =
     (s : SiteEvents) (q : Quarantine) (given : List Content) (place : ℕ) (r : Recall) (i : List ℕ)
     → IsFirstRefused s q given place (blocked r i)
     → (e : Content) × (slice_get given place ≡ Some e) × LeadsOut (site_before s given place) q e r i
+
+-- a recall is below those of higher sites, and those of its site with a higher number
+abbrev pub IsRecallBelow : Recall → Recall → Type 0
+IsRecallBelow r t = (r.site < t.site) ⊎ ((r.site ≡ t.site) × (r.number < t.number))
+
+-- the item is below the other one, or the two are one, and the recall is below the other or the same
+abbrev pub IsNamedBefore : List ℕ → Recall → List ℕ → Recall → Type 0
+IsNamedBefore i r j t = IsItemBelow i j ⊎ ((i ≡ j) × ((r ≡ t) ⊎ IsRecallBelow r t))
+
+-- of all items and recalls for which a blocked event leads out, the refusal names the least item, and the least recall of that item
+abbrev pub BlocksNameTheLeast : Type 0
+BlocksNameTheLeast =
+    (s : SiteEvents) (q : Quarantine) (given : List Content) (place : ℕ) (r : Recall) (i : List ℕ) (e : Content)
+    → IsFirstRefused s q given place (blocked r i) → slice_get given place ≡ Some e
+    → (t : Recall) (j : List ℕ) → LeadsOut (site_before s given place) q e t j → IsNamedBefore i r j t
+
+-- a shipment of the document lists the item, with another site among its destinations to which nothing sent the item before
+pub record IsShippedAnew (s : SiteEvents) (given : List Content) (place : ℕ) (i : List ℕ) : Type 0 where
+  pub event : Content
+  pub items : List (List ℕ)
+  pub sites : List ℕ
+  pub outside : List (List ℕ)
+  pub to : ℕ
+  pub stands : slice_get given place ≡ Some event
+  pub says : event.body ≡ Ship items sites outside
+  pub listed : Contains items i
+  pub goes : Contains sites to
+  pub elsewhere : to ≢ s.me
+  pub new : IsRelated (site_before s given place) i (record { site = to; item = i }) → ⊥
+
+-- so where an item that is shipped is quarantined under a recall, the refusal names no item above it, and that item under no recall above that
+abbrev pub ShipmentsNameTheLesser : Type 0
+ShipmentsNameTheLesser =
+    (s : SiteEvents) (q : Quarantine) (given : List Content) (place : ℕ) (i j : List ℕ) (r t : Recall)
+    → IsShippedAnew s given place i → IsTrue (held q r i) → IsFirstRefused s q given place (blocked t j)
+    → (IsItemBelow i j → ⊥) × ((i ≡ j) → IsRecallBelow r t → ⊥)

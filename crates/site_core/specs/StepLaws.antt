@@ -1,6 +1,6 @@
 -- What the step of a site has to mean: each effect changes the record in its way, an answer says whether anything
 -- changed, and each input has one outcome.
-use Rattle.std.specs.Prelude.{◌≡◌, ◌≢◌, ◌⊎◌, ◌↔◌, ℕ, ◌+◌, Bool, IsTrue, IsFalse, IsSome, None, Ok, List, length, Contains}
+use Rattle.std.specs.Prelude.{◌≡◌, ◌≢◌, ◌⊎◌, ◌↔◌, ℕ, ◌+◌, ◌<◌, ◌≤◌, ◌^◌, Bool, IsTrue, IsFalse, IsSome, Some, None, Ok, List, length, Contains}
 use Rattle.std.specs.FinMap.{get}
 use Rattle.event_json.specs.Events.{Content}
 use Rattle.event_json.specs.declared.documents.Doc.{Doc}
@@ -113,6 +113,43 @@ MessagesAreForTheSite =
 -- a signal has an effect only for a message of the site
 abbrev pub SignalsAreOfTheSite : Type 0
 SignalsAreOfTheSite = (s t : Record) (m : Message) (by : ℕ) (e : Effects) → Does s (Deliver (frames.Signal m by)) e t → IsOwnMessage s m
+
+-- no message and no recall has this number
+abbrev pub IsOutOfRange : ℕ → Type 0
+IsOutOfRange n = (n ≡ 0) ⊎ (2 ^ 62 < n)
+
+-- a message isn't taken that is for another site, or from this one, or from none of the list, or of a recall that none of the list can have
+-- begun, or whose number or recall's number is 0, or above 2^62
+abbrev pub IsMisdirected : Record → Message → ℕ → Recall → Type 0
+IsMisdirected s m dest r =
+    (dest ≢ s.engagement.me) ⊎ (m.site ≡ s.engagement.me)
+    ⊎ (length s.sites ≤ m.site) ⊎ IsOutOfRange m.number
+    ⊎ (length s.sites ≤ r.site) ⊎ IsOutOfRange r.number
+
+abbrev pub MisdirectedMessagesAreRefused : Type 0
+MisdirectedMessagesAreRefused =
+    (s : Record) (m : Message) (dest : ℕ) (r : Recall) (i : List ℕ)
+    → Refuses s (Deliver (frames.Recall m dest r i)) refusals.NotMine ↔ IsMisdirected s m dest r
+
+-- a signal isn't taken that is for a message of another site, or for one whose number is 0, or above 2^62, or that comes from another site than
+-- the one to which the message goes
+abbrev pub IsSignalOfOthers : Record → Message → ℕ → Type 0
+IsSignalOfOthers s m by =
+    (m.site ≢ s.engagement.me) ⊎ IsOutOfRange m.number
+    ⊎ ((row : Row) × (get s.engagement.outbox m.number ≡ Some row) × (row.dest ≢ by))
+
+abbrev pub SignalsOfOthersAreRefused : Type 0
+SignalsOfOthersAreRefused = (s : Record) (m : Message) (by : ℕ) → Refuses s (Deliver (frames.Signal m by)) refusals.NotMine ↔ IsSignalOfOthers s m by
+
+-- a signal is stale exactly where its message is the site's, its number is from 1 to 2^62, and no row has it
+pub record IsSignalledAlready (s : Record) (m : Message) : Type 0 where
+  pub own : m.site ≡ s.engagement.me
+  pub low : 1 ≤ m.number
+  pub high : m.number ≤ 2 ^ 62
+  pub gone : get s.engagement.outbox m.number ≡ None
+
+abbrev pub StaleSignalsAreOwn : Type 0
+StaleSignalsAreOwn = (s t : Record) (m : Message) (by : ℕ) → Does s (Deliver (frames.Signal m by)) effects.Stale t ↔ (IsSignalledAlready s m × (t ≡ s))
 
 -- One outcome, unless memory runs out.
 

@@ -2,7 +2,7 @@
 //! the law.
 
 ghost use Rattle.site_core.specs.CapturingLaws.{BlockedEventsLeadOut, CapturesLeadNoFurther, EventsHaveAnOutcome};
-ghost use Rattle.site_core.specs.StepLaws.{AnswersTellChanges, CapturesGrow, CapturesKeepTheDocument, ClearsFixes, CountIsFixed, DoneIsNotRefused, EffectsAreFixed, IdleFramesChangeNothing, InputsHaveAnOutcome, MessagesAreForTheSite, MessagesAreTaken, OpensFixes, RefusalsAreFixed, SignalsAreOfTheSite, SignalsClear, StartsOpen, TakesFixes};
+ghost use Rattle.site_core.specs.StepLaws.{AnswersTellChanges, CapturesGrow, CapturesKeepTheDocument, ClearsFixes, CountIsFixed, DoneIsNotRefused, EffectsAreFixed, IdleFramesChangeNothing, InputsHaveAnOutcome, MessagesAreForTheSite, MessagesAreTaken, MisdirectedMessagesAreRefused, OpensFixes, RefusalsAreFixed, SignalsAreOfTheSite, SignalsClear, SignalsOfOthersAreRefused, StaleSignalsAreOwn, StartsOpen, TakesFixes};
 
 /// A document that is captured is kept, and is so many fresh events, one after another, none of which leads a
 /// quarantined item to a pair that isn't at this site and quarantined under the same recall. An event is
@@ -51,6 +51,16 @@ pub fn an_answer_tells_a_change()
 pub fn frames_are_for_their_site()
     ensures messages { MessagesAreForTheSite }
     ensures signals { SignalsAreOfTheSite }
+{}
+
+/// Which frames are refused as not the site's: messages that go to another site or come from this one, signals
+/// for messages of another site or from another one than the message went to, and those whose sites aren't of
+/// the list or whose numbers are 0 or above 2^62. A signal is stale only for a message that the site can have
+/// sent.
+pub fn frames_of_others_are_refused()
+    ensures messages { MisdirectedMessagesAreRefused }
+    ensures signals { SignalsOfOthersAreRefused }
+    ensures stale { StaleSignalsAreOwn }
 {}
 
 /// Unless memory runs out, an input has one outcome: one effect that leaves one record, or one reason
