@@ -1,6 +1,7 @@
 -- The rows of addresses that stand in no record's rows.
 use Rattle.std.specs.Prelude.{◌≡◌, ◌⊎◌, ℕ, ℤ, pos, ◌-ℤ◌, ◌+◌, ◌<◌, ⊤, Any, List, take, Some, slice_get}
 use Rattle.std.specs.declared.cmp.Ordering.TheVariants.{Less}
+use Rattle.event_json.specs.declared.limits.TheConstants.{MAX_ADDRESSES}
 use Rattle.site_rows.specs.BadRows.{IsSiteNumber}
 use Rattle.site_rows.specs.Texts.{IsPlainText, text_cmp}
 use Rattle.site_rows.specs.declared.reading_entries.TableFault.{TableFault}
@@ -14,7 +15,7 @@ Stands rows site place = Any (λ r. (r.site ≡ site) × (r.place ≡ place)) ro
 -- a place among the addresses of a site, 0 to 15
 pub record IsPlace (n : ℤ) (place : ℕ) : Type 0 where
   pub place_of : n ≡ pos place
-  pub small : place < 16
+  pub small : place < MAX_ADDRESSES
 
 -- the row at place k, from 0, is one of an address of one of so many sites: its text is plain and UTF-8, its
 -- place is 0 to 15, no row before it is of the same place, the place before it has a row too, and its text comes after the

@@ -5,6 +5,7 @@ use Rattle.std.specs.FinMap.{FinMap, entries}
 use Rattle.std.specs.Ordering.{nat_cmp}
 use Rattle.std.specs.declared.cmp.Ordering.{Ordering}
 use Rattle.event_json.specs.Sites.{Site, AreSites}
+use Rattle.event_json.specs.declared.limits.TheConstants.{MAX_SITES}
 use Rattle.frame_core.specs.Identifiers.{recall_cmp, message_cmp}
 use Rattle.frame_core.specs.Numbers.{Recall, Message}
 use Rattle.frame_core.specs.Unsignalled.{IsNextNumber}
@@ -78,7 +79,7 @@ pub record IsItemRow (text i : List ℕ) : Type 0 where
 -- the one row of `store`: the number of the version, a site of the table `site` whose number is 0 to 15, and next numbers 1 to 2^62 + 1
 pub record IsStore (version : Version) (sites : List SiteRow) (rows : List StoreRow) (n : StoreNumbers) : Type 0 where
   pub same : rows ≡ record { version = version_number version; me = pos n.me; next_message = pos n.next_message; next_recall = pos n.next_recall } ∷ []
-  pub small : n.me < 16
+  pub small : n.me < MAX_SITES
   pub listed : Any (λ s. s.no ≡ pos n.me) sites
   pub next_message : IsNextNumber n.next_message
   pub next_recall : IsNextNumber n.next_recall

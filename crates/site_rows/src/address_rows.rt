@@ -10,7 +10,7 @@ ghost use Rattle.site_rows.specs.Texts.{text_cmp};
 use crate::numbers::stored;
 use crate::rows::{AddressRow, SiteRow};
 use crate::texts::Text;
-use event_json::{Sequence, SiteNo, Sites};
+use event_json::{MAX_ADDRESSES, Sequence, SiteNo, Sites};
 use std::alloc::{AllocError, Global};
 use std::collections::BTreeMap;
 
@@ -24,7 +24,7 @@ pub struct Address {
 }
 
 /// The most addresses of a site.
-pub(crate) const ADDRESSES: u64 = 16;
+pub(crate) const ADDRESSES: u64 = MAX_ADDRESSES as u64;
 
 /// The name of the site of a number.
 pub(crate) fn name_at(sites: &Sites, number: u64) -> Option<&str>

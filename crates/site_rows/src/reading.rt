@@ -2,6 +2,7 @@
 ghost use Rattle.std.specs.Prelude.{◌≡◌, ◌≤◌, ◌∷◌, [], flat_map, length, map, All, IfOk, IfErr, MatchResult};
 ghost use Rattle.std.specs.FinMap.{entries};
 ghost use Rattle.std.specs.List.{enumerate_from};
+ghost use Rattle.event_json.specs.declared.limits.TheConstants.{MAX_SITES};
 ghost use Rattle.frame_core.specs.Unsignalled.{IsNextNumber};
 ghost use Rattle.site_core.specs.Records.{IsEngagementAmong, Record};
 ghost use Rattle.site_rows.specs.Laws.{HasTexts, HoldsItems, IsEventAmong, IsKept, NamesItems};
@@ -166,7 +167,7 @@ fn diffusion_of(
     sites: u64,
     rows: &Rows,
 ) -> Result<Diffusion, StateFault>
-    requires few { sites ≤ 16 }
+    requires few { sites ≤ MAX_SITES }
     requires count { sites ≡ length rows.now.site }
     requires next_message { IsNextNumber numbers.next_message }
     requires next_recall { IsNextNumber numbers.next_recall }

@@ -13,11 +13,11 @@ use crate::reading_addresses::check_addresses;
 use crate::reading_entries::TableFault;
 use crate::reading_numbers::natural;
 use crate::rows::AddressRow;
-use event_json::{Sites, SitesFault};
+use event_json::{MAX_ADDRESSES, Sites, SitesFault};
 use std::alloc::{AllocError, Global};
 
 /// The most addresses of a site.
-const ADDRESSES: u64 = 16;
+const ADDRESSES: u64 = MAX_ADDRESSES as u64;
 
 /// The sites of these names, with the addresses of the rows.
 ///

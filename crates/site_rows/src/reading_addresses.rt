@@ -1,6 +1,7 @@
 //! The rows of the addresses, tested.
 ghost use Rattle.std.specs.Prelude.{◌≡◌, ◌≤◌, ◌↔◌, ◌⊎◌, ◌+◌, pos, ◌-ℤ◌, ℕ, Some, take, slice_get, IfErr, IsTrue, IsSome, OnOk};
 ghost use Rattle.std.specs.declared.cmp.Ordering.TheVariants.{Less};
+ghost use Rattle.event_json.specs.declared.limits.TheConstants.{MAX_SITES};
 ghost use Rattle.site_rows.specs.BadAddresses.{IsAddress, IsAddressFault, IsAddressTable, IsPlace, Stands};
 ghost use Rattle.site_rows.specs.BadRows.{IsSiteNumber};
 ghost use Rattle.site_rows.specs.Texts.{text_cmp};
@@ -9,10 +10,11 @@ use crate::reading_entries::TableFault;
 use crate::reading_numbers::site_of;
 use crate::reading_texts::is_plain_text;
 use crate::rows::AddressRow;
+use event_json::MAX_ADDRESSES;
 use std::cmp::Ordering;
 
 /// The most addresses of a site.
-const ADDRESSES: i64 = 16;
+const ADDRESSES: i64 = MAX_ADDRESSES as i64;
 
 /// Tests that the rows are those of addresses of so many sites. Does not allocate.
 ///
@@ -20,7 +22,7 @@ const ADDRESSES: i64 = 16;
 /// The first row that is no address's: its text isn't plain and UTF-8 or doesn't come after the text before it, its site
 /// isn't one of these, its place is not 0 to 15, an earlier row is of the same place, or no row is of the place before it.
 pub(crate) fn check_addresses(sites: u64, rows: &[AddressRow]) -> Result<(), TableFault>
-    requires few { sites ≤ 16 }
+    requires few { sites ≤ MAX_SITES }
     ensures good { OnOk result (IsAddressTable sites rows.now) }
     ensures bad { IfErr result (λ fault. IsAddressFault sites rows.now fault) }
 {
@@ -34,7 +36,7 @@ pub(crate) fn check_addresses(sites: u64, rows: &[AddressRow]) -> Result<(), Tab
 
 /// Whether the row at a place is one of an address.
 fn is_address(sites: u64, rows: &[AddressRow], place: usize, row: &AddressRow) -> bool
-    requires few { sites ≤ 16 }
+    requires few { sites ≤ MAX_SITES }
     requires there { slice_get rows.now place ≡ Some row.now }
     ensures { IsTrue result ↔ IsAddress sites rows.now place row.now }
 {

@@ -7,11 +7,11 @@ use crate::event_rows::{INPUT, ITEM, OUTPUT, OUTSIDE, SITE};
 use crate::reading_lists::{ListKey, list_at};
 use crate::rows::PartRow;
 use epc_core::Epc;
-use event_json::{Body, PlainText, Sequence, SiteNo, Sites};
+use event_json::{Body, MAX_LIST_MEMBERS, PlainText, Sequence, SiteNo, Sites};
 use std::alloc::{AllocError, Global};
 
 /// The most members of a list, and the most destinations.
-const MEMBERS: u64 = 1000;
+const MEMBERS: u64 = MAX_LIST_MEMBERS as u64;
 
 /// The items that were seen in an event.
 pub(crate) fn note_at(

@@ -1,6 +1,7 @@
 //! A table whose rows are the entries of a map, read back.
 ghost use Rattle.std.specs.Prelude.{◌≡◌, ◌≤◌, ◌↔◌, ◌++◌, ◌∷◌, [], T, IfOk, IfErr, IsTrue};
 ghost use Rattle.std.specs.FinMap.{is_sorted};
+ghost use Rattle.event_json.specs.declared.limits.TheConstants.{MAX_SITES};
 ghost use Rattle.frame_core.specs.Tables.{as_map};
 ghost use Rattle.site_rows.specs.BadRows.{AreOfMap, IsFaultOf, Match, StandForOne};
 ghost use Rattle.site_rows.specs.Appending.{IsAppended};
@@ -44,7 +45,7 @@ pub(crate) trait EntryRow<K: Key, V: Drop> {
         sites: u64,
         entries: &mut BTreeMap<K, V>,
     ) -> Result<bool, AllocError>
-        requires few { sites ≤ 16 }
+        requires few { sites ≤ MAX_SITES }
         ensures { IfOk result (λ added. IsAdded K.cmp (is sites self.now) entries.old.entries entries.new.entries added) };
 }
 
@@ -57,7 +58,7 @@ pub(crate) fn entries_of<K: Key, V: Drop, R: EntryRow<K, V>>(
     sites: u64,
     rows: &[R],
 ) -> Result<BTreeMap<K, V>, TableFault>
-    requires few { sites ≤ 16 }
+    requires few { sites ≤ MAX_SITES }
     requires one { StandForOne (R.is sites) }
     ensures read { IfOk result (λ map. Match (R.is sites) rows.now map.entries) }
     ensures ascending { IfOk result (λ map. T (is_sorted K.cmp map.entries)) }

@@ -1,6 +1,7 @@
 //! The rows of what is quarantined, read back.
 ghost use Rattle.std.specs.Prelude.{◌≡◌, ◌≤◌, ◌↔◌, ◌++◌, ◌∷◌, [], T, IfOk, IfErr, IfSome, IsNone, IsSome, IsTrue, flat_map};
 ghost use Rattle.std.specs.FinMap.{entries, get, is_sorted};
+ghost use Rattle.event_json.specs.declared.limits.TheConstants.{MAX_SITES};
 ghost use Rattle.frame_core.specs.Numbers.{Recall};
 ghost use Rattle.site_core.specs.Quarantines.{HasNoEmptySet};
 ghost use Rattle.site_core.specs.Records.{IsRecallAmong};
@@ -28,7 +29,7 @@ pub(crate) fn quarantine_of(
     sites: u64,
     rows: &[QuarantineRow],
 ) -> Result<Quarantine, TableFault>
-    requires few { sites ≤ 16 }
+    requires few { sites ≤ MAX_SITES }
     ensures rows { IfOk result (λ q. rows.now ≡ flat_map quarantine_rows (entries q)) }
     ensures among { IfOk result (λ q. (r : Recall) → IsSome (get q r) → IsRecallAmong sites r) }
     ensures no_empty_set { IfOk result HasNoEmptySet }
@@ -53,7 +54,7 @@ fn add_held(
     row: &QuarantineRow,
     quarantine: &mut Quarantine,
 ) -> Result<bool, AllocError>
-    requires few { sites ≤ 16 }
+    requires few { sites ≤ MAX_SITES }
     ensures { IfOk result (λ added. IsAdded held_cmp (IsHeldEntry sites row.now) (all_held quarantine.old) (all_held quarantine.new) added) }
 {
     let Some(held) = held_row(alloc, sites, row)? else {
@@ -70,7 +71,7 @@ fn held_row(
     sites: u64,
     row: &QuarantineRow,
 ) -> Result<Option<(RecallId, Epc)>, AllocError>
-    requires few { sites ≤ 16 }
+    requires few { sites ≤ MAX_SITES }
     ensures { IfOk result (λ held. Tells held (λ p. IsHeldRow sites row.now p.0 p.1)) }
 {
     let Some(recall) = recall_of(sites, row.recall_site, row.recall_no) else {

@@ -1,5 +1,6 @@
 //! Numbers, recalls, messages and items of rows, read back.
 ghost use Rattle.std.specs.Prelude.{◌≡◌, ◌≤◌, pos, IfOk};
+ghost use Rattle.event_json.specs.declared.limits.TheConstants.{MAX_SITES};
 ghost use Rattle.frame_core.specs.Unsignalled.{IsNextNumber};
 ghost use Rattle.site_core.specs.Records.{IsNumber};
 ghost use Rattle.site_rows.specs.BadRows.{Tells, IsSiteNumber, IsRecallRow, IsMessageRow, IsItemRow};
@@ -23,7 +24,7 @@ pub(crate) fn natural(number: i64) -> Option<u64>
 
 /// The site of a number, where there are so many sites.
 pub(crate) fn site_of(sites: u64, number: i64) -> Option<SiteNo>
-    requires few { sites ≤ 16 }
+    requires few { sites ≤ MAX_SITES }
     ensures { Tells result (IsSiteNumber sites number) }
 {
     match natural(number) {
@@ -54,7 +55,7 @@ pub(crate) fn next_number_of(number: i64) -> Option<u64>
 
 /// The recall of a site and a number.
 pub(crate) fn recall_of(sites: u64, site: i64, number: i64) -> Option<RecallId>
-    requires few { sites ≤ 16 }
+    requires few { sites ≤ MAX_SITES }
     ensures { Tells result (IsRecallRow sites site number) }
 {
     match (site_of(sites, site), number_of(number)) {
@@ -65,7 +66,7 @@ pub(crate) fn recall_of(sites: u64, site: i64, number: i64) -> Option<RecallId>
 
 /// The message of a sender and a number.
 pub(crate) fn message_of(sites: u64, sender: i64, number: i64) -> Option<MsgId>
-    requires few { sites ≤ 16 }
+    requires few { sites ≤ MAX_SITES }
     ensures { Tells result (IsMessageRow sites sender number) }
 {
     match (site_of(sites, sender), number_of(number)) {

@@ -2,6 +2,7 @@
 ghost use Rattle.std.specs.Prelude.{◌≡◌, ◌≤◌, ◌↔◌, ℕ, All, List, None, length, pos, slice_get, IfOk, IsTrue};
 ghost use Rattle.event_json.specs.Contents.{number_of};
 ghost use Rattle.event_json.specs.declared.bodies.Body.TheVariants.{Pack};
+ghost use Rattle.event_json.specs.declared.limits.TheConstants.{MAX_LIST_MEMBERS};
 ghost use Rattle.site_rows.specs.BadRows.{Tells};
 ghost use Rattle.site_rows.specs.PartsInTurn.{ArePacksRead, IsBodyRead, IsHead, IsHeadOf, IsReadBy, packed_event};
 ghost use Rattle.site_rows.specs.RecordRows.{packed_rows};
@@ -13,11 +14,11 @@ use crate::reading_texts::item_of_key;
 use crate::rows::{PackRow, PackedRow};
 use crate::texts::Text;
 use epc_core::Epc;
-use event_json::{Action, Body, Sequence, Sites};
+use event_json::{Action, Body, MAX_LIST_MEMBERS, Sequence, Sites};
 use std::alloc::{AllocError, Global};
 
 /// The most children of an event.
-const CHILDREN: u64 = 1000;
+const CHILDREN: u64 = MAX_LIST_MEMBERS as u64;
 
 /// Where the rows of `pack` were read to.
 #[derive(Clone, Copy, Debug)]
@@ -78,7 +79,7 @@ fn head_at(
 ) -> Result<Head, AllocError>
     requires within { read.old.at ≤ length rows.now }
     ensures head { IfOk result (λ head. IsHead head.action head.parent) }
-    ensures read { IfOk result (λ head. (sites : ℕ) (children : List (List ℕ)) → length children ≤ 1000 → All IsItemText children → ArePacksRead sites event (pos 3) None rows.now read.old.at read.new.at read.old.is_bad read.new.is_bad (Pack head.action head.parent children)) }
+    ensures read { IfOk result (λ head. (sites : ℕ) (children : List (List ℕ)) → length children ≤ MAX_LIST_MEMBERS → All IsItemText children → ArePacksRead sites event (pos 3) None rows.now read.old.at read.new.at read.old.is_bad read.new.is_bad (Pack head.action head.parent children)) }
 {
     if read.is_bad {
         return Ok(any_head());

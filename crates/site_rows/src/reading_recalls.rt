@@ -2,6 +2,7 @@
 ghost use Rattle.std.specs.Prelude.{◌≡◌, ◌≤◌, ℕ, Some, map, IfOk, IfErr};
 ghost use Rattle.std.specs.FinMap.{entries, get};
 ghost use Rattle.std.specs.Ordering.{nat_cmp};
+ghost use Rattle.event_json.specs.declared.limits.TheConstants.{MAX_SITES};
 ghost use Rattle.frame_core.specs.Identifiers.{recall_cmp, message_cmp};
 ghost use Rattle.frame_core.specs.Numbers.{Recall, Message};
 ghost use Rattle.frame_core.specs.Tables.{as_map};
@@ -45,7 +46,7 @@ fn outbox_entry(
     sites: u64,
     row: &OutboxRow,
 ) -> Result<Option<(u64, Row)>, AllocError>
-    requires few { sites ≤ 16 }
+    requires few { sites ≤ MAX_SITES }
     ensures { IfOk result (λ e. Tells e (λ e. IsOutboxEntry sites row.now e.0 e.1)) }
 {
     let Some(number) = number_of(row.number) else {
@@ -84,7 +85,7 @@ impl EntryRow<MsgId, RecallId> for SeenRow {
 
 /// The entry of a row.
 fn seen_entry(sites: u64, row: &SeenRow) -> Option<(MsgId, RecallId)>
-    requires few { sites ≤ 16 }
+    requires few { sites ≤ MAX_SITES }
     ensures { Tells result (λ e. IsSeenEntry sites row.now e.0 e.1) }
 {
     let message = message_of(sites, row.sender, row.number);
@@ -116,7 +117,7 @@ impl EntryRow<RecallId, MsgId> for ParentRow {
 
 /// The entry of a row.
 fn parent_entry(sites: u64, row: &ParentRow) -> Option<(RecallId, MsgId)>
-    requires few { sites ≤ 16 }
+    requires few { sites ≤ MAX_SITES }
     ensures { Tells result (λ e. IsParentEntry sites row.now e.0 e.1) }
 {
     let under = recall_of(sites, row.recall_site, row.recall_no);
@@ -172,7 +173,7 @@ pub(crate) fn outbox_of(
     sites: u64,
     rows: &[OutboxRow],
 ) -> Result<BTreeMap<u64, Row>, TableFault>
-    requires few { sites ≤ 16 }
+    requires few { sites ≤ MAX_SITES }
     ensures rows { IfOk result (λ m. rows.now ≡ map outbox_row (entries (as_map nat_cmp m))) }
     ensures among { IfOk result (λ m. (n : ℕ) (row : Row) → get (as_map nat_cmp m) n ≡ Some row → IsRowAmong sites n row × IsItemText row.item) }
     ensures bad { IfErr result (λ fault. IsFaultOf (IsOutboxTable sites) rows.now fault) }
@@ -189,7 +190,7 @@ pub(crate) fn seen_of(
     sites: u64,
     rows: &[SeenRow],
 ) -> Result<BTreeMap<MsgId, RecallId>, TableFault>
-    requires few { sites ≤ 16 }
+    requires few { sites ≤ MAX_SITES }
     ensures rows { IfOk result (λ m. rows.now ≡ map seen_row (entries (as_map message_cmp m))) }
     ensures among { IfOk result (λ t. (m : Message) (r : Recall) → get (as_map message_cmp t) m ≡ Some r → IsMessageAmong sites m × IsRecallAmong sites r) }
     ensures bad { IfErr result (λ fault. IsFaultOf (IsSeenTable sites) rows.now fault) }
@@ -206,7 +207,7 @@ pub(crate) fn parents_of(
     sites: u64,
     rows: &[ParentRow],
 ) -> Result<BTreeMap<RecallId, MsgId>, TableFault>
-    requires few { sites ≤ 16 }
+    requires few { sites ≤ MAX_SITES }
     ensures rows { IfOk result (λ m. rows.now ≡ map parent_row (entries (as_map recall_cmp m))) }
     ensures among { IfOk result (λ t. (r : Recall) (m : Message) → get (as_map recall_cmp t) r ≡ Some m → IsRecallAmong sites r × IsMessageAmong sites m) }
     ensures bad { IfErr result (λ fault. IsFaultOf (IsParentTable sites) rows.now fault) }

@@ -9,11 +9,11 @@ use crate::reading_entries::TableFault;
 use crate::reading_numbers::{natural, next_number_of, site_of};
 use crate::rows::{SiteRow, StoreRow};
 use crate::tables::Version;
-use event_json::{SiteNo, Sites, SitesFault};
+use event_json::{MAX_SITES, SiteNo, Sites, SitesFault};
 use std::alloc::{AllocError, Global};
 
 /// The most sites.
-const SITES: u64 = 16;
+const SITES: u64 = MAX_SITES as u64;
 
 /// What the row of the site itself says.
 #[derive(Clone, Copy, Debug, PartialEq, Eq)]
