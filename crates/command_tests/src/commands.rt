@@ -4,7 +4,7 @@ ghost use Rattle.std.specs.Prelude.{◌≤◌};
 use crate::numbers::site;
 use frame_core::{Frame, MsgId};
 use keeper_core::{Keep, MemoryKeeper, SiteKeeper};
-use site_commands::{
+use folder_commands::{
     Answer, Documents, Fault, Files, audit_sites, capture, capture_documents, init, report_recall,
     run_sites, start,
 };

@@ -1,8 +1,8 @@
 //! The program's commands on words and streams in memory.
 
 use keeper_core::MemoryKeeper;
-use recall_commands::run_command;
-use site_commands::{Fault, Files};
+use command_line::run_command;
+use folder_commands::{Fault, Files};
 use site_core::SiteState;
 use site_threads::FreeGate;
 use std::alloc::{AllocError, Global};

@@ -1,6 +1,6 @@
 //! What is known of a failure of a file.
 
-use site_commands::Fault;
+use folder_commands::Fault;
 use site_rows::{BadRow, Table};
 use sqlite::Error as DatabaseError;
 use std::fmt;

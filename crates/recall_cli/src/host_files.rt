@@ -10,7 +10,7 @@ use crate::stores::{
     FileConnection, FileSite, close, close_connection, known_of_step, unfound, unmade, unopened,
 };
 use keeper_core::SiteKeeper;
-use site_commands::{Fault, Files};
+use folder_commands::{Fault, Files};
 use site_core::SiteState;
 use site_store::StoredSite;
 use sqlite::{Connection, Options, Wary};

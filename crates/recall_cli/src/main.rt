@@ -14,7 +14,7 @@ mod stores;
 
 use host_files::HostFiles;
 use progress::{Progress, TellingGate};
-use recall_commands::{BAD_COMMAND_LINE, FAULT, run_command};
+use command_line::{BAD_COMMAND_LINE, FAULT, run_command};
 use std::env;
 use std::hash::RandomState;
 use std::io::{self, ErrorKind};

@@ -4,7 +4,7 @@ use Rattle.std.specs.List.{range_with_len}
 use Rattle.std.proofs.lemmas.Option.{same_Some, slice_get-get_or, get_or_from_slice_get}
 use Rattle.site_threads.specs.declared.jobs.Entry.{Entry}
 use Rattle.site_threads.specs.declared.jobs.Receipt.{Receipt}
-use Rattle.site_threads.specs.declared.lists.SiteList.{SiteList}
+use Rattle.site_threads.specs.declared.lists.RunLog.{RunLog}
 use Rattle.site_threads.specs.Gathering.{IsConfirmed}
 use Rattle.site_threads.specs.Jobs.{AreNumbered, IsEntered, entry_of}
 
@@ -33,8 +33,8 @@ just_there xs x y b all within is same =
 
 -- of all sites
 
-pub list_there : (ls : List SiteList) (site : ℕ) (l : SiteList) (x : Receipt) (b : Bool) → x.site ≡ site → slice_get ls site ≡ Some l → IsTrue b ↔ IsEntered l.entries.items x → IsTrue b ↔ IsConfirmed ls x
+pub list_there : (ls : List RunLog) (site : ℕ) (l : RunLog) (x : Receipt) (b : Bool) → x.site ≡ site → slice_get ls site ≡ Some l → IsTrue b ↔ IsEntered l.entries.items x → IsTrue b ↔ IsConfirmed ls x
 list_there ls site l x b at there same = (
   λ yes. (l, ap (slice_get ls) at ∙ there, same.0 yes),
-  λ h. same.1 (subst (λ (m : SiteList). IsEntered m.entries.items x) (same_Some h.0 l (sym h.1 ∙ ap (slice_get ls) at ∙ there)) h.2),
+  λ h. same.1 (subst (λ (m : RunLog). IsEntered m.entries.items x) (same_Some h.0 l (sym h.1 ∙ ap (slice_get ls) at ∙ there)) h.2),
 )

@@ -13,7 +13,7 @@ use Rattle.crossbeam_channel.specs.Ends.{receives_on}
 use Rattle.site_threads.specs.declared.desks.DeskOut.{DeskOut}
 use Rattle.site_threads.specs.declared.gather.GatherCause.{GatherCause}
 use Rattle.site_threads.specs.declared.gather.GatherCause.TheVariants.{NotAWorld, NoMemory, SiteLost, GaveUp}
-use Rattle.site_threads.specs.declared.lists.SiteList.{SiteList}
+use Rattle.site_threads.specs.declared.lists.RunLog.{RunLog}
 use Rattle.site_threads.specs.declared.jobs.Entry.{Entry}
 use Rattle.site_threads.specs.declared.jobs.Job.{Job}
 use Rattle.site_threads.specs.declared.runs.SiteRun.{SiteRun}
@@ -86,7 +86,7 @@ module _ {K G : Type 0} (shown : K → Option Record) (may : K → Record → Ty
   opened : (old run : SiteRun K G) (k : K) → Ran shown may stored reopens gives_up wire most old run → HasKeeper run k → run.fault ≡ None → (r : Record) × (shown k ≡ Some r)
   opened old run k ran is fine = shown_record (shown k) (subst (λ (o : Option K). IsSome (shown_in shown o)) is (ran.is_open fine))
 
-  kept_one : (old run : SiteRun K G) (k : K) (l : SiteList) → Ran shown may stored reopens gives_up wire most old run → HasKeeper run k → LeavesList run l → run.fault ≡ None → IsKept shown k l
+  kept_one : (old run : SiteRun K G) (k : K) (l : RunLog) → Ran shown may stored reopens gives_up wire most old run → HasKeeper run k → LeavesList run l → run.fault ≡ None → IsKept shown k l
   kept_one old run k l ran is left fine =
       let o = opened old run k ran is fine in
       let h = subst (λ (x : Option Record). Holding x (may_in may run.turn.site.keeper) run.turn.site.start.value run.turn.site.entries.items ran.run.site.runs.log) (ap (shown_in shown) is ∙ o.1) ran.run.site.runs.holding in
@@ -100,7 +100,7 @@ module _ {K G : Type 0} (shown : K → Option Record) (may : K → Record → Ty
         };
       }
 
-  pub kept_all : (olds runs : List (SiteRun K G)) (ks : List K) (ls : List SiteList) → AllZip (Ran shown may stored reopens gives_up wire most) olds runs → AllZip HasKeeper runs ks → AllZip LeavesList runs ls → first_cause runs ≡ None → AllZip (IsKept shown) ks ls
+  pub kept_all : (olds runs : List (SiteRun K G)) (ks : List K) (ls : List RunLog) → AllZip (Ran shown may stored reopens gives_up wire most) olds runs → AllZip HasKeeper runs ks → AllZip LeavesList runs ls → first_cause runs ≡ None → AllZip (IsKept shown) ks ls
   kept_all [] [] [] [] a b c none = tt
   kept_all (o ∷ os) (r ∷ rs) (k ∷ ks) (l ∷ ls) a b c none =
       let n = neither (cause_of r.turn.site.me r.fault) (first_cause rs) none in
@@ -112,7 +112,7 @@ module _ {K G : Type 0} (shown : K → Option Record) (may : K → Record → Ty
   kept_all (o ∷ os) (r ∷ rs) [] ls a b c none = absurd b
   kept_all (o ∷ os) (r ∷ rs) (k ∷ ks) [] a b c none = absurd c
 
-  turned_one : (old run : SiteRun K G) (k : K) (l : SiteList) → IsReady shown may wire old → Ran shown may stored reopens gives_up wire most old run → HasKeeper run k → LeavesList run l → run.fault ≡ None → HasTurned shown most k l
+  turned_one : (old run : SiteRun K G) (k : K) (l : RunLog) → IsReady shown may wire old → Ran shown may stored reopens gives_up wire most old run → HasKeeper run k → LeavesList run l → run.fault ≡ None → HasTurned shown most k l
   turned_one old run k l ready ran is left fine = record {
     asked = let few : run.turn.turns ≤ most = let none = ready.unasked in let more = ran.asked in omega (arith, none, more) in subst (λ (n : ℕ). n ≤ most) (sym left.turns) few;
     all = elim (ran.all fine) [
@@ -127,7 +127,7 @@ module _ {K G : Type 0} (shown : K → Option Record) (may : K → Record → Ty
     ];
   }
 
-  pub turned_all : (olds runs : List (SiteRun K G)) (ks : List K) (ls : List SiteList) → All (IsReady shown may wire) olds → AllZip (Ran shown may stored reopens gives_up wire most) olds runs → AllZip HasKeeper runs ks → AllZip LeavesList runs ls → first_cause runs ≡ None → AllZip (HasTurned shown most) ks ls
+  pub turned_all : (olds runs : List (SiteRun K G)) (ks : List K) (ls : List RunLog) → All (IsReady shown may wire) olds → AllZip (Ran shown may stored reopens gives_up wire most) olds runs → AllZip HasKeeper runs ks → AllZip LeavesList runs ls → first_cause runs ≡ None → AllZip (HasTurned shown most) ks ls
   turned_all [] [] [] [] ready a b c none = tt
   turned_all (o ∷ os) (r ∷ rs) (k ∷ ks) (l ∷ ls) ready a b c none =
       let n = neither (cause_of r.turn.site.me r.fault) (first_cause rs) none in (
@@ -225,7 +225,7 @@ module _ {K G : Type 0} (shown : K → Option Record) (may : K → Record → Ty
   hinders_all firsts olds runs ks None x y order is fit = tt
   hinders_all firsts olds runs ks (Some cause) x y order is fit = let n = first_hinders 0 olds runs ks cause x y order (sym is) in (named_hinders shown ks n.0 cause n.1, named_fits shown may firsts ks n.0 cause n.1 fit)
 
-module _ {K G : Type 0} (shown : K → Option Record) (may : K → Record → Type 0) (stored : K → Type 0) (reopens : K → Result K (Unopened K) → Type 0) (gives_up : G → ℕ → ℕ → Type 0) (wire : Line) (most : ℕ) (olds runs : List (SiteRun K G)) (ls : List SiteList) (ran : AllZip (Ran shown may stored reopens gives_up wire most) olds runs) (left : AllZip LeavesList runs ls) where
+module _ {K G : Type 0} (shown : K → Option Record) (may : K → Record → Type 0) (stored : K → Type 0) (reopens : K → Result K (Unopened K) → Type 0) (gives_up : G → ℕ → ℕ → Type 0) (wire : Line) (most : ℕ) (olds runs : List (SiteRun K G)) (ls : List RunLog) (ran : AllZip (Ran shown may stored reopens gives_up wire most) olds runs) (left : AllZip LeavesList runs ls) where
   -- each list is of the site that began so, and has its end of the desk
 
   StartedIn : K → SiteRun K G → Type 0

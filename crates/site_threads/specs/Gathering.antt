@@ -13,7 +13,7 @@ use Rattle.site_threads.specs.declared.gathered.Gathered.{Gathered}
 use Rattle.site_threads.specs.declared.gather.GatherCause.{GatherCause}
 use Rattle.site_threads.specs.declared.gather.GatherCause.TheVariants.{NotAWorld, NoMemory, SiteLost, GaveUp}
 use Rattle.site_threads.specs.declared.gathered.GatherFault.{GatherFault}
-use Rattle.site_threads.specs.declared.lists.SiteList.{SiteList}
+use Rattle.site_threads.specs.declared.lists.RunLog.{RunLog}
 use Rattle.site_threads.specs.declared.jobs.Receipt.{Receipt}
 use Rattle.site_threads.specs.Ends.{takes, IsOut}
 use Rattle.site_threads.specs.Jobs.{IsEntered, jobs_in, option_items, Kept}
@@ -39,28 +39,28 @@ module _ {K : Type 0} (shown : K → Option Record) (may : K → Record → Type
   KeepersFit keepers = (records : List Record) → AllZip (λ k r. Opens (shown k) (may k) r) keepers records → StandTogether records
 
 -- the jobs of the list, and then the one that was taken and not done, are those that were taken from the desk, in order
-pub record HasJobsOfEnd (l : SiteList) : Type 0 where
+pub record HasJobsOfEnd (l : RunLog) : Type 0 where
   pub out : IsOut l.out
   pub jobs : jobs_in l.entries.items ++ option_items l.pending ≡ takes l.out
 
 -- the keeper is open in the record to which the list leads, step by step
-pub record IsKept {K : Type 0} (shown : K → Option Record) (k : K) (l : SiteList) : Type 0 where
+pub record IsKept {K : Type 0} (shown : K → Option Record) (k : K) (l : RunLog) : Type 0 where
   pub last : Record
   pub stands : shown k ≡ Some last
   pub steps : Kept l.start.value l.entries.items last
   pub jobs : HasJobsOfEnd l
 
 -- The gate of the keeper's site was asked for all these turns; or for fewer, and the site is done.
-pub record HasTurned {K : Type 0} (shown : K → Option Record) (turns : ℕ) (k : K) (l : SiteList) : Type 0 where
+pub record HasTurned {K : Type 0} (shown : K → Option Record) (turns : ℕ) (k : K) (l : RunLog) : Type 0 where
   pub asked : l.turns ≤ turns
   pub all : (l.turns ≡ turns) ⊎ IsDone shown (Some k) l.out l.pending
 
 -- the list is of a site that began in the record that the keeper showed
-abbrev pub Began : {K : Type 0} → (K → Option Record) → K → SiteList → Type 0
+abbrev pub Began : {K : Type 0} → (K → Option Record) → K → RunLog → Type 0
 Began shown k l = shown k ≡ Some l.start.value
 
 -- the list has the desk's end, and takes no more jobs than that
-pub record HasEnd (d : DeskOut) (l : SiteList) : Type 0 where
+pub record HasEnd (d : DeskOut) (l : RunLog) : Type 0 where
   pub desk : receives_on l.out.from ≡ receives_on d.from
   pub limit : l.out.limit ≡ d.limit
 
@@ -101,5 +101,5 @@ Explains {K} shown reopens gives_up turns keepers (SiteLost site) = (k : K) × (
 Explains {K} {G} shown reopens gives_up turns keepers (GaveUp site) = (gate : G) × (turn : ℕ) × (turn ≤ turns) × gives_up gate site turn
 
 -- the receipt's step stands in its site's list
-abbrev pub IsConfirmed : List SiteList → Receipt → Type 0
-IsConfirmed lists x = (l : SiteList) × (slice_get lists x.site ≡ Some l) × IsEntered l.entries.items x
+abbrev pub IsConfirmed : List RunLog → Receipt → Type 0
+IsConfirmed lists x = (l : RunLog) × (slice_get lists x.site ≡ Some l) × IsEntered l.entries.items x

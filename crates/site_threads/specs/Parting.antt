@@ -4,7 +4,7 @@ use Rattle.std.specs.Option.{option_or}
 use Rattle.site_threads.specs.declared.gather.GatherCause.{GatherCause}
 use Rattle.site_threads.specs.declared.gather.GatherCause.TheVariants.{NoMemory, SiteLost, GaveUp}
 use Rattle.site_threads.specs.declared.gather.Ended.{Ended}
-use Rattle.site_threads.specs.declared.lists.SiteList.{SiteList}
+use Rattle.site_threads.specs.declared.lists.RunLog.{RunLog}
 use Rattle.site_threads.specs.declared.runs.SiteRun.{SiteRun}
 use Rattle.site_threads.specs.declared.turns.TurnCause.{TurnCause}
 use Rattle.site_threads.specs.declared.turns.TurnCause.TheVariants as turns
@@ -15,7 +15,7 @@ module _ {K G : Type 0} where
   HasKeeper run k = run.turn.site.keeper ≡ Some k
 
   -- the list has the steps of the site, its end of its desk, the job in hand, and how often the gate was asked
-  pub record LeavesList (run : SiteRun K G) (l : SiteList) : Type 0 where
+  pub record LeavesList (run : SiteRun K G) (l : RunLog) : Type 0 where
     pub entries : l.entries ≡ run.turn.site.entries
     pub start : l.start.value ≡ run.turn.site.start.value
     pub out : l.out ≡ run.out

@@ -8,7 +8,7 @@ ghost use Rattle.site_threads.specs.Parting.{HasKeeper, LeavesList, IsRoomFor, c
 ghost use Rattle.site_threads.specs.Runs.{IsRun};
 
 use crate::gates::Gate;
-use crate::lists::SiteList;
+use crate::lists::RunLog;
 use crate::room::add;
 use crate::runs::SiteRun;
 use crate::sites::Site;
@@ -42,7 +42,7 @@ pub struct Ended<K: SiteKeeper> {
     /// In the order of their sites.
     pub keepers: Vec<K>,
     /// Likewise.
-    pub lists: Vec<SiteList>,
+    pub lists: Vec<RunLog>,
     /// Why the least site that ended its run did so.
     pub cause: Option<GatherCause>,
 }
@@ -103,7 +103,7 @@ fn part<K: SiteKeeper, G: Gate>(
         add(&mut keepers, keeper);
         add(
             &mut lists,
-            SiteList {
+            RunLog {
                 entries,
                 start,
                 out,

@@ -8,7 +8,7 @@ ghost use Rattle.site_threads.specs.Jobs.{IsEntered, entry_of, is_stop, jobs_in,
 use crate::desks::{Desk, taken_of};
 use crate::gather::GatherCause;
 use crate::jobs::{Entry, Receipt, Reply, is_stop};
-use crate::lists::SiteList;
+use crate::lists::RunLog;
 use keeper_core::SiteKeeper;
 use thiserror::Error;
 
@@ -18,7 +18,7 @@ pub struct Gathered<K: SiteKeeper> {
     /// Their keepers, each open.
     pub keepers: Vec<K>,
     /// The steps of each, and its end of its desk.
-    pub lists: Vec<SiteList>,
+    pub lists: Vec<RunLog>,
     /// Whether the system gave fewer threads than sites, so that sites shared threads.
     pub shared: bool,
 }
@@ -65,7 +65,7 @@ fn stops_of(reply: Reply) -> usize
     if is_stop(reply) { 1 } else { 0 }
 }
 
-impl SiteList {
+impl RunLog {
     /// Whether the list has the receipt's job with its reply at its number. Only the step at that place is looked at.
     pub fn has(&self, receipt: &Receipt) -> bool
         ensures { IsTrue result ↔ IsEntered self.now.entries.items receipt.now }
@@ -92,7 +92,7 @@ impl SiteList {
         requires jobs { HasJobsOfEnd self }
         ensures { (result ≡ length (jobs_in self.entries.items)) × (jobs_in self.entries.items ≡ take result (puts desk)) }
     {
-        let SiteList { out, pending, .. } = self;
+        let RunLog { out, pending, .. } = self;
         let taken = taken_of(desk, out);
         if pending.is_some() { taken - 1 } else { taken }
     }

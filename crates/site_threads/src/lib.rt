@@ -30,7 +30,7 @@ pub use gates::{FreeGate, Gate, Pass};
 pub use gather::GatherCause;
 pub use gathered::{GatherFault, Gathered, Stranger};
 pub use jobs::{Entry, Job, Receipt, Reply};
-pub use lists::SiteList;
+pub use lists::RunLog;
 pub use sites::Site;
 pub use turns::{SiteTurn, TurnCause, TurnFault, TurnReport};
 pub use worlds::run_world;

@@ -8,7 +8,7 @@ use std::snapshot::Snapshot;
 
 /// What is left of a site's run beside its keeper.
 #[derive(Drop)]
-pub struct SiteList {
+pub struct RunLog {
     /// The steps of the run, in order.
     pub entries: Vec<Entry>,
     /// The record that the site began with, for proofs alone.

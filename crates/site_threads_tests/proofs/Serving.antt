@@ -7,13 +7,13 @@ use Rattle.site_threads.specs.declared.desks.Desk.{Desk}
 use Rattle.site_threads.specs.declared.desks.DeskOut.{DeskOut}
 use Rattle.site_threads.specs.declared.gathered.Gathered.{Gathered}
 use Rattle.site_threads.specs.declared.gathered.GatherFault.{GatherFault}
-use Rattle.site_threads.specs.declared.lists.SiteList.{SiteList}
+use Rattle.site_threads.specs.declared.lists.RunLog.{RunLog}
 use Rattle.site_threads.specs.Ends.{IsDesk}
 use Rattle.site_threads.specs.Gathering.{HasEnd, IsKept}
 use Rattle.site_threads_tests.specs.Serving.{Serves, Settles}
 
 -- each desk's other end went to the list of its site
-pub settles_all : {K : Type 0} (shown : K → Option Record) (ds : List Desk) (os : List DeskOut) (ks : List K) (ls : List SiteList) → AllZip Serves ds os → AllZip HasEnd os ls → AllZip (IsKept shown) ks ls → AllZip Settles ds ls
+pub settles_all : {K : Type 0} (shown : K → Option Record) (ds : List Desk) (os : List DeskOut) (ks : List K) (ls : List RunLog) → AllZip Serves ds os → AllZip HasEnd os ls → AllZip (IsKept shown) ks ls → AllZip Settles ds ls
 settles_all shown [] [] ks [] a b c = tt
 settles_all shown (d ∷ ds) (o ∷ os) (k ∷ ks) (l ∷ ls) a b c =
     (record { desk = a.0.desk; ends = b.0.desk ∙ a.0.ends; jobs = c.0.jobs }, settles_all shown ds os ks ls a.1 b.1 c.1)
@@ -39,14 +39,14 @@ pub serves_more : (ds more_ds : List Desk) (os more_os : List DeskOut) (d : Desk
 serves_more ds more_ds os more_os d o z s a b = subst (λ l. AllZip Serves l more_os) (sym a) (subst (λ l. AllZip Serves (ds ++ d ∷ []) l) (sym b) (serves_push ds os d o z s))
 
 -- a desk that is there
-pub desk_there : (ds : List Desk) (ls : List SiteList) (i : ℕ) (d : Desk) → AllZip Settles ds ls → i < length ds → d ≡ get_or ds i d → IsDesk d
+pub desk_there : (ds : List Desk) (ls : List RunLog) (i : ℕ) (d : Desk) → AllZip Settles ds ls → i < length ds → d ≡ get_or ds i d → IsDesk d
 desk_there (x ∷ ds) (l ∷ ls) zero d z h is = subst IsDesk (sym is) z.0.desk
 desk_there (x ∷ ds) (l ∷ ls) (suc i) d z h is = desk_there ds ls i d z.1 (omega arith) is
 desk_there [] ls i d z h is = absurd (omega arith)
 desk_there (x ∷ ds) [] i d z h is = absurd z
 
 -- after a call on one of the desks
-pub still_settles : (ds : List Desk) (ls : List SiteList) (i : ℕ) (was new : Desk) → i < length ds → was ≡ get_or ds i was → IsDesk new → sends_on new.to ≡ sends_on was.to → AllZip Settles ds ls → AllZip Settles (slice_set ds i new) ls
+pub still_settles : (ds : List Desk) (ls : List RunLog) (i : ℕ) (was new : Desk) → i < length ds → was ≡ get_or ds i was → IsDesk new → sends_on new.to ≡ sends_on was.to → AllZip Settles ds ls → AllZip Settles (slice_set ds i new) ls
 still_settles (x ∷ ds) (l ∷ ls) zero was new h is desk to z = (record { desk = desk; ends = z.0.ends ∙ sym (to ∙ ap (λ (d : Desk). sends_on d.to) is); jobs = z.0.jobs }, z.1)
 still_settles (x ∷ ds) (l ∷ ls) (suc i) was new h is desk to z = (z.0, still_settles ds ls i was new (omega arith) is desk to z.1)
 still_settles [] ls i was new h is desk to z = absurd (omega arith)

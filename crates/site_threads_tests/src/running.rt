@@ -4,7 +4,7 @@ mod gates;
 
 ghost use Rattle.std.specs.Prelude.{◌≤◌, List, IfOk};
 ghost use Rattle.std.specs.List.{AllZip};
-ghost use Rattle.site_threads.specs.declared.lists.SiteList.{SiteList};
+ghost use Rattle.site_threads.specs.declared.lists.RunLog.{RunLog};
 ghost use Rattle.site_threads_tests.specs.Serving.{Settles};
 
 use crate::running::fixtures::{desks, keepers};
@@ -15,7 +15,7 @@ use keeper_core::{MemoryKeeper, SiteKeeper};
 use report_core::{Verdict, audit};
 use site_core::SiteState;
 use site_recovery::{are_all_sites, check_world};
-use site_threads::{Desk, Gate, GatherCause, GatherFault, Gathered, Receipt, SiteList, run_world};
+use site_threads::{Desk, Gate, GatherCause, GatherFault, Gathered, Receipt, RunLog, run_world};
 use std::alloc::{AllocError, Global};
 use std::hash::RandomState;
 use std::sync::Wait;
@@ -70,8 +70,8 @@ fn fit(alloc: Global, keepers: &[MemoryKeeper]) -> bool {
 
 /// The first receipt of B's desk.
 fn receipt_of_b(rt: &impl Wait, desks: &mut Vec<Desk>) -> Option<Receipt>
-    requires desks { (lists : List SiteList) × AllZip Settles desks.old.items lists }
-    ensures desks { (lists : List SiteList) → AllZip Settles desks.old.items lists → AllZip Settles desks.new.items lists }
+    requires desks { (lists : List RunLog) × AllZip Settles desks.old.items lists }
+    ensures desks { (lists : List RunLog) → AllZip Settles desks.old.items lists → AllZip Settles desks.new.items lists }
 {
     if desks.len() < 2 {
         return None;
@@ -90,7 +90,7 @@ fn is_confirmed(gathered: &Gathered<MemoryKeeper>, receipt: Option<Receipt>) -> 
 }
 
 /// Whether so many jobs of each desk stand in its site's list.
-fn are_settled(desks: Vec<Desk>, lists: Vec<SiteList>, counts: &[u64]) -> bool
+fn are_settled(desks: Vec<Desk>, lists: Vec<RunLog>, counts: &[u64]) -> bool
     requires { AllZip Settles desks.items lists.items }
 {
     let mut lists = lists.into_iter();
@@ -107,7 +107,7 @@ fn are_settled(desks: Vec<Desk>, lists: Vec<SiteList>, counts: &[u64]) -> bool
 }
 
 /// Whether each site made so many turns.
-fn made(lists: &[SiteList], turns: u64) -> bool {
+fn made(lists: &[RunLog], turns: u64) -> bool {
     lists.iter().all(|list| list.turns == turns)
 }
 

@@ -1,0 +1,21 @@
+use Rattle.std.proofs.Common.{◌≡◌, codes, ap, ◌∙◌, refl}
+use Rattle.std.proofs.lemmas.Result.{IfOk-weaker}
+use Rattle.clap.specs.Words.{app_of, new_app}
+use Rattle.clap.specs.Simple.{app_of_fields}
+use Rattle.command_line.specs.CommandLines.{needing}
+use Rattle.command_line.proofs.Assembly.{adds_command}
+use Rattle.command_line.proofs.command_lines.recall.Goals as goal
+
+pub returns : goal.returns
+returns c =
+    let named : app_of c.after_help.result ≡ new_app (codes "recall") =
+    ap app_of_fields c.after_help.ensures ∙ ap app_of_fields c.about.ensures ∙ ap app_of_fields c.in_ok-bin_name.ensures.0 ∙ c.new.ensures.app in
+    let needs : app_of c.subcommand_required.result ≡ needing (new_app (codes "recall")) =
+    ap app_of_fields c.subcommand_required.ensures ∙ ap needing named in
+    let first = adds_command _ _ _ _ _ c.in_ok-subcommand.ensures needs c.sim.ensures refl in
+    let second = adds_command _ _ _ _ _ c.in_ok-subcommand-2.ensures first c.in_ok-init.ensures refl in
+    let third = adds_command _ _ _ _ _ c.in_ok-program.ensures second c.in_ok-capture.ensures refl in
+    let fourth = adds_command _ _ _ _ _ c.in_ok-subcommand-3.ensures third c.in_ok-start.ensures refl in
+    let fifth = adds_command _ _ _ _ _ c.in_ok-subcommand-4.ensures fourth c.in_ok-run.ensures refl in
+    let sixth = adds_command _ _ _ _ _ c.in_ok-subcommand-5.ensures fifth c.in_ok-report.ensures refl in
+    IfOk-weaker c.subcommand-7.result _ _ (λ command adds. adds_command _ _ command _ _ adds sixth c.in_ok-audit.ensures refl) c.subcommand-7.ensures

@@ -1,0 +1,184 @@
+-- What the words of a command line ask for, as `clap` reads them.
+use Rattle.std.specs.Prelude.{◌≡◌, ◌≢◌, ◌≤◌, ◌↔◌, ⊤, ℕ, Bool, true, false, IsTrue, List, [], ◌∷◌, Option, Some, codes, length, map, string_bytes}
+use mathlib.Core.Logic.{◌⊎◌}
+use Rattle.std.specs.Global.{Global}
+use Rattle.std.specs.declared.string.String.{String}
+use Rattle.std.specs.Str.Parse.{digits_value, without_leading_plus}
+use Rattle.clap.specs.Words.{App, Row, Rule, Text, new_app, new_rule, with_rule, with_subcommand, first_of, one_of, subcommand_of, all_of, Kinds, IsAmong, fault_of}
+use Rattle.clap.specs.declared.builder.action.ArgAction.TheVariants.{Append, SetTrue}
+use Rattle.clap.specs.declared.builder.value_parser.ValueParser.TheVariants.{NonEmptyString, Unsigned}
+use Rattle.clap.specs.declared.error.ErrorKind.{ErrorKind}
+use Rattle.clap.specs.declared.error.ErrorKind.TheVariants.{DisplayHelp, OutOfMemory}
+use Rattle.command_line.specs.declared.command_lines.Asked.{Asked}
+use Rattle.command_line.specs.declared.command_lines.Asked.TheVariants as asked
+use Rattle.command_line.specs.declared.command_lines.Batch.{Batch}
+use Rattle.command_line.specs.declared.command_lines.FileCommand.{FileCommand}
+use Rattle.command_line.specs.declared.command_lines.FileCommand.TheVariants.{Init, Capture, Start, Run, Report, Audit}
+
+-- the paths of a batch's files
+abbrev pub paths_of : Batch → List (List ℕ)
+paths_of batch = map (λ path. path.now) batch.paths.items
+
+-- the words as texts
+abbrev pub texts_of : List (String Global) → List (List ℕ)
+texts_of words = map string_bytes words
+
+-- ---- the commands, with the names of their arguments, each of which has to be there
+
+abbrev pub required : Text → Rule
+required name = record (new_rule name) { required = true }
+
+-- the folder, which isn't the empty word
+abbrev pub folder : Rule
+folder = record (required (codes "dir")) { parser = Some NonEmptyString }
+
+abbrev pub on_folder : Text → App
+on_folder name = with_rule (new_app name) folder
+
+abbrev pub sim : App
+sim = new_app (codes "sim")
+
+abbrev pub init : App
+init = with_rule (on_folder (codes "init")) (required (codes "sites"))
+
+-- one file or more
+abbrev pub files : Rule
+files = record (required (codes "file")) { action = Some Append }
+
+-- `--lines`
+abbrev pub lines : Rule
+lines = record (new_rule (codes "lines")) { long = Some (codes "lines"); action = Some SetTrue }
+
+abbrev pub capture : App
+capture = with_rule (with_rule (with_rule (on_folder (codes "capture")) (required (codes "site"))) files) lines
+
+abbrev pub start : App
+start = with_rule (with_rule (on_folder (codes "start")) (required (codes "site"))) (required (codes "epc"))
+
+-- `--turns n`: a number from 1 to 1,000,000, or 2,000 where it isn't there
+abbrev pub turns : Rule
+turns =
+    record (new_rule (codes "turns")) {
+      long = Some (codes "turns");
+      value_names = 1;
+      parser = Some (Unsigned 1 1000000);
+      defaults = codes "2000" ∷ [];
+    }
+
+abbrev pub run : App
+run = with_rule (on_folder (codes "run")) turns
+
+abbrev pub report : App
+report = with_rule (on_folder (codes "report")) (required (codes "recall"))
+
+abbrev pub audit : App
+audit = on_folder (codes "audit")
+
+-- `recall` itself, which has to have one of them
+abbrev pub needing : App → App
+needing a = record a { top = record a.top { subcommand_required = true } }
+
+abbrev pub with_command : App → App → App
+with_command above below = with_subcommand above below.top
+
+abbrev pub recall : App
+recall =
+    with_command (with_command (with_command (with_command (with_command (with_command (with_command (needing (new_app (codes "recall"))) sim) init) capture) start) run) report) audit
+
+-- ---- what words ask for
+
+-- what is wrong with the words, by kind; no kind where nothing is. Help that is asked for is the kind DisplayHelp.
+abbrev pub faults_of : List (List ℕ) → Kinds
+faults_of words = fault_of recall words
+
+-- the command that the words name, with its arguments
+abbrev pub named : List (List ℕ) → Option (Text × List Row)
+named words = subcommand_of recall words
+
+-- the argument of this name
+abbrev pub Gives : List Row → Text → Text → Type 0
+Gives rows name value = first_of name rows ≡ Some value
+
+-- the argument of this name is this number
+abbrev pub GivesNumber : List Row → Text → ℕ → Type 0
+GivesNumber rows name n = (text : Text) × (one_of name rows ≡ Some text) × (n ≡ digits_value 10 (without_leading_plus text))
+
+-- the option of this name is there
+abbrev pub IsSet : List Row → Text → Type 0
+IsSet rows name = Gives rows name (codes "true")
+
+-- the files of the documents, and whether each of their lines is one
+abbrev pub GivesFiles : List Row → List Text → Bool → Type 0
+GivesFiles rows paths by_lines = (all_of (codes "file") rows ≡ Some paths) × (IsTrue by_lines ↔ IsSet rows (codes "lines"))
+
+-- the command has this name and these arguments
+abbrev pub IsCommand : FileCommand → Text → List Row → Type 0
+IsCommand (Init folder list) name rows = (name ≡ codes "init") × Gives rows (codes "dir") folder.now × Gives rows (codes "sites") list.now
+IsCommand (Capture folder site file) name rows =
+    (name ≡ codes "capture") × Gives rows (codes "dir") folder.now × Gives rows (codes "site") site.now × GivesFiles rows (file.now ∷ []) false
+IsCommand (Start folder site item) name rows =
+    (name ≡ codes "start") × Gives rows (codes "dir") folder.now × Gives rows (codes "site") site.now × Gives rows (codes "epc") item.now
+IsCommand (Run folder turns) name rows =
+    (name ≡ codes "run") × Gives rows (codes "dir") folder.now × GivesNumber rows (codes "turns") turns × (1 ≤ turns) × (turns ≤ 1000000)
+IsCommand (Report folder recall) name rows = (name ≡ codes "report") × Gives rows (codes "dir") folder.now × Gives rows (codes "recall") recall.now
+IsCommand (Audit folder) name rows = (name ≡ codes "audit") × Gives rows (codes "dir") folder.now
+
+-- Several documents are captured: those of several files, or of the lines of some. One file that is one document is none.
+pub record IsBatch (batch : Batch) (rows : List Row) : Type 0 where
+  pub several : (batch.by_lines ≡ true) ⊎ (length (paths_of batch) ≢ 1)
+  pub folder : Gives rows (codes "dir") batch.folder.now
+  pub site : Gives rows (codes "site") batch.site.now
+  pub files : GivesFiles rows (paths_of batch) batch.by_lines
+
+-- what `capture` with these arguments asks for
+abbrev pub IsCapture : List Row → Asked → Type 0
+IsCapture rows (asked.Files command) = IsCommand command (codes "capture") rows
+IsCapture rows (asked.Batch batch) = IsBatch batch rows
+IsCapture rows other = ⊥
+
+-- a run is of at most 1,000,000 turns
+abbrev pub HasTurns : FileCommand → Type 0
+HasTurns (Run folder turns) = turns ≤ 1000000
+HasTurns command = ⊤
+
+-- the named command is asked for
+abbrev pub AsksNamed : Option (Text × List Row) → Asked → Type 0
+AsksNamed (Some (name, rows)) asked.Sim = name ≡ codes "sim"
+AsksNamed (Some (name, rows)) (asked.Files command) = IsCommand command name rows
+AsksNamed (Some (name, rows)) (asked.Batch batch) = (name ≡ codes "capture") × IsBatch batch rows
+AsksNamed named other = ⊥
+
+-- nothing is wrong with the words: a script is to be run
+abbrev pub AsksSim : List (List ℕ) → Type 0
+AsksSim words = (faults_of words ≡ []) × AsksNamed (named words) asked.Sim
+
+-- or a command on files
+abbrev pub AsksFiles : List (List ℕ) → FileCommand → Type 0
+AsksFiles words command = (faults_of words ≡ []) × AsksNamed (named words) (asked.Files command)
+
+-- or several documents are to be captured
+abbrev pub AsksBatch : List (List ℕ) → Batch → Type 0
+AsksBatch words batch = (faults_of words ≡ []) × AsksNamed (named words) (asked.Batch batch)
+
+abbrev pub AsksHelp : List (List ℕ) → Type 0
+AsksHelp words = IsAmong DisplayHelp (faults_of words)
+
+-- something else is wrong with them
+abbrev pub IsBad : List (List ℕ) → Type 0
+IsBad words = (kind : ErrorKind) × IsAmong kind (faults_of words) × (kind ≢ DisplayHelp)
+
+-- the words ask for this
+abbrev pub AsksFor : List (List ℕ) → Asked → Type 0
+AsksFor words asked.Sim = AsksSim words
+AsksFor words (asked.Files command) = AsksFiles words command
+AsksFor words (asked.Batch batch) = AsksBatch words batch
+AsksFor words (asked.Help text) = AsksHelp words
+AsksFor words (asked.Mistake text) = IsBad words
+
+-- what an error of this kind is reported as
+abbrev pub IsToldAs : ErrorKind → Asked → Type 0
+IsToldAs kind asked.Sim = ⊥
+IsToldAs kind (asked.Files command) = ⊥
+IsToldAs kind (asked.Batch batch) = ⊥
+IsToldAs kind (asked.Help text) = kind ≡ DisplayHelp
+IsToldAs kind (asked.Mistake text) = (kind ≢ DisplayHelp) × (kind ≢ OutOfMemory)

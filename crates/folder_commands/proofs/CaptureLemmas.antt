@@ -1,0 +1,203 @@
+-- Documents that are read and taken one after another.
+use Rattle.std.proofs.Common.{◌≡◌, ◌+◌, ℕ, Bool, true, false, List, [], ◌∷◌, ◌++◌, Option, Some, None, Result, Ok, Err, length, inl, inr, refl, sym, ap, ◌∙◌, subst, arith, append_assoc, append-nil, if◌then◌else◌}
+use Rattle.std.specs.Fmt.{decimal}
+use Rattle.std.specs.Prelude.{OnErr}
+use Rattle.std.proofs.KnownBytes.{Appends-nil}
+use Rattle.recall_text.specs.Writing.{AppendsBeginning}
+use Rattle.std.proofs.lemmas.Option.{same_Some}
+use Rattle.event_json.specs.Sites.{Site}
+use Rattle.keeper_core.specs.Keeping.{Applies}
+use Rattle.keeper_core.specs.declared.faults.KeepFault.{KeepFault}
+use Rattle.keeper_core.specs.declared.faults.KeepFault.TheVariants as keeping
+use Rattle.keeper_core.specs.declared.faults.KeepFault.TheVariants.{Closed}
+use Rattle.site_core.specs.Records.{Record}
+use Rattle.site_core.specs.declared.inputs.SiteInput.TheVariants.{Capture}
+use Rattle.site_core.specs.declared.outcomes.Effects.{Effects}
+use Rattle.site_core.specs.declared.outcomes.Effects.TheVariants as told
+use Rattle.site_core.specs.declared.outcomes.Refusal.{Refusal}
+use Rattle.folder_commands.specs.Captures.{ComesTo, Document, IsOfCapture, came_line, totals_line, ReadsFile, ReadsFiles, ReadsSome, Standing, Takes, TakesOne, TakesSome, TakesThose, came_of, is_blank, of_lines}
+use Rattle.folder_commands.specs.declared.captures.Came.{Came}
+use Rattle.folder_commands.specs.declared.captures.Came.TheVariants.{Refused}
+
+module _ (sites : List Site) where
+  -- some documents, and then others
+  pub takes_both : (a b c : Standing) (first rest : List Document) → Takes sites a first b → Takes sites b rest c → Takes sites a (first ++ rest) c
+  takes_both a b c [] rest none others = subst (λ s. Takes sites s rest c) none others
+  takes_both a b c (d ∷ first) rest (mid, one, more) others = (mid, one, takes_both mid b c first rest more others)
+
+  -- and then one more
+  pub takes_one : (a b c : Standing) (first : List Document) (document : Document) → Takes sites a first b → TakesOne sites b document c → Takes sites a (first ++ document ∷ []) c
+  takes_one a b c first document taken one = takes_both a b c first (document ∷ []) taken (c, one, refl)
+
+-- the documents of a line more
+pub lines_more : (path : List ℕ) (number : ℕ) (texts : List (List ℕ)) (line : List ℕ)
+    → of_lines path number (texts ++ line ∷ []) ≡ of_lines path number texts ++ of_lines path (number + length texts) (line ∷ [])
+lines_more path number [] line =
+    let here : number ≡ number + 0 = omega arith in
+    ap (λ (n : ℕ). of_lines path n (line ∷ [])) here
+lines_more path number (text ∷ texts) line =
+    let later : (number + 1) + length texts ≡ number + length (text ∷ texts) = omega arith in
+    let rest = lines_more path (number + 1) texts line ∙ ap (λ (n : ℕ). of_lines path (number + 1) texts ++ of_lines path n (line ∷ [])) later in
+    by_kind (is_blank text) (record { source = path ++ 58 ∷ decimal number; bytes = text }) _ _ _ rest
+  where
+    by_kind : (blank : Bool) (d : Document) (whole some last : List Document) → whole ≡ some ++ last
+        → (if blank then whole else d ∷ whole) ≡ (if blank then some else d ∷ some) ++ last
+    by_kind true d whole some last e = e
+    by_kind false d whole some last e = ap (λ ds. d ∷ ds) e
+
+-- a blank line has none, and any other is one
+pub blank_line : (path : List ℕ) (number : ℕ) (line : List ℕ) → is_blank line ≡ true → of_lines path number (line ∷ []) ≡ []
+blank_line path number line blank = ap (λ b. if b then [] else record { source = path ++ 58 ∷ decimal number; bytes = line } ∷ []) blank
+
+pub other_line : (path : List ℕ) (number : ℕ) (line : List ℕ) → is_blank line ≡ false
+    → of_lines path number (line ∷ []) ≡ record { source = path ++ 58 ∷ decimal number; bytes = line } ∷ []
+other_line path number line other = ap (λ b. if b then [] else record { source = path ++ 58 ∷ decimal number; bytes = line } ∷ []) other
+
+-- a line more was read
+pub reads_line : {F : Type 0} (lines : F → List ℕ → Option (List ℕ) → F → Type 0) (old mid new : F) (path : List ℕ) (texts : List (List ℕ)) (line : List ℕ)
+    → ReadsSome lines old path texts mid → lines mid path (Some line) new → ReadsSome lines old path (texts ++ line ∷ []) new
+reads_line lines old mid new path [] line none one = (new, subst (λ m. lines m path (Some line) new) none one, refl)
+reads_line lines old mid new path (text ∷ texts) line (next, first, rest) one = (next, first, reads_line lines next mid new path texts line rest one)
+
+-- a file more was read
+pub reads_file : {F : Type 0} (reads : F → List ℕ → List ℕ → F → Type 0) (lines : F → List ℕ → Option (List ℕ) → F → Type 0) (by_lines : Bool) (old mid new : F) (paths : List (List ℕ)) (path : List ℕ) (some last : List Document)
+    → ReadsFiles reads lines by_lines old paths some mid → ReadsFile reads lines by_lines mid path last new
+    → ReadsFiles reads lines by_lines old (paths ++ path ∷ []) (some ++ last) new
+reads_file reads lines by_lines old mid new [] path some last (same, none) one = (
+  new,
+  last,
+  [],
+  subst (λ m. ReadsFile reads lines by_lines m path last new) same one,
+  (refl, refl),
+  (ap (λ ds. ds ++ last) none ∙ sym (append-nil last)),
+)
+reads_file reads lines by_lines old mid new (p ∷ paths) path some last (next, first, rest, head, tail, is) one = (
+  next,
+  first,
+  rest ++ last,
+  head,
+  reads_file reads lines by_lines next mid new paths path rest last tail one,
+  (ap (λ ds. ds ++ last) is ∙ append_assoc first rest last),
+)
+
+-- what a keeper that shows a record answers to a capture are effects of one
+pub is_capture : (shown after : Option Record) (may : Record → Type 0) (document : List ℕ) (effects : Effects) (result : Result Effects KeepFault) → result ≡ Ok effects
+    → ((old : Record) → shown ≡ Some old → Applies old (Capture document) result after may) → (shown ≡ None → result ≡ Err Closed) → IsOfCapture effects
+is_capture None after may document effects result is answers closed = let bad : ◌≡◌ {A = Result Effects KeepFault} (Ok effects) (Err Closed) = sym is ∙ closed refl in cc
+is_capture (Some old) after may document effects result is answers closed =
+    of_applied after effects (subst (λ r. Applies old (Capture document) r after may) is (answers old refl))
+  where
+    of_applied : (after : Option Record) (effects : Effects) → Applies old (Capture document) (Ok effects) after may → IsOfCapture effects
+    of_applied None effects does = absurd does
+    of_applied (Some new) (told.Captured fresh known skipped) does = tt
+    of_applied (Some new) (told.Started r quarantined numbered ended) does = does
+    of_applied (Some new) (told.Received quarantined numbered owed) does = does
+    of_applied (Some new) told.Repeat does = does
+    of_applied (Some new) told.Stale does = does
+    of_applied (Some new) told.Cleared does = does
+    of_applied (Some new) (told.ParentDue m) does = does
+    of_applied (Some new) (told.Ended r) does = does
+
+-- so the document came to that, and to what is shown then
+pub comes_of : (old : Record) (after : Option Record) (may : Record → Type 0) (document : List ℕ) (effects : Effects) (came : Came) → Applies old (Capture document) (Ok effects) after may → came_of effects ≡ Some came
+    → (new : Record) × (after ≡ Some new) × ComesTo old document came new
+comes_of old None may document effects came does is = absurd does
+comes_of old (Some new) may document (told.Captured fresh known skipped) came does is =
+    (new, refl, subst (λ c. ComesTo old document c new) (same_Some _ _ is) does)
+comes_of old (Some new) may document (told.Started r quarantined numbered ended) came does is = absurd does
+comes_of old (Some new) may document (told.Received quarantined numbered owed) came does is = absurd does
+comes_of old (Some new) may document told.Repeat came does is = absurd does
+comes_of old (Some new) may document told.Stale came does is = absurd does
+comes_of old (Some new) may document told.Cleared came does is = absurd does
+comes_of old (Some new) may document (told.ParentDue m) came does is = absurd does
+comes_of old (Some new) may document (told.Ended r) came does is = absurd does
+
+-- or it was refused
+pub refusal_comes : (old : Record) (after : Option Record) (may : Record → Type 0) (document : List ℕ) (why : Refusal) → Applies old (Capture document) (Err (keeping.Refused why)) after may
+    → (new : Record) × (after ≡ Some new) × ComesTo old document (Refused why) new
+refusal_comes old None may document why refuses = absurd refuses
+refusal_comes old (Some new) may document why refuses = (new, refl, refuses)
+
+-- what holds after a fault
+pub on_err : {X E : Type 0} {P : Type 0} (r : Result X E) → P → OnErr r P
+on_err (Ok x) p = tt
+on_err (Err e) p = p
+
+-- nothing was written
+pub appends_none : (output : Option (List ℕ)) → AppendsBeginning output output []
+appends_none output = ([], [], refl, Appends-nil output)
+
+-- no document was taken, and nothing was written
+pub takes_none : (sites : List Site) (old : Standing) → TakesSome sites old old.output
+takes_none sites old = record { documents = []; last = old; taken = refl; next = []; is_next = inl refl; told = appends_none old.output }
+
+-- one was taken, and a beginning of its line was written
+pub takes_less : (sites : List Site) (old : Standing) (document : Document) (came : Came) (site : Record) (after : Option (List ℕ)) → ComesTo old.site document.bytes came site
+    → AppendsBeginning old.output after (came_line sites document.source came) → TakesSome sites old after
+takes_less sites old document came site after comes told = record {
+  documents = [];
+  last = old;
+  taken = refl;
+  next = came_line sites document.source came;
+  is_next = inr (inl (document, came, site, comes, refl));
+  told = told;
+}
+
+-- some documents more
+pub takes_more : (sites : List Site) (old mid : Standing) (first : List Document) (after : Option (List ℕ)) → Takes sites old first mid → TakesSome sites mid after → TakesSome sites old after
+takes_more sites old mid first after taken some = record {
+  documents = first ++ some.documents;
+  last = some.last;
+  taken = takes_both sites old mid some.last first some.documents taken some.taken;
+  next = some.next;
+  is_next = some.is_next;
+  told = some.told;
+}
+
+-- a file's document was taken
+pub takes_document : {F : Type 0} (reads : F → List ℕ → List ℕ → F → Type 0) (lines : F → List ℕ → Option (List ℕ) → F → Type 0) (old new : F) (path source bytes : List ℕ) (sites : List Site) (a b : Standing)
+    → source ≡ path → reads old path bytes new → TakesOne sites a (record { source = source; bytes = bytes }) b
+    → TakesThose (λ ds. ReadsFile reads lines false old path ds new) sites a b
+takes_document reads lines old new path source bytes sites a b e read one = record {
+  documents = record { source = path; bytes = bytes } ∷ [];
+  are = (bytes, read, refl);
+  taken = (b, subst (λ s. TakesOne sites a (record { source = s; bytes = bytes }) b) e one, refl);
+}
+
+-- a line's document was taken
+pub takes_line : (sites : List Site) (a b : Standing) (path source bytes : List ℕ) (number : ℕ) → is_blank bytes ≡ false → source ≡ path ++ 58 ∷ decimal number
+    → TakesOne sites a (record { source = source; bytes = bytes }) b → Takes sites a (of_lines path number (bytes ∷ [])) b
+takes_line sites a b path source bytes number other e one =
+    subst (λ ds. Takes sites a ds b) (sym (other_line path number bytes other))
+    (b, subst (λ s. TakesOne sites a (record { source = s; bytes = bytes }) b) e one, refl)
+
+-- or it has none
+pub takes_blank : (sites : List Site) (a : Standing) (path bytes : List ℕ) (number : ℕ) → is_blank bytes ≡ true → Takes sites a (of_lines path number (bytes ∷ [])) a
+takes_blank sites a path bytes number blank = subst (λ ds. Takes sites a ds a) (sym (blank_line path number bytes blank)) refl
+
+-- the documents of a line more
+pub takes_lines : (sites : List Site) (a b c : Standing) (path line : List ℕ) (texts : List (List ℕ)) (number : ℕ) → number ≡ 1 + length texts
+    → Takes sites a (of_lines path 1 texts) b → Takes sites b (of_lines path number (line ∷ [])) c → Takes sites a (of_lines path 1 (texts ++ line ∷ [])) c
+takes_lines sites a b c path line texts number count first rest =
+    subst (λ ds. Takes sites a ds c) (sym (lines_more path 1 texts line))
+    (takes_both sites a b c (of_lines path 1 texts) (of_lines path (1 + length texts) (line ∷ [])) first
+    (subst (λ (n : ℕ). Takes sites b (of_lines path n (line ∷ [])) c) count rest))
+
+-- a file more: its documents were taken
+pub takes_file : {F : Type 0} (reads : F → List ℕ → List ℕ → F → Type 0) (lines : F → List ℕ → Option (List ℕ) → F → Type 0) (by_lines : Bool) (old mid new : F) (paths : List (List ℕ)) (path : List ℕ) (sites : List Site) (a b c : Standing)
+    → TakesThose (λ ds. ReadsFiles reads lines by_lines old paths ds mid) sites a b → TakesThose (λ ds. ReadsFile reads lines by_lines mid path ds new) sites b c
+    → TakesThose (λ ds. ReadsFiles reads lines by_lines old (paths ++ path ∷ []) ds new) sites a c
+takes_file reads lines by_lines old mid new paths path sites a b c some more = record {
+  documents = some.documents ++ more.documents;
+  are = reads_file reads lines by_lines old mid new paths path some.documents more.documents some.are more.are;
+  taken = takes_both sites a b c some.documents more.documents some.taken more.taken;
+}
+
+-- those were taken, and nothing of the totals was written
+pub takes_those : (Are : List Document → Type 0) (sites : List Site) (old last : Standing) → TakesThose Are sites old last → TakesSome sites old last.output
+takes_those Are sites old last those = record { documents = those.documents; last = last; taken = those.taken; next = []; is_next = inl refl; told = appends_none last.output }
+
+-- or a beginning of them
+pub takes_totals : (Are : List Document → Type 0) (sites : List Site) (old last : Standing) (after : Option (List ℕ)) → TakesThose Are sites old last → AppendsBeginning last.output after (totals_line last.totals) → TakesSome sites old after
+takes_totals Are sites old last after those told =
+    record { documents = those.documents; last = last; taken = those.taken; next = totals_line last.totals; is_next = inr (inr refl); told = told }

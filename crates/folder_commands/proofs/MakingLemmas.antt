@@ -1,0 +1,55 @@
+-- the files that `init` looks for and makes, in turn
+use Rattle.std.proofs.Common.{◌≡◌, ℕ, ◌+◌, ◌<◌, zero, suc, Bool, List, [], ◌∷◌, ◌++◌, length, refl, sym, ap, ◌∙◌, subst, arith, append_assoc, append-nil}
+use Rattle.event_json.specs.Sites.{Site}
+use Rattle.recall_text.specs.Words.{name_at}
+use Rattle.site_core.specs.Records.{Record, fresh}
+use Rattle.folder_commands.specs.Answers.{answer_status, answer_text}
+use Rattle.folder_commands.specs.Folders.{file_path}
+use Rattle.folder_commands.specs.Making.{LooksFrom, MakesAll, MakesFrom, MakesWhere, exists_lines, line_where}
+use Rattle.folder_commands.specs.declared.answers.Answer.{Answer}
+
+-- one site more is refused, or not
+pub exists_more : (sites : List Site) (site : ℕ) (found : List Bool) (one : Bool)
+    → exists_lines sites site (found ++ one ∷ []) ≡ exists_lines sites site found ++ line_where one (name_at sites (site + length found))
+exists_more sites site [] one =
+    let here : site + 0 ≡ site = omega arith in
+    append-nil (line_where one (name_at sites site)) ∙ ap (λ (n : ℕ). line_where one (name_at sites n)) (sym here)
+exists_more sites site (f ∷ found) one =
+    let later : (site + 1) + length found ≡ site + length (f ∷ found) = omega arith in
+    ap (λ rest. line_where f (name_at sites site) ++ rest) (exists_more sites (site + 1) found one ∙ ap (λ (n : ℕ). exists_lines sites (site + 1) found ++ line_where one (name_at sites n)) later)
+    ∙ sym (append_assoc (line_where f (name_at sites site)) (exists_lines sites (site + 1) found) (line_where one (name_at sites (site + length (f ∷ found)))))
+
+-- one file more was looked for
+pub looks_more : {F : Type 0} (finds : F → List ℕ → Bool → F → Type 0) (folder : List ℕ) (sites : List Site) (site : ℕ) (old mid new : F) (found : List Bool) (one : Bool)
+    → LooksFrom finds folder sites site old mid found → finds mid (file_path folder (name_at sites (site + length found))) one new
+    → LooksFrom finds folder sites site old new (found ++ one ∷ [])
+looks_more finds folder sites site old mid new [] one all last =
+    let here : site + 0 ≡ site = omega arith in
+    (new, subst (λ (n : ℕ). finds old (file_path folder (name_at sites n)) one new) here (subst (λ m. finds m (file_path folder (name_at sites (site + 0))) one new) all last), refl)
+looks_more finds folder sites site old mid new (f ∷ found) one (next, first, rest) last =
+    let later : site + length (f ∷ found) ≡ (site + 1) + length found = omega arith in
+    (next, first, looks_more finds folder sites (site + 1) next mid new found one rest (subst (λ (n : ℕ). finds mid (file_path folder (name_at sites n)) one new) later last))
+
+-- one file more was made
+pub makes_more : {F : Type 0} (makes : F → List ℕ → Record → F → Type 0) (folder : List ℕ) (sites : List Site) (site count : ℕ) (old mid new : F)
+    → MakesFrom makes folder sites site count old mid → makes mid (file_path folder (name_at sites (site + count))) (fresh sites (site + count)) new
+    → MakesFrom makes folder sites site (suc count) old new
+makes_more makes folder sites site zero old mid new all last =
+    let here : site + 0 ≡ site = omega arith in
+    (new, subst (λ (n : ℕ). makes old (file_path folder (name_at sites n)) (fresh sites n) new) here (subst (λ m. makes m (file_path folder (name_at sites (site + 0))) (fresh sites (site + 0)) new) all last), refl)
+makes_more makes folder sites site (suc count) old mid new (next, first, rest) last =
+    let later : site + suc count ≡ (site + 1) + count = omega arith in
+    (next, first, makes_more makes folder sites (site + 1) count next mid new rest (subst (λ (n : ℕ). makes mid (file_path folder (name_at sites n)) (fresh sites n) new) later last))
+
+module _ {F : Type 0} (reads : F → List ℕ → List ℕ → F → Type 0) (finds : F → List ℕ → Bool → F → Type 0) (makes : F → List ℕ → Record → F → Type 0) (writes : F → List ℕ → List ℕ → F → Type 0) (folder : List ℕ) where
+  -- what is refused is reported, and nothing is made
+  pub refuses : (refused : List ℕ) (sites : List Site) (text : List ℕ) (old : F) (answer : Answer) → 0 < length refused → answer_text answer ≡ refused → answer_status answer ≡ 1
+      → MakesWhere reads finds makes writes folder refused sites text old old answer
+  refuses [] sites text old answer some told status = absurd (omega arith)
+  refuses (c ∷ cs) sites text old answer some told status = (told, status, refl)
+
+  -- nothing is refused, and all is made
+  pub makes_all : (refused : List ℕ) (sites : List Site) (text : List ℕ) (old new : F) (answer : Answer) → length refused ≡ 0 → answer_text answer ≡ [] → answer_status answer ≡ 0
+      → MakesAll reads finds makes writes folder sites text old new → MakesWhere reads finds makes writes folder refused sites text old new answer
+  makes_all [] sites text old new answer none told status all = (told, status, all)
+  makes_all (c ∷ cs) sites text old new answer none told status all = absurd (omega arith)

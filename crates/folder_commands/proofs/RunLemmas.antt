@@ -1,0 +1,99 @@
+-- what the keepers show after a run
+use Rattle.std.proofs.Common.{◌≡◌, ◌≤◌, ◌∙◌, ℕ, suc, Option, None, IsSome, List, [], ◌∷◌, All, length, map, refl, sym, ap, subst, arith}
+use Rattle.std.proofs.lemmas.List.{length-map}
+use Rattle.std.proofs.lemmas.List.Elements.{All-cons, All-nil}
+use Rattle.std.specs.List.{AllZip}
+use Rattle.event_json.specs.Sites.{Site}
+use Rattle.site_core.specs.Records.{Record}
+use Rattle.site_threads.proofs.NoJobs.{all_of_frames}
+use Rattle.site_threads.specs.Gathering.{Began, FitAfter, HasEnd, HasTurned, Hinders, IsKept, KeepersFit, Opens, StandTogether}
+use Rattle.site_threads.specs.declared.desks.DeskOut.{DeskOut}
+use Rattle.site_threads.specs.declared.gather.GatherCause.{GatherCause}
+use Rattle.site_threads.specs.declared.gather.GatherCause.TheVariants.{NotAWorld, NoMemory, SiteLost, GaveUp}
+use Rattle.site_threads.specs.declared.lists.RunLog.{RunLog}
+use Rattle.world_core.specs.Keepers.{AllShow}
+use Rattle.world_core.specs.declared.faults.WorldFault.TheVariants as worlds
+use Rattle.folder_commands.specs.Calls.{AreShown}
+use Rattle.folder_commands.specs.Runs.{AnswersRun, CameToItsEnd, TellsCause, TellsRecalls}
+use Rattle.folder_commands.specs.declared.answers.Answer.{Answer}
+use Rattle.folder_commands.specs.declared.answers.Answer.TheVariants.{Done, Refused, Amiss}
+use Rattle.folder_commands.specs.Audits.{begun}
+use Rattle.folder_commands.specs.Notes.{AreNotes, AreOfSites}
+use Rattle.folder_commands.specs.declared.notes.RunNotes.{RunNotes}
+
+module _ {K : Type 0} (shown : K → Option Record) where
+  -- the same, in the words of a folder
+  pub are_shown : (keepers : List K) (rs : List Record) → AllShow shown keepers rs → AreShown shown keepers rs
+  are_shown [] [] all = tt
+  are_shown (k ∷ keepers) (r ∷ rs) all = (all.0, are_shown keepers rs all.1)
+  are_shown [] (r ∷ rs) all = absurd all
+  are_shown (k ∷ keepers) [] all = absurd all
+
+  -- a keeper that stands where its list leads is open
+  pub all_kept_open : (keepers : List K) (lists : List RunLog) → AllZip (IsKept shown) keepers lists → All (λ k. IsSome (shown k)) keepers
+  all_kept_open [] [] all = All-nil (λ (k : K). IsSome (shown k))
+  all_kept_open (k ∷ keepers) (l ∷ lists) all =
+      All-cons (λ (x : K). IsSome (shown x)) k keepers (subst (λ o. IsSome o) (sym all.0.stands) refl) (all_kept_open keepers lists all.1)
+  all_kept_open [] (l ∷ lists) all = absurd all
+  all_kept_open (k ∷ keepers) [] all = absurd all
+
+  as_many : (new : List K) (lists : List RunLog) → AllZip (IsKept shown) new lists → length new ≡ length lists
+  as_many [] [] kept = refl
+  as_many (k ∷ new) (l ∷ lists) kept = ap suc (as_many new lists kept.1)
+  as_many [] (l ∷ lists) kept = absurd kept
+  as_many (k ∷ new) [] kept = absurd kept
+
+  -- as many counts and keepers as lists
+  pub of_sites : (failed : K → ℕ) (old new : List K) (lists : List RunLog) (before : List ℕ) → AllZip (IsKept shown) new lists → length new ≡ length old → length old ≤ 16 → before ≡ map failed old → AreOfSites before (map failed new) lists
+  of_sites failed old new lists before kept back few counts =
+      let many = as_many new lists kept in
+      let long = ap length counts ∙ length-map old failed in
+      record { few = omega (arith, many, back, few); befores = omega (arith, long, many, back); afters = length-map new failed ∙ many }
+
+  -- what is reported after a run of sites whose desks take no jobs
+  pub came_to_its_end : (failed : K → ℕ) (sites : List Site) (turns : ℕ) (old new : List K) (ds : List DeskOut) (lists : List RunLog) (text : List ℕ) (notes : RunNotes) (before : List ℕ) → AllZip (Began shown) old lists → AllZip (IsKept shown) new lists
+      → All (λ (d : DeskOut). d.limit ≡ 0) ds → AllZip HasEnd ds lists → AllZip (HasTurned shown turns) new lists → before ≡ map failed old
+      → (told : TellsRecalls shown sites new text) × AreNotes before (map failed new) lists (begun told.records) notes → CameToItsEnd shown failed sites turns old new text notes
+  came_to_its_end failed sites turns old new ds lists text notes before began kept none ends turned counts told = record {
+    lists = lists;
+    began = began;
+    kept = kept;
+    frames = all_of_frames shown ds new lists none ends kept;
+    turned = turned;
+    told = told.0;
+    noted = subst (λ bs. AreNotes bs (map failed new) lists (begun told.0.records) notes) counts told.1;
+  }
+
+  module _ (may : K → Record → Type 0) where
+    all_open_in : (keepers : List K) (rs : List Record) → AllShow shown keepers rs → AllZip (λ k r. Opens (shown k) (may k) r) keepers rs
+    all_open_in [] [] all = tt
+    all_open_in (k ∷ keepers) (r ∷ rs) all = (subst (λ o. Opens o (may k) r) (sym all.0) refl, all_open_in keepers rs all.1)
+    all_open_in [] (r ∷ rs) all = absurd all
+    all_open_in (k ∷ keepers) [] all = absurd all
+
+    -- records that are shown stand together
+    pub shown_stand : (keepers : List K) (rs : List Record) → KeepersFit shown may keepers → AllShow shown keepers rs → StandTogether rs
+    shown_stand keepers rs fit all = fit rs (all_open_in keepers rs all)
+
+    -- inconsistent records are reported, and nothing else that prevents a run
+    pub misfit_told : (failed : K → ℕ) (sites : List Site) (turns : ℕ) (old new : List K) (cause : GatherCause) (answer : Answer) (notes : Option RunNotes) → Hinders shown new cause → FitAfter shown may old cause new → TellsCause sites cause answer → notes ≡ None
+        → AnswersRun shown failed sites turns old new answer notes
+    misfit_told failed sites turns old new (NotAWorld (worlds.Misfit misfit)) (Amiss text) notes (records, shows, dont) fit told none = (
+      record {
+        records = records;
+        shows = subst (λ ks. AreShown shown ks records) fit (are_shown new records shows);
+        misfit = misfit;
+        is_misfit = dont.1;
+        text_is = told;
+      },
+      fit,
+      none,
+    )
+    misfit_told failed sites turns old new (NotAWorld (worlds.Misfit misfit)) (Done text) notes hinders fit told none = absurd told
+    misfit_told failed sites turns old new (NotAWorld (worlds.Misfit misfit)) (Refused text) notes hinders fit told none = absurd told
+    misfit_told failed sites turns old new (NotAWorld worlds.NoMemory) answer notes hinders fit told none = absurd told
+    misfit_told failed sites turns old new (NotAWorld (worlds.OtherSites place)) answer notes hinders fit told none = absurd told
+    misfit_told failed sites turns old new (NotAWorld (worlds.Closed place)) answer notes hinders fit told none = absurd told
+    misfit_told failed sites turns old new NoMemory answer notes hinders fit told none = absurd told
+    misfit_told failed sites turns old new (SiteLost site) answer notes hinders fit told none = absurd told
+    misfit_told failed sites turns old new (GaveUp site) answer notes hinders fit told none = absurd told

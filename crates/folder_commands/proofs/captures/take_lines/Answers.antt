@@ -1,0 +1,63 @@
+use Rattle.std.proofs.Common.{◌≡◌, ◌+◌, ℕ, [], ◌∷◌, ◌++◌, length, refl, sym, subst, arith, length-append}
+use Rattle.folder_commands.specs.Captures.{of_lines, standing}
+use Rattle.folder_commands.proofs.CaptureLemmas.{on_err, reads_line, takes_lines, takes_more, takes_none}
+use Rattle.folder_commands.proofs.captures.take_lines.Goals as goal
+
+pub loop-number-init : goal.loop-number-init
+loop-number-init g c = ([], refl, refl, λ kept. kept, λ old shows. (old, shows, refl))
+
+pub returns-in_err-bytes-clause-early : goal.returns-in_err-bytes-clause-early
+returns-in_err-bytes-clause-early g c = λ old shows.
+    let (texts, count, read, lasts, so_far) = c.loop-number.invariant in
+    let (mid, shown, taken) = so_far old shows in
+    let output = g.W.Write.contents c.loop-number.output in
+    on_err c.from_residual.result
+    (takes_more c.args.sites.now (standing old (g.W.Write.contents c.args.output.now) c.args.totals) (standing mid output c.loop-number.totals) (of_lines c.args.path.now 1 texts) output taken
+    (takes_none c.args.sites.now (standing mid output c.loop-number.totals)))
+
+pub returns-in_default-clause-taken : goal.returns-in_default-clause-taken
+returns-in_default-clause-taken g c = λ old shows.
+    let (texts, count, read, lasts, so_far) = c.loop-number.invariant in
+    let (mid, shown, taken) = so_far old shows in (
+      mid,
+      shown,
+      record {
+        documents = of_lines c.args.path.now 1 texts;
+        are = (texts, (c.loop-number.files, read, rw c.in_default.is at c.in_ok-bytes.ensures), refl);
+        taken = taken;
+      },
+    )
+
+pub returns-in_err-totals-clause-early : goal.returns-in_err-totals-clause-early
+returns-in_err-totals-clause-early g c = λ old shows.
+    let (texts, count, read, lasts, so_far) = c.loop-number.invariant in
+    let (mid, shown, taken) = so_far old shows in
+    on_err c.from_residual-in_err-totals.result
+    (takes_more c.args.sites.now (standing old (g.W.Write.contents c.args.output.now) c.args.totals) (standing mid (g.W.Write.contents c.loop-number.output) c.loop-number.totals) (of_lines c.args.path.now 1 texts)
+    (g.W.Write.contents c.take_line.new.output) taken (c.in_err-totals.ensures.early mid shown))
+
+pub loop-number-preserved : goal.loop-number-preserved
+loop-number-preserved g c =
+    let (texts, count, read, lasts, so_far) = c.loop-number.invariant in
+    let line = c.in-Some.bytes.items in (
+      texts ++ line ∷ [],
+      subst (λ (n : ℕ). n + 1 ≡ 1 + length (texts ++ line ∷ [])) (sym count) (omega (arith, length-append texts (line ∷ []))),
+      reads_line g.F.Files.lines c.args.files.now c.loop-number.files c.read_line.new.self c.args.path.now texts line read (rw c.in-Some.is at c.in_ok-bytes.ensures),
+      λ kept. c.take_line.ensures.stored (lasts kept),
+      λ old shows.
+          let (mid, shown, taken) = so_far old shows in
+          let (new, shows_new, more) = c.in_ok-totals.ensures.taken mid shown in (
+            new,
+            shows_new,
+            takes_lines c.args.sites.now (standing old (g.W.Write.contents c.args.output.now) c.args.totals) (standing mid (g.W.Write.contents c.loop-number.output) c.loop-number.totals)
+                (standing new (g.W.Write.contents c.take_line.new.output) c.in_ok-totals.totals) c.args.path.now line texts c.loop-number.number count taken more,
+          ),
+    )
+
+pub returns-clause-early : goal.returns-clause-early
+returns-clause-early g c = λ old shows.
+    let (texts, count, read, lasts, so_far) = c.loop-number.invariant in
+    let (mid, shown, taken) = so_far old shows in
+    let output = g.W.Write.contents c.loop-number.output in
+    takes_more c.args.sites.now (standing old (g.W.Write.contents c.args.output.now) c.args.totals) (standing mid output c.loop-number.totals) (of_lines c.args.path.now 1 texts) output taken
+    (takes_none c.args.sites.now (standing mid output c.loop-number.totals))

@@ -1,0 +1,137 @@
+-- Which calls of the files lead to an answer of a command, in order. What a call does is stated by relations of the kind
+-- of files, and what a keeper shows by its kind.
+use Rattle.std.specs.Prelude.{◌≡◌, ⊤, ◌≤◌, ◌+◌, ℕ, List, [], ◌∷◌, ◌++◌, codes, length, Option, Some, None, Result, Ok, Err, string_bytes}
+use Rattle.epc_core.specs.declared.items.EpcFault.{EpcFault}
+use Rattle.epc_core.specs.Reading.{reading}
+use Rattle.event_json.specs.Sites.{Site, named}
+use Rattle.recall_text.specs.Numbers.{recall_of}
+use Rattle.recall_text.specs.SiteLists.{IsSiteList}
+use Rattle.recall_text.specs.Words.{name_at}
+use Rattle.recall_text.specs.declared.site_lists.SiteList.{SiteList}
+use Rattle.site_core.specs.Records.{Record}
+use Rattle.site_core.specs.declared.inputs.SiteInput.{SiteInput}
+use Rattle.site_core.specs.declared.inputs.SiteInput.TheVariants.{Capture, Start}
+use Rattle.folder_commands.specs.Answers.{answer_status, answer_text, refusal_line}
+use Rattle.folder_commands.specs.Audits.{AnswersAudit}
+use Rattle.folder_commands.specs.Folders.{file_path, list_path}
+use Rattle.folder_commands.specs.Reports.{AnswersReport}
+use Rattle.folder_commands.specs.Steps.{AnswersStep}
+use Rattle.folder_commands.specs.declared.answers.Answer.{Answer}
+
+-- this is refused, and nothing else is reported
+pub record IsRefusal (what : List ℕ) (answer : Answer) : Type 0 where
+  pub text : answer_text answer ≡ refusal_line what
+  pub status : answer_status answer ≡ 1
+
+-- the folder's list was read; no line of it is refused, and it lists these sites, of which there are at least two
+pub record ListsSites {F : Type 0} (reads : F → List ℕ → List ℕ → F → Type 0) (folder : List ℕ) (old new : F) (sites : List Site) : Type 0 where
+  pub text : List ℕ
+  pub read : reads old (list_path folder) text new
+  pub list : SiteList
+  pub is_list : IsSiteList text list
+  pub good : string_bytes list.refusals ≡ []
+  pub same : sites ≡ list.sites
+  pub two : 2 ≤ length sites
+
+-- it shows the record of this site of these sites
+pub record ShowsSite {K : Type 0} (shown : K → Option Record) (sites : List Site) (site : ℕ) (keeper : K) (r : Record) : Type 0 where
+  pub shows : shown keeper ≡ Some r
+  pub lists : r.sites ≡ sites
+  pub me : r.engagement.me ≡ site
+
+-- the keepers show these records
+abbrev pub AreShown : {K : Type 0} → (K → Option Record) → List K → List Record → Type 0
+AreShown shown [] [] = ⊤
+AreShown shown (keeper ∷ keepers) (r ∷ rs) = (shown keeper ≡ Some r) × AreShown shown keepers rs
+AreShown shown keepers rs = ⊥
+
+-- their files were closed, one after another
+abbrev pub ClosesAll : {F K : Type 0} → (F → K → F → Type 0) → F → F → List K → Type 0
+ClosesAll closes old new [] = new ≡ old
+ClosesAll {F} closes old new (keeper ∷ keepers) = (mid : F) × closes old keeper mid × ClosesAll closes mid new keepers
+
+module _ {F K : Type 0} (opens : F → List ℕ → List ℕ → K → F → Type 0) (closes : F → K → F → Type 0) (shown : K → Option Record) (stored : K → Type 0) (folder : List ℕ) (sites : List Site) where
+  -- the file of the site was opened, shows its record, and a crash leaves that there
+  pub record OpensSite (site : ℕ) (old new : F) (keeper : K) (r : Record) : Type 0 where
+    pub opened : opens old (file_path folder (name_at sites site)) (name_at sites site) keeper new
+    pub shows : ShowsSite shown sites site keeper r
+    pub lasts : stored keeper
+
+  -- the site's file was opened, its record took the step, the step is reported, and the file was closed, on which a crash
+  -- leaves the record after it
+  pub record StepsAt (site : ℕ) (input : SiteInput) (old new : F) (answer : Answer) : Type 0 where
+    pub mid : F
+    pub keeper : K
+    pub before : Record
+    pub opened : OpensSite site old mid keeper before
+    pub after : K
+    pub answered : AnswersStep sites before input (shown after) answer
+    pub lasts : stored after
+    pub closed : closes mid after new
+
+  -- the files of the sites from a number on were opened, one after another
+  abbrev pub OpensFrom : ℕ → F → F → List K → List Record → Type 0
+  OpensFrom site old new [] [] = new ≡ old
+  OpensFrom site old new (keeper ∷ keepers) (r ∷ rs) = (mid : F) × OpensSite site old mid keeper r × OpensFrom (site + 1) mid new keepers rs
+  OpensFrom site old new keepers rs = ⊥
+
+  -- the files of all sites were opened, what their records say is reported, and they were closed
+  pub record TellsAll (Tells : List Record → Answer → Type 0) (old new : F) (answer : Answer) : Type 0 where
+    pub mid : F
+    pub keepers : List K
+    pub records : List Record
+    pub opened : OpensFrom 0 old mid keepers records
+    pub number : length keepers ≡ length sites
+    pub told : Tells records answer
+    pub closed : ClosesAll closes mid new keepers
+
+module _ {F K : Type 0} (reads : F → List ℕ → List ℕ → F → Type 0) (opens : F → List ℕ → List ℕ → K → F → Type 0) (closes : F → K → F → Type 0) (shown : K → Option Record) (stored : K → Type 0) where
+  -- at the site of a name; a name that isn't listed is refused without a further call
+  abbrev pub AtSite : List ℕ → Option ℕ → F → F → (ℕ → Type 0) → Answer → Type 0
+  AtSite name None old new task answer = IsRefusal (codes "NoSite " ++ name) answer × (new ≡ old)
+  AtSite name (Some site) old new task answer = task site
+
+  -- the document's file was read, and it was captured
+  pub record CapturesFile (folder : List ℕ) (sites : List Site) (site : ℕ) (file : List ℕ) (old new : F) (answer : Answer) : Type 0 where
+    pub document : List ℕ
+    pub mid : F
+    pub read : reads old file document mid
+    pub steps : StepsAt opens closes shown stored folder sites site (Capture document) mid new answer
+
+  -- a document is captured
+  pub record CapturesAt (folder name file : List ℕ) (old new : F) (answer : Answer) : Type 0 where
+    pub sites : List Site
+    pub mid : F
+    pub listed : ListsSites reads folder old mid sites
+    pub told : AtSite name (named sites name) mid new (λ site. CapturesFile folder sites site file mid new answer) answer
+
+  abbrev pub StartsItem : List ℕ → List Site → ℕ → Result (List ℕ) EpcFault → F → F → Answer → Type 0
+  StartsItem folder sites site (Ok item) old new answer = StepsAt opens closes shown stored folder sites site (Start item) old new answer
+  StartsItem folder sites site (Err fault) old new answer = IsRefusal (codes "BadEpc") answer × (new ≡ old)
+
+  -- a recall is started
+  pub record StartsAt (folder name item : List ℕ) (old new : F) (answer : Answer) : Type 0 where
+    pub sites : List Site
+    pub mid : F
+    pub listed : ListsSites reads folder old mid sites
+    pub told : AtSite name (named sites name) mid new (λ site. StartsItem folder sites site (reading item) mid new answer) answer
+
+  abbrev pub ReportsBy : List ℕ → List Site → Option (List ℕ × ℕ) → F → F → Answer → Type 0
+  ReportsBy folder sites None old new answer = IsRefusal (codes "BadLine") answer × (new ≡ old)
+  ReportsBy folder sites (Some (name, number)) old new answer =
+      AtSite name (named sites name) old new
+      (λ site. TellsAll opens closes shown stored folder sites (λ rs a. AnswersReport sites rs (record { site = site; number = number }) a) old new answer) answer
+
+  -- a recall is reported
+  pub record ReportsAt (folder recall : List ℕ) (old new : F) (answer : Answer) : Type 0 where
+    pub sites : List Site
+    pub mid : F
+    pub listed : ListsSites reads folder old mid sites
+    pub told : ReportsBy folder sites (recall_of recall) mid new answer
+
+  -- all sites are audited
+  pub record AuditsAt (folder : List ℕ) (old new : F) (answer : Answer) : Type 0 where
+    pub sites : List Site
+    pub mid : F
+    pub listed : ListsSites reads folder old mid sites
+    pub told : TellsAll opens closes shown stored folder sites (λ rs a. AnswersAudit sites rs a) mid new answer

@@ -1,0 +1,203 @@
+//! The folder of the sites' files: its list of sites, and opening the sites.
+
+ghost use Rattle.std.specs.Prelude.{◌≡◌, ◌↔◌, ℕ, List, IfOk, IsTrue, length, string_bytes};
+ghost use Rattle.recall_text.specs.Words.{name_at};
+ghost use Rattle.site_core.specs.Records.{Record};
+ghost use Rattle.site_recovery.specs.Checking.{records_at};
+ghost use Rattle.folder_commands.specs.Calls.{AreShown, ClosesAll, ListsSites, OpensFrom, OpensSite, ShowsSite};
+ghost use Rattle.folder_commands.specs.Folders.{file_path, list_path};
+
+use crate::faults::Fault;
+use event_json::laws::equal_is_same;
+use event_json::{SiteNo, Sites};
+use keeper_core::SiteKeeper;
+use recall_text::read_sites;
+use recall_text::telling::name_of;
+use site_core::SiteState;
+use std::alloc::{AllocError, Global};
+
+/// The files that the commands read, make and change. What stands behind a path no contract says: each call that
+/// succeeds is stated by a relation of the kind of files, so that contracts say which calls led to an answer.
+pub trait Files<K: SiteKeeper> {
+    ghost use Rattle.std.specs.Prelude.{List, ℕ, Bool, Option, IfOk, OnOk, option_map};
+    ghost use Rattle.site_core.specs.Records.{Record};
+
+    /// From these files, the file of this path was read with these bytes, to those files.
+    ghost reads: { Self → List ℕ → List ℕ → Self → Type 0 };
+
+    /// The next line of the file of this path was read, without its LF; or its end was met.
+    ghost lines: { Self → List ℕ → Option (List ℕ) → Self → Type 0 };
+
+    /// The file of this path was found, or found missing.
+    ghost finds: { Self → List ℕ → Bool → Self → Type 0 };
+
+    /// The file of a site was made at this path, in this record.
+    ghost makes: { Self → List ℕ → Record → Self → Type 0 };
+
+    /// The file of this path was opened as that of the site of this name.
+    ghost opens: { Self → List ℕ → List ℕ → K → Self → Type 0 };
+
+    /// The file of a site was closed.
+    ghost closes: { Self → K → Self → Type 0 };
+
+    /// A file of these bytes was made at this path.
+    ghost writes: { Self → List ℕ → List ℕ → Self → Type 0 };
+
+    /// Of the file of a site at this path, which is closed, these files know this: whole lines, or nothing.
+    ghost knows: { Self → List ℕ → List ℕ → Type 0 };
+
+    /// The bytes of a file. `Read` where it is missing or can't be read.
+    fn read(&mut self, alloc: Global, path: &str) -> Result<Vec<u8>, Fault>
+        ensures { IfOk result (λ bytes. reads self.old path.now bytes.items self.new) };
+
+    /// The next line of a file, from its first one on, without its LF; `None` at its end. A last line needs no LF. `Read`
+    /// where the file is missing or can't be read.
+    fn read_line(&mut self, alloc: Global, path: &str) -> Result<Option<Vec<u8>>, Fault>
+        ensures { IfOk result (λ line. lines self.old path.now (option_map (λ l. l.items) line) self.new) };
+
+    /// Whether there is a file of this path.
+    fn exists(&mut self, path: &str) -> Result<bool, Fault>
+        ensures { IfOk result (λ found. finds self.old path.now found self.new) };
+
+    /// Makes the file of a site in its first record.
+    fn create_site(&mut self, alloc: Global, path: &str, state: SiteState) -> Result<(), Fault>
+        ensures { OnOk result (makes self.old path.now state self.new) };
+
+    /// Opens the file of the site of a name, on which a crash leaves the record that is shown.
+    fn open_site(&mut self, alloc: Global, path: &str, name: &str) -> Result<K, Fault>
+        ensures opened { IfOk result (λ keeper. opens self.old path.now name.now keeper self.new) }
+        ensures stored { IfOk result K.stored };
+
+    /// Closes the file of a site that was opened.
+    fn close_site(&mut self, keeper: K)
+        ensures { closes self.old keeper self.new };
+
+    /// Makes a file of these bytes. `Write` where one of this path exists, or it can't be made.
+    fn write_new(&mut self, path: &str, bytes: &[u8]) -> Result<(), Fault>
+        ensures { OnOk result (writes self.old path.now bytes.now self.new) };
+
+    /// What is known of the failures that the file of a site met while it was open, also where it was opened again
+    /// after them: a line, or nothing.
+    fn known_of(&self, alloc: Global, path: &str) -> Result<String, AllocError>
+        ensures { IfOk result (λ known. knows self.now path.now (string_bytes known)) };
+
+    /// Is told which file a fault is about that no call of the files returned, before that fault is reported.
+    fn blame(&mut self, _path: &str) {}
+}
+
+/// The path of a folder's list of sites.
+pub(crate) fn list_path(alloc: Global, folder: &str) -> Result<String, AllocError>
+    ensures { IfOk result (λ t. string_bytes t ≡ list_path folder.now) }
+{
+    format!(in alloc; "{folder}/sites")
+}
+
+/// The path of the file of a site.
+pub(crate) fn file_path(
+    alloc: Global,
+    folder: &str,
+    sites: &Sites,
+    site: SiteNo,
+) -> Result<String, AllocError>
+    ensures { IfOk result (λ t. string_bytes t ≡ file_path folder.now (name_at sites.now site)) }
+{
+    let name = name_of(sites, site);
+    format!(in alloc; "{folder}/{name}.db")
+}
+
+/// The sites that a folder lists.
+pub(crate) fn sites_of<K: SiteKeeper, F: Files<K>>(
+    alloc: Global,
+    files: &mut F,
+    folder: &str,
+) -> Result<Sites, Fault>
+    ensures { IfOk result (λ sites. ListsSites F.reads folder.now files.old files.new sites) }
+{
+    let path = list_path(alloc, folder)?;
+    let text = files.read(alloc, path.as_str())?;
+    let list = read_sites(alloc, text.as_slice())?;
+    if list.refusals.as_str().is_empty() && list.sites.ready() {
+        Ok(list.sites)
+    } else {
+        files.blame(path.as_str());
+        Err(Fault::BadSites)
+    }
+}
+
+/// Opens the file of a site, which has to have the folder's list of sites.
+pub(crate) fn open_site<K: SiteKeeper, F: Files<K>>(
+    alloc: Global,
+    files: &mut F,
+    folder: &str,
+    sites: &Sites,
+    site: SiteNo,
+) -> Result<K, Fault>
+    ensures { IfOk result (λ keeper. (r : Record) × OpensSite F.opens F.closes K.shown K.stored folder.now sites.now site files.old files.new keeper r) }
+{
+    let path = file_path(alloc, folder, sites, site)?;
+    let keeper = files.open_site(alloc, path.as_str(), name_of(sites, site))?;
+    if keeps_site(&keeper, sites, site) {
+        Ok(keeper)
+    } else {
+        files.blame(path.as_str());
+        Err(Fault::OtherSites)
+    }
+}
+
+/// Whether the keeper is open and keeps the record of this site of these sites.
+fn keeps_site<K: SiteKeeper>(keeper: &K, sites: &Sites, site: SiteNo) -> bool
+    ensures { IsTrue result → (r : Record) × ShowsSite K.shown sites.now site keeper.now r }
+{
+    // Lists of sites that are compared as equal are the same.
+    equal_is_same();
+    match keeper.view() {
+        Some(state) => state.sites() == sites && state.me() == site,
+        None => false,
+    }
+}
+
+/// Opens the files of all sites, in the order of their numbers.
+pub(crate) fn open_all<K: SiteKeeper, F: Files<K>>(
+    alloc: Global,
+    files: &mut F,
+    folder: &str,
+    sites: &Sites,
+) -> Result<Vec<K>, Fault>
+    ensures opened { IfOk result (λ keepers. (rs : List Record) × OpensFrom F.opens F.closes K.shown K.stored folder.now sites.now 0 files.old files.new keepers.items rs) }
+    ensures number { IfOk result (λ keepers. length keepers.items ≡ length sites.now) }
+{
+    let mut keepers = Vec::new(alloc);
+    for number in 0..sites.len() {
+        let Some(site) = SiteNo::of(number) else {
+            return Err(Fault::BadSites);
+        };
+        keepers.push(open_site(alloc, files, folder, sites, site)?)?;
+    }
+    Ok(keepers)
+}
+
+/// The records that keepers show.
+pub(crate) fn records_of<'a, K: SiteKeeper>(
+    alloc: Global,
+    keepers: &'a [K],
+) -> Result<Vec<&'a SiteState>, Fault>
+    ensures { IfOk result (λ records. AreShown K.shown keepers.now (records_at records.items)) }
+{
+    let mut records = Vec::new(alloc);
+    for keeper in keepers {
+        match keeper.view() {
+            Some(state) => records.push(state)?,
+            None => return Err(Fault::Closed),
+        }
+    }
+    Ok(records)
+}
+
+/// Closes the files of all sites.
+pub(crate) fn close_all<K: SiteKeeper, F: Files<K>>(files: &mut F, keepers: Vec<K>)
+    ensures { ClosesAll F.closes files.old files.new keepers.items }
+{
+    for keeper in keepers {
+        files.close_site(keeper);
+    }
+}

@@ -1,0 +1,172 @@
+//! `init`: a file for each site of a list.
+
+ghost use Rattle.std.specs.Prelude.{◌≡◌, ◌++◌, Bool, List, IfOk, OnOk, length, string_bytes};
+ghost use Rattle.recall_text.specs.Words.{name_at};
+ghost use Rattle.folder_commands.specs.Answers.{IsAnswer};
+ghost use Rattle.folder_commands.specs.Making.{InitsAt, LooksForList, LooksFrom, MakesAll, MakesFrom, MakesListed, exists_line, exists_lines, few_line, line_where};
+
+use crate::answers::Answer;
+use crate::faults::Fault;
+use crate::folders::{Files, file_path, list_path};
+use event_json::{SiteNo, Sites};
+use keeper_core::SiteKeeper;
+use recall_text::telling::name_of;
+use recall_text::{SiteList, read_sites};
+use site_core::SiteState;
+use std::alloc::{AllocError, Global};
+use std::hash::RandomState;
+
+/// Makes a file for each site of a list, and last the folder's own list.
+///
+/// It is refused, and nothing is made, where a line of the list is refused, where it lists fewer than two sites, for
+/// each site that has a file already, and where none has one and the folder has a list.
+///
+/// # Errors
+/// `Read` where the list can't be read, and the faults of the files. Those of some sites may have been made then.
+pub fn init<K: SiteKeeper, F: Files<K>>(
+    alloc: Global,
+    keys: RandomState,
+    files: &mut F,
+    folder: &str,
+    list: &str,
+) -> Result<Answer, Fault>
+    ensures calls { IfOk result (InitsAt F.reads F.finds F.makes F.writes folder.now list.now files.old files.new) }
+    ensures sound { IfOk result IsAnswer }
+{
+    let text = files.read(alloc, list)?;
+    let list = read_sites(alloc, text.as_slice())?;
+    make_listed(alloc, keys, files, folder, text.as_slice(), &list)
+}
+
+/// Makes the files of the sites that a text lists, where nothing is refused.
+fn make_listed<K: SiteKeeper, F: Files<K>>(
+    alloc: Global,
+    keys: RandomState,
+    files: &mut F,
+    folder: &str,
+    text: &[u8],
+    list: &SiteList,
+) -> Result<Answer, Fault>
+    ensures { IfOk result (MakesListed F.reads F.finds F.makes F.writes folder.now list.now text.now files.old files.new) }
+{
+    let sites = &list.sites;
+    let mut refusals = String::from_str(alloc, list.refusals.as_str())?;
+    push_few(sites, &mut refusals)?;
+    push_existing(alloc, files, folder, sites, &mut refusals)?;
+    push_list(alloc, files, folder, &mut refusals)?;
+    if refusals.as_str().is_empty() {
+        make_folder(alloc, keys, files, folder, text, sites)?;
+        Ok(Answer::Done(String::new(alloc)))
+    } else {
+        Ok(Answer::Refused(refusals))
+    }
+}
+
+/// Adds the refusal of too few sites.
+fn push_few(sites: &Sites, refusals: &mut String) -> Result<(), AllocError>
+    ensures { OnOk result (string_bytes refusals.new ≡ string_bytes refusals.old ++ few_line sites.now) }
+{
+    if !sites.ready() {
+        refusals.push_str("refused NoWorld\n")?;
+    }
+    Ok(())
+}
+
+/// Adds a refusal for each site that has a file.
+fn push_existing<K: SiteKeeper, F: Files<K>>(
+    alloc: Global,
+    files: &mut F,
+    folder: &str,
+    sites: &Sites,
+    refusals: &mut String,
+) -> Result<(), Fault>
+    ensures { OnOk result ((found : List Bool) × LooksFrom F.finds folder.now sites.now 0 files.old files.new found
+        × (length found ≡ length sites.now) × (string_bytes refusals.new ≡ string_bytes refusals.old ++ exists_lines sites.now 0 found)) }
+{
+    for number in 0..sites.len() {
+        let Some(site) = SiteNo::of(number) else {
+            return Err(Fault::BadSites);
+        };
+        let path = file_path(alloc, folder, sites, site)?;
+        push_where(alloc, files, path.as_str(), name_of(sites, site), refusals)?;
+    }
+    Ok(())
+}
+
+/// Where nothing is refused, adds the refusal of a list of sites that stands in the folder.
+fn push_list<K: SiteKeeper, F: Files<K>>(
+    alloc: Global,
+    files: &mut F,
+    folder: &str,
+    refusals: &mut String,
+) -> Result<(), Fault>
+    ensures { OnOk result (LooksForList F.finds folder.now (string_bytes refusals.old) files.old files.new (string_bytes refusals.new)) }
+{
+    if refusals.is_empty() {
+        let path = list_path(alloc, folder)?;
+        push_where(alloc, files, path.as_str(), "sites", refusals)?;
+    }
+    Ok(())
+}
+
+/// Adds a refusal where there is a file of a path.
+fn push_where<K: SiteKeeper, F: Files<K>>(
+    alloc: Global,
+    files: &mut F,
+    path: &str,
+    name: &str,
+    refusals: &mut String,
+) -> Result<(), Fault>
+    ensures { OnOk result ((found : Bool) × F.finds files.old path.now found files.new
+        × (string_bytes refusals.new ≡ string_bytes refusals.old ++ line_where found name.now)) }
+{
+    if files.exists(path)? {
+        push_exists(alloc, name, refusals)?;
+    }
+    Ok(())
+}
+
+/// Adds the refusal of a file that exists.
+fn push_exists(alloc: Global, name: &str, refusals: &mut String) -> Result<(), AllocError>
+    ensures { OnOk result (string_bytes refusals.new ≡ string_bytes refusals.old ++ exists_line name.now) }
+{
+    let line = format!(in alloc; "refused Exists {name}\n")?;
+    refusals.push_str(line.as_str())
+}
+
+/// Makes the files of all sites, and then the folder's list.
+fn make_folder<K: SiteKeeper, F: Files<K>>(
+    alloc: Global,
+    keys: RandomState,
+    files: &mut F,
+    folder: &str,
+    text: &[u8],
+    sites: &Sites,
+) -> Result<(), Fault>
+    ensures { OnOk result (MakesAll F.reads F.finds F.makes F.writes folder.now sites.now text.now files.old files.new) }
+{
+    make_all(alloc, keys, files, folder, sites)?;
+    let path = list_path(alloc, folder)?;
+    files.write_new(path.as_str(), text)
+}
+
+/// Makes the files of all sites.
+fn make_all<K: SiteKeeper, F: Files<K>>(
+    alloc: Global,
+    keys: RandomState,
+    files: &mut F,
+    folder: &str,
+    sites: &Sites,
+) -> Result<(), Fault>
+    ensures { OnOk result (MakesFrom F.makes folder.now sites.now 0 (length sites.now) files.old files.new) }
+{
+    for number in 0..sites.len() {
+        let Some(site) = SiteNo::of(number) else {
+            return Err(Fault::BadSites);
+        };
+        let path = file_path(alloc, folder, sites, site)?;
+        let state = SiteState::new(alloc, keys, sites.copy(alloc)?, site);
+        files.create_site(alloc, path.as_str(), state)?;
+    }
+    Ok(())
+}

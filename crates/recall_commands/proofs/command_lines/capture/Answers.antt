@@ -1,9 +1,0 @@
-use Rattle.std.proofs.lemmas.Result.{IfOk-weaker}
-use Rattle.recall_commands.proofs.Assembly.{adds_rule}
-use Rattle.recall_commands.proofs.command_lines.capture.Goals as goal
-
-pub returns : goal.returns
-returns c =
-    let site = adds_rule _ _ _ _ _ c.in_ok-arg.ensures c.required.ensures.local c.in_ok-on_folder.ensures c.required.ensures.rule in
-    let files = adds_rule _ _ _ _ _ c.in_ok-arg-2.ensures c.files.ensures.local site c.files.ensures.rule in
-    IfOk-weaker c.arg-3.result _ _ (λ command adds. adds_rule _ _ command _ _ adds c.lines.ensures.local files c.lines.ensures.rule) c.arg-3.ensures

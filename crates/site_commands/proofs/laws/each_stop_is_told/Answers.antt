@@ -1,5 +1,0 @@
-use Rattle.site_commands.proofs.NoteLaws.{each_told}
-use Rattle.site_commands.proofs.laws.each_stop_is_told.Goals as goal
-
-pub returns : goal.returns
-returns c = each_told

@@ -1,5 +1,0 @@
-use Rattle.site_commands.proofs.NoteLaws.{only_stopped}
-use Rattle.site_commands.proofs.laws.only_sites_that_stopped_are_named.Goals as goal
-
-pub returns : goal.returns
-returns c = only_stopped
