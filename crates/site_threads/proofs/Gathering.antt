@@ -13,7 +13,9 @@ use Rattle.site_recovery.specs.Fit.{Fits}
 use Rattle.site_recovery.specs.Laws.{AreInPlace}
 use Rattle.site_recovery.specs.Looks.{world_of}
 use Rattle.world_core.specs.Faults.{AreOneWorld}
+use Rattle.world_core.specs.Keepers.{AllShow}
 use Rattle.world_core.specs.Recalls.{AreExactOnceEnded, quarantined}
+use Rattle.world_core.specs.Turns.{Runs}
 use Rattle.world_core.specs.Worlds as world
 use Rattle.world_core.specs.Worlds.{Up, WorldState, WorldFits}
 use Rattle.world_core.proofs.EndedRecalls.{ended_is_exact}
@@ -21,12 +23,14 @@ use Rattle.wire_core.specs.declared.views.Log.{Log}
 use Rattle.wire_core.specs.Answers.{Holds}
 use Rattle.wire_core.specs.Fitting.{SitesFit}
 use Rattle.wire_core.specs.Frames.{DeliversOneOf}
-use Rattle.wire_core.specs.Rule.{records, frames}
+use Rattle.wire_core.specs.Rule.{records, frames, world_up}
 use Rattle.wire_core.specs.Seats.{Line, HoldsAll, AreAllOf, Gathered}
 use Rattle.wire_core.proofs.Fitting.{one_step, fewer_fit}
+use Rattle.wire_core.proofs.Running.{run_fits}
 use Rattle.site_threads.specs.declared.jobs.Entry.{Entry}
+use Rattle.site_threads.specs.declared.lists.RunLog.{RunLog}
 use Rattle.site_threads.specs.declared.runs.SiteRun.{SiteRun}
-use Rattle.site_threads.specs.Gathering.{Opens, EndsAreExact, KeepersFit}
+use Rattle.site_threads.specs.Gathering.{Opens, EndsAreExact, IsKept, KeepersFit, LeadsTo}
 use Rattle.site_threads.specs.Keepers.{shown_in, may_in}
 use Rattle.site_threads.specs.Parting.{HasKeeper}
 use Rattle.site_threads.specs.Runs.{IsRun}
@@ -149,8 +153,8 @@ module _ {K G : Type 0} (shown : K → Option Record) (may : K → Record → Ty
   all_same wire [] (r ∷ rs) all s = absurd s
   all_same wire (run ∷ runs) [] all s = absurd s
 
-  all_fit : (runs : List (SiteRun K G)) (ls : List Log) (rs : List Record) → Gathered ls → AllZip (IsEnd shown may) runs ls → AllZip (Stands shown may) runs rs → SitesFit rs []
-  all_fit runs ls rs all z s = fewer_fit rs (frames ls) [] (any_fit (frames ls) [] runs ls rs all.fit (λ e f c d. (all.noted e f c d).1) z s) (λ f c. let h = c.1 in absurd (omega arith))
+  all_fit : (start : List Record) (runs : List (SiteRun K G)) (ls : List Log) (rs : List Record) → Gathered start ls → AllZip (IsEnd shown may) runs ls → AllZip (Stands shown may) runs rs → SitesFit rs []
+  all_fit start runs ls rs all z s = fewer_fit rs (frames ls) [] (any_fit (frames ls) [] runs ls rs (run_fits start ls all.run) (λ e f c d. (all.noted e f c d).1) z s) (λ f c. let h = c.1 in absurd (omega arith))
 
   -- each site has one log
   ends_of : (wire : Line) (runs : List (SiteRun K G)) → All (IsRun shown may wire) runs → (ls : List Log) × (flat_map (λ (r : SiteRun K G). r.turn.site.seat.logs) runs ≡ ls) × AllZip (IsEnd shown may) runs ls
@@ -172,6 +176,20 @@ module _ {K G : Type 0} (shown : K → Option Record) (may : K → Record → Ty
   unfolding Stands
   runs_stand runs keepers rs = zip_through HasKeeper (λ k r. Opens (shown k) (may k) r) (Stands shown may) runs keepers rs (λ run k r is o. subst (λ (x : Option K). Opens (shown_in shown x) (may_in may x) r) (sym is) o)
 
+  -- an open keeper shows the record last marked of its site
+  lasts : (runs : List (SiteRun K G)) (ls : List Log) (keepers : List K) (rs : List Record) → AllZip (IsEnd shown may) runs ls → AllZip HasKeeper runs keepers → AllShow shown keepers rs → records ls ≡ rs
+  lasts [] [] [] [] z have show = refl
+  lasts (run ∷ runs) (log ∷ ls) (k ∷ keepers) (r ∷ rs) z have show =
+      let s : shown_in shown run.turn.site.keeper ≡ Some r = ap (shown_in shown) have.0 ∙ show.0 in
+      let held = subst (λ (o : Option Record). Holding o (may_in may run.turn.site.keeper) run.turn.site.start.value run.turn.site.entries.items log) s z.0.holding in
+      λ i. sym held.marked i ∷ lasts runs ls keepers rs z.1 have.1 show.1 i
+  lasts [] (l ∷ ls) keepers rs z have show = absurd z
+  lasts (run ∷ runs) [] keepers rs z have show = absurd z
+  lasts [] [] (k ∷ keepers) rs z have show = absurd have
+  lasts (run ∷ runs) (l ∷ ls) [] rs z have show = absurd have
+  lasts [] [] [] (r ∷ rs) z have show = absurd show
+  lasts (run ∷ runs) (l ∷ ls) (k ∷ keepers) [] z have show = absurd show
+
   module _ (wire : Line) (runs : List (SiteRun K G)) (logs : List Log) (all : All (IsRun shown may wire) runs) (joined : logs ≡ flat_map (λ (r : SiteRun K G). r.turn.site.seat.logs) runs)
       (order : map (λ (r : SiteRun K G). r.turn.site.me) runs ≡ range_with_len 0 wire.sites) where
     sites_are : map (λ (e : Log). e.site) logs ≡ range_with_len 0 wire.sites
@@ -180,11 +198,26 @@ module _ {K G : Type 0} (shown : K → Option Record) (may : K → Record → Ty
     pub all_there : HoldsAll wire.sites logs
     all_there = holds_all wire.sites logs sites_are
 
-    pub keepers_fit : (everyone : List Log) → AreAllOf wire.sites logs everyone → Gathered everyone → AreOneWorld (map (λ (r : SiteRun K G). r.turn.site.start.value) runs) → (keepers : List K) → AllZip HasKeeper runs keepers → KeepersFit shown may keepers
+    pub keepers_fit : (everyone : List Log) → AreAllOf wire.sites logs everyone → Gathered wire.start everyone → AreOneWorld (map (λ (r : SiteRun K G). r.turn.site.start.value) runs) → (keepers : List K) → AllZip HasKeeper runs keepers → KeepersFit shown may keepers
     keepers_fit everyone are gathered one keepers have rs stand =
         let e = ends_of wire runs all in
         let same = all_held wire.sites logs everyone sites_are are ∙ joined ∙ e.1 in
         let stands = runs_stand runs keepers rs have stand in
-        let fit = all_fit runs e.0 rs (subst Gathered same gathered) e.2 stands in
+        let fit = all_fit wire.start runs e.0 rs (subst (Gathered wire.start) same gathered) e.2 stands in
         let again = one_again (map (λ (r : SiteRun K G). r.turn.site.start.value) runs) rs (all_same wire runs rs all stands) one in
         record { world = record { one = again; places = fit.places; fit = fit.fits }; exact = exact_when_fit rs fit }
+
+    pub keepers_lead : (everyone : List Log) → AreAllOf wire.sites logs everyone → Gathered wire.start everyone → (keepers : List K) → AllZip HasKeeper runs keepers → (rs : List Record) → AllShow shown keepers rs → LeadsTo wire.start rs
+    keepers_lead everyone are gathered keepers have rs show =
+        let e = ends_of wire runs all in
+        let same = all_held wire.sites logs everyone sites_are are ∙ joined ∙ e.1 in
+        let last = ap records same ∙ lasts runs e.0 keepers rs e.2 have show in
+        let run = gathered.run in
+        record { events = run.events; answers = run.answers; sent = run.sent; happened = run.happened; runs = subst (λ (l : List Record). Runs (world_up wire.start []) run.events run.answers (world_up l run.sent)) last run.runs }
+
+-- keepers that are kept as their lists are open
+pub kept_show : {K : Type 0} (shown : K → Option Record) (keepers : List K) (lists : List RunLog) → AllZip (IsKept shown) keepers lists → (rs : List Record) × AllShow shown keepers rs
+kept_show shown [] [] z = ([], tt)
+kept_show shown (k ∷ keepers) (l ∷ lists) z = let more = kept_show shown keepers lists z.1 in (z.0.last ∷ more.0, (z.0.stands, more.1))
+kept_show shown [] (l ∷ lists) z = absurd z
+kept_show shown (k ∷ keepers) [] z = absurd z

@@ -28,7 +28,7 @@ module _ (logs : List Log) (kept : Stamp) (input : SiteInput) (r : Record) (may 
   unmarked same e is =
       let old = only may.log e (sym may.alone ∙ is) in
       let last : r ≡ may.log.last = ⊎_elim (λ (k : r ≡ may.log.last). k) (λ (a : IsAfter may.log.last input r). same_stamp may.log.last r input a (same ∙ may.stamped)) may.next in
-      (e, is, record { site = refl; last = sym (last ∙ ap (λ (x : Log). x.last) old); noted = refl; sent = refl; marks = omega arith })
+      (e, is, record { site = refl; last = sym (last ∙ ap (λ (x : Log). x.last) old); noted = refl; sent = refl; asked = refl; offered = refl; marks = omega arith })
 
   -- and else it is the one after the input
   pub may_mark : stamp r ≢ kept → MayMark input r logs
@@ -45,4 +45,4 @@ module _ (logs : List Log) (kept : Stamp) (input : SiteInput) (r : Record) (may 
   marked new done e is =
       let old = only may.log e (sym may.alone ∙ is) in
       let at : e.site ≡ r.engagement.me = subst (λ (x : Log). x.site ≡ r.engagement.me) old own in
-      (marks input r e, done ∙ ap (on r.engagement.me (marks input r)) is ∙ on_one e (marks input r) r.engagement.me at, record { site = refl; last = refl; noted = refl; sent = refl; marks = let l = length_push e.inputs input in omega arith })
+      (marks input r e, done ∙ ap (on r.engagement.me (marks input r)) is ∙ on_one e (marks input r) r.engagement.me at, record { site = refl; last = refl; noted = refl; sent = refl; asked = refl; offered = refl; marks = let l = length_push e.inputs input in omega arith })

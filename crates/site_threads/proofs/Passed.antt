@@ -10,13 +10,13 @@ use Rattle.site_core.specs.declared.inputs.SiteInput.TheVariants.{Capture, Start
 use Rattle.wire_core.specs.Answers.{MatchPost, MayPost, MayTake}
 use Rattle.wire_core.specs.declared.calls.Post.{Post}
 use Rattle.wire_core.specs.declared.calls.Post.TheVariants.{Posted, Full}
-use Rattle.wire_core.specs.Changes.{on, posts, notes}
+use Rattle.wire_core.specs.Changes.{on, asks, offers, sends, receives}
 use Rattle.wire_core.specs.Frames.{sender}
 use Rattle.wire_core.specs.declared.views.Log.{Log}
 use Rattle.site_threads.specs.Inputs.{input_of, is_delivery}
 use Rattle.site_threads.specs.Jobs.{entry_of, job_of, jobs_in, open_after, option_items}
 use Rattle.site_threads.specs.Offers.{IsFor}
-use Rattle.site_threads.specs.Passing.{EntersFrames, TakesFrames}
+use Rattle.site_threads.specs.Passing.{EntersFrames, Incoming, TakesFrames}
 use Rattle.site_threads.specs.Running.{Holding, StandsOpen, Runs, MayDeliver}
 use Rattle.site_threads.specs.declared.jobs.Entry.{Entry}
 use Rattle.site_threads.specs.declared.jobs.Job.{Job}
@@ -32,10 +32,14 @@ alone_has e = (0, omega arith, refl)
 last_has : {A : Type 0} (xs : List A) (x : A) → Contains (xs ++ x ∷ []) x
 last_has xs x = Contains-append_right xs (x ∷ []) x (0, omega arith, refl)
 
--- what is held stays with a frame that was noted, and with one that was sent
-held_noted : (shown : Option Record) (may : Record → Type 0) (start : Record) (entries : List Entry) (log : Log) (f : Frame) → Holding shown may start entries log → Holding shown may start entries (notes f log)
-held_noted (Some r) may start entries log f h = record { marked = h.marked; steps = h.steps }
-held_noted None may start entries log f h = record {
+-- what is held stays with a site that was asked and a frame that was noted, and with one that was offered or sent
+held_asked : (shown : Option Record) (may : Record → Type 0) (start : Record) (entries : List Entry) (log : Log) (other : ℕ) → Holding shown may start entries log → Holding shown may start entries (asks other log)
+held_asked (Some r) may start entries log other h = record { marked = h.marked; steps = h.steps }
+held_asked None may start entries log other h = record { earlier = h.earlier; last = h.last; all = h.all; reply = h.reply; steps = h.steps; old_or_new = h.old_or_new; noted = h.noted }
+
+held_noted : (shown : Option Record) (may : Record → Type 0) (start : Record) (entries : List Entry) (log : Log) (other : ℕ) (f : Frame) → Holding shown may start entries log → Holding shown may start entries (receives other f log)
+held_noted (Some r) may start entries log other f h = record { marked = h.marked; steps = h.steps }
+held_noted None may start entries log other f h = record {
   earlier = h.earlier;
   last = h.last;
   all = h.all;
@@ -45,7 +49,11 @@ held_noted None may start entries log f h = record {
   noted = λ g is. Contains-append_left log.noted (f ∷ []) g (h.noted g is);
 }
 
-held_sent : (shown : Option Record) (may : Record → Type 0) (start : Record) (entries : List Entry) (log : Log) (f : Frame) → Holding shown may start entries log → Holding shown may start entries (posts f log)
+held_offered : (shown : Option Record) (may : Record → Type 0) (start : Record) (entries : List Entry) (log : Log) (f : Frame) → Holding shown may start entries log → Holding shown may start entries (offers f log)
+held_offered (Some r) may start entries log f h = record { marked = h.marked; steps = h.steps }
+held_offered None may start entries log f h = record { earlier = h.earlier; last = h.last; all = h.all; reply = h.reply; steps = h.steps; old_or_new = h.old_or_new; noted = h.noted }
+
+held_sent : (shown : Option Record) (may : Record → Type 0) (start : Record) (entries : List Entry) (log : Log) (f : Frame) → Holding shown may start entries log → Holding shown may start entries (sends f log)
 held_sent (Some r) may start entries log f h = record { marked = h.marked; steps = h.steps }
 held_sent None may start entries log f h = record { earlier = h.earlier; last = h.last; all = h.all; reply = h.reply; steps = h.steps; old_or_new = h.old_or_new; noted = h.noted }
 
@@ -64,40 +72,61 @@ module _ (shown : Option Record) (may : Record → Type 0) (logs : List Log) (me
   pub same_runs : (new : List Log) → new ≡ logs → Runs shown may new me kept entries start
   same_runs new is = subst (λ l. Runs shown may l me kept entries start) (sym is) h
 
-  noted_log : (f : Frame) (new : List Log) → new ≡ on me (notes f) logs → new ≡ notes f h.log ∷ []
-  noted_log f new is = is ∙ ap (on me (notes f)) h.alone ∙ on_one h.log (notes f) me h.own.site
+  -- the one log is changed
+  now_log : (g : Log → Log) (site : ℕ) (new : List Log) → site ≡ me → new ≡ on site g logs → new ≡ g h.log ∷ []
+  now_log g site new mine is = is ∙ ap (on site g) h.alone ∙ on_one h.log g site (h.own.site ∙ sym mine)
 
-  pub noted_runs : (f : Frame) (new : List Log) → new ≡ on me (notes f) logs → Runs shown may new me kept entries start
-  noted_runs f new is = record {
-    log = notes f h.log;
-    alone = noted_log f new is;
+  pub asked_runs : (other : ℕ) (new : List Log) → new ≡ on me (asks other) logs → Runs shown may new me kept entries start
+  asked_runs other new is = record {
+    log = asks other h.log;
+    alone = now_log (asks other) me new refl is;
     own = record { site = h.own.site; last = h.own.last };
     stamped = h.stamped;
     numbered = h.numbered;
-    holding = held_noted shown may start entries h.log f h.holding;
+    holding = held_asked shown may start entries h.log other h.holding;
+  }
+
+  pub noted_runs : (other : ℕ) (f : Frame) (new : List Log) → new ≡ on me (receives other f) logs → Runs shown may new me kept entries start
+  noted_runs other f new is = record {
+    log = receives other f h.log;
+    alone = now_log (receives other f) me new refl is;
+    own = record { site = h.own.site; last = h.own.last };
+    stamped = h.stamped;
+    numbered = h.numbered;
+    holding = held_noted shown may start entries h.log other f h.holding;
   }
 
   -- a frame that was taken may be delivered
-  pub taken_delivers : (f : Frame) (new : List Log) → new ≡ on me (notes f) logs → MayDeliver (Deliver f) new
+  pub taken_delivers : (other : ℕ) (f : Frame) (new : List Log) → new ≡ on me (receives other f) logs → MayDeliver (Deliver f) new
   unfolding delivered
-  taken_delivers f new is e alone g same =
-      subst (λ (x : Log). Contains x.noted g) (only (notes f h.log) e (sym (noted_log f new is) ∙ alone))
+  taken_delivers other f new is e alone g same =
+      subst (λ (x : Log). Contains x.noted g) (only (receives other f h.log) e (sym (now_log (receives other f) me new refl is) ∙ alone))
       (subst (Contains (h.log.noted ++ f ∷ [])) (ap (λ i. delivered i f) same) (last_has h.log.noted f))
 
-  pub sent_runs : (f : Frame) (site : ℕ) (new : List Log) → site ≡ me → new ≡ on site (posts f) logs → Runs shown may new me kept entries start
+  pub sent_runs : (f : Frame) (site : ℕ) (new : List Log) → site ≡ me → new ≡ on site (sends f) logs → Runs shown may new me kept entries start
   sent_runs f site new mine is = record {
-    log = posts f h.log;
-    alone = is ∙ ap (on site (posts f)) h.alone ∙ on_one h.log (posts f) site (h.own.site ∙ sym mine);
+    log = sends f h.log;
+    alone = now_log (sends f) site new mine is;
     own = record { site = h.own.site; last = h.own.last };
     stamped = h.stamped;
     numbered = h.numbered;
     holding = held_sent shown may start entries h.log f h.holding;
   }
 
+  pub offered_runs : (f : Frame) (site : ℕ) (new : List Log) → site ≡ me → new ≡ on site (offers f) logs → Runs shown may new me kept entries start
+  offered_runs f site new mine is = record {
+    log = offers f h.log;
+    alone = now_log (offers f) site new mine is;
+    own = record { site = h.own.site; last = h.own.last };
+    stamped = h.stamped;
+    numbered = h.numbered;
+    holding = held_offered shown may start entries h.log f h.holding;
+  }
+
   -- whether it was posted or not
-  pub posted_runs : (f : Frame) (site : ℕ) (new : List Log) → site ≡ me → (A B C : Type 0) (p : Post) → MatchPost p ((new ≡ on site (posts f) logs) × A) (λ g. (g ≡ f) × (new ≡ logs) × B × C) → Runs shown may new me kept entries start
+  pub posted_runs : (f : Frame) (site : ℕ) (new : List Log) → site ≡ me → (A B C : Type 0) (p : Post) → MatchPost p ((new ≡ on site (sends f) logs) × A) (λ g. (g ≡ f) × (new ≡ on site (offers f) logs) × B × C) → Runs shown may new me kept entries start
   posted_runs f site new mine A B C Posted answer = sent_runs f site new mine answer.0
-  posted_runs f site new mine A B C (Full g) answer = same_runs new answer.1
+  posted_runs f site new mine A B C (Full g) answer = offered_runs f site new mine answer.1
 
   module _ (r : Record) (is : shown ≡ Some r) (to : ℕ) (f : Frame) (fits : IsFor r.engagement to f) where
     open_in : StandsOpen r start entries h.log
@@ -144,7 +173,7 @@ jobs_added before after took old new receipt n l t =
     ap jobs_in t.all ∙ jobs_append (old ++ map entry_of (option_items receipt)) t.frames ∙ ap (λ l. jobs_in (old ++ map entry_of (option_items receipt)) ++ l) (frames_have_no_jobs t.frames t.each) ∙ append-nil _
     ∙ jobs_append old (map entry_of (option_items receipt)) ∙ ap (λ l. jobs_in old ++ l) (receipt_jobs receipt)
 
-pub jobs_done : {E : Type 0} (S : TurnReport → Type 0) (me low high : ℕ) (noted noted' : List Frame) (after : Bool) (r : Result TurnReport E) (old begun new : List Entry) (ready job : Option Job) → begun ≡ old → ready ≡ job → IfOk r (λ report. (option_map (λ x. x.job) report.receipt ≡ ready) × S report)
+pub jobs_done : {E : Type 0} (S : TurnReport → Type 0) (me low high : ℕ) (noted noted' : Incoming) (after : Bool) (r : Result TurnReport E) (old begun new : List Entry) (ready job : Option Job) → begun ≡ old → ready ≡ job → IfOk r (λ report. (option_map (λ x. x.job) report.receipt ≡ ready) × S report)
     → IfOk r (λ report. TakesFrames me low high noted noted' (open_after report.receipt) after (begun ++ map entry_of (option_items report.receipt)) new report.applied report.lost) → IfOk r (λ report. jobs_in new ≡ jobs_in old ++ option_items job)
 jobs_done S me low high noted noted' after (Ok report) old begun new ready job same is done entered =
     jobs_added (open_after report.receipt) after entered.took begun new report.receipt report.applied report.lost entered.enters ∙ (λ i. jobs_in (same i) ++ option_items ((done.0 ∙ is) i))

@@ -1,13 +1,14 @@
 -- What a site noted from the wire and sent over it, one call after another.
-use Rattle.std.proofs.Common.{length, ◌≡◌, ◌≢◌, ℕ, ◌+◌, ◌≤◌, inl, inr, Bool, true, not, is_some, cond, map, Option, Some, None, Result, Ok, Err, List, [], ◌∷◌, ◌++◌, refl, sym, ap, ◌∙◌, subst, arith, append_assoc, append-nil}
+use Rattle.std.proofs.Common.{length, ◌≡◌, ◌≢◌, ℕ, zero, suc, ◌+◌, ◌-◌, ◌≤◌, inl, inr, Bool, true, false, true≢false, not, nat_eq, is_some, cond, filter, map, Option, Some, None, Result, Ok, Err, List, [], ◌∷◌, ◌++◌, refl, sym, ap, ◌∙◌, subst, arith, append_assoc, append-nil, eq-eqb, ne_eqb}
 use Rattle.std.specs.Prelude.{IfOk, IfErr, IsTrue, MatchOption, is_ok}
 use Rattle.std.proofs.lemmas.List.{length-append}
-use Rattle.std.proofs.lemmas.List.Elements.{All-nil, All-cons, All-append}
+use Rattle.std.proofs.lemmas.List.Elements.{All-nil, All-cons, All-append, filter-append}
+use Rattle.std.specs.List.{range_with_len}
 use Rattle.frame_core.specs.declared.frames.Frame.{Frame}
 use Rattle.site_core.specs.Records.{Record}
 use Rattle.site_core.specs.declared.inputs.SiteInput.TheVariants as inputs
 use Rattle.wire_core.specs.Answers.{MatchPost}
-use Rattle.wire_core.specs.Changes.{on, posts, notes}
+use Rattle.wire_core.specs.Changes.{on, asks, offers, sends, receives}
 use Rattle.wire_core.specs.Frames.{sender}
 use Rattle.wire_core.specs.declared.calls.Post.{Post}
 use Rattle.wire_core.specs.declared.calls.Post.TheVariants.{Posted, Full}
@@ -16,7 +17,7 @@ use Rattle.world_core.specs.Turns.{addressee}
 use Rattle.site_threads.specs.Inputs.{is_delivery}
 use Rattle.site_threads.specs.Jobs.{ComesTo, entry_of, is_stop, open_after, option_items}
 use Rattle.site_threads.specs.Offers.{IsFor}
-use Rattle.site_threads.specs.Passing.{noted_by, sent_by, PassNothing, Rise, Notes, AreDelivered, EntersFrames, TakesFrames, IsSentBy, PostsFrames}
+use Rattle.site_threads.specs.Passing.{AsksEach, Incoming, Outgoing, PassNothing, Rise, Notes, AreDelivered, EntersFrames, TakesFrames, IsSentBy, PostsFrames, incoming, others, outgoing, went_of}
 use Rattle.site_threads.specs.Running.{Follows, Runs}
 use Rattle.site_threads.specs.Stamps.{stamp}
 use Rattle.site_threads.specs.declared.jobs.Entry.{Entry}
@@ -29,11 +30,13 @@ use Rattle.site_threads.proofs.OneLog.{on_one}
 
 pub follows_pass : (e : Log) (logs new : List Log) (r : Record) → logs ≡ e ∷ [] → Follows logs r new → PassNothing logs new
 follows_pass e logs new r alone follows =
-    let f = follows e alone in
-    (ap noted_by f.1 ∙ ap (λ l. l ++ []) f.2.noted ∙ sym (ap noted_by alone), ap sent_by f.1 ∙ ap (λ l. l ++ []) f.2.sent ∙ sym (ap sent_by alone))
+    let f = follows e alone in (
+      ap incoming f.1 ∙ (λ k. record { noted = f.2.noted k ++ []; asked = f.2.asked k ++ [] }) ∙ sym (ap incoming alone),
+      ap outgoing f.1 ∙ (λ k. record { sent = f.2.sent k ++ []; offered = f.2.offered k ++ [] }) ∙ sym (ap outgoing alone),
+    )
 
 pub may_follow_pass : (shown : Option Record) (e : Log) (logs new : List Log) (kept kept' : Stamp) → logs ≡ e ∷ [] → MatchOption shown ((kept' ≡ kept) × (new ≡ logs)) (λ r. (kept' ≡ stamp r) × Follows logs r new) → PassNothing logs new
-may_follow_pass None e logs new kept kept' alone m = (ap noted_by m.1, ap sent_by m.1)
+may_follow_pass None e logs new kept kept' alone m = (ap incoming m.1, ap outgoing m.1)
 may_follow_pass (Some r) e logs new kept kept' alone m = follows_pass e logs new r alone m.1
 
 -- A frame noted, and a frame sent.
@@ -41,16 +44,44 @@ may_follow_pass (Some r) e logs new kept kept' alone m = follows_pass e logs new
 behind : {A : Type 0} (xs : List A) (x : A) → (xs ++ x ∷ []) ++ [] ≡ (xs ++ []) ++ x ∷ []
 behind xs x = append-nil (xs ++ x ∷ []) ∙ ap (λ l. l ++ x ∷ []) (sym (append-nil xs))
 
-module _ (e : Log) (logs : List Log) (me : ℕ) (f : Frame) (new : List Log) (alone : logs ≡ e ∷ []) (site : e.site ≡ me) where
-  pub noted_one : new ≡ on me (notes f) logs → (noted_by new ≡ noted_by logs ++ f ∷ []) × (sent_by new ≡ sent_by logs)
-  noted_one is =
-      let one = is ∙ ap (on me (notes f)) alone ∙ on_one e (notes f) me site in
-      (ap noted_by one ∙ behind e.noted f ∙ ap (λ l. noted_by l ++ f ∷ []) (sym alone), ap sent_by one ∙ ap sent_by (sym alone))
+-- the seat of one site, after a change of its log
+module _ (e : Log) (logs : List Log) (me : ℕ) (new : List Log) (alone : logs ≡ e ∷ []) (site : e.site ≡ me) where
+  one : (g : Log → Log) → new ≡ on me g logs → new ≡ g e ∷ []
+  one g is = is ∙ ap (on me g) alone ∙ on_one e g me site
 
-  pub sent_one : new ≡ on me (posts f) logs → (sent_by new ≡ sent_by logs ++ f ∷ []) × (noted_by new ≡ noted_by logs)
-  sent_one is =
-      let one = is ∙ ap (on me (posts f)) alone ∙ on_one e (posts f) me site in
-      (ap sent_by one ∙ behind e.sent f ∙ ap (λ l. sent_by l ++ f ∷ []) (sym alone), ap noted_by one ∙ ap noted_by (sym alone))
+  pub asked_one : (other : ℕ) → new ≡ on me (asks other) logs → ((incoming new).noted ≡ (incoming logs).noted) × ((incoming new).asked ≡ (incoming logs).asked ++ other ∷ []) × (outgoing new ≡ outgoing logs)
+  asked_one other is =
+      let all = one (asks other) is in (
+        ap (λ l. (incoming l).noted) all ∙ ap (λ l. (incoming l).noted) (sym alone),
+        ap (λ l. (incoming l).asked) all ∙ behind e.asked other ∙ ap (λ l. (incoming l).asked ++ other ∷ []) (sym alone),
+        ap outgoing all ∙ ap outgoing (sym alone),
+      )
+
+  pub noted_one : (other : ℕ) (f : Frame) → new ≡ on me (receives other f) logs
+      → ((incoming new).noted ≡ (incoming logs).noted ++ f ∷ []) × ((incoming new).asked ≡ (incoming logs).asked ++ other ∷ []) × (outgoing new ≡ outgoing logs)
+  noted_one other f is =
+      let all = one (receives other f) is in (
+        ap (λ l. (incoming l).noted) all ∙ behind e.noted f ∙ ap (λ l. (incoming l).noted ++ f ∷ []) (sym alone),
+        ap (λ l. (incoming l).asked) all ∙ behind e.asked other ∙ ap (λ l. (incoming l).asked ++ other ∷ []) (sym alone),
+        ap outgoing all ∙ ap outgoing (sym alone),
+      )
+
+  pub offered_one : (f : Frame) → new ≡ on me (offers f) logs → ((outgoing new).sent ≡ (outgoing logs).sent) × ((outgoing new).offered ≡ (outgoing logs).offered ++ f ∷ []) × (incoming new ≡ incoming logs)
+  offered_one f is =
+      let all = one (offers f) is in (
+        ap (λ l. (outgoing l).sent) all ∙ ap (λ l. (outgoing l).sent) (sym alone),
+        ap (λ l. (outgoing l).offered) all ∙ behind e.offered f ∙ ap (λ l. (outgoing l).offered ++ f ∷ []) (sym alone),
+        ap incoming all ∙ ap incoming (sym alone),
+      )
+
+  pub sent_one : (f : Frame) → new ≡ on me (sends f) logs
+      → ((outgoing new).sent ≡ (outgoing logs).sent ++ f ∷ []) × ((outgoing new).offered ≡ (outgoing logs).offered ++ f ∷ []) × (incoming new ≡ incoming logs)
+  sent_one f is =
+      let all = one (sends f) is in (
+        ap (λ l. (outgoing l).sent) all ∙ behind e.sent f ∙ ap (λ l. (outgoing l).sent ++ f ∷ []) (sym alone),
+        ap (λ l. (outgoing l).offered) all ∙ behind e.offered f ∙ ap (λ l. (outgoing l).offered ++ f ∷ []) (sym alone),
+        ap incoming all ∙ ap incoming (sym alone),
+      )
 
 -- Numbers that rise.
 
@@ -64,6 +95,114 @@ rise_more number a b c (f ∷ fs) gs r s = (r.0, rise_more number (number f + 1)
 
 rise_one : (number : Frame → ℕ) (a : ℕ) (f : Frame) → number f ≡ a → Rise number a (f ∷ []) (a + 1)
 rise_one number a f is = (omega arith, omega arith)
+
+-- Who is asked.
+
+range_more : (a n m : ℕ) → range_with_len a (n + m) ≡ range_with_len a n ++ range_with_len (a + n) m
+range_more a zero m = ap (range_with_len a) (let z : zero + m ≡ m = omega arith in z) ∙ ap (λ k. range_with_len k m) (let z : a ≡ a + zero = omega arith in z)
+range_more a (suc n) m =
+    ap (range_with_len a) (let z : suc n + m ≡ suc (n + m) = omega arith in z)
+    ∙ ap (λ l. a ∷ l) (range_more (a + 1) n m ∙ ap (λ k. range_with_len (a + 1) n ++ range_with_len k m) (let z : a + 1 + n ≡ a + suc n = omega arith in z))
+
+others_more : (me a b c : ℕ) → a ≤ b → b ≤ c → others me a c ≡ others me a b ++ others me b c
+others_more me a b c h k =
+    let sum : c - a ≡ (b - a) + (c - b) = omega arith in
+    let mid : a + (b - a) ≡ b = omega arith in
+    ap (filter (λ site. not (nat_eq site me))) (ap (range_with_len a) sum ∙ range_more a (b - a) (c - b) ∙ ap (λ k. range_with_len a (b - a) ++ range_with_len k (c - b)) mid)
+    ∙ filter-append (λ site. not (nat_eq site me)) (range_with_len a (b - a)) (range_with_len b (c - b))
+
+others_none : (me a : ℕ) → others me a a ≡ []
+others_none me a = ap (λ n. filter (λ site. not (nat_eq site me)) (range_with_len a n)) (let z : a - a ≡ 0 = omega arith in z)
+
+one_wide : (me a : ℕ) → others me a (a + 1) ≡ filter (λ site. not (nat_eq site me)) (a ∷ [])
+one_wide me a = ap (λ n. filter (λ site. not (nat_eq site me)) (range_with_len a n)) (let z : a + 1 - a ≡ 1 = omega arith in z)
+
+others_one : (me other : ℕ) → other ≢ me → others me other (other + 1) ≡ other ∷ []
+others_one me other apart = one_wide me other ∙ ap (λ (b : Bool). cond (not b) (other ∷ []) []) (ne_eqb other me apart)
+
+others_itself : (me : ℕ) → others me me (me + 1) ≡ []
+others_itself me = one_wide me me ∙ ap (λ (b : Bool). cond (not b) (me ∷ []) []) (eq-eqb me me refl)
+
+module _ (me : ℕ) (asked : List ℕ) where
+  none_more : (a : ℕ) → asked ≡ asked ++ others me a a
+  none_more a = sym (append-nil asked) ∙ ap (λ l. asked ++ l) (sym (others_none me a))
+
+  -- none is to be asked
+  pub asks_none : (low high : ℕ) (state : Bool) → low ≤ high → others me low high ≡ [] → AsksEach me low high state state [] asked asked
+  asks_none low high true h empty = record {
+    end = high;
+    within = (h, omega arith);
+    asked = sym (append-nil asked) ∙ ap (λ l. asked ++ l) (sym empty);
+    all = λ up. refl;
+    none = λ down. absurd (true≢false down);
+    stopped = λ up down. absurd (true≢false down);
+  }
+  asks_none low high false h empty = record {
+    end = low;
+    within = (omega arith, h);
+    asked = none_more low;
+    all = λ up. absurd (true≢false (sym up));
+    none = λ down. (refl, refl);
+    stopped = λ up down. absurd (true≢false (sym up));
+  }
+
+  -- a closed site asks nobody
+  pub asks_closed : (low high : ℕ) (state : Bool) → state ≡ false → low ≤ high → AsksEach me low high state state [] asked asked
+  asks_closed low high true down h = absurd (true≢false down)
+  asks_closed low high false down h = record { end = low; within = (omega arith, h); asked = none_more low; all = λ up. absurd (true≢false (sym up)); none = λ d. (refl, refl); stopped = λ up d. absurd (true≢false (sym up)) }
+
+  module _ (other : ℕ) (apart : other ≢ me) (now : List ℕ) (is : now ≡ asked ++ other ∷ []) where
+    whole : now ≡ asked ++ others me other (other + 1)
+    whole = is ∙ ap (λ l. asked ++ l) (sym (others_one me other apart))
+
+    -- nothing lay there
+    pub asks_in_vain : (state : Bool) → state ≡ true → AsksEach me other (other + 1) state state [] asked now
+    asks_in_vain state up' = record {
+      end = other + 1;
+      within = (omega arith, omega arith);
+      asked = whole;
+      all = λ up. refl;
+      none = λ down. absurd (true≢false (sym up' ∙ down));
+      stopped = λ up down. absurd (true≢false (sym up ∙ down));
+    }
+
+    -- a frame lay there
+    pub asks_one : (before after : Bool) (f : Frame) → before ≡ true → sender f ≡ other → AsksEach me other (other + 1) before after (f ∷ []) asked now
+    asks_one before after f up' from = record {
+      end = other + 1;
+      within = (omega arith, omega arith);
+      asked = whole;
+      all = λ up. refl;
+      none = λ down. absurd (true≢false (sym up' ∙ down));
+      stopped = λ up down. ([], f, refl, ap (λ k. k + 1) from);
+    }
+
+asks_more : (me a b c : ℕ) (before between after : Bool) (fs gs : List Frame) (old mid new : List ℕ) → (before ≡ false → between ≡ false) → (between ≡ false → after ≡ false) → AsksEach me a b before between fs old mid → AsksEach me b c between after gs mid new
+    → AsksEach me a c before after (fs ++ gs) old new
+asks_more me a b c before true after fs gs old mid new shut down s t =
+    let all = s.all refl in
+    let low = s.within.0 in
+    let here = t.within in
+    record {
+      end = t.end;
+      within = (omega (arith, low, all, here), here.1);
+      asked = t.asked ∙ ap (λ l. l ++ others me b t.end) (s.asked ∙ ap (λ k. old ++ others me a k) all) ∙ append_assoc old (others me a b) (others me b t.end) ∙ ap (λ l. old ++ l) (sym (others_more me a b t.end (omega (arith, low, all)) here.0));
+      all = t.all;
+      none = λ d. absurd (true≢false (shut d));
+      stopped = λ up d. let l = t.stopped refl d in (fs ++ l.0, l.1, ap (λ m. fs ++ m) l.2 ∙ sym (append_assoc fs l.0 (l.1 ∷ [])), l.3);
+    }
+asks_more me a b c before false after fs gs old mid new shut down s t =
+    let none = t.none refl in
+    let low = s.within in
+    let here = t.within in
+    record {
+      end = s.end;
+      within = (low.0, omega (arith, low, here));
+      asked = t.asked ∙ ap (λ k. mid ++ others me b k) none.0 ∙ ap (λ l. mid ++ l) (others_none me b) ∙ append-nil mid ∙ s.asked;
+      all = λ up. absurd (true≢false (sym up ∙ down refl));
+      none = λ d. let n = s.none d in (n.0, (λ k. n.1 k ++ none.1 k));
+      stopped = λ up d. let l = s.stopped up refl in (l.0, l.1, ap (λ m. fs ++ m) none.1 ∙ append-nil fs ∙ l.2, l.3);
+    }
 
 -- What is taken.
 
@@ -102,6 +241,11 @@ comes_more : (before between after : Bool) (xs ys : List Entry) → ComesTo befo
 comes_more before between after [] ys s t = subst (λ b. ComesTo b ys after) s t
 comes_more before between after (x ∷ xs) ys s t = (s.0, comes_more (not (is_stop x.reply)) between after xs ys s.1 t)
 
+-- a closed site makes no step
+stays_closed : (before after : Bool) (xs : List Entry) → ComesTo before xs after → before ≡ false → after ≡ false
+stays_closed before after [] comes down = comes ∙ down
+stays_closed before after (x ∷ xs) comes down = absurd (true≢false (sym comes.0 ∙ down))
+
 abbrev IsOfFrame : Entry → Type 0
 IsOfFrame x = IsTrue (is_delivery x.input)
 
@@ -134,72 +278,104 @@ kept_back B new old now was (Err e) h = (h.1, ap is_some h.2)
 
 -- Both.
 
-pub takes_none : (me low high : ℕ) (fs : List Frame) (before : Bool) (xs : List Entry) → low ≤ high → TakesFrames me low high fs fs before before xs xs 0 0
-takes_none me low high fs before xs h = record { took = []; notes = notes_none me low high fs h; enters = enters_none before [] xs }
+pub takes_none : (me low high : ℕ) (old new : Incoming) (before : Bool) (xs : List Entry) → low ≤ high → new.noted ≡ old.noted → AsksEach me low high before before [] old.asked new.asked → TakesFrames me low high old new before before xs xs 0 0
+takes_none me low high old new before xs h same asks = record { took = []; asks = asks; notes = subst (λ l. Notes me low high old.noted l []) (sym same) (notes_none me low high old.noted h); enters = enters_none before [] xs }
 
-pub takes_one : (me other : ℕ) (old mid new : List Frame) (f : Frame) (before after : Bool) (xs ys : List Entry) (n l : ℕ) → mid ≡ old ++ f ∷ [] → new ≡ mid → sender f ≡ other → addressee f ≡ me → other ≢ me → EntersFrames before after (f ∷ []) xs ys n l
-    → TakesFrames me other (other + 1) old new before after xs ys n l
-takes_one me other old mid new f before after xs ys n l is same from to apart enters = record { took = f ∷ []; notes = notes_one me other old new f (same ∙ is) from to apart; enters = enters }
+-- nobody is to be asked, or the site is closed
+pub takes_itself : (me : ℕ) (old : Incoming) (before : Bool) (xs : List Entry) → TakesFrames me me (me + 1) old old before before xs xs 0 0
+takes_itself me old before xs = takes_none me me (me + 1) old old before xs (omega arith) refl (asks_none me old.asked me (me + 1) before (omega arith) (others_itself me))
 
-pub takes_more : (me a b c : ℕ) (old mid new : List Frame) (before between after : Bool) (xs ys zs : List Entry) (n m l k : ℕ) → TakesFrames me a b old mid before between xs ys n l → TakesFrames me b c mid new between after ys zs m k
+pub takes_at_none : (me low : ℕ) (old : Incoming) (before : Bool) (xs : List Entry) → TakesFrames me low low old old before before xs xs 0 0
+takes_at_none me low old before xs = takes_none me low low old old before xs (omega arith) refl (asks_none me old.asked low low before (omega arith) (others_none me low))
+
+pub takes_closed : (me other : ℕ) (old : Incoming) (before : Bool) (xs : List Entry) → before ≡ false → TakesFrames me other (other + 1) old old before before xs xs 0 0
+takes_closed me other old before xs down = takes_none me other (other + 1) old old before xs (omega arith) refl (asks_closed me old.asked other (other + 1) before down (omega arith))
+
+pub takes_in_vain : (me other : ℕ) (old new : Incoming) (before : Bool) (xs : List Entry) → other ≢ me → before ≡ true → new.noted ≡ old.noted → new.asked ≡ old.asked ++ other ∷ [] → TakesFrames me other (other + 1) old new before before xs xs 0 0
+takes_in_vain me other old new before xs apart up same is = takes_none me other (other + 1) old new before xs (omega arith) same (asks_in_vain me old.asked other apart new.asked is before up)
+
+pub takes_one : (me other : ℕ) (old mid new : Incoming) (f : Frame) (before after : Bool) (xs ys : List Entry) (n l : ℕ) → mid.noted ≡ old.noted ++ f ∷ [] → mid.asked ≡ old.asked ++ other ∷ [] → new ≡ mid → sender f ≡ other → addressee f ≡ me → other ≢ me → before ≡ true
+    → EntersFrames before after (f ∷ []) xs ys n l → TakesFrames me other (other + 1) old new before after xs ys n l
+takes_one me other old mid new f before after xs ys n l is asked same from to apart up enters = record {
+  took = f ∷ [];
+  asks = asks_one me old.asked other apart new.asked (ap (λ (i : Incoming). i.asked) same ∙ asked) before after f up from;
+  notes = notes_one me other old.noted new.noted f (ap (λ (i : Incoming). i.noted) same ∙ is) from to apart;
+  enters = enters;
+}
+
+pub takes_more : (me a b c : ℕ) (old mid new : Incoming) (before between after : Bool) (xs ys zs : List Entry) (n m l k : ℕ) → TakesFrames me a b old mid before between xs ys n l → TakesFrames me b c mid new between after ys zs m k
     → TakesFrames me a c old new before after xs zs (n + m) (l + k)
 takes_more me a b c old mid new before between after xs ys zs n m l k s t = record {
   took = s.took ++ t.took;
-  notes = notes_more me a b c old mid new s.took t.took s.notes t.notes;
+  asks = asks_more me a b c before between after s.took t.took old.asked mid.asked new.asked (stays_closed before between s.enters.frames s.enters.comes) (stays_closed between after t.enters.frames t.enters.comes) s.asks t.asks;
+  notes = notes_more me a b c old.noted mid.noted new.noted s.took t.took s.notes t.notes;
   enters = enters_more before between after s.took t.took xs ys zs n m l k s.enters t.enters;
 }
 
 -- What is posted.
 
-pub posts_none : (me low high : ℕ) (shown : Option Record) (fs : List Frame) → low ≤ high → PostsFrames me low high shown fs fs 0
-posts_none me low high shown fs h = record { gave = []; sent = sym (append-nil fs); rise = h; each = All-nil (IsSentBy me shown); many = refl }
+pub posts_none : (me low high : ℕ) (shown : Option Record) (old : Outgoing) → low ≤ high → PostsFrames me low high shown old old 0
+posts_none me low high shown old h = record { offers = []; offered = sym (append-nil old.offered); rise = h; each = All-nil (IsSentBy me shown); went = []; tells = refl; sent = sym (append-nil old.sent); many = refl }
 
-posts_one : (me to : ℕ) (shown : Option Record) (r : Record) (old new : List Frame) (f : Frame) → shown ≡ Some r → IsFor r.engagement to f → sender f ≡ me → to ≢ me → new ≡ old ++ f ∷ [] → PostsFrames me to (to + 1) shown old new 1
-posts_one me to shown r old new f stands fits from apart is = record {
-  gave = f ∷ [];
-  sent = is;
+posts_one : (me to : ℕ) (shown : Option Record) (r : Record) (old new : Outgoing) (f : Frame) (went : Bool) → shown ≡ Some r → IsFor r.engagement to f → sender f ≡ me → to ≢ me → new.offered ≡ old.offered ++ f ∷ [] → new.sent ≡ old.sent ++ went_of (went ∷ []) (f ∷ [])
+    → PostsFrames me to (to + 1) shown old new (length (went_of (went ∷ []) (f ∷ [])))
+posts_one me to shown r old new f went stands fits from apart is sent = record {
+  offers = f ∷ [];
+  offered = is;
   rise = rise_one addressee to f fits.there;
   each = All-cons (IsSentBy me shown) f [] (record { from = from; other = λ same. apart (sym fits.there ∙ same); record_is = r; stands = stands; emitted = fits.emitted }) (All-nil (IsSentBy me shown));
+  went = went ∷ [];
+  tells = refl;
+  sent = sent;
   many = refl;
 }
 
-pub posts_more : (me a b c : ℕ) (shown : Option Record) (old mid new : List Frame) (n m : ℕ) → PostsFrames me a b shown old mid n → PostsFrames me b c shown mid new m → PostsFrames me a c shown old new (n + m)
-posts_more me a b c shown old mid new n m s t = record {
-  gave = s.gave ++ t.gave;
-  sent = t.sent ∙ ap (λ l. l ++ t.gave) s.sent ∙ append_assoc old s.gave t.gave;
-  rise = rise_more addressee a b c s.gave t.gave s.rise t.rise;
-  each = All-append (IsSentBy me shown) s.gave t.gave s.each t.each;
-  many = length-append s.gave t.gave ∙ (λ i. s.many i + t.many i);
+went_more : (ws vs : List Bool) (fs gs : List Frame) → length ws ≡ length fs → went_of (ws ++ vs) (fs ++ gs) ≡ went_of ws fs ++ went_of vs gs
+went_more [] vs [] gs e = refl
+went_more (w ∷ ws) vs (f ∷ fs) gs e = ap (λ l. cond w (f ∷ []) [] ++ l) (went_more ws vs fs gs (omega (arith, e))) ∙ sym (append_assoc (cond w (f ∷ []) []) (went_of ws fs) (went_of vs gs))
+went_more [] vs (f ∷ fs) gs e = absurd (omega (arith, e))
+went_more (w ∷ ws) vs [] gs e = absurd (omega (arith, e))
+
+pub posts_more : (me a b c : ℕ) (shown : Option Record) (old mid new : Outgoing) (n m : ℕ) → PostsFrames me a b shown old mid n → PostsFrames me b c shown mid new m → PostsFrames me a c shown old new (n + m)
+posts_more me a b c shown old mid new n m s t = let went = went_more s.went t.went s.offers t.offers s.tells in record {
+  offers = s.offers ++ t.offers;
+  offered = t.offered ∙ ap (λ l. l ++ t.offers) s.offered ∙ append_assoc old.offered s.offers t.offers;
+  rise = rise_more addressee a b c s.offers t.offers s.rise t.rise;
+  each = All-append (IsSentBy me shown) s.offers t.offers s.each t.each;
+  went = s.went ++ t.went;
+  tells = length-append s.went t.went ∙ (λ i. s.tells i + t.tells i) ∙ sym (length-append s.offers t.offers);
+  sent = t.sent ∙ ap (λ l. l ++ went_of t.went t.offers) s.sent ∙ append_assoc old.sent (went_of s.went s.offers) (went_of t.went t.offers) ∙ ap (λ l. old.sent ++ l) (sym went);
+  many = ap length went ∙ length-append (went_of s.went s.offers) (went_of t.went t.offers) ∙ (λ i. s.many i + t.many i);
 }
 
 module _ (shown : Option Record) (may : Record → Type 0) (logs : List Log) (me : ℕ) (kept : Stamp) (entries : List Entry) (start : Record) (h : Runs shown may logs me kept entries start) (r : Record) (is : shown ≡ Some r) (to : ℕ) (f : Frame) (fits : IsFor r.engagement to f) (from : sender f ≡ me) (apart : to ≢ me) (new : List Log) where
   -- by what became of it
-  pub posted : (A B C : Type 0) (n : ℕ) (p : Post) → MatchPost p ((new ≡ on (sender f) (posts f) logs) × A) (λ g. (g ≡ f) × (new ≡ logs) × B × C) → MatchPost p (n ≡ 1) (λ g. n ≡ 0) → PostsFrames me to (to + 1) shown (sent_by logs) (sent_by new) n × (noted_by new ≡ noted_by logs)
+  pub posted : (A B C : Type 0) (n : ℕ) (p : Post) → MatchPost p ((new ≡ on (sender f) (sends f) logs) × A) (λ g. (g ≡ f) × (new ≡ on (sender f) (offers f) logs) × B × C) → MatchPost p (n ≡ 1) (λ g. n ≡ 0)
+      → PostsFrames me to (to + 1) shown (outgoing logs) (outgoing new) n × (incoming new ≡ incoming logs)
   posted A B C n Posted answer count =
-      let one = sent_one h.log logs me f new h.alone h.own.site (answer.0 ∙ ap (λ k. on k (posts f) logs) from) in
-      (subst (PostsFrames me to (to + 1) shown (sent_by logs) (sent_by new)) (sym count) (posts_one me to shown r (sent_by logs) (sent_by new) f is fits from apart one.0), one.1)
-  posted A B C n (Full g) answer count = (
-    subst (PostsFrames me to (to + 1) shown (sent_by logs) (sent_by new)) (sym count) (subst (λ (l : List Frame). PostsFrames me to (to + 1) shown (sent_by logs) l 0) (sym (ap sent_by answer.1)) (posts_none me to (to + 1) shown (sent_by logs) (omega arith))),
-    ap noted_by answer.1,
-  )
+      let one = sent_one h.log logs me new h.alone h.own.site f (answer.0 ∙ ap (λ k. on k (sends f) logs) from) in
+      (subst (PostsFrames me to (to + 1) shown (outgoing logs) (outgoing new)) (sym count) (posts_one me to shown r (outgoing logs) (outgoing new) f true is fits from apart one.1 one.0), one.2)
+  posted A B C n (Full g) answer count =
+      let one = offered_one h.log logs me new h.alone h.own.site f (answer.1 ∙ ap (λ k. on k (offers f) logs) from) in
+      (subst (PostsFrames me to (to + 1) shown (outgoing logs) (outgoing new)) (sym count) (posts_one me to shown r (outgoing logs) (outgoing new) f false is fits from apart one.1 (one.0 ∙ sym (append-nil (outgoing logs).sent))), one.2)
 
 -- The same of other names of the same values.
 
-pub takes_as : (low high : ℕ) (me me' : ℕ) (old old' new new' : List Frame) (before before' after after' : Bool) (xs xs' ys ys' : List Entry) (n l : ℕ) → me ≡ me' → old ≡ old' → new ≡ new' → before ≡ before' → after ≡ after' → xs ≡ xs' → ys ≡ ys' → TakesFrames me low high old new before after xs ys n l
+pub takes_as : (low high : ℕ) (me me' : ℕ) (old old' new new' : Incoming) (before before' after after' : Bool) (xs xs' ys ys' : List Entry) (n l : ℕ) → me ≡ me' → old ≡ old' → new ≡ new' → before ≡ before' → after ≡ after' → xs ≡ xs' → ys ≡ ys' → TakesFrames me low high old new before after xs ys n l
     → TakesFrames me' low high old' new' before' after' xs' ys' n l
 takes_as low high me me' old old' new new' before before' after after' xs xs' ys ys' n l a b c d e f g t =
-    subst (λ (y : ℕ × (List Frame × (List Frame × (Bool × (Bool × (List Entry × List Entry)))))). TakesFrames y.0 low high y.1.0 y.1.1.0 y.1.1.1.0 y.1.1.1.1.0 y.1.1.1.1.1.0 y.1.1.1.1.1.1 n l) (λ i. (a i, (b i, (c i, (d i, (e i, (f i, g i))))))) t
+    subst (λ (y : ℕ × (Incoming × (Incoming × (Bool × (Bool × (List Entry × List Entry)))))). TakesFrames y.0 low high y.1.0 y.1.1.0 y.1.1.1.0 y.1.1.1.1.0 y.1.1.1.1.1.0 y.1.1.1.1.1.1 n l) (λ i. (a i, (b i, (c i, (d i, (e i, (f i, g i))))))) t
 
-pub posts_as : (low high : ℕ) (me me' : ℕ) (shown shown' : Option Record) (old old' new new' : List Frame) (n : ℕ) → me ≡ me' → shown ≡ shown' → old ≡ old' → new ≡ new' → PostsFrames me low high shown old new n → PostsFrames me' low high shown' old' new' n
+pub posts_as : (low high : ℕ) (me me' : ℕ) (shown shown' : Option Record) (old old' new new' : Outgoing) (n : ℕ) → me ≡ me' → shown ≡ shown' → old ≡ old' → new ≡ new' → PostsFrames me low high shown old new n → PostsFrames me' low high shown' old' new' n
 posts_as low high me me' shown shown' old old' new new' n a b c d t =
-    subst (λ (y : ℕ × (Option Record × (List Frame × List Frame))). PostsFrames y.0 low high y.1.0 y.1.1.0 y.1.1.1 n) (λ i. (a i, (b i, (c i, d i)))) t
+    subst (λ (y : ℕ × (Option Record × (Outgoing × Outgoing))). PostsFrames y.0 low high y.1.0 y.1.1.0 y.1.1.1 n) (λ i. (a i, (b i, (c i, d i)))) t
 
 -- a turn's frames, from before it began
-pub turn_takes : {E : Type 0} (r : Result TurnReport E) (high me me' : ℕ) (old old' new : List Frame) (after : Bool) (begun before now : List Entry) → me ≡ me' → old ≡ old' → begun ≡ before → IfOk r (λ x. TakesFrames me 0 high old new (open_after x.receipt) after (begun ++ map entry_of (option_items x.receipt)) now x.applied x.lost)
+pub turn_takes : {E : Type 0} (r : Result TurnReport E) (high me me' : ℕ) (old old' new : Incoming) (after : Bool) (begun before now : List Entry) → me ≡ me' → old ≡ old' → begun ≡ before → IfOk r (λ x. TakesFrames me 0 high old new (open_after x.receipt) after (begun ++ map entry_of (option_items x.receipt)) now x.applied x.lost)
     → IfOk r (λ x. TakesFrames me' 0 high old' new (open_after x.receipt) after (before ++ map entry_of (option_items x.receipt)) now x.applied x.lost)
 turn_takes (Ok x) high me me' old old' new after begun before now a b c t = takes_as 0 high me me' old old' new new (open_after x.receipt) (open_after x.receipt) after after _ _ now now x.applied x.lost a b refl refl refl (ap (λ l. l ++ map entry_of (option_items x.receipt)) c) refl t
 turn_takes (Err e) high me me' old old' new after begun before now a b c t = tt
 
-pub turn_posts : {E : Type 0} (r : Result TurnReport E) (high me me' : ℕ) (shown : Option Record) (old old' new : List Frame) → me ≡ me' → old ≡ old' → IfOk r (λ x. PostsFrames me 0 high shown old new x.posted) → IfOk r (λ x. PostsFrames me' 0 high shown old' new x.posted)
+pub turn_posts : {E : Type 0} (r : Result TurnReport E) (high me me' : ℕ) (shown : Option Record) (old old' new : Outgoing) → me ≡ me' → old ≡ old' → IfOk r (λ x. PostsFrames me 0 high shown old new x.posted) → IfOk r (λ x. PostsFrames me' 0 high shown old' new x.posted)
 turn_posts (Ok x) high me me' shown old old' new a b t = posts_as 0 high me me' shown shown old old' new new x.posted a refl b refl t
 turn_posts (Err e) high me me' shown old old' new a b t = tt

@@ -2,12 +2,17 @@
 use Rattle.std.specs.Prelude.{◌≡◌, ⊤, ◌⊎◌, ◌<◌, ◌≤◌, ℕ, ◌++◌, List, [], Option, Some, None, Result, Ok, Err, slice_get}
 use Rattle.std.specs.List.{AllZip}
 use Rattle.crossbeam_channel.specs.Ends.{receives_on}
+use Rattle.frame_core.specs.declared.frames.Frame.{Frame}
 use Rattle.frame_core.specs.Numbers.{Recall}
 use Rattle.keeper_core.specs.declared.faults.Unopened.{Unopened}
 use Rattle.site_core.specs.Records.{Record}
 use Rattle.world_core.specs.Faults.{HindersKeepers, MakeAWorld}
-use Rattle.world_core.specs.Keepers.{IsFirstClosed}
+use Rattle.world_core.specs.Keepers.{AllShow, IsFirstClosed}
 use Rattle.world_core.specs.Recalls.{AreExactOnceEnded, quarantined}
+use Rattle.world_core.specs.Turns.{Runs}
+use Rattle.world_core.specs.declared.events.Answer.{Answer}
+use Rattle.world_core.specs.declared.events.WorldEvent.{WorldEvent}
+use Rattle.wire_core.specs.Rule.{Happened, world_up}
 use Rattle.site_threads.specs.declared.desks.DeskOut.{DeskOut}
 use Rattle.site_threads.specs.declared.gathered.Gathered.{Gathered}
 use Rattle.site_threads.specs.declared.gather.GatherCause.{GatherCause}
@@ -32,6 +37,23 @@ EndsAreExact records = (recall : Recall) → AreExactOnceEnded recall records (q
 pub record StandTogether (records : List Record) : Type 0 where
   pub world : MakeAWorld records
   pub exact : EndsAreExact records
+
+-- Steps that were done, and frames that were sent, lead one after another from these records, with no frame sent, to
+-- those.
+pub record LeadsTo (start last : List Record) : Type 0 where
+  pub events : List WorldEvent
+  pub answers : List Answer
+  pub sent : List Frame
+  pub happened : AllZip Happened events answers
+  pub runs : Runs (world_up start []) events answers (world_up last sent)
+
+-- What the sites did is a run of the world: it leads from the records that the keepers showed to those that they show.
+pub record RanAsAWorld {K : Type 0} (shown : K → Option Record) (old new : List K) : Type 0 where
+  pub before : List Record
+  pub after : List Record
+  pub began : AllShow shown old before
+  pub ended : AllShow shown new after
+  pub leads : LeadsTo before after
 
 module _ {K : Type 0} (shown : K → Option Record) (may : K → Record → Type 0) where
   -- in whichever records the keepers are open, or may be opened, the sites stand together

@@ -66,6 +66,8 @@ pub record Followed (e f : Log) (r : Record) : Type 0 where
   pub last : f.last ≡ r
   pub noted : f.noted ≡ e.noted
   pub sent : f.sent ≡ e.sent
+  pub asked : f.asked ≡ e.asked
+  pub offered : f.offered ≡ e.offered
   pub marks : length f.inputs ≤ length e.inputs + 1
 
 abbrev pub Follows : List Log → Record → List Log → Type 0

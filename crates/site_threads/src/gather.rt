@@ -1,9 +1,11 @@
 //! The seats of all sites joined again, and what is known then.
-ghost use Rattle.std.specs.Prelude.{◌≡◌, [], All, flat_map, length, map};
+ghost use Rattle.std.specs.Prelude.{◌≡◌, List, [], All, flat_map, length, map};
 ghost use Rattle.std.specs.List.{range_with_len, AllZip};
+ghost use Rattle.site_core.specs.Records.{Record};
 ghost use Rattle.world_core.specs.Faults.{AreOneWorld};
+ghost use Rattle.world_core.specs.Keepers.{AllShow};
 ghost use Rattle.wire_core.specs.Seats.{IsSeatOf};
-ghost use Rattle.site_threads.specs.Gathering.{KeepersFit};
+ghost use Rattle.site_threads.specs.Gathering.{KeepersFit, LeadsTo};
 ghost use Rattle.site_threads.specs.Parting.{HasKeeper, LeavesList, IsRoomFor, cause_of, first_cause};
 ghost use Rattle.site_threads.specs.Runs.{IsRun};
 
@@ -123,7 +125,8 @@ fn part<K: SiteKeeper, G: Gate>(
     )
 }
 
-/// Ends a run: whichever records the sites stand in, they are consistent.
+/// Ends a run: whichever records the sites stand in, they are consistent; and where all keepers are open, what the
+/// sites did is a run of the world, from the records that the wire was made with.
 pub fn close_all<K: SiteKeeper, G: Gate>(
     wire: Wire,
     root: Seat,
@@ -136,6 +139,7 @@ pub fn close_all<K: SiteKeeper, G: Gate>(
     requires one { AreOneWorld (map (λ r. r.turn.site.start.value) runs.items) }
     requires room { IsRoomFor (length runs.items) room }
     ensures fit { KeepersFit K.shown K.may result.keepers.items }
+    ensures run { (rs : List Record) → AllShow K.shown result.keepers.items rs → LeadsTo wire.start rs }
     ensures keepers { AllZip HasKeeper runs.items result.keepers.items }
     ensures lists { AllZip LeavesList runs.items result.lists.items }
     ensures cause { result.cause ≡ first_cause runs.items }

@@ -1,11 +1,12 @@
 //! The frames that a site takes and posts in a turn.
 ghost use Rattle.std.specs.Prelude.{◌≡◌, ◌≢◌, ◌+◌, ◌^◌, ◌<◌, ◌≤◌, [], ◌∷◌, IfSome, IsSome, is_some, cond, is_ok, vec_len, vec_capacity};
+ghost use Rattle.event_json.specs.declared.limits.TheConstants.{MAX_SITES};
 ghost use Rattle.site_core.specs.declared.inputs.SiteInput.TheVariants.{Deliver};
 ghost use Rattle.wire_core.specs.Answers.{MatchPost};
 ghost use Rattle.wire_core.specs.Seats.{IsSeatOf};
 ghost use Rattle.site_threads.specs.Keepers.{shown_in};
 ghost use Rattle.site_threads.specs.Offers.{IsFor};
-ghost use Rattle.site_threads.specs.Passing.{noted_by, sent_by, EntersFrames, PassNothing, PostsToEach, TakesOfEach};
+ghost use Rattle.site_threads.specs.Passing.{EntersFrames, PassNothing, PostsToEach, TakesOfEach, incoming, outgoing};
 ghost use Rattle.site_threads.specs.Running.{marks_in, MayDeliver};
 ghost use Rattle.site_threads.specs.Sites.{IsSite, Continues};
 
@@ -15,7 +16,7 @@ use crate::jobs::Reply;
 use crate::offers::offer;
 use crate::rounds::Round;
 use crate::sites::Site;
-use event_json::SiteNo;
+use event_json::{MAX_SITES, SiteNo};
 use frame_core::{Frame, MsgId};
 use keeper_core::SiteKeeper;
 use site_core::{SiteInput, SiteState};
@@ -32,8 +33,8 @@ pub struct Received {
 }
 
 impl<K: SiteKeeper> Site<K> {
-    /// Takes at most one frame from another site, applies it and enters it. What became of it. Nothing is taken while
-    /// the keeper is closed; a frame whose step finds no memory is lost.
+    /// Asks another site for a frame: takes at most one, applies it and enters it. What became of it. Nobody is asked
+    /// while the keeper is closed; a frame whose step finds no memory is lost.
     pub fn receive(&mut self, wire: &Wire, other: SiteNo) -> Received
         requires seat { IsSeatOf wire.now self.old.seat }
         requires site { IsSite K.shown K.may self.old }
@@ -43,7 +44,7 @@ impl<K: SiteKeeper> Site<K> {
         ensures site { IsSite K.shown K.may self.new }
         ensures same { Continues K.stored 1 wire.now self.old self.new }
         ensures frames { TakesOfEach K.shown other (other + 1) self.old self.new result.entered result.lost }
-        ensures sent { sent_by self.new.seat.logs ≡ sent_by self.old.seat.logs }
+        ensures sent { outgoing self.new.seat.logs ≡ outgoing self.old.seat.logs }
         ensures room { (vec_capacity self.old.entries ≤ vec_capacity self.new.entries) × (vec_len self.new.entries ≤ vec_len self.old.entries + 1) }
         ensures count { result.entered + result.lost ≤ 1 }
     {
@@ -84,7 +85,8 @@ impl<K: SiteKeeper> Site<K> {
         count_entered(taken)
     }
 
-    /// Posts at most one frame to another site. How many were posted. Nothing is posted while the keeper is closed.
+    /// Offers at most one frame to another site, which is posted unless the mailbox is full. How many were posted.
+    /// Nothing is offered while the keeper is closed.
     pub fn send(&mut self, wire: &Wire, alloc: Global, to: SiteNo) -> u64
         requires seat { IsSeatOf wire.now self.old.seat }
         requires site { IsSite K.shown K.may self.old }
@@ -93,7 +95,7 @@ impl<K: SiteKeeper> Site<K> {
         ensures same { Continues K.stored 0 wire.now self.old self.new }
         ensures entries { (self.new.entries ≡ self.old.entries) × (self.new.keeper ≡ self.old.keeper) }
         ensures posted { PostsToEach K.shown to (to + 1) self.old self.new result }
-        ensures noted { noted_by self.new.seat.logs ≡ noted_by self.old.seat.logs }
+        ensures noted { incoming self.new.seat.logs ≡ incoming self.old.seat.logs }
         ensures count { result ≤ 1 }
     {
         let place = to.number() as usize;
@@ -117,31 +119,25 @@ impl<K: SiteKeeper> Site<K> {
         requires seat { IsSeatOf wire.now self.old.seat }
         requires site { IsSite K.shown K.may self.old }
         requires few { marks_in self.old.seat.logs < 2 ^ 62 }
-        requires there { number < wire.now.sites }
+        requires there { (number < wire.now.sites) × (number < MAX_SITES) }
         requires room { vec_len self.old.entries < vec_capacity self.old.entries }
         ensures site { IsSite K.shown K.may self.new }
         ensures same { Continues K.stored 1 wire.now self.old self.new }
         ensures frames { TakesOfEach K.shown number (number + 1) self.old self.new result.entered result.lost }
-        ensures sent { sent_by self.new.seat.logs ≡ sent_by self.old.seat.logs }
+        ensures sent { outgoing self.new.seat.logs ≡ outgoing self.old.seat.logs }
         ensures room { (vec_capacity self.old.entries ≤ vec_capacity self.new.entries) × (vec_len self.new.entries ≤ vec_len self.old.entries + 1) }
         ensures count { result.entered + result.lost ≤ 1 }
     {
-        match SiteNo::of(number) {
-            None => Received {
+        let Some(other) = SiteNo::of(number) else {
+            unreachable!()
+        };
+        if other == self.me {
+            return Received {
                 entered: 0,
                 lost: 0,
-            },
-            Some(other) => {
-                if other == self.me {
-                    Received {
-                        entered: 0,
-                        lost: 0,
-                    }
-                } else {
-                    self.receive(wire, other)
-                }
-            }
+            };
         }
+        self.receive(wire, other)
     }
 
     /// Posts at most one frame to the site of this number, if it is another.
@@ -153,7 +149,7 @@ impl<K: SiteKeeper> Site<K> {
         ensures same { Continues K.stored 0 wire.now self.old self.new }
         ensures entries { (self.new.entries ≡ self.old.entries) × (self.new.keeper ≡ self.old.keeper) }
         ensures posted { PostsToEach K.shown number (number + 1) self.old self.new result }
-        ensures noted { noted_by self.new.seat.logs ≡ noted_by self.old.seat.logs }
+        ensures noted { incoming self.new.seat.logs ≡ incoming self.old.seat.logs }
         ensures count { result ≤ 1 }
     {
         match SiteNo::of(number) {
@@ -168,16 +164,17 @@ impl<K: SiteKeeper> Site<K> {
         }
     }
 
-    /// Takes and applies at most one frame from each other site. What became of them.
+    /// Asks each other site once, in the order of their numbers, takes at most one frame from each, and applies it.
+    /// What became of them. A step in which the site stops is the last one.
     pub fn receive_all(&mut self, wire: &Wire) -> Received
         requires seat { IsSeatOf wire.now self.old.seat }
         requires site { IsSite K.shown K.may self.old }
         requires few { marks_in self.old.seat.logs < 2 ^ 61 + 18 }
         requires room { vec_len self.old.entries + wire.now.sites ≤ vec_capacity self.old.entries }
         ensures site { IsSite K.shown K.may self.new }
-        ensures same { Continues K.stored 16 wire.now self.old self.new }
+        ensures same { Continues K.stored MAX_SITES wire.now self.old self.new }
         ensures frames { TakesOfEach K.shown 0 wire.now.sites self.old self.new result.entered result.lost }
-        ensures sent { sent_by self.new.seat.logs ≡ sent_by self.old.seat.logs }
+        ensures sent { outgoing self.new.seat.logs ≡ outgoing self.old.seat.logs }
     {
         self.owed = nothing_owed();
         let mut entered = 0;
@@ -190,7 +187,7 @@ impl<K: SiteKeeper> Site<K> {
         Received { entered, lost }
     }
 
-    /// Posts at most one frame to each other site. How many were posted.
+    /// Offers at most one frame to each other site, in the order of their numbers. How many were posted.
     pub fn send_all(&mut self, wire: &Wire, alloc: Global) -> u64
         requires seat { IsSeatOf wire.now self.old.seat }
         requires site { IsSite K.shown K.may self.old }
@@ -198,7 +195,7 @@ impl<K: SiteKeeper> Site<K> {
         ensures same { Continues K.stored 0 wire.now self.old self.new }
         ensures entries { (self.new.entries ≡ self.old.entries) × (self.new.keeper ≡ self.old.keeper) }
         ensures posted { PostsToEach K.shown 0 wire.now.sites self.old self.new result }
-        ensures noted { noted_by self.new.seat.logs ≡ noted_by self.old.seat.logs }
+        ensures noted { incoming self.new.seat.logs ≡ incoming self.old.seat.logs }
         ensures count { result ≤ wire.now.sites }
     {
         let mut posted = 0;
@@ -268,8 +265,8 @@ fn count_posted(answer: Post) -> u64
 }
 
 /// No message was taken yet.
-fn nothing_owed() -> [Option<MsgId>; 16] {
-    [None; 16]
+fn nothing_owed() -> [Option<MsgId>; MAX_SITES] {
+    [None; MAX_SITES]
 }
 
 /// The message that a frame is. `None` of a signal.

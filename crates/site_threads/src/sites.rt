@@ -17,7 +17,7 @@ use crate::following::{follow, follow_shown, view_of};
 use crate::jobs::{Entry, Job, Ready, Receipt, Reply, answered, is_delivery};
 use crate::rounds::Round;
 use crate::stamps::Stamp;
-use event_json::SiteNo;
+use event_json::{MAX_SITES, SiteNo};
 use frame_core::MsgId;
 use keeper_core::{KeepFault, SiteKeeper};
 use site_core::{Effects, SiteInput, SiteState};
@@ -40,9 +40,9 @@ pub struct Site<K: SiteKeeper> {
     /// The record that it began with, for proofs alone.
     pub start: Snapshot<SiteState>,
     /// By site, the message that was taken from it in this turn.
-    pub owed: [Option<MsgId>; 16],
+    pub owed: [Option<MsgId>; MAX_SITES],
     /// By site, how far its messages were posted.
-    pub rounds: [Round; 16],
+    pub rounds: [Round; MAX_SITES],
 }
 
 impl<K: SiteKeeper> Site<K> {

@@ -1,6 +1,7 @@
 //! The sites of a run before their first turns.
 ghost use Rattle.std.specs.Prelude.{◌≡◌, ◌+◌, ◌≤◌, List, [], ◌∷◌, Some, All, map, length, vec_capacity};
 ghost use Rattle.std.specs.List.{range_with_len, AllZip};
+ghost use Rattle.event_json.specs.declared.limits.TheConstants.{MAX_SITES};
 ghost use Rattle.site_core.specs.Records.{Record};
 ghost use Rattle.site_recovery.specs.Laws.{AreInPlace};
 ghost use Rattle.world_core.specs.Keepers.{AllShow};
@@ -53,7 +54,7 @@ fn begin<K: SiteKeeper, G: Gate>(
 fn first_apart(wire: &Wire, seat: Seat, me: SiteNo) -> (Seat, Seat)
     requires { IsSeatOf wire.now seat }
     ensures seats { IsSeatOf wire.now result.0 × IsSeatOf wire.now result.1 }
-    ensures parts { (r : Record) (rs : List Record) → seat.logs ≡ logs_from me (r ∷ rs) → me + length (r ∷ rs) ≤ 16 → (result.0.logs ≡ opening_log me r ∷ []) × (result.1.logs ≡ logs_from (me + 1) rs) }
+    ensures parts { (r : Record) (rs : List Record) → seat.logs ≡ logs_from me (r ∷ rs) → me + length (r ∷ rs) ≤ MAX_SITES → (result.0.logs ≡ opening_log me r ∷ []) × (result.1.logs ≡ logs_from (me + 1) rs) }
 {
     match SiteNo::of(me.number() + 1) {
         Some(next) => wire.split(seat, next),
@@ -77,7 +78,7 @@ pub fn begin_all<K: SiteKeeper, G: Gate>(
 ) -> Vec<SiteRun<K, G>>
     requires seat { IsSeatOf wire.now seat }
     requires sites { (rs : List Record) × (seat.logs ≡ logs_from 0 rs) × AllShow K.shown keepers.items rs × AreInPlace rs }
-    requires count { (length keepers.items ≤ 16) × (length desks.items ≡ length keepers.items) × (length gates.items ≡ length keepers.items) }
+    requires count { (length keepers.items ≤ MAX_SITES) × (length desks.items ≡ length keepers.items) × (length gates.items ≡ length keepers.items) }
     requires desks { All IsUnused desks.items }
     requires room { (room.items ≡ []) × (length keepers.items ≤ vec_capacity room) }
     ensures ready { All (IsReady K.shown K.may wire.now) result.items }

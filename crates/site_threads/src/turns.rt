@@ -17,7 +17,7 @@ use crate::jobs::{Entry, Job, Ready, Receipt};
 use crate::rounds::Round;
 use crate::sites::Site;
 use crate::stamps::stamp_of;
-use event_json::SiteNo;
+use event_json::{MAX_SITES, SiteNo};
 use keeper_core::{KeepFault, SiteKeeper};
 use std::alloc::Global;
 use std::snapshot::Snapshot;
@@ -92,8 +92,8 @@ impl<K: SiteKeeper, G: Gate> SiteTurn<K, G> {
                 stamp: first,
                 entries: Vec::new(alloc),
                 start,
-                owed: [None; 16],
-                rounds: [Round::new(); 16],
+                owed: [None; MAX_SITES],
+                rounds: [Round::new(); MAX_SITES],
             },
             gate,
             turns: 0,
@@ -101,8 +101,12 @@ impl<K: SiteKeeper, G: Gate> SiteTurn<K, G> {
         }
     }
 
-    /// One turn: the site does the job, takes at most one frame from each other site, and posts at most one to each. It
-    /// waits for nobody.
+    /// One turn: the site does the job, asks each other site once, in the order of their numbers, takes at most one
+    /// frame from each, and posts at most one to each. It waits for nobody.
+    ///
+    /// A frame that is taken is entered, or counted as lost where its step found no memory. A frame that is offered is
+    /// posted, unless the last one that went that way still lies in its mailbox. A step in which the site stops is the
+    /// last one of the turn: from then on nobody is asked, no frame is taken, and none is offered.
     ///
     /// First the gate is asked, and a closed keeper is opened again. Each step is marked on the wire after its keeper
     /// answered it and before a frame is posted; as the turn returns, the record last marked is the one that the keeper

@@ -1,13 +1,14 @@
 //! A run of all sites, each in a thread of its own.
 ghost use Rattle.std.specs.Prelude.{◌≡◌, ◌<◌, ◌≤◌, List, [], Some, None, All, IfOk, IfErr, IfSome, IsSome, length, map, vec_capacity};
 ghost use Rattle.std.specs.List.{AllZip};
+ghost use Rattle.event_json.specs.declared.limits.TheConstants.{MAX_SITES};
 ghost use Rattle.site_core.specs.Records.{Record};
 ghost use Rattle.world_core.specs.Faults.{MakeAWorld};
 ghost use Rattle.world_core.specs.Keepers.{AllShow};
 ghost use Rattle.wire_core.specs.Rule.{logs_from};
 ghost use Rattle.wire_core.specs.Seats.{IsSeatOf};
 ghost use Rattle.site_threads.specs.Ends.{IsUnused};
-ghost use Rattle.site_threads.specs.Gathering.{Began, Explains, FitAfter, HasEnd, HasTurned, Hinders, IsKept, KeepersFit, keepers_of};
+ghost use Rattle.site_threads.specs.Gathering.{Began, Explains, FitAfter, HasEnd, HasTurned, Hinders, IsKept, KeepersFit, RanAsAWorld, keepers_of};
 ghost use Rattle.site_threads.specs.Parting.{IsRoomFor};
 ghost use Rattle.site_threads.specs.Runs.{IsReady, Ran};
 
@@ -46,9 +47,10 @@ fn records_of<K: SiteKeeper>(alloc: Global, keepers: &[K]) -> Result<Vec<&SiteSt
 /// The wire between the sites of these keepers, and a seat that holds all of them.
 fn wire_between<K: SiteKeeper>(alloc: Global, keepers: &[K]) -> Result<(Wire, Seat), AllocError>
     requires world { (rs : List Record) × AllShow K.shown keepers.now rs × MakeAWorld rs }
-    requires count { (2 ≤ length keepers.now) × (length keepers.now ≤ 16) }
+    requires count { (2 ≤ length keepers.now) × (length keepers.now ≤ MAX_SITES) }
     ensures wire { IfOk result (λ r. IsSeatOf r.0 r.1 × (r.0.sites ≡ length keepers.now)) }
     ensures seat { (rs : List Record) → AllShow K.shown keepers.now rs → IfOk result (λ r. r.1.logs ≡ logs_from 0 rs) }
+    ensures start { (rs : List Record) → AllShow K.shown keepers.now rs → IfOk result (λ r. r.0.start ≡ rs) }
 {
     let states = records_of(alloc, keepers)?;
     Ok(Wire::new(alloc, &states)?)
@@ -65,9 +67,10 @@ struct Room<K: SiteKeeper, G: Gate> {
 /// The room for a run of the sites of these keepers.
 fn room_for<K: SiteKeeper, G: Gate>(alloc: Global, keepers: &[K]) -> Result<Room<K, G>, AllocError>
     requires world { (rs : List Record) × AllShow K.shown keepers.now rs × MakeAWorld rs }
-    requires count { (2 ≤ length keepers.now) × (length keepers.now ≤ 16) }
+    requires count { (2 ≤ length keepers.now) × (length keepers.now ≤ MAX_SITES) }
     ensures wire { IfOk result (λ r. IsSeatOf r.wire r.seat × (r.wire.sites ≡ length keepers.now)) }
     ensures seat { (rs : List Record) → AllShow K.shown keepers.now rs → IfOk result (λ r. r.seat.logs ≡ logs_from 0 rs) }
+    ensures start { (rs : List Record) → AllShow K.shown keepers.now rs → IfOk result (λ r. r.wire.start ≡ rs) }
     ensures runs { IfOk result (λ r. (r.runs.items ≡ []) × (length keepers.now ≤ vec_capacity r.runs)) }
     ensures ended { IfOk result (λ r. IsRoomFor (length keepers.now) r.ended) }
 {
@@ -112,8 +115,8 @@ fn run_in<K: SiteKeeper + Send, G: Gate + Send, R: Threads + Wait + Clock + Sync
     gates: Vec<G>,
     turns: u64,
 ) -> Ended<K>
-    requires world { (rs : List Record) × AllShow K.shown keepers.items rs × MakeAWorld rs × (room.seat.logs ≡ logs_from 0 rs) }
-    requires count { (2 ≤ length keepers.items) × (length keepers.items ≤ 16) }
+    requires world { (rs : List Record) × AllShow K.shown keepers.items rs × MakeAWorld rs × (room.seat.logs ≡ logs_from 0 rs) × (room.wire.start ≡ rs) }
+    requires count { (2 ≤ length keepers.items) × (length keepers.items ≤ MAX_SITES) }
     requires wire { IsSeatOf room.wire room.seat × (room.wire.sites ≡ length keepers.items) }
     requires runs { (room.runs.items ≡ []) × (length keepers.items ≤ vec_capacity room.runs) }
     requires ended { IsRoomFor (length keepers.items) room.ended }
@@ -125,6 +128,7 @@ fn run_in<K: SiteKeeper + Send, G: Gate + Send, R: Threads + Wait + Clock + Sync
     ensures ends { AllZip HasEnd desks.items result.lists.items }
     ensures turns { result.cause ≡ None → AllZip (HasTurned K.shown turns) result.keepers.items result.lists.items }
     ensures fit { KeepersFit K.shown K.may result.keepers.items }
+    ensures run { result.cause ≡ None → RanAsAWorld K.shown keepers.items result.keepers.items }
     ensures stored { All K.stored keepers.items → All K.stored result.keepers.items }
     ensures back { length result.keepers.items ≡ length keepers.items }
     ensures cause { IfSome result.cause (λ cause. Hinders K.shown result.keepers.items cause × FitAfter K.shown K.may keepers.items cause result.keepers.items) }
@@ -176,7 +180,7 @@ fn run_sites<K: SiteKeeper + Send, G: Gate + Send, R: Threads + Wait + Clock + S
     turns: u64,
 ) -> Result<Gathered<K>, GatherFault<K>>
     requires world { (rs : List Record) × AllShow K.shown keepers.items rs × MakeAWorld rs }
-    requires count { (2 ≤ length keepers.items) × (length keepers.items ≤ 16) }
+    requires count { (2 ≤ length keepers.items) × (length keepers.items ≤ MAX_SITES) }
     requires desks { (length desks.items ≡ length keepers.items) × All IsUnused desks.items }
     requires gates { length gates.items ≡ length keepers.items }
     requires turns { turns ≤ 1000000 }
@@ -185,6 +189,7 @@ fn run_sites<K: SiteKeeper + Send, G: Gate + Send, R: Threads + Wait + Clock + S
     ensures ends { IfOk result (λ g. AllZip HasEnd desks.items g.lists.items) }
     ensures turns { IfOk result (λ g. AllZip (HasTurned K.shown turns) g.keepers.items g.lists.items) }
     ensures fit { IfOk result (λ g. KeepersFit K.shown K.may g.keepers.items) }
+    ensures run { IfOk result (λ g. RanAsAWorld K.shown keepers.items g.keepers.items) }
     ensures stored { All K.stored keepers.items → All K.stored (keepers_of result) }
     ensures back { length (keepers_of result) ≡ length keepers.items }
     ensures err { IfErr result (λ e. Hinders K.shown e.keepers.items e.cause × FitAfter K.shown K.may keepers.items e.cause e.keepers.items) }
@@ -217,10 +222,12 @@ fn run_sites<K: SiteKeeper + Send, G: Gate + Send, R: Threads + Wait + Clock + S
 /// was taken from the desks. Afterwards each keeper is open in the record to which its list of steps leads from the one
 /// that it began with, and the jobs of the list are the first ones that were put at its desk; its gate was asked for
 /// just these turns, or for fewer where the site is done: its end counts the desk as gone, no job is in hand, no
-/// message waits for a signal, and each recall that it began has ended. Whether the run has an answer or not, in
-/// whichever records the keepers are open, or may be opened, these make a world again, which [`World::new`] takes, and
-/// what is quarantined under each recall that has ended is just what its root reaches. What the keepers stored before,
-/// they store.
+/// message waits for a signal, and each recall that it began has ended. What the sites did together is a run of the
+/// world, as [`World::run`] makes them: steps that were done, and frames that were sent, lead one after another from
+/// the records that the keepers showed to those that they show. Whether the run has an answer or not, in whichever
+/// records the keepers are open, or may be opened, these make a world again, which [`World::new`] takes, and what is
+/// quarantined under each recall that has ended is just what its root reaches. What the keepers stored before, they
+/// store.
 ///
 /// # Errors
 /// All with the keepers. `NotAWorld`, with the keepers as they were. `NoMemory`: before the first turn, when nothing
@@ -235,7 +242,7 @@ pub fn run_world<K: SiteKeeper + Send, G: Gate + Send, R: Threads + Wait + Clock
     gates: Vec<G>,
     turns: u64,
 ) -> Result<Gathered<K>, GatherFault<K>>
-    requires count { (2 ≤ length keepers.items) × (length keepers.items ≤ 16) }
+    requires count { (2 ≤ length keepers.items) × (length keepers.items ≤ MAX_SITES) }
     requires desks { (length desks.items ≡ length keepers.items) × All IsUnused desks.items }
     requires gates { length gates.items ≡ length keepers.items }
     requires turns { turns ≤ 1000000 }
@@ -244,6 +251,7 @@ pub fn run_world<K: SiteKeeper + Send, G: Gate + Send, R: Threads + Wait + Clock
     ensures ends { IfOk result (λ g. AllZip HasEnd desks.items g.lists.items) }
     ensures turns { IfOk result (λ g. AllZip (HasTurned K.shown turns) g.keepers.items g.lists.items) }
     ensures fit { IfOk result (λ g. KeepersFit K.shown K.may g.keepers.items) }
+    ensures run { IfOk result (λ g. RanAsAWorld K.shown keepers.items g.keepers.items) }
     ensures stored { All K.stored keepers.items → All K.stored (keepers_of result) }
     ensures back { length (keepers_of result) ≡ length keepers.items }
     ensures err { IfErr result (λ e. Hinders K.shown e.keepers.items e.cause × FitAfter K.shown K.may keepers.items e.cause e.keepers.items) }

@@ -5,13 +5,14 @@ use lib.ListN.{get_elem?}
 use Rattle.atomic_table.specs.Table.{opening}
 use Rattle.atomic_table.proofs.Lists.{at_map}
 use Rattle.std.proofs.lemmas.List.{length-map}
+use Rattle.event_json.specs.declared.limits.TheConstants.{MAX_SITES}
 use Rattle.site_core.specs.Records.{Record}
 use Rattle.frame_core.specs.declared.frames.Frame.{Frame}
 use Rattle.wire_core.specs.declared.views.Log.{Log}
 use Rattle.wire_core.specs.declared.views.View.{View}
 use Rattle.wire_core.specs.Fitting.{SitesFit}
 use Rattle.wire_core.specs.Mailboxes.{empty, Mailbox, word_of, slot_of}
-use Rattle.wire_core.specs.Rule.{Ruled, Knows, records, frames, Stands, opening_log, logs_from, first_view}
+use Rattle.wire_core.specs.Rule.{AreAnswered, Ruled, Knows, records, opening_log, logs_from, first_view, world_up}
 use Rattle.wire_core.proofs.Lists.{within, at_Contains, Contains_at}
 
 module _ {A : Type 0} where
@@ -29,9 +30,9 @@ all_records : (rs : List Record) (site : ℕ) → records (logs_from site rs) �
 all_records [] site = refl
 all_records (r ∷ rs) site = ap (λ (l : List Record). r ∷ l) (all_records rs (site + 1))
 
-no_frames : (rs : List Record) (site : ℕ) → frames (logs_from site rs) ≡ []
-no_frames [] site = refl
-no_frames (r ∷ rs) site = no_frames rs (site + 1)
+all_openings : (rs : List Record) (site : ℕ) → map (λ (e : Log). e.opening) (logs_from site rs) ≡ rs
+all_openings [] site = refl
+all_openings (r ∷ rs) site = ap (λ (l : List Record). r ∷ l) (all_openings rs (site + 1))
 
 count : (rs : List Record) (site : ℕ) → length (logs_from site rs) ≡ length rs
 count [] site = refl
@@ -40,7 +41,7 @@ count (r ∷ rs) site = ap suc (count rs (site + 1))
 abbrev pub vacant : ℕ → List (Maybe Frame)
 vacant slots = replicate slots None
 
-module _ (rs : List Record) (few : length rs ≤ 16) (fit : SitesFit rs []) where
+module _ (rs : List Record) (few : length rs ≤ MAX_SITES) (fit : SitesFit rs []) where
   abbrev logs : List Log
   logs = logs_from 0 rs
 
@@ -61,16 +62,15 @@ module _ (rs : List Record) (few : length rs ≤ 16) (fit : SitesFit rs []) wher
     place : (i : ℕ) (e : Log) → get_elem? logs i ≡ some e → i < length rs
     place i e at = let h = within logs i e at in let c = count rs 0 in omega arith
 
-    pub begins : Ruled (length rs) (opening words (vacant slots) (first_view rs))
+    pub begins : Ruled rs (opening words (vacant slots) (first_view rs))
     begins = (
       logs,
       (λ _. 0),
       count rs 0,
-      subst (λ k. k ≤ 16) (sym (count rs 0)) few,
+      subst (λ k. k ≤ MAX_SITES) (sym (count rs 0)) few,
       record { own = own; seated = λ i h. let z : 0 < 1 = omega arith in z; known = known },
       record {
         progress = λ i e at. let h = place i e at in let o = fresh rs 0 i e at in word_at i (omega arith) ∙ ap (λ (x : Log). some (length x.inputs)) (sym o.1);
-        stands = λ i e at. let o = fresh rs 0 i e at in subst (λ (x : Log). Stands x.opening x.inputs x.last) (sym o.1) refl;
         noted = λ i e f at c. let o = fresh rs 0 i e at in let z = (subst (λ (x : Log). Contains x.noted f) o.1 c).1 in absurd (omega arith);
         mailbox = λ i j a b ai bj ne.
             let hi = place i a ai in
@@ -79,15 +79,25 @@ module _ (rs : List Record) (few : length rs ≤ 16) (fit : SitesFit rs []) wher
             let ob = fresh rs 0 j b bj in
             subst (λ (z : Log × Log). Mailbox words (map some (vacant slots)) i j z.0 z.1) (λ q. (sym oa.1 q, sym ob.1 q))
             record { phase = empty; word_is = word_at (word_of i j) (omega arith); slot_is = slot_at (slot_of i j) (omega arith); frames = refl; written_is = refl; read_is = refl };
-        fit = subst (λ (z : List Record × List Frame). SitesFit z.0 z.1) (λ q. (sym (all_records rs 0) q, sym (no_frames rs 0) q)) fit;
+        run = record {
+          begun = fit;
+          openings = all_openings rs 0;
+          events = [];
+          answers = [];
+          sent = [];
+          happened = tt;
+          runs = ap (λ (l : List Record). world_up l []) (all_records rs 0);
+          handed = λ i e at. subst (λ (x : Log). AreAnswered [] x.inputs) (sym (fresh rs 0 i e at).1) tt;
+          from = λ i e at. sym (ap (λ (x : Log). x.sent) (fresh rs 0 i e at).1);
+          senders = λ f c. let z = c.1 in absurd (omega arith);
+        };
       },
     )
 
 -- the key keeps the opening records as snapshots
-pub begins_as : {S R : Type 0} (value : S → Record) (key : List S) (given : List R) (now : R → Record) (words : List ℕ) → map value key ≡ map now given → length given ≤ 16 → SitesFit (map now given) [] → words ≡ replicate (16 + 16 * length given) 0
-    → Ruled (length key) (opening words (vacant (16 * length given)) (first_view (map value key)))
+pub begins_as : {S R : Type 0} (value : S → Record) (key : List S) (given : List R) (now : R → Record) (words : List ℕ) → map value key ≡ map now given → length given ≤ MAX_SITES → SitesFit (map now given) [] → words ≡ replicate (16 + 16 * length given) 0
+    → Ruled (map value key) (opening words (vacant (16 * length given)) (first_view (map value key)))
 begins_as value key given now words is few fit zeros =
     let n = length-map given now in
-    let count = sym n ∙ sym (ap length is) ∙ length-map key value in
-    subst (λ (k : ℕ × List Record). Ruled k.0 (opening words (vacant (16 * length given)) (first_view k.1))) (λ q. (count q, sym is q))
-    (subst (λ k. Ruled k (opening words (vacant (16 * length given)) (first_view (map now given)))) n (begins (map now given) (omega arith) fit words (16 * length given) (zeros ∙ ap (λ k. replicate (16 + 16 * k) 0) (sym n)) (ap (λ k. 16 * k) (sym n))))
+    subst (λ (k : List Record). Ruled k (opening words (vacant (16 * length given)) (first_view k))) (sym is)
+    (begins (map now given) (omega arith) fit words (16 * length given) (zeros ∙ ap (λ k. replicate (16 + 16 * k) 0) (sym n)) (ap (λ k. 16 * k) (sym n)))

@@ -1,24 +1,20 @@
 -- What the rule comes to.
-use Rattle.std.proofs.Common.{◌≡◌, ◌≢◌, ◌↔◌, ℕ, ◌+◌, ◌<◌, List, [], ◌∷◌, ◌++◌, map, length, Contains, Some, Option as Maybe, sym, refl, ap, ◌∙◌, subst, arith}
+use Rattle.std.proofs.Common.{◌≡◌, ◌≢◌, ◌↔◌, ℕ, ◌+◌, ◌<◌, List, [], ◌∷◌, ◌++◌, length, Contains, Some, Option as Maybe, sym, refl, ap, ◌∙◌, subst, arith}
 use Rattle.std.proofs.lemmas.List.{length_push}
 use mathlib.Core.Option.{Option, some, some-injective}
 use lib.ListN.{get_elem?}
 use Rattle.frame_core.specs.declared.frames.Frame.{Frame}
 use Rattle.site_core.specs.Records.{Record}
-use Rattle.site_recovery.specs.Fit.{Fits}
-use Rattle.site_recovery.specs.Laws.{AreInPlace}
-use Rattle.site_recovery.specs.Looks.{world_of}
 use Rattle.world_core.specs.Turns.{addressee}
-use Rattle.world_core.specs.Worlds.{WorldFits, Up, record_of}
 use Rattle.wire_core.specs.declared.views.Log.{Log}
-use Rattle.wire_core.specs.Between.{IsKnown, StandsInOneSeat, ShowsTheWay, WasSentBy, HoldsBetween, world_shown}
-use Rattle.wire_core.specs.Fitting.{SitesFit}
+use Rattle.wire_core.specs.Between.{IsKnown, StandsInOneSeat, ShowsTheWay, WasSentBy, HoldsBetween}
 use Rattle.wire_core.specs.Laws.{RuleHoldsBetween}
 use Rattle.wire_core.specs.Mailboxes.{Phase, empty, writing, full, reading, number, home, Between}
 use Rattle.wire_core.specs.Rule.{Ruled, records, frames}
 use Rattle.wire_core.proofs.Boxes.{Table}
 use Rattle.wire_core.proofs.Closing.{numbered}
 use Rattle.wire_core.proofs.Lists.{there, within, one_there, at_Contains, from_flat}
+use Rattle.wire_core.proofs.Running.{run_fits, run_stands, up_fits}
 
 -- what a word and a slot say of the frames that went through the mailbox
 abbrev Says : Option ℕ → Option (Option (Maybe Frame)) → List Frame → List Frame → Type 0
@@ -39,17 +35,7 @@ by_phase writing word slot sent noted w h b = level_says 1 word slot sent noted 
 by_phase (full f) word slot sent noted w h b = (((λ _. ap length b ∙ length_push noted f), (λ _. w)), (λ n. absurd (n w)), (λ _. (f, h, b)))
 by_phase reading word slot sent noted w h b = level_says 3 word slot sent noted (λ e. omega arith) w b.0
 
-same_records : (logs : List Log) → map record_of (map (λ (e : Log). Up e.last) logs) ≡ records logs
-same_records [] = refl
-same_records (e ∷ es) = ap (λ (rs : List Record). e.last ∷ rs) (same_records es)
-
-pub world_fits : (logs : List Log) → SitesFit (records logs) (frames logs) → WorldFits (world_shown logs)
-world_fits logs fit = record {
-  places = subst AreInPlace (sym (same_records logs)) fit.places;
-  fits = subst (λ (rs : List Record). Fits (world_of rs) (frames logs)) (sym (same_records logs)) fit.fits;
-}
-
-module _ (n : ℕ) (s : Table) (h : Ruled n s) where
+module _ (rs : List Record) (s : Table) (h : Ruled rs s) where
   place : (e : Log) → IsKnown s.views e → get_elem? h.0 e.site ≡ some e
   place e k = ((h.4.known k.0 k.1 k.2 e).0 k.3).1
 
@@ -60,7 +46,7 @@ module _ (n : ℕ) (s : Table) (h : Ruled n s) where
       let v = there s.views (h.1 e.site) (h.4.seated e.site (within h.0 e.site e here)) in
       (h.1 e.site, v.0, v.1, (h.4.known (h.1 e.site) v.0 v.1 e).1 refl here)
 
-  seats : (i : ℕ) → i < n → StandsInOneSeat s.views i
+  seats : (i : ℕ) → i < length rs → StandsInOneSeat s.views i
   unfolding known
   seats i small =
       let e = there h.0 i (subst (λ k. i < k) (sym h.2) small) in
@@ -88,20 +74,21 @@ module _ (n : ℕ) (s : Table) (h : Ruled n s) where
       let p = from_flat (λ (x : Log). x.sent) h.0 f o.1 in
       (o.0, (p.1, known p.0 p.1 p.2, p.3))
 
-  holds : HoldsBetween n s
+  holds : HoldsBetween rs s
   holds = record {
     seats = seats;
     progress = λ e k. h.5.progress e.site e (place e k);
-    stands = λ e k. h.5.stands e.site e (place e k);
+    stands = λ e k. run_stands rs h.0 h.5.run e.site e (place e k);
     mailboxes = mailboxes;
     noted = noted;
     world = (
       h.0,
-      numbered 0 n h.0 h.2 (λ k e at. h.4.own k e at ∙ (let z : k ≡ 0 + k = omega arith in z)),
+      numbered 0 (length rs) h.0 h.2 (λ k e at. h.4.own k e at ∙ (let z : k ≡ 0 + k = omega arith in z)),
       (λ e c. let p = at_Contains h.0 e c in known p.0 e p.1),
-      world_fits h.0 h.5.fit,
+      h.5.run,
+      up_fits (records h.0) (frames h.0) (run_fits rs h.0 h.5.run),
     );
   }
 
 pub rule_holds_between : RuleHoldsBetween
-rule_holds_between sites s h = holds sites s h
+rule_holds_between start s h = holds start s h

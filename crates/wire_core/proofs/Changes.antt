@@ -7,14 +7,14 @@ use Rattle.site_core.specs.Records.{Record}
 use Rattle.frame_core.specs.declared.frames.Frame.{Frame}
 use Rattle.wire_core.specs.Frames.{sender}
 use Rattle.world_core.specs.Turns.{addressee}
-use Rattle.wire_core.specs.declared.views.Doing.TheVariants.{Nothing, Writes}
+use Rattle.wire_core.specs.declared.views.Doing.TheVariants.{Nothing}
 use Rattle.wire_core.specs.declared.views.Log.{Log}
 use Rattle.wire_core.specs.declared.views.View.{View}
 use Rattle.wire_core.specs.declared.calls.Post.{Post}
 use Rattle.wire_core.specs.declared.calls.Post.TheVariants.{Posted, Full}
 use Rattle.wire_core.specs.Answers.{MatchPost}
 use Rattle.wire_core.specs.Rule.{opening_log, logs_from}
-use Rattle.wire_core.specs.Changes.{pick, on, posts, notes, does, does_posts, does_notes, AtRest, Level, AllBut, OneMore, Sent}
+use Rattle.wire_core.specs.Changes.{pick, on, asks, offers, sends, receives, does, does_posts, does_receives, does_writes, AtRest, Level, AllBut, OneMore, Sent}
 use Rattle.wire_core.proofs.Lists.{Contains_map}
 use Rattle.wire_core.proofs.Seating.{pick_here, pick_else}
 
@@ -28,11 +28,11 @@ twice i f g h keeps same (e ∷ es) rest = λ k. one k ∷ twice i f g h keeps s
         (λ eq. ap (pick i f) (pick_here i g e eq) ∙ pick_here i f (g e) (keeps e ∙ eq) ∙ same e (All-head (λ x. x.doing ≡ Nothing) e es rest) ∙ sym (pick_here i h e eq))
         (λ ne. ap (pick i f) (pick_else i g e ne) ∙ pick_else i f e ne ∙ sym (pick_else i h e ne))
 
-pub posted : (i to : ℕ) (f : Frame) (l : List Log) → AtRest l → on i (does_posts f) (on i (does (Writes to)) l) ≡ on i (posts f) l
-posted i to f l rest = twice i (does_posts f) (does (Writes to)) (posts f) (λ e. refl) (λ e q. ap (λ d. does d (posts f e)) (sym q)) l rest
+pub posted : (i to : ℕ) (f : Frame) (l : List Log) → AtRest l → on i (does_posts f) (on i (does_writes to (offers f)) l) ≡ on i (sends f) l
+posted i to f l rest = twice i (does_posts f) (does_writes to (offers f)) (sends f) (λ e. refl) (λ e q. ap (λ d. does d (sends f e)) (sym q)) l rest
 
-pub taken : (i : ℕ) (f : Frame) (l : List Log) → AtRest l → on i (does Nothing) (on i (does_notes f) l) ≡ on i (notes f) l
-taken i f l rest = twice i (does Nothing) (does_notes f) (notes f) (λ e. refl) (λ e q. ap (λ d. does d (notes f e)) (sym q)) l rest
+pub taken : (i other : ℕ) (f : Frame) (l : List Log) → AtRest l → on i (does Nothing) (on i (does_receives other f) l) ≡ on i (receives other f) l
+taken i other f l rest = twice i (does Nothing) (does_receives other f) (receives other f) (λ e. refl) (λ e q. ap (λ d. does d (receives other f e)) (sym q)) l rest
 
 -- what holds of each log holds after a change that keeps it
 pub All_on : (P : Log → Type 0) (i : ℕ) (g : Log → Log) → ((e : Log) → P e → P (g e)) → (l : List Log) → All P l → All P (on i g l)
@@ -48,15 +48,17 @@ changed_there i g l e c same = subst (Contains (on i g l)) (pick_here i g e same
 pub kept_by : (P : Log → Type 0) (i : ℕ) (g : Log → Log) (l l' : List Log) → l' ≡ on i g l → ((e : Log) → P e → P (g e)) → All P l → All P l'
 kept_by P i g l l' is keeps all = subst (All P) (sym is) (All_on P i g keeps l all)
 
-pub after_post : (P : Log → Type 0) (r : Post) (f : Frame) (v v' : View) → MatchPost r ((v'.sites ≡ on (sender f) (posts f) v.sites) × Level (sender f) (addressee f) v.sites) (λ g. (g ≡ f) × (v' ≡ v) × Sent (sender f) (addressee f) v.sites × OneMore (sender f) (addressee f) v.sites)
-    → ((e : Log) → P e → P (posts f e)) → All P v.sites → All P v'.sites
-after_post P Posted f v v' told keeps all = kept_by P (sender f) (posts f) v.sites v'.sites told.0 keeps all
-after_post P (Full g) f v v' told keeps all = subst (λ (u : View). All P u.sites) (sym told.1) all
+pub after_post : (P : Log → Type 0) (r : Post) (f : Frame) (v v' : View)
+    → MatchPost r ((v'.sites ≡ on (sender f) (sends f) v.sites) × Level (sender f) (addressee f) v.sites) (λ g. (g ≡ f) × (v'.sites ≡ on (sender f) (offers f) v.sites) × Sent (sender f) (addressee f) v.sites × OneMore (sender f) (addressee f) v.sites)
+    → ((e : Log) → P e → P (sends f e)) → ((e : Log) → P e → P (offers f e)) → All P v.sites → All P v'.sites
+after_post P Posted f v v' told keeps stays all = kept_by P (sender f) (sends f) v.sites v'.sites told.0 keeps all
+after_post P (Full g) f v v' told keeps stays all = kept_by P (sender f) (offers f) v.sites v'.sites told.1 stays all
 
-pub after_take : (P : Log → Type 0) (r : Maybe Frame) (from to : ℕ) (v v' : View) → MatchOption r ((v' ≡ v) × Level from to v.sites) (λ f. (v'.sites ≡ on to (notes f) v.sites) × ((sender f) ≡ from) × ((addressee f) ≡ to) × AllBut from to f v.sites)
-    → ((f : Frame) (e : Log) → P e → P (notes f e)) → All P v.sites → All P v'.sites
-after_take P None from to v v' told keeps all = subst (λ (u : View). All P u.sites) (sym told.0) all
-after_take P (Some f) from to v v' told keeps all = kept_by P to (notes f) v.sites v'.sites told.0 (keeps f) all
+pub after_take : (P : Log → Type 0) (r : Maybe Frame) (from to : ℕ) (v v' : View)
+    → MatchOption r ((v'.sites ≡ on to (asks from) v.sites) × Level from to v.sites) (λ f. (v'.sites ≡ on to (receives from f) v.sites) × ((sender f) ≡ from) × ((addressee f) ≡ to) × AllBut from to f v.sites)
+    → ((f : Frame) (e : Log) → P e → P (receives from f e)) → ((e : Log) → P e → P (asks from e)) → All P v.sites → All P v'.sites
+after_take P None from to v v' told keeps stays all = kept_by P to (asks from) v.sites v'.sites told.0 stays all
+after_take P (Some f) from to v v' told keeps stays all = kept_by P to (receives from f) v.sites v'.sites told.0 (keeps f) all
 
 -- the start is at rest, each site at its place
 pub starts_at_rest : (rs : List Record) (site : ℕ) → AtRest (logs_from site rs)

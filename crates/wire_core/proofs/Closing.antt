@@ -6,6 +6,7 @@ use mathlib.Core.Option.{some, some-injective}
 use lib.ListN.{get_elem?}
 use Rattle.atomic_table.specs.Table.{Final, Seen}
 use Rattle.atomic_table.proofs.Lists.{at_map}
+use Rattle.site_core.specs.Records.{Record}
 use Rattle.wire_core.specs.declared.views.Log.{Log}
 use Rattle.wire_core.specs.declared.views.View.{View}
 use Rattle.wire_core.specs.Rule.{Ruled}
@@ -41,7 +42,7 @@ numbered a n l len own =
         let p = there l k (omega arith) in
         range_at a n k (omega arith) ∙ ap some (sym (own k p.0 p.1)) ∙ sym (at_map (λ (y : Log). y.site) l k p.0 p.1) ∙ e
 
-module _ (n id : ℕ) (v : View) (s : Table) (h : Ruled n s) (at : get_elem? s.views id ≡ some v) (all : HoldsAll n v.sites) where
+module _ (rs : List Record) (id : ℕ) (v : View) (s : Table) (h : Ruled rs s) (at : get_elem? s.views id ≡ some v) (all : HoldsAll (length rs) v.sites) where
   known : (e : Log) → Contains h.0 e → Contains v.sites e
   known e c =
       let p = at_Contains h.0 e c in
@@ -50,16 +51,22 @@ module _ (n id : ℕ) (v : View) (s : Table) (h : Ruled n s) (at : get_elem? s.v
       let k = (h.4.known id v at mine.0).0 mine.1 in
       subst (Contains v.sites) (one_there h.0 p.0 mine.0 e (ap (get_elem? h.0) (sym mine.2) ∙ k.1) p.1) mine.1
 
-  pub gathered : (logs : List Log) × AreAllOf n v.sites logs × Gathered logs
+  pub gathered : (logs : List Log) × AreAllOf (length rs) v.sites logs × Gathered rs logs
   gathered = (
     h.0,
-    record { sites = numbered 0 n h.0 h.2 (λ k e there. h.4.own k e there ∙ (let z : k ≡ 0 + k = omega arith in z)); known = known },
+    record { sites = numbered 0 (length rs) h.0 h.2 (λ k e there. h.4.own k e there ∙ (let z : k ≡ 0 + k = omega arith in z)); known = known },
     record {
-      fit = h.5.fit;
+      run = h.5.run;
       noted = λ e f c d. let p = at_Contains h.0 e c in let o = h.5.noted p.0 e f p.1 d in (o.0 ∙ sym (h.4.own p.0 e p.1), o.1);
-      stand = λ e c. let p = at_Contains h.0 e c in h.5.stands p.0 e p.1;
     },
   )
 
-pub gathered_at : (n id : ℕ) (v : View) (words : List ℕ) (slots : List _) → Final (Seen (Ruled n) id v) words slots → HoldsAll n v.sites → (logs : List Log) × AreAllOf n v.sites logs × Gathered logs
-gathered_at n id v words slots last all = gathered n id v last.0 last.1.0 last.1.1 all
+at_once : (rs : List Record) (id : ℕ) (v : View) (words : List ℕ) (slots : List _) → Final (Seen (Ruled rs) id v) words slots → HoldsAll (length rs) v.sites → (logs : List Log) × AreAllOf (length rs) v.sites logs × Gathered rs logs
+at_once rs id v words slots last all = gathered rs id v last.0 last.1.0 last.1.1 all
+
+-- the key keeps the opening records as snapshots
+pub gathered_at : {S : Type 0} (value : S → Record) (key : List S) (id : ℕ) (v : View) (words : List ℕ) (slots : List _) → Final (Seen (Ruled (map value key)) id v) words slots → HoldsAll (length key) v.sites
+    → (logs : List Log) × AreAllOf (length key) v.sites logs × Gathered (map value key) logs
+gathered_at value key id v words slots last all =
+    let n = length-map key value in
+    subst (λ n. (logs : List Log) × AreAllOf n v.sites logs × Gathered (map value key) logs) n (at_once (map value key) id v words slots last (subst (λ n. HoldsAll n v.sites) (sym n) all))

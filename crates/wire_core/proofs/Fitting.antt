@@ -1,9 +1,8 @@
 -- The laws of the records and the frames sent, and the form in which the rule uses them.
-use Rattle.std.proofs.Common.{◌≡◌, ℕ, List, [], ◌∷◌, ◌++◌, set, Contains, sym, subst}
+use Rattle.std.proofs.Common.{◌≡◌, ℕ, List, [], set, sym, subst}
 use mathlib.Core.Option.{some}
 use lib.ListN.{get_elem?}
 use Rattle.frame_core.specs.declared.frames.Frame.{Frame}
-use Rattle.site_core.specs.Emitting.{emittable}
 use Rattle.site_core.specs.Records.{Record, fresh}
 use Rattle.site_core.specs.declared.inputs.SiteInput.{SiteInput}
 use Rattle.site_recovery.specs.Looks.{world_of}
@@ -32,8 +31,3 @@ record_at rs s r at = index_is rs s r (fresh [] s) at
 pub one_step : (rs : List Record) (sent : List Frame) (s : ℕ) (r : Record) (input : SiteInput) (new : Record) → SitesFit rs sent → get_elem? rs s ≡ some r → IsAfter r input new → DeliversOneOf sent input → SitesFit (set rs s new) sent
 one_step rs sent s r input new fit at after delivers =
     marks_keep_the_fit rs sent s input new fit (within rs s r at) delivers (subst (λ x. IsAfter x input new) (sym (record_at rs s r at)) after)
-
--- a frame that a site's record makes emittable
-pub one_send : (rs : List Record) (sent : List Frame) (s : ℕ) (f : Frame) (r : Record) → SitesFit rs sent → get_elem? rs s ≡ some r → Contains (emittable r.engagement) f → SitesFit rs (sent ++ f ∷ [])
-one_send rs sent s f r fit at emitted =
-    posts_keep_the_fit rs sent s f fit (within rs s r at) (subst (λ (x : Record). Contains (emittable x.engagement) f) (sym (record_at rs s r at)) emitted)

@@ -1,5 +1,6 @@
 pub mod Lists
 pub mod Fitting
+pub mod Running
 pub mod Seating
 pub mod Shown
 pub mod Boxes

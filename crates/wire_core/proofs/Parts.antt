@@ -8,6 +8,7 @@ use native.Mathlib.Decide.{ℕ_discrete}
 use lib.ListN.{get_elem?}
 use Rattle.atomic_table.specs.Table.{Splits, Joins}
 use Rattle.atomic_table.proofs.Lists.{at_set}
+use Rattle.site_core.specs.Records.{Record}
 use Rattle.wire_core.specs.declared.views.Log.{Log}
 use Rattle.wire_core.specs.declared.views.View.{View}
 use Rattle.wire_core.specs.Rule.{Ruled, Knows}
@@ -46,7 +47,7 @@ not_true : (b : Bool) → not b ≡ true → b ≡ false
 not_true true e = absurd (true≢false (sym e))
 not_true false e = refl
 
-module _ (n id : ℕ) (v : View) (s : Table) (h : Ruled n s) (at : get_elem? s.views id ≡ some v) where
+module _ (rs : List Record) (id : ℕ) (v : View) (s : Table) (h : Ruled rs s) (at : get_elem? s.views id ≡ some v) where
   logs : List Log
   logs = h.0
 
@@ -118,7 +119,7 @@ module _ (n id : ℕ) (v : View) (s : Table) (h : Ruled n s) (at : get_elem? s.v
       (λ (t : (h.1 i ≡ id) × (nat_lt i v.cut ≡ false) × (moved i ≡ length s.views)). let eq = t.2 in omega arith)
       (cases i)
 
-  pub split_kept : Ruled n (record { words = s.words; homes = s.homes; views = set s.views id (left v) ++ right v ∷ [] })
+  pub split_kept : Ruled rs (record { words = s.words; homes = s.homes; views = set s.views id (left v) ++ right v ∷ [] })
   split_kept = (h.0, moved, h.2, h.3, record { own = h.4.own; seated = split_seated; known = split_known }, h.5)
 
   module _ (other : ℕ) (w : View) (apart : ¬ (other ≡ id)) (there : get_elem? (set s.views id (both v w)) other ≡ some w) where
@@ -169,11 +170,11 @@ module _ (n id : ℕ) (v : View) (s : Table) (h : Ruled n s) (at : get_elem? s.v
         let me = here in
         ⊎_elim (λ (t : (h.1 i ≡ other) × (joined i ≡ id)). let eq = t.1 in omega arith) (λ (t : (h.1 i ≢ other) × (joined i ≡ h.1 i)). let eq = t.1 in omega arith) (joins i)
 
-    pub join_kept : Ruled n (record { words = s.words; homes = s.homes; views = set (set s.views id (both v w)) other spent })
+    pub join_kept : Ruled rs (record { words = s.words; homes = s.homes; views = set (set s.views id (both v w)) other spent })
     join_kept = (h.0, joined, h.2, h.3, record { own = h.4.own; seated = join_seated; known = join_known }, h.5)
 
-pub splits : (n id : ℕ) (v : View) → Splits (Ruled n) id v (left v) (right v)
-splits n id v s h at = split_kept n id v s h at
+pub splits : (rs : List Record) (id : ℕ) (v : View) → Splits (Ruled rs) id v (left v) (right v)
+splits rs id v s h at = split_kept rs id v s h at
 
-pub joins_two : (n id : ℕ) (v : View) (other : ℕ) (w : View) → Joins (Ruled n) id v other w (both v w) spent
-joins_two n id v other w s h at apart there = join_kept n id v s h at other w apart there
+pub joins_two : (rs : List Record) (id : ℕ) (v : View) (other : ℕ) (w : View) → Joins (Ruled rs) id v other w (both v w) spent
+joins_two rs id v other w s h at apart there = join_kept rs id v s h at other w apart there

@@ -1,5 +1,5 @@
 -- What the tests rest on, of a site at a wire of two sites.
-use Rattle.std.proofs.Common.{◌≡◌, ◌≢◌, ℕ, zero, suc, ◌+◌, ◌<◌, ◌^◌, List, [], ◌∷◌, ◌++◌, map, length, get_or, Contains, Some, None, sym, refl, ap, ◌∙◌, subst, arith}
+use Rattle.std.proofs.Common.{◌≡◌, ◌≢◌, ℕ, zero, suc, ◌+◌, ◌<◌, ◌^◌, Bool, true, false, true≢false, cond, nat_eq, List, [], ◌∷◌, ◌++◌, map, length, get_or, Contains, Some, None, sym, refl, ap, ◌∙◌, subst, arith, eq-eqb}
 use Rattle.std.proofs.lemmas.List.Elements.{Contains-push}
 use Rattle.std.proofs.lemmas.List.{length-map, map-append}
 use Rattle.atomic_table.proofs.Lists.{at_map}
@@ -12,15 +12,15 @@ use Rattle.site_core.specs.declared.inputs.SiteInput.TheVariants.{Deliver}
 use Rattle.keeper_core.specs.Keeping.{IsAfter}
 use Rattle.world_core.specs.Turns.{addressee}
 use Rattle.wire_core.specs.declared.views.Log.{Log}
-use Rattle.wire_core.specs.Answers.{MayPost, MayTake, MayMark}
-use Rattle.wire_core.specs.Changes.{on, posts, notes, marks, below, from}
-use Rattle.wire_core.specs.Playing.{MayPlay, PlaysAt, SameSites, MayBePosted, MayGoOn, IsNext, GoesOn, Leaves}
+use Rattle.wire_core.specs.Answers.{Holds, MayPost, MayTake, MayMark}
+use Rattle.wire_core.specs.Changes.{pick, on, asks, offers, sends, receives, marks, below, from}
+use Rattle.wire_core.specs.Playing.{MayPlay, PlaysAt, SameSites, MayBePosted, MayGoOn, IsNext, GoesOn, HasNoted, Leaves}
 use Rattle.wire_core.specs.Rule.{logs_from}
 use Rattle.wire_core.specs.Seats.{Line, Held, IsSeatOf, HoldsAll}
 use Rattle.wire_core.specs.Standing.{StandsAs}
-use Rattle.wire_core.proofs.Changes.{changed_there, same_sites}
-use Rattle.wire_core.proofs.Lists.{there, Contains_at, index_is}
-use Rattle.wire_core.proofs.Standing.{sent_frames_mark_nothing, noted_frames_mark_nothing, marks_put_the_record, marks_leave_other_sites}
+use Rattle.wire_core.proofs.Changes.{same_sites}
+use Rattle.wire_core.proofs.Lists.{there, Contains_at, Contains_map, map_Contains, index_is}
+use Rattle.wire_core.proofs.Standing.{asked_sites_mark_nothing, offered_frames_mark_nothing, sent_frames_mark_nothing, noted_frames_mark_nothing, marks_put_the_record, marks_leave_other_sites}
 
 pub emitted_at : (r : Record) (place : ℕ) (f : Frame) → frame_at r.engagement place ≡ Some f → Contains (emittable r.engagement) f
 emitted_at r zero f e = let n : None ≡ Some f = e in cc
@@ -42,8 +42,41 @@ may_take w s r other p apart small = record { held = (p.stands.log, p.stands.hel
 pub leaves_itself : (logs : List Log) → Leaves logs logs
 leaves_itself logs = record { sites = refl; stand = λ r n s. s }
 
-pub left_by_post : (logs new : List Log) (site : ℕ) (f : Frame) → new ≡ on site (posts f) logs → Leaves logs new
-left_by_post logs new site f is = subst (Leaves logs) (sym is) record { sites = same_sites site (posts f) (λ e. refl) logs; stand = sent_frames_mark_nothing logs site f }
+pub left_by_post : (logs new : List Log) (site : ℕ) (f : Frame) → new ≡ on site (sends f) logs → Leaves logs new
+left_by_post logs new site f is = subst (Leaves logs) (sym is) record { sites = same_sites site (sends f) (λ e. refl) logs; stand = λ r n s. sent_frames_mark_nothing logs site f r n s }
+
+pub left_by_offer : (logs new : List Log) (site : ℕ) (f : Frame) → new ≡ on site (offers f) logs → Leaves logs new
+left_by_offer logs new site f is = subst (Leaves logs) (sym is) record { sites = same_sites site (offers f) (λ e. refl) logs; stand = offered_frames_mark_nothing logs site f }
+
+pub left_by_take : (logs new : List Log) (site other : ℕ) (f : Frame) → new ≡ on site (receives other f) logs → Leaves logs new
+left_by_take logs new site other f is = subst (Leaves logs) (sym is) record { sites = same_sites site (receives other f) (λ e. refl) logs; stand = λ r n s. noted_frames_mark_nothing logs site other f r n s }
+
+pub left_by_asking : (logs new : List Log) (site other : ℕ) → new ≡ on site (asks other) logs → Leaves logs new
+left_by_asking logs new site other is = subst (Leaves logs) (sym is) record { sites = same_sites site (asks other) (λ e. refl) logs; stand = asked_sites_mark_nothing logs site other }
+
+pub leaves_both : (old mid new : List Log) → Leaves old mid → Leaves mid new → Leaves old new
+leaves_both old mid new l m = record { sites = m.sites ∙ l.sites; stand = λ r n s. m.stand r n (l.stand r n s) }
+
+pub still_may : (w : Line) (s t : Held) (r : Record) → MayPlay w s r → IsSeatOf w t → Leaves s.logs t.logs → MayPlay w t r
+still_may w s t r p seat l = record { seat = seat; two = p.two; count = p.count; stands = l.stand r p.count p.stands; room = p.room }
+
+pub still_holds : (old new : List Log) (site : ℕ) → Leaves old new → Holds site old → Holds site new
+still_holds old new site l holds =
+    let c = subst (λ (k : List ℕ). Contains k holds.0.site) (sym l.sites) (Contains_map (λ (e : Log). e.site) old holds.0 holds.1) in
+    let p = map_Contains (λ (e : Log). e.site) new holds.0.site c in
+    (p.0, p.1, p.2 ∙ holds.2)
+
+pub has_noted : (logs new : List Log) (site other : ℕ) (f : Frame) → new ≡ on site (receives other f) logs → HasNoted site f new
+has_noted logs new site other f is = subst (HasNoted site f) (sym is) (λ e c same.
+    let p = map_Contains (pick site (receives other f)) logs e c in
+    noted_there p.0 e p.2 same)
+  where
+    noted_there : (x e : Log) → pick site (receives other f) x ≡ e → e.site ≡ site → Contains e.noted f
+    noted_there x e is same = by_site (nat_eq x.site site) refl is
+      where
+        by_site : (b : Bool) → nat_eq x.site site ≡ b → cond b (receives other f x) x ≡ e → Contains e.noted f
+        by_site true eq is = subst (λ (z : Log). Contains z.noted f) is (Contains-push x.noted f)
+        by_site false eq is = absurd (true≢false (sym (eq-eqb x.site site (ap (λ (z : Log). z.site) is ∙ same)) ∙ eq))
 
 pub may_mark : (w : Line) (s : Held) (r next : Record) (input : SiteInput) → MayGoOn w s r input → IsNext r input next → MayMark input next s.logs
 may_mark w s r next input may is = record {
@@ -72,32 +105,17 @@ goes_on old new r next input same is = subst (λ l. GoesOn old l r next) (sym is
 }
 
 -- the frame that was taken is noted
-pub may_go_on : (w : Line) (s t : Held) (r : Record) (f : Frame) → MayPlay w s r → IsSeatOf w t → t.logs ≡ on r.engagement.me (notes f) s.logs → MayGoOn w t r (Deliver f)
-may_go_on w s t r f p seat is = subst (λ (l : List Log). MayGoOn w (record { table = t.table; logs = l }) r (Deliver f)) (sym is) record {
-  seat = seat;
-  count = p.count;
-  stands = record {
-    log = notes f p.stands.log;
-    held = changed_there r.engagement.me (notes f) s.logs p.stands.log p.stands.held p.stands.site;
-    site = p.stands.site;
-    last = p.stands.last;
-    marked = p.stands.marked;
-  };
-  noted = λ g same. let eq : f ≡ g = cc in subst (Contains (p.stands.log.noted ++ f ∷ [])) eq (Contains-push p.stands.log.noted f);
-  room = p.room;
-}
+pub may_go_on : (w : Line) (s t : Held) (r : Record) (f : Frame) → MayPlay w s r → IsSeatOf w t → Leaves s.logs t.logs → HasNoted r.engagement.me f t.logs → MayGoOn w t r (Deliver f)
+may_go_on w s t r f p seat l noted =
+    let stands = l.stand r p.count p.stands in
+    record { seat = seat; count = p.count; stands = stands; noted = λ g same. let eq : f ≡ g = cc in subst (Contains stands.log.noted) eq (noted stands.log stands.held stands.site); room = p.room }
 
 -- and then the step is done
-pub took : (old mid new : List Log) (r next : Record) (f : Frame) → mid ≡ on r.engagement.me (notes f) old → GoesOn mid new r next → GoesOn old new r next
-took old mid new r next f is g = record {
-  sites = g.sites ∙ ap (map (λ (e : Log). e.site)) is ∙ same_sites r.engagement.me (notes f) (λ e. refl) old;
-  same = g.same;
-  stands = λ n s. g.stands n (noted r n s);
-  others = λ q n other s. g.others q n other (noted q n s);
-}
-  where
-    noted : (q : Record) (n : ℕ) → StandsAs old q n → StandsAs mid q n
-    noted q n s = subst (λ l. StandsAs l q n) (sym is) (noted_frames_mark_nothing old r.engagement.me f q n s)
+pub took : (old mid new : List Log) (r next : Record) → Leaves old mid → GoesOn mid new r next → GoesOn old new r next
+took old mid new r next l g = record { sites = g.sites ∙ l.sites; same = g.same; stands = λ n s. g.stands n (l.stand r n s); others = λ q n other s. g.others q n other (l.stand q n s) }
+
+pub stays : (old new : List Log) (r : Record) → Leaves old new → GoesOn old new r r
+stays old new r l = took old new new r r l (goes_nowhere new r)
 
 -- One site after another.
 

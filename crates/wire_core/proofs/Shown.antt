@@ -5,14 +5,17 @@ use mathlib.Core.Logic.{dite}
 use native.Mathlib.Decide.{ℕ_discrete}
 use lib.ListN.{get_elem?}
 use Rattle.atomic_table.proofs.Lists.{at_set, set_else}
+use Rattle.event_json.specs.declared.limits.TheConstants.{MAX_SITES}
 use Rattle.frame_core.specs.declared.frames.Frame.{Frame}
+use Rattle.site_core.specs.Records.{Record}
 use Rattle.wire_core.specs.declared.views.Log.{Log}
 use Rattle.world_core.specs.Turns.{addressee}
-use Rattle.wire_core.specs.Fitting.{SitesFit}
 use Rattle.wire_core.specs.Mailboxes.{Box, Mailbox, writes, reads, word_of, slot_of}
+use Rattle.wire_core.specs.Changes.{plain}
 use Rattle.wire_core.specs.Frames.{way}
-use Rattle.wire_core.specs.Rule.{Wired, Stands, records, frames}
-use Rattle.wire_core.proofs.Lists.{within, in_flat, from_flat, set_at}
+use Rattle.wire_core.specs.Rule.{IsRun, Wired, frames}
+use Rattle.wire_core.proofs.Lists.{within, in_flat, from_flat, flat_set_same, set_at}
+use Rattle.wire_core.proofs.Running.{run_same}
 
 -- of the mailboxes of site x, b shows what a does, but for those of P
 abbrev pub Like : (ℕ → ℕ → Type 0) → ℕ → Log → Log → Type 0
@@ -47,6 +50,9 @@ module _ (logs : List Log) (s : ℕ) (e e' : Log) (at : get_elem? logs s ≡ som
       (λ eq. in_flat (λ (x : Log). x.sent) (set logs s e') s e' f (set_at logs s e e' at) (more f (subst (λ (x : Log). Contains x.sent f) (some-injective p.1 e (sym p.2 ∙ ap (get_elem? logs) eq ∙ at)) p.3)))
       (λ ne. in_flat (λ (x : Log). x.sent) (set logs s e') p.0 p.1 f (set_else logs s p.0 e' ne ∙ p.2) p.3)
 
+abbrev pub Nowhere : ℕ → ℕ → Type 0
+Nowhere x y = ⊥
+
 abbrev pub Pair : ℕ → ℕ → ℕ → ℕ → Type 0
 Pair i j x y = (x ≡ i) × (y ≡ j)
 
@@ -54,15 +60,15 @@ pub is_pair : (i j x y : ℕ) → Pair i j x y ⊎ (¬ Pair i j x y)
 is_pair i j x y = dite (ℕ_discrete x i) (λ a. dite (ℕ_discrete y j) (λ b. inl (a, b)) (λ b. inr (λ p. b p.1))) (λ a. inr (λ p. a p.0))
 
 -- A change of one mailbox, from site i to site j, and of the log of s
-module _ (words : List ℕ) (homes : Homes) (logs : List Log) (W : Wired words homes logs) (few : length logs ≤ 16) (s : ℕ) (e e' : Log) (at : get_elem? logs s ≡ some e) where
+module _ (start : List Record) (words : List ℕ) (homes : Homes) (logs : List Log) (W : Wired start words homes logs) (few : length logs ≤ MAX_SITES) (s : ℕ) (e e' : Log) (at : get_elem? logs s ≡ some e) where
   pub Wired_box : (i j m : ℕ) (h : Option (Maybe Frame)) → i < length logs → j < length logs → Like (Pair i j) s e e'
-      → length e'.inputs ≡ length e.inputs → Stands e'.opening e'.inputs e'.last
+      → length e'.inputs ≡ length e.inputs
       → ((f : Frame) → Contains e.sent f → Contains e'.sent f)
       → ((f : Frame) → Contains e'.noted f → Contains e.noted f ⊎ (((addressee f) ≡ s) × Contains (frames logs) f))
       → ((a b : Log) → get_elem? (set logs s e') i ≡ some a → get_elem? (set logs s e') j ≡ some b → Mailbox (set words (word_of i j) m) (set homes (slot_of i j) h) i j a b)
-      → SitesFit (records (set logs s e')) (frames (set logs s e'))
-      → Wired (set words (word_of i j) m) (set homes (slot_of i j) h) (set logs s e')
-  Wired_box i j m h hi hj like same_count stand more news new fit = record { progress = progress; stands = stands; noted = noted; mailbox = mailbox; fit = fit }
+      → IsRun start (set logs s e')
+      → Wired start (set words (word_of i j) m) (set homes (slot_of i j) h) (set logs s e')
+  Wired_box i j m h hi hj like same_count more news new run = record { progress = progress; noted = noted; mailbox = mailbox; run = run }
     where
       words' : List ℕ
       words' = set words (word_of i j) m
@@ -75,11 +81,6 @@ module _ (words : List ℕ) (homes : Homes) (logs : List Log) (W : Wired words h
           (λ (t : (x ≡ s) × (e' ≡ b)). W.progress x e (ap (get_elem? logs) t.0 ∙ at) ∙ ap some (sym same_count ∙ ap (λ (z : Log). length z.inputs) t.1))
           (λ (t : (x ≢ s) × (get_elem? logs x ≡ some b)). W.progress x b t.1)
           (at_set logs s x e' b there)
-
-      stands : (x : ℕ) (b : Log) → get_elem? (set logs s e') x ≡ some b → Stands b.opening b.inputs b.last
-      stands x b there = ⊎_elim
-          (λ (t : (x ≡ s) × (e' ≡ b)). subst (λ (z : Log). Stands z.opening z.inputs z.last) t.1 stand)
-          (λ (t : (x ≢ s) × (get_elem? logs x ≡ some b)). W.stands x b t.1) (at_set logs s x e' b there)
 
       noted : (x : ℕ) (b : Log) (f : Frame) → get_elem? (set logs s e') x ≡ some b → Contains b.noted f → ((addressee f) ≡ x) × Contains (frames (set logs s e')) f
       noted x b f there c = ⊎_elim
@@ -104,3 +105,26 @@ module _ (words : List ℕ) (homes : Homes) (logs : List Log) (W : Wired words h
           (sym (set_else words (word_of i j) (word_of x y) m (λ eq. n (omega arith, omega arith))))
           (sym (set_else homes (slot_of i j) (slot_of x y) h (λ eq. n (omega arith, omega arith)))))
           (is_pair i j x y)
+
+  -- A change of what was asked or offered alone
+  pub Wired_still : plain e' ≡ plain e → Wired start words homes (set logs s e')
+  Wired_still same = record {
+    progress = λ x b there. ⊎_elim
+        (λ (t : (x ≡ s) × (e' ≡ b)). W.progress x e (ap (get_elem? logs) t.0 ∙ at) ∙ ap (λ (z : Log). some (length z.inputs)) (sym same) ∙ ap (λ (z : Log). some (length z.inputs)) t.1)
+        (λ (t : (x ≢ s) × (get_elem? logs x ≡ some b)). W.progress x b t.1) (at_set logs s x e' b there);
+    noted = λ x b f there c. subst (λ (l : List Frame). (addressee f ≡ x) × Contains l f) (sym (flat_set_same (λ (z : Log). z.sent) logs s e e' at (ap (λ (z : Log). z.sent) same)))
+        (⊎_elim
+        (λ (t : (x ≡ s) × (e' ≡ b)). W.noted x e f (ap (get_elem? logs) t.0 ∙ at) (subst (λ (z : Log). Contains z.noted f) same (subst (λ (z : Log). Contains z.noted f) (sym t.1) c)))
+        (λ (t : (x ≢ s) × (get_elem? logs x ≡ some b)). W.noted x b f t.1 c) (at_set logs s x e' b there));
+    mailbox = λ x y a b ax by apart.
+        let p = was logs s e e' at Nowhere like x a ax in
+        let q = was logs s e e' at Nowhere like y b by in
+        like_kept Nowhere words words homes homes x y p.0 a q.0 b (W.mailbox x y p.0 q.0 p.1 q.1 apart) (λ z. z) p.2 q.2 refl refl;
+    run = run_same start logs W.run s e e' at (ap (λ (z : Log). z.opening) same) (ap (λ (z : Log). z.last) same) (ap (λ (z : Log). z.sent) same) (ap (λ (z : Log). z.inputs) same);
+  }
+    where
+      like : Like Nowhere s e e'
+      like = (
+        (λ y p. (ap (λ (z : Log). way s y z.sent) (sym same), ap (λ (z : Log). writes z.doing y) (sym same))),
+        (λ y p. (ap (λ (z : Log). way y s z.noted) (sym same), ap (λ (z : Log). reads z.doing y) (sym same))),
+      )

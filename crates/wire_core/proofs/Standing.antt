@@ -5,9 +5,9 @@ use Rattle.std.proofs.lemmas.List.Elements.{Contains-append_left, Contains-appen
 use Rattle.std.proofs.lemmas.Option.{same_Some}
 use Rattle.site_core.specs.Records.{Record}
 use Rattle.wire_core.specs.declared.views.Log.{Log}
-use Rattle.wire_core.specs.Changes.{pick, on, posts, notes, marks}
+use Rattle.wire_core.specs.Changes.{pick, on, asks, offers, sends, receives, marks}
 use Rattle.wire_core.specs.Rule.{opening_log, logs_from}
-use Rattle.wire_core.specs.Standing.{StandsAs, OpeningRecordsStand, SplitsMarkNothing, JoinsMarkNothing, SentFramesMarkNothing, NotedFramesMarkNothing, MarksPutTheRecord, MarksLeaveOtherSites}
+use Rattle.wire_core.specs.Standing.{StandsAs, OpeningRecordsStand, SplitsMarkNothing, JoinsMarkNothing, SentFramesMarkNothing, OfferedFramesMarkNothing, NotedFramesMarkNothing, AskedSitesMarkNothing, MarksPutTheRecord, MarksLeaveOtherSites}
 use Rattle.wire_core.proofs.Changes.{changed_there}
 use Rattle.wire_core.proofs.Lists.{Contains_map}
 use Rattle.wire_core.proofs.Parts.{kept}
@@ -67,10 +67,16 @@ stands_on i g site last inputs logs r count s = record {
     either_way false P old new = old
 
 pub sent_frames_mark_nothing : SentFramesMarkNothing
-sent_frames_mark_nothing logs site f r count s = stands_on site (posts f) (λ e. refl) (λ e. refl) (λ e. refl) logs r count s
+sent_frames_mark_nothing logs site f r count s = stands_on site (sends f) (λ e. refl) (λ e. refl) (λ e. refl) logs r count s
+
+pub offered_frames_mark_nothing : OfferedFramesMarkNothing
+offered_frames_mark_nothing logs site f r count s = stands_on site (offers f) (λ e. refl) (λ e. refl) (λ e. refl) logs r count s
 
 pub noted_frames_mark_nothing : NotedFramesMarkNothing
-noted_frames_mark_nothing logs site f r count s = stands_on site (notes f) (λ e. refl) (λ e. refl) (λ e. refl) logs r count s
+noted_frames_mark_nothing logs site other f r count s = stands_on site (receives other f) (λ e. refl) (λ e. refl) (λ e. refl) logs r count s
+
+pub asked_sites_mark_nothing : AskedSitesMarkNothing
+asked_sites_mark_nothing logs site other r count s = stands_on site (asks other) (λ e. refl) (λ e. refl) (λ e. refl) logs r count s
 
 pub marks_put_the_record : MarksPutTheRecord
 marks_put_the_record logs input new r count s mine = record {

@@ -6,13 +6,14 @@ use mathlib.Core.Option.{Option, some}
 use lib.ListN.{get_elem?}
 use Rattle.atomic_table.specs.Table.{State}
 use Rattle.frame_core.specs.declared.frames.Frame.{Frame}
+use Rattle.site_core.specs.Records.{Record}
 use Rattle.world_core.specs.Turns.{addressee}
-use Rattle.world_core.specs.Worlds.{WorldState, WorldFits, Up}
+use Rattle.world_core.specs.Worlds.{WorldState, WorldFits}
 use Rattle.wire_core.specs.declared.views.Log.{Log}
 use Rattle.wire_core.specs.declared.views.View.{View}
 use Rattle.wire_core.specs.Frames.{way}
 use Rattle.wire_core.specs.Mailboxes.{word_of, slot_of}
-use Rattle.wire_core.specs.Rule.{Stands, frames}
+use Rattle.wire_core.specs.Rule.{IsRun, Stands, frames, records, world_up}
 
 -- some seat knows this of a site
 abbrev pub IsKnown : List View → Log → Type 0
@@ -42,10 +43,11 @@ WasSentBy views f = (e : Log) × IsKnown views e × Contains e.sent f
 
 -- the world that the logs of all sites show: each site is up with the record last marked, and all frames sent were sent
 abbrev pub world_shown : List Log → WorldState
-world_shown logs = record { sites = map (λ e. Up e.last) logs; sent = frames logs }
+world_shown logs = world_up (records logs) (frames logs)
 
-pub record HoldsBetween (sites : ℕ) (s : State (Maybe Frame) View) : Type 0 where
-  pub seats : (site : ℕ) → site < sites → StandsInOneSeat s.views site
+-- of sites that had these records at the start
+pub record HoldsBetween (start : List Record) (s : State (Maybe Frame) View) : Type 0 where
+  pub seats : (site : ℕ) → site < length start → StandsInOneSeat s.views site
   -- a site's progress word is the number of its marked inputs
   pub progress : (e : Log) → IsKnown s.views e → get_elem? s.words e.site ≡ some (length e.inputs)
   -- the record last marked stands as the steps marked
@@ -53,5 +55,5 @@ pub record HoldsBetween (sites : ℕ) (s : State (Maybe Frame) View) : Type 0 wh
   pub mailboxes : (a b : Log) → IsKnown s.views a → IsKnown s.views b → a.site ≢ b.site → ShowsTheWay s.words s.homes a b
   -- each noted frame was sent, to that site
   pub noted : (e : Log) (f : Frame) → IsKnown s.views e → Contains e.noted f → (addressee f ≡ e.site) × WasSentBy s.views f
-  -- the seats together show a world in which all fits
-  pub world : (all : List Log) × (map (λ e. e.site) all ≡ range_with_len 0 sites) × ((e : Log) → Contains all e → IsKnown s.views e) × WorldFits (world_shown all)
+  -- the seats together show where a run of the world leads, from the records at the start; there all fits
+  pub world : (all : List Log) × (map (λ e. e.site) all ≡ range_with_len 0 (length start)) × ((e : Log) → Contains all e → IsKnown s.views e) × IsRun start all × WorldFits (world_shown all)

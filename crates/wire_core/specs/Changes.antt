@@ -32,6 +32,24 @@ posts f e = record e { sent = e.sent ++ f ∷ [] }
 abbrev pub notes : Frame → Log → Log
 notes f e = record e { noted = e.noted ++ f ∷ [] }
 
+-- another site is asked for a frame; a frame is offered
+abbrev pub asks : ℕ → Log → Log
+asks other e = record e { asked = e.asked ++ other ∷ [] }
+
+abbrev pub offers : Frame → Log → Log
+offers f e = record e { offered = e.offered ++ f ∷ [] }
+
+-- a frame is offered and sent; a site is asked, and its frame noted
+abbrev pub sends : Frame → Log → Log
+sends f e = posts f (offers f e)
+
+abbrev pub receives : ℕ → Frame → Log → Log
+receives other f e = notes f (asks other e)
+
+-- a log without what was asked and offered, of which the rule says nothing
+abbrev pub plain : Log → Log
+plain e = record e { asked = []; offered = [] }
+
 -- the same within a call, with what the site is at work on
 abbrev pub does : Doing → Log → Log
 does d e = record e { doing = d }
@@ -41,6 +59,12 @@ does_posts f e = does Nothing (posts f e)
 
 abbrev pub does_notes : Frame → Log → Log
 does_notes f e = does (Reads (sender f)) (notes f e)
+
+abbrev pub does_writes : ℕ → (Log → Log) → Log → Log
+does_writes to offer e = does (Writes to) (offer e)
+
+abbrev pub does_receives : ℕ → Frame → Log → Log
+does_receives from f e = does_notes f (asks from e)
 
 abbrev pub AtRest : List Log → Type 0
 AtRest logs = All (λ e. e.doing ≡ Nothing) logs
@@ -64,11 +88,11 @@ Sent from to logs = (a : Log) → Contains logs a → a.site ≡ from → 0 < le
 abbrev pub Hands : Type 0
 Hands = Me (Maybe Frame) View
 
--- claim: the mailbox was empty and is this seat's to write, or nothing changed
-abbrev pub Claimed : ℕ → ℕ → Hands → ℕ → Hands → Type 0
-Claimed from to m found n =
-    (found ≡ 0 → (n ≡ (changed from (does (Writes to)) m.0, (slot_of from to, None) ∷ [])) × (AtRest m.0.sites → Level from to m.0.sites))
-    × (found ≢ 0 → (n ≡ (m.0, [])) × Sent from to m.0.sites × (AtRest m.0.sites → OneMore from to m.0.sites))
+-- claim: the mailbox was empty and is this seat's to write, or it wasn't. The frame for it was offered
+abbrev pub Claimed : ℕ → ℕ → (Log → Log) → Hands → ℕ → Hands → Type 0
+Claimed from to offer m found n =
+    (found ≡ 0 → (n ≡ (changed from (does_writes to offer) m.0, (slot_of from to, None) ∷ [])) × (AtRest m.0.sites → Level from to m.0.sites))
+    × (found ≢ 0 → (n ≡ (changed from offer m.0, [])) × Sent from to m.0.sites × (AtRest m.0.sites → OneMore from to m.0.sites))
 
 -- publish: the frame in the slot was sent
 abbrev pub published : Maybe Frame → View → View
@@ -82,11 +106,11 @@ in_hand (x ∷ xs) = x.1
 abbrev pub Published : Hands → Hands → Type 0
 Published m n = n ≡ (published (in_hand m.1) m.0, [])
 
--- note: the mailbox was full, and the frame in it is noted, or nothing changed
+-- note: the mailbox was full, and the frame in it is noted, or it wasn't. The other site was asked
 abbrev pub Noted : ℕ → ℕ → Hands → ℕ → Hands → Type 0
 Noted from to m found n =
-    (found ≡ 2 → (f : Frame) × (n ≡ (changed to (does_notes f) m.0, (slot_of from to, Some f) ∷ [])) × (sender f ≡ from) × (addressee f ≡ to) × (AtRest m.0.sites → AllBut from to f m.0.sites))
-    × (found ≢ 2 → (n ≡ (m.0, [])) × (AtRest m.0.sites → Level from to m.0.sites))
+    (found ≡ 2 → (f : Frame) × (n ≡ (changed to (does_receives from f) m.0, (slot_of from to, Some f) ∷ [])) × (sender f ≡ from) × (addressee f ≡ to) × (AtRest m.0.sites → AllBut from to f m.0.sites))
+    × (found ≢ 2 → (n ≡ (changed to (asks from) m.0, [])) × (AtRest m.0.sites → Level from to m.0.sites))
 
 -- release
 abbrev pub Released : ℕ → Hands → Hands → Type 0

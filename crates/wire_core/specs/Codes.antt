@@ -75,8 +75,8 @@ coded_doing = code_by DoingParts (coded_option (coded⊎ coded_ℕ coded_ℕ)) p
 
 abbrev pub coded_log : Coded Log
 coded_log =
-    code_by (ℕ × (Record × (List SiteInput × (Record × (List Frame × (List Frame × Doing))))))
-    (coded× coded_ℕ (coded× coded_record (coded× (coded_list coded_input) (coded× coded_record (coded× (coded_list coded_frame) (coded× (coded_list coded_frame) coded_doing))))))
-    (λ e. (e.site, (e.opening, (e.inputs, (e.last, (e.sent, (e.noted, e.doing)))))))
-    (λ p. record { site = p.0; opening = p.1.0; inputs = p.1.1.0; last = p.1.1.1.0; sent = p.1.1.1.1.0; noted = p.1.1.1.1.1.0; doing = p.1.1.1.1.1.1 })
+    code_by (ℕ × (Record × (List SiteInput × (Record × (List Frame × (List Frame × (List ℕ × (List Frame × Doing))))))))
+    (coded× coded_ℕ (coded× coded_record (coded× (coded_list coded_input) (coded× coded_record (coded× (coded_list coded_frame) (coded× (coded_list coded_frame) (coded× (coded_list coded_ℕ) (coded× (coded_list coded_frame) coded_doing))))))))
+    (λ e. (e.site, (e.opening, (e.inputs, (e.last, (e.sent, (e.noted, (e.asked, (e.offered, e.doing)))))))))
+    (λ p. record { site = p.0; opening = p.1.0; inputs = p.1.1.0; last = p.1.1.1.0; sent = p.1.1.1.1.0; noted = p.1.1.1.1.1.0; asked = p.1.1.1.1.1.1.0; offered = p.1.1.1.1.1.1.1.0; doing = p.1.1.1.1.1.1.1.1 })
     (λ _. refl)

@@ -1,4 +1,4 @@
--- The laws that the rule rests on, one for each kind of step that changes what is consistent; and what the rule comes to.
+-- What a step of one site and a frame that is sent leave consistent, and what the rule comes to.
 use Rattle.std.specs.Prelude.{◌<◌, ℕ, List, [], ◌∷◌, ◌++◌, length, set, Contains, Option as Maybe}
 use Rattle.atomic_table.specs.Table.{State}
 use Rattle.frame_core.specs.declared.frames.Frame.{Frame}
@@ -7,11 +7,12 @@ use Rattle.site_core.specs.Records.{Record}
 use Rattle.site_core.specs.declared.inputs.SiteInput.{SiteInput}
 use Rattle.site_recovery.specs.Looks.{world_of}
 use Rattle.keeper_core.specs.Keeping.{IsAfter}
+use Rattle.wire_core.specs.declared.views.Log.{Log}
 use Rattle.wire_core.specs.declared.views.View.{View}
 use Rattle.wire_core.specs.Between.{HoldsBetween}
 use Rattle.wire_core.specs.Fitting.{SitesFit}
 use Rattle.wire_core.specs.Frames.{DeliversOneOf}
-use Rattle.wire_core.specs.Rule.{Ruled}
+use Rattle.wire_core.specs.Rule.{IsRun, Ruled, Stands, frames, records}
 
 -- A mark: one step of one site, by an input that may deliver a frame that was sent.
 abbrev pub MarksKeepTheFit : Type 0
@@ -31,6 +32,14 @@ FewerFramesFit =
     (records : List Record) (sent fewer : List Frame)
     → SitesFit records sent → ((f : Frame) → Contains fewer f → Contains sent f) → SitesFit records fewer
 
+-- Where the logs are a run of the world, the records last marked are consistent with all frames sent.
+abbrev pub RunsFit : Type 0
+RunsFit = (start : List Record) (logs : List Log) → IsRun start logs → SitesFit (records logs) (frames logs)
+
+-- There each record last marked stands as the steps marked.
+abbrev pub RunsStand : Type 0
+RunsStand = (start : List Record) (logs : List Log) (e : Log) → IsRun start logs → Contains logs e → Stands e.opening e.inputs e.last
+
 -- Between any two steps.
 abbrev pub RuleHoldsBetween : Type 0
-RuleHoldsBetween = (sites : ℕ) (s : State (Maybe Frame) View) → Ruled sites s → HoldsBetween sites s
+RuleHoldsBetween = (start : List Record) (s : State (Maybe Frame) View) → Ruled start s → HoldsBetween start s

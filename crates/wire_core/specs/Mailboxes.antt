@@ -2,6 +2,7 @@
 use Rattle.std.specs.Prelude.{◌≡◌, ℕ, ◌+◌, ◌*◌, ◌<◌, Bool, true, false, nat_eq, List, [], ◌∷◌, ◌++◌, length, Option as Maybe, Some, None}
 use mathlib.Core.Option.{Option, some, none}
 use lib.ListN.{get_elem?}
+use Rattle.event_json.specs.declared.limits.TheConstants.{MAX_SITES}
 use Rattle.frame_core.specs.declared.frames.Frame.{Frame}
 use Rattle.wire_core.specs.declared.views.Doing.{Doing}
 use Rattle.wire_core.specs.declared.views.Doing.TheVariants.{Nothing, Writes, Reads}
@@ -60,12 +61,13 @@ reads Nothing from = false
 reads (Writes site) from = false
 reads (Reads site) from = nat_eq site from
 
--- mailboxes stand in rows of 16, a row for each sender; their words stand behind the 16 words of progress
+-- mailboxes stand in rows, a row for each sender, with a place for each site that there can be; their words stand behind
+-- those of progress
 abbrev pub slot_of : ℕ → ℕ → ℕ
-slot_of from to = 16 * from + to
+slot_of from to = MAX_SITES * from + to
 
 abbrev pub word_of : ℕ → ℕ → ℕ
-word_of from to = 16 + (16 * from + to)
+word_of from to = MAX_SITES + (MAX_SITES * from + to)
 
 -- a mailbox with this word and slot, through which these frames went, and which its sender writes, or its receiver reads
 pub record Box (word : Option ℕ) (slot : Option (Option (Maybe Frame))) (sent noted : List Frame) (written read : Bool) : Type 0 where

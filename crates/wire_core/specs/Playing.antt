@@ -40,6 +40,10 @@ pub record Leaves (old new : List Log) : Type 0 where
   pub sites : SameSites old new
   pub stand : (r : Record) (n : ℕ) → StandsAs old r n → StandsAs new r n
 
+-- the site noted the frame
+abbrev pub HasNoted : ℕ → Frame → List Log → Type 0
+HasNoted me f logs = (e : Log) → Contains logs e → e.site ≡ me → Contains e.noted f
+
 -- the record after a step by the input, of the same site
 pub record IsNext (r : Record) (input : SiteInput) (next : Record) : Type 0 where
   pub after : IsAfter r input next

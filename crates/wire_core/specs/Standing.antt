@@ -4,7 +4,7 @@ use Rattle.frame_core.specs.declared.frames.Frame.{Frame}
 use Rattle.site_core.specs.Records.{Record}
 use Rattle.site_core.specs.declared.inputs.SiteInput.{SiteInput}
 use Rattle.wire_core.specs.declared.views.Log.{Log}
-use Rattle.wire_core.specs.Changes.{on, posts, notes, marks, below, from}
+use Rattle.wire_core.specs.Changes.{on, asks, offers, sends, receives, marks, below, from}
 use Rattle.wire_core.specs.Rule.{logs_from}
 
 -- the record is the one last marked of its site, which was marked at most so many times
@@ -30,12 +30,19 @@ JoinsMarkNothing =
     (one other : List Log) (r : Record) (count : ℕ)
     → (StandsAs one r count → StandsAs (one ++ other) r count) × (StandsAs other r count → StandsAs (one ++ other) r count)
 
--- a frame that is sent or noted leaves each record standing
+-- a frame that is sent, or offered and not sent, leaves each record standing
 abbrev pub SentFramesMarkNothing : Type 0
-SentFramesMarkNothing = (logs : List Log) (site : ℕ) (f : Frame) (r : Record) (count : ℕ) → StandsAs logs r count → StandsAs (on site (posts f) logs) r count
+SentFramesMarkNothing = (logs : List Log) (site : ℕ) (f : Frame) (r : Record) (count : ℕ) → StandsAs logs r count → StandsAs (on site (sends f) logs) r count
 
+abbrev pub OfferedFramesMarkNothing : Type 0
+OfferedFramesMarkNothing = (logs : List Log) (site : ℕ) (f : Frame) (r : Record) (count : ℕ) → StandsAs logs r count → StandsAs (on site (offers f) logs) r count
+
+-- so does one that is noted, and a site that is asked
 abbrev pub NotedFramesMarkNothing : Type 0
-NotedFramesMarkNothing = (logs : List Log) (site : ℕ) (f : Frame) (r : Record) (count : ℕ) → StandsAs logs r count → StandsAs (on site (notes f) logs) r count
+NotedFramesMarkNothing = (logs : List Log) (site other : ℕ) (f : Frame) (r : Record) (count : ℕ) → StandsAs logs r count → StandsAs (on site (receives other f) logs) r count
+
+abbrev pub AskedSitesMarkNothing : Type 0
+AskedSitesMarkNothing = (logs : List Log) (site other : ℕ) (r : Record) (count : ℕ) → StandsAs logs r count → StandsAs (on site (asks other) logs) r count
 
 -- from a mark on the site stands as the record marked
 abbrev pub MarksPutTheRecord : Type 0

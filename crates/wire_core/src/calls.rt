@@ -1,9 +1,10 @@
 //! The calls on a seat: a few steps each.
 
 ghost use Rattle.std.specs.Prelude.{◌≡◌, ◌+◌, ◌*◌, ◌<◌, ◌≤◌, [], length, MatchOption};
+ghost use Rattle.event_json.specs.declared.limits.TheConstants.{MAX_SITES};
 ghost use Rattle.world_core.specs.Turns.{addressee};
 ghost use Rattle.wire_core.specs.Answers.{MatchPost, MayPost, MayTake, MayMark};
-ghost use Rattle.wire_core.specs.Changes.{on, posts, notes, marks, below, from, AtRest, Level, AllBut, OneMore, Sent};
+ghost use Rattle.wire_core.specs.Changes.{on, asks, offers, sends, receives, marks, below, from, AtRest, Level, AllBut, OneMore, Sent};
 ghost use Rattle.wire_core.specs.Frames.{sender};
 
 use crate::rules::{Hub, Token};
@@ -28,17 +29,17 @@ pub enum Post {
 /// Claims the mailbox to the frame's addressee, fills it and publishes it.
 pub fn post_on(hub: &Hub, token: &mut Token, frame: Frame) -> Post
     requires seat { (token.old.table_id ≡ hub.now.table_id) × (token.old.me.1 ≡ []) × AtRest token.old.me.0.sites }
-    requires layout { (hub.now.table_id.words ≡ 16 + 16 * length hub.now.key.items) × (length hub.now.key.items ≤ 16) }
+    requires layout { (hub.now.table_id.words ≡ MAX_SITES + MAX_SITES * length hub.now.key.items) × (length hub.now.key.items ≤ MAX_SITES) }
     requires site { sender frame < length hub.now.key.items }
     requires may { MayPost (length hub.now.key.items) frame token.old.me.0.sites }
     ensures seat { (token.new.table_id ≡ token.old.table_id) × (token.new.me.1 ≡ []) }
     ensures answer { MatchPost result
-        ((token.new.me.0.sites ≡ on (sender frame) (posts frame) token.old.me.0.sites) × Level (sender frame) (addressee frame) token.old.me.0.sites)
-        (λ f. (f ≡ frame) × (token.new.me.0 ≡ token.old.me.0) × Sent (sender frame) (addressee frame) token.old.me.0.sites × OneMore (sender frame) (addressee frame) token.old.me.0.sites) }
+        ((token.new.me.0.sites ≡ on (sender frame) (sends frame) token.old.me.0.sites) × Level (sender frame) (addressee frame) token.old.me.0.sites)
+        (λ f. (f ≡ frame) × (token.new.me.0.sites ≡ on (sender frame) (offers frame) token.old.me.0.sites) × Sent (sender frame) (addressee frame) token.old.me.0.sites × OneMore (sender frame) (addressee frame) token.old.me.0.sites) }
 {
     let from = ways::sender(&frame);
     let to = ways::addressee(&frame);
-    if claim::<Brand>(hub, token, from, to) != EMPTY {
+    if claim::<Brand>(hub, token, from, to, &frame) != EMPTY {
         return Post::Full(frame);
     }
     drop(hub.exchange(token, slot_index(from, to), Some(frame)));
@@ -49,13 +50,13 @@ pub fn post_on(hub: &Hub, token: &mut Token, frame: Frame) -> Post
 /// Claims the mailbox from the other site and notes the frame in it, empties it and releases it.
 pub fn take_on(hub: &Hub, token: &mut Token, to: SiteNo, from: SiteNo) -> Option<Frame>
     requires seat { (token.old.table_id ≡ hub.now.table_id) × (token.old.me.1 ≡ []) × AtRest token.old.me.0.sites }
-    requires layout { (hub.now.table_id.words ≡ 16 + 16 * length hub.now.key.items) × (length hub.now.key.items ≤ 16) }
+    requires layout { (hub.now.table_id.words ≡ MAX_SITES + MAX_SITES * length hub.now.key.items) × (length hub.now.key.items ≤ MAX_SITES) }
     requires site { to < length hub.now.key.items }
     requires may { MayTake (length hub.now.key.items) to from token.old.me.0.sites }
     ensures seat { (token.new.table_id ≡ token.old.table_id) × (token.new.me.1 ≡ []) }
     ensures answer { MatchOption result
-        ((token.new.me.0 ≡ token.old.me.0) × Level from to token.old.me.0.sites)
-        (λ f. (token.new.me.0.sites ≡ on to (notes f) token.old.me.0.sites) × (sender f ≡ from) × (addressee f ≡ to) × AllBut from to f token.old.me.0.sites) }
+        ((token.new.me.0.sites ≡ on to (asks from) token.old.me.0.sites) × Level from to token.old.me.0.sites)
+        (λ f. (token.new.me.0.sites ≡ on to (receives from f) token.old.me.0.sites) × (sender f ≡ from) × (addressee f ≡ to) × AllBut from to f token.old.me.0.sites) }
 {
     if note::<Brand>(hub, token, from, to) != FULL {
         return None;

@@ -1,7 +1,7 @@
-//! Laws that the rule rests on. Each is a function with an empty body whose contract is the law.
+//! Laws of the rule. Each is a function with an empty body whose contract is the law.
 
-ghost use Rattle.wire_core.specs.Standing.{OpeningRecordsStand, SplitsMarkNothing, JoinsMarkNothing, SentFramesMarkNothing, NotedFramesMarkNothing, MarksPutTheRecord, MarksLeaveOtherSites};
-ghost use Rattle.wire_core.specs.Laws.{MarksKeepTheFit, PostsKeepTheFit, FewerFramesFit, RuleHoldsBetween};
+ghost use Rattle.wire_core.specs.Standing.{OpeningRecordsStand, SplitsMarkNothing, JoinsMarkNothing, SentFramesMarkNothing, OfferedFramesMarkNothing, NotedFramesMarkNothing, AskedSitesMarkNothing, MarksPutTheRecord, MarksLeaveOtherSites};
+ghost use Rattle.wire_core.specs.Laws.{MarksKeepTheFit, PostsKeepTheFit, FewerFramesFit, RuleHoldsBetween, RunsFit, RunsStand};
 
 /// A step of one site, by whatever input, leaves all consistent, where a frame that it delivers was sent.
 pub fn a_mark_keeps_the_fit()
@@ -14,9 +14,17 @@ pub fn a_post_keeps_the_fit()
     ensures fewer { FewerFramesFit }
 {}
 
-/// Between any two steps of any seats: each site stands in one seat; a mailbox is full just where one frame more was sent
-/// that way than noted, and the frame in it is the last one sent; each noted frame was sent to that site; and the seats
-/// together show a world in which the records last marked are consistent with all frames sent.
+/// Where what the sites did is a run of the world, their records last marked are consistent with all frames sent, and
+/// each stands as its steps marked, in order.
+pub fn a_run_fits_and_stands()
+    ensures fit { RunsFit }
+    ensures stand { RunsStand }
+{}
+
+/// Between any two steps of any seats: each site stands in one seat; a mailbox is full just where one frame more was
+/// sent that way than noted, and the frame in it is the last one sent; each noted frame was sent to that site; and the
+/// seats together show where a run of the world leads from the records at the start, in which the records last marked
+/// are consistent with all frames sent.
 pub fn the_rule_holds_between_steps()
     ensures { RuleHoldsBetween }
 {}
@@ -28,7 +36,9 @@ pub fn a_record_stands_until_its_site_is_marked()
     ensures split { SplitsMarkNothing }
     ensures join { JoinsMarkNothing }
     ensures sent { SentFramesMarkNothing }
+    ensures offered { OfferedFramesMarkNothing }
     ensures noted { NotedFramesMarkNothing }
+    ensures asked { AskedSitesMarkNothing }
     ensures put { MarksPutTheRecord }
     ensures left { MarksLeaveOtherSites }
 {}

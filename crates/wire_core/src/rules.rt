@@ -13,10 +13,10 @@ pub type Opening = Vec<Snapshot<SiteState>>;
 pub struct Joined;
 
 impl TableRule<Option<Frame>, View, Opening> for Joined {
-    ghost use Rattle.std.specs.Prelude.{length, map};
+    ghost use Rattle.std.specs.Prelude.{map};
     ghost use Rattle.wire_core.specs.Rule.{Ruled, first_view};
 
-    ghost holds = { λ opening. Ruled (length opening.items) };
+    ghost holds = { λ opening. Ruled (map (λ s. s.value) opening.items) };
 
     ghost first = { λ opening. first_view (map (λ s. s.value) opening.items) };
 }

@@ -1,13 +1,14 @@
 //! The seven kinds of atomic step, one call of the table each.
 
 ghost use Rattle.std.specs.Prelude.{◌≡◌, ◌≢◌, ℕ, ◌+◌, ◌*◌, ◌^◌, ◌<◌, ◌≤◌, [], ◌∷◌, length, Some, None, Contains};
+ghost use Rattle.event_json.specs.declared.limits.TheConstants.{MAX_SITES};
 ghost use Rattle.frame_core.specs.declared.frames.Frame.{Frame};
 ghost use Rattle.site_core.specs.Emitting.{emittable};
 ghost use Rattle.world_core.specs.Turns.{addressee};
 ghost use Rattle.wire_core.specs.declared.views.Log.{Log};
 ghost use Rattle.wire_core.specs.declared.views.Doing.TheVariants.{Nothing, Writes, Reads};
 ghost use Rattle.wire_core.specs.Answers.{MayMark};
-ghost use Rattle.wire_core.specs.Changes.{Claimed, Published, Noted, Released, Marked, Cut, marks, left, right, both};
+ghost use Rattle.wire_core.specs.Changes.{Claimed, Published, Noted, Released, Marked, Cut, marks, offers, left, right, both};
 ghost use Rattle.wire_core.specs.Frames.{sender};
 ghost use Rattle.wire_core.specs.Mailboxes.{slot_of};
 
@@ -46,25 +47,51 @@ impl Way for Brand {
     ghost to = { 0 };
 }
 
+/// A frame that is offered on a way, for a proof to name: the change that this makes in its sender's log.
+pub trait Offering {
+    ghost use Rattle.wire_core.specs.declared.views.Log.{Log};
+
+    ghost from: { ℕ };
+
+    ghost to: { ℕ };
+
+    ghost offer: { Log → Log };
+}
+
+impl Offering for Brand {
+    ghost from = { 0 };
+
+    ghost to = { 0 };
+
+    ghost offer = { λ e. e };
+}
+
 /// What a claim says.
 pub struct Claims<N> {
     marker: PhantomData<N>,
 }
 
-impl<N: Way> Play<Option<Frame>, View> for Claims<N> {
-    ghost then = { λ s m found n. Claimed N.from N.to m found n };
+impl<N: Offering> Play<Option<Frame>, View> for Claims<N> {
+    ghost then = { λ s m found n. Claimed N.from N.to N.offer m found n };
 }
 
-/// The sender claims the mailbox: EMPTY to WRITING.
-pub fn claim<N: Way>(hub: &Hub, token: &mut Token, from: SiteNo, to: SiteNo) -> u64
-    requires way { (N.from ≡ from) × (N.to ≡ to) × (from ≢ to) }
+/// The sender claims the mailbox, EMPTY to WRITING, for a frame that it offers.
+pub fn claim<N: Offering>(
+    hub: &Hub,
+    token: &mut Token,
+    from: SiteNo,
+    to: SiteNo,
+    frame: &Frame,
+) -> u64
+    requires way { (N.from ≡ from) × (N.to ≡ to) × (N.offer ≡ offers frame.now) × (from ≢ to) }
     requires seat { (token.old.table_id ≡ hub.now.table_id) × (token.old.me.1 ≡ []) }
-    requires layout { (hub.now.table_id.words ≡ 16 + 16 * length hub.now.key.items) × (length hub.now.key.items ≤ 16) }
+    requires layout { (hub.now.table_id.words ≡ MAX_SITES + MAX_SITES * length hub.now.key.items) × (length hub.now.key.items ≤ MAX_SITES) }
     requires sites { (from < length hub.now.key.items) × (to < length hub.now.key.items) }
     requires rests { (e : Log) × Contains token.old.me.0.sites e × (e.site ≡ from) × (e.doing ≡ Nothing) }
     ensures seat { token.new.table_id ≡ token.old.table_id }
-    ensures told { Claimed from to token.old.me result token.new.me }
+    ensures told { Claimed from to (offers frame.now) token.old.me result token.new.me }
 {
+    let _ = frame;
     hub.compare_exchange::<Claims<N>>(token, word_index(from, to), EMPTY, WRITING)
 }
 
@@ -78,7 +105,7 @@ impl Play<Option<Frame>, View> for Publishes {
 /// The sender stores FULL: the frame in its hands is sent.
 pub fn publish(hub: &Hub, token: &mut Token, from: SiteNo, to: SiteNo)
     requires seat { token.old.table_id ≡ hub.now.table_id }
-    requires layout { (hub.now.table_id.words ≡ 16 + 16 * length hub.now.key.items) × (length hub.now.key.items ≤ 16) }
+    requires layout { (hub.now.table_id.words ≡ MAX_SITES + MAX_SITES * length hub.now.key.items) × (length hub.now.key.items ≤ MAX_SITES) }
     requires sites { (from ≢ to) × (from < length hub.now.key.items) × (to < length hub.now.key.items) }
     requires frame { (f : Frame) × (token.old.me.1 ≡ (slot_of from to, Some f) ∷ []) × (sender f ≡ from) × (addressee f ≡ to) × (e : Log) × Contains token.old.me.0.sites e × (e.site ≡ from) × (e.doing ≡ Writes to) × Contains (emittable e.last.engagement) f }
     ensures seat { token.new.table_id ≡ token.old.table_id }
@@ -100,7 +127,7 @@ impl<N: Way> Play<Option<Frame>, View> for Notes<N> {
 pub fn note<N: Way>(hub: &Hub, token: &mut Token, from: SiteNo, to: SiteNo) -> u64
     requires way { (N.from ≡ from) × (N.to ≡ to) × (from ≢ to) }
     requires seat { (token.old.table_id ≡ hub.now.table_id) × (token.old.me.1 ≡ []) }
-    requires layout { (hub.now.table_id.words ≡ 16 + 16 * length hub.now.key.items) × (length hub.now.key.items ≤ 16) }
+    requires layout { (hub.now.table_id.words ≡ MAX_SITES + MAX_SITES * length hub.now.key.items) × (length hub.now.key.items ≤ MAX_SITES) }
     requires sites { (from < length hub.now.key.items) × (to < length hub.now.key.items) }
     requires rests { (e : Log) × Contains token.old.me.0.sites e × (e.site ≡ to) × (e.doing ≡ Nothing) }
     ensures seat { token.new.table_id ≡ token.old.table_id }
@@ -122,7 +149,7 @@ impl<N: Way> Play<Option<Frame>, View> for Releases<N> {
 pub fn release<N: Way>(hub: &Hub, token: &mut Token, from: SiteNo, to: SiteNo)
     requires way { (N.to ≡ to) × (from ≢ to) }
     requires seat { (token.old.table_id ≡ hub.now.table_id) × (token.old.me.1 ≡ (slot_of from to, None) ∷ []) }
-    requires layout { (hub.now.table_id.words ≡ 16 + 16 * length hub.now.key.items) × (length hub.now.key.items ≤ 16) }
+    requires layout { (hub.now.table_id.words ≡ MAX_SITES + MAX_SITES * length hub.now.key.items) × (length hub.now.key.items ≤ MAX_SITES) }
     requires sites { (from < length hub.now.key.items) × (to < length hub.now.key.items) }
     requires reads { (e : Log) × Contains token.old.me.0.sites e × (e.site ≡ to) × (e.doing ≡ Reads from) }
     ensures seat { token.new.table_id ≡ token.old.table_id }

@@ -29,6 +29,10 @@ pub struct Log {
     pub sent: LinkedList<Frame>,
     /// The frames that it noted from the wire, in order.
     pub noted: LinkedList<Frame>,
+    /// The sites whose mailboxes to it were looked at, in order, whether a frame lay there or not.
+    pub asked: LinkedList<SiteNo>,
+    /// The frames that it gave to be posted, in order, whether their mailboxes were empty or not.
+    pub offered: LinkedList<Frame>,
     /// What it is at work on.
     pub doing: Doing,
 }

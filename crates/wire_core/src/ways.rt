@@ -5,11 +5,8 @@ ghost use Rattle.world_core.specs.Turns.{addressee};
 ghost use Rattle.wire_core.specs.Frames.{sender};
 ghost use Rattle.wire_core.specs.Mailboxes.{slot_of, word_of};
 
-use event_json::SiteNo;
+use event_json::{MAX_SITES, SiteNo};
 use frame_core::Frame;
-
-/// The most sites that a wire joins.
-pub const MOST_SITES: usize = 16;
 
 /// The site that sends a frame.
 pub fn sender(frame: &Frame) -> SiteNo
@@ -35,12 +32,12 @@ pub fn addressee(frame: &Frame) -> SiteNo
 pub fn slot_index(from: SiteNo, to: SiteNo) -> usize
     ensures { result ≡ slot_of from to }
 {
-    MOST_SITES * (from.number() as usize) + to.number() as usize
+    MAX_SITES * (from.number() as usize) + to.number() as usize
 }
 
 /// Its word, behind the words of progress.
 pub fn word_index(from: SiteNo, to: SiteNo) -> usize
     ensures { result ≡ word_of from to }
 {
-    MOST_SITES + slot_index(from, to)
+    MAX_SITES + slot_index(from, to)
 }

@@ -1,14 +1,13 @@
 //! What a site does over a wire of two sites, each condition of a call found by a look at the records.
 
-ghost use Rattle.std.specs.Prelude.{◌≡◌, ◌≢◌, ◌↔◌, ◌<◌, ◌+◌, ◌^◌, ℕ, List, [], ◌∷◌, map, Contains, IfOk, OnOk, IfSome, IsTrue, MatchOption};
+ghost use Rattle.std.specs.Prelude.{◌≡◌, ◌≢◌, ◌↔◌, ◌<◌, ◌+◌, ◌^◌, ℕ, List, [], ◌∷◌, map, Contains, IfOk, OnOk, IfSome, IsTrue};
 ghost use Rattle.site_core.specs.Emitting as emitting;
 ghost use Rattle.site_core.specs.Records.{Record};
 ghost use Rattle.world_core.specs.Turns.{addressee};
 ghost use Rattle.wire_core.specs.declared.views.Log.{Log};
-ghost use Rattle.wire_core.specs.Answers.{MayTake, MatchPost};
-ghost use Rattle.wire_core.specs.Changes.{on, posts, notes};
+ghost use Rattle.wire_core.specs.Answers.{MayTake};
 ghost use Rattle.wire_core.specs.Frames.{sender};
-ghost use Rattle.wire_core.specs.Playing.{MayPlay, MayBePosted, MayGoOn, IsNext, GoesOn, Leaves};
+ghost use Rattle.wire_core.specs.Playing.{MayPlay, MayBePosted, MayGoOn, IsNext, GoesOn, HasNoted, Leaves};
 ghost use Rattle.wire_core.specs.Rule.{logs_from};
 ghost use Rattle.wire_core.specs.Seats.{IsSeatOf};
 ghost use Rattle.wire_core.specs.Standing.{StandsAs};
@@ -103,7 +102,8 @@ fn take_asked(wire: &Wire, seat: &mut Seat, me: SiteNo, other: SiteNo, times: u3
     requires seat { IsSeatOf wire.now seat.old }
     requires may { MayTake wire.now.sites me other seat.old.logs }
     ensures seat { IsSeatOf wire.now seat.new }
-    ensures taken { MatchOption result (seat.new.logs ≡ seat.old.logs) (λ f. seat.new.logs ≡ on me (notes f) seat.old.logs) }
+    ensures left { Leaves seat.old.logs seat.new.logs }
+    ensures noted { IfSome result (λ f. HasNoted me f seat.new.logs) }
 {
     for _ in 0..times {
         if let Some(frame) = wire.take(seat, me, other) {

@@ -3,9 +3,11 @@ use Rattle.std.specs.List.{range_with_len}
 use Rattle.wire_core.specs.Changes.{below, from}
 use Rattle.site_threads.specs.declared.runs.SiteRun.{SiteRun}
 use Rattle.site_threads.specs.Beginning.{BeganIn}
+use Rattle.site_threads.specs.Gathering.{LeadsTo}
 use Rattle.site_threads.specs.Parting.{HasKeeper, IsRoomFor}
 use Rattle.site_threads.specs.Runs.{IsRun, Ran}
 use Rattle.site_threads.proofs.Ending.{kept_all, began_all, ends_all, turned_all, hinders_all, explains_all, starts_one, stored_all}
+use Rattle.site_threads.proofs.Gathering.{kept_show}
 use Rattle.site_threads.proofs.Starting.{none_apart}
 use Rattle.site_threads.proofs.Zips.{all_right, as_long, same_map}
 use Rattle.site_threads.proofs.worlds.run_in.Goals as goal
@@ -110,3 +112,11 @@ returns-clause-why g c =
     let more = as_long ran c.begin_all-runs.result.items c.run_each.new.runs.items c.run_each.ensures in
     explains_all shown may g.K.SiteKeeper.stored g.K.SiteKeeper.reopens g.G.Gate.gives_up c.args.room.wire c.args.turns c.begin_all-runs.result.items c.run_each.new.runs.items c.close_all.result.keepers.items c.close_all.result.cause c.begin_all-runs.ensures.ready c.run_each.ensures e.keepers
     (same ∙ c.begin_all-runs.ensures.order ∙ ap (range_with_len 0) (sym (more ∙ long))) e.cause
+
+pub returns-clause-run : goal.returns-clause-run
+returns-clause-run g c none =
+    let w = c.requires.world in
+    let e = c.close_all.ensures in
+    let kept = kept_all g.K.SiteKeeper.shown g.K.SiteKeeper.may g.K.SiteKeeper.stored g.K.SiteKeeper.reopens g.G.Gate.gives_up c.args.room.wire c.args.turns c.begin_all-runs.result.items c.run_each.new.runs.items c.close_all.result.keepers.items c.close_all.result.lists.items c.run_each.ensures e.keepers e.lists (sym e.cause ∙ none) in
+    let show = kept_show g.K.SiteKeeper.shown c.close_all.result.keepers.items c.close_all.result.lists.items kept in
+    record { before = w.0; after = show.0; began = w.1; ended = show.1; leads = subst (λ rs. LeadsTo rs show.0) w.4 (e.run show.0 show.1) }

@@ -9,7 +9,8 @@ returns-in_default-clause-err g c = let w = c.requires.world in (tt, fit_before 
 pub run_in-ended-requires-clause-world : goal.run_in-ended-requires-clause-world
 run_in-ended-requires-clause-world g c κs within =
     let w = c.requires.world in
-    (w.0, w.1, w.2, c.in-Ok.ensures.seat w.0 (subst (λ ks. AllShow g.K.SiteKeeper.shown ks w.0) (sym c.deref.ensures.value) w.1))
+    let show = subst (λ ks. AllShow g.K.SiteKeeper.shown ks w.0) (sym c.deref.ensures.value) w.1 in
+    (w.0, w.1, w.2, c.in-Ok.ensures.seat w.0 show, c.in-Ok.ensures.start w.0 show)
 
 pub returns-clause-stored : goal.returns-clause-stored
 returns-clause-stored g c all = subst (All g.K.SiteKeeper.stored) (sym c.told.ensures.back) (c.run_in-ended.ensures.stored all)

@@ -42,3 +42,9 @@ returns-clause-seat g c rs show =
     let same = shown_once shown g.K.SiteKeeper.may c.args.keepers.now (records_at c.in_ok-states.states.items) rs c.in_ok-states.ensures show in
     let made = c.in_ok-new.ensures in
     made.2 ∙ ap (logs_from 0) (ap records_at c.deref.ensures.value ∙ same)
+
+pub returns-clause-start : goal.returns-clause-start
+returns-clause-start g c rs show =
+    let shown = g.K.SiteKeeper.shown in
+    let same = shown_once shown g.K.SiteKeeper.may c.args.keepers.now (records_at c.in_ok-states.states.items) rs c.in_ok-states.ensures show in
+    c.in_ok-new.ensures.3 ∙ (ap records_at c.deref.ensures.value ∙ same)

@@ -1,4 +1,4 @@
-use Rattle.wire_core.proofs.Standing.{opening_records_stand, splits_mark_nothing, joins_mark_nothing, sent_frames_mark_nothing, noted_frames_mark_nothing, marks_put_the_record, marks_leave_other_sites}
+use Rattle.wire_core.proofs.Standing.{opening_records_stand, splits_mark_nothing, joins_mark_nothing, sent_frames_mark_nothing, offered_frames_mark_nothing, noted_frames_mark_nothing, asked_sites_mark_nothing, marks_put_the_record, marks_leave_other_sites}
 use Rattle.wire_core.proofs.laws.a_record_stands_until_its_site_is_marked.Goals as goal
 
 pub returns-clause-sent : goal.returns-clause-sent
@@ -21,3 +21,9 @@ returns-clause-split c = splits_mark_nothing
 
 pub returns-clause-join : goal.returns-clause-join
 returns-clause-join c = joins_mark_nothing
+
+pub returns-clause-offered : goal.returns-clause-offered
+returns-clause-offered c = offered_frames_mark_nothing
+
+pub returns-clause-asked : goal.returns-clause-asked
+returns-clause-asked c = asked_sites_mark_nothing

@@ -16,6 +16,6 @@ store-requires c =
     let l = q.layout in (
       q.seat,
       omega arith,
-      publishes_at _ _ _ _ _ f e (λ same. s.0 (from ∙ same ∙ sym to)) (q.frame.1 ∙ (λ k. (slot_of (from k) (to k), Some f) ∷ [])) (w ∙ (λ k. word_of (from k) (to k))) (let t = s.2 in let u = sym to in omega arith) q.frame.5 (q.frame.6 ∙ from)
+      publishes_at _ _ _ _ _ _ f e (λ same. s.0 (from ∙ same ∙ sym to)) (q.frame.1 ∙ (λ k. (slot_of (from k) (to k), Some f) ∷ [])) (w ∙ (λ k. word_of (from k) (to k))) (let t = s.2 in let u = sym to in omega arith) q.frame.5 (q.frame.6 ∙ from)
           (q.frame.7 ∙ ap Writes to) q.frame.8,
     )

@@ -1,6 +1,18 @@
 use Rattle.std.proofs.Common.{◌∙◌, refl, arith}
-use Rattle.site_threads.proofs.Wired.{takes_more, takes_as}
+use Rattle.site_threads.proofs.Wired.{takes_at_none, takes_more, takes_as}
 use Rattle.site_threads.proofs.sites.Site.receive_all.Goals as goal
+
+pub loop-number-init : goal.loop-number-init
+loop-number-init g c =
+    let room = c.requires.room in
+    record {
+      site = record { there = c.requires.site.there; runs = c.requires.site.runs };
+      same = record { seat = c.requires.seat; me = refl; start = refl; marks = omega arith; keeps = λ s. s };
+      frames = takes_at_none _ 0 _ _ _;
+      sent = refl;
+      room = omega (arith, room);
+      count = omega arith;
+    }
 
 pub loop-number-preserved : goal.loop-number-preserved
 loop-number-preserved g c =

@@ -1,5 +1,5 @@
 use Rattle.std.proofs.Common.{◌≡◌, ◌≤◌}
-use Rattle.site_threads.specs.Passing.{PostsToEach, noted_by}
+use Rattle.site_threads.specs.Passing.{PostsToEach, incoming}
 use Rattle.site_threads.specs.Sites.{IsSite, Continues}
 use Rattle.site_threads.proofs.sites.Site.send_all.Given as goal
 
@@ -10,6 +10,6 @@ invariant-loop-number g l = record {
   entries : l.self.entries ≡ l.fn.self.entries;
   keeper : l.self.keeper ≡ l.fn.self.keeper;
   posted : PostsToEach g.K.SiteKeeper.shown 0 l.number l.fn.self l.self l.posted;
-  noted : noted_by l.self.seat.logs ≡ noted_by l.fn.self.seat.logs;
+  noted : incoming l.self.seat.logs ≡ incoming l.fn.self.seat.logs;
   count : l.posted ≤ l.number;
 }

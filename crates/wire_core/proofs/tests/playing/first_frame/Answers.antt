@@ -1,4 +1,4 @@
-use Rattle.std.proofs.Common.{◌≡◌, ◌≢◌, ◌==◌, ◌<◌, ℕ, Bool, not, true, Option, Some, List, [], ◌∷◌, Contains, sym, ap, ◌∙◌, subst}
+use Rattle.std.proofs.Common.{◌≡◌, ◌==◌, ◌<◌, ℕ, not, true, Option, Some, List, [], ◌∷◌, Contains, sym, ap, ◌∙◌, subst}
 use Rattle.std.specs.Prelude.{option_map}
 use Rattle.std.specs.List.{slice_get}
 use Rattle.std.proofs.lemmas.Bool.{eqb-true}
@@ -7,7 +7,6 @@ use Rattle.frame_core.specs.declared.frames.Frame.{Frame}
 use Rattle.trace_core.proofs.Members.{contains_here}
 use Rattle.site_core.specs.Emitting.{emittable}
 use Rattle.site_core.specs.Records.{Record}
-use Rattle.wire_core.specs.Playing.{MayBePosted}
 use Rattle.wire_core.proofs.tests.playing.first_frame.Goals as goal
 
 -- the first of the list is in it

@@ -7,5 +7,5 @@ use Rattle.wire_core.proofs.wires.Wire.close.Goals as goal
 pub returns : goal.returns
 returns c =
     let all = subst (λ (t : Line × Held). HoldsAll t.0.sites t.1.logs) (λ k. (sym c.self.view_is k, sym c.seat.view_is k)) c.requires.1 in
-    let got = gathered_at _ _ _ _ _ c.close_with.ensures.values.2 all in
-    subst (λ (t : Line × Held). (logs : List Log) × AreAllOf t.0.sites t.1.logs logs × Gathered logs) (λ k. (c.self.view_is k, c.seat.view_is k)) got
+    let got = gathered_at _ _ _ _ _ _ c.close_with.ensures.values.2 all in
+    subst (λ (t : Line × Held). (logs : List Log) × AreAllOf t.0.sites t.1.logs logs × Gathered t.0.start logs) (λ k. (c.self.view_is k, c.seat.view_is k)) got
