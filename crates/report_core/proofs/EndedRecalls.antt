@@ -21,10 +21,10 @@ use Rattle.report_core.specs.Verdicts.{IsHeld, DiffersAt}
 use Rattle.report_core.specs.declared.audits.Verdict.TheVariants as verdicts
 use Rattle.report_core.proofs.Zips.{zip_member}
 
-one_own : (records : List Record) (recall : Recall) (a b : Own) → own (world_of records) recall.site recall.number ≡ Some a → own (world_of records) recall.site recall.number ≡ Some b → a ≡ b
+pub one_own : (records : List Record) (recall : Recall) (a b : Own) → own (world_of records) recall.site recall.number ≡ Some a → own (world_of records) recall.site recall.number ≡ Some b → a ≡ b
 one_own records recall a b is is' = let same : Some a ≡ Some b = sym is ∙ is' in cc
 
-alike_once_ended : (records : List Record) (recall : Recall) → AreInPlace records → Fit (world_of records) → IsEnded (world_of records) recall → (p : Pair) → IsHeld records recall p ↔ IsReachedBy records recall p
+pub alike_once_ended : (records : List Record) (recall : Recall) → AreInPlace records → Fit (world_of records) → IsEnded (world_of records) recall → (p : Pair) → IsHeld records recall p ↔ IsReachedBy records recall p
 alike_once_ended records recall places fit (o, is, ended) p =
     let exact = ends_are_exact records places fit recall o is ended p.site p.item in (
       λ has. (o, is, exact.0 has),

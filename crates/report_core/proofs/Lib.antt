@@ -1,6 +1,11 @@
 pub mod Adding
 pub mod EndedRecalls
+pub mod EndedTraces
+pub mod ItemsOfSites
+pub mod KnownItems
 pub mod Outgoing
 pub mod Parting
+pub mod Results
+pub mod TrailLengths
 pub mod Zips
 pub mod Comparing

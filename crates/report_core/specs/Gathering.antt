@@ -1,16 +1,18 @@
 -- How shipments are gathered into a set.
-use Rattle.std.specs.Prelude.{◌≡◌, ◌⊎◌, ◌↔◌, ℕ, IsTrue, List, Contains}
+use Rattle.std.specs.Prelude.{◌≡◌, ◌⊎◌, ◌↔◌, ℕ, ◌<◌, IsTrue, List, get_or, Contains}
 use Rattle.std.specs.BTreeSet.{BTreeSet, contains}
 use Rattle.event_json.specs.Events.{Content}
 use Rattle.event_json.specs.declared.bodies.Body.{Body}
 use Rattle.event_json.specs.declared.bodies.Body.TheVariants.{Note, Ship, Make, Pack}
 use Rattle.frame_core.specs.Numbers.{Recall}
 use Rattle.trace_core.specs.Pairs.{Carries}
+use Rattle.trace_core.specs.declared.pairs.Pair.{Pair}
 use Rattle.trace_core.specs.Relations.{ReachedFrom}
 use Rattle.site_core.specs.ItemSets.{Items}
 use Rattle.site_core.specs.ItemSets as set
 use Rattle.site_core.specs.Quarantines.{items_under}
 use Rattle.site_core.specs.Records.{Record}
+use Rattle.site_recovery.specs.Looks.{World}
 use Rattle.report_core.specs.Destinations.{outside_cmp}
 use Rattle.report_core.specs.declared.outside.OutsideShipment.{OutsideShipment}
 
@@ -32,22 +34,33 @@ OneTells {Y} ys P x = (y : Y) × Contains ys y × P y x
 abbrev pub Goes : ℕ → List ℕ → List ℕ → OutsideShipment → Type 0
 Goes site item destination x = record { site = site; item = item; destination = destination } ≡ x
 
--- the item is among those held, and went to one of the destinations
+-- the item is in the set, and went to one of the destinations
 abbrev pub ItemGoes : ℕ → Items → List (List ℕ) → List ℕ → OutsideShipment → Type 0
-ItemGoes site held destinations item x = IsTrue (set.contains held item) × OneTells destinations (Goes site item) x
+ItemGoes site wanted destinations item x = IsTrue (set.contains wanted item) × OneTells destinations (Goes site item) x
 
--- what is carried with one of the items, and is among those held, went to one of the destinations
+-- what is carried with one of the items, and is in the set, went to one of the destinations
 abbrev pub ShipmentTells : List Content → ℕ → Items → List (List ℕ) → List (List ℕ) → OutsideShipment → Type 0
-ShipmentTells events site held items destinations x = (i : List ℕ) × ReachedFrom (Carries events) items i × ItemGoes site held destinations i x
+ShipmentTells events site wanted items destinations x = (i : List ℕ) × ReachedFrom (Carries events) items i × ItemGoes site wanted destinations i x
 
--- the event ships one of the items held, or what it lies in
+-- the event ships one of the items of the set, or what it lies in
 abbrev pub BodyTells : List Content → ℕ → Items → Body → OutsideShipment → Type 0
-BodyTells events site held (Note items) x = ⊥
-BodyTells events site held (Ship items sites outside) x = ShipmentTells events site held items outside x
-BodyTells events site held (Make id ins outs) x = ⊥
-BodyTells events site held (Pack action parent children) x = ⊥
+BodyTells events site wanted (Note items) x = ⊥
+BodyTells events site wanted (Ship items sites outside) x = ShipmentTells events site wanted items outside x
+BodyTells events site wanted (Make id ins outs) x = ⊥
+BodyTells events site wanted (Pack action parent children) x = ⊥
 
--- one of the site's events ships an item that it holds under the recall, or what it lies in
+-- one of the site's events ships one of the items, or what it lies in
+abbrev pub SiteTells : Items → Record → OutsideShipment → Type 0
+SiteTells wanted r x = OneTells r.captured.events (λ (e : Content). BodyTells r.captured.events r.engagement.me wanted e.body) x
+
+-- so for the items that the site holds under the recall
 abbrev pub RecordTells : Recall → Record → OutsideShipment → Type 0
-RecordTells recall r x =
-    OneTells r.captured.events (λ (e : Content). BodyTells r.captured.events r.engagement.me (items_under r.quarantine recall) e.body) x
+RecordTells recall r x = SiteTells (items_under r.quarantine recall) r x
+
+-- the set of the pair's site has its item
+abbrev pub IsAmong : List Items → Pair → Type 0
+IsAmong sets p = IsTrue (set.contains (get_or sets p.site set.empty) p.item)
+
+-- one of the first sites tells it of the items of its set
+abbrev pub FirstTell : World → List Items → ℕ → OutsideShipment → Type 0
+FirstTell W sets count x = (k : ℕ) × (k < count) × SiteTells (get_or sets k set.empty) (W k) x

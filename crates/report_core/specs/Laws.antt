@@ -1,17 +1,24 @@
--- What a report and an audit say once a recall has ended, and that records have one verdict.
-use Rattle.std.specs.Prelude.{◌≡◌, Option, IsSome, List, length, Contains}
+-- What a report, an audit and a trace say once a recall has ended, and that records have one verdict and one trace.
+use Rattle.std.specs.Prelude.{◌≡◌, ◌↔◌, ℕ, Option, Some, option_map, IsSome, List, length, map, Contains}
 use Rattle.frame_core.specs.Numbers.{Recall}
 use Rattle.trace_core.specs.declared.pairs.Pair.{Pair}
 use Rattle.site_core.specs.Records.{Record}
+use Rattle.site_core.specs.Steps.{Refuses}
+use Rattle.site_core.specs.declared.inputs.SiteInput.TheVariants.{Start}
+use Rattle.site_core.specs.declared.outcomes.Refusal.TheVariants as refusals
 use Rattle.site_recovery.specs.Fit.{Fit, IsEnded}
 use Rattle.site_recovery.specs.Laws.{AreInPlace}
-use Rattle.site_recovery.specs.Looks.{world_of}
+use Rattle.site_recovery.specs.Looks.{World, world_of}
 use Rattle.site_recovery.specs.Recalls.{quarantined}
 use Rattle.report_core.specs.Reports.{IsReport}
+use Rattle.report_core.specs.Traces.{IsKnownAt, IsTrace, TellsTraceFault}
 use Rattle.report_core.specs.Verdicts.{IsVerdict}
 use Rattle.report_core.specs.declared.audits.Verdict.{Verdict}
 use Rattle.report_core.specs.declared.audits.Verdict.TheVariants.{Equal}
+use Rattle.report_core.specs.declared.faults.TraceFault.TheVariants.{UnknownItem}
+use Rattle.report_core.specs.declared.outside.OutsideShipment.{OutsideShipment}
 use Rattle.report_core.specs.declared.reports.RecallReport.{RecallReport}
+use Rattle.report_core.specs.declared.traces.Trace.{Trace}
 
 -- Where the sites are consistent and the recall has ended, the audit finds just the pairs in reach.
 abbrev pub EndsAreEqual : Type 0
@@ -28,3 +35,32 @@ EndsHaveTrails =
 -- The records have one verdict on a recall.
 abbrev pub OneVerdict : Type 0
 OneVerdict = (records : List Record) (recall : Recall) (v w : Verdict) → IsVerdict records recall v → IsVerdict records recall w → v ≡ w
+
+-- And a trace of its root has just the pairs of its report, trails that are as long, and the same shipments.
+abbrev pub EndsAreTraced : Type 0
+EndsAreTraced =
+    (records : List Record) (recall : Recall) (report : RecallReport) (trace : Trace) → AreInPlace records → Fit (world_of records) → IsEnded (world_of records) recall
+    → IsReport records recall report → IsTrace records report.root.site report.root.item trace
+    → (trace.pairs ≡ report.pairs) × (map (λ t. Some (length t)) trace.trails ≡ map (option_map length) report.trails) × (trace.outside ≡ report.outside)
+
+-- The root is known at its site, so that there is such a trace.
+abbrev pub EndedRootsAreKnown : Type 0
+EndedRootsAreKnown =
+    (records : List Record) (recall : Recall) (report : RecallReport) → AreInPlace records → Fit (world_of records) → IsEnded (world_of records) recall
+    → IsReport records recall report → IsKnownAt (world_of records) report.root.site report.root.item
+
+-- All traces of an item at a site have the same pairs, trails that are equally long, and the same shipments.
+abbrev pub OneTrace : Type 0
+OneTrace =
+    (records : List Record) (site : ℕ) (item : List ℕ) (t u : Trace) → IsTrace records site item t → IsTrace records site item u
+    → (t.root ≡ u.root) × (t.pairs ≡ u.pairs) × (map length t.trails ≡ map length u.trails) × (t.outside ≡ u.outside)
+
+-- What a trace of one of a trace's pairs finds, that trace has too.
+abbrev pub TracesGoOn : Type 0
+TracesGoOn =
+    (records : List Record) (site : ℕ) (item : List ℕ) (p : Pair) (t u : Trace) → IsTrace records site item t → Contains t.pairs p → IsTrace records p.site p.item u
+    → ((q : Pair) → Contains u.pairs q → Contains t.pairs q) × ((x : OutsideShipment) → Contains u.outside x → Contains t.outside x)
+
+-- A trace is refused as of an unknown item just where the site would refuse to begin a recall of it so.
+abbrev pub RefusedAlike : Type 0
+RefusedAlike = (W : World) (site : ℕ) (item : List ℕ) → TellsTraceFault W site item UnknownItem ↔ Refuses (W site) (Start item) refusals.UnknownItem

@@ -4,4 +4,5 @@ pub mod Gathering
 pub mod Laws
 pub mod Outside
 pub mod Reports
+pub mod Traces
 pub mod Verdicts

@@ -1,6 +1,7 @@
-//! Why a recall has no report and no audit.
+//! Why a recall has no report and no audit, and an item no trace.
 ghost use Rattle.std.specs.Prelude.{◌≡◌};
 ghost use Rattle.report_core.specs.declared.faults.ReportFault.TheVariants.{NoMemory};
+ghost use Rattle.report_core.specs.declared.faults.TraceFault.TheVariants as untraced;
 
 use std::alloc::AllocError;
 use thiserror::Error;
@@ -21,5 +22,24 @@ impl From<AllocError> for ReportFault {
 
     fn from(_: AllocError) -> ReportFault {
         ReportFault::NoMemory
+    }
+}
+
+/// Why an item has no trace.
+#[derive(Clone, Copy, Debug, Drop, PartialEq, Eq, Error)]
+pub enum TraceFault {
+    /// Memory ran out.
+    #[error("memory ran out")]
+    NoMemory,
+    /// No event of the site names the item, and it isn't quarantined there.
+    #[error("the site doesn't know this item")]
+    UnknownItem,
+}
+
+impl From<AllocError> for TraceFault {
+    ghost from_gives = { λ _ fault. fault ≡ untraced.NoMemory };
+
+    fn from(_: AllocError) -> TraceFault {
+        TraceFault::NoMemory
     }
 }

@@ -1,6 +1,6 @@
 //! How the shipments out of the traced sites are found, each event once.
 ghost use Rattle.std.specs.Prelude.{◌≡◌, OnOk};
-ghost use Rattle.report_core.specs.Gathering.{Adds, BodyTells, Goes, ItemGoes, OneTells, RecordTells, ShipmentTells};
+ghost use Rattle.report_core.specs.Gathering.{Adds, BodyTells, Goes, ItemGoes, OneTells, RecordTells, ShipmentTells, SiteTells};
 
 use crate::destinations::Destination;
 use crate::outside::OutsideShipment;
@@ -24,10 +24,22 @@ pub(crate) fn add_of_site(
     let Some(held) = state.quarantine().under(recall) else {
         return Ok(());
     };
+    add_of_events(alloc, state, held, found)
+}
+
+/// Adds what one site shipped out of these items. Goes over its events once.
+pub(crate) fn add_of_events(
+    alloc: Global,
+    state: &SiteState,
+    wanted: &ItemSet,
+    found: &mut BTreeSet<OutsideShipment>,
+) -> Result<(), AllocError>
+    ensures { OnOk result (Adds found.old found.new (SiteTells wanted.now state.now)) }
+{
     let captured = state.captured();
     for place in 0..captured.len() {
         if let Some(event) = captured.event(place) {
-            add_of_body(alloc, captured, state.me(), held, event.body(), found)?;
+            add_of_body(alloc, captured, state.me(), wanted, event.body(), found)?;
         }
     }
     Ok(())
@@ -38,18 +50,18 @@ fn add_of_body(
     alloc: Global,
     captured: &Captured,
     site: SiteNo,
-    held: &ItemSet,
+    wanted: &ItemSet,
     body: &Body,
     found: &mut BTreeSet<OutsideShipment>,
 ) -> Result<(), AllocError>
-    ensures { OnOk result (Adds found.old found.new (BodyTells captured.now.events site held.now body.now)) }
+    ensures { OnOk result (Adds found.old found.new (BodyTells captured.now.events site wanted.now body.now)) }
 {
     match body {
         Body::Ship { items, outside, .. } => add_of_shipment(
             alloc,
             captured,
             site,
-            held,
+            wanted,
             items.as_slice(),
             outside.as_slice(),
             found,
@@ -58,38 +70,38 @@ fn add_of_body(
     }
 }
 
-/// Adds those items that are held and carried with the items of a shipment, with each destination.
+/// Adds those of the wanted items that are carried with the items of a shipment, with each destination.
 fn add_of_shipment(
     alloc: Global,
     captured: &Captured,
     site: SiteNo,
-    held: &ItemSet,
+    wanted: &ItemSet,
     items: &[Epc],
     destinations: &[PlainText],
     found: &mut BTreeSet<OutsideShipment>,
 ) -> Result<(), AllocError>
-    ensures { OnOk result (Adds found.old found.new (ShipmentTells captured.now.events site held.now items.now destinations.now)) }
+    ensures { OnOk result (Adds found.old found.new (ShipmentTells captured.now.events site wanted.now items.now destinations.now)) }
 {
     if destinations.is_empty() {
         return Ok(());
     }
     let carried = captured.carried_with(items)?;
-    add_of_items(alloc, site, held, &carried, destinations, found)
+    add_of_items(alloc, site, wanted, &carried, destinations, found)
 }
 
-/// Adds those of the items that are held, with each destination.
+/// Adds those of the items that are wanted, with each destination.
 fn add_of_items(
     alloc: Global,
     site: SiteNo,
-    held: &ItemSet,
+    wanted: &ItemSet,
     items: &[Epc],
     destinations: &[PlainText],
     found: &mut BTreeSet<OutsideShipment>,
 ) -> Result<(), AllocError>
-    ensures { OnOk result (Adds found.old found.new (OneTells items.now (ItemGoes site held.now destinations.now))) }
+    ensures { OnOk result (Adds found.old found.new (OneTells items.now (ItemGoes site wanted.now destinations.now))) }
 {
     for item in items {
-        if held.contains(item) {
+        if wanted.contains(item) {
             add_of_item(alloc, site, item, destinations, found)?;
         }
     }

@@ -1,6 +1,15 @@
-//! Laws of reports and audits, each named by a function with an empty body whose contract is the law.
+//! Laws of reports, audits and traces, each named by a function with an empty body whose contract is the law.
 
-ghost use Rattle.report_core.specs.Laws.{EndsAreEqual, EndsHaveTrails, OneVerdict};
+ghost use Rattle.report_core.specs.Laws.{
+  EndedRootsAreKnown,
+  EndsAreEqual,
+  EndsAreTraced,
+  EndsHaveTrails,
+  OneTrace,
+  OneVerdict,
+  RefusedAlike,
+  TracesGoOn,
+};
 
 /// Where the sites are consistent and the recall has ended, an audit returns Equal.
 pub fn an_ended_recall_is_equal()
@@ -15,4 +24,31 @@ pub fn an_ended_recall_has_trails()
 /// The records of all sites have one verdict on a recall.
 pub fn records_have_one_verdict()
     ensures { OneVerdict }
+{}
+
+/// Where the sites are consistent and the recall has ended, a trace of its root has the pairs of its report, trails
+/// that are as long, and the shipments of its report.
+pub fn an_ended_recall_is_traced()
+    ensures { EndsAreTraced }
+{}
+
+/// Where the sites are consistent and the recall has ended, a trace of its root isn't refused as of an unknown item.
+pub fn the_root_of_an_ended_recall_is_known()
+    ensures { EndedRootsAreKnown }
+{}
+
+/// The traces of an item at a site by the same records have the same pairs and the same shipments. Their trails are
+/// equally long, and may differ where there are several shortest ones.
+pub fn records_have_one_trace()
+    ensures { OneTrace }
+{}
+
+/// What a trace of one of a trace's pairs finds, that trace has too: its pairs, and its shipments.
+pub fn a_trace_goes_on()
+    ensures { TracesGoOn }
+{}
+
+/// A trace is refused as of an unknown item just where a recall of the item at that site would be.
+pub fn a_trace_is_refused_where_a_recall_is()
+    ensures { RefusedAlike }
 {}

@@ -1,11 +1,12 @@
-//! Shipments of recalled items out of the traced sites.
-ghost use Rattle.std.specs.Prelude.{◌≡◌, IfOk};
+//! Shipments of recalled or traced items out of the traced sites.
+ghost use Rattle.std.specs.Prelude.{◌≡◌, IfOk, Contains};
 ghost use Rattle.site_recovery.specs.Checking.{records_at, world_at};
 ghost use Rattle.site_recovery.specs.FittingAt.{AreAllSites};
-ghost use Rattle.report_core.specs.Outside.{AreOutside};
+ghost use Rattle.report_core.specs.Outside.{AreOutside, AreOutsideOf};
 
 use crate::destinations::Destination;
-use crate::gathering::add_of_site;
+use crate::gathering::{add_of_events, add_of_site};
+use crate::item_places::items_by_site;
 use crate::ordered_keys::keys_in_order;
 use epc_core::Epc;
 use event_json::SiteNo;
@@ -13,8 +14,9 @@ use frame_core::RecallId;
 use site_core::SiteState;
 use std::alloc::{AllocError, Global};
 use std::collections::BTreeSet;
+use trace_core::Pair;
 
-/// A recalled item that was shipped to a place outside the traced sites. These shipments are ordered by site, then
+/// A recalled or traced item that was shipped to a place outside the traced sites. These shipments are ordered by site, then
 /// by item, then by destination.
 #[derive(Debug, Drop, PartialEq, Eq, PartialOrd, Ord)]
 pub struct OutsideShipment {
@@ -38,6 +40,23 @@ pub(crate) fn shipped_out(
     let mut found = BTreeSet::new(alloc);
     for state in sites {
         add_of_site(alloc, state, recall, &mut found)?;
+    }
+    keys_in_order(alloc, found)
+}
+
+/// The shipments out of the traced sites of these pairs, each of its item from its site, ascending and each once.
+pub(crate) fn shipped_from(
+    alloc: Global,
+    sites: &[&SiteState],
+    pairs: &[Pair],
+) -> Result<Vec<OutsideShipment>, AllocError>
+    requires all { AreAllSites (records_at sites.now) }
+    ensures { IfOk result (λ out. AreOutsideOf (world_at sites.now) (λ p. Contains pairs.now p) out.items) }
+{
+    let sets = items_by_site(alloc, sites.len(), pairs)?;
+    let mut found = BTreeSet::new(alloc);
+    for place in 0..sites.len() {
+        add_of_events(alloc, sites[place], &sets[place], &mut found)?;
     }
     keys_in_order(alloc, found)
 }

@@ -7,7 +7,7 @@ use Rattle.report_core.proofs.gathering.add_of_items.Goals as goal
 
 pub loop-item-preserved : goal.loop-item-preserved
 loop-item-preserved c =
-    let goes = ItemGoes c.args.site c.args.held.now c.args.destinations.now in
+    let goes = ItemGoes c.args.site c.args.wanted.now c.args.destinations.now in
     let item = c.item-item.result in
     one_more goes c.args.items.now c.loop-item.item-index item c.args.found.now c.loop-item.found c.if-contains.found c.loop-item-test.true c.item-item.is c.loop-item.invariant
     (elim c.if-contains.branch as (λ _. Adds c.loop-item.found c.if-contains.found (goes item)) [

@@ -7,8 +7,8 @@ use Rattle.report_core.proofs.gathering.add_of_shipment.Goals as goal
 pub returns : goal.returns
 returns c =
     let events = c.args.captured.now.events in
-    let held = c.args.held.now in
+    let wanted = c.args.wanted.now in
     on_ok_weaker c.add_of_items.result
-    (added_alike c.args.found.now c.add_of_items.new.found (OneTells c.deref.result.now (ItemGoes c.args.site held c.args.destinations.now)) (ShipmentTells events c.args.site held c.args.items.now c.args.destinations.now)
-    (carried_tells events c.args.site held c.args.items.now c.args.destinations.now c.in_ok-carried.carried.items c.deref.result.now c.deref.ensures.value c.in_ok-carried.ensures.exact))
+    (added_alike c.args.found.now c.add_of_items.new.found (OneTells c.deref.result.now (ItemGoes c.args.site wanted c.args.destinations.now)) (ShipmentTells events c.args.site wanted c.args.items.now c.args.destinations.now)
+    (carried_tells events c.args.site wanted c.args.items.now c.args.destinations.now c.in_ok-carried.carried.items c.deref.result.now c.deref.ensures.value c.in_ok-carried.ensures.exact))
     c.add_of_items.ensures

@@ -1,54 +1,21 @@
-use Rattle.std.proofs.Common.{◌≡◌, ◌∙◌, ◌+◌, ◌<◌, Some, None, ℕ, List, [], ◌∷◌, get_or, slice_get, length, take, sym, ap, subst, arith}
+use Rattle.std.proofs.Common.{◌∙◌, sym, ap, subst}
 use Rattle.std.specs.Option.{option_map}
-use Rattle.std.proofs.lemmas.Option.{slice_get-get_or, slice_get_within, get_or_from_slice_get}
-use Rattle.event_json.specs.Events.{Content}
+use Rattle.std.proofs.lemmas.Result.{on_ok_weaker}
 use Rattle.site_core.specs.ItemSets.{Items}
-use Rattle.trace_core.specs.Sites.{SiteEvents}
-use Rattle.report_core.specs.Gathering.{Adds, BodyTells, OneTells, RecordTells}
-use Rattle.report_core.proofs.Adding.{none_added, one_more, all_added}
+use Rattle.report_core.specs.Gathering.{Adds, RecordTells, SiteTells}
+use Rattle.report_core.proofs.Adding.{none_added}
 use Rattle.report_core.proofs.Outgoing.{none_told, held_set}
-use Rattle.report_core.proofs.gathering.add_of_site.Goals.{in-Some-event+in_ok-add_of_body, in_default-event}
 use Rattle.report_core.proofs.gathering.add_of_site.Goals as goal
-
-not_past : (events : List Content) (place : ℕ) → place < length events → None ≡ slice_get events place → ⊥
-not_past [] place below none = omega arith
-not_past (e ∷ events) place below none = let clash : None ≡ Some (get_or (e ∷ events) place e) = none ∙ slice_get-get_or (e ∷ events) place e below in cc
 
 pub returns-in_default : goal.returns-in_default
 returns-in_default c =
     let none = sym (ap (option_map (λ items. items.now)) c.in_default.is) ∙ c.under.ensures in
     none_added c.args.found.now (RecordTells c.args.recall c.args.state.now) (none_told c.args.recall c.args.state.now c.quarantine.result.now c.quarantine.ensures none)
 
-pub loop-place-preserved : goal.loop-place-preserved
-loop-place-preserved c =
-    let me = c.args.state.now.engagement.me in
-    let all = c.captured-captured.result.now.events in
-    let tells = λ (e : Content). BodyTells all me c.in-Some.held.now e.body in
-    let events = c.captured-captured.result.now.events in
-    let place = c.loop-place.place in
-    let start = c.args.found.now in
-    elim c.match-event.branch as (λ _. Adds start c.match-event.found (OneTells (take (place + 1) events) tells)) [
-      | in-Some-event+in_ok-add_of_body w ↦
-          let event = w.in-Some-event.event.now in
-          let there = sym (sym (ap (option_map (λ e. e.now)) w.in-Some-event.is) ∙ c.event.ensures) in
-          let adds = subst (λ m. Adds c.loop-place.found w.add_of_body.new.found (BodyTells all m c.in-Some.held.now event.body)) w.me.ensures.me
-          (subst (λ b. Adds c.loop-place.found w.add_of_body.new.found (BodyTells all w.me.result c.in-Some.held.now b)) w.body.ensures.value w.in_ok-add_of_body.ensures) in
-          subst (λ f. Adds start f (OneTells (take (place + 1) events) tells)) (sym w.found-is)
-          (one_more tells events place event start c.loop-place.found w.add_of_body.new.found (slice_get_within events place event there) (sym (get_or_from_slice_get events place event event there)) c.loop-place.invariant adds)
-      | in_default-event w ↦
-          let below : place < length events = subst (λ n. place < n) c.len-place-end.ensures c.loop-place-test.true in
-          let none = sym (ap (option_map (λ e. e.now)) w.in_default-event.is) ∙ c.event.ensures in
-          absurd (not_past events place below none)
-    ]
-
 pub returns : goal.returns
 returns c =
-    let me = c.args.state.now.engagement.me in
-    let start = c.args.found.now in
-    let found = c.loop-place.found in
     let some = sym (ap (option_map (λ items. items.now)) c.in-Some.is) ∙ c.under.ensures in
     let is = held_set c.args.recall c.args.state.now c.quarantine.result.now c.in-Some.held.now c.quarantine.ensures some in
-    let events = c.captured-captured.result.now.events in
-    let all = all_added (λ (e : Content). BodyTells events me c.in-Some.held.now e.body) events c.loop-place.place start found (omega (arith, c.len-place-end.ensures)) c.loop-place.invariant in
-    subst (λ (h : Items). Adds start found (OneTells c.args.state.now.captured.events (λ (e : Content). BodyTells c.args.state.now.captured.events me h e.body))) is
-    (subst (λ (s : SiteEvents). Adds start found (OneTells s.events (λ (e : Content). BodyTells s.events me c.in-Some.held.now e.body))) c.captured-captured.ensures all)
+    on_ok_weaker c.add_of_events.result
+    (subst (λ (items : Items). Adds c.args.found.now c.add_of_events.new.found (SiteTells items c.args.state.now)) is)
+    c.add_of_events.ensures

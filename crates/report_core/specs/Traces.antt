@@ -1,0 +1,44 @@
+-- What an item at a site reaches, whether or not it was recalled.
+use Rattle.std.specs.Prelude.{◌≡◌, ◌↔◌, ℕ, List, [], ◌∷◌, Option, None, Some, Contains}
+use Rattle.std.specs.List.{AllZip}
+use Rattle.trace_core.specs.Chains.{Related}
+use Rattle.trace_core.specs.Pairs.{IsStrictlyAscending}
+use Rattle.trace_core.specs.Relations.{Reaches}
+use Rattle.trace_core.specs.Trails.{TellsTrail}
+use Rattle.trace_core.specs.declared.pairs.Pair.{Pair}
+use Rattle.site_core.specs.Records.{Record}
+use Rattle.site_core.specs.Spreading.{IsKnownItem}
+use Rattle.site_recovery.specs.Laws.{captured_of}
+use Rattle.site_recovery.specs.Looks.{World, world_of}
+use Rattle.report_core.specs.Outside.{AreOutsideOf}
+use Rattle.report_core.specs.declared.faults.TraceFault.{TraceFault}
+use Rattle.report_core.specs.declared.faults.TraceFault.TheVariants.{NoMemory, UnknownItem}
+use Rattle.report_core.specs.declared.traces.Trace.{Trace}
+
+-- one of the events that the site captured names the item, or it is quarantined there under some recall
+abbrev pub IsKnownAt : World → ℕ → List ℕ → Type 0
+IsKnownAt W site item = IsKnownItem (W site).captured (W site).quarantine item
+
+-- a chain of related pairs, by the events of all sites, leads from the root to the pair
+abbrev pub IsReachedFrom : List Record → Pair → Pair → Type 0
+IsReachedFrom records root p = Reaches (Related (captured_of records)) root p
+
+-- the trace gives the item at the site; what it reaches, itself among it, by site and item and each once; to each of these
+-- pairs, in their order, a shortest trail; and what of them was shipped out
+pub record IsTrace (records : List Record) (site : ℕ) (item : List ℕ) (trace : Trace) : Type 0 where
+  pub root : trace.root ≡ record { site = site; item = item }
+  pub ascending : IsStrictlyAscending trace.pairs
+  pub exact : (p : Pair) → Contains trace.pairs p ↔ IsReachedFrom records trace.root p
+  pub trails : AllZip (λ p trail. TellsTrail (captured_of records) trace.root p (Some trail)) trace.pairs trace.trails
+  pub outside : AreOutsideOf (world_of records) (IsReachedFrom records trace.root) trace.outside
+
+-- an item is unknown where the site doesn't know it; memory runs out for known ones alone
+abbrev pub TellsTraceFault : World → ℕ → List ℕ → TraceFault → Type 0
+TellsTraceFault W site item NoMemory = IsKnownAt W site item
+TellsTraceFault W site item UnknownItem = IsKnownAt W site item → ⊥
+
+-- the values that are there, in order
+abbrev pub given : {X : Type 0} → List (Option X) → List X
+given [] = []
+given (None ∷ xs) = given xs
+given (Some x ∷ xs) = x ∷ given xs

@@ -1,0 +1,22 @@
+//! What a trace of an item says.
+
+use crate::outside::OutsideShipment;
+use event_json::Sequence;
+use trace_core::Pair;
+
+/// What an item at a site reaches through the events that all sites captured, and what of it left the traced
+/// sites.
+#[derive(Debug, Drop)]
+pub struct Trace {
+    /// The item at the site.
+    pub root: Pair,
+    /// What chains of made and shipped items reach from it, itself among them, by site, then by item, and each
+    /// once.
+    pub pairs: Sequence<Pair>,
+    /// For each of these pairs, in their order, a chain of related pairs from the root to it, without repeats and
+    /// with as few pairs as any.
+    pub trails: Sequence<Sequence<Pair>>,
+    /// What of these pairs was shipped to places outside the traced sites, by site, item and destination, and each
+    /// once.
+    pub outside: Sequence<OutsideShipment>,
+}

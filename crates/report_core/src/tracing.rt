@@ -1,0 +1,82 @@
+//! The trace of an item, whether or not it was recalled.
+ghost use Rattle.std.specs.Prelude.{◌≡◌, ◌↔◌, IfOk, IfErr, IsTrue};
+ghost use Rattle.site_recovery.specs.Checking.{records_at, world_at};
+ghost use Rattle.site_recovery.specs.FittingAt.{AreAllSites};
+ghost use Rattle.report_core.specs.Traces.{given, IsKnownAt, IsTrace, TellsTraceFault};
+
+use crate::faults::TraceFault;
+use crate::outside::shipped_from;
+use crate::traces::Trace;
+use epc_core::Epc;
+use event_json::{Sequence, SiteNo};
+use site_core::{SiteState, is_known};
+use site_recovery::captured;
+use std::alloc::{AllocError, Global};
+use trace_core::{Pair, reach, trails_to};
+
+/// Traces an item at a site through what all sites captured, by the records of all sites in the order of their
+/// numbers. No recall is needed, and none is begun.
+///
+/// # Errors
+/// `UnknownItem` where no event of the site names the item and it isn't quarantined there, and also where there is
+/// no such site: just where the site would refuse to begin a recall of it as unknown. `NoMemory`, which comes for
+/// known items alone.
+pub fn trace(
+    alloc: Global,
+    sites: &[&SiteState],
+    site: SiteNo,
+    item: &Epc,
+) -> Result<Trace, TraceFault>
+    requires all { AreAllSites (records_at sites.now) }
+    ensures ok { IfOk result (IsTrace (records_at sites.now) site item.now) }
+    ensures known { IfOk result (λ _. IsKnownAt (world_at sites.now) site item.now) }
+    ensures fault { IfErr result (TellsTraceFault (world_at sites.now) site item.now) }
+{
+    if !is_known_at(sites, site, item) {
+        return Err(TraceFault::UnknownItem);
+    }
+    let root = Pair {
+        site,
+        item: item.copy(alloc)?,
+    };
+    let captured = captured(alloc, sites)?;
+    let pairs = reach(alloc, captured.as_slice(), &root)?;
+    let trails = trails_to(alloc, captured.as_slice(), &root, pairs.as_slice())?;
+    let trails = given_trails(alloc, trails)?;
+    let outside = shipped_from(alloc, sites, pairs.as_slice())?;
+    Ok(Trace {
+        root,
+        pairs: Sequence::from_vec(pairs),
+        trails: Sequence::from_vec(trails),
+        outside: Sequence::from_vec(outside),
+    })
+}
+
+/// Whether one of the events of the site names the item, or it is quarantined there.
+fn is_known_at(sites: &[&SiteState], site: SiteNo, item: &Epc) -> bool
+    ensures { IsTrue result ↔ IsKnownAt (world_at sites.now) site item.now }
+{
+    let place = site.number() as usize;
+    if place < sites.len() {
+        let state = sites[place];
+        is_known(state.captured(), state.quarantine(), item)
+    } else {
+        false
+    }
+}
+
+/// The trails that are there, in order.
+fn given_trails(
+    alloc: Global,
+    trails: Vec<Option<Sequence<Pair>>>,
+) -> Result<Vec<Sequence<Pair>>, AllocError>
+    ensures { IfOk result (λ there. there.items ≡ given trails.items) }
+{
+    let mut there = Vec::new(alloc);
+    for trail in trails {
+        if let Some(trail) = trail {
+            there.push(trail)?;
+        }
+    }
+    Ok(there)
+}
