@@ -12,6 +12,7 @@ use Rattle.clap.specs.Words.{IsAmong, Row, Text, first_of, is_simple, is_simple_
 use Rattle.clap.specs.declared.error.ErrorKind.{ErrorKind}
 use Rattle.clap.specs.declared.error.ErrorKind.TheVariants.{DisplayHelp, OutOfMemory}
 use Rattle.clap.proofs.OnLiterals.{clap_on_literals}
+use Rattle.recall_outcomes.specs.declared.outcomes.Form.{Form}
 use Rattle.command_line.specs.declared.command_lines.Asked.{Asked}
 use Rattle.command_line.specs.declared.command_lines.Asked.TheVariants as asked
 use Rattle.command_line.specs.declared.command_lines.Batch.{Batch}
@@ -58,9 +59,10 @@ module _ (words : List (List ℕ)) (name : List ℕ) where
   pub sim_is_not_bad : IsBad words → words ≡ name ∷ codes "sim" ∷ [] → ⊥
   sim_is_not_bad (kind, among, other) e = subst (λ kinds. IsAmong kind kinds) (ap faults_of e ∙ sim_faults name) among
 
-  pub sim_is_no_files : (command : FileCommand) → AsksFiles words command → words ≡ name ∷ codes "sim" ∷ [] → ⊥
-  sim_is_no_files command asks e =
-      sim_is_no_command command [] (subst (λ found. AsksNamed found (asked.Files command)) (ap named e ∙ sim_named name) asks.1)
+  pub sim_is_no_files : (command : FileCommand) (form : Form) → AsksFiles words command form → words ≡ name ∷ codes "sim" ∷ [] → ⊥
+  sim_is_no_files command form asks e =
+      let is : AsksNamed (Some (codes "sim", [])) (asked.Files command form) = subst (λ found. AsksNamed found (asked.Files command form)) (ap named e ∙ sim_named name) asks.1 in
+      sim_is_no_command command [] is.0
 
   pub sim_is_no_batch : (batch : Batch) → AsksBatch words batch → words ≡ name ∷ codes "sim" ∷ [] → ⊥
   sim_is_no_batch batch asks e =
@@ -73,8 +75,8 @@ module _ (words : List (List ℕ)) (name : List ℕ) where
   pub help_is_no_sim : AsksSim words → words ≡ name ∷ codes "--help" ∷ [] → ⊥
   help_is_no_sim asks e = help_is_faulty (faults_of words) asks.0 (ap faults_of e ∙ help_faults name)
 
-  pub help_is_no_files : (command : FileCommand) → AsksFiles words command → words ≡ name ∷ codes "--help" ∷ [] → ⊥
-  help_is_no_files command asks e = help_is_faulty (faults_of words) asks.0 (ap faults_of e ∙ help_faults name)
+  pub help_is_no_files : (command : FileCommand) (form : Form) → AsksFiles words command form → words ≡ name ∷ codes "--help" ∷ [] → ⊥
+  help_is_no_files command form asks e = help_is_faulty (faults_of words) asks.0 (ap faults_of e ∙ help_faults name)
 
   pub help_is_no_batch : (batch : Batch) → AsksBatch words batch → words ≡ name ∷ codes "--help" ∷ [] → ⊥
   help_is_no_batch batch asks e = help_is_faulty (faults_of words) asks.0 (ap faults_of e ∙ help_faults name)
@@ -86,7 +88,7 @@ module _ (words : List (List ℕ)) (name : List ℕ) where
 -- an error is reported as what it says of the words
 pub asks_told : (words : List (List ℕ)) (kind : ErrorKind) (told_as : Asked) → (kind ≡ OutOfMemory) ⊎ IsAmong kind (faults_of words) → IsToldAs kind told_as → AsksFor words told_as
 asks_told words kind asked.Sim has told = absurd told
-asks_told words kind (asked.Files command) has told = absurd told
+asks_told words kind (asked.Files command form) has told = absurd told
 asks_told words kind (asked.Batch batch) has told = absurd told
 asks_told words kind (asked.Help text) has told =
     ⊎_elim (λ memory. let bad : DisplayHelp ≡ OutOfMemory = sym told ∙ memory in cc) (λ among. subst (λ k. IsAmong k (faults_of words)) told among) has
@@ -95,7 +97,7 @@ asks_told words kind (asked.Mistake text) has told = ⊎_elim (λ memory. absurd
 -- a command that was met is asked for, where nothing is wrong with the words
 pub asks_named : (words : List (List ℕ)) (told_as : Asked) → faults_of words ≡ [] → AsksNamed (named words) told_as → AsksFor words told_as
 asks_named words asked.Sim none is = (none, is)
-asks_named words (asked.Files command) none is = (none, is)
+asks_named words (asked.Files command form) none is = (none, is)
 asks_named words (asked.Batch batch) none is = (none, is)
 asks_named words (asked.Help text) none is = absurd (no_help (named words) is)
   where
@@ -118,7 +120,7 @@ asks_some words (Some told_as) result error e none is = subst (λ (r : Result As
 pub capture_named : (name : Text) (rows : List Row) (result : Option Asked) → name ≡ codes "capture" → IfSome result (IsCapture rows) → IfSome result (AsksNamed (Some (name, rows)))
 capture_named name rows None e is = tt
 capture_named name rows (Some asked.Sim) e is = absurd is
-capture_named name rows (Some (asked.Files command)) e is = subst (λ (n : Text). IsCommand command n rows) (sym e) is
+capture_named name rows (Some (asked.Files command form)) e is = (subst (λ (n : Text). IsCommand command n rows) (sym e) is.0, is.1)
 capture_named name rows (Some (asked.Batch batch)) e is = (e, is)
 capture_named name rows (Some (asked.Help text)) e is = absurd is
 capture_named name rows (Some (asked.Mistake text)) e is = absurd is

@@ -9,6 +9,8 @@ use Rattle.clap.specs.declared.builder.action.ArgAction.TheVariants.{Append, Set
 use Rattle.clap.specs.declared.builder.value_parser.ValueParser.TheVariants.{NonEmptyString, Unsigned}
 use Rattle.clap.specs.declared.error.ErrorKind.{ErrorKind}
 use Rattle.clap.specs.declared.error.ErrorKind.TheVariants.{DisplayHelp, OutOfMemory}
+use Rattle.recall_outcomes.specs.declared.outcomes.Form.{Form}
+use Rattle.recall_outcomes.specs.declared.outcomes.Form.TheVariants as forms
 use Rattle.command_line.specs.declared.command_lines.Asked.{Asked}
 use Rattle.command_line.specs.declared.command_lines.Asked.TheVariants as asked
 use Rattle.command_line.specs.declared.command_lines.Batch.{Batch}
@@ -32,8 +34,12 @@ required name = record (new_rule name) { required = true }
 abbrev pub folder : Rule
 folder = record (required (codes "dir")) { parser = Some NonEmptyString }
 
+-- `--json`
+abbrev pub json : Rule
+json = record (new_rule (codes "json")) { long = Some (codes "json"); action = Some SetTrue }
+
 abbrev pub on_folder : Text → App
-on_folder name = with_rule (new_app name) folder
+on_folder name = with_rule (with_rule (new_app name) folder) json
 
 abbrev pub sim : App
 sim = new_app (codes "sim")
@@ -107,6 +113,11 @@ GivesNumber rows name n = (text : Text) × (one_of name rows ≡ Some text) × (
 abbrev pub IsSet : List Row → Text → Type 0
 IsSet rows name = Gives rows name (codes "true")
 
+-- what the command comes to is printed in this form
+abbrev pub GivesForm : List Row → Form → Type 0
+GivesForm rows forms.Json = IsSet rows (codes "json")
+GivesForm rows forms.Text = IsSet rows (codes "json") → ⊥
+
 -- the files of the documents, and whether each of their lines is one
 abbrev pub GivesFiles : List Row → List Text → Bool → Type 0
 GivesFiles rows paths by_lines = (all_of (codes "file") rows ≡ Some paths) × (IsTrue by_lines ↔ IsSet rows (codes "lines"))
@@ -129,10 +140,11 @@ pub record IsBatch (batch : Batch) (rows : List Row) : Type 0 where
   pub folder : Gives rows (codes "dir") batch.folder.now
   pub site : Gives rows (codes "site") batch.site.now
   pub files : GivesFiles rows (paths_of batch) batch.by_lines
+  pub form : GivesForm rows batch.form
 
 -- what `capture` with these arguments asks for
 abbrev pub IsCapture : List Row → Asked → Type 0
-IsCapture rows (asked.Files command) = IsCommand command (codes "capture") rows
+IsCapture rows (asked.Files command form) = IsCommand command (codes "capture") rows × GivesForm rows form
 IsCapture rows (asked.Batch batch) = IsBatch batch rows
 IsCapture rows other = ⊥
 
@@ -144,7 +156,7 @@ HasTurns command = ⊤
 -- the named command is asked for
 abbrev pub AsksNamed : Option (Text × List Row) → Asked → Type 0
 AsksNamed (Some (name, rows)) asked.Sim = name ≡ codes "sim"
-AsksNamed (Some (name, rows)) (asked.Files command) = IsCommand command name rows
+AsksNamed (Some (name, rows)) (asked.Files command form) = IsCommand command name rows × GivesForm rows form
 AsksNamed (Some (name, rows)) (asked.Batch batch) = (name ≡ codes "capture") × IsBatch batch rows
 AsksNamed named other = ⊥
 
@@ -152,9 +164,9 @@ AsksNamed named other = ⊥
 abbrev pub AsksSim : List (List ℕ) → Type 0
 AsksSim words = (faults_of words ≡ []) × AsksNamed (named words) asked.Sim
 
--- or a command on files
-abbrev pub AsksFiles : List (List ℕ) → FileCommand → Type 0
-AsksFiles words command = (faults_of words ≡ []) × AsksNamed (named words) (asked.Files command)
+-- or a command on files, in this form
+abbrev pub AsksFiles : List (List ℕ) → FileCommand → Form → Type 0
+AsksFiles words command form = (faults_of words ≡ []) × AsksNamed (named words) (asked.Files command form)
 
 -- or several documents are to be captured
 abbrev pub AsksBatch : List (List ℕ) → Batch → Type 0
@@ -170,7 +182,7 @@ IsBad words = (kind : ErrorKind) × IsAmong kind (faults_of words) × (kind ≢ 
 -- the words ask for this
 abbrev pub AsksFor : List (List ℕ) → Asked → Type 0
 AsksFor words asked.Sim = AsksSim words
-AsksFor words (asked.Files command) = AsksFiles words command
+AsksFor words (asked.Files command form) = AsksFiles words command form
 AsksFor words (asked.Batch batch) = AsksBatch words batch
 AsksFor words (asked.Help text) = AsksHelp words
 AsksFor words (asked.Mistake text) = IsBad words
@@ -178,7 +190,7 @@ AsksFor words (asked.Mistake text) = IsBad words
 -- what an error of this kind is reported as
 abbrev pub IsToldAs : ErrorKind → Asked → Type 0
 IsToldAs kind asked.Sim = ⊥
-IsToldAs kind (asked.Files command) = ⊥
+IsToldAs kind (asked.Files command form) = ⊥
 IsToldAs kind (asked.Batch batch) = ⊥
 IsToldAs kind (asked.Help text) = kind ≡ DisplayHelp
 IsToldAs kind (asked.Mistake text) = (kind ≢ DisplayHelp) × (kind ≢ OutOfMemory)

@@ -2,12 +2,13 @@
 
 ghost use Rattle.std.specs.Prelude.{◌≡◌, ◌↔◌, false, IfOk, IfSome, IsTrue, codes, length};
 ghost use Rattle.clap.specs.Words.{app_of, found_of, kind_of, rows_of, rule_of, subcommand_rows_of};
-ghost use Rattle.command_line.specs.CommandLines.{audit, capture, files, folder, init, lines, on_folder, recall, report, required, run, sim, start, texts_of, turns, AsksFor, AsksNamed, Gives, GivesNumber, IsCapture, IsCommand, IsSet, IsToldAs};
+ghost use Rattle.command_line.specs.CommandLines.{audit, capture, files, folder, init, json, lines, on_folder, recall, report, required, run, sim, start, texts_of, turns, AsksFor, AsksNamed, Gives, GivesForm, GivesNumber, IsCapture, IsCommand, IsSet, IsToldAs};
 
 use crate::helps;
 use clap::builder::ValueParser;
 use clap::error::ErrorKind;
 use clap::{Arg, ArgAction, ArgMatches, Command, Error, value_parser};
+use recall_outcomes::Form;
 use std::alloc::{AllocError, Global};
 
 /// What a command line asks for.
@@ -15,8 +16,8 @@ use std::alloc::{AllocError, Global};
 pub(crate) enum Asked<'a> {
     /// A script from the standard input.
     Sim,
-    /// Something of the sites' files.
-    Files(FileCommand<'a>),
+    /// Something of the sites' files, which is printed in this form.
+    Files(FileCommand<'a>, Form),
     /// Documents of several files, or of their lines, are captured at a site.
     Batch(Batch<'a>),
     /// Help, which is an answer.
@@ -33,6 +34,8 @@ pub(crate) struct Batch<'a> {
     pub(crate) paths: Vec<&'a str>,
     /// Whether each line of a file is a document.
     pub(crate) by_lines: bool,
+    /// How it is printed.
+    pub(crate) form: Form,
 }
 
 /// A command on the sites' files in a folder.
@@ -93,7 +96,8 @@ fn named<'a>(alloc: Global, matches: &ArgMatches<'a>) -> Option<Asked<'a>>
     } else if name == "capture" {
         capture_command(alloc, given)
     } else {
-        Some(Asked::Files(file_command(name, given)?))
+        let command = file_command(name, given)?;
+        Some(Asked::Files(command, form_of(given)))
     }
 }
 
@@ -105,9 +109,11 @@ fn capture_command<'a>(alloc: Global, given: &ArgMatches<'a>) -> Option<Asked<'a
     let site = argument(given, "site")?;
     let paths = given.get_strs("file")?;
     let by_lines = is_set(given, "lines");
+    let form = form_of(given);
     if is_one_document(paths, by_lines) {
         let file = paths[0];
-        return Some(Asked::Files(FileCommand::Capture { folder, site, file }));
+        let command = FileCommand::Capture { folder, site, file };
+        return Some(Asked::Files(command, form));
     }
     let paths = copied(alloc, paths).ok()?;
     Some(Asked::Batch(Batch {
@@ -115,6 +121,7 @@ fn capture_command<'a>(alloc: Global, given: &ArgMatches<'a>) -> Option<Asked<'a
         site,
         paths,
         by_lines,
+        form,
     }))
 }
 
@@ -143,6 +150,17 @@ fn is_set(given: &ArgMatches<'_>, name: &str) -> bool
     match given.get_str(name) {
         Some(text) => text == "true",
         None => false,
+    }
+}
+
+/// How what a command comes to is printed.
+fn form_of(given: &ArgMatches<'_>) -> Form
+    ensures { GivesForm (rows_of (found_of given.now)) result }
+{
+    if is_set(given, "json") {
+        Form::Json
+    } else {
+        Form::Text
     }
 }
 
@@ -256,7 +274,19 @@ fn on_folder<'a>(
     Command::new(alloc, name)
         .about(about)
         .after_help(example)
-        .arg(folder(alloc))
+        .arg(folder(alloc))?
+        .arg(json(alloc))
+}
+
+/// Whether what it comes to is printed as JSON.
+fn json<'a>(alloc: Global) -> Arg<'a>
+    ensures rule { rule_of result ≡ json }
+    ensures local { result.global ≡ false }
+{
+    Arg::new(alloc, "json")
+        .long("json")
+        .action(ArgAction::SetTrue)
+        .help("Print JSON, an object a line")
 }
 
 fn sim<'a>(alloc: Global) -> Command<'a>

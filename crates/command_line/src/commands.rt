@@ -1,23 +1,25 @@
 //! What each command does.
 
-ghost use Rattle.std.specs.Prelude.{◌≡◌, ◌==◌, if◌then◌else◌, IfOk, Result, string_bytes};
-ghost use Rattle.std.specs.Io.KnownBytes.{Appends, Keeps};
+ghost use Rattle.std.specs.Prelude.{◌≡◌, ◌==◌, if◌then◌else◌, IfOk};
+ghost use Rattle.recall_outcomes.specs.Faults.{fault_line};
+ghost use Rattle.recall_outcomes.specs.Notes.{untraced_text};
+ghost use Rattle.recall_outcomes.specs.Printing.{note_lines};
 ghost use Rattle.recall_text.specs.Writing.{AppendsBeginning};
-ghost use Rattle.folder_commands.specs.Answers.{IsAnswer};
 ghost use Rattle.command_line.specs.CommandLines.{HasTurns};
-ghost use Rattle.command_line.specs.Ends.{BatchEnds, Ends, SimRuns, HelpHelps, RunsScript, TextEnds, AnswerEnds, Advises, TellsNotes, TellsOutcome, script_fault_line};
+ghost use Rattle.command_line.specs.Ends.{BatchEnds, Ends, Explains, HelpHelps, OutputEnds, RunsScript, SimRuns, TellsFault, TellsNotes, TellsWhatCame, TextEnds, script_fault_line};
 ghost use Rattle.command_line.specs.Leads.{LeadsTo};
-ghost use Rattle.folder_commands.specs.Faults.{fault_line};
 
 use crate::command_lines::{self, Asked, Batch, FileCommand};
 use crate::statuses;
+use event_json::Untraced;
+use folder_commands::{
+    Documents, Files, Output, audit_sites, capture, capture_documents, init, report_recall,
+    run_sites, start,
+};
 use keeper_core::SiteKeeper;
+use recall_outcomes::{Fault, Form, Outcome, note_lines, untraced_text};
 use recall_text::{ScriptFault, write_text};
 use script_core::{Tally, run_script};
-use folder_commands::{
-    Answer, Documents, Fault, Files, Output, audit_sites, capture, capture_documents, init,
-    report_recall, run_sites, start,
-};
 use site_threads::Gate;
 use std::alloc::Global;
 use std::hash::RandomState;
@@ -32,8 +34,8 @@ use std::time::Clock;
 ///
 /// The words begin with the program's name. Answers, refusals and help go to `output`, faults and
 /// what is wrong with a command line to `errors`, and so do the notes of a run. What a command on the
-/// sites' files says is that of the calls of `files` that lead to it; without such a command `files`
-/// isn't asked. What stands in the files no contract says. In a run each site has a copy of the gate
+/// sites' files says is that of the calls of `files` that lead to it, as text or, where the words ask
+/// for it, as JSON; without such a command `files` isn't asked. What stands in the files no contract says. In a run each site has a copy of the gate
 /// to its turns. The keys are those of the hash by which items are numbered, drawn at random, so that
 /// nobody can choose texts that collide.
 pub fn run_command<
@@ -55,7 +57,7 @@ pub fn run_command<
     output: &mut W,
     errors: &mut E,
 ) -> u8
-    ensures ends { Ends F.reads F.lines F.finds F.makes F.opens F.closes F.writes F.knows K.shown K.failed K.stored words.now files.old files.new
+    ensures ends { Ends F.reads F.lines F.finds F.makes F.opens F.closes F.writes F.knows F.fails K.shown K.failed K.stored words.now files.old files.new
         (record { input = I.remaining input.old; output = W.contents output.old; errors = E.contents errors.old })
         (record { input = I.remaining input.new; output = W.contents output.new; errors = E.contents errors.new }) result }
     ensures sim { SimRuns words.now files.old files.new (record { input = I.remaining input.old; output = W.contents output.old; errors = E.contents errors.old })
@@ -65,17 +67,17 @@ pub fn run_command<
 {
     match command_lines::read(alloc, words) {
         Ok(Asked::Sim) => sim(alloc, keys, input, output, errors),
-        Ok(Asked::Files(command)) => {
-            let outcome = on_files(rt, alloc, keys, files, gate, &command);
-            tell(&outcome, output, errors)
+        Ok(Asked::Files(command, form)) => {
+            let came = on_files(rt, alloc, keys, files, gate, &command);
+            tell(alloc, form, files, &came, output, errors)
         }
         Ok(Asked::Batch(batch)) => capture_batch(alloc, files, &batch, output, errors),
-        Ok(Asked::Help(text)) => print(text.as_str(), statuses::DONE, output, errors),
+        Ok(Asked::Help(text)) => print(text.as_str(), output, errors),
         Ok(Asked::Mistake(text)) => {
             say(errors, text.as_str());
             statuses::BAD_COMMAND_LINE
         }
-        Err(_) => fault(Fault::NoMemory, errors),
+        Err(_) => bare_fault(Fault::NoMemory, errors),
     }
 }
 
@@ -138,31 +140,15 @@ fn on_files<
     command: &FileCommand<'_>,
 ) -> Result<Output, Fault>
     requires { HasTurns command.now }
-    ensures led { IfOk result (LeadsTo F.reads F.finds F.makes F.opens F.closes F.writes F.knows K.shown K.failed K.stored command.now files.old files.new) }
-    ensures sound { IfOk result (λ told. IsAnswer told.answer) }
+    ensures { IfOk result (LeadsTo F.reads F.finds F.makes F.opens F.closes F.writes F.knows K.shown K.failed K.stored command.now files.old files.new) }
 {
     match command {
         FileCommand::Run { folder, turns } => run_sites(rt, alloc, files, gate, folder, *turns),
-        FileCommand::Init { folder, list } => Ok(Output {
-            answer: init(alloc, keys, files, folder, list)?,
-            notes: None,
-        }),
-        FileCommand::Capture { folder, site, file } => Ok(Output {
-            answer: capture(alloc, files, folder, site, file)?,
-            notes: None,
-        }),
-        FileCommand::Start { folder, site, item } => Ok(Output {
-            answer: start(alloc, files, folder, site, item)?,
-            notes: None,
-        }),
-        FileCommand::Report { folder, recall } => Ok(Output {
-            answer: report_recall(alloc, files, folder, recall)?,
-            notes: None,
-        }),
-        FileCommand::Audit { folder } => Ok(Output {
-            answer: audit_sites(alloc, files, folder)?,
-            notes: None,
-        }),
+        FileCommand::Init { folder, list } => init(alloc, keys, files, folder, list),
+        FileCommand::Capture { folder, site, file } => capture(alloc, files, folder, site, file),
+        FileCommand::Start { folder, site, item } => start(alloc, files, folder, site, item),
+        FileCommand::Report { folder, recall } => report_recall(alloc, files, folder, recall),
+        FileCommand::Audit { folder } => audit_sites(alloc, files, folder),
     }
 }
 
@@ -174,79 +160,143 @@ fn capture_batch<K: SiteKeeper, F: Files<K>, W: Write, E: Write>(
     output: &mut W,
     errors: &mut E,
 ) -> u8
-    ensures { BatchEnds F.reads F.lines F.opens F.closes K.shown K.stored batch.now files.old files.new
+    ensures { BatchEnds F.reads F.lines F.opens F.closes F.fails K.shown K.stored batch.now files.old files.new
         (W.contents output.old) (W.contents output.new) (E.contents errors.old) (E.contents errors.new) result }
 {
     let documents = Documents {
         paths: batch.paths.as_slice(),
         by_lines: batch.by_lines,
     };
-    match capture_documents(alloc, files, batch.folder, batch.site, &documents, output) {
-        Ok(status) => status,
-        Err(cause) => fault(cause, errors),
-    }
-}
-
-/// Prints what came of a command on the sites' files.
-fn tell<W: Write, E: Write>(outcome: &Result<Output, Fault>, output: &mut W, errors: &mut E) -> u8
-    ensures { TellsOutcome outcome.now (W.contents output.old) (W.contents output.new) (E.contents errors.old) (E.contents errors.new) result }
-{
-    match outcome {
-        Ok(told) => {
-            let status = tell_answer(&told.answer, output, errors);
-            note(&told.notes, errors);
-            status
+    match capture_documents(
+        alloc,
+        files,
+        batch.folder,
+        batch.site,
+        &documents,
+        batch.form,
+        output,
+    ) {
+        Ok(summary) => {
+            note_untraced(alloc, batch.form, &summary.untraced, errors);
+            summary.status
         }
-        Err(cause) => fault(*cause, errors),
+        Err(cause) => fault(alloc, batch.form, files, cause, errors),
     }
 }
 
-/// Prints notes to the error stream.
-fn note<E: Write>(notes: &Option<String>, errors: &mut E)
-    ensures { TellsNotes notes.now (E.contents errors.old) (E.contents errors.new) }
+/// Tells what the documents of a capture said that isn't traced, where there is memory for it.
+fn note_untraced<E: Write>(alloc: Global, form: Form, untraced: &Untraced, errors: &mut E)
+    ensures { AppendsBeginning (E.contents errors.old) (E.contents errors.new) (note_lines form (untraced_text untraced.now)) }
+{
+    if let Ok(text) = untraced_text(alloc, untraced) {
+        note(alloc, form, text.as_str(), errors);
+    }
+}
+
+/// Prints what a command on the sites' files came to.
+fn tell<K: SiteKeeper, F: Files<K>, W: Write, E: Write>(
+    alloc: Global,
+    form: Form,
+    files: &F,
+    came: &Result<Output, Fault>,
+    output: &mut W,
+    errors: &mut E,
+) -> u8
+    ensures { TellsWhatCame F.fails form files.now came.now (W.contents output.old) (W.contents output.new) (E.contents errors.old) (E.contents errors.new) result }
+{
+    match came {
+        Ok(told) => tell_output(alloc, form, files, told, output, errors),
+        Err(cause) => fault(alloc, form, files, *cause, errors),
+    }
+}
+
+/// Prints an outcome, and behind it on the error stream what it means and its notes.
+fn tell_output<K: SiteKeeper, F: Files<K>, W: Write, E: Write>(
+    alloc: Global,
+    form: Form,
+    files: &F,
+    told: &Output,
+    output: &mut W,
+    errors: &mut E,
+) -> u8
+    ensures { OutputEnds F.fails form files.now told.now (W.contents output.old) (W.contents output.new) (E.contents errors.old) (E.contents errors.new) result }
+{
+    let Ok(text) = told.outcome.lines(alloc, form, &told.sites) else {
+        return fault(alloc, form, files, Fault::NoMemory, errors);
+    };
+    match write_text(output, text.as_bytes()) {
+        Ok(()) => {
+            explain(alloc, form, &told.outcome, errors);
+            note_some(alloc, form, &told.notes, errors);
+            told.outcome.status()
+        }
+        Err(_) => fault(alloc, form, files, Fault::Write, errors),
+    }
+}
+
+/// Tells in a sentence what a refusal means and what to do, where that is printed as text and there is memory for it.
+fn explain<E: Write>(alloc: Global, form: Form, outcome: &Outcome, errors: &mut E)
+    ensures { Explains form outcome.now (E.contents errors.old) (E.contents errors.new) }
+{
+    match form {
+        Form::Text => {
+            if let Ok(text) = outcome.sentences(alloc) {
+                say(errors, text.as_str());
+            }
+        }
+        Form::Json => {}
+    }
+}
+
+/// Tells notes, if there are any and there is memory for it.
+fn note_some<E: Write>(alloc: Global, form: Form, notes: &Option<String>, errors: &mut E)
+    ensures { TellsNotes form notes.now (E.contents errors.old) (E.contents errors.new) }
 {
     if let Some(notes) = notes {
-        say(errors, notes.as_str());
+        note(alloc, form, notes.as_str(), errors);
     }
 }
 
-/// Prints an answer, and what to do next where that isn't plain.
-fn tell_answer<W: Write, E: Write>(answer: &Answer, output: &mut W, errors: &mut E) -> u8
-    ensures { AnswerEnds answer.now (W.contents output.old) (W.contents output.new) (E.contents errors.old) (E.contents errors.new) result }
+/// Tells a note, where there is memory for it.
+fn note<E: Write>(alloc: Global, form: Form, text: &str, errors: &mut E)
+    ensures { AppendsBeginning (E.contents errors.old) (E.contents errors.new) (note_lines form text.now) }
 {
-    match write_text(output, answer.text().as_bytes()) {
-        Ok(()) => {
-            advise(answer.text(), errors);
-            answer.status()
-        }
-        Err(_) => fault(Fault::Write, errors),
+    if let Ok(lines) = note_lines(alloc, form, text) {
+        say(errors, lines.as_str());
     }
 }
 
-/// Tells which command lists the recalls, where the one that was asked for is unknown.
-fn advise<E: Write>(text: &str, errors: &mut E)
-    ensures { Advises text.now (E.contents errors.old) (E.contents errors.new) }
-{
-    if text == "refused UnknownRecall\n" {
-        say(
-            errors,
-            "`recall audit` lists the recalls that sites began\n",
-        );
-    }
-}
-
-/// Prints a text, and returns the status where that is done.
-fn print<W: Write, E: Write>(text: &str, status: u8, output: &mut W, errors: &mut E) -> u8
-    ensures { TextEnds status text.now (W.contents output.old) (W.contents output.new) (E.contents errors.old) (E.contents errors.new) result }
+/// Prints help.
+fn print<W: Write, E: Write>(text: &str, output: &mut W, errors: &mut E) -> u8
+    ensures { TextEnds text.now (W.contents output.old) (W.contents output.new) (E.contents errors.old) (E.contents errors.new) result }
 {
     match write_text(output, text.as_bytes()) {
-        Ok(()) => status,
-        Err(_) => fault(Fault::Write, errors),
+        Ok(()) => statuses::DONE,
+        Err(_) => bare_fault(Fault::Write, errors),
     }
 }
 
-/// Prints a fault.
-fn fault<E: Write>(cause: Fault, errors: &mut E) -> u8
+/// Prints a fault of a command on the sites' files: its line, the file that it is about and what is known of that, and
+/// what it means. Its name alone, where memory runs out for the rest.
+fn fault<K: SiteKeeper, F: Files<K>, E: Write>(
+    alloc: Global,
+    form: Form,
+    files: &F,
+    cause: Fault,
+    errors: &mut E,
+) -> u8
+    ensures status { result ≡ 3 }
+    ensures told { TellsFault F.fails form files.now cause (E.contents errors.old) (E.contents errors.new) }
+{
+    match cause.lines(alloc, form, files.failure()) {
+        Ok(text) => say(errors, text.as_str()),
+        Err(_) => say(errors, cause.bare_line(form)),
+    }
+    statuses::FAULT
+}
+
+/// Prints the name of a fault.
+fn bare_fault<E: Write>(cause: Fault, errors: &mut E) -> u8
     ensures status { result ≡ 3 }
     ensures told { AppendsBeginning (E.contents errors.old) (E.contents errors.new) (fault_line cause) }
 {

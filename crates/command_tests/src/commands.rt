@@ -2,12 +2,13 @@
 ghost use Rattle.std.specs.Prelude.{◌≤◌};
 
 use crate::numbers::site;
-use frame_core::{Frame, MsgId};
-use keeper_core::{Keep, MemoryKeeper, SiteKeeper};
 use folder_commands::{
-    Answer, Documents, Fault, Files, audit_sites, capture, capture_documents, init, report_recall,
+    Documents, Files, Output, audit_sites, capture, capture_documents, init, report_recall,
     run_sites, start,
 };
+use frame_core::{Frame, MsgId};
+use keeper_core::{Keep, MemoryKeeper, SiteKeeper};
+use recall_outcomes::{Failure, Fault, Form, Outcome};
 use site_core::{SiteInput, SiteState};
 use site_threads::FreeGate;
 use std::alloc::{AllocError, Global};
@@ -73,6 +74,8 @@ impl Files<MemoryKeeper> for MemoryFiles {
 
     ghost writes = { λ _ _ _ _. ⊤ };
 
+    ghost fails = { λ _ _. ⊤ };
+
     ghost knows = { λ _ _ _. ⊤ };
 
     fn read(&mut self, alloc: Global, path: &str) -> Result<Vec<u8>, Fault> {
@@ -134,6 +137,10 @@ impl Files<MemoryKeeper> for MemoryFiles {
         format!(in alloc; "known of {path}\n")
     }
 
+    fn failure(&self) -> Option<&Failure> {
+        None
+    }
+
     fn write_new(&mut self, path: &str, bytes: &[u8]) -> Result<(), Fault> {
         let path = String::from_str(self.alloc, path)?;
         let bytes = bytes.to_vec(self.alloc)?;
@@ -173,13 +180,21 @@ fn answer(
     keys: RandomState,
     files: &mut MemoryFiles,
     asked: Asked,
-) -> Result<Answer, Fault> {
+) -> Result<Output, Fault> {
     match asked {
         Asked::Init(folder, list) => init(alloc, keys, files, folder, list),
         Asked::Capture(site, file) => capture(alloc, files, "d", site, file),
         Asked::Start(site, item) => start(alloc, files, "d", site, item),
         Asked::Report(recall) => report_recall(alloc, files, "d", recall),
         Asked::Audit(folder) => audit_sites(alloc, files, folder),
+    }
+}
+
+/// Whether what a command came to is printed so, and has this status.
+fn is_printed(alloc: Global, output: &Output, form: Form, status: u8, text: &str) -> bool {
+    match output.outcome.lines(alloc, form, &output.sites) {
+        Ok(lines) => output.outcome.status() == status && lines.as_str() == text,
+        Err(_) => false,
     }
 }
 
@@ -193,7 +208,7 @@ fn gives(
     text: &str,
 ) -> bool {
     match answer(alloc, keys, files, asked) {
-        Ok(answer) => answer.status() == status && answer.text() == text,
+        Ok(output) => is_printed(alloc, &output, Form::Text, status, text),
         Err(fault) => status == 3 && fault.line() == text,
     }
 }
@@ -266,17 +281,105 @@ fn commands_are_answered(rt: HostRuntime) -> Result<(), Fail> {
     Ok(())
 }
 
-/// Whether the documents of these files are captured at A with this status and this output.
+/// Whether a command prints this JSON, and the status is this.
+fn gives_json(
+    alloc: Global,
+    keys: RandomState,
+    files: &mut MemoryFiles,
+    asked: Asked,
+    status: u8,
+    text: &str,
+) -> bool {
+    match answer(alloc, keys, files, asked) {
+        Ok(output) => is_printed(alloc, &output, Form::Json, status, text),
+        Err(_) => false,
+    }
+}
+
+/// The place of the first of some commands that doesn't print its JSON, from 0.
+fn first_other_json(
+    alloc: Global,
+    keys: RandomState,
+    files: &mut MemoryFiles,
+    table: &[(Asked, u8, &str)],
+) -> Option<usize> {
+    for (place, (asked, status, text)) in table.iter().enumerate() {
+        if !gives_json(alloc, keys, files, *asked, *status, text) {
+            return Some(place);
+        }
+    }
+    None
+}
+
+#[test]
+fn outcomes_are_json(rt: HostRuntime) -> Result<(), Fail> {
+    let keys = RandomState::new(&rt)?;
+    let mut files = files(rt.alloc())?;
+    let table = [
+        (
+            Asked::Init("d", "bad"),
+            1,
+            "{\"line\":2,\"refused\":\"BadLine\"}\n\
+             {\"kind\":\"NameTaken\",\"line\":3,\"refused\":\"BadSite\"}\n\
+             {\"refused\":\"NoWorld\"}\n",
+        ),
+        (Asked::Init("d", "list"), 0, "{\"created\":[\"A\",\"B\"]}\n"),
+        (
+            Asked::Capture("C", "none"),
+            1,
+            "{\"refused\":\"NoSite\",\"site\":\"C\"}\n",
+        ),
+        (
+            Asked::Capture("A", "broken"),
+            1,
+            "{\"event\":0,\"field\":\"document\",\"kind\":\"Syntax\",\"refused\":\"Doc\"}\n",
+        ),
+        (
+            Asked::Capture("A", "made"),
+            0,
+            "{\"captured\":2,\"known\":0,\"skipped\":0}\n",
+        ),
+        (
+            Asked::Start("A", "x"),
+            0,
+            "{\"ended\":false,\"messages\":1,\"new\":2,\"recall\":\"A#1\"}\n",
+        ),
+        (
+            Asked::Audit("d"),
+            0,
+            "{\"audit\":\"open\",\"recall\":\"A#1\"}\n",
+        ),
+        (
+            Asked::Report("A#1"),
+            0,
+            "{\"ended\":false,\"outside\":[{\"destination\":\"z\",\"item\":\"uri y\",\"site\":\"A\"}],\"pairs\":[{\"item\":\"uri x\",\"site\":\"A\",\"trail\":[{\"item\":\"uri x\",\"site\":\"A\"}]},{\"item\":\"uri y\",\"site\":\"A\",\"trail\":[{\"item\":\"uri x\",\"site\":\"A\"},{\"item\":\"uri y\",\"site\":\"A\"}]}],\"recall\":\"A#1\",\"root\":{\"item\":\"uri x\",\"site\":\"A\"}}\n",
+        ),
+        (Asked::Report("A#9"), 1, "{\"refused\":\"UnknownRecall\"}\n"),
+    ];
+    assert!(rt; first_other_json(rt.alloc(), keys, &mut files, table.as_slice()).is_none());
+    Ok(())
+}
+
+/// Whether the documents of these files are captured at A with this status and this output, and so many of their
+/// destinations are no traced site, where each document has one and two events without an eventID.
 fn takes_documents(
     alloc: Global,
     files: &mut MemoryFiles,
     documents: &Documents<'_>,
     status: u8,
     text: &str,
-) -> bool {
+    outside: u64,
+) -> bool
+    requires { outside ≤ 2 }
+{
     let mut output = Vec::new(alloc);
-    match capture_documents(alloc, files, "d", "A", documents, &mut output) {
-        Ok(ended) => ended == status && output.as_slice() == text.as_bytes(),
+    match capture_documents(alloc, files, "d", "A", documents, Form::Text, &mut output) {
+        Ok(summary) => {
+            summary.status == status
+                && summary.untraced.outside == outside
+                && summary.untraced.unnamed == 2 * outside
+                && output.as_slice() == text.as_bytes()
+        }
         Err(_) => false,
     }
 }
@@ -308,7 +411,8 @@ fn documents_are_answered_one_by_one(rt: HostRuntime) -> Result<(), Fail> {
             "captured 2 known 0 skipped 0 made\n\
              refused Doc Syntax event 0 field document broken\n\
              captured 2 known 0 skipped 0 made\n\
-             documents 3 captured 4 known 0 skipped 0 refused 1\n"
+             documents 3 captured 4 known 0 skipped 0 refused 1\n",
+            2
         )
     );
     let lines = Documents {
@@ -324,7 +428,8 @@ fn documents_are_answered_one_by_one(rt: HostRuntime) -> Result<(), Fail> {
             "captured 2 known 0 skipped 0 made:1\n\
              refused Doc Syntax event 0 field document lines:1\n\
              refused Doc Syntax event 0 field document lines:3\n\
-             documents 3 captured 2 known 0 skipped 0 refused 2\n"
+             documents 3 captured 2 known 0 skipped 0 refused 2\n",
+            1
         )
     );
     Ok(())
@@ -376,6 +481,14 @@ fn a_record_from_before_is_found(rt: HostRuntime) -> Result<(), Fail> {
     Ok(())
 }
 
+/// Whether all recalls have ended after a run.
+fn has_ended(outcome: &Outcome) -> bool {
+    match outcome {
+        Outcome::Ran(recalls) => recalls.iter().all(|recall| recall.ended),
+        _ => false,
+    }
+}
+
 /// Whether the recall A#1 ends in a run of all sites, of at most twenty.
 fn ends_in_runs<R: Threads + Wait + Clock + Sync>(
     rt: &R,
@@ -385,8 +498,8 @@ fn ends_in_runs<R: Threads + Wait + Clock + Sync>(
     for _ in 0..20 {
         match run_sites(rt, alloc, files, FreeGate, "d", 2000) {
             Ok(output) => {
-                if output.answer.text() == "A#1 ended\n" {
-                    return output.answer.status() == 0;
+                if has_ended(&output.outcome) {
+                    return is_printed(alloc, &output, Form::Text, 0, "A#1 ended\n");
                 }
             }
             Err(_) => return false,

@@ -1,8 +1,9 @@
 //! The program's commands on words and streams in memory.
 
-use keeper_core::MemoryKeeper;
 use command_line::run_command;
-use folder_commands::{Fault, Files};
+use folder_commands::Files;
+use keeper_core::MemoryKeeper;
+use recall_outcomes::{Failure, Fault};
 use site_core::SiteState;
 use site_threads::FreeGate;
 use std::alloc::{AllocError, Global};
@@ -46,6 +47,8 @@ impl Files<MemoryKeeper> for OneFile {
 
     ghost knows = { λ _ _ _. ⊤ };
 
+    ghost fails = { λ _ _. ⊤ };
+
     fn read(&mut self, alloc: Global, path: &str) -> Result<Vec<u8>, Fault> {
         if path == "list" {
             Ok(b"reach A x".as_slice().to_vec(alloc)?)
@@ -74,6 +77,10 @@ impl Files<MemoryKeeper> for OneFile {
 
     fn known_of(&self, alloc: Global, _: &str) -> Result<String, AllocError> {
         Ok(String::new(alloc))
+    }
+
+    fn failure(&self) -> Option<&Failure> {
+        None
     }
 
     fn write_new(&mut self, _: &str, _: &[u8]) -> Result<(), Fault> {
@@ -188,8 +195,16 @@ fn commands_on_files_are_told(rt: HostRuntime) -> Result<(), Fail> {
             "",
             1,
             "refused BadLine\nrefused NoWorld\n",
+            "the line is neither a `site` line, nor empty, nor a comment",
+        ),
+        (
+            "recall init --json d list",
+            "",
+            1,
+            "{\"line\":1,\"refused\":\"BadLine\"}\n{\"refused\":\"NoWorld\"}\n",
             "",
         ),
+        ("recall audit d --json", "", 3, "", "{\"fault\":\"Read\"}\n"),
         ("recall audit d", "", 3, "", "fault Read\n"),
         ("recall capture d A a b", "", 3, "", "fault Read\n"),
         ("recall capture d A - --lines", "", 3, "", "fault Read\n"),

@@ -15,18 +15,20 @@ use Rattle.site_core.specs.declared.inputs.SiteInput.TheVariants.{Capture}
 use Rattle.site_core.specs.declared.outcomes.Effects.{Effects}
 use Rattle.site_core.specs.declared.outcomes.Effects.TheVariants as told
 use Rattle.site_core.specs.declared.outcomes.Refusal.{Refusal}
-use Rattle.folder_commands.specs.Captures.{ComesTo, Document, IsOfCapture, came_line, totals_line, ReadsFile, ReadsFiles, ReadsSome, Standing, Takes, TakesOne, TakesSome, TakesThose, came_of, is_blank, of_lines}
-use Rattle.folder_commands.specs.declared.captures.Came.{Came}
-use Rattle.folder_commands.specs.declared.captures.Came.TheVariants.{Refused}
+use Rattle.recall_outcomes.specs.Printing.{document_line, totals_line}
+use Rattle.recall_outcomes.specs.declared.documents.DocumentOutcome.{DocumentOutcome}
+use Rattle.recall_outcomes.specs.declared.documents.DocumentOutcome.TheVariants.{Refused}
+use Rattle.recall_outcomes.specs.declared.outcomes.Form.{Form}
+use Rattle.folder_commands.specs.Captures.{ComesTo, Document, IsOfCapture, ReadsFile, ReadsFiles, ReadsSome, Standing, Takes, TakesOne, TakesSome, TakesThose, came_of, is_blank, of_lines}
 
-module _ (sites : List Site) where
+module _ (form : Form) (sites : List Site) where
   -- some documents, and then others
-  pub takes_both : (a b c : Standing) (first rest : List Document) → Takes sites a first b → Takes sites b rest c → Takes sites a (first ++ rest) c
-  takes_both a b c [] rest none others = subst (λ s. Takes sites s rest c) none others
+  pub takes_both : (a b c : Standing) (first rest : List Document) → Takes form sites a first b → Takes form sites b rest c → Takes form sites a (first ++ rest) c
+  takes_both a b c [] rest none others = subst (λ s. Takes form sites s rest c) none others
   takes_both a b c (d ∷ first) rest (mid, one, more) others = (mid, one, takes_both mid b c first rest more others)
 
   -- and then one more
-  pub takes_one : (a b c : Standing) (first : List Document) (document : Document) → Takes sites a first b → TakesOne sites b document c → Takes sites a (first ++ document ∷ []) c
+  pub takes_one : (a b c : Standing) (first : List Document) (document : Document) → Takes form sites a first b → TakesOne form sites b document c → Takes form sites a (first ++ document ∷ []) c
   takes_one a b c first document taken one = takes_both a b c first (document ∷ []) taken (c, one, refl)
 
 -- the documents of a line more
@@ -99,7 +101,7 @@ is_capture (Some old) after may document effects result is answers closed =
     of_applied (Some new) (told.Ended r) does = does
 
 -- so the document came to that, and to what is shown then
-pub comes_of : (old : Record) (after : Option Record) (may : Record → Type 0) (document : List ℕ) (effects : Effects) (came : Came) → Applies old (Capture document) (Ok effects) after may → came_of effects ≡ Some came
+pub comes_of : (old : Record) (after : Option Record) (may : Record → Type 0) (document : List ℕ) (effects : Effects) (came : DocumentOutcome) → Applies old (Capture document) (Ok effects) after may → came_of effects ≡ Some came
     → (new : Record) × (after ≡ Some new) × ComesTo old document came new
 comes_of old None may document effects came does is = absurd does
 comes_of old (Some new) may document (told.Captured fresh known skipped) came does is =
@@ -128,76 +130,76 @@ pub appends_none : (output : Option (List ℕ)) → AppendsBeginning output outp
 appends_none output = ([], [], refl, Appends-nil output)
 
 -- no document was taken, and nothing was written
-pub takes_none : (sites : List Site) (old : Standing) → TakesSome sites old old.output
-takes_none sites old = record { documents = []; last = old; taken = refl; next = []; is_next = inl refl; told = appends_none old.output }
+pub takes_none : (form : Form) (sites : List Site) (old : Standing) → TakesSome form sites old old.output
+takes_none form sites old = record { documents = []; last = old; taken = refl; next = []; is_next = inl refl; told = appends_none old.output }
 
 -- one was taken, and a beginning of its line was written
-pub takes_less : (sites : List Site) (old : Standing) (document : Document) (came : Came) (site : Record) (after : Option (List ℕ)) → ComesTo old.site document.bytes came site
-    → AppendsBeginning old.output after (came_line sites document.source came) → TakesSome sites old after
-takes_less sites old document came site after comes told = record {
+pub takes_less : (form : Form) (sites : List Site) (old : Standing) (document : Document) (came : DocumentOutcome) (site : Record) (after : Option (List ℕ)) → ComesTo old.site document.bytes came site
+    → AppendsBeginning old.output after (document_line form sites document.source came) → TakesSome form sites old after
+takes_less form sites old document came site after comes told = record {
   documents = [];
   last = old;
   taken = refl;
-  next = came_line sites document.source came;
+  next = document_line form sites document.source came;
   is_next = inr (inl (document, came, site, comes, refl));
   told = told;
 }
 
 -- some documents more
-pub takes_more : (sites : List Site) (old mid : Standing) (first : List Document) (after : Option (List ℕ)) → Takes sites old first mid → TakesSome sites mid after → TakesSome sites old after
-takes_more sites old mid first after taken some = record {
+pub takes_more : (form : Form) (sites : List Site) (old mid : Standing) (first : List Document) (after : Option (List ℕ)) → Takes form sites old first mid → TakesSome form sites mid after → TakesSome form sites old after
+takes_more form sites old mid first after taken some = record {
   documents = first ++ some.documents;
   last = some.last;
-  taken = takes_both sites old mid some.last first some.documents taken some.taken;
+  taken = takes_both form sites old mid some.last first some.documents taken some.taken;
   next = some.next;
   is_next = some.is_next;
   told = some.told;
 }
 
 -- a file's document was taken
-pub takes_document : {F : Type 0} (reads : F → List ℕ → List ℕ → F → Type 0) (lines : F → List ℕ → Option (List ℕ) → F → Type 0) (old new : F) (path source bytes : List ℕ) (sites : List Site) (a b : Standing)
-    → source ≡ path → reads old path bytes new → TakesOne sites a (record { source = source; bytes = bytes }) b
-    → TakesThose (λ ds. ReadsFile reads lines false old path ds new) sites a b
-takes_document reads lines old new path source bytes sites a b e read one = record {
+pub takes_document : {F : Type 0} (reads : F → List ℕ → List ℕ → F → Type 0) (lines : F → List ℕ → Option (List ℕ) → F → Type 0) (old new : F) (path source bytes : List ℕ) (form : Form) (sites : List Site) (a b : Standing)
+    → source ≡ path → reads old path bytes new → TakesOne form sites a (record { source = source; bytes = bytes }) b
+    → TakesThose (λ ds. ReadsFile reads lines false old path ds new) form sites a b
+takes_document reads lines old new path source bytes form sites a b e read one = record {
   documents = record { source = path; bytes = bytes } ∷ [];
   are = (bytes, read, refl);
-  taken = (b, subst (λ s. TakesOne sites a (record { source = s; bytes = bytes }) b) e one, refl);
+  taken = (b, subst (λ s. TakesOne form sites a (record { source = s; bytes = bytes }) b) e one, refl);
 }
 
 -- a line's document was taken
-pub takes_line : (sites : List Site) (a b : Standing) (path source bytes : List ℕ) (number : ℕ) → is_blank bytes ≡ false → source ≡ path ++ 58 ∷ decimal number
-    → TakesOne sites a (record { source = source; bytes = bytes }) b → Takes sites a (of_lines path number (bytes ∷ [])) b
-takes_line sites a b path source bytes number other e one =
-    subst (λ ds. Takes sites a ds b) (sym (other_line path number bytes other))
-    (b, subst (λ s. TakesOne sites a (record { source = s; bytes = bytes }) b) e one, refl)
+pub takes_line : (form : Form) (sites : List Site) (a b : Standing) (path source bytes : List ℕ) (number : ℕ) → is_blank bytes ≡ false → source ≡ path ++ 58 ∷ decimal number
+    → TakesOne form sites a (record { source = source; bytes = bytes }) b → Takes form sites a (of_lines path number (bytes ∷ [])) b
+takes_line form sites a b path source bytes number other e one =
+    subst (λ ds. Takes form sites a ds b) (sym (other_line path number bytes other))
+    (b, subst (λ s. TakesOne form sites a (record { source = s; bytes = bytes }) b) e one, refl)
 
 -- or it has none
-pub takes_blank : (sites : List Site) (a : Standing) (path bytes : List ℕ) (number : ℕ) → is_blank bytes ≡ true → Takes sites a (of_lines path number (bytes ∷ [])) a
-takes_blank sites a path bytes number blank = subst (λ ds. Takes sites a ds a) (sym (blank_line path number bytes blank)) refl
+pub takes_blank : (form : Form) (sites : List Site) (a : Standing) (path bytes : List ℕ) (number : ℕ) → is_blank bytes ≡ true → Takes form sites a (of_lines path number (bytes ∷ [])) a
+takes_blank form sites a path bytes number blank = subst (λ ds. Takes form sites a ds a) (sym (blank_line path number bytes blank)) refl
 
 -- the documents of a line more
-pub takes_lines : (sites : List Site) (a b c : Standing) (path line : List ℕ) (texts : List (List ℕ)) (number : ℕ) → number ≡ 1 + length texts
-    → Takes sites a (of_lines path 1 texts) b → Takes sites b (of_lines path number (line ∷ [])) c → Takes sites a (of_lines path 1 (texts ++ line ∷ [])) c
-takes_lines sites a b c path line texts number count first rest =
-    subst (λ ds. Takes sites a ds c) (sym (lines_more path 1 texts line))
-    (takes_both sites a b c (of_lines path 1 texts) (of_lines path (1 + length texts) (line ∷ [])) first
-    (subst (λ (n : ℕ). Takes sites b (of_lines path n (line ∷ [])) c) count rest))
+pub takes_lines : (form : Form) (sites : List Site) (a b c : Standing) (path line : List ℕ) (texts : List (List ℕ)) (number : ℕ) → number ≡ 1 + length texts
+    → Takes form sites a (of_lines path 1 texts) b → Takes form sites b (of_lines path number (line ∷ [])) c → Takes form sites a (of_lines path 1 (texts ++ line ∷ [])) c
+takes_lines form sites a b c path line texts number count first rest =
+    subst (λ ds. Takes form sites a ds c) (sym (lines_more path 1 texts line))
+    (takes_both form sites a b c (of_lines path 1 texts) (of_lines path (1 + length texts) (line ∷ [])) first
+    (subst (λ (n : ℕ). Takes form sites b (of_lines path n (line ∷ [])) c) count rest))
 
 -- a file more: its documents were taken
-pub takes_file : {F : Type 0} (reads : F → List ℕ → List ℕ → F → Type 0) (lines : F → List ℕ → Option (List ℕ) → F → Type 0) (by_lines : Bool) (old mid new : F) (paths : List (List ℕ)) (path : List ℕ) (sites : List Site) (a b c : Standing)
-    → TakesThose (λ ds. ReadsFiles reads lines by_lines old paths ds mid) sites a b → TakesThose (λ ds. ReadsFile reads lines by_lines mid path ds new) sites b c
-    → TakesThose (λ ds. ReadsFiles reads lines by_lines old (paths ++ path ∷ []) ds new) sites a c
-takes_file reads lines by_lines old mid new paths path sites a b c some more = record {
+pub takes_file : {F : Type 0} (reads : F → List ℕ → List ℕ → F → Type 0) (lines : F → List ℕ → Option (List ℕ) → F → Type 0) (by_lines : Bool) (old mid new : F) (paths : List (List ℕ)) (path : List ℕ) (form : Form) (sites : List Site) (a b c : Standing)
+    → TakesThose (λ ds. ReadsFiles reads lines by_lines old paths ds mid) form sites a b → TakesThose (λ ds. ReadsFile reads lines by_lines mid path ds new) form sites b c
+    → TakesThose (λ ds. ReadsFiles reads lines by_lines old (paths ++ path ∷ []) ds new) form sites a c
+takes_file reads lines by_lines old mid new paths path form sites a b c some more = record {
   documents = some.documents ++ more.documents;
   are = reads_file reads lines by_lines old mid new paths path some.documents more.documents some.are more.are;
-  taken = takes_both sites a b c some.documents more.documents some.taken more.taken;
+  taken = takes_both form sites a b c some.documents more.documents some.taken more.taken;
 }
 
 -- those were taken, and nothing of the totals was written
-pub takes_those : (Are : List Document → Type 0) (sites : List Site) (old last : Standing) → TakesThose Are sites old last → TakesSome sites old last.output
-takes_those Are sites old last those = record { documents = those.documents; last = last; taken = those.taken; next = []; is_next = inl refl; told = appends_none last.output }
+pub takes_those : (Are : List Document → Type 0) (form : Form) (sites : List Site) (old last : Standing) → TakesThose Are form sites old last → TakesSome form sites old last.output
+takes_those Are form sites old last those = record { documents = those.documents; last = last; taken = those.taken; next = []; is_next = inl refl; told = appends_none last.output }
 
 -- or a beginning of them
-pub takes_totals : (Are : List Document → Type 0) (sites : List Site) (old last : Standing) (after : Option (List ℕ)) → TakesThose Are sites old last → AppendsBeginning last.output after (totals_line last.totals) → TakesSome sites old after
-takes_totals Are sites old last after those told =
-    record { documents = those.documents; last = last; taken = those.taken; next = totals_line last.totals; is_next = inr (inr refl); told = told }
+pub takes_totals : (Are : List Document → Type 0) (form : Form) (sites : List Site) (old last : Standing) (after : Option (List ℕ)) → TakesThose Are form sites old last → AppendsBeginning last.output after (totals_line form last.counts.totals) → TakesSome form sites old after
+takes_totals Are form sites old last after those told =
+    record { documents = those.documents; last = last; taken = those.taken; next = totals_line form last.counts.totals; is_next = inr (inr refl); told = told }

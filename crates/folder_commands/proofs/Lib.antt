@@ -1,10 +1,8 @@
-pub mod AuditLemmas
 pub mod CallsInTurn
 pub mod CaptureLemmas
 pub mod MakingLemmas
 pub mod NoteLaws
 pub mod NoteLemmas
-pub mod RefusalLemmas
-pub mod ReportLemmas
 pub mod RunLemmas
 pub mod StepLemmas
+pub mod UntoldLemmas

@@ -3,7 +3,9 @@ use Rattle.std.proofs.Common.{◌≡◌, ◌≤◌, ◌∙◌, ℕ, suc, Option,
 use Rattle.std.proofs.lemmas.List.{length-map}
 use Rattle.std.proofs.lemmas.List.Elements.{All-cons, All-nil}
 use Rattle.std.specs.List.{AllZip}
-use Rattle.event_json.specs.Sites.{Site}
+use Rattle.recall_outcomes.specs.declared.outcomes.Outcome.{Outcome}
+use Rattle.recall_outcomes.specs.declared.outcomes.Outcome.TheVariants.{Inconsistent}
+use Rattle.recall_outcomes.specs.declared.outcomes.StartedRecall.{StartedRecall}
 use Rattle.site_core.specs.Records.{Record}
 use Rattle.site_threads.proofs.NoJobs.{all_of_frames}
 use Rattle.site_threads.specs.Gathering.{Began, FitAfter, HasEnd, HasTurned, Hinders, IsKept, KeepersFit, Opens, StandTogether}
@@ -15,9 +17,6 @@ use Rattle.world_core.specs.Keepers.{AllShow}
 use Rattle.world_core.specs.declared.faults.WorldFault.TheVariants as worlds
 use Rattle.folder_commands.specs.Calls.{AreShown}
 use Rattle.folder_commands.specs.Runs.{AnswersRun, CameToItsEnd, TellsCause, TellsRecalls}
-use Rattle.folder_commands.specs.declared.answers.Answer.{Answer}
-use Rattle.folder_commands.specs.declared.answers.Answer.TheVariants.{Done, Refused, Amiss}
-use Rattle.folder_commands.specs.Audits.{begun}
 use Rattle.folder_commands.specs.Notes.{AreNotes, AreOfSites}
 use Rattle.folder_commands.specs.declared.notes.RunNotes.{RunNotes}
 
@@ -51,17 +50,17 @@ module _ {K : Type 0} (shown : K → Option Record) where
       record { few = omega (arith, many, back, few); befores = omega (arith, long, many, back); afters = length-map new failed ∙ many }
 
   -- what is reported after a run of sites whose desks take no jobs
-  pub came_to_its_end : (failed : K → ℕ) (sites : List Site) (turns : ℕ) (old new : List K) (ds : List DeskOut) (lists : List RunLog) (text : List ℕ) (notes : RunNotes) (before : List ℕ) → AllZip (Began shown) old lists → AllZip (IsKept shown) new lists
+  pub came_to_its_end : (failed : K → ℕ) (turns : ℕ) (old new : List K) (ds : List DeskOut) (lists : List RunLog) (recalls : List StartedRecall) (notes : RunNotes) (before : List ℕ) → AllZip (Began shown) old lists → AllZip (IsKept shown) new lists
       → All (λ (d : DeskOut). d.limit ≡ 0) ds → AllZip HasEnd ds lists → AllZip (HasTurned shown turns) new lists → before ≡ map failed old
-      → (told : TellsRecalls shown sites new text) × AreNotes before (map failed new) lists (begun told.records) notes → CameToItsEnd shown failed sites turns old new text notes
-  came_to_its_end failed sites turns old new ds lists text notes before began kept none ends turned counts told = record {
+      → TellsRecalls shown new recalls → AreNotes before (map failed new) lists recalls notes → CameToItsEnd shown failed turns old new recalls notes
+  came_to_its_end failed turns old new ds lists recalls notes before began kept none ends turned counts told noted = record {
     lists = lists;
     began = began;
     kept = kept;
     frames = all_of_frames shown ds new lists none ends kept;
     turned = turned;
-    told = told.0;
-    noted = subst (λ bs. AreNotes bs (map failed new) lists (begun told.0.records) notes) counts told.1;
+    told = told;
+    noted = subst (λ bs. AreNotes bs (map failed new) lists recalls notes) counts noted;
   }
 
   module _ (may : K → Record → Type 0) where
@@ -75,25 +74,22 @@ module _ {K : Type 0} (shown : K → Option Record) where
     pub shown_stand : (keepers : List K) (rs : List Record) → KeepersFit shown may keepers → AllShow shown keepers rs → StandTogether rs
     shown_stand keepers rs fit all = fit rs (all_open_in keepers rs all)
 
-    -- inconsistent records are reported, and nothing else that prevents a run
-    pub misfit_told : (failed : K → ℕ) (sites : List Site) (turns : ℕ) (old new : List K) (cause : GatherCause) (answer : Answer) (notes : Option RunNotes) → Hinders shown new cause → FitAfter shown may old cause new → TellsCause sites cause answer → notes ≡ None
-        → AnswersRun shown failed sites turns old new answer notes
-    misfit_told failed sites turns old new (NotAWorld (worlds.Misfit misfit)) (Amiss text) notes (records, shows, dont) fit told none = (
-      record {
-        records = records;
-        shows = subst (λ ks. AreShown shown ks records) fit (are_shown new records shows);
-        misfit = misfit;
-        is_misfit = dont.1;
-        text_is = told;
-      },
-      fit,
-      none,
-    )
-    misfit_told failed sites turns old new (NotAWorld (worlds.Misfit misfit)) (Done text) notes hinders fit told none = absurd told
-    misfit_told failed sites turns old new (NotAWorld (worlds.Misfit misfit)) (Refused text) notes hinders fit told none = absurd told
-    misfit_told failed sites turns old new (NotAWorld worlds.NoMemory) answer notes hinders fit told none = absurd told
-    misfit_told failed sites turns old new (NotAWorld (worlds.OtherSites place)) answer notes hinders fit told none = absurd told
-    misfit_told failed sites turns old new (NotAWorld (worlds.Closed place)) answer notes hinders fit told none = absurd told
-    misfit_told failed sites turns old new NoMemory answer notes hinders fit told none = absurd told
-    misfit_told failed sites turns old new (SiteLost site) answer notes hinders fit told none = absurd told
-    misfit_told failed sites turns old new (GaveUp site) answer notes hinders fit told none = absurd told
+    -- inconsistent records are the outcome, and nothing else that prevents a run
+    pub misfit_told : (failed : K → ℕ) (turns : ℕ) (old new : List K) (cause : GatherCause) (outcome : Outcome) (notes : Option RunNotes) → Hinders shown new cause → FitAfter shown may old cause new → TellsCause cause outcome → notes ≡ None
+        → AnswersRun shown failed turns old new outcome notes
+    misfit_told failed turns old new (NotAWorld (worlds.Misfit misfit)) outcome notes (records, shows, dont) fit told none =
+        subst (λ o. AnswersRun shown failed turns old new o notes) (sym told) (
+          record {
+            records = records;
+            shows = subst (λ ks. AreShown shown ks records) fit (are_shown new records shows);
+            is_misfit = dont.1;
+          },
+          fit,
+          none,
+        )
+    misfit_told failed turns old new (NotAWorld worlds.NoMemory) outcome notes hinders fit told none = absurd told
+    misfit_told failed turns old new (NotAWorld (worlds.OtherSites place)) outcome notes hinders fit told none = absurd told
+    misfit_told failed turns old new (NotAWorld (worlds.Closed place)) outcome notes hinders fit told none = absurd told
+    misfit_told failed turns old new NoMemory outcome notes hinders fit told none = absurd told
+    misfit_told failed turns old new (SiteLost site) outcome notes hinders fit told none = absurd told
+    misfit_told failed turns old new (GaveUp site) outcome notes hinders fit told none = absurd told

@@ -1,4 +1,3 @@
-pub mod Answers
 pub mod Audits
 pub mod Calls
 pub mod Captures
@@ -7,6 +6,8 @@ pub mod Folders
 pub mod Making
 pub mod NoteLaws
 pub mod Notes
+pub mod Refusals
 pub mod Reports
 pub mod Runs
 pub mod Steps
+pub mod Untold

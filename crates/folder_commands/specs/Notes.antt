@@ -5,11 +5,11 @@ use Rattle.std.specs.Global.{Global}
 use Rattle.std.specs.List.{list_any}
 use Rattle.std.specs.declared.string.String.{String}
 use Rattle.event_json.specs.Sites.{Site}
+use Rattle.recall_outcomes.specs.declared.outcomes.StartedRecall.{StartedRecall}
 use Rattle.recall_text.specs.Words.{name_at}
 use Rattle.site_threads.specs.Jobs.{stops_in}
 use Rattle.site_threads.specs.declared.lists.RunLog.{RunLog}
 use Rattle.folder_commands.specs.Folders.{file_path}
-use Rattle.folder_commands.specs.declared.audits.StartedRecall.{StartedRecall}
 use Rattle.folder_commands.specs.declared.notes.RunNotes.{RunNotes}
 use Rattle.folder_commands.specs.declared.notes.Stop.{Stop}
 use Rattle.folder_commands.specs.declared.notes.StopCause.{StopCause}

@@ -1,35 +1,26 @@
 //! `capture` of several documents: a site's file is opened once, and each document is a step of its own.
 
-ghost use Rattle.std.specs.Prelude.{◌≡◌, ℕ, List, [], ◌∷◌, Some, false, true, IfOk, OnOk, OnErr, map, string_bytes};
+ghost use Rattle.std.specs.Prelude.{◌≡◌, ℕ, List, [], ◌∷◌, Ok, Some, false, true, IfOk, OnOk, OnErr, map};
 ghost use Rattle.std.specs.Io.KnownBytes.{Appends};
+ghost use Rattle.event_json.specs.Untraced.{text_untraced};
+ghost use Rattle.event_json.specs.declared.documents.Doc.{Doc};
+ghost use Rattle.event_json.specs.declared.untraced.Untraced.{Untraced};
 ghost use Rattle.recall_text.specs.Writing.{AppendsBeginning};
 ghost use Rattle.site_core.specs.Records.{Record};
-ghost use Rattle.folder_commands.specs.Captures.{CapturesAll, ComesTo, EndsEarly, IsOfCapture, ReadsFile, ReadsFiles, Takes, TakesOne, TakesSome, TakesThose, came_line, came_of, came_words, document_of, is_blank, none_yet, of_lines, standing};
+ghost use Rattle.site_core.specs.Steps.{IsReadAs};
+ghost use Rattle.folder_commands.specs.Captures.{CapturesAll, ComesTo, EndsEarly, IsOfCapture, ReadsFile, ReadsFiles, Takes, TakesOne, TakesSome, TakesThose, came_of, document_of, is_blank, no_counts, of_lines, standing};
+ghost use Rattle.folder_commands.specs.Untold.{PassesOver};
 
-use crate::answers::Answer;
-use crate::faults::Fault;
 use crate::folders::{Files, open_site, sites_of};
-use crate::totals::Totals;
-use event_json::{Sequence, Sites};
+use crate::outputs::no_site;
+use crate::untold::{none_untraced, untraced_of, with_untraced};
+use event_json::{Sequence, Sites, Untraced};
 use keeper_core::{KeepFault, SiteKeeper};
-use recall_text::telling::refusal_text;
+use recall_outcomes::{DocumentOutcome, Fault, Form, Totals};
 use recall_text::write_text;
-use site_core::{Effects, Refusal, SiteInput};
-use std::alloc::{AllocError, Global};
+use site_core::{Effects, SiteInput};
+use std::alloc::Global;
 use std::io::Write;
-
-/// What came of a document.
-#[derive(Debug, Drop)]
-pub(crate) enum Came {
-    /// It was captured: so many of its events are new, were captured before, and are of a type that isn't traced.
-    Captured {
-        fresh: u64,
-        known: u64,
-        skipped: u64,
-    },
-    /// It was refused, and nothing changed.
-    Refused(Refusal),
-}
 
 /// Which documents are captured: those of these files, in order, each of which is one, or has one in each line.
 #[derive(Debug, Drop)]
@@ -40,20 +31,37 @@ pub struct Documents<'a> {
     pub by_lines: bool,
 }
 
-/// A document, and what its answer names.
+/// What captures of several documents came to.
+#[derive(Clone, Copy, Debug, PartialEq, Eq)]
+pub struct CaptureSummary {
+    /// The status of a program that ends so: 0, or 1 where a document or the site was refused.
+    pub status: u8,
+    /// What the documents that were captured say and isn't traced, added up. Each count is at most 2^64 - 1, and stays
+    /// there.
+    pub untraced: Untraced,
+}
+
+/// A document, and what its line names.
 #[derive(Debug, Drop)]
 struct Given {
     source: String,
     bytes: Vec<u8>,
 }
 
-/// Captures documents at a site of a folder, whose file is opened once. Each document is a step of its own, and its answer
-/// is written once it is kept, with its source behind it; then a line of totals. What is returned is the status of a
-/// program that ends so: 0, or 1 where a document or the site was refused. A document that is refused hinders no other.
+/// What the documents so far came to, and what was passed over.
+#[derive(Clone, Copy, Debug)]
+struct Counts {
+    totals: Totals,
+    untraced: Untraced,
+}
+
+/// Captures documents at a site of a folder, whose file is opened once. Each document is a step of its own, and its line
+/// is written once it is kept, in this form, with its source; then a line of totals. A document that is refused hinders no
+/// other.
 ///
 /// # Errors
 /// Those of the folder's list, those of opening the site's file, `Read` where a document can't be read, those of a step,
-/// and `Write` where an answer can't be written. The documents whose lines were written stay captured. After `NoMemory`,
+/// and `Write` where a line can't be written. The documents whose lines were written stay captured. After `NoMemory`,
 /// `Write`, `Device` or `Store` the one behind them may be kept, too: captured again, its events that have an eventID are
 /// known then, and those without one are captured twice.
 pub fn capture_documents<K: SiteKeeper, F: Files<K>, W: Write>(
@@ -62,27 +70,35 @@ pub fn capture_documents<K: SiteKeeper, F: Files<K>, W: Write>(
     folder: &str,
     site: &str,
     documents: &Documents<'_>,
+    form: Form,
     output: &mut W,
-) -> Result<u8, Fault>
-    ensures all { IfOk result (CapturesAll F.reads F.lines F.opens F.closes K.shown K.stored folder.now site.now
+) -> Result<CaptureSummary, Fault>
+    ensures all { IfOk result (CapturesAll F.reads F.lines F.opens F.closes K.shown K.stored form folder.now site.now
         documents.now.by_lines (map (λ p. p.now) documents.now.paths.now) files.old files.new
         (W.contents output.old) (W.contents output.new)) }
-    ensures early { OnErr result (EndsEarly F.reads F.opens F.closes K.shown K.stored folder.now site.now files.old
+    ensures early { OnErr result (EndsEarly F.reads F.opens F.closes K.shown K.stored form folder.now site.now files.old
         (W.contents output.old) (W.contents output.new)) }
 {
     let sites = sites_of(alloc, files, folder)?;
     let Some(number) = sites.find(site) else {
-        let refusal = Answer::no_site(alloc, site)?;
-        write_line(output, refusal.text())?;
-        return Ok(refusal.status());
+        let refusal = no_site(alloc, site)?;
+        let lines = refusal.lines(alloc, form, &sites)?;
+        write_lines(output, lines.as_str())?;
+        return Ok(CaptureSummary {
+            status: refusal.status(),
+            untraced: none_untraced(),
+        });
     };
     let mut keeper = open_site(alloc, files, folder, &sites, number)?;
-    let totals = take_all(alloc, files, &sites, &mut keeper, documents, output);
+    let counts = take_all(alloc, files, &sites, &mut keeper, documents, form, output);
     files.close_site(keeper);
-    let totals = totals?;
-    let line = totals.line(alloc)?;
-    write_line(output, line.as_str())?;
-    Ok(totals.status())
+    let Counts { totals, untraced } = counts?;
+    let line = totals.line(alloc, form)?;
+    write_lines(output, line.as_str())?;
+    Ok(CaptureSummary {
+        status: totals.status(),
+        untraced,
+    })
 }
 
 /// Captures the documents of all files, in order.
@@ -92,31 +108,36 @@ fn take_all<K: SiteKeeper, F: Files<K>, W: Write>(
     sites: &Sites,
     keeper: &mut K,
     documents: &Documents<'_>,
+    form: Form,
     output: &mut W,
-) -> Result<Totals, Fault>
+) -> Result<Counts, Fault>
     ensures taken { (old : Record) → K.shown keeper.old ≡ Some old
-        → IfOk result (λ totals. (new : Record) × (K.shown keeper.new ≡ Some new)
+        → IfOk result (λ counts. (new : Record) × (K.shown keeper.new ≡ Some new)
         × TakesThose (λ ds. ReadsFiles F.reads F.lines documents.now.by_lines files.old
-        (map (λ p. p.now) documents.now.paths.now) ds files.new) sites.now
-        (standing old (W.contents output.old) none_yet) (standing new (W.contents output.new) totals)) }
+        (map (λ p. p.now) documents.now.paths.now) ds files.new) form sites.now
+        (standing old (W.contents output.old) no_counts) (standing new (W.contents output.new) counts)) }
     ensures early { (old : Record) → K.shown keeper.old ≡ Some old
-        → OnErr result (TakesSome sites.now (standing old (W.contents output.old) none_yet) (W.contents output.new)) }
+        → OnErr result (TakesSome form sites.now (standing old (W.contents output.old) no_counts) (W.contents output.new)) }
     ensures stored { K.stored keeper.old → K.stored keeper.new }
 {
-    let mut totals = Totals::new();
+    let mut counts = Counts {
+        totals: Totals::new(),
+        untraced: none_untraced(),
+    };
     for path in documents.paths {
-        totals = take_file(
+        counts = take_file(
             alloc,
             files,
             sites,
             keeper,
             documents.by_lines,
             path,
-            totals,
+            counts,
+            form,
             output,
         )?;
     }
-    Ok(totals)
+    Ok(counts)
 }
 
 /// Captures the documents of a file: itself, or those of its lines.
@@ -127,21 +148,22 @@ fn take_file<K: SiteKeeper, F: Files<K>, W: Write>(
     keeper: &mut K,
     by_lines: bool,
     path: &str,
-    totals: Totals,
+    counts: Counts,
+    form: Form,
     output: &mut W,
-) -> Result<Totals, Fault>
+) -> Result<Counts, Fault>
     ensures taken { (old : Record) → K.shown keeper.old ≡ Some old
         → IfOk result (λ after. (new : Record) × (K.shown keeper.new ≡ Some new)
-        × TakesThose (λ ds. ReadsFile F.reads F.lines by_lines files.old path.now ds files.new) sites.now
-        (standing old (W.contents output.old) totals) (standing new (W.contents output.new) after)) }
+        × TakesThose (λ ds. ReadsFile F.reads F.lines by_lines files.old path.now ds files.new) form sites.now
+        (standing old (W.contents output.old) counts) (standing new (W.contents output.new) after)) }
     ensures early { (old : Record) → K.shown keeper.old ≡ Some old
-        → OnErr result (TakesSome sites.now (standing old (W.contents output.old) totals) (W.contents output.new)) }
+        → OnErr result (TakesSome form sites.now (standing old (W.contents output.old) counts) (W.contents output.new)) }
     ensures stored { K.stored keeper.old → K.stored keeper.new }
 {
     if by_lines {
-        take_lines(alloc, files, sites, keeper, path, totals, output)
+        take_lines(alloc, files, sites, keeper, path, counts, form, output)
     } else {
-        take_whole(alloc, files, sites, keeper, path, totals, output)
+        take_whole(alloc, files, sites, keeper, path, counts, form, output)
     }
 }
 
@@ -152,15 +174,16 @@ fn take_whole<K: SiteKeeper, F: Files<K>, W: Write>(
     sites: &Sites,
     keeper: &mut K,
     path: &str,
-    totals: Totals,
+    counts: Counts,
+    form: Form,
     output: &mut W,
-) -> Result<Totals, Fault>
+) -> Result<Counts, Fault>
     ensures taken { (old : Record) → K.shown keeper.old ≡ Some old
         → IfOk result (λ after. (new : Record) × (K.shown keeper.new ≡ Some new)
-        × TakesThose (λ ds. ReadsFile F.reads F.lines false files.old path.now ds files.new) sites.now
-        (standing old (W.contents output.old) totals) (standing new (W.contents output.new) after)) }
+        × TakesThose (λ ds. ReadsFile F.reads F.lines false files.old path.now ds files.new) form sites.now
+        (standing old (W.contents output.old) counts) (standing new (W.contents output.new) after)) }
     ensures early { (old : Record) → K.shown keeper.old ≡ Some old
-        → OnErr result (TakesSome sites.now (standing old (W.contents output.old) totals) (W.contents output.new)) }
+        → OnErr result (TakesSome form sites.now (standing old (W.contents output.old) counts) (W.contents output.new)) }
     ensures stored { K.stored keeper.old → K.stored keeper.new }
 {
     let bytes = files.read(alloc, path)?;
@@ -170,7 +193,8 @@ fn take_whole<K: SiteKeeper, F: Files<K>, W: Write>(
         sites,
         keeper,
         Given { source, bytes },
-        totals,
+        counts,
+        form,
         output,
     )
 }
@@ -182,23 +206,26 @@ fn take_lines<K: SiteKeeper, F: Files<K>, W: Write>(
     sites: &Sites,
     keeper: &mut K,
     path: &str,
-    totals: Totals,
+    counts: Counts,
+    form: Form,
     output: &mut W,
-) -> Result<Totals, Fault>
+) -> Result<Counts, Fault>
     ensures taken { (old : Record) → K.shown keeper.old ≡ Some old
         → IfOk result (λ after. (new : Record) × (K.shown keeper.new ≡ Some new)
-        × TakesThose (λ ds. ReadsFile F.reads F.lines true files.old path.now ds files.new) sites.now
-        (standing old (W.contents output.old) totals) (standing new (W.contents output.new) after)) }
+        × TakesThose (λ ds. ReadsFile F.reads F.lines true files.old path.now ds files.new) form sites.now
+        (standing old (W.contents output.old) counts) (standing new (W.contents output.new) after)) }
     ensures early { (old : Record) → K.shown keeper.old ≡ Some old
-        → OnErr result (TakesSome sites.now (standing old (W.contents output.old) totals) (W.contents output.new)) }
+        → OnErr result (TakesSome form sites.now (standing old (W.contents output.old) counts) (W.contents output.new)) }
     ensures stored { K.stored keeper.old → K.stored keeper.new }
 {
-    let mut totals = totals;
+    let mut counts = counts;
     for number in 1..u64::MAX {
         let Some(bytes) = files.read_line(alloc, path)? else {
-            return Ok(totals);
+            return Ok(counts);
         };
-        totals = take_line(alloc, sites, keeper, path, number, bytes, totals, output)?;
+        counts = take_line(
+            alloc, sites, keeper, path, number, bytes, counts, form, output,
+        )?;
     }
     // No file has as many lines.
     Err(Fault::Read)
@@ -212,19 +239,20 @@ fn take_line<K: SiteKeeper, W: Write>(
     path: &str,
     number: u64,
     bytes: Vec<u8>,
-    totals: Totals,
+    counts: Counts,
+    form: Form,
     output: &mut W,
-) -> Result<Totals, Fault>
+) -> Result<Counts, Fault>
     ensures taken { (old : Record) → K.shown keeper.old ≡ Some old
         → IfOk result (λ after. (new : Record) × (K.shown keeper.new ≡ Some new)
-        × Takes sites.now (standing old (W.contents output.old) totals)
+        × Takes form sites.now (standing old (W.contents output.old) counts)
         (of_lines path.now number (bytes.items ∷ [])) (standing new (W.contents output.new) after)) }
     ensures early { (old : Record) → K.shown keeper.old ≡ Some old
-        → OnErr result (TakesSome sites.now (standing old (W.contents output.old) totals) (W.contents output.new)) }
+        → OnErr result (TakesSome form sites.now (standing old (W.contents output.old) counts) (W.contents output.new)) }
     ensures stored { K.stored keeper.old → K.stored keeper.new }
 {
     if is_blank(bytes.as_slice()) {
-        return Ok(totals);
+        return Ok(counts);
     }
     let source = format!(in alloc; "{path}:{number}")?;
     take(
@@ -232,7 +260,8 @@ fn take_line<K: SiteKeeper, W: Write>(
         sites,
         keeper,
         Given { source, bytes },
-        totals,
+        counts,
+        form,
         output,
     )
 }
@@ -245,39 +274,55 @@ fn is_blank(line: &[u8]) -> bool
         .all(|code| *code == b' ' || *code == b'\t' || *code == b'\r')
 }
 
-/// Captures a document, writes its answer, and counts it.
+/// Captures a document, writes its line, and counts it.
 fn take<K: SiteKeeper, W: Write>(
     alloc: Global,
     sites: &Sites,
     keeper: &mut K,
     given: Given,
-    totals: Totals,
+    counts: Counts,
+    form: Form,
     output: &mut W,
-) -> Result<Totals, Fault>
+) -> Result<Counts, Fault>
     ensures taken { (old : Record) → K.shown keeper.old ≡ Some old
         → IfOk result (λ after. (new : Record) × (K.shown keeper.new ≡ Some new)
-        × TakesOne sites.now
-        (standing old (W.contents output.old) totals) (document_of given) (standing new (W.contents output.new) after)) }
+        × TakesOne form sites.now
+        (standing old (W.contents output.old) counts) (document_of given) (standing new (W.contents output.new) after)) }
     ensures early { (old : Record) → K.shown keeper.old ≡ Some old
-        → OnErr result (TakesSome sites.now (standing old (W.contents output.old) totals) (W.contents output.new)) }
+        → OnErr result (TakesSome form sites.now (standing old (W.contents output.old) counts) (W.contents output.new)) }
     ensures stored { K.stored keeper.old → K.stored keeper.new }
 {
-    let came = captured(keeper, given.bytes)?;
-    let line = came_line(alloc, sites, given.source.as_str(), &came)?;
-    write_line(output, line.as_str())?;
-    Ok(totals.with(&came))
+    let Counts { totals, untraced } = counts;
+    let (came, untraced) = captured(alloc, keeper, given.bytes, untraced)?;
+    let line = came.line(alloc, form, sites, given.source.as_str())?;
+    write_lines(output, line.as_str())?;
+    Ok(Counts {
+        totals: totals.with(&came),
+        untraced,
+    })
 }
 
-/// What comes of a document at a site.
-fn captured<K: SiteKeeper>(keeper: &mut K, document: Vec<u8>) -> Result<Came, Fault>
+/// What comes of a document at a site, and what was passed over then.
+fn captured<K: SiteKeeper>(
+    alloc: Global,
+    keeper: &mut K,
+    document: Vec<u8>,
+    passed: Untraced,
+) -> Result<(DocumentOutcome, Untraced), Fault>
     ensures came { (old : Record) → K.shown keeper.old ≡ Some old
-        → IfOk result (λ came. (new : Record) × (K.shown keeper.new ≡ Some new)
-        × ComesTo old document.items came new) }
+        → IfOk result (λ r. (new : Record) × (K.shown keeper.new ≡ Some new)
+        × ComesTo old document.items r.0 new × PassesOver old.sites document.items r.0 passed r.1) }
     ensures stored { K.stored keeper.old → K.stored keeper.new }
 {
+    let untraced = untraced_at(alloc, keeper, document.as_slice())?;
     match keeper.apply(SiteInput::Capture(Sequence::from_vec(document))) {
-        Ok(effects) => Ok(came_of(effects)),
-        Err(KeepFault::Refused(why)) => Ok(Came::Refused(why)),
+        Ok(effects) => {
+            let Some(untraced) = untraced else {
+                unreachable!()
+            };
+            Ok((came_of(effects), with_untraced(passed, untraced)))
+        }
+        Err(KeepFault::Refused(why)) => Ok((DocumentOutcome::Refused(why), passed)),
         Err(KeepFault::NoMemory) => Err(Fault::NoMemory),
         Err(KeepFault::Device) => Err(Fault::Device),
         Err(KeepFault::Store) => Err(Fault::Store),
@@ -285,8 +330,24 @@ fn captured<K: SiteKeeper>(keeper: &mut K, document: Vec<u8>) -> Result<Came, Fa
     }
 }
 
+/// What a document says that isn't traced by the sites of the record that a keeper shows; `None` where it is refused as a
+/// document.
+fn untraced_at<K: SiteKeeper>(
+    alloc: Global,
+    keeper: &K,
+    document: &[u8],
+) -> Result<Option<Untraced>, Fault>
+    ensures { (old : Record) → K.shown keeper.now ≡ Some old → (doc : Doc) → IsReadAs old.sites document.now (Ok doc)
+        → IfOk result (λ found. (untraced : Untraced) × (found ≡ Some untraced) × (text_untraced old.sites document.now ≡ Ok untraced)) }
+{
+    match keeper.view() {
+        Some(state) => untraced_of(alloc, document, state.sites()),
+        None => Err(Fault::Closed),
+    }
+}
+
 /// What the effects of a capture are. A capture has no others.
-fn came_of(effects: Effects) -> Came
+fn came_of(effects: Effects) -> DocumentOutcome
     requires { IsOfCapture effects }
     ensures { came_of effects ≡ Some result }
 {
@@ -295,7 +356,7 @@ fn came_of(effects: Effects) -> Came
             fresh,
             known,
             skipped,
-        } => Came::Captured {
+        } => DocumentOutcome::Captured {
             fresh,
             known,
             skipped,
@@ -304,46 +365,12 @@ fn came_of(effects: Effects) -> Came
     }
 }
 
-/// The line that answers a document.
-fn came_line(alloc: Global, sites: &Sites, source: &str, came: &Came) -> Result<String, AllocError>
-    ensures { IfOk result (λ t. string_bytes t ≡ came_line sites.now source.now came.now) }
+/// Writes whole lines.
+fn write_lines<W: Write>(output: &mut W, lines: &str) -> Result<(), Fault>
+    ensures ok { OnOk result (Appends (W.contents output.old) (W.contents output.new) lines.now) }
+    ensures err { OnErr result (AppendsBeginning (W.contents output.old) (W.contents output.new) lines.now) }
 {
-    let mut line = came_words(alloc, sites, came)?;
-    line.push_str(" ")?;
-    line.push_str(source)?;
-    line.push_str("\n")?;
-    Ok(line)
-}
-
-/// The words of that line, as they stand in the answer to a single document.
-fn came_words(alloc: Global, sites: &Sites, came: &Came) -> Result<String, AllocError>
-    ensures { IfOk result (λ t. string_bytes t ≡ came_words sites.now came.now) }
-{
-    match came {
-        Came::Captured {
-            fresh,
-            known,
-            skipped,
-        } => {
-            let mut words = format!(in alloc; "captured {fresh} known {known}")?;
-            let rest = format!(in alloc; " skipped {skipped}")?;
-            words.push_str(rest.as_str())?;
-            Ok(words)
-        }
-        Came::Refused(why) => {
-            let what = refusal_text(alloc, sites, why)?;
-            let what = what.as_str();
-            format!(in alloc; "refused {what}")
-        }
-    }
-}
-
-/// Writes a line that ends an answer.
-fn write_line<W: Write>(output: &mut W, line: &str) -> Result<(), Fault>
-    ensures ok { OnOk result (Appends (W.contents output.old) (W.contents output.new) line.now) }
-    ensures err { OnErr result (AppendsBeginning (W.contents output.old) (W.contents output.new) line.now) }
-{
-    match write_text(output, line.as_bytes()) {
+    match write_text(output, lines.as_bytes()) {
         Ok(()) => Ok(()),
         Err(_) => Err(Fault::Write),
     }

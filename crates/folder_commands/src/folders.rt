@@ -7,19 +7,20 @@ ghost use Rattle.site_recovery.specs.Checking.{records_at};
 ghost use Rattle.folder_commands.specs.Calls.{AreShown, ClosesAll, ListsSites, OpensFrom, OpensSite, ShowsSite};
 ghost use Rattle.folder_commands.specs.Folders.{file_path, list_path};
 
-use crate::faults::Fault;
 use event_json::laws::equal_is_same;
 use event_json::{SiteNo, Sites};
 use keeper_core::SiteKeeper;
+use recall_outcomes::{Failure, Fault};
 use recall_text::read_sites;
 use recall_text::telling::name_of;
 use site_core::SiteState;
 use std::alloc::{AllocError, Global};
 
 /// The files that the commands read, make and change. What stands behind a path no contract says: each call that
-/// succeeds is stated by a relation of the kind of files, so that contracts say which calls led to an answer.
+/// succeeds is stated by a relation of the kind of files, so that contracts say which calls led to an outcome.
 pub trait Files<K: SiteKeeper> {
     ghost use Rattle.std.specs.Prelude.{List, ℕ, Bool, Option, IfOk, OnOk, option_map};
+    ghost use Rattle.recall_outcomes.specs.declared.faults.Failure.{Failure};
     ghost use Rattle.site_core.specs.Records.{Record};
 
     /// From these files, the file of this path was read with these bytes, to those files.
@@ -45,6 +46,9 @@ pub trait Files<K: SiteKeeper> {
 
     /// Of the file of a site at this path, which is closed, these files know this: whole lines, or nothing.
     ghost knows: { Self → List ℕ → List ℕ → Type 0 };
+
+    /// The last failure that these files know of is this one, or they know of none.
+    ghost fails: { Self → Option Failure → Type 0 };
 
     /// The bytes of a file. `Read` where it is missing or can't be read.
     fn read(&mut self, alloc: Global, path: &str) -> Result<Vec<u8>, Fault>
@@ -83,6 +87,11 @@ pub trait Files<K: SiteKeeper> {
 
     /// Is told which file a fault is about that no call of the files returned, before that fault is reported.
     fn blame(&mut self, _path: &str) {}
+
+    /// The last failure that the files know of: which file a call failed on or a fault is about, and what is known of
+    /// the cause.
+    fn failure(&self) -> Option<&Failure>
+        ensures { fails self.now (option_map (λ failure. failure.now) result) };
 }
 
 /// The path of a folder's list of sites.
@@ -116,7 +125,7 @@ pub(crate) fn sites_of<K: SiteKeeper, F: Files<K>>(
     let path = list_path(alloc, folder)?;
     let text = files.read(alloc, path.as_str())?;
     let list = read_sites(alloc, text.as_slice())?;
-    if list.refusals.as_str().is_empty() && list.sites.ready() {
+    if list.refused.as_slice().is_empty() && list.sites.ready() {
         Ok(list.sites)
     } else {
         files.blame(path.as_str());

@@ -1,17 +1,20 @@
 //! `init`: a file for each site of a list.
 
-ghost use Rattle.std.specs.Prelude.{◌≡◌, ◌++◌, Bool, List, IfOk, OnOk, length, string_bytes};
+ghost use Rattle.std.specs.Prelude.{◌≡◌, ◌++◌, Bool, List, IfOk, OnOk, length, map};
+ghost use Rattle.std.specs.List.{AllZip};
+ghost use Rattle.recall_outcomes.specs.declared.outcomes.CommandRefusal.{CommandRefusal};
+ghost use Rattle.recall_outcomes.specs.declared.outcomes.CommandRefusal.TheVariants.{Line};
 ghost use Rattle.recall_text.specs.Words.{name_at};
-ghost use Rattle.folder_commands.specs.Answers.{IsAnswer};
-ghost use Rattle.folder_commands.specs.Making.{InitsAt, LooksForList, LooksFrom, MakesAll, MakesFrom, MakesListed, exists_line, exists_lines, few_line, line_where};
+ghost use Rattle.folder_commands.specs.Making.{InitsAt, LooksForList, LooksFrom, MakesAll, MakesFrom, MakesListed, existing, name_where, too_few};
+ghost use Rattle.folder_commands.specs.Refusals.{IsExists};
 
-use crate::answers::Answer;
-use crate::faults::Fault;
 use crate::folders::{Files, file_path, list_path};
+use crate::outputs::Output;
 use event_json::{SiteNo, Sites};
 use keeper_core::SiteKeeper;
+use recall_outcomes::{CommandRefusal, Fault, Outcome};
 use recall_text::telling::name_of;
-use recall_text::{SiteList, read_sites};
+use recall_text::{RefusedLine, SiteList, read_sites};
 use site_core::SiteState;
 use std::alloc::{AllocError, Global};
 use std::hash::RandomState;
@@ -29,13 +32,17 @@ pub fn init<K: SiteKeeper, F: Files<K>>(
     files: &mut F,
     folder: &str,
     list: &str,
-) -> Result<Answer, Fault>
+) -> Result<Output, Fault>
     ensures calls { IfOk result (InitsAt F.reads F.finds F.makes F.writes folder.now list.now files.old files.new) }
-    ensures sound { IfOk result IsAnswer }
 {
     let text = files.read(alloc, list)?;
     let list = read_sites(alloc, text.as_slice())?;
-    make_listed(alloc, keys, files, folder, text.as_slice(), &list)
+    let outcome = make_listed(alloc, keys, files, folder, text.as_slice(), &list)?;
+    Ok(Output {
+        sites: list.sites,
+        outcome,
+        notes: None,
+    })
 }
 
 /// Makes the files of the sites that a text lists, where nothing is refused.
@@ -46,28 +53,39 @@ fn make_listed<K: SiteKeeper, F: Files<K>>(
     folder: &str,
     text: &[u8],
     list: &SiteList,
-) -> Result<Answer, Fault>
+) -> Result<Outcome, Fault>
     ensures { IfOk result (MakesListed F.reads F.finds F.makes F.writes folder.now list.now text.now files.old files.new) }
 {
     let sites = &list.sites;
-    let mut refusals = String::from_str(alloc, list.refusals.as_str())?;
+    let mut refusals = Vec::new(alloc);
+    push_lines(list.refused.as_slice(), &mut refusals)?;
     push_few(sites, &mut refusals)?;
     push_existing(alloc, files, folder, sites, &mut refusals)?;
     push_list(alloc, files, folder, &mut refusals)?;
-    if refusals.as_str().is_empty() {
+    if refusals.is_empty() {
         make_folder(alloc, keys, files, folder, text, sites)?;
-        Ok(Answer::Done(String::new(alloc)))
+        Ok(Outcome::Created)
     } else {
-        Ok(Answer::Refused(refusals))
+        Ok(Outcome::Refused(refusals))
     }
 }
 
+/// Adds the lines that are refused.
+fn push_lines(lines: &[RefusedLine], refusals: &mut Vec<CommandRefusal>) -> Result<(), AllocError>
+    ensures { OnOk result (refusals.new.items ≡ refusals.old.items ++ map Line lines.now) }
+{
+    for line in lines {
+        refusals.push(CommandRefusal::Line(*line))?;
+    }
+    Ok(())
+}
+
 /// Adds the refusal of too few sites.
-fn push_few(sites: &Sites, refusals: &mut String) -> Result<(), AllocError>
-    ensures { OnOk result (string_bytes refusals.new ≡ string_bytes refusals.old ++ few_line sites.now) }
+fn push_few(sites: &Sites, refusals: &mut Vec<CommandRefusal>) -> Result<(), AllocError>
+    ensures { OnOk result (refusals.new.items ≡ refusals.old.items ++ too_few sites.now) }
 {
     if !sites.ready() {
-        refusals.push_str("refused NoWorld\n")?;
+        refusals.push(CommandRefusal::NoWorld)?;
     }
     Ok(())
 }
@@ -78,10 +96,11 @@ fn push_existing<K: SiteKeeper, F: Files<K>>(
     files: &mut F,
     folder: &str,
     sites: &Sites,
-    refusals: &mut String,
+    refusals: &mut Vec<CommandRefusal>,
 ) -> Result<(), Fault>
     ensures { OnOk result ((found : List Bool) × LooksFrom F.finds folder.now sites.now 0 files.old files.new found
-        × (length found ≡ length sites.now) × (string_bytes refusals.new ≡ string_bytes refusals.old ++ exists_lines sites.now 0 found)) }
+        × (length found ≡ length sites.now) × (more : List CommandRefusal) × AllZip IsExists (existing sites.now 0 found) more
+        × (refusals.new.items ≡ refusals.old.items ++ more)) }
 {
     for number in 0..sites.len() {
         let Some(site) = SiteNo::of(number) else {
@@ -98,9 +117,9 @@ fn push_list<K: SiteKeeper, F: Files<K>>(
     alloc: Global,
     files: &mut F,
     folder: &str,
-    refusals: &mut String,
+    refusals: &mut Vec<CommandRefusal>,
 ) -> Result<(), Fault>
-    ensures { OnOk result (LooksForList F.finds folder.now (string_bytes refusals.old) files.old files.new (string_bytes refusals.new)) }
+    ensures { OnOk result (LooksForList F.finds folder.now refusals.old.items files.old files.new refusals.new.items) }
 {
     if refusals.is_empty() {
         let path = list_path(alloc, folder)?;
@@ -115,23 +134,16 @@ fn push_where<K: SiteKeeper, F: Files<K>>(
     files: &mut F,
     path: &str,
     name: &str,
-    refusals: &mut String,
+    refusals: &mut Vec<CommandRefusal>,
 ) -> Result<(), Fault>
     ensures { OnOk result ((found : Bool) × F.finds files.old path.now found files.new
-        × (string_bytes refusals.new ≡ string_bytes refusals.old ++ line_where found name.now)) }
+        × (more : List CommandRefusal) × AllZip IsExists (name_where found name.now) more × (refusals.new.items ≡ refusals.old.items ++ more)) }
 {
     if files.exists(path)? {
-        push_exists(alloc, name, refusals)?;
+        let name = String::from_str(alloc, name)?;
+        refusals.push(CommandRefusal::Exists(name))?;
     }
     Ok(())
-}
-
-/// Adds the refusal of a file that exists.
-fn push_exists(alloc: Global, name: &str, refusals: &mut String) -> Result<(), AllocError>
-    ensures { OnOk result (string_bytes refusals.new ≡ string_bytes refusals.old ++ exists_line name.now) }
-{
-    let line = format!(in alloc; "refused Exists {name}\n")?;
-    refusals.push_str(line.as_str())
 }
 
 /// Makes the files of all sites, and then the folder's list.

@@ -4,10 +4,10 @@ ghost use Rattle.std.specs.Prelude.{◌≡◌, ◌++◌, IfOk, OnOk, map, not, s
 ghost use Rattle.std.specs.List.{list_any};
 ghost use Rattle.folder_commands.specs.Notes.{AreNotes, AreOfSites, TellsNotes, TellsStops, cause_of, cause_word, open_note, shared_note, stop_at, stop_line, stops_from, times_text};
 
-use crate::audits::StartedRecall;
 use crate::folders::{Files, file_path};
 use event_json::{SiteNo, Sites};
 use keeper_core::SiteKeeper;
+use recall_outcomes::StartedRecall;
 use recall_text::telling::name_of;
 use site_threads::RunLog;
 use std::alloc::{AllocError, Global};

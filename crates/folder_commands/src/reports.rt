@@ -1,25 +1,24 @@
 //! `report`: what is quarantined under a recall, how it came there, and what left the traced sites.
 
-ghost use Rattle.std.specs.Prelude.{◌≡◌, ◌++◌, List, IfOk, IfErr, OnOk, string_bytes};
+ghost use Rattle.std.specs.Prelude.{◌≡◌, List, IfOk, IfErr};
+ghost use Rattle.recall_text.specs.Numbers.{recall_of};
 ghost use Rattle.site_core.specs.Records.{Record};
 ghost use Rattle.site_recovery.specs.Checking.{records_at};
 ghost use Rattle.site_recovery.specs.FittingAt.{AreAllSites};
-ghost use Rattle.folder_commands.specs.Answers.{IsAnswer};
-ghost use Rattle.folder_commands.specs.Calls.{AreShown, ReportsAt};
-ghost use Rattle.folder_commands.specs.Reports.{AnswersReport, head_text, outside_text, outsides_text, pairs_text, report_text, step_text, total_text, trail_text};
+ghost use Rattle.folder_commands.specs.Calls.{AreShown, ReportsAt, ReportsBy, TellsAll};
+ghost use Rattle.folder_commands.specs.Reports.{AnswersReport};
 
-use crate::answers::Answer;
-use crate::faults::Fault;
 use crate::folders::{Files, close_all, open_all, records_of, sites_of};
-use event_json::{Sequence, Sites};
+use crate::outputs::{Output, no_site, refusal};
+use event_json::Sites;
 use frame_core::RecallId;
 use keeper_core::SiteKeeper;
-use recall_text::telling::{ended_word, name_of, push_pair, recall_of, recall_text};
-use report_core::{OutsideShipment, RecallReport, ReportFault, report};
+use recall_outcomes::{CommandRefusal, Fault, Outcome};
+use recall_text::telling::recall_of;
+use report_core::{ReportFault, report};
 use site_core::SiteState;
 use site_recovery::are_all_sites;
-use std::alloc::{AllocError, Global};
-use trace_core::Pair;
+use std::alloc::Global;
 
 /// Reports a recall from the files of all sites of a folder.
 ///
@@ -31,184 +30,80 @@ pub fn report_recall<K: SiteKeeper, F: Files<K>>(
     files: &mut F,
     folder: &str,
     recall: &str,
-) -> Result<Answer, Fault>
+) -> Result<Output, Fault>
     ensures calls { IfOk result (ReportsAt F.reads F.opens F.closes K.shown K.stored folder.now recall.now files.old files.new) }
-    ensures sound { IfOk result IsAnswer }
 {
     let sites = sites_of(alloc, files, folder)?;
+    let outcome = report_in(alloc, files, folder, &sites, recall)?;
+    Ok(Output {
+        sites,
+        outcome,
+        notes: None,
+    })
+}
+
+/// Reports the recall that a text names.
+fn report_in<K: SiteKeeper, F: Files<K>>(
+    alloc: Global,
+    files: &mut F,
+    folder: &str,
+    sites: &Sites,
+    recall: &str,
+) -> Result<Outcome, Fault>
+    ensures { IfOk result (ReportsBy F.reads F.opens F.closes K.shown K.stored folder.now sites.now (recall_of recall.now) files.old files.new) }
+{
     let Some((name, number)) = recall_of(recall) else {
-        return Ok(Answer::refusal(alloc, "BadLine")?);
+        return Ok(refusal(alloc, CommandRefusal::BadRecall)?);
     };
     let Some(site) = sites.find(name) else {
-        return Ok(Answer::no_site(alloc, name)?);
+        return Ok(no_site(alloc, name)?);
     };
-    let keepers = open_all(alloc, files, folder, &sites)?;
-    let answer = report_at(alloc, &sites, keepers.as_slice(), RecallId { site, number });
+    report_all(alloc, files, folder, sites, RecallId { site, number })
+}
+
+/// Reports a recall from the files of all sites.
+fn report_all<K: SiteKeeper, F: Files<K>>(
+    alloc: Global,
+    files: &mut F,
+    folder: &str,
+    sites: &Sites,
+    recall: RecallId,
+) -> Result<Outcome, Fault>
+    ensures { IfOk result (TellsAll F.opens F.closes K.shown K.stored folder.now sites.now (λ rs o. AnswersReport rs recall o) files.old files.new) }
+{
+    let keepers = open_all(alloc, files, folder, sites)?;
+    let outcome = report_at(alloc, keepers.as_slice(), recall);
     close_all(files, keepers);
-    answer
+    outcome
 }
 
 /// Reports a recall from the records that keepers show.
 fn report_at<K: SiteKeeper>(
     alloc: Global,
-    sites: &Sites,
     keepers: &[K],
     recall: RecallId,
-) -> Result<Answer, Fault>
-    ensures answered { (rs : List Record) → AreShown K.shown keepers.now rs → IfOk result (AnswersReport sites.now rs recall) }
-    ensures sound { IfOk result IsAnswer }
+) -> Result<Outcome, Fault>
+    ensures { (rs : List Record) → AreShown K.shown keepers.now rs → IfOk result (AnswersReport rs recall) }
 {
     let records = records_of(alloc, keepers)?;
     if !are_all_sites(records.as_slice()) {
         return Err(Fault::OtherSites);
     }
-    report_of(alloc, sites, records.as_slice(), recall)
+    report_of(alloc, records.as_slice(), recall)
 }
 
 /// Reports a recall from the records of all sites, in the order of their numbers.
 ///
 /// # Errors
 /// `NoMemory` alone.
-pub fn report_of(
-    alloc: Global,
-    sites: &Sites,
-    records: &[&SiteState],
-    recall: RecallId,
-) -> Result<Answer, Fault>
+pub fn report_of(alloc: Global, records: &[&SiteState], recall: RecallId) -> Result<Outcome, Fault>
     requires all { AreAllSites (records_at records.now) }
-    ensures answered { IfOk result (AnswersReport sites.now (records_at records.now) recall) }
+    ensures answered { IfOk result (AnswersReport (records_at records.now) recall) }
     ensures failed { IfErr result (λ fault. fault ≡ Fault.NoMemory) }
-    ensures sound { IfOk result IsAnswer }
 {
     match report(alloc, records, recall) {
-        Ok(found) => Ok(Answer::Done(report_text(alloc, sites, recall, &found)?)),
-        Err(ReportFault::UnknownRecall) => Ok(Answer::refusal(alloc, "UnknownRecall")?),
+        Ok(report) => Ok(Outcome::Reported { recall, report }),
+        Err(ReportFault::UnknownRecall) => Ok(refusal(alloc, CommandRefusal::UnknownRecall)?),
         Err(ReportFault::NoMemory) => Err(Fault::NoMemory),
     }
-}
-
-/// The text of a report.
-fn report_text(
-    alloc: Global,
-    sites: &Sites,
-    recall: RecallId,
-    report: &RecallReport,
-) -> Result<String, AllocError>
-    ensures { IfOk result (λ t. string_bytes t ≡ report_text sites.now recall report.now) }
-{
-    let mut text = head_text(alloc, sites, recall, &report.root, report.ended)?;
-    push_pairs(
-        alloc,
-        &mut text,
-        sites,
-        report.pairs.as_slice(),
-        report.trails.as_slice(),
-    )?;
-    push_outsides(alloc, &mut text, sites, report.outside.as_slice())?;
-    let (pairs, outside) = (report.pairs.len(), report.outside.len());
-    let total = format!(in alloc; "total {pairs} outside {outside}\n")?;
-    text.push_str(total.as_str())?;
-    Ok(text)
-}
-
-/// The line of the recall and its root.
-fn head_text(
-    alloc: Global,
-    sites: &Sites,
-    recall: RecallId,
-    root: &Pair,
-    ended: bool,
-) -> Result<String, AllocError>
-    ensures { IfOk result (λ t. string_bytes t ≡ head_text sites.now recall root.now ended) }
-{
-    let recall = recall_text(alloc, sites, recall)?;
-    let recall = recall.as_str();
-    let key = root.item.key(alloc)?;
-    let word = ended_word(ended);
-    let mut text = format!(in alloc; "recall {recall} root ")?;
-    text.push_str(key.as_str())?;
-    let end = format!(in alloc; " {word}\n")?;
-    text.push_str(end.as_str())?;
-    Ok(text)
-}
-
-/// Adds each pair and the trail to it.
-fn push_pairs(
-    alloc: Global,
-    text: &mut String,
-    sites: &Sites,
-    pairs: &[Pair],
-    trails: &[Option<Sequence<Pair>>],
-) -> Result<(), AllocError>
-    ensures { OnOk result (string_bytes text.new ≡ string_bytes text.old ++ pairs_text sites.now pairs.now trails.now) }
-{
-    for (pair, trail) in pairs.iter().zip(trails) {
-        push_pair(alloc, text, sites, pair)?;
-        if let Some(trail) = trail {
-            push_trail(alloc, text, sites, trail.as_slice())?;
-        }
-    }
-    Ok(())
-}
-
-/// Adds a line for each pair of a trail, with its place on the trail, from 1.
-fn push_trail(
-    alloc: Global,
-    text: &mut String,
-    sites: &Sites,
-    trail: &[Pair],
-) -> Result<(), AllocError>
-    ensures { OnOk result (string_bytes text.new ≡ string_bytes text.old ++ trail_text sites.now trail.now) }
-{
-    for (place, pair) in trail.iter().enumerate() {
-        push_step(alloc, text, sites, place + 1, pair)?;
-    }
-    Ok(())
-}
-
-/// Adds the line of a pair of a trail at a place, from 1.
-fn push_step(
-    alloc: Global,
-    text: &mut String,
-    sites: &Sites,
-    place: usize,
-    pair: &Pair,
-) -> Result<(), AllocError>
-    ensures { OnOk result (string_bytes text.new ≡ string_bytes text.old ++ step_text sites.now (place, pair.now)) }
-{
-    let name = name_of(sites, pair.site);
-    let key = pair.item.key(alloc)?;
-    let line = format!(in alloc; "  {place} {name} {key}\n")?;
-    text.push_str(line.as_str())
-}
-
-/// Adds a line for each shipment out of the traced sites.
-fn push_outsides(
-    alloc: Global,
-    text: &mut String,
-    sites: &Sites,
-    outside: &[OutsideShipment],
-) -> Result<(), AllocError>
-    ensures { OnOk result (string_bytes text.new ≡ string_bytes text.old ++ outsides_text sites.now outside.now) }
-{
-    for shipment in outside {
-        push_outside(alloc, text, sites, shipment)?;
-    }
-    Ok(())
-}
-
-/// Adds the line of a shipment out of the traced sites.
-fn push_outside(
-    alloc: Global,
-    text: &mut String,
-    sites: &Sites,
-    shipment: &OutsideShipment,
-) -> Result<(), AllocError>
-    ensures { OnOk result (string_bytes text.new ≡ string_bytes text.old ++ outside_text sites.now shipment.now) }
-{
-    let name = name_of(sites, shipment.site);
-    let key = shipment.item.key(alloc)?;
-    let destination = shipment.destination.as_str();
-    let line = format!(in alloc; "outside {name} {key} {destination}\n")?;
-    text.push_str(line.as_str())
 }

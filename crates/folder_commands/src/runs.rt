@@ -1,25 +1,21 @@
 //! `run`: all sites of a folder, each in a thread of its own.
 
-ghost use Rattle.std.specs.Prelude.{◌≡◌, ◌≤◌, ◌++◌, None, All, IfErr, IfOk, IsSome, OnOk, length, map, string_bytes};
-ghost use Rattle.std.specs.List.{flat_map};
+ghost use Rattle.std.specs.Prelude.{◌≡◌, ◌≤◌, None, Some, All, IfErr, IfOk, IsSome, length, map};
 ghost use Rattle.site_recovery.specs.Checking.{records_at};
 ghost use Rattle.world_core.specs.Keepers.{AllShow};
 ghost use Rattle.site_threads.specs.Ends.{IsUnused};
 ghost use Rattle.site_threads.specs.Gathering.{KeepersFit};
-ghost use Rattle.folder_commands.specs.Answers.{IsAnswer};
 ghost use Rattle.folder_commands.specs.Faults.{gather_fault};
-ghost use Rattle.folder_commands.specs.Audits.{begun};
 ghost use Rattle.folder_commands.specs.Notes.{AreNotes, AreOfSites, TellsOf};
-ghost use Rattle.folder_commands.specs.Runs.{AnswersRun, FailsRun, RunsAt, TellsCause, TellsRecalls, ran_text};
+ghost use Rattle.folder_commands.specs.Runs.{AnswersRun, FailsRun, RunsAt, TellsCause, TellsRecalls};
 
-use crate::answers::{Answer, Output};
-use crate::audits::{StartedRecall, begun, misfit_text};
-use crate::faults::Fault;
+use crate::audits::begun;
 use crate::folders::{Files, close_all, open_all, sites_of};
 use crate::notes::{RunNotes, failures_of, notes_of, notes_text};
+use crate::outputs::Output;
 use event_json::Sites;
 use keeper_core::SiteKeeper;
-use recall_text::telling::{ended_word, recall_text};
+use recall_outcomes::{Fault, Outcome, StartedRecall};
 use site_core::SiteState;
 use site_threads::{DeskOut, Gate, GatherCause, GatherFault, Gathered, run_world};
 use std::alloc::{AllocError, Global};
@@ -28,21 +24,21 @@ use std::thread::Threads;
 use std::time::Clock;
 use world_core::WorldFault;
 
-/// A run of all sites: what it answers, and its notes, where there was one.
+/// A run of all sites: what it came to, and its notes, where there was one.
 #[derive(Debug, Drop)]
 pub struct Ran {
-    pub answer: Answer,
+    pub outcome: Outcome,
     pub notes: Option<RunNotes>,
 }
 
 /// Runs all sites of a folder, each in a thread of its own, where one can be made, for so many turns: at most
 /// 1,000,000.
 ///
-/// Frames go from site to site, and nothing else is done: each step of a site is that of a frame. Then each recall that
-/// a site began is reported, by site and number: that it has ended, or that it is open. The notes name each site that
+/// Frames go from site to site, and nothing else is done: each step of a site is that of a frame. The outcome has each
+/// recall that a site began, by site and number: whether it has ended, or is open. The notes name each site that
 /// stopped in a step, how often, and why: `Device` where its device failed in the run, else `Store`; behind that they
 /// say what is known of the site's file. They tell where sites shared threads, and where a recall is open that a
-/// further run goes on with it. Where the records aren't consistent, there is no run. Each site has a copy of the gate
+/// further run goes on with it. Where the records aren't consistent, there is no run, and that is the outcome. Each site has a copy of the gate
 /// to its turns.
 ///
 /// # Errors
@@ -56,18 +52,21 @@ pub fn run_sites<
 >(rt: &R, alloc: Global, files: &mut F, gate: G, folder: &str, turns: u64) -> Result<Output, Fault>
     requires turns { turns ≤ 1000000 }
     ensures calls { IfOk result (RunsAt F.reads F.opens F.closes F.knows K.shown K.failed K.stored folder.now turns files.old files.new) }
-    ensures sound { IfOk result (λ o. IsAnswer o.answer) }
 {
     let sites = sites_of(alloc, files, folder)?;
     if sites.len() > 16 {
         return Err(Fault::BadSites);
     }
     let keepers = open_all(alloc, files, folder, &sites)?;
-    let (after, ran) = run_of(rt, alloc, &sites, keepers, gate, turns);
+    let (after, ran) = run_of(rt, alloc, keepers, gate, turns);
     close_all(files, after);
-    let Ran { answer, notes } = ran?;
+    let Ran { outcome, notes } = ran?;
     let notes = told(alloc, files, folder, &sites, &notes)?;
-    Ok(Output { answer, notes })
+    Ok(Output {
+        sites,
+        outcome,
+        notes,
+    })
 }
 
 /// The notes of a run, where there was one.
@@ -87,37 +86,35 @@ fn told<K: SiteKeeper, F: Files<K>>(
 }
 
 /// Runs the sites of these keepers, in the order of their numbers, for so many turns: at most 1,000,000. Each has a copy of
-/// the gate to its turns. The keepers are given back, open where there is an answer.
+/// the gate to its turns. The keepers are given back, open where there is an outcome.
 ///
 /// # Errors
 /// `OtherSites` where the keepers aren't of one list of sites, in order, and `Closed` where one is closed: they are as
 /// they were. `NoMemory`, `SiteLost` where a keeper was closed and an opening of it was refused, and `GaveUp` where a gate
 /// gave up: in whichever records the keepers are open, or may be opened, they are consistent, or nothing has changed.
 ///
-/// What the keepers stored before, they store after it, also where it has no answer.
+/// What the keepers stored before, they store after it, also where it has no outcome.
 pub fn run_of<K: SiteKeeper + Send, G: Gate + Copy + Send, R: Threads + Wait + Clock + Sync>(
     rt: &R,
     alloc: Global,
-    sites: &Sites,
     keepers: Vec<K>,
     gate: G,
     turns: u64,
 ) -> (Vec<K>, Result<Ran, Fault>)
     requires count { (2 ≤ length keepers.items) × (length keepers.items ≤ 16) }
     requires turns { turns ≤ 1000000 }
-    ensures answered { IfOk result.1 (λ ran. AnswersRun K.shown K.failed sites.now turns keepers.items result.0.items ran.answer ran.notes) }
+    ensures answered { IfOk result.1 (λ ran. AnswersRun K.shown K.failed turns keepers.items result.0.items ran.outcome ran.notes) }
     ensures stored { All K.stored keepers.items → All K.stored result.0.items }
     ensures failed { IfErr result.1 (FailsRun K.shown K.may K.reopens G.gives_up turns keepers.items result.0.items) }
-    ensures sound { IfOk result.1 (λ ran. IsAnswer ran.answer) }
 {
     let Ok((desks, gates, before)) = before_run(alloc, gate, keepers.as_slice()) else {
         return (keepers, Err(Fault::NoMemory));
     };
     match run_world(rt, alloc, keepers, desks, gates, turns) {
         Ok(run) => {
-            let ran = match tell_run(alloc, sites, before.as_slice(), &run) {
-                Ok((text, notes)) => Ok(Ran {
-                    answer: Answer::Done(text),
+            let ran = match tell_run(alloc, before.as_slice(), &run) {
+                Ok((recalls, notes)) => Ok(Ran {
+                    outcome: Outcome::Ran(recalls),
                     notes: Some(notes),
                 }),
                 Err(_) => Err(Fault::NoMemory),
@@ -125,7 +122,7 @@ pub fn run_of<K: SiteKeeper + Send, G: Gate + Copy + Send, R: Threads + Wait + C
             let Gathered { keepers, .. } = run;
             (keepers, ran)
         }
-        Err(GatherFault { keepers, cause }) => (keepers, tell_cause(alloc, sites, cause)),
+        Err(GatherFault { keepers, cause }) => (keepers, tell_cause(cause)),
     }
 }
 
@@ -165,20 +162,16 @@ fn unused<G: Gate + Copy>(
     Ok((desks, gates))
 }
 
-/// What is reported where a run has no answer.
-fn tell_cause(alloc: Global, sites: &Sites, cause: GatherCause) -> Result<Ran, Fault>
-    ensures answered { IfOk result (λ ran. TellsCause sites.now cause ran.answer × (ran.notes ≡ None)) }
-    ensures sound { IfOk result (λ ran. IsAnswer ran.answer) }
-    ensures failed { IfErr result (λ fault. fault ≡ gather_fault cause) }
+/// What comes of a cause that prevents a run.
+fn tell_cause(cause: GatherCause) -> Result<Ran, Fault>
+    ensures answered { IfOk result (λ ran. TellsCause cause ran.outcome × (ran.notes ≡ None)) }
+    ensures failed { IfErr result (λ fault. gather_fault cause ≡ Some fault) }
 {
     match cause {
-        GatherCause::NotAWorld(WorldFault::Misfit(misfit)) => {
-            let text = misfit_text(alloc, sites, misfit)?;
-            Ok(Ran {
-                answer: Answer::Amiss(text),
-                notes: None,
-            })
-        }
+        GatherCause::NotAWorld(WorldFault::Misfit(misfit)) => Ok(Ran {
+            outcome: Outcome::Inconsistent(misfit),
+            notes: None,
+        }),
         GatherCause::NotAWorld(WorldFault::OtherSites(_)) => Err(Fault::OtherSites),
         GatherCause::NotAWorld(WorldFault::Closed(_)) => Err(Fault::Closed),
         GatherCause::NotAWorld(WorldFault::NoMemory) | GatherCause::NoMemory => {
@@ -204,24 +197,22 @@ fn open_records<K: SiteKeeper>(alloc: Global, keepers: &[K]) -> Result<Vec<&Site
     Ok(records)
 }
 
-/// What is told of a run that has come to its end, before which the devices had failed so often: a line for each recall
-/// of the records that the keepers show, and the notes.
+/// What is told of a run that has come to its end, before which the devices had failed so often: the recalls in the
+/// records that the keepers show, and the notes.
 fn tell_run<K: SiteKeeper>(
     alloc: Global,
-    sites: &Sites,
     before: &[u64],
     run: &Gathered<K>,
-) -> Result<(String, RunNotes), AllocError>
+) -> Result<(Vec<StartedRecall>, RunNotes), AllocError>
     requires open { All (λ k. IsSome (K.shown k)) run.now.keepers.items }
     requires fit { KeepersFit K.shown K.may run.now.keepers.items }
     requires all { AreOfSites before.now (map K.failed run.now.keepers.items) run.now.lists.items }
-    ensures { IfOk result (λ r. (told : TellsRecalls K.shown sites.now run.now.keepers.items (string_bytes r.0))
-        × AreNotes before.now (map K.failed run.now.keepers.items) run.now.lists.items (begun told.records) r.1) }
+    ensures told { IfOk result (λ r. TellsRecalls K.shown run.now.keepers.items r.0.items) }
+    ensures noted { IfOk result (λ r. AreNotes before.now (map K.failed run.now.keepers.items) run.now.lists.items r.0.items r.1) }
 {
     let keepers = run.keepers.as_slice();
     let records = open_records(alloc, keepers)?;
     let recalls = begun(alloc, records.as_slice())?;
-    let text = recalls_text(alloc, sites, recalls.as_slice())?;
     let after = failures_of(alloc, keepers)?;
     let notes = notes_of(
         alloc,
@@ -231,36 +222,5 @@ fn tell_run<K: SiteKeeper>(
         run.shared,
         recalls.as_slice(),
     )?;
-    Ok((text, notes))
-}
-
-/// A line for each of these recalls.
-fn recalls_text(
-    alloc: Global,
-    sites: &Sites,
-    recalls: &[StartedRecall],
-) -> Result<String, AllocError>
-    ensures { IfOk result (λ t. string_bytes t ≡ flat_map (ran_text sites.now) recalls.now) }
-{
-    let mut text = String::new(alloc);
-    for recall in recalls {
-        push_recall(alloc, &mut text, sites, recall)?;
-    }
-    Ok(text)
-}
-
-/// Adds the line of a recall.
-fn push_recall(
-    alloc: Global,
-    text: &mut String,
-    sites: &Sites,
-    started: &StartedRecall,
-) -> Result<(), AllocError>
-    ensures { OnOk result (string_bytes text.new ≡ string_bytes text.old ++ ran_text sites.now started.now) }
-{
-    let recall = recall_text(alloc, sites, started.recall)?;
-    let recall = recall.as_str();
-    let word = ended_word(started.ended);
-    let line = format!(in alloc; "{recall} {word}\n")?;
-    text.push_str(line.as_str())
+    Ok((recalls, notes))
 }

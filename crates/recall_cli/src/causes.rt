@@ -1,8 +1,9 @@
 //! What is known of a failure of a file.
 
-use folder_commands::Fault;
+use recall_outcomes::{Failure, Fault};
 use site_rows::{BadRow, Table};
 use sqlite::Error as DatabaseError;
+use std::alloc::{AllocError, Global};
 use std::fmt;
 use std::io::{Error, ErrorKind};
 
@@ -212,36 +213,20 @@ impl Trouble {
     }
 }
 
-/// A file that a fault or a stop of a site is about, and what is known of it: the line behind the fault's or the
-/// stop's.
-#[derive(Debug)]
-pub(crate) struct Failure {
-    pub(crate) path: String,
-    pub(crate) of_log: bool,
-    pub(crate) known: Known,
-}
-
-// It is written out, as that of what is known.
-impl Drop for Failure {
-    fn drop(self) {
-        let Failure {
-            path: _,
-            of_log: _,
-            known: _,
-        } = self;
+/// A file of this path that a fault or a stop of a site is about, or its log, and what is known of it.
+pub(crate) fn failure_of(
+    alloc: Global,
+    path: &str,
+    of_log: bool,
+    known: &Known,
+) -> Result<Failure, AllocError> {
+    let mut file = String::from_str(alloc, path)?;
+    if of_log {
+        file.push_str("-wal")?;
     }
-}
-
-impl fmt::Display for Failure {
-    fn fmt<W: fmt::Write>(&self, f: &mut fmt::Formatter<W>) -> fmt::Result {
-        let path = self.path.as_str();
-        write!(f, "file {path}")?;
-        if self.of_log {
-            f.write_str("-wal")?;
-        }
-        match &self.known {
-            Known::Nothing => Ok(()),
-            known => write!(f, ": {known}"),
-        }
-    }
+    let cause = match known {
+        Known::Nothing => None,
+        known => Some(format!(in alloc; "{known}")?),
+    };
+    Ok(Failure { file, cause })
 }

@@ -4,13 +4,14 @@ ghost use Rattle.std.specs.Prelude.{IfOk};
 ghost use Rattle.site_store.specs.Leavings.{KeepsOwn};
 ghost use Rattle.site_store.specs.Opened.{IsFound};
 
-use crate::causes::{Failure, Known, Trouble};
+use crate::causes::{Known, Trouble, failure_of};
 use crate::line_files::{INPUT, LineFile};
 use crate::stores::{
     FileConnection, FileSite, close, close_connection, known_of_step, unfound, unmade, unopened,
 };
+use folder_commands::Files;
 use keeper_core::SiteKeeper;
-use folder_commands::{Fault, Files};
+use recall_outcomes::{Failure, Fault};
 use site_core::SiteState;
 use site_store::StoredSite;
 use sqlite::{Connection, Options, Wary};
@@ -63,21 +64,9 @@ impl<'a> HostFiles<'a> {
         }
     }
 
-    /// The last file of which a call failed, where one did and there was memory to keep its path.
-    pub(crate) fn failure(&self) -> Option<&Failure> {
-        self.failure.as_ref()
-    }
-
     /// Keeps the path of a file that a fault is about, and what is known of it.
     fn keep(&mut self, path: &str, of_log: bool, known: Known) {
-        self.failure = match String::from_str(self.runtime.alloc(), path) {
-            Ok(path) => Some(Failure {
-                path,
-                of_log,
-                known,
-            }),
-            Err(_) => None,
-        };
+        self.failure = failure_of(self.runtime.alloc(), path, of_log, &known).ok();
     }
 
     /// Keeps the path of a file of which a call failed, and returns the fault.
@@ -89,12 +78,12 @@ impl<'a> HostFiles<'a> {
 
     /// Keeps what the failures of a site's file were that is open again, if there is memory for it.
     fn meet(&mut self, path: String, failures: u64, tally: Tally) {
-        if failures > 0 {
-            let _ = self.met.push(Failure {
-                path,
-                of_log: false,
-                known: known_of_step(failures, tally),
-            });
+        if failures == 0 {
+            return;
+        }
+        let known = known_of_step(failures, tally);
+        if let Ok(failure) = failure_of(self.runtime.alloc(), path.as_str(), false, &known) {
+            let _ = self.met.push(failure);
         }
     }
 
@@ -221,6 +210,8 @@ impl Files<FileSite> for HostFiles<'_> {
 
     ghost knows = { λ _ _ _. ⊤ };
 
+    ghost fails = { λ _ _. ⊤ };
+
     fn read(&mut self, _: Global, path: &str) -> Result<Vec<u8>, Fault> {
         match self.bytes(path) {
             Ok(bytes) => Ok(bytes),
@@ -276,9 +267,9 @@ impl Files<FileSite> for HostFiles<'_> {
         match self
             .met
             .iter()
-            .find(|failure| failure.path.as_str() == path)
+            .find(|failure| failure.file.as_str() == path)
         {
-            Some(failure) => format!(in alloc; "{failure}\n"),
+            Some(failure) => failure.line(alloc),
             None => Ok(String::new(alloc)),
         }
     }
@@ -288,6 +279,11 @@ impl Files<FileSite> for HostFiles<'_> {
             Ok(()) => Ok(()),
             Err(error) => Err(self.note(path, Trouble::of_error(&error, Fault::Write))),
         }
+    }
+
+    // The last file of which a call failed, where there was memory to keep what is known of it.
+    fn failure(&self) -> Option<&Failure> {
+        self.failure.as_ref()
     }
 
     fn blame(&mut self, path: &str) {

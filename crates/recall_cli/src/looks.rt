@@ -1,7 +1,7 @@
 //! Looks at the files of a database that wasn't opened, for what the database's error doesn't tell.
 
 use crate::causes::{Known, Trouble};
-use folder_commands::Fault;
+use recall_outcomes::Fault;
 use sqlite::{Error as DatabaseError, ErrorCode};
 use std::fs::{self, File, OpenOptions};
 use std::io::{self, ErrorKind, Read};

@@ -12,9 +12,9 @@ mod progress;
 mod schemas;
 mod stores;
 
+use command_line::{BAD_COMMAND_LINE, FAULT, run_command};
 use host_files::HostFiles;
 use progress::{Progress, TellingGate};
-use command_line::{BAD_COMMAND_LINE, FAULT, run_command};
 use std::env;
 use std::hash::RandomState;
 use std::io::{self, ErrorKind};
@@ -50,17 +50,7 @@ fn main(rt: HostRuntime) -> ExitCode {
         &mut rt.stdout(),
         &mut rt.stderr(),
     );
-    if status == FAULT {
-        name_file(&rt, &files);
-    }
     ExitCode::from(status)
-}
-
-/// Names the file of which a call failed, behind the fault, and says what is known of it.
-fn name_file(rt: &HostRuntime, files: &HostFiles<'_>) {
-    if let Some(failure) = files.failure() {
-        let _ = eprintln!(rt; "{failure}");
-    }
 }
 
 /// The words of the command line, the program's name first.

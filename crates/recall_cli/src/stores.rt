@@ -3,7 +3,7 @@
 use crate::causes::{Known, Trouble};
 use crate::{looks, schemas};
 use keeper_core::KeepFault;
-use folder_commands::Fault;
+use recall_outcomes::Fault;
 use site_store::{Link, OpenFault, StoredSite, Unfound};
 use sqlite::{Connection, Error, ErrorCode, FileFrom, FileStore, Files, Wary};
 use sqlite_disk::Tally;

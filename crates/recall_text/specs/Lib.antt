@@ -2,6 +2,7 @@ pub mod Answer
 pub mod Comments
 pub mod Fields
 pub mod Gathering
+pub mod Laws
 pub mod Lines
 pub mod Numbers
 pub mod Outcomes

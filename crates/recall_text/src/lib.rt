@@ -10,6 +10,7 @@ mod faults;
 mod fields;
 pub mod gathering;
 mod items;
+pub mod laws;
 pub mod line_ends;
 pub mod lines;
 pub mod numbers;
@@ -22,5 +23,5 @@ pub mod texts;
 mod writing;
 
 pub use faults::ScriptFault;
-pub use site_lists::{SiteList, read_sites};
+pub use site_lists::{LineRefusal, RefusedLine, SiteList, read_sites};
 pub use writing::write_text;

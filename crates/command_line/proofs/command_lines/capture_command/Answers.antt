@@ -10,10 +10,13 @@ pub returns-then-is_one_document : goal.returns-then-is_one_document
 returns-then-is_one_document c =
     let paths = sym (c.in_ok-paths.ensures ∙ raw_values-rows (found_of c.args.given.now) (codes "file")) in
     let one = c.is_one_document.ensures.0 c.if-is_one_document.true in (
-      refl,
-      c.in_ok-folder.ensures,
-      c.in_ok-site.ensures,
-      (paths ∙ ap Some (one_text_alone c.in_ok-paths.paths.now _ one.1), not_set c.is_set-by_lines.result one.0 c.is_set-by_lines.ensures),
+      (
+        refl,
+        c.in_ok-folder.ensures,
+        c.in_ok-site.ensures,
+        (paths ∙ ap Some (one_text_alone c.in_ok-paths.paths.now _ one.1), not_set c.is_set-by_lines.result one.0 c.is_set-by_lines.ensures),
+      ),
+      c.form_of-form.ensures,
     )
 
 pub returns : goal.returns
@@ -28,4 +31,5 @@ returns c =
       folder = c.in_ok-folder.ensures;
       site = c.in_ok-site.ensures;
       files = (paths ∙ ap Some texts, c.is_set-by_lines.ensures);
+      form = c.form_of-form.ensures;
     }

@@ -6,6 +6,6 @@ use Rattle.command_line.proofs.command_lines.on_folder.Goals as goal
 
 pub returns : goal.returns
 returns c =
-    IfOk-weaker c.arg.result _ _
-    (λ command adds. adds_rule _ _ command _ _ adds c.folder.ensures.local (ap app_of_fields c.after_help.ensures ∙ ap app_of_fields c.about.ensures ∙ c.new.ensures.app) c.folder.ensures.rule)
-    c.arg.ensures
+    let named = ap app_of_fields c.after_help.ensures ∙ ap app_of_fields c.about.ensures ∙ c.new.ensures.app in
+    let folder = adds_rule _ _ _ _ _ c.in_ok-arg.ensures c.folder.ensures.local named c.folder.ensures.rule in
+    IfOk-weaker c.arg-2.result _ _ (λ command adds. adds_rule _ _ command _ _ adds c.json.ensures.local folder c.json.ensures.rule) c.arg-2.ensures

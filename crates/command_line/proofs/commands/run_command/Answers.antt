@@ -1,4 +1,5 @@
 use Rattle.std.proofs.Common.{rules, refl}
+use Rattle.std.proofs.KnownBytes.{Keeps-refl}
 use Rattle.command_line.proofs.Endings.{ends_batch, ends_files, ends_mistaken}
 use Rattle.command_line.proofs.Words.{sim_is_no_batch, sim_is_no_help, sim_is_not_bad, sim_is_no_files, help_is_no_batch, help_is_no_sim, help_is_not_bad, help_is_no_files}
 use Rattle.command_line.proofs.commands.run_command.Goals as goal
@@ -16,21 +17,21 @@ pub returns-in-Ok-Mistake-clause-help : goal.returns-in-Ok-Mistake-clause-help
 returns-in-Ok-Mistake-clause-help g c = λ name e. absurd (help_is_not_bad _ name (rw c.in-Ok-Mistake.field-0-is at c.in-Ok-Mistake.ensures) e)
 
 pub returns-in-Ok-Files-clause-sim : goal.returns-in-Ok-Files-clause-sim
-returns-in-Ok-Files-clause-sim g c = λ name e. absurd (sim_is_no_files _ name _ (rw c.in-Ok-Files.field-0-is at c.in-Ok-Files.ensures) e)
+returns-in-Ok-Files-clause-sim g c = λ name e. absurd (sim_is_no_files _ name _ _ (rw c.in-Ok-Files.field-0-is at c.in-Ok-Files.ensures) e)
 
 pub returns-in-Ok-Files-clause-help : goal.returns-in-Ok-Files-clause-help
-returns-in-Ok-Files-clause-help g c = λ name e. absurd (help_is_no_files _ name _ (rw c.in-Ok-Files.field-0-is at c.in-Ok-Files.ensures) e)
+returns-in-Ok-Files-clause-help g c = λ name e. absurd (help_is_no_files _ name _ _ (rw c.in-Ok-Files.field-0-is at c.in-Ok-Files.ensures) e)
 
 pub returns-in-Ok-Mistake-clause-ends : goal.returns-in-Ok-Mistake-clause-ends
 returns-in-Ok-Mistake-clause-ends g c =
-    ends_mistaken g.F.Files.reads g.F.Files.lines g.F.Files.finds g.F.Files.makes g.F.Files.opens g.F.Files.closes g.F.Files.writes g.F.Files.knows g.K.SiteKeeper.shown g.K.SiteKeeper.failed g.K.SiteKeeper.stored
+    ends_mistaken g.F.Files.reads g.F.Files.lines g.F.Files.finds g.F.Files.makes g.F.Files.opens g.F.Files.closes g.F.Files.writes g.F.Files.knows g.F.Files.fails g.K.SiteKeeper.shown g.K.SiteKeeper.failed g.K.SiteKeeper.stored
     c.args.words.now _ _ _ _ _
     (rw c.in-Ok-Mistake.field-0-is at c.in-Ok-Mistake.ensures) refl (search rules) (search rules) c.say.ensures
 
 pub returns-in-Ok-Files-clause-ends : goal.returns-in-Ok-Files-clause-ends
 returns-in-Ok-Files-clause-ends g c =
-    ends_files g.F.Files.reads g.F.Files.lines g.F.Files.finds g.F.Files.makes g.F.Files.opens g.F.Files.closes g.F.Files.writes g.F.Files.knows g.K.SiteKeeper.shown g.K.SiteKeeper.failed g.K.SiteKeeper.stored
-    c.args.words.now _ _ _ _ _ _ _ (rw c.in-Ok-Files.field-0-is at c.in-Ok-Files.ensures) c.on_files-outcome.ensures.sound c.on_files-outcome.ensures.led (search rules) c.tell.ensures
+    ends_files g.F.Files.reads g.F.Files.lines g.F.Files.finds g.F.Files.makes g.F.Files.opens g.F.Files.closes g.F.Files.writes g.F.Files.knows g.F.Files.fails g.K.SiteKeeper.shown g.K.SiteKeeper.failed g.K.SiteKeeper.stored
+    c.args.words.now _ _ _ _ _ _ _ _ (rw c.in-Ok-Files.field-0-is at c.in-Ok-Files.ensures) c.on_files-came.ensures (Keeps-refl _) c.tell.ensures
 
 pub returns-in-Ok-Batch-clause-sim : goal.returns-in-Ok-Batch-clause-sim
 returns-in-Ok-Batch-clause-sim g c = λ name e. absurd (sim_is_no_batch _ name _ (rw c.in-Ok-Batch.field-0-is at c.in-Ok-Batch.ensures) e)
@@ -40,5 +41,5 @@ returns-in-Ok-Batch-clause-help g c = λ name e. absurd (help_is_no_batch _ name
 
 pub returns-in-Ok-Batch-clause-ends : goal.returns-in-Ok-Batch-clause-ends
 returns-in-Ok-Batch-clause-ends g c =
-    ends_batch g.F.Files.reads g.F.Files.lines g.F.Files.finds g.F.Files.makes g.F.Files.opens g.F.Files.closes g.F.Files.writes g.F.Files.knows g.K.SiteKeeper.shown g.K.SiteKeeper.failed g.K.SiteKeeper.stored
+    ends_batch g.F.Files.reads g.F.Files.lines g.F.Files.finds g.F.Files.makes g.F.Files.opens g.F.Files.closes g.F.Files.writes g.F.Files.knows g.F.Files.fails g.K.SiteKeeper.shown g.K.SiteKeeper.failed g.K.SiteKeeper.stored
     c.args.words.now _ _ _ _ _ _ (rw c.in-Ok-Batch.field-0-is at c.in-Ok-Batch.ensures) (search rules) c.capture_batch.ensures

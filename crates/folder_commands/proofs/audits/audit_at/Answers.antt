@@ -5,7 +5,7 @@ use Rattle.folder_commands.specs.Audits.{AnswersAudit}
 use Rattle.folder_commands.proofs.CallsInTurn.{shown_once}
 use Rattle.folder_commands.proofs.audits.audit_at.Goals as goal
 
-pub returns-clause-answered : goal.returns-clause-answered
-returns-clause-answered g c = λ rs shows.
+pub returns : goal.returns
+returns g c = λ rs shows.
     let same = shown_once g.K.SiteKeeper.shown c.args.keepers.now rs (records_at c.in_ok-records.records.items) shows c.in_ok-records.ensures in
-    subst (λ xs. IfOk c.audit_of.result (AnswersAudit c.args.sites.now xs)) (ap records_at c.as_slice-2.ensures.value ∙ sym same) c.audit_of.ensures.answered
+    subst (λ xs. IfOk c.audit_of.result (AnswersAudit xs)) (ap records_at c.as_slice-2.ensures.value ∙ sym same) c.audit_of.ensures.answered

@@ -1,11 +1,12 @@
-use Rattle.std.proofs.Common.{sym, subst, inr}
+use Rattle.std.proofs.Common.{sym, subst}
 use Rattle.std.proofs.lemmas.List.{length-map}
 use Rattle.site_recovery.specs.Checking.{world_at}
 use Rattle.site_recovery.specs.Misfits.{IsMisfit}
 use Rattle.folder_commands.proofs.audits.audit_of.Goals as goal
 
-pub returns-in_ok-misfit_text-in-Err-Misfit-clause-answered : goal.returns-in_ok-misfit_text-in-Err-Misfit-clause-answered
-returns-in_ok-misfit_text-in-Err-Misfit-clause-answered c =
+pub returns-in-Err-Misfit-clause-answered : goal.returns-in-Err-Misfit-clause-answered
+returns-in-Err-Misfit-clause-answered c =
     let refs = c.args.records.now in
     let misfit = c.in-Err-Misfit.misfit in
-    inr (misfit, subst (λ n. IsMisfit n (world_at refs) misfit.condition misfit.site) (sym (length-map refs (λ r. r.now))) (rw c.in-Err-Misfit.field-0-is at c.in-Err-Misfit.ensures.fault), c.in_ok-misfit_text-in-Err-Misfit.ensures)
+    rw c.in-Err-Misfit.field-0-is
+    (subst (λ n. IsMisfit n (world_at refs) misfit.condition misfit.site) (sym (length-map refs (λ r. r.now))) (rw c.in-Err-Misfit.field-0-is at c.in-Err-Misfit.ensures.fault))

@@ -1,7 +1,8 @@
-use Rattle.std.proofs.Common.{map, take, string_bytes}
-use Rattle.folder_commands.specs.Audits.{AuditsSome}
+use Rattle.std.proofs.Common.{map, take}
+use Rattle.std.specs.List.{AllZip}
+use Rattle.folder_commands.specs.Audits.{AuditsRecall}
 use Rattle.folder_commands.proofs.audits.audit_recalls.Given as goal
 
--- the recalls so far are reported
+-- the recalls so far were audited
 abbrev pub invariant-loop-recall : goal.invariant-loop-recall
-invariant-loop-recall l = AuditsSome l.sites (map (λ r. r.now) l.records) (take l.recall-index l.recall-items) (string_bytes l.text) l.amiss
+invariant-loop-recall l = AllZip (AuditsRecall (map (λ r. r.now) l.records)) (take l.recall-index l.recall-items) l.audited.items

@@ -1,36 +1,38 @@
 use Rattle.std.proofs.Common.{ap, ◌∙◌, subst}
 use Rattle.std.specs.Io.KnownBytes.{Appends}
 use Rattle.recall_text.specs.Writing.{AppendsBeginning}
-use Rattle.folder_commands.specs.Captures.{came_line, document_of, standing}
+use Rattle.recall_outcomes.specs.Printing.{document_line}
+use Rattle.folder_commands.specs.Captures.{document_of, standing}
 use Rattle.folder_commands.proofs.CaptureLemmas.{on_err, takes_less, takes_none}
 use Rattle.folder_commands.proofs.captures.take.Goals as goal
 
 pub returns-in_err-came-clause-early : goal.returns-in_err-came-clause-early
-returns-in_err-came-clause-early g c = λ old shows. on_err c.from_residual.result (takes_none c.args.sites.now (standing old (g.W.Write.contents c.args.output.now) c.args.totals))
+returns-in_err-came-clause-early g c = λ old shows. on_err c.from_residual.result (takes_none c.args.form c.args.sites.now (standing old (g.W.Write.contents c.args.output.now) c.args.counts))
 
 pub returns-in_err-line-clause-early : goal.returns-in_err-line-clause-early
-returns-in_err-line-clause-early g c = λ old shows. on_err c.from_residual-in_err-line.result (takes_none c.args.sites.now (standing old (g.W.Write.contents c.args.output.now) c.args.totals))
+returns-in_err-line-clause-early g c = λ old shows. on_err c.from_residual-in_err-line.result (takes_none c.args.form c.args.sites.now (standing old (g.W.Write.contents c.args.output.now) c.args.counts))
 
-pub returns-in_err-write_line-clause-early : goal.returns-in_err-write_line-clause-early
-returns-in_err-write_line-clause-early g c = λ old shows.
+pub returns-in_err-write_lines-clause-early : goal.returns-in_err-write_lines-clause-early
+returns-in_err-write_lines-clause-early g c = λ old shows.
     let came = c.in_ok-came.ensures.came old shows in
-    let line = c.as_str-2.ensures.value ∙ c.in_ok-line.ensures ∙ ap (λ source. came_line c.args.sites.now source c.in_ok-came.came) c.as_str.ensures.value in
+    let line = c.as_str-2.ensures.value ∙ c.in_ok-line.ensures ∙ ap (λ source. document_line c.args.form c.args.sites.now source c.in_ok-came.came) c.as_str.ensures.value in
     let output = g.W.Write.contents c.args.output.now in
-    let after = g.W.Write.contents c.write_line.new.output in
-    on_err c.from_residual-in_err-write_line.result
-    (takes_less c.args.sites.now (standing old output c.args.totals) (document_of c.args.given) c.in_ok-came.came came.0 after came.2
-    (subst (λ text. AppendsBeginning output after text) line c.in_err-write_line.ensures.err))
+    let after = g.W.Write.contents c.write_lines.new.output in
+    on_err c.from_residual-in_err-write_lines.result
+    (takes_less c.args.form c.args.sites.now (standing old output c.args.counts) (document_of c.args.given) c.in_ok-came.came came.0 after came.2
+    (subst (λ text. AppendsBeginning output after text) line c.in_err-write_lines.ensures.err))
 
 pub returns-clause-taken : goal.returns-clause-taken
 returns-clause-taken g c = λ old shows.
     let came = c.in_ok-came.ensures.came old shows in
-    let line = c.as_str-2.ensures.value ∙ c.in_ok-line.ensures ∙ ap (λ source. came_line c.args.sites.now source c.in_ok-came.came) c.as_str.ensures.value in (
+    let line = c.as_str-2.ensures.value ∙ c.in_ok-line.ensures ∙ ap (λ source. document_line c.args.form c.args.sites.now source c.in_ok-came.came) c.as_str.ensures.value in (
       came.0,
       came.1,
       record {
         came = c.in_ok-came.came;
         comes = came.2;
-        written = subst (λ text. Appends (g.W.Write.contents c.args.output.now) (g.W.Write.contents c.write_line.new.output) text) line c.in_ok-write_line.ensures.ok;
+        written = subst (λ text. Appends (g.W.Write.contents c.args.output.now) (g.W.Write.contents c.write_lines.new.output) text) line c.in_ok-write_lines.ensures.ok;
         counted = c.with.ensures;
+        passed = came.3;
       },
     )

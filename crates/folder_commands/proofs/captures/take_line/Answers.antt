@@ -7,10 +7,10 @@ use Rattle.folder_commands.proofs.captures.take_line.Goals as goal
 pub returns-then-is_blank-clause-taken : goal.returns-then-is_blank-clause-taken
 returns-then-is_blank-clause-taken g c = λ old shows.
     let blank = ap is_blank (sym c.as_slice.ensures.value) ∙ sym c.is_blank.ensures ∙ c.if-is_blank.true in
-    (old, shows, takes_blank c.args.sites.now (standing old (g.W.Write.contents c.args.output.now) c.args.totals) c.args.path.now c.args.bytes.items c.args.number blank)
+    (old, shows, takes_blank c.args.form c.args.sites.now (standing old (g.W.Write.contents c.args.output.now) c.args.counts) c.args.path.now c.args.bytes.items c.args.number blank)
 
 pub returns-in_err-source-clause-early : goal.returns-in_err-source-clause-early
-returns-in_err-source-clause-early g c = λ old shows. on_err c.from_residual.result (takes_none c.args.sites.now (standing old (g.W.Write.contents c.args.output.now) c.args.totals))
+returns-in_err-source-clause-early g c = λ old shows. on_err c.from_residual.result (takes_none c.args.form c.args.sites.now (standing old (g.W.Write.contents c.args.output.now) c.args.counts))
 
 pub returns-clause-taken : goal.returns-clause-taken
 returns-clause-taken g c = λ old shows.
@@ -19,7 +19,7 @@ returns-clause-taken g c = λ old shows.
     (λ after (new, shown, one). (
       new,
       shown,
-      takes_line c.args.sites.now (standing old (g.W.Write.contents c.args.output.now) c.args.totals) (standing new (g.W.Write.contents c.take.new.output) after) c.args.path.now
+      takes_line c.args.form c.args.sites.now (standing old (g.W.Write.contents c.args.output.now) c.args.counts) (standing new (g.W.Write.contents c.take.new.output) after) c.args.path.now
           (string_bytes c.in_ok-source.source) c.args.bytes.items c.args.number other c.in_ok-source.ensures.ok one,
     ))
     (c.take.ensures.taken old shows)

@@ -12,8 +12,8 @@ returns-in_err-bytes-clause-early g c = λ old shows.
     let (mid, shown, taken) = so_far old shows in
     let output = g.W.Write.contents c.loop-number.output in
     on_err c.from_residual.result
-    (takes_more c.args.sites.now (standing old (g.W.Write.contents c.args.output.now) c.args.totals) (standing mid output c.loop-number.totals) (of_lines c.args.path.now 1 texts) output taken
-    (takes_none c.args.sites.now (standing mid output c.loop-number.totals)))
+    (takes_more c.args.form c.args.sites.now (standing old (g.W.Write.contents c.args.output.now) c.args.counts) (standing mid output c.loop-number.counts) (of_lines c.args.path.now 1 texts) output taken
+    (takes_none c.args.form c.args.sites.now (standing mid output c.loop-number.counts)))
 
 pub returns-in_default-clause-taken : goal.returns-in_default-clause-taken
 returns-in_default-clause-taken g c = λ old shows.
@@ -28,13 +28,13 @@ returns-in_default-clause-taken g c = λ old shows.
       },
     )
 
-pub returns-in_err-totals-clause-early : goal.returns-in_err-totals-clause-early
-returns-in_err-totals-clause-early g c = λ old shows.
+pub returns-in_err-counts-clause-early : goal.returns-in_err-counts-clause-early
+returns-in_err-counts-clause-early g c = λ old shows.
     let (texts, count, read, lasts, so_far) = c.loop-number.invariant in
     let (mid, shown, taken) = so_far old shows in
-    on_err c.from_residual-in_err-totals.result
-    (takes_more c.args.sites.now (standing old (g.W.Write.contents c.args.output.now) c.args.totals) (standing mid (g.W.Write.contents c.loop-number.output) c.loop-number.totals) (of_lines c.args.path.now 1 texts)
-    (g.W.Write.contents c.take_line.new.output) taken (c.in_err-totals.ensures.early mid shown))
+    on_err c.from_residual-in_err-counts.result
+    (takes_more c.args.form c.args.sites.now (standing old (g.W.Write.contents c.args.output.now) c.args.counts) (standing mid (g.W.Write.contents c.loop-number.output) c.loop-number.counts) (of_lines c.args.path.now 1 texts)
+    (g.W.Write.contents c.take_line.new.output) taken (c.in_err-counts.ensures.early mid shown))
 
 pub loop-number-preserved : goal.loop-number-preserved
 loop-number-preserved g c =
@@ -46,11 +46,11 @@ loop-number-preserved g c =
       λ kept. c.take_line.ensures.stored (lasts kept),
       λ old shows.
           let (mid, shown, taken) = so_far old shows in
-          let (new, shows_new, more) = c.in_ok-totals.ensures.taken mid shown in (
+          let (new, shows_new, more) = c.in_ok-counts.ensures.taken mid shown in (
             new,
             shows_new,
-            takes_lines c.args.sites.now (standing old (g.W.Write.contents c.args.output.now) c.args.totals) (standing mid (g.W.Write.contents c.loop-number.output) c.loop-number.totals)
-                (standing new (g.W.Write.contents c.take_line.new.output) c.in_ok-totals.totals) c.args.path.now line texts c.loop-number.number count taken more,
+            takes_lines c.args.form c.args.sites.now (standing old (g.W.Write.contents c.args.output.now) c.args.counts) (standing mid (g.W.Write.contents c.loop-number.output) c.loop-number.counts)
+                (standing new (g.W.Write.contents c.take_line.new.output) c.in_ok-counts.counts) c.args.path.now line texts c.loop-number.number count taken more,
           ),
     )
 
@@ -59,5 +59,5 @@ returns-clause-early g c = λ old shows.
     let (texts, count, read, lasts, so_far) = c.loop-number.invariant in
     let (mid, shown, taken) = so_far old shows in
     let output = g.W.Write.contents c.loop-number.output in
-    takes_more c.args.sites.now (standing old (g.W.Write.contents c.args.output.now) c.args.totals) (standing mid output c.loop-number.totals) (of_lines c.args.path.now 1 texts) output taken
-    (takes_none c.args.sites.now (standing mid output c.loop-number.totals))
+    takes_more c.args.form c.args.sites.now (standing old (g.W.Write.contents c.args.output.now) c.args.counts) (standing mid output c.loop-number.counts) (of_lines c.args.path.now 1 texts) output taken
+    (takes_none c.args.form c.args.sites.now (standing mid output c.loop-number.counts))

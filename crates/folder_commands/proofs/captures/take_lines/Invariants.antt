@@ -9,4 +9,4 @@ invariant-loop-number g l =
     (texts : List (List ℕ)) × (l.number ≡ 1 + length texts) × ReadsSome g.F.Files.lines l.initial.files l.path texts l.files
     × (g.K.SiteKeeper.stored l.initial.keeper → g.K.SiteKeeper.stored l.keeper)
     × ((old : Record) → g.K.SiteKeeper.shown l.initial.keeper ≡ Some old → (new : Record) × (g.K.SiteKeeper.shown l.keeper ≡ Some new)
-    × Takes l.sites (standing old (g.W.Write.contents l.initial.output) l.initial.totals) (of_lines l.path 1 texts) (standing new (g.W.Write.contents l.output) l.totals))
+    × Takes l.form l.sites (standing old (g.W.Write.contents l.initial.output) l.initial.counts) (of_lines l.path 1 texts) (standing new (g.W.Write.contents l.output) l.counts))

@@ -5,10 +5,10 @@ use Rattle.folder_commands.proofs.CaptureLemmas.{on_err, takes_document, takes_n
 use Rattle.folder_commands.proofs.captures.take_whole.Goals as goal
 
 pub returns-in_err-bytes-clause-early : goal.returns-in_err-bytes-clause-early
-returns-in_err-bytes-clause-early g c = λ old shows. on_err c.from_residual.result (takes_none c.args.sites.now (standing old (g.W.Write.contents c.args.output.now) c.args.totals))
+returns-in_err-bytes-clause-early g c = λ old shows. on_err c.from_residual.result (takes_none c.args.form c.args.sites.now (standing old (g.W.Write.contents c.args.output.now) c.args.counts))
 
 pub returns-in_err-source-clause-early : goal.returns-in_err-source-clause-early
-returns-in_err-source-clause-early g c = λ old shows. on_err c.from_residual-in_err-source.result (takes_none c.args.sites.now (standing old (g.W.Write.contents c.args.output.now) c.args.totals))
+returns-in_err-source-clause-early g c = λ old shows. on_err c.from_residual-in_err-source.result (takes_none c.args.form c.args.sites.now (standing old (g.W.Write.contents c.args.output.now) c.args.counts))
 
 pub returns-clause-taken : goal.returns-clause-taken
 returns-clause-taken g c = λ old shows.
@@ -16,7 +16,7 @@ returns-clause-taken g c = λ old shows.
     (λ after (new, shown, one). (
       new,
       shown,
-      takes_document g.F.Files.reads g.F.Files.lines c.args.files.now c.read.new.self c.args.path.now (string_bytes c.in_ok-source.source) c.in_ok-bytes.bytes.items c.args.sites.now
-          (standing old (g.W.Write.contents c.args.output.now) c.args.totals) (standing new (g.W.Write.contents c.take.new.output) after) c.in_ok-source.ensures.ok c.in_ok-bytes.ensures one,
+      takes_document g.F.Files.reads g.F.Files.lines c.args.files.now c.read.new.self c.args.path.now (string_bytes c.in_ok-source.source) c.in_ok-bytes.bytes.items c.args.form c.args.sites.now
+          (standing old (g.W.Write.contents c.args.output.now) c.args.counts) (standing new (g.W.Write.contents c.take.new.output) after) c.in_ok-source.ensures.ok c.in_ok-bytes.ensures one,
     ))
     (c.take.ensures.taken old shows)

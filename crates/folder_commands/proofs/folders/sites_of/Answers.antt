@@ -8,7 +8,7 @@ returns-then-ready g c = record {
   read = search rules;
   list = c.in_ok-list.list;
   is_list = search rules;
-  good = sym c.as_str-2.ensures.value ∙ nil_from_length c.as_str-2.result.now (eqb-true (length c.as_str-2.result.now) 0 (sym c.is_empty.ensures ∙ c.if-is_empty.true));
+  good = sym c.as_slice-2.ensures.value ∙ nil_from_length c.as_slice-2.result.now (eqb-true (length c.as_slice-2.result.now) 0 (sym c.is_empty.ensures ∙ c.if-is_empty.true));
   same = refl;
   two = search rules;
 }

@@ -1,10 +1,14 @@
-use Rattle.std.proofs.Common.{◌≡◌, ◌+◌, ℕ, [], ◌∷◌, ◌++◌, length, length-append, append_assoc, sym, ap, ◌∙◌, subst, arith}
-use Rattle.std.specs.Prelude.{string_bytes}
+use Rattle.std.proofs.Common.{◌≡◌, ◌+◌, ℕ, [], ◌∷◌, ◌++◌, length, length-append, append_assoc, append-nil, refl, sym, ap, ◌∙◌, subst, arith}
+use Rattle.std.specs.List.{AllZip}
 use Rattle.recall_text.specs.Words.{name_at}
 use Rattle.folder_commands.specs.Folders.{file_path}
-use Rattle.folder_commands.specs.Making.{exists_lines, line_where}
-use Rattle.folder_commands.proofs.MakingLemmas.{exists_more, looks_more}
+use Rattle.folder_commands.specs.Making.{existing, name_where}
+use Rattle.folder_commands.specs.Refusals.{IsExists}
+use Rattle.folder_commands.proofs.MakingLemmas.{existing_more, looks_more, zip_both}
 use Rattle.folder_commands.proofs.making.push_existing.Goals as goal
+
+pub loop-number-init : goal.loop-number-init
+loop-number-init g c = (([], refl, refl, [], tt, sym (append-nil c.args.refusals.now.items)), omega arith)
 
 pub loop-number-preserved : goal.loop-number-preserved
 loop-number-preserved g c =
@@ -20,14 +24,18 @@ loop-number-preserved g c =
     let path : c.as_str.result.now ≡ file_path folder (name_at sites (0 + length found)) =
     c.as_str.ensures.value ∙ c.in_ok-path.ensures ∙ ap (λ (n : ℕ). file_path folder (name_at sites n)) place in
     let name : c.name_of.result.now ≡ name_at sites (0 + length found) = c.name_of.ensures ∙ ap (λ (n : ℕ). name_at sites n) place in
-    let so_far = string_bytes c.args.refusals.now in (
+    let so_far = c.args.refusals.now.items in
+    let others = before.3 in
+    let more = c.in_ok-push_where.ensures.2 in (
       (
         found ++ one ∷ [],
         looks_more finds folder sites 0 c.args.files.now files after found one before.1 (subst (λ p. finds files p one after) path c.in_ok-push_where.ensures.1),
         length-append found (one ∷ []) ∙ ap (λ (n : ℕ). n + 1) before.2,
-        c.in_ok-push_where.ensures.2 ∙ ap (λ text. text ++ line_where one c.name_of.result.now) before.3
-            ∙ append_assoc so_far (exists_lines sites 0 found) (line_where one c.name_of.result.now)
-            ∙ ap (λ text. so_far ++ text) (ap (λ nm. exists_lines sites 0 found ++ line_where one nm) name ∙ sym (exists_more sites 0 found one)),
+        others ++ more,
+        subst (λ names. AllZip IsExists names (others ++ more)) (sym (existing_more sites 0 found one))
+            (zip_both IsExists (existing sites 0 found) (name_where one (name_at sites (0 + length found))) others more before.4
+            (subst (λ nm. AllZip IsExists (name_where one nm) more) name c.in_ok-push_where.ensures.3)),
+        c.in_ok-push_where.ensures.4 ∙ ap (λ whys. whys ++ more) before.5 ∙ append_assoc so_far others more,
       ),
       omega (arith, c.loop-number-test.true),
     )

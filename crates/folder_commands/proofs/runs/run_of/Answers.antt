@@ -25,10 +25,9 @@ returns-in-Ok-run_world-clause-answered g c =
     let failed = g.K.SiteKeeper.failed in
     let run = c.in-Ok-run_world.run' in
     let ran = c.in-Ok-run_world.ensures in
-    let sites = c.args.sites.now in
     let counts = c.as_slice-in-Ok-run_world.ensures.value ∙ (c.in-Ok.ensures.failures ∙ ap (map failed) c.as_slice.ensures.value) in
     elim c.match-tell_run.branch [
-      | in-Ok-tell_run w ↦ rw w.ran-is (came_to_its_end shown failed sites c.args.turns c.args.keepers.items run.keepers.items c.in-Ok.desks.items run.lists.items _ _ _ ran.began ran.kept c.in-Ok.ensures.limits ran.ends ran.turns counts w.in-Ok-tell_run.ensures)
+      | in-Ok-tell_run w ↦ rw w.ran-is (came_to_its_end shown failed c.args.turns c.args.keepers.items run.keepers.items c.in-Ok.desks.items run.lists.items _ _ _ ran.began ran.kept c.in-Ok.ensures.limits ran.ends ran.turns counts w.in-Ok-tell_run.ensures.told w.in-Ok-tell_run.ensures.noted)
       | in-Err-tell_run w ↦ rw w.ran-is tt
     ]
 
@@ -37,7 +36,7 @@ returns-clause-answered g c =
     let left = c.in-Err.field-0 in
     let why = c.in-Err.ensures.err in
     ok_so c.tell_cause.result
-    (λ r told. misfit_told g.K.SiteKeeper.shown g.K.SiteKeeper.may g.K.SiteKeeper.failed c.args.sites.now c.args.turns c.args.keepers.items left.keepers.items left.cause r.answer r.notes why.0 why.1 told.0 told.1)
+    (λ r told. misfit_told g.K.SiteKeeper.shown g.K.SiteKeeper.may g.K.SiteKeeper.failed c.args.turns c.args.keepers.items left.keepers.items left.cause r.outcome r.notes why.0 why.1 told.0 told.1)
     c.tell_cause.ensures.answered
 
 pub returns-in-Ok-run_world-clause-stored : goal.returns-in-Ok-run_world-clause-stored

@@ -9,12 +9,9 @@ use Rattle.recall_text.proofs.site_lists.read_sites.Goals.{then-not-is_empty+in_
 pub loop-end-init : goal.loop-end-init
 loop-end-init c =
     record {
-      so_far = none_read c.args.text.now c.new-list.result c.new-list.ensures.sites c.new-list.ensures.refusals;
+      so_far = none_read c.args.text.now c.new-list.result c.new-list.ensures.sites c.new-list.ensures.refused;
       within = omega arith;
     }
-
-pub overflow_add-rest : goal.overflow_add-rest
-overflow_add-rest c = search (rules, c.in-Some.ensures.some.inside, c.loop-end.invariant.within)
 
 pub loop-end-preserved : goal.loop-end-preserved
 loop-end-preserved c =
@@ -22,20 +19,20 @@ loop-end-preserved c =
     let end = c.in-Some.end in
     let after = take_rest rest (end + 1) in
     record {
-      so_far = subst (IsReadTo c.args.text.now c.take_line.new.self) (sym after)
-          (ended_line_read c.args.text.now c.loop-end.list c.take_line.new.self rest end c.loop-end.invariant.so_far c.in-Some.ensures.some
-          (subst (λ line. AddsLine c.loop-end.list line c.take_line.new.self) c.content_len.ensures.content c.in_ok-take_line.ensures));
-      within = omega (arith, c.in-Some.ensures.some.inside, length-drop (end + 1) rest, take_rest rest (end + 1), c.loop-end.invariant.within);
+      so_far = subst (IsReadTo c.args.text.now c.take_line.new.self (c.loop-end.number + 1)) (sym after)
+          (ended_line_read c.args.text.now c.loop-end.list c.take_line.new.self c.loop-end.number rest end c.loop-end.invariant.so_far c.in-Some.ensures.some
+          (subst (λ line. AddsLine c.loop-end.list c.loop-end.number line c.take_line.new.self) c.content_len.ensures.content c.in_ok-take_line.ensures));
+      within = omega (arith, c.in-Some.ensures.some.inside, length-drop (end + 1) rest, c.loop-end.invariant.within);
     }
 
 pub returns : goal.returns
 returns c = elim c.if-not-is_empty.branch [
   | then-not-is_empty+in_ok-take_line-2 w ↦
       rw w.list-is
-      (all_read c.args.text.now w.take_line-then-not-is_empty.new.self
-      (last_line_read c.args.text.now c.loop-end.list w.take_line-then-not-is_empty.new.self c.loop-end.rest.now c.loop-end.invariant.so_far (search rules) (search rules) w.in_ok-take_line-2.ensures))
+      (all_read c.args.text.now w.take_line-then-not-is_empty.new.self (c.loop-end.number + 1)
+      (last_line_read c.args.text.now c.loop-end.list w.take_line-then-not-is_empty.new.self c.loop-end.number c.loop-end.rest.now c.loop-end.invariant.so_far (search rules) (search rules) w.in_ok-take_line-2.ensures))
   | else-not-is_empty w ↦
       rw w.list-is
-      (all_read c.args.text.now c.loop-end.list
-      (subst (IsReadTo c.args.text.now c.loop-end.list) (no_bytes c.loop-end.rest.now (search rules)) c.loop-end.invariant.so_far))
+      (all_read c.args.text.now c.loop-end.list c.loop-end.number
+      (subst (IsReadTo c.args.text.now c.loop-end.list c.loop-end.number) (no_bytes c.loop-end.rest.now (search rules)) c.loop-end.invariant.so_far))
 ]

@@ -1,9 +1,0 @@
-use Rattle.std.proofs.Common.{◌≡◌, ◌++◌, ◌+◌, drop, string_bytes}
-use Rattle.std.specs.List.{enumerate_from, flat_map}
-use Rattle.folder_commands.specs.Reports.{step_text, trail_text}
-use Rattle.folder_commands.proofs.reports.push_trail.Given as goal
-
--- the steps so far and those of the rest are all of them
-abbrev pub invariant-loop-place : goal.invariant-loop-place
-invariant-loop-place l =
-    string_bytes l.text ++ flat_map (step_text l.sites) (enumerate_from (l.place + 1) (drop l.place l.trail)) ≡ string_bytes l.fn.text ++ trail_text l.sites l.trail

@@ -1,0 +1,66 @@
+//! What captures pass over: what documents say that isn't traced.
+
+ghost use Rattle.std.specs.Prelude.{◌≡◌, Some, Ok, IfOk, string_bytes};
+ghost use Rattle.event_json.specs.Untraced.{text_untraced};
+ghost use Rattle.event_json.specs.declared.documents.Doc.{Doc};
+ghost use Rattle.event_json.specs.declared.untraced.Untraced.{Untraced};
+ghost use Rattle.site_core.specs.Steps.{IsReadAs};
+ghost use Rattle.folder_commands.specs.Untold.{TellsWhere, none_untraced, with_untraced};
+
+use event_json::{ReadFault, Sites, Untraced, read_untraced};
+use recall_outcomes::{Fault, Outcome, untraced_text};
+use std::alloc::{AllocError, Global};
+
+/// Nothing was passed over.
+pub(crate) fn none_untraced() -> Untraced
+    ensures { result ≡ none_untraced }
+{
+    Untraced {
+        skipped: 0,
+        aimless: 0,
+        outside: 0,
+        unnamed: 0,
+    }
+}
+
+/// With what one document more says that isn't traced. Each count is at most 2^64 - 1, and stays there.
+pub(crate) fn with_untraced(all: Untraced, one: Untraced) -> Untraced
+    ensures { result ≡ with_untraced all one }
+{
+    Untraced {
+        skipped: all.skipped.saturating_add(one.skipped),
+        aimless: all.aimless.saturating_add(one.aimless),
+        outside: all.outside.saturating_add(one.outside),
+        unnamed: all.unnamed.saturating_add(one.unnamed),
+    }
+}
+
+/// What a document says that isn't traced; `None` where it is refused as a document.
+pub(crate) fn untraced_of(
+    alloc: Global,
+    document: &[u8],
+    sites: &Sites,
+) -> Result<Option<Untraced>, Fault>
+    ensures { (doc : Doc) → IsReadAs sites.now document.now (Ok doc)
+        → IfOk result (λ found. (untraced : Untraced) × (found ≡ Some untraced) × (text_untraced sites.now document.now ≡ Ok untraced)) }
+{
+    match read_untraced(alloc, document, sites) {
+        Ok(untraced) => Ok(Some(untraced)),
+        Err(ReadFault::Doc(_)) => Ok(None),
+        Err(ReadFault::NoMemory) => Err(Fault::NoMemory),
+    }
+}
+
+/// What is told of a document that was captured.
+pub(crate) fn told_untraced(
+    alloc: Global,
+    outcome: &Outcome,
+    untraced: &Option<Untraced>,
+) -> Result<Option<String>, AllocError>
+    ensures { IfOk result (TellsWhere outcome.now untraced.now) }
+{
+    match (outcome, untraced) {
+        (Outcome::Stepped(_), Some(untraced)) => Ok(Some(untraced_text(alloc, untraced)?)),
+        _ => Ok(None),
+    }
+}

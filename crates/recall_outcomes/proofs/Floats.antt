@@ -1,0 +1,97 @@
+-- No value that is printed has a float, so that its text is known byte for byte.
+use Rattle.std.proofs.Common.{◌≡◌, ℕ, false, List, [], ◌∷◌, Option, Some, None, refl, ap₂, ap}
+use Rattle.std.specs.Prelude.{◌||◌}
+use Rattle.std.specs.List.{zip}
+use Rattle.event_json.specs.Sites.{Site}
+use Rattle.frame_core.specs.Numbers.{Recall}
+use Rattle.report_core.specs.declared.audits.Verdict.{Verdict}
+use Rattle.report_core.specs.declared.audits.Verdict.TheVariants.{Equal, Differs}
+use Rattle.report_core.specs.declared.reports.RecallReport.{RecallReport}
+use Rattle.recall_text.specs.declared.site_lists.LineRefusal.{LineRefusal}
+use Rattle.recall_text.specs.declared.site_lists.LineRefusal.TheVariants.{BadLine, BadSite}
+use Rattle.serde_json.specs.Data.{Data, string}
+use Rattle.serde_json.specs.Written.{has_float}
+use Rattle.site_core.specs.declared.outcomes.Effects.{Effects}
+use Rattle.site_core.specs.declared.outcomes.Effects.TheVariants as effects
+use Rattle.site_core.specs.declared.outcomes.Refusal.TheVariants as steps
+use Rattle.trace_core.specs.declared.pairs.Pair.{Pair}
+use Rattle.recall_outcomes.specs.Json.{audited_json, created_json, document_json, effects_json, fault_json, list_of, outside_json, pair_json, report_json, traced_json, trail_json, verdict_json, why_json}
+use Rattle.recall_outcomes.specs.declared.documents.DocumentOutcome.{DocumentOutcome}
+use Rattle.recall_outcomes.specs.declared.documents.DocumentOutcome.TheVariants.{Captured, Refused}
+use Rattle.recall_outcomes.specs.declared.faults.Failure.{Failure}
+use Rattle.recall_outcomes.specs.declared.faults.Fault.{Fault}
+use Rattle.recall_outcomes.specs.declared.outcomes.AuditedRecall.{AuditedRecall}
+use Rattle.recall_outcomes.specs.declared.outcomes.CommandRefusal.{CommandRefusal}
+use Rattle.recall_outcomes.specs.declared.outcomes.CommandRefusal.TheVariants as refusals
+
+-- a list whose values have none
+list_free : {X : Type 0} (of : X → Data) → ((x : X) → has_float (of x) ≡ false) → (xs : List X) → has_float (list_of of xs) ≡ false
+list_free of free [] = refl
+list_free of free (x ∷ xs) = ap₂ (λ a b. a || b) (free x) (list_free of free xs)
+
+trail_free : (sites : List Site) (trail : Option (List Pair)) → has_float (trail_json sites trail) ≡ false
+trail_free sites None = refl
+trail_free sites (Some trail) = list_free (pair_json sites) (λ p. refl) trail
+
+traced_free : (sites : List Site) (t : Pair × Option (List Pair)) → has_float (traced_json sites t) ≡ false
+traced_free sites (p, trail) = ap (λ b. b || false) (trail_free sites trail)
+
+pub report_free : (sites : List Site) (r : Recall) (report : RecallReport) → has_float (report_json sites r report) ≡ false
+report_free sites r report =
+    ap₂ (λ a b. a || (b || false)) (list_free (outside_json sites) (λ x. refl) report.outside)
+    (list_free (traced_json sites) (traced_free sites) (zip report.pairs report.trails))
+
+pub created_free : (sites : List Site) → has_float (created_json sites) ≡ false
+created_free sites = ap (λ b. b || false) (list_free (λ (s : Site). string s.name) (λ s. refl) sites)
+
+pub effects_free : (sites : List Site) (e : Effects) → has_float (effects_json sites e) ≡ false
+effects_free sites (effects.Captured fresh known skipped) = refl
+effects_free sites (effects.Started r new numbered ended) = refl
+effects_free sites (effects.Received new numbered owed) = refl
+effects_free sites effects.Repeat = refl
+effects_free sites effects.Stale = refl
+effects_free sites effects.Cleared = refl
+effects_free sites (effects.ParentDue m) = refl
+effects_free sites (effects.Ended r) = refl
+
+verdict_free : (sites : List Site) (r : Recall) (verdict : Option Verdict) → has_float (verdict_json sites r verdict) ≡ false
+verdict_free sites r None = refl
+verdict_free sites r (Some (Equal count)) = refl
+verdict_free sites r (Some (Differs p missing)) = refl
+
+pub audited_free : (sites : List Site) (a : AuditedRecall) → has_float (audited_json sites a) ≡ false
+audited_free sites a = verdict_free sites a.recall a.verdict
+
+pub why_free : (sites : List Site) (why : CommandRefusal) → has_float (why_json sites why) ≡ false
+why_free sites (refusals.Line line) = line_free line.why
+  where
+    line_free : (why : LineRefusal) → has_float (why_json sites (refusals.Line (record { line = line.line; why = why }))) ≡ false
+    line_free BadLine = refl
+    line_free (BadSite fault) = refl
+why_free sites refusals.NoWorld = refl
+why_free sites (refusals.Exists name) = refl
+why_free sites (refusals.NoSite name) = refl
+why_free sites refusals.BadEpc = refl
+why_free sites refusals.BadRecall = refl
+why_free sites refusals.UnknownRecall = refl
+why_free sites (refusals.Step (steps.Blocked r item event)) = refl
+why_free sites (refusals.Step (steps.IdTaken event)) = refl
+why_free sites (refusals.Step steps.UnknownItem) = refl
+why_free sites (refusals.Step steps.NotMine) = refl
+why_free sites (refusals.Step steps.NumbersSpent) = refl
+why_free sites (refusals.Step (steps.Doc fault)) = refl
+why_free sites (refusals.Step steps.NoMemory) = refl
+
+pub document_free : (sites : List Site) (source : List ℕ) (came : DocumentOutcome) → has_float (document_json sites source came) ≡ false
+document_free sites source (Captured fresh known skipped) = refl
+document_free sites source (Refused (steps.Blocked r item event)) = refl
+document_free sites source (Refused (steps.IdTaken event)) = refl
+document_free sites source (Refused steps.UnknownItem) = refl
+document_free sites source (Refused steps.NotMine) = refl
+document_free sites source (Refused steps.NumbersSpent) = refl
+document_free sites source (Refused (steps.Doc fault)) = refl
+document_free sites source (Refused steps.NoMemory) = refl
+
+pub fault_free : (fault : Fault) (failure : Option Failure) → has_float (fault_json fault failure) ≡ false
+fault_free fault None = refl
+fault_free fault (Some failure) = elim failure.cause as (λ cause. has_float (fault_json fault (Some (record { file = failure.file; cause = cause }))) ≡ false) [ None ↦ refl | Some cause ↦ refl ]

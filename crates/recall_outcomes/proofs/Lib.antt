@@ -1,0 +1,8 @@
+pub mod DocumentLaws
+pub mod RefusalLaws
+pub mod ReportLemmas
+pub mod Floats
+pub mod SentenceLaws
+pub mod SentenceLemmas
+pub mod WordLemmas
+pub mod JsonLists

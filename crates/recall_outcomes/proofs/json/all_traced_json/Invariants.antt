@@ -1,0 +1,10 @@
+use Rattle.std.proofs.Common.{◌≡◌, ◌++◌, map}
+use Rattle.std.specs.List.{zip}
+use Rattle.serde_json.specs.View.{view}
+use Rattle.recall_outcomes.specs.Json.{traced_json}
+use Rattle.recall_outcomes.proofs.json.all_traced_json.Given as goal
+
+-- the values so far and those of the rest are all of them
+abbrev pub invariant-loop-pair : goal.invariant-loop-pair
+invariant-loop-pair l =
+    map view l.list.items ++ map (traced_json l.sites) (zip l.pair-iterator.a.rest.now l.pair-iterator.b.rest.now) ≡ map (traced_json l.sites) (zip l.pairs l.trails)

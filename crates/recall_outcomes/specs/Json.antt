@@ -1,0 +1,221 @@
+-- What a command came to, as JSON: values whose members are in the order of their names.
+use Rattle.std.specs.Prelude.{ℕ, Bool, List, [], ◌∷◌, ◌++◌, codes, Option, Some, None, map, string_bytes}
+use Rattle.std.specs.List.{flat_map, zip}
+use Rattle.event_json.specs.Names.{field_name, kind_name, sites_fault_name}
+use Rattle.event_json.specs.Sites.{Site}
+use Rattle.event_json.specs.declared.doc_faults.DocFault.{DocFault}
+use Rattle.frame_core.specs.Numbers.{Recall}
+use Rattle.report_core.specs.declared.audits.Verdict.{Verdict}
+use Rattle.report_core.specs.declared.audits.Verdict.TheVariants.{Equal, Differs}
+use Rattle.report_core.specs.declared.outside.OutsideShipment.{OutsideShipment}
+use Rattle.report_core.specs.declared.reports.RecallReport.{RecallReport}
+use Rattle.recall_text.specs.Words.{name_at, recall_text, message_text}
+use Rattle.recall_text.specs.declared.site_lists.LineRefusal.{LineRefusal}
+use Rattle.recall_text.specs.declared.site_lists.LineRefusal.TheVariants.{BadLine, BadSite}
+use Rattle.serde_json.specs.Data.{Data, null, boolean, number, unsigned, string, array, object, Members, member, no_members, put}
+use Rattle.serde_json.specs.View.{items_of}
+use Rattle.serde_json.specs.Written.{compact_text}
+use Rattle.std.specs.Global.{Global}
+use Rattle.std.specs.declared.string.String.{String}
+use Rattle.site_core.specs.declared.outcomes.Effects.{Effects}
+use Rattle.site_core.specs.declared.outcomes.Effects.TheVariants as effects
+use Rattle.site_core.specs.declared.outcomes.Refusal.{Refusal}
+use Rattle.site_core.specs.declared.outcomes.Refusal.TheVariants as steps
+use Rattle.site_recovery.specs.declared.checking.Misfit.{Misfit}
+use Rattle.trace_core.specs.declared.pairs.Pair.{Pair}
+use Rattle.recall_outcomes.specs.Faults.{fault_name}
+use Rattle.recall_outcomes.specs.declared.documents.DocumentOutcome.{DocumentOutcome}
+use Rattle.recall_outcomes.specs.declared.documents.DocumentOutcome.TheVariants.{Captured, Refused}
+use Rattle.recall_outcomes.specs.declared.documents.Totals.{Totals}
+use Rattle.recall_outcomes.specs.declared.faults.Failure.{Failure}
+use Rattle.recall_outcomes.specs.declared.faults.Fault.{Fault}
+use Rattle.recall_outcomes.specs.declared.outcomes.AuditedRecall.{AuditedRecall}
+use Rattle.recall_outcomes.specs.declared.outcomes.CommandRefusal.{CommandRefusal}
+use Rattle.recall_outcomes.specs.declared.outcomes.CommandRefusal.TheVariants as refusals
+use Rattle.recall_outcomes.specs.declared.outcomes.Outcome.{Outcome}
+use Rattle.recall_outcomes.specs.declared.outcomes.Outcome.TheVariants as outcomes
+use Rattle.recall_outcomes.specs.declared.outcomes.StartedRecall.{StartedRecall}
+
+-- a member of a name, with those behind it
+abbrev pub text_at : List ℕ → List ℕ → Members → Members
+text_at name text rest = member name (string text) rest
+
+abbrev pub count_at : List ℕ → ℕ → Members → Members
+count_at name count rest = member name (number (unsigned count)) rest
+
+abbrev pub flag_at : List ℕ → Bool → Members → Members
+flag_at name flag rest = member name (boolean flag) rest
+
+-- an array
+abbrev pub list_of : {X : Type 0} → (X → Data) → List X → Data
+list_of of xs = array (items_of (map of xs))
+
+-- ---- a step
+
+abbrev pub captured_members : ℕ → ℕ → ℕ → Members
+captured_members fresh known skipped =
+    count_at (codes "captured") fresh (count_at (codes "known") known (count_at (codes "skipped") skipped no_members))
+
+abbrev pub effects_json : List Site → Effects → Data
+effects_json sites (effects.Captured fresh known skipped) = object (captured_members fresh known skipped)
+effects_json sites (effects.Started r new numbered ended) =
+    object (flag_at (codes "ended") ended (count_at (codes "messages") numbered (count_at (codes "new") new (text_at (codes "recall") (recall_text sites r) no_members))))
+effects_json sites (effects.Received new numbered owed) =
+    object (count_at (codes "messages") numbered (count_at (codes "new") new (flag_at (codes "owed") owed no_members)))
+effects_json sites effects.Repeat = object (text_at (codes "effect") (codes "repeat") no_members)
+effects_json sites effects.Stale = object (text_at (codes "effect") (codes "stale") no_members)
+effects_json sites effects.Cleared = object (text_at (codes "effect") (codes "cleared") no_members)
+effects_json sites (effects.ParentDue m) = object (text_at (codes "due") (message_text sites m) (text_at (codes "effect") (codes "due") no_members))
+effects_json sites (effects.Ended r) = object (text_at (codes "effect") (codes "ended") (text_at (codes "recall") (recall_text sites r) no_members))
+
+-- ---- a run
+
+abbrev pub ran_json : List Site → StartedRecall → Data
+ran_json sites b = object (flag_at (codes "ended") b.ended (text_at (codes "recall") (recall_text sites b.recall) no_members))
+
+-- ---- a report
+
+-- the item, as its key, and the site; what is named behind them stands behind
+abbrev pub pair_members : List Site → Pair → Members → Members
+pair_members sites p rest = text_at (codes "item") p.item (text_at (codes "site") (name_at sites p.site) rest)
+
+abbrev pub pair_json : List Site → Pair → Data
+pair_json sites p = object (pair_members sites p no_members)
+
+-- from the root to the pair, or null where no chain leads there
+abbrev pub trail_json : List Site → Option (List Pair) → Data
+trail_json sites None = null
+trail_json sites (Some trail) = list_of (pair_json sites) trail
+
+abbrev pub traced_json : List Site → Pair × Option (List Pair) → Data
+traced_json sites (p, trail) = object (pair_members sites p (member (codes "trail") (trail_json sites trail) no_members))
+
+abbrev pub outside_json : List Site → OutsideShipment → Data
+outside_json sites x =
+    object (text_at (codes "destination") x.destination (text_at (codes "item") x.item (text_at (codes "site") (name_at sites x.site) no_members)))
+
+abbrev pub report_json : List Site → Recall → RecallReport → Data
+report_json sites r report =
+    object (flag_at (codes "ended") report.ended
+    (member (codes "outside") (list_of (outside_json sites) report.outside)
+    (member (codes "pairs") (list_of (traced_json sites) (zip report.pairs report.trails))
+    (text_at (codes "recall") (recall_text sites r)
+    (member (codes "root") (pair_json sites report.root) no_members)))))
+
+-- ---- an audit
+
+abbrev pub misfit_json : List Site → Misfit → Data
+misfit_json sites misfit = object (count_at (codes "misfit") misfit.condition (text_at (codes "site") (name_at sites misfit.site) no_members))
+
+abbrev pub differs_json : List Site → List ℕ → Pair → Bool → Data
+differs_json sites recall p missing =
+    object (text_at (codes "audit") (codes "differs") (text_at (codes "item") p.item (flag_at (codes "missing") missing
+    (text_at (codes "recall") recall (text_at (codes "site") (name_at sites p.site) no_members)))))
+
+abbrev pub verdict_json : List Site → Recall → Option Verdict → Data
+verdict_json sites r None = object (text_at (codes "audit") (codes "open") (text_at (codes "recall") (recall_text sites r) no_members))
+verdict_json sites r (Some (Equal count)) =
+    object (text_at (codes "audit") (codes "equal") (count_at (codes "pairs") count (text_at (codes "recall") (recall_text sites r) no_members)))
+verdict_json sites r (Some (Differs p missing)) = differs_json sites (recall_text sites r) p missing
+
+abbrev pub audited_json : List Site → AuditedRecall → Data
+audited_json sites audited = verdict_json sites audited.recall audited.verdict
+
+-- ---- refusals
+
+abbrev pub refused : List ℕ → Members → Members
+refused name rest = text_at (codes "refused") name rest
+
+abbrev pub doc_members : DocFault → Members
+doc_members fault =
+    count_at (codes "event") fault.event (text_at (codes "field") (field_name fault.field) (text_at (codes "kind") (kind_name fault.kind) (refused (codes "Doc") no_members)))
+
+abbrev pub blocked_members : List Site → Recall → List ℕ → ℕ → Members
+blocked_members sites r item event =
+    count_at (codes "event") event (text_at (codes "item") item (text_at (codes "recall") (recall_text sites r) (refused (codes "Blocked") no_members)))
+
+abbrev pub step_members : List Site → Refusal → Members
+step_members sites (steps.Blocked r item event) = blocked_members sites r item event
+step_members sites (steps.IdTaken event) = count_at (codes "event") event (refused (codes "IdTaken") no_members)
+step_members sites steps.UnknownItem = refused (codes "UnknownItem") no_members
+step_members sites steps.NotMine = refused (codes "NotMine") no_members
+step_members sites steps.NumbersSpent = refused (codes "NumbersSpent") no_members
+step_members sites (steps.Doc fault) = doc_members fault
+step_members sites steps.NoMemory = refused (codes "NoMemory") no_members
+
+abbrev pub line_members : ℕ → LineRefusal → Members
+line_members line BadLine = count_at (codes "line") line (refused (codes "BadLine") no_members)
+line_members line (BadSite why) = text_at (codes "kind") (sites_fault_name why) (count_at (codes "line") line (refused (codes "BadSite") no_members))
+
+abbrev pub why_members : List Site → CommandRefusal → Members
+why_members sites (refusals.Line refused) = line_members refused.line refused.why
+why_members sites refusals.NoWorld = refused (codes "NoWorld") no_members
+why_members sites (refusals.Exists name) = text_at (codes "name") (string_bytes name) (refused (codes "Exists") no_members)
+why_members sites (refusals.NoSite name) = refused (codes "NoSite") (text_at (codes "site") (string_bytes name) no_members)
+why_members sites refusals.BadEpc = refused (codes "BadEpc") no_members
+why_members sites refusals.BadRecall = refused (codes "BadLine") no_members
+why_members sites refusals.UnknownRecall = refused (codes "UnknownRecall") no_members
+why_members sites (refusals.Step why) = step_members sites why
+
+abbrev pub why_json : List Site → CommandRefusal → Data
+why_json sites why = object (why_members sites why)
+
+-- ---- the whole
+
+-- the names of the sites whose files were made
+abbrev pub created_json : List Site → Data
+created_json sites = object (member (codes "created") (list_of (λ s. string s.name) sites) no_members)
+
+-- a value for each line
+abbrev pub outcome_json : List Site → Outcome → List Data
+outcome_json sites outcomes.Created = created_json sites ∷ []
+outcome_json sites (outcomes.Stepped effects) = effects_json sites effects ∷ []
+outcome_json sites (outcomes.Ran recalls) = map (ran_json sites) recalls.items
+outcome_json sites (outcomes.Reported r report) = report_json sites r report ∷ []
+outcome_json sites (outcomes.Audited recalls) = map (audited_json sites) recalls.items
+outcome_json sites (outcomes.Inconsistent misfit) = misfit_json sites misfit ∷ []
+outcome_json sites (outcomes.Refused whys) = map (why_json sites) whys.items
+
+-- ---- documents of a capture of several, with their source
+
+abbrev pub document_members : List Site → DocumentOutcome → Members
+document_members sites (Captured fresh known skipped) = captured_members fresh known skipped
+document_members sites (Refused why) = step_members sites why
+
+abbrev pub document_json : List Site → List ℕ → DocumentOutcome → Data
+document_json sites source came = object (put (codes "file") (string source) (document_members sites came))
+
+abbrev pub totals_json : Totals → Data
+totals_json t =
+    object (count_at (codes "captured") t.captured (count_at (codes "documents") t.documents (count_at (codes "known") t.known
+    (count_at (codes "refused") t.refused (count_at (codes "skipped") t.skipped no_members)))))
+
+-- ---- faults and notes
+
+abbrev pub cause_at : List ℕ → Members → Members
+cause_at cause rest = text_at (codes "cause") cause rest
+
+abbrev pub fault_members : List ℕ → Option Failure → Members
+fault_members name None = text_at (codes "fault") name no_members
+fault_members name (Some failure) = of_cause failure.cause where
+  behind : Members
+  behind = text_at (codes "fault") name (text_at (codes "file") (string_bytes failure.file) no_members)
+
+  of_cause : Option (String Global) → Members
+  of_cause None = behind
+  of_cause (Some cause) = cause_at (string_bytes cause) behind
+
+abbrev pub fault_json : Fault → Option Failure → Data
+fault_json fault failure = object (fault_members (fault_name fault) failure)
+
+-- a line of the error stream that is no fault
+abbrev pub note_json : List ℕ → Data
+note_json line = object (text_at (codes "note") line no_members)
+
+-- ---- as lines
+
+abbrev pub json_line : Data → List ℕ
+json_line d = compact_text d ++ 10 ∷ []
+
+abbrev pub json_lines : List Data → List ℕ
+json_lines ds = flat_map json_line ds

@@ -1,0 +1,78 @@
+-- What the texts, the statuses and the sentences have to do with one another.
+use Rattle.std.specs.Prelude.{◌≡◌, ◌<◌, ◌^◌, ⊤, ℕ, List, [], ◌∷◌, ◌++◌, codes, All, bytes_eq, length, map, string_bytes}
+use Rattle.std.specs.List.{dedup, slice_split}
+use Rattle.std.specs.Str.Lines.{lines}
+use Rattle.event_json.specs.Sites.{Site}
+use Rattle.recall_text.specs.Lines.{is_newline, IsWithinLine}
+use Rattle.recall_text.specs.Words.{name_at}
+use Rattle.site_core.specs.declared.outcomes.Effects.TheVariants as effects
+use Rattle.site_core.specs.declared.outcomes.Refusal.{Refusal}
+use Rattle.site_core.specs.declared.outcomes.Refusal.TheVariants as steps
+use Rattle.recall_outcomes.specs.Documents.{document_words, totals_status, with_one}
+use Rattle.recall_outcomes.specs.Sentences.{outcome_sentences, why_sentence}
+use Rattle.recall_outcomes.specs.Statuses.{outcome_status}
+use Rattle.recall_outcomes.specs.Texts.{outcome_text, why_words}
+use Rattle.recall_outcomes.specs.declared.documents.DocumentOutcome.{DocumentOutcome}
+use Rattle.recall_outcomes.specs.declared.documents.DocumentOutcome.TheVariants as documents
+use Rattle.recall_outcomes.specs.declared.documents.Totals.{Totals}
+use Rattle.recall_outcomes.specs.declared.outcomes.CommandRefusal.{CommandRefusal}
+use Rattle.recall_outcomes.specs.declared.outcomes.CommandRefusal.TheVariants as refusals
+use Rattle.recall_outcomes.specs.declared.outcomes.Outcome.{Outcome}
+use Rattle.recall_outcomes.specs.declared.outcomes.Outcome.TheVariants as outcomes
+
+abbrev pub IsRefused : Outcome → Type 0
+IsRefused (outcomes.Refused whys) = ⊤
+IsRefused other = ⊥
+
+-- for what reasons
+abbrev pub refusals_of : Outcome → List CommandRefusal
+refusals_of (outcomes.Refused whys) = whys.items
+refusals_of other = []
+
+abbrev pub BeginsRefused : List ℕ → Type 0
+BeginsRefused text = (rest : List ℕ) × (text ≡ codes "refused " ++ rest)
+
+-- With status 1 ends what was refused, and its text begins so, where there is a reason.
+abbrev pub OneIsRefused : Type 0
+OneIsRefused =
+    (sites : List Site) (o : Outcome) → outcome_status o ≡ 1 → IsRefused o × (0 < length (refusals_of o) → BeginsRefused (outcome_text sites o))
+
+-- No name that a step's refusal has holds a line's end, and its numbers are of 64 bits.
+abbrev pub IsPlainStep : List Site → Refusal → Type 0
+IsPlainStep sites (steps.Blocked r item event) = IsWithinLine (name_at sites r.site) × IsWithinLine item × (r.number < 2 ^ 64) × (event < 2 ^ 64)
+IsPlainStep sites (steps.IdTaken event) = event < 2 ^ 64
+IsPlainStep sites (steps.Doc fault) = fault.event < 2 ^ 64
+IsPlainStep sites other = ⊤
+
+-- the same of each refusal
+abbrev pub IsPlain : List Site → CommandRefusal → Type 0
+IsPlain sites (refusals.Exists name) = IsWithinLine (string_bytes name)
+IsPlain sites (refusals.NoSite name) = IsWithinLine (string_bytes name)
+IsPlain sites (refusals.Step why) = IsPlainStep sites why
+IsPlain sites other = ⊤
+
+-- The text of what was refused has a line for each reason, in order, and nothing else.
+abbrev pub EachReasonIsALine : Type 0
+EachReasonIsALine =
+    (sites : List Site) (o : Outcome) → IsRefused o → All (IsPlain sites) (refusals_of o)
+    → slice_split is_newline (outcome_text sites o) ≡ map (λ why. codes "refused " ++ why_words sites why) (refusals_of o) ++ [] ∷ []
+
+-- Each sentence is a line.
+abbrev pub EachSentenceIsALine : Type 0
+EachSentenceIsALine = (o : Outcome) → lines (outcome_sentences o) ≡ dedup bytes_eq (map why_sentence (refusals_of o))
+
+-- the outcome of a command that captures one document alone
+abbrev pub IsOfDocument : DocumentOutcome → Outcome → Type 0
+IsOfDocument (documents.Captured fresh known skipped) o = o ≡ outcomes.Stepped (effects.Captured fresh known skipped)
+IsOfDocument (documents.Refused why) o = IsRefused o × (refusals_of o ≡ refusals.Step why ∷ [])
+
+-- Of several documents each has the words that it has alone.
+abbrev pub DocumentsHaveTheirWords : Type 0
+DocumentsHaveTheirWords =
+    (sites : List Site) (came : DocumentOutcome) (o : Outcome) → IsOfDocument came o → outcome_text sites o ≡ document_words sites came ++ 10 ∷ []
+
+-- A document that is refused makes the status 1, and one that is captured leaves it as it is.
+abbrev pub RefusedDocumentsAreCounted : Type 0
+RefusedDocumentsAreCounted =
+    (totals : Totals) → ((why : Refusal) → totals_status (with_one totals (documents.Refused why)) ≡ 1)
+    × ((fresh known skipped : ℕ) → totals_status (with_one totals (documents.Captured fresh known skipped)) ≡ totals_status totals)

@@ -1,0 +1,9 @@
+pub mod Documents
+pub mod Faults
+pub mod Json
+pub mod Printing
+pub mod Laws
+pub mod Notes
+pub mod Sentences
+pub mod Statuses
+pub mod Texts

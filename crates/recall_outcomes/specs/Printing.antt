@@ -1,0 +1,45 @@
+-- How what a command came to is printed, in either form.
+use Rattle.std.specs.Prelude.{ℕ, List, ◌++◌, Option, codes, map}
+use Rattle.std.specs.Str.Lines.{lines}
+use Rattle.event_json.specs.Sites.{Site}
+use Rattle.recall_outcomes.specs.Documents.{document_text, totals_text}
+use Rattle.recall_outcomes.specs.Faults.{fault_line, fault_name, fault_text}
+use Rattle.recall_outcomes.specs.Json.{document_json, fault_json, json_line, json_lines, note_json, outcome_json, totals_json}
+use Rattle.recall_outcomes.specs.Texts.{outcome_text}
+use Rattle.recall_outcomes.specs.declared.documents.DocumentOutcome.{DocumentOutcome}
+use Rattle.recall_outcomes.specs.declared.documents.Totals.{Totals}
+use Rattle.recall_outcomes.specs.declared.faults.Failure.{Failure}
+use Rattle.recall_outcomes.specs.declared.faults.Fault.{Fault}
+use Rattle.recall_outcomes.specs.declared.outcomes.Form.{Form}
+use Rattle.recall_outcomes.specs.declared.outcomes.Form.TheVariants.{Text, Json}
+use Rattle.recall_outcomes.specs.declared.outcomes.Outcome.{Outcome}
+
+-- what a command came to, on the standard output
+abbrev pub outcome_lines : Form → List Site → Outcome → List ℕ
+outcome_lines Text sites outcome = outcome_text sites outcome
+outcome_lines Json sites outcome = json_lines (outcome_json sites outcome)
+
+-- what a document of several came to, with its source
+abbrev pub document_line : Form → List Site → List ℕ → DocumentOutcome → List ℕ
+document_line Text sites source came = document_text sites source came
+document_line Json sites source came = json_line (document_json sites source came)
+
+-- what all of them came to
+abbrev pub totals_line : Form → Totals → List ℕ
+totals_line Text t = totals_text t
+totals_line Json t = json_line (totals_json t)
+
+-- a fault, on the error stream
+abbrev pub fault_lines : Form → Fault → Option Failure → List ℕ
+fault_lines Text fault failure = fault_text fault failure
+fault_lines Json fault failure = json_line (fault_json fault failure)
+
+-- a fault by its name alone
+abbrev pub bare_line : Form → Fault → List ℕ
+bare_line Text fault = fault_line fault
+bare_line Json fault = codes "{\"fault\":\"" ++ fault_name fault ++ codes "\"}\n"
+
+-- lines of the error stream that are no faults
+abbrev pub note_lines : Form → List ℕ → List ℕ
+note_lines Text text = text
+note_lines Json text = json_lines (map note_json (lines text))

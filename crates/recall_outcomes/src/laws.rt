@@ -1,0 +1,28 @@
+//! Laws of outcomes, each named by a function with an empty body whose contract is the law.
+
+ghost use Rattle.recall_outcomes.specs.Laws.{DocumentsHaveTheirWords, EachReasonIsALine, EachSentenceIsALine, OneIsRefused, RefusedDocumentsAreCounted};
+
+/// An outcome of status 1 is a refusal, and its text begins with `refused ` where it has a reason.
+pub fn status_one_is_refused()
+    ensures { OneIsRefused }
+{}
+
+/// Each reason of a refusal is a line, and there are no others, where the names that it has hold no line's end.
+pub fn each_reason_is_a_line()
+    ensures { EachReasonIsALine }
+{}
+
+/// Each sentence about a refusal is a line, and one that follows itself is there once.
+pub fn each_sentence_is_a_line()
+    ensures { EachSentenceIsALine }
+{}
+
+/// Each of several documents has the words that it has where it is captured alone.
+pub fn documents_have_their_words()
+    ensures { DocumentsHaveTheirWords }
+{}
+
+/// A refused document makes the status 1, and a captured one leaves it as it is.
+pub fn refused_documents_are_counted()
+    ensures { RefusedDocumentsAreCounted }
+{}

@@ -1,0 +1,22 @@
+//! What a command on the sites' files came to, as data, and how that is printed: as text, and as JSON.
+//!
+//! Commands return an [`Outcome`] or a [`Fault`]; the status of the program, the lines of the standard output and those
+//! of the error stream are functions of it, each stated once.
+#![tactic(auto)]
+
+mod documents;
+mod faults;
+mod json;
+pub mod laws;
+mod notes;
+mod outcomes;
+mod printing;
+mod report_texts;
+mod sentences;
+mod texts;
+
+pub use documents::{DocumentOutcome, Totals};
+pub use faults::{Failure, Fault};
+pub use notes::untraced_text;
+pub use outcomes::{AuditedRecall, CommandRefusal, Form, Outcome, StartedRecall};
+pub use printing::note_lines;

@@ -1,0 +1,138 @@
+//! The text of a report: a recall, the pairs that it quarantined with the trails to them, and what left the traced
+//! sites.
+
+ghost use Rattle.std.specs.Prelude.{◌≡◌, ◌++◌, IfOk, OnOk, string_bytes};
+ghost use Rattle.recall_outcomes.specs.Texts.{head_text, outside_text, outsides_text, pairs_text, report_text, step_text, trail_text};
+
+use event_json::{Sequence, Sites};
+use frame_core::RecallId;
+use recall_text::telling::{ended_word, name_of, push_pair, recall_text};
+use report_core::{OutsideShipment, RecallReport};
+use std::alloc::{AllocError, Global};
+use trace_core::Pair;
+
+/// The text of a report.
+pub(crate) fn report_text(
+    alloc: Global,
+    sites: &Sites,
+    recall: RecallId,
+    report: &RecallReport,
+) -> Result<String, AllocError>
+    ensures { IfOk result (λ t. string_bytes t ≡ report_text sites.now recall report.now) }
+{
+    let mut text = head_text(alloc, sites, recall, &report.root, report.ended)?;
+    push_pairs(
+        alloc,
+        &mut text,
+        sites,
+        report.pairs.as_slice(),
+        report.trails.as_slice(),
+    )?;
+    push_outsides(alloc, &mut text, sites, report.outside.as_slice())?;
+    let (pairs, outside) = (report.pairs.len(), report.outside.len());
+    let total = format!(in alloc; "total {pairs} outside {outside}\n")?;
+    text.push_str(total.as_str())?;
+    Ok(text)
+}
+
+/// The line of the recall and its root.
+fn head_text(
+    alloc: Global,
+    sites: &Sites,
+    recall: RecallId,
+    root: &Pair,
+    ended: bool,
+) -> Result<String, AllocError>
+    ensures { IfOk result (λ t. string_bytes t ≡ head_text sites.now recall root.now ended) }
+{
+    let recall = recall_text(alloc, sites, recall)?;
+    let recall = recall.as_str();
+    let key = root.item.key(alloc)?;
+    let word = ended_word(ended);
+    let mut text = format!(in alloc; "recall {recall} root ")?;
+    text.push_str(key.as_str())?;
+    let end = format!(in alloc; " {word}\n")?;
+    text.push_str(end.as_str())?;
+    Ok(text)
+}
+
+/// Adds each pair and the trail to it.
+fn push_pairs(
+    alloc: Global,
+    text: &mut String,
+    sites: &Sites,
+    pairs: &[Pair],
+    trails: &[Option<Sequence<Pair>>],
+) -> Result<(), AllocError>
+    ensures { OnOk result (string_bytes text.new ≡ string_bytes text.old ++ pairs_text sites.now pairs.now trails.now) }
+{
+    for (pair, trail) in pairs.iter().zip(trails) {
+        push_pair(alloc, text, sites, pair)?;
+        if let Some(trail) = trail {
+            push_trail(alloc, text, sites, trail.as_slice())?;
+        }
+    }
+    Ok(())
+}
+
+/// Adds a line for each pair of a trail, with its place on the trail, from 1.
+fn push_trail(
+    alloc: Global,
+    text: &mut String,
+    sites: &Sites,
+    trail: &[Pair],
+) -> Result<(), AllocError>
+    ensures { OnOk result (string_bytes text.new ≡ string_bytes text.old ++ trail_text sites.now trail.now) }
+{
+    for (place, pair) in trail.iter().enumerate() {
+        push_step(alloc, text, sites, place + 1, pair)?;
+    }
+    Ok(())
+}
+
+/// Adds the line of a pair of a trail at a place, from 1.
+fn push_step(
+    alloc: Global,
+    text: &mut String,
+    sites: &Sites,
+    place: usize,
+    pair: &Pair,
+) -> Result<(), AllocError>
+    ensures { OnOk result (string_bytes text.new ≡ string_bytes text.old ++ step_text sites.now (place, pair.now)) }
+{
+    let name = name_of(sites, pair.site);
+    let key = pair.item.key(alloc)?;
+    let line = format!(in alloc; "  {place} {name} {key}\n")?;
+    text.push_str(line.as_str())
+}
+
+/// Adds a line for each shipment out of the traced sites.
+fn push_outsides(
+    alloc: Global,
+    text: &mut String,
+    sites: &Sites,
+    outside: &[OutsideShipment],
+) -> Result<(), AllocError>
+    ensures { OnOk result (string_bytes text.new ≡ string_bytes text.old ++ outsides_text sites.now outside.now) }
+{
+    for shipment in outside {
+        push_outside(alloc, text, sites, shipment)?;
+    }
+    Ok(())
+}
+
+/// Adds the line of a shipment out of the traced sites.
+fn push_outside(
+    alloc: Global,
+    text: &mut String,
+    sites: &Sites,
+    shipment: &OutsideShipment,
+) -> Result<(), AllocError>
+    ensures { OnOk result (string_bytes text.new ≡ string_bytes text.old ++ outside_text sites.now shipment.now) }
+{
+    let name = name_of(sites, shipment.site);
+    let key = shipment.item.key(alloc)?;
+    let destination = shipment.destination.as_str();
+    let line = format!(in alloc; "outside {name} {key} {destination}\n")?;
+    text.push_str(line.as_str())
+}

@@ -1,0 +1,196 @@
+//! What a refusal means and what to do, in a sentence for the error stream.
+
+ghost use Rattle.std.specs.Prelude.{◌≡◌, ◌++◌, IfOk, OnOk, bytes_eq, map, option_map, string_bytes};
+ghost use Rattle.std.specs.List.{dedup, flat_map};
+ghost use Rattle.recall_outcomes.specs.Sentences.{is_last, kind_sentence, line_sentence, other_line, outcome_sentences, sentence_line, site_sentence, step_sentence, why_sentence};
+
+use crate::outcomes::{CommandRefusal, Outcome};
+use event_json::{DocFaultKind, SitesFault};
+use recall_text::LineRefusal;
+use site_core::Refusal;
+use std::alloc::{AllocError, Global};
+
+impl Outcome {
+    /// What its refusals mean and what to do, a line for each, of which one with the sentence of the one before it has
+    /// none. It is empty where nothing is refused.
+    ///
+    /// # Errors
+    /// Where memory runs out.
+    pub fn sentences(&self, alloc: Global) -> Result<String, AllocError>
+        ensures { IfOk result (λ t. string_bytes t ≡ outcome_sentences self.now) }
+    {
+        match self {
+            Outcome::Refused(whys) => sentences_of(alloc, whys.as_slice()),
+            _ => Ok(String::new(alloc)),
+        }
+    }
+}
+
+/// The sentences of refusals, each where it isn't that of the one before it.
+fn sentences_of(alloc: Global, whys: &[CommandRefusal]) -> Result<String, AllocError>
+    ensures { IfOk result (λ t. string_bytes t
+        ≡ flat_map sentence_line (dedup bytes_eq (map why_sentence whys.now))) }
+{
+    let mut text = String::new(alloc);
+    let mut last = None;
+    for why in whys {
+        let sentence = why.sentence();
+        push_other(&mut text, last, sentence)?;
+        last = Some(sentence);
+    }
+    Ok(text)
+}
+
+/// Adds the line of a sentence, where it isn't the last one.
+fn push_other(text: &mut String, last: Option<&str>, sentence: &str) -> Result<(), AllocError>
+    ensures { OnOk result (string_bytes text.new
+        ≡ string_bytes text.old ++ other_line (option_map (λ l. l.now) last.entry) sentence.now) }
+{
+    if is_last(last, sentence) {
+        return Ok(());
+    }
+    push_line(text, sentence)
+}
+
+/// Whether a sentence is the last one.
+fn is_last(last: Option<&str>, sentence: &str) -> bool
+    ensures { result ≡ is_last (option_map (λ l. l.now) last.entry) sentence.now }
+{
+    match last {
+        Some(last) => sentence == last,
+        None => false,
+    }
+}
+
+/// Adds the line of a sentence.
+fn push_line(text: &mut String, sentence: &str) -> Result<(), AllocError>
+    ensures { OnOk result (string_bytes text.new ≡ string_bytes text.old ++ sentence_line sentence.now) }
+{
+    text.push_str(sentence)?;
+    text.push_str("\n")
+}
+
+impl CommandRefusal {
+    /// What it means and what to do: a sentence without a full stop, which is the same for each refusal of its kind.
+    pub fn sentence(&self) -> &'static str
+        ensures { result.now ≡ why_sentence self.now }
+    {
+        match self {
+            CommandRefusal::Line(refused) => line_sentence(refused.why),
+            CommandRefusal::NoWorld => "fewer than two sites are listed: list two or more",
+            CommandRefusal::Exists(_) => {
+                "there is a file of this site, or a list of sites, already: use another folder, or remove the files if they are left of a `recall init` that crashed"
+            }
+            CommandRefusal::NoSite(_) => {
+                "the folder's list has no site of this name: look at its file `sites`, and at the order of the command's words"
+            }
+            CommandRefusal::BadEpc => {
+                "the text is empty, or has a space, a control character or more than 512 bytes: write an EPC as a URN or a link, not the key that is printed of it"
+            }
+            CommandRefusal::BadRecall => {
+                "a recall is written as a site's name, `#` and a number: `recall audit` lists the recalls"
+            }
+            CommandRefusal::UnknownRecall => "`recall audit` lists the recalls that sites began",
+            CommandRefusal::Step(why) => step_sentence(why),
+        }
+    }
+}
+
+/// What it means that a line of a list of sites is refused.
+fn line_sentence(why: LineRefusal) -> &'static str
+    ensures { result.now ≡ line_sentence why }
+{
+    match why {
+        LineRefusal::BadLine => {
+            "the line is neither a `site` line, nor empty, nor a comment: correct it; a byte order mark at the file's front counts as a part of the first line"
+        }
+        LineRefusal::BadSite(fault) => site_sentence(fault),
+    }
+}
+
+/// What it means that a site isn't added.
+fn site_sentence(fault: SitesFault) -> &'static str
+    ensures { result.now ≡ site_sentence fault }
+{
+    match fault {
+        SitesFault::NoMemory => "memory ran out, which is never a refusal: report it",
+        SitesFault::BadName => {
+            "the name of a site hasn't 1 to 16 characters of `A-Z a-z 0-9 _ -`: correct it"
+        }
+        SitesFault::NameTaken => "two sites have one name: give one of them another name",
+        SitesFault::TooMany => {
+            "the site is the 17th, or has a 17th address: a list has at most 16 sites, and a site at most 16 addresses"
+        }
+        SitesFault::BadAddress => {
+            "an address has a control character or more than 512 bytes: correct it"
+        }
+        SitesFault::AddressTaken => {
+            "an address stands twice, or at two sites: a text stands for one site"
+        }
+    }
+}
+
+/// What it means that a step is refused.
+fn step_sentence(why: &Refusal) -> &'static str
+    ensures { result.now ≡ step_sentence why.now }
+{
+    match why {
+        Refusal::NoMemory => "memory ran out, which is never a refusal: report it",
+        Refusal::Blocked { .. } => {
+            "the event would lead an item that is quarantined here on to a place where it isn't: hold the goods; if they have left, the guide says what to do with documents that come late"
+        }
+        Refusal::IdTaken { .. } => {
+            "another event with this `eventID` was captured, and its content differs: find out which is right; a corrected event needs an `eventID` of its own"
+        }
+        Refusal::UnknownItem => {
+            "no event of this site names the item, and it isn't quarantined there: check its text, capture the site's documents, or start at a site that has it"
+        }
+        Refusal::NotMine => {
+            "the frame is for another site, which no command brings about: report it"
+        }
+        Refusal::NumbersSpent => {
+            "a recall or a message would get a number past 2^62: begin a new folder"
+        }
+        Refusal::Doc(fault) => kind_sentence(fault.kind),
+    }
+}
+
+/// What it means that a document is refused.
+fn kind_sentence(kind: DocFaultKind) -> &'static str
+    ensures { result.now ≡ kind_sentence kind }
+{
+    match kind {
+        DocFaultKind::Syntax => {
+            "the document is no JSON in UTF-8, or is nested more than 127 deep: send JSON text alone, without a byte order mark and not compressed"
+        }
+        DocFaultKind::NotDocument => {
+            "the document is neither an `EPCISDocument` with an `eventList` nor one event: wrap the events in an `EPCISDocument`; an `EPCISQueryDocument` isn't read"
+        }
+        DocFaultKind::TooManyEvents => "the document has more than 1,000 events: split it",
+        DocFaultKind::NoType => "the event's `type` is none of the standard's five: name the type",
+        DocFaultKind::Missing => "a member that has to be there is absent: add it",
+        DocFaultKind::WrongShape => {
+            "a member is of another JSON type, or an id or a destination has a space, a control character or more than 512 bytes: correct it"
+        }
+        DocFaultKind::Time => "the time is no instant: write it as `2024-05-01T08:00:00Z`",
+        DocFaultKind::Offset => {
+            "the offset isn't a sign, `00` to `14`, a colon and `00` to `59`: write it as `+02:00`"
+        }
+        DocFaultKind::Action => "`action` is none of `ADD`, `OBSERVE`, `DELETE`: correct it",
+        DocFaultKind::BadEpc => {
+            "a member of an EPC list, or a `parentID`, is no EPC text: correct it"
+        }
+        DocFaultKind::TooManyEpcs => {
+            "a list of the event has more than 1,000 members: split the event"
+        }
+        DocFaultKind::Quantities => {
+            "the event has a quantity list that isn't empty: goods without serial numbers aren't traced, and leaving them out silently could lose some"
+        }
+        DocFaultKind::ErrorDeclared => {
+            "the event has an `errorDeclaration`, and corrections aren't traced: send the corrected event with a new `eventID`"
+        }
+        DocFaultKind::HalfTransformation => {
+            "the transformation has no inputs or no outputs, and no `transformationID`: give both, or an id that joins the halves"
+        }
+    }
+}
