@@ -106,7 +106,7 @@ looks_made() {
 
 looks_captured() {
     "$recall" audit at >out 2>err || complain "audit after $1: $(cat out err)"
-    case "$("$recall" capture at plant "$chain/plant.json" 2>&1)" in
+    case "$("$recall" capture at plant "$chain/plant.json" 2>&1 | grep -v '^note: ')" in
     'captured 6 known 0 skipped 1' | 'captured 0 known 6 skipped 1') ;;
     *) complain "a capture was kept in part, after $1" ;;
     esac

@@ -1,5 +1,5 @@
 #!/usr/bin/env bash
-# Brings about the faults that the program tells by a line `file <path>: <what is known>`, and compares both lines: another
+# Brings about the faults that the program tells by a line `file <path>: <what is known>`, and compares these lines and the sentence behind them: another
 # program has the file open, no permission, no space, a folder or a link in its place, a file that is cut, tables and rows
 # that are no site's; and stops of sites in a run, which it tells so, too. Those that take `sqlite3`, `strace` or another user are passed over where there is none, with a word.
 # Run by hand, and by the gate on the program that it built. RECALL names another program. It ends with status 0 where all
@@ -26,6 +26,8 @@ complain() {
     failed=1
 }
 
+. "$here/tests/means.sh"
+
 # ends STATUS ERRORS PROGRAM WORD..: the program ends so, and prints nothing
 ends() {
     local status=$1 errors=$2 ended
@@ -40,7 +42,7 @@ ends() {
 faults() {
     local name=$1 file=$2
     shift 2
-    ends 3 "$(printf 'fault %s\nfile %s' "$name" "$file")" "$@"
+    ends 3 "$(explained '' '' "$(printf 'fault %s\nfile %s' "$name" "$file")")" "$@"
 }
 
 # must WORD..: the program does that
@@ -109,7 +111,7 @@ faults Device 'at/plant.db: in use by another program' "$recall" audit at
 faults Device 'at/plant.db: in use by another program' "$recall" start at plant "$tank"
 exec 9>&-
 wait
-[ "$(tail -1 fed)" = 'documents 1 captured 0 known 6 skipped 1 refused 0' ] || complain "a capture of lines: $(cat fed)"
+[ "$(without_notes fed | tail -1)" = 'documents 1 captured 0 known 6 skipped 1 refused 0' ] || complain "a capture of lines: $(cat fed)"
 must audit at
 
 echo "files that are no site's"

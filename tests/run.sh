@@ -25,13 +25,16 @@ complain() {
     failed=1
 }
 
+. "$here/tests/means.sh"
+
 # wants STATUS OUTPUT ERRORS WORD..: the program ends so on these words
 wants() {
-    local status=$1 output=$2 errors=$3 ended
+    local status=$1 output=$2 errors ended
+    errors=$(explained "$4" "$2" "$3")
     shift 3
     "$recall" "$@" >out 2>err </dev/null
     ended=$?
-    if [ "$ended" != "$status" ] || [ "$(cat out)" != "$output" ] || [ "$(cat err)" != "$errors" ]; then
+    if [ "$ended" != "$status" ] || [ "$(cat out)" != "$output" ] || [ "$(without_notes err)" != "$errors" ]; then
         complain "recall $*: status $ended, wanted $status; $(cat out err)"
     fi
 }
