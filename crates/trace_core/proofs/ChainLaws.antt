@@ -1,7 +1,8 @@
 -- Chains of a relation grow at their end.
-use Rattle.std.proofs.Common.{◌≡◌, ℕ, zero, suc, List, [], ◌∷◌, ◌++◌, refl, sym, subst}
+use Rattle.std.proofs.Common.{◌≡◌, ◌↔◌, ℕ, zero, suc, List, [], ◌∷◌, ◌++◌, reverse, refl, sym, ap, ◌∙◌, subst}
 use Rattle.std.specs.List.{Contains}
-use Rattle.trace_core.specs.Relations.{IsChain, last_of, Reaches, Chain, ReachedFrom}
+use Rattle.std.proofs.lemmas.List.{reverse-append}
+use Rattle.trace_core.specs.Relations.{IsChain, Converse, last_of, Reaches, Chain, ReachedFrom}
 
 module _ {X : Type 0} (R : X → X → Type 0) where
   chain_push : (x : X) (rest : List X) (z : X) → IsChain R (x ∷ rest) → R (last_of x rest) z → IsChain R (x ∷ (rest ++ z ∷ []))
@@ -33,7 +34,7 @@ module _ {X : Type 0} (R : X → X → Type 0) where
   reached_start starts x at = (x, at, reaches_itself x)
 
   -- a chain with one more step at its front
-  chain_front : (x y z : X) (n : ℕ) → R x y → Chain R y n z → Chain R x (suc n) z
+  pub chain_front : (x y z : X) (n : ℕ) → R x y → Chain R y n z → Chain R x (suc n) z
   chain_front x y z zero r e = (x, refl, subst (R x) e r)
   chain_front x y z (suc n) r (w, chain, last) = (w, chain_front x y w n r chain, last)
 
@@ -47,6 +48,39 @@ module _ {X : Type 0} (R : X → X → Type 0) where
   pub reaches-from_chain : (x y : X) (n : ℕ) → Chain R x n y → Reaches R x y
   reaches-from_chain x y zero e = subst (Reaches R x) e (reaches_itself x)
   reaches-from_chain x y (suc n) (z, chain, last) = reaches_step x z y (reaches-from_chain x z n chain) last
+
+-- a chain of the converse, read from its end
+module _ {X : Type 0} (R : X → X → Type 0) where
+  -- the list is a chain from y to x
+  abbrev pub LeadsBack : X → X → List X → Type 0
+  LeadsBack y x list = (rest : List X) × (list ≡ y ∷ rest) × IsChain R (y ∷ rest) × (last_of y rest ≡ x)
+
+  pub chain_reversed : (x : X) (rest : List X) → IsChain (Converse R) (x ∷ rest) → LeadsBack (last_of x rest) x (reverse (x ∷ rest))
+  chain_reversed x [] chain = ([], refl, tt, refl)
+  chain_reversed x (y ∷ rest) chain =
+      let (more, are, back, ends) = chain_reversed y rest chain.1 in (
+        more ++ x ∷ [],
+        reverse-append (x ∷ []) (y ∷ rest) ∙ ap (λ xs. xs ++ x ∷ []) are,
+        chain_push R (last_of y rest) more x back (subst (λ w. R w x) (sym ends) chain.0),
+        last_push R (last_of y rest) more x,
+      )
+
+  pub reaches_back : (x y : X) → Reaches (Converse R) x y → Reaches R y x
+  reaches_back x y (rest, chain, ends) = let (more, are, back, starts) = chain_reversed x rest chain in
+      subst (λ z. Reaches R z x) ends (more, back, starts)
+
+  -- a chain of so many steps has as many back
+  pub chain_back : (x y : X) (n : ℕ) → Chain (Converse R) x n y → Chain R y n x
+  chain_back x y zero same = sym same
+  chain_back x y (suc n) (z, chain, step) = chain_front R y z x n step (chain_back x z n chain)
+
+-- a relation is the converse of its converse
+module _ {X : Type 0} (R : X → X → Type 0) where
+  pub reach_converse : (x y : X) → Reaches (Converse R) x y ↔ Reaches R y x
+  reach_converse x y = (reaches_back R x y, reaches_back (Converse R) y x)
+
+  pub chain_converse : (x y : X) (n : ℕ) → Chain R y n x → Chain (Converse R) x n y
+  chain_converse x y n = chain_back (Converse R) y x n
 
 -- a chain is one of any wider relation
 module _ {X : Type 0} (R S : X → X → Type 0) (wider : (x y : X) → R x y → S x y) where

@@ -143,7 +143,7 @@ some_of false n = omega arith
 
 module _ (events : List Content) where
   -- the first part has the same id, and where there is none it is the event itself
-  first_stands : (k : ℕ) (e : Content) → slice_get events k ≡ Some e → (f : Content) × (slice_get events (first_of events k e.body) ≡ Some f) × (make_id f.body ≡ make_id e.body)
+  pub first_stands : (k : ℕ) (e : Content) → slice_get events k ≡ Some e → (f : Content) × (slice_get events (first_of events k e.body) ≡ Some f) × (make_id f.body ≡ make_id e.body)
   first_stands k e stands = at (slice_get (parts_of events e.body) 0) refl
     where
       at : (o : Option ℕ) → slice_get (parts_of events e.body) 0 ≡ o → (f : Content) × (slice_get events (or_place k o) ≡ Some f) × (make_id f.body ≡ make_id e.body)
@@ -153,13 +153,13 @@ module _ (events : List Content) where
           let (id, own, other) = (same_id_decides (make_id f.body) (make_id e.body)).0 same in
           (f, slice_get-get_or events first f below ∙ ap Some here, own ∙ sym other)
 
-  first_alone : (k : ℕ) (b : Body) → make_id b ≡ None → first_of events k b ≡ k
+  pub first_alone : (k : ℕ) (b : Body) → make_id b ≡ None → first_of events k b ≡ k
   first_alone k b none =
       ap (λ (o : Option (List ℕ)). or_place k (slice_get (places_where (λ (f : Content). same_id (make_id f.body) o) events) 0)) none
       ∙ ap (λ (ps : List ℕ). or_place k (slice_get ps 0)) (places_none (λ (f : Content). same_id (make_id f.body) None) events (λ f. no_id (make_id f.body)))
 
   -- parts of one id have one first part
-  one_first : (j k : ℕ) (f e : Content) → slice_get events k ≡ Some e → same_id (make_id f.body) (make_id e.body) ≡ true → first_of events j f.body ≡ first_of events k e.body
+  pub one_first : (j k : ℕ) (f e : Content) → slice_get events k ≡ Some e → same_id (make_id f.body) (make_id e.body) ≡ true → first_of events j f.body ≡ first_of events k e.body
   one_first j k f e stands same =
       let (below, at) = slice_there events k e stands in
       let (id, own, other) = (same_id_decides (make_id f.body) (make_id e.body)).0 same in

@@ -18,13 +18,11 @@ use Rattle.std.proofs.lemmas.Map.Views.{tells_apart}
 use Rattle.trace_core.specs.declared.groups.Group.{Group}
 use Rattle.trace_core.specs.declared.pairs.Pair.{Pair}
 use Rattle.trace_core.specs.declared.steps.Step.{Step}
-use Rattle.trace_core.specs.Chains.{Related}
 use Rattle.trace_core.specs.Pairs.{pair_cmp}
 use Rattle.trace_core.specs.Relations.{IsChain, last_of, Reaches, Chain}
 use Rattle.trace_core.specs.Searches.{AreUnseen}
-use Rattle.trace_core.specs.Sites.{SiteEvents}
-use Rattle.trace_core.specs.Trails.{HaveNoRepeats, IsAt, pairs_of, IsPlaceOf, ArePlaces, GoBack, IsPath, IsTraced, NotesSteps, AreSteps, TellsTrail}
-use Rattle.trace_core.proofs.ChainLaws.{reached_holds}
+use Rattle.trace_core.specs.Trails.{HaveNoRepeats, IsAt, pairs_of, IsPlaceOf, ArePlaces, GoBack, IsPath, IsTraced, IsTracedTo, NotesSteps, AreSteps, TellsTrailBy}
+use Rattle.trace_core.proofs.ChainLaws.{reaches_itself, reaches_step, reached_holds}
 use Rattle.trace_core.proofs.Members.{contains_none, contains_cases, contains_here, contains-map}
 use Rattle.trace_core.proofs.PairOrder.{pairs_total, pairs_exact}
 use Rattle.trace_core.proofs.SetMembers.{contains-from_map, contains_pushed}
@@ -272,6 +270,20 @@ module _ (R : Pair → Pair → Type 0) (root : Pair) where
             let (j, t, (lt', at'), pair, le) = done.near k s (lt, at) lt z (subst (λ (x : Pair). R x z) (sym is) related) in
             subst (Contains (pairs_of steps)) pair (contains-map (λ (s : Step). s.pair) steps t (j, lt', at'))
 
+    -- each step's pair is reached
+    step_reached : (n k : ℕ) (s : Step) → k ≤ n → IsAt steps k s → Reaches R root s.pair
+    step_reached zero k s le at = subst (Reaches R root) (sym (done.begun s (first_at k le at))) (reaches_itself R root)
+      where
+        first_at : (k : ℕ) → k ≤ 0 → IsAt steps k s → IsAt steps 0 s
+        first_at k le at = let zero_at : k ≡ 0 = omega (arith, le) in subst (λ n. IsAt steps n s) zero_at at
+    step_reached (suc n) k s le at = ⊎_elim
+        (λ first. subst (Reaches R root) (sym (done.begun s (subst (λ n. IsAt steps n s) first at))) (reaches_itself R root))
+        (λ later.
+        let below = done.back k s at later in
+        let (t, lt, at') = element steps s.from (omega (arith, below, at.0)) in
+        reaches_step R root t.pair s.pair (step_reached n s.from t (omega (arith, below, le)) (lt, at')) (done.linked k t s at later (lt, at')))
+        (cases_eq k 0)
+
     path_chain : (a : ℕ × Step) (rest : List (ℕ × Step)) (last : ℕ) (z : Step) → IsPath steps (a ∷ rest) last → IsAt steps last z
         → IsChain R (a.1.pair ∷ map (λ b. b.1.pair) rest) × (last_of a.1.pair (map (λ b. b.1.pair) rest) ≡ z.pair)
     path_chain a [] last z (at, is) end = (tt, ap (λ (x : Step). x.pair) (one_at steps last a.1 z (subst (λ n. IsAt steps n a.1) is at) end))
@@ -357,13 +369,20 @@ module _ (R : Pair → Pair → Type 0) (root : Pair) where
     traced_apart last pairs (a, rest, path, are) = subst HaveNoRepeats (sym are) (path_apart (0, a) rest last path)
 
 -- the trail of a step leads to its pair, and where there is no step, nothing leads there
-module _ (sites : List SiteEvents) (root target : Pair) (steps : List Step) (done : AreSteps (Related sites) root (length steps) steps) where
-  pub trail_told : (last : ℕ) (s : Step) (pairs : List Pair) → IsAt steps last s → s.pair ≡ target → IsTraced steps 0 last pairs → TellsTrail sites root target (Some pairs)
+module _ (R : Pair → Pair → Type 0) (root : Pair) (steps : List Step) (done : AreSteps R root (length steps) steps) (target : Pair) where
+  trail_told : (last : ℕ) (s : Step) (pairs : List Pair) → IsAt steps last s → s.pair ≡ target → IsTraced steps 0 last pairs → TellsTrailBy R root target (Some pairs)
   trail_told last s pairs here found traced = (
-    traced_chain (Related sites) root steps done last s target pairs here found traced,
-    traced_apart (Related sites) root steps done last pairs traced,
-    traced_shortest (Related sites) root steps done last s target pairs here found traced,
+    traced_chain R root steps done last s target pairs here found traced,
+    traced_apart R root steps done last pairs traced,
+    traced_shortest R root steps done last s target pairs here found traced,
   )
 
-  pub no_trail : (Contains (pairs_of steps) target → ⊥) → TellsTrail sites root target None
-  no_trail missing reaches = missing (reached_listed (Related sites) root steps done target reaches)
+  pub traced_told : (trail : Option (List Pair)) → IsTracedTo steps target trail → TellsTrailBy R root target trail
+  traced_told None missing = λ reaches. missing (reached_listed R root steps done target reaches)
+  traced_told (Some trail) (last, (s, here, found), traced) = trail_told last s trail here found traced
+
+  -- just what has a step is reached
+  pub listed_reached : Contains (pairs_of steps) target → Reaches R root target
+  listed_reached listed =
+      let (s, (k, lt, at), found) = contains-from_map (λ (s : Step). s.pair) steps target listed in
+      subst (Reaches R root) found (step_reached R root steps done k k s (omega arith) (lt, at))

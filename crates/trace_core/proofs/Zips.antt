@@ -14,3 +14,10 @@ pub zip_more : {A B : Type 0} (R : A → B → Type 0) (xs : List A) (ys : List 
 zip_more R xs ys i x y below is h r =
     let more : take (i + 1) xs ≡ take i xs ++ x ∷ [] = take_more xs i x below ∙ ap (λ z. take i xs ++ z ∷ []) (sym is) in
     subst (λ l. AllZip R l (ys ++ y ∷ [])) (sym more) (zip_push R (take i xs) ys x y h r)
+
+-- what each holds of, a weaker one holds of
+pub zip_weaker : {A B : Type 0} (R S : A → B → Type 0) → ((x : A) (y : B) → R x y → S x y) → (xs : List A) (ys : List B) → AllZip R xs ys → AllZip S xs ys
+zip_weaker R S weaker [] [] h = tt
+zip_weaker R S weaker [] (y ∷ ys) h = absurd h
+zip_weaker R S weaker (x ∷ xs) [] h = absurd h
+zip_weaker R S weaker (x ∷ xs) (y ∷ ys) h = (weaker x y h.0, zip_weaker R S weaker xs ys h.1)

@@ -7,6 +7,10 @@ IsChain R [] = ⊤
 IsChain R (x ∷ []) = ⊤
 IsChain R (x ∷ y ∷ rest) = R x y × IsChain R (y ∷ rest)
 
+-- the relation that holds the other way round
+abbrev pub Converse : {X : Type 0} → (X → X → Type 0) → X → X → Type 0
+Converse R x y = R y x
+
 -- the last of a list that begins with x
 abbrev pub last_of : {X : Type 0} → X → List X → X
 last_of x [] = x

@@ -9,22 +9,26 @@ use Rattle.trace_core.specs.Relations.{IsChain, last_of, Chain, Reaches}
 use Rattle.trace_core.specs.Sites.{SiteEvents}
 
 -- the pairs begin with the root and end with the target, and each is related to the next
-abbrev pub IsTrail : List SiteEvents → Pair → Pair → List Pair → Type 0
-IsTrail sites root target pairs = (rest : List Pair) × (pairs ≡ root ∷ rest) × IsChain (Related sites) (root ∷ rest) × (last_of root rest ≡ target)
+abbrev pub IsTrail : (Pair → Pair → Type 0) → Pair → Pair → List Pair → Type 0
+IsTrail R root target pairs = (rest : List Pair) × (pairs ≡ root ∷ rest) × IsChain R (root ∷ rest) × (last_of root rest ≡ target)
 
 -- no pair comes twice
 abbrev pub HaveNoRepeats : List Pair → Type 0
 HaveNoRepeats pairs = AllPairs (λ p q. p ≢ q) pairs
 
 -- no chain from the root to the target has fewer pairs
-abbrev pub IsShortest : List SiteEvents → Pair → Pair → List Pair → Type 0
-IsShortest sites root target pairs = (n : ℕ) → Chain (Related sites) root n target → length pairs ≤ suc n
+abbrev pub IsShortest : (Pair → Pair → Type 0) → Pair → Pair → List Pair → Type 0
+IsShortest R root target pairs = (n : ℕ) → Chain R root n target → length pairs ≤ suc n
 
--- a chain of related pairs from the root to the pair, without repeats and with as few pairs as any; none exactly where
+-- a chain of the relation from the root to the pair, without repeats and with as few pairs as any; none exactly where
 -- no chain leads there
+abbrev pub TellsTrailBy : (Pair → Pair → Type 0) → Pair → Pair → Option (List Pair) → Type 0
+TellsTrailBy R root p None = Reaches R root p → ⊥
+TellsTrailBy R root p (Some trail) = IsTrail R root p trail × HaveNoRepeats trail × IsShortest R root p trail
+
+-- so for the related pairs of several sites
 abbrev pub TellsTrail : List SiteEvents → Pair → Pair → Option (List Pair) → Type 0
-TellsTrail sites root p None = Reaches (Related sites) root p → ⊥
-TellsTrail sites root p (Some trail) = IsTrail sites root p trail × HaveNoRepeats trail × IsShortest sites root p trail
+TellsTrail sites root p trail = TellsTrailBy (Related sites) root p trail
 
 -- this step stands at the place
 abbrev pub IsAt : List Step → ℕ → Step → Type 0
@@ -57,6 +61,11 @@ IsPath steps (a ∷ b ∷ rest) last = IsAt steps a.0 a.1 × (b.1.from ≡ a.0) 
 abbrev pub IsTraced : List Step → ℕ → ℕ → List Pair → Type 0
 IsTraced steps place last pairs =
     (step : Step) × (rest : List (ℕ × Step)) × IsPath steps ((place, step) ∷ rest) last × (pairs ≡ map (λ a. a.1.pair) ((place, step) ∷ rest))
+
+-- the pairs of the steps that lead to the pair, none where it has no step
+abbrev pub IsTracedTo : List Step → Pair → Option (List Pair) → Type 0
+IsTracedTo steps q None = Contains (pairs_of steps) q → ⊥
+IsTracedTo steps q (Some trail) = (k : ℕ) × IsPlaceOf steps q (Some k) × IsTraced steps 0 k trail
 
 -- the targets are noted as steps from a place, those that have none
 pub record NotesSteps (old new : List Step) (from : ℕ) (targets : List Pair) : Type 0 where

@@ -3,8 +3,9 @@ ghost use Rattle.std.specs.Prelude.{◌≡◌, ◌↔◌, ◌<◌, ◌++◌, ◌
 ghost use Rattle.trace_core.specs.declared.pairs.Pair.{Pair};
 ghost use Rattle.event_json.specs.Events.{Content};
 ghost use Rattle.trace_core.specs.Adding.{standing_among, with_fresh, adding, FaultOf};
+ghost use Rattle.trace_core.specs.Groups.{first_of};
 ghost use Rattle.trace_core.specs.Numbers.{numbered};
-ghost use Rattle.trace_core.specs.Pairs.{IsRelated, IsShipped, IsStrictlyAscending};
+ghost use Rattle.trace_core.specs.Pairs.{IsRelated, IsSentTo, IsShipped, IsStrictlyAscending};
 ghost use Rattle.trace_core.specs.Places.{IsPartAt};
 ghost use Rattle.trace_core.specs.Sendings.{AreNewlySent};
 ghost use Rattle.trace_core.specs.Spreads.{items_of};
@@ -12,6 +13,7 @@ ghost use Rattle.trace_core.specs.Spreads.{items_of};
 use crate::adding::{AddFault, Added, Standing, add_if_fresh, append_fresh};
 use crate::books::Book;
 use crate::gathering::gather_at_sites;
+use crate::groups::first_part;
 use crate::ordered_keys::keys_in_order;
 use crate::pairs::Pair;
 use crate::seen::Seen;
@@ -174,6 +176,22 @@ impl Captured {
         let sites = self.book.sites_of(item);
         gather_at_sites(alloc, self.me, item, sites, &mut shipped)?;
         keys_in_order(alloc, shipped)
+    }
+
+    /// Whether an item was sent to a site, by itself or with what it lies in. Does not allocate.
+    pub fn sent_to(&self, item: &Epc, site: SiteNo) -> bool
+        ensures { IsTrue result ↔ IsSentTo self.now.events item.now site }
+    {
+        self.book.sites_of(item).has(site)
+    }
+
+    /// The place that stands for the transformation of the event at a place: that of the first captured one with
+    /// its transformationID, and its own where it has none. Does not allocate.
+    pub fn first_part(&self, place: usize) -> Option<usize>
+        ensures { result ≡ option_map (λ e. first_of self.now.events place e.body) (slice_get self.now.events place) }
+    {
+        let event = self.book.get(place)?;
+        Some(first_part(&self.book, place, event.body()))
     }
 
     /// The places of the captured parts of a transformation: of the transformations that have this

@@ -5,6 +5,7 @@
 #![tactic(auto)]
 
 mod adding;
+mod adjacency;
 mod batches;
 mod beyond;
 mod books;
@@ -39,9 +40,11 @@ mod trails;
 mod visits;
 
 pub use adding::{AddFault, Added, Standing};
+pub use adjacency::Adjacency;
 pub use captured::Captured;
 pub use chains::reach;
 pub use pairs::Pair;
 pub use seen::Seen;
 pub use sendings::Sending;
-pub use trails::trails_to;
+pub use targets::unseen_targets;
+pub use trails::{FoundTrails, trails_by, trails_from, trails_to};
