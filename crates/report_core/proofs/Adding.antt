@@ -1,16 +1,16 @@
 -- Shipments that are added to a set, one after another.
-use Rattle.std.proofs.Common.{arith, ◌≡◌, ◌↔◌, inl, inr, ℕ, ◌+◌, ◌<◌, ◌≤◌, true, List, length, take, get_or, refl, sym, ap, subst, ⊎_elim}
+use Rattle.std.proofs.Common.{◌≡◌, ◌↔◌, ℕ, ◌+◌, ◌<◌, ◌≤◌, true, List, length, take, get_or, ap}
 use Rattle.std.specs.BTreeSet.{Updates}
 use Rattle.std.specs.Cmp.{IsTotalOrder}
 use Rattle.std.specs.Cmp.Lexicographic.{slice_cmp}
 use Rattle.std.specs.Ordering.{nat_cmp, ordering_then}
 use Rattle.std.proofs.lemmas.Cmp.{then_total, on_total, nat_cmp_total, nat_list_cmp_total}
-use Rattle.std.proofs.lemmas.List.{take_all}
 use Rattle.std.proofs.lemmas.Map.Lookups.{CmpEqualImpliesEq, exact_pairs, exact_unsigned, exact_bytes}
-use Rattle.trace_core.proofs.SetMembers.{found-insert, contains_more}
+use Rattle.trace_core.proofs.SetMembers.{found-insert}
 use Rattle.report_core.specs.Destinations.{outside_cmp}
-use Rattle.report_core.specs.Gathering.{Found, Adds, OneTells}
+use Rattle.report_core.specs.Gathering.{Found, IsIn, Adds, OneTells}
 use Rattle.report_core.specs.declared.outside.OutsideShipment.{OutsideShipment}
+use Rattle.report_core.proofs.Additions.{adds_nothing, adds_alike, none_by_one, one_more as one_of_more, all_added as all_of_them}
 
 -- The order of shipments is total, and tells all of them apart.
 
@@ -32,33 +32,17 @@ pub one_added : (old new : Found) (x : OutsideShipment) → Updates outside_cmp 
 one_added old new x updates = found-insert outside_cmp outside_total outside_exact old new x updates
 
 pub none_added : (found : Found) (P : OutsideShipment → Type 0) → ((x : OutsideShipment) → P x → ⊥) → Adds found found P
-none_added found P none x = (λ h. inl h, λ h. ⊎_elim (λ was. was) (λ p. absurd (none x p)) h)
+none_added found = adds_nothing (IsIn found)
 
 pub added_alike : (old new : Found) (P Q : OutsideShipment → Type 0) → ((x : OutsideShipment) → P x ↔ Q x) → Adds old new P → Adds old new Q
-added_alike old new P Q alike adds x = (
-  λ h. ⊎_elim (λ was. inl was) (λ p. inr ((alike x).0 p)) ((adds x).0 h),
-  λ h. (adds x).1 (⊎_elim (λ was. inl was) (λ q. inr ((alike x).1 q)) h),
-)
+added_alike old new = adds_alike (IsIn old) (IsIn new)
 
 pub none_tells : {Y : Type 0} (ys : List Y) (Q : Y → OutsideShipment → Type 0) → length ys ≤ 0 → (x : OutsideShipment) → OneTells ys Q x → ⊥
-none_tells ys Q none x (y, (k, below, at), q) = omega arith
+none_tells ys Q = none_by_one Q ys
 
 pub one_more : {Y : Type 0} (Q : Y → OutsideShipment → Type 0) (ys : List Y) (i : ℕ) (y : Y) (start old new : Found) → i < length ys → y ≡ get_or ys i y
     → Adds start old (OneTells (take i ys) Q) → Adds old new (Q y) → Adds start new (OneTells (take (i + 1) ys) Q)
-one_more Q ys i y start old new below at before adds x =
-    let more = contains_more ys i y below at in (
-      λ h. ⊎_elim
-          (λ was. ⊎_elim (λ sooner. inl sooner) (λ (z, there, q). inr (z, (more z).1 (inl there), q)) ((before x).0 was))
-          (λ q. inr (y, (more y).1 (inr refl), q))
-          ((adds x).0 h),
-      λ h. (adds x).1 (⊎_elim
-          (λ sooner. inl ((before x).1 (inl sooner)))
-          (λ (z, there, q). ⊎_elim
-          (λ earlier. inl ((before x).1 (inr (z, earlier, q))))
-          (λ same. inr (subst (λ w. Q w x) (sym same) q))
-          ((more z).0 there))
-          h),
-    )
+one_more Q ys i y start old new = one_of_more Q ys i (IsIn start) (IsIn old) (IsIn new) y
 
 pub all_added : {Y : Type 0} (Q : Y → OutsideShipment → Type 0) (ys : List Y) (i : ℕ) (start found : Found) → length ys ≤ i → Adds start found (OneTells (take i ys) Q) → Adds start found (OneTells ys Q)
-all_added Q ys i start found past adds = subst (λ zs. Adds start found (OneTells zs Q)) (take_all i ys past) adds
+all_added Q ys i start found = all_of_them Q ys i (IsIn start) (IsIn found)

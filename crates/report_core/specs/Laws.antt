@@ -1,23 +1,26 @@
--- What a report, an audit and a trace say once a recall has ended, and that records have one verdict and one trace.
-use Rattle.std.specs.Prelude.{◌≡◌, ◌↔◌, ℕ, Option, Some, option_map, IsSome, List, length, map, Contains}
+-- What a report, an audit and a trace say once a recall has ended, and that records have one verdict, one trace and one trace back.
+use Rattle.std.specs.Prelude.{◌≡◌, ◌↔◌, ◌⊎◌, ℕ, Option, Some, option_map, IsSome, List, length, map, slice_get, Contains}
 use Rattle.frame_core.specs.Numbers.{Recall}
+use Rattle.trace_core.specs.Chains.{Related}
+use Rattle.trace_core.specs.Trails.{IsTrail}
 use Rattle.trace_core.specs.declared.pairs.Pair.{Pair}
 use Rattle.site_core.specs.Records.{Record}
 use Rattle.site_core.specs.Steps.{Refuses}
 use Rattle.site_core.specs.declared.inputs.SiteInput.TheVariants.{Start}
 use Rattle.site_core.specs.declared.outcomes.Refusal.TheVariants as refusals
 use Rattle.site_recovery.specs.Fit.{Fit, IsEnded}
-use Rattle.site_recovery.specs.Laws.{AreInPlace}
+use Rattle.site_recovery.specs.Laws.{AreInPlace, captured_of}
 use Rattle.site_recovery.specs.Looks.{World, world_of}
 use Rattle.site_recovery.specs.Recalls.{quarantined}
 use Rattle.report_core.specs.Reports.{IsReport}
-use Rattle.report_core.specs.Traces.{IsKnownAt, IsTrace, TellsTraceFault}
+use Rattle.report_core.specs.Traces.{IsBackTrace, IsKnownAt, IsTrace, TellsTraceFault}
 use Rattle.report_core.specs.Verdicts.{IsVerdict}
 use Rattle.report_core.specs.declared.audits.Verdict.{Verdict}
 use Rattle.report_core.specs.declared.audits.Verdict.TheVariants.{Equal}
 use Rattle.report_core.specs.declared.faults.TraceFault.TheVariants.{UnknownItem}
 use Rattle.report_core.specs.declared.outside.OutsideShipment.{OutsideShipment}
 use Rattle.report_core.specs.declared.reports.RecallReport.{RecallReport}
+use Rattle.report_core.specs.declared.traces.BackTrace.{BackTrace}
 use Rattle.report_core.specs.declared.traces.Trace.{Trace}
 
 -- Where the sites are consistent and the recall has ended, the audit finds just the pairs in reach.
@@ -60,6 +63,41 @@ abbrev pub TracesGoOn : Type 0
 TracesGoOn =
     (records : List Record) (site : ℕ) (item : List ℕ) (p : Pair) (t u : Trace) → IsTrace records site item t → Contains t.pairs p → IsTrace records p.site p.item u
     → ((q : Pair) → Contains u.pairs q → Contains t.pairs q) × ((x : OutsideShipment) → Contains u.outside x → Contains t.outside x)
+
+-- A trace and a trace back are converse: the one has the other's root just where the other has its own.
+abbrev pub TracesAreConverse : Type 0
+TracesAreConverse =
+    (records : List Record) (site site' : ℕ) (item item' : List ℕ) (t : Trace) (b : BackTrace) → IsTrace records site item t → IsBackTrace records site' item' b
+    → Contains t.pairs b.root ↔ Contains b.pairs t.root
+
+-- Then the trail of the one is as long as that of the other, and the other's leads the same way.
+abbrev pub TrailsAreConverse : Type 0
+TrailsAreConverse =
+    (records : List Record) (site site' : ℕ) (item item' : List ℕ) (t : Trace) (b : BackTrace) → IsTrace records site item t → IsBackTrace records site' item' b
+    → (j k : ℕ) (u v : List Pair) → slice_get t.pairs j ≡ Some b.root → slice_get t.trails j ≡ Some u → slice_get b.pairs k ≡ Some t.root → slice_get b.trails k ≡ Some v
+    → (length u ≡ length v) × IsTrail (Related (captured_of records)) t.root b.root v
+
+-- The root is among the pairs of its trace back.
+abbrev pub BackTracesHaveRoots : Type 0
+BackTracesHaveRoots = (records : List Record) (site : ℕ) (item : List ℕ) (b : BackTrace) → IsBackTrace records site item b → Contains b.pairs b.root
+
+-- Each pair of a trace back is an origin, or one of its pairs is related to it; to an origin none is.
+abbrev pub PairsHaveSources : Type 0
+PairsHaveSources =
+    (records : List Record) (site : ℕ) (item : List ℕ) (b : BackTrace) (p : Pair) → IsBackTrace records site item b → Contains b.pairs p
+    → (Contains b.origins p ⊎ ((q : Pair) × Contains b.pairs q × Related (captured_of records) q p)) × (Contains b.origins p → (q : Pair) → Related (captured_of records) q p → ⊥)
+
+-- All traces back of an item at a site have the same pairs, trails that are equally long, and the same origins.
+abbrev pub OneBackTrace : Type 0
+OneBackTrace =
+    (records : List Record) (site : ℕ) (item : List ℕ) (t u : BackTrace) → IsBackTrace records site item t → IsBackTrace records site item u
+    → (t.root ≡ u.root) × (t.pairs ≡ u.pairs) × (map length t.trails ≡ map length u.trails) × (t.origins ≡ u.origins)
+
+-- What a trace back of one of a trace back's pairs finds, that trace back has too.
+abbrev pub BackTracesGoOn : Type 0
+BackTracesGoOn =
+    (records : List Record) (site : ℕ) (item : List ℕ) (p : Pair) (b u : BackTrace) → IsBackTrace records site item b → Contains b.pairs p → IsBackTrace records p.site p.item u
+    → ((q : Pair) → Contains u.pairs q → Contains b.pairs q) × ((q : Pair) → Contains u.origins q → Contains b.origins q)
 
 -- A trace is refused as of an unknown item just where the site would refuse to begin a recall of it so.
 abbrev pub RefusedAlike : Type 0

@@ -4,5 +4,6 @@ pub mod Gathering
 pub mod Laws
 pub mod Outside
 pub mod Reports
+pub mod Sources
 pub mod Traces
 pub mod Verdicts

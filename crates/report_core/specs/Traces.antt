@@ -13,6 +13,7 @@ use Rattle.site_recovery.specs.Looks.{World, world_of}
 use Rattle.report_core.specs.Outside.{AreOutsideOf}
 use Rattle.report_core.specs.declared.faults.TraceFault.{TraceFault}
 use Rattle.report_core.specs.declared.faults.TraceFault.TheVariants.{NoMemory, UnknownItem}
+use Rattle.report_core.specs.declared.traces.BackTrace.{BackTrace}
 use Rattle.report_core.specs.declared.traces.Trace.{Trace}
 
 -- one of the events that the site captured names the item, or it is quarantined there under some recall
@@ -31,6 +32,25 @@ pub record IsTrace (records : List Record) (site : ℕ) (item : List ℕ) (trace
   pub exact : (p : Pair) → Contains trace.pairs p ↔ IsReachedFrom records trace.root p
   pub trails : AllZip (λ p trail. TellsTrail (captured_of records) trace.root p (Some trail)) trace.pairs trace.trails
   pub outside : AreOutsideOf (world_of records) (IsReachedFrom records trace.root) trace.outside
+
+-- a chain of related pairs, by the events of all sites, leads from the pair to the root
+abbrev pub LeadsTo : List Record → Pair → Pair → Type 0
+LeadsTo records root p = Reaches (Related (captured_of records)) p root
+
+-- no pair is related to it, by the events of all sites
+abbrev pub HasNoSource : List Record → Pair → Type 0
+HasNoSource records p = (q : Pair) → Related (captured_of records) q p → ⊥
+
+-- the trace back gives the item at the site; what reaches it, itself among it, by site and item and each once; from each of
+-- these pairs, in their order, a shortest trail to it; and those of them that no pair is related to, by site and item and
+-- each once
+pub record IsBackTrace (records : List Record) (site : ℕ) (item : List ℕ) (trace : BackTrace) : Type 0 where
+  pub root : trace.root ≡ record { site = site; item = item }
+  pub ascending : IsStrictlyAscending trace.pairs
+  pub exact : (p : Pair) → Contains trace.pairs p ↔ LeadsTo records trace.root p
+  pub trails : AllZip (λ p trail. TellsTrail (captured_of records) p trace.root (Some trail)) trace.pairs trace.trails
+  pub first_ones : IsStrictlyAscending trace.origins
+  pub origins : (p : Pair) → Contains trace.origins p ↔ (Contains trace.pairs p × HasNoSource records p)
 
 -- an item is unknown where the site doesn't know it; memory runs out for known ones alone
 abbrev pub TellsTraceFault : World → ℕ → List ℕ → TraceFault → Type 0

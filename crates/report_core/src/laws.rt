@@ -1,14 +1,20 @@
 //! Laws of reports, audits and traces, each named by a function with an empty body whose contract is the law.
 
 ghost use Rattle.report_core.specs.Laws.{
+  BackTracesGoOn,
+  BackTracesHaveRoots,
   EndedRootsAreKnown,
   EndsAreEqual,
   EndsAreTraced,
   EndsHaveTrails,
+  OneBackTrace,
   OneTrace,
   OneVerdict,
+  PairsHaveSources,
   RefusedAlike,
+  TracesAreConverse,
   TracesGoOn,
+  TrailsAreConverse,
 };
 
 /// Where the sites are consistent and the recall has ended, an audit returns Equal.
@@ -46,6 +52,39 @@ pub fn records_have_one_trace()
 /// What a trace of one of a trace's pairs finds, that trace has too: its pairs, and its shipments.
 pub fn a_trace_goes_on()
     ensures { TracesGoOn }
+{}
+
+/// A trace finds the root of a trace back by the same records just where that finds its root.
+pub fn traces_are_converse()
+    ensures { TracesAreConverse }
+{}
+
+/// The trail of a trace to the root of a trace back is as long as that one's trail from the root of the trace, which
+/// is a chain of related pairs between the two, too.
+pub fn trails_are_converse()
+    ensures { TrailsAreConverse }
+{}
+
+/// A trace back has its root.
+pub fn a_trace_back_has_its_root()
+    ensures { BackTracesHaveRoots }
+{}
+
+/// Each pair of a trace back that is no origin has a pair of the trace that is related to it. No pair is related to an
+/// origin.
+pub fn pairs_of_a_trace_back_have_sources()
+    ensures { PairsHaveSources }
+{}
+
+/// The traces back of an item at a site by the same records have the same pairs and the same origins. Their trails are
+/// equally long, and may differ where there are several shortest ones.
+pub fn records_have_one_trace_back()
+    ensures { OneBackTrace }
+{}
+
+/// What a trace back of one of a trace back's pairs finds, that trace back has too: its pairs, and its origins.
+pub fn a_trace_back_goes_on()
+    ensures { BackTracesGoOn }
 {}
 
 /// A trace is refused as of an unknown item just where a recall of the item at that site would be.

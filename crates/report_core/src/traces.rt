@@ -20,3 +20,18 @@ pub struct Trace {
     /// once.
     pub outside: Sequence<OutsideShipment>,
 }
+
+/// What reaches an item at a site through the events that all sites captured, and where that began.
+#[derive(Debug, Drop)]
+pub struct BackTrace {
+    /// The item at the site.
+    pub root: Pair,
+    /// What reaches it by chains of made and shipped items, itself among them, by site, then by item, and each once.
+    pub pairs: Sequence<Pair>,
+    /// For each of these pairs, in their order, a chain of related pairs from it to the root, without repeats and with as
+    /// few pairs as any.
+    pub trails: Sequence<Sequence<Pair>>,
+    /// Those of these pairs that no pair is related to: by no event of the given sites were they made there or shipped
+    /// there. By site, then by item, and each once.
+    pub origins: Sequence<Pair>,
+}

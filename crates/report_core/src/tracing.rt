@@ -53,7 +53,7 @@ pub fn trace(
 }
 
 /// Whether one of the events of the site names the item, or it is quarantined there.
-fn is_known_at(sites: &[&SiteState], site: SiteNo, item: &Epc) -> bool
+pub(crate) fn is_known_at(sites: &[&SiteState], site: SiteNo, item: &Epc) -> bool
     ensures { IsTrue result ↔ IsKnownAt (world_at sites.now) site item.now }
 {
     let place = site.number() as usize;

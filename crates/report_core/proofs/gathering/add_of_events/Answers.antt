@@ -1,16 +1,13 @@
-use Rattle.std.proofs.Common.{◌≡◌, ◌∙◌, ◌+◌, ◌<◌, Some, None, ℕ, List, [], ◌∷◌, get_or, slice_get, length, take, sym, ap, subst, arith}
+use Rattle.std.proofs.Common.{◌∙◌, ◌+◌, ◌<◌, length, take, sym, ap, subst, arith}
 use Rattle.std.specs.Option.{option_map}
-use Rattle.std.proofs.lemmas.Option.{slice_get-get_or, slice_get_within, get_or_from_slice_get}
+use Rattle.std.proofs.lemmas.Option.{slice_get_within, get_or_from_slice_get}
 use Rattle.event_json.specs.Events.{Content}
 use Rattle.trace_core.specs.Sites.{SiteEvents}
 use Rattle.report_core.specs.Gathering.{Adds, BodyTells, OneTells}
 use Rattle.report_core.proofs.Adding.{one_more, all_added}
+use Rattle.report_core.proofs.EventsInTurn.{not_past}
 use Rattle.report_core.proofs.gathering.add_of_events.Goals.{in-Some+in_ok-add_of_body, in_default}
 use Rattle.report_core.proofs.gathering.add_of_events.Goals as goal
-
-not_past : (events : List Content) (place : ℕ) → place < length events → None ≡ slice_get events place → ⊥
-not_past [] place below none = omega arith
-not_past (e ∷ events) place below none = let clash : None ≡ Some (get_or (e ∷ events) place e) = none ∙ slice_get-get_or (e ∷ events) place e below in cc
 
 pub loop-place-preserved : goal.loop-place-preserved
 loop-place-preserved c =

@@ -1,0 +1,75 @@
+-- From which pairs a pair comes: from the item at a site that sent it, and from what was made into it.
+use Rattle.std.specs.Prelude.{◌≡◌, ◌↔◌, ◌⊎◌, ℕ, List, [], Option, None, Some, Any, Contains, slice_get}
+use Rattle.std.specs.BTreeMap.{BTreeMap, get}
+use Rattle.std.specs.BTreeSet.{BTreeSet}
+use Rattle.event_json.specs.Events.{Content}
+use Rattle.trace_core.specs.Groups.{IsSeen}
+use Rattle.trace_core.specs.Pairs.{TakesIn, GivesOut, AreOneMake, IsShipped}
+use Rattle.trace_core.specs.Sites.{SiteEvents}
+use Rattle.trace_core.specs.declared.groups.Group.{Group}
+use Rattle.trace_core.specs.declared.pairs.Pair.{Pair}
+use Rattle.site_core.specs.ItemSets.{item_cmp}
+use Rattle.report_core.specs.declared.makers.EventPlace.{EventPlace}
+
+-- just those of P are added
+abbrev pub AddsTo : {X : Type 0} → (X → Type 0) → (X → Type 0) → (X → Type 0) → Type 0
+AddsTo {X} Old New P = (x : X) → New x ↔ (Old x ⊎ P x)
+
+-- so to a list
+abbrev pub AddsToList : {X : Type 0} → List X → List X → (X → Type 0) → Type 0
+AddsToList old new P = AddsTo (Contains old) (Contains new) P
+
+-- it is so by one of the list
+abbrev pub ByOne : {X Y : Type 0} → List Y → (Y → X → Type 0) → X → Type 0
+ByOne {X} {Y} ys P x = (y : Y) × Contains ys y × P y x
+
+-- the places of events, by an item
+abbrev pub Index : Type 0
+Index = BTreeMap (List ℕ) (List EventPlace)
+
+-- the places that are looked up, none where there are none
+abbrev pub or_no_places : Option (List EventPlace) → List EventPlace
+or_no_places None = []
+or_no_places (Some places) = places
+
+-- the place stands under the item
+abbrev pub Keeps : Index → List ℕ × EventPlace → Type 0
+Keeps index m = Contains (or_no_places (get item_cmp index m.0)) m.1
+
+-- at the place stands a transformation that gives the item out
+abbrev pub IsGivenAt : List Content → List ℕ → ℕ → Type 0
+IsGivenAt events j place = (e : Content) × (slice_get events place ≡ Some e) × GivesOut j e.body
+
+-- the site at this place among all has there a transformation that gives the item out
+abbrev pub SiteMakes : SiteEvents → ℕ → List ℕ × EventPlace → Type 0
+SiteMakes s number m = (number ≡ m.1.site) × IsGivenAt s.events m.0 m.1.event
+
+-- one of the sites has
+abbrev pub SitesMake : List SiteEvents → List ℕ × EventPlace → Type 0
+SitesMake sites m = (s : SiteEvents) × (slice_get sites m.1.site ≡ Some s) × IsGivenAt s.events m.0 m.1.event
+
+-- under each item stand the places of the transformations that give it out, no more and no fewer
+abbrev pub AreMakers : Index → List SiteEvents → Type 0
+AreMakers index sites = (m : List ℕ × EventPlace) → Keeps index m ↔ SitesMake sites m
+
+-- the item of the pair is an input, at the pair's site, of the event at the place
+abbrev pub IsInputAt : SiteEvents → ℕ → Pair → Type 0
+IsInputAt s place q = (q.site ≡ s.me) × (e : Content) × (slice_get s.events place ≡ Some e) × TakesIn q.item e.body
+
+-- of that event, or of one that is a part of the same transformation
+abbrev pub GoesInto : SiteEvents → ℕ → Pair → Type 0
+GoesInto s place q =
+    (q.site ≡ s.me) × (f : Content) × (slice_get s.events place ≡ Some f) × Any (λ e. TakesIn q.item e.body × AreOneMake e f) s.events
+
+-- it goes into one of the transformations that were seen
+abbrev pub GoesIntoSeen : List SiteEvents → BTreeSet Group → Pair → Type 0
+GoesIntoSeen sites seen q =
+    (k : ℕ) × (s : SiteEvents) × (slice_get sites k ≡ Some s) × (first : ℕ) × IsSeen seen k first × GoesInto s first q
+
+-- it goes into the transformation at the place, if that is one of this site
+abbrev pub GoesIntoAt : List SiteEvents → ℕ → EventPlace → Pair → Type 0
+GoesIntoAt sites site place q = (s : SiteEvents) × (slice_get sites place.site ≡ Some s) × (s.me ≡ site) × GoesInto s place.event q
+
+-- the site sent the pair, and the other one is its item there
+abbrev pub SendsTo : Pair → SiteEvents → Pair → Type 0
+SendsTo p s q = (s.me ≡ q.site) × IsShipped s q.item p
