@@ -1,0 +1,10 @@
+pub mod Ended
+pub mod Inside
+pub mod Keeping
+pub mod Listed
+pub mod Mentioning
+pub mod Naming
+pub mod OneAnswer
+pub mod RecordSums
+pub mod SiteLists
+pub mod Told

@@ -1,0 +1,6 @@
+pub mod BySite
+pub mod KnownItems
+pub mod Laws
+pub mod Lists
+pub mod Mentions
+pub mod Recalls

@@ -1,0 +1,58 @@
+//! Laws of what is told, each named by a function with an empty body whose contract is the law.
+
+ghost use Rattle.query_core.specs.Laws.{
+  DetailsAreListed,
+  EndsWaitForNothing,
+  OneDetail,
+  OneListOfRecalls,
+  ParentsWait,
+  ShorterTextsTellMore,
+  SitesAddUp,
+  ToldItemsAreHeld,
+  WholeKeysAreTold,
+};
+
+/// Where the sites are consistent, a recall that has ended waits for nothing, and no site is engaged for it.
+pub fn an_ended_recall_waits_for_nothing()
+    ensures { EndsWaitForNothing }
+{}
+
+/// Where the sites are consistent, the message by which a site is engaged is one that waits, and was told to the site.
+pub fn a_parent_waits()
+    ensures { ParentsWait }
+{}
+
+/// Where the sites are consistent, what a message told of is quarantined where it was told.
+pub fn a_told_item_is_held()
+    ensures { ToldItemsAreHeld }
+{}
+
+/// The records of all sites have one list of recalls.
+pub fn records_have_one_list_of_recalls()
+    ensures { OneListOfRecalls }
+{}
+
+/// The records of all sites have one answer on a recall.
+pub fn records_have_one_detail()
+    ensures { OneDetail }
+{}
+
+/// How a recall stands by itself is how it stands in the list of all recalls.
+pub fn a_detail_is_listed()
+    ensures { DetailsAreListed }
+{}
+
+/// The counts of a recall are the sums of its sites' counts, and as many messages are told of as wait.
+pub fn sites_add_up()
+    ensures { SitesAddUp }
+{}
+
+/// An item that is asked for by its whole key is told of exactly where the site knows it.
+pub fn a_whole_key_is_told()
+    ensures { WholeKeysAreTold }
+{}
+
+/// What is told of where a longer text is asked for is told of where a part of it is.
+pub fn a_shorter_text_tells_more()
+    ensures { ShorterTextsTellMore }
+{}

@@ -1,0 +1,97 @@
+//! The two sites, what they do, and what is expected of them.
+use epc_core::{Epc, EpcForm};
+use event_json::{Sequence, SiteNo, Sites};
+use frame_core::{Frame, MsgId, RecallId};
+use site_core::{SiteInput, SiteState};
+use std::alloc::Global;
+use std::hash::RandomState;
+use std::test::Fail;
+
+/// A document of two shipments to the address b: of x, and then of x again, with the item xy.
+const DOCUMENT: &str =
+    "{\"type\":\"EPCISDocument\",\"epcisBody\":{\"eventList\":[{\"type\":\"ObjectEvent\",\"eventTime\":\"2024-05-01T08:00:00Z\",\"eventTimeZoneOffset\":\"+00:00\",\"action\":\"OBSERVE\",\"epcList\":[\"x\"],\"destinationList\":[{\"destination\":\"b\"}]},{\"type\":\"ObjectEvent\",\"eventTime\":\"2024-05-02T08:00:00Z\",\"eventTimeZoneOffset\":\"+00:00\",\"action\":\"OBSERVE\",\"epcList\":[\"x\",\"xy\"],\"destinationList\":[{\"destination\":\"b\"}]}]}}";
+
+/// Site A.
+pub fn a() -> SiteNo {
+    SiteNo::of(0).unwrap()
+}
+
+/// Site B.
+pub fn b() -> SiteNo {
+    SiteNo::of(1).unwrap()
+}
+
+/// The recall A#1.
+pub fn recall() -> RecallId {
+    RecallId {
+        site: a(),
+        number: 1,
+    }
+}
+
+/// The message A.1.
+pub fn message() -> MsgId {
+    MsgId {
+        site: a(),
+        number: 1,
+    }
+}
+
+/// One of the two sites, which has captured nothing.
+fn fresh(alloc: Global, keys: RandomState, second: bool) -> Result<SiteState, Fail> {
+    let mut sites = Sites::new(alloc);
+    let a = sites.add("A", &["a"])?;
+    let b = sites.add("B", &["b"])?;
+    let me = if second { b } else { a };
+    Ok(SiteState::new(alloc, keys, sites, me))
+}
+
+/// Gives a site an input, which it is to take.
+fn take(state: &mut SiteState, input: &SiteInput) -> Result<(), Fail> {
+    match state.apply(input) {
+        Ok(_) => Ok(()),
+        Err(_) => Err("refused".into()),
+    }
+}
+
+/// Site A, which captured the document and began a recall of x.
+pub fn recalling(alloc: Global, keys: RandomState) -> Result<SiteState, Fail> {
+    let mut site = fresh(alloc, keys, false)?;
+    let bytes = DOCUMENT.as_bytes().to_vec(alloc)?;
+    take(&mut site, &SiteInput::Capture(Sequence::from_vec(bytes)))?;
+    take(&mut site, &SiteInput::Start(Epc::read(alloc, "x")?))?;
+    Ok(site)
+}
+
+/// Site B, before it takes a message.
+pub fn untold(alloc: Global, keys: RandomState) -> Result<SiteState, Fail> {
+    fresh(alloc, keys, true)
+}
+
+/// Site B takes the message of A that x is recalled.
+pub fn tell(alloc: Global, state: &mut SiteState) -> Result<(), Fail> {
+    let frame = Frame::Recall {
+        id: message(),
+        dest: b(),
+        recall: recall(),
+        item: Epc::read(alloc, "x")?,
+    };
+    take(state, &SiteInput::Deliver(frame))
+}
+
+/// Site A takes the signal of B, with which the recall ends.
+pub fn signal(state: &mut SiteState) -> Result<(), Fail> {
+    let frame = Frame::Signal {
+        id: message(),
+        by: b(),
+    };
+    take(state, &SiteInput::Deliver(frame))
+}
+
+/// Whether the item is this opaque one.
+pub fn is_item(item: &Epc, wanted: &str) -> bool {
+    match item.form() {
+        EpcForm::Other(text) => text.as_str() == wanted,
+        _ => false,
+    }
+}
