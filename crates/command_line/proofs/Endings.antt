@@ -1,5 +1,5 @@
 -- how a command line ends whose words are bad, or ask for a command on files
-use Rattle.std.proofs.Common.{◌≡◌, ℕ, Bool, List, Option, Result, IfOk, inl, inr, refl}
+use Rattle.std.proofs.Common.{◌≡◌, ℕ, List, Option, Result, IfOk, inl, inr, refl}
 use Rattle.std.specs.Global.{Global}
 use Rattle.std.specs.declared.string.String.{String}
 use Rattle.std.specs.Io.KnownBytes.{Keeps}
@@ -8,6 +8,7 @@ use Rattle.site_core.specs.Records.{Record}
 use Rattle.recall_outcomes.specs.declared.faults.Failure.{Failure}
 use Rattle.recall_outcomes.specs.declared.faults.Fault.{Fault}
 use Rattle.recall_outcomes.specs.declared.outcomes.Form.{Form}
+use Rattle.folder_commands.specs.FileCalls.{FileCall, Led}
 use Rattle.folder_commands.specs.declared.outputs.Output.{Output}
 use Rattle.command_line.specs.CommandLines.{texts_of, AsksBatch, AsksFiles, IsBad}
 use Rattle.command_line.specs.Ends.{BatchEnds, Ends, Streams, TellsWhatCame}
@@ -15,22 +16,22 @@ use Rattle.command_line.specs.Leads.{LeadsTo}
 use Rattle.command_line.specs.declared.command_lines.Batch.{Batch}
 use Rattle.command_line.specs.declared.command_lines.FileCommand.{FileCommand}
 
-module _ {F K : Type 0} (reads : F → List ℕ → List ℕ → F → Type 0) (lines : F → List ℕ → Option (List ℕ) → F → Type 0) (finds : F → List ℕ → Bool → F → Type 0) (makes : F → List ℕ → Record → F → Type 0) (opens : F → List ℕ → List ℕ → K → F → Type 0) (closes : F → K → F → Type 0) (writes : F → List ℕ → List ℕ → F → Type 0) (knows : F → List ℕ → List ℕ → Type 0) (fails : F → Option Failure → Type 0) (shown : K → Option Record) (failed : K → ℕ) (stored : K → Type 0) where
+module _ {F K : Type 0} (does : F → FileCall K → F → Type 0) (knows : F → List ℕ → List ℕ → Type 0) (fails : F → Option Failure → Type 0) (shown : K → Option Record) (failed : K → ℕ) (stored : K → Type 0) where
   pub ends_mistaken : (words : List (String Global)) (old new : F) (before after : Streams) (text : List ℕ) → IsBad (texts_of words) → new ≡ old
-      → Keeps before.input after.input → Keeps before.output after.output → AppendsBeginning before.errors after.errors text
-      → Ends reads lines finds makes opens closes writes knows fails shown failed stored words old new before after 2
+      → Keeps before.input after.input → Keeps before.printed.output after.printed.output → AppendsBeginning before.printed.errors after.printed.errors text
+      → Ends does knows fails shown failed stored words old new before after 2
   ends_mistaken words old new before after text bad uncalled unread unwritten told =
       inr (inr (inr (inr (inl (record { bad = bad; text = text; uncalled = uncalled; unread = unread; unwritten = unwritten; told = told; status_is = refl })))))
 
   pub ends_files : (words : List (String Global)) (old new : F) (before after : Streams) (status : ℕ) (command : FileCommand) (form : Form) (came : Result Output Fault)
-      → AsksFiles (texts_of words) command form → IfOk came (LeadsTo reads finds makes opens closes writes knows shown failed stored command old new)
-      → Keeps before.input after.input → TellsWhatCame fails form new came before.output after.output before.errors after.errors status
-      → Ends reads lines finds makes opens closes writes knows fails shown failed stored words old new before after status
+      → AsksFiles (texts_of words) command form → IfOk came (λ output. Led does old new (LeadsTo (knows new) shown failed stored command output))
+      → Keeps before.input after.input → TellsWhatCame fails form new came before.printed after.printed status
+      → Ends does knows fails shown failed stored words old new before after status
   ends_files words old new before after status command form came asked led unread told =
       inr (inl (record { command = command; form = form; asked = asked; came = came; led = led; unread = unread; told = told }))
 
   pub ends_batch : (words : List (String Global)) (old new : F) (before after : Streams) (status : ℕ) (batch : Batch) → AsksBatch (texts_of words) batch → Keeps before.input after.input
-      → BatchEnds reads lines opens closes fails shown stored batch old new before.output after.output before.errors after.errors status
-      → Ends reads lines finds makes opens closes writes knows fails shown failed stored words old new before after status
+      → BatchEnds does fails shown stored batch old new before.printed after.printed status
+      → Ends does knows fails shown failed stored words old new before after status
   ends_batch words old new before after status batch asked unread ends =
       inr (inr (inl (record { batch = batch; asked = asked; unread = unread; ends = ends })))

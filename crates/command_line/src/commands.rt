@@ -6,8 +6,9 @@ ghost use Rattle.recall_outcomes.specs.Notes.{untraced_text};
 ghost use Rattle.recall_outcomes.specs.Printing.{note_lines};
 ghost use Rattle.recall_text.specs.Writing.{AppendsBeginning};
 ghost use Rattle.command_line.specs.CommandLines.{HasTurns};
-ghost use Rattle.command_line.specs.Ends.{BatchEnds, Ends, Explains, HelpHelps, OutputEnds, RunsScript, SimRuns, TellsFault, TellsNotes, TellsWhatCame, TextEnds, script_fault_line};
+ghost use Rattle.command_line.specs.Ends.{BatchEnds, Ends, Explains, HelpHelps, OutputEnds, RunsScript, SimRuns, TellsFault, TellsNotes, TellsWhatCame, TextEnds, printed_on, script_fault_line, streams};
 ghost use Rattle.command_line.specs.Leads.{LeadsTo};
+ghost use Rattle.folder_commands.specs.FileCalls.{Led};
 
 use crate::command_lines::{self, Asked, Batch, FileCommand};
 use crate::statuses;
@@ -57,13 +58,15 @@ pub fn run_command<
     output: &mut W,
     errors: &mut E,
 ) -> u8
-    ensures ends { Ends F.reads F.lines F.finds F.makes F.opens F.closes F.writes F.knows F.fails K.shown K.failed K.stored words.now files.old files.new
-        (record { input = I.remaining input.old; output = W.contents output.old; errors = E.contents errors.old })
-        (record { input = I.remaining input.new; output = W.contents output.new; errors = E.contents errors.new }) result }
-    ensures sim { SimRuns words.now files.old files.new (record { input = I.remaining input.old; output = W.contents output.old; errors = E.contents errors.old })
-        (record { input = I.remaining input.new; output = W.contents output.new; errors = E.contents errors.new }) result }
-    ensures help { HelpHelps words.now files.old files.new (record { input = I.remaining input.old; output = W.contents output.old; errors = E.contents errors.old })
-        (record { input = I.remaining input.new; output = W.contents output.new; errors = E.contents errors.new }) result }
+    ensures ends { Ends F.does F.knows F.fails K.shown K.failed K.stored words.now files.old files.new
+        (streams I.remaining W.contents E.contents input.old output.old errors.old)
+        (streams I.remaining W.contents E.contents input.new output.new errors.new) result }
+    ensures sim { SimRuns words.now files.old files.new
+        (streams I.remaining W.contents E.contents input.old output.old errors.old)
+        (streams I.remaining W.contents E.contents input.new output.new errors.new) result }
+    ensures help { HelpHelps words.now files.old files.new
+        (streams I.remaining W.contents E.contents input.old output.old errors.old)
+        (streams I.remaining W.contents E.contents input.new output.new errors.new) result }
 {
     match command_lines::read(alloc, words) {
         Ok(Asked::Sim) => sim(alloc, keys, input, output, errors),
@@ -89,8 +92,8 @@ fn sim<I: Read, W: Write, E: Write>(
     output: &mut W,
     errors: &mut E,
 ) -> u8
-    ensures { RunsScript (record { input = I.remaining input.old; output = W.contents output.old; errors = E.contents errors.old })
-        (record { input = I.remaining input.new; output = W.contents output.new; errors = E.contents errors.new }) result }
+    ensures { RunsScript (streams I.remaining W.contents E.contents input.old output.old errors.old)
+        (streams I.remaining W.contents E.contents input.new output.new errors.new) result }
 {
     match run_script(alloc, keys, input, output) {
         Ok(tally) => status_of(tally),
@@ -140,7 +143,8 @@ fn on_files<
     command: &FileCommand<'_>,
 ) -> Result<Output, Fault>
     requires { HasTurns command.now }
-    ensures { IfOk result (LeadsTo F.reads F.finds F.makes F.opens F.closes F.writes F.knows K.shown K.failed K.stored command.now files.old files.new) }
+    ensures { IfOk result (λ output. Led F.does files.old files.new
+        (LeadsTo (F.knows files.new) K.shown K.failed K.stored command.now output)) }
 {
     match command {
         FileCommand::Run { folder, turns } => run_sites(rt, alloc, files, gate, folder, *turns),
@@ -160,8 +164,9 @@ fn capture_batch<K: SiteKeeper, F: Files<K>, W: Write, E: Write>(
     output: &mut W,
     errors: &mut E,
 ) -> u8
-    ensures { BatchEnds F.reads F.lines F.opens F.closes F.fails K.shown K.stored batch.now files.old files.new
-        (W.contents output.old) (W.contents output.new) (E.contents errors.old) (E.contents errors.new) result }
+    ensures { BatchEnds F.does F.fails K.shown K.stored batch.now files.old files.new
+        (printed_on W.contents E.contents output.old errors.old)
+        (printed_on W.contents E.contents output.new errors.new) result }
 {
     let documents = Documents {
         paths: batch.paths.as_slice(),
@@ -202,7 +207,9 @@ fn tell<K: SiteKeeper, F: Files<K>, W: Write, E: Write>(
     output: &mut W,
     errors: &mut E,
 ) -> u8
-    ensures { TellsWhatCame F.fails form files.now came.now (W.contents output.old) (W.contents output.new) (E.contents errors.old) (E.contents errors.new) result }
+    ensures { TellsWhatCame F.fails form files.now came.now
+        (printed_on W.contents E.contents output.old errors.old)
+        (printed_on W.contents E.contents output.new errors.new) result }
 {
     match came {
         Ok(told) => tell_output(alloc, form, files, told, output, errors),
@@ -219,7 +226,9 @@ fn tell_output<K: SiteKeeper, F: Files<K>, W: Write, E: Write>(
     output: &mut W,
     errors: &mut E,
 ) -> u8
-    ensures { OutputEnds F.fails form files.now told.now (W.contents output.old) (W.contents output.new) (E.contents errors.old) (E.contents errors.new) result }
+    ensures { OutputEnds F.fails form files.now told.now
+        (printed_on W.contents E.contents output.old errors.old)
+        (printed_on W.contents E.contents output.new errors.new) result }
 {
     let Ok(text) = told.outcome.lines(alloc, form, &told.sites) else {
         return fault(alloc, form, files, Fault::NoMemory, errors);
@@ -268,7 +277,9 @@ fn note<E: Write>(alloc: Global, form: Form, text: &str, errors: &mut E)
 
 /// Prints help.
 fn print<W: Write, E: Write>(text: &str, output: &mut W, errors: &mut E) -> u8
-    ensures { TextEnds text.now (W.contents output.old) (W.contents output.new) (E.contents errors.old) (E.contents errors.new) result }
+    ensures { TextEnds text.now
+        (printed_on W.contents E.contents output.old errors.old)
+        (printed_on W.contents E.contents output.new errors.new) result }
 {
     match write_text(output, text.as_bytes()) {
         Ok(()) => statuses::DONE,

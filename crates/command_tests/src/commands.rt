@@ -60,19 +60,7 @@ impl Files<MemoryKeeper> for MemoryFiles {
     ghost use Rattle.std.specs.Prelude.{⊤};
 
     // The texts that the tests read say what the calls did.
-    ghost reads = { λ _ _ _ _. ⊤ };
-
-    ghost lines = { λ _ _ _ _. ⊤ };
-
-    ghost finds = { λ _ _ _ _. ⊤ };
-
-    ghost makes = { λ _ _ _ _. ⊤ };
-
-    ghost opens = { λ _ _ _ _ _. ⊤ };
-
-    ghost closes = { λ _ _ _. ⊤ };
-
-    ghost writes = { λ _ _ _ _. ⊤ };
+    ghost does = { λ _ _ _. ⊤ };
 
     ghost fails = { λ _ _. ⊤ };
 
@@ -136,6 +124,8 @@ impl Files<MemoryKeeper> for MemoryFiles {
     fn known_of(&self, alloc: Global, path: &str) -> Result<String, AllocError> {
         format!(in alloc; "known of {path}\n")
     }
+
+    fn blame(&mut self, _: &str) {}
 
     fn failure(&self) -> Option<&Failure> {
         None

@@ -31,19 +31,7 @@ impl Files<MemoryKeeper> for OneFile {
     ghost use Rattle.std.specs.Prelude.{⊤};
 
     // The texts that the tests read say what the calls did.
-    ghost reads = { λ _ _ _ _. ⊤ };
-
-    ghost lines = { λ _ _ _ _. ⊤ };
-
-    ghost finds = { λ _ _ _ _. ⊤ };
-
-    ghost makes = { λ _ _ _ _. ⊤ };
-
-    ghost opens = { λ _ _ _ _ _. ⊤ };
-
-    ghost closes = { λ _ _ _. ⊤ };
-
-    ghost writes = { λ _ _ _ _. ⊤ };
+    ghost does = { λ _ _ _. ⊤ };
 
     ghost knows = { λ _ _ _. ⊤ };
 
@@ -78,6 +66,8 @@ impl Files<MemoryKeeper> for OneFile {
     fn known_of(&self, alloc: Global, _: &str) -> Result<String, AllocError> {
         Ok(String::new(alloc))
     }
+
+    fn blame(&mut self, _: &str) {}
 
     fn failure(&self) -> Option<&Failure> {
         None

@@ -1,44 +1,87 @@
--- Files opened and closed in turn.
+-- Calls one after another, and keepers opened in turn.
 use Rattle.std.proofs.Common.{◌≡◌, ℕ, ◌+◌, List, [], ◌∷◌, All, ◌++◌, length, Some, refl, sym, ap, ◌∙◌, subst, arith}
-use Rattle.std.specs.Prelude.{Option, Result, Ok, Err, IfOk}
+use Rattle.std.specs.Prelude.{Option, Result, Ok, Err, IfOk, IfErr, IsErrAnd, OnOk}
 use Rattle.std.proofs.lemmas.List.Elements.{All-cons, All-nil}
 use Rattle.std.proofs.lemmas.Option.{same_Some}
 use Rattle.event_json.specs.Sites.{Site}
 use Rattle.site_core.specs.Records.{Record}
-use Rattle.folder_commands.specs.Calls.{AreShown, ClosesAll, OpensFrom, OpensSite}
+use Rattle.recall_outcomes.specs.declared.faults.Fault.{Fault}
+use Rattle.folder_commands.specs.Calls.{AreShown, KeepFrom, KeepsSite, ListsSites, opens_from, opens_site}
+use Rattle.folder_commands.specs.FileCalls.{Began, Blamed, Calls, Failed, FileCall, Led, OpenedSite, ReadFile}
+use Rattle.folder_commands.specs.Folders.{list_path}
 
-module _ {F K : Type 0} (opens : F → List ℕ → List ℕ → K → F → Type 0) (closes : F → K → F → Type 0) (shown : K → Option Record) (stored : K → Type 0) (folder : List ℕ) (sites : List Site) where
-  -- one file more
-  pub opens_more : (site : ℕ) (old mid new : F) (keepers : List K) (rs : List Record) (keeper : K) (r : Record) → OpensFrom opens closes shown stored folder sites site old mid keepers rs
-      → OpensSite opens closes shown stored folder sites (site + length keepers) mid new keeper r → OpensFrom opens closes shown stored folder sites site old new (keepers ++ keeper ∷ []) (rs ++ r ∷ [])
-  opens_more site old mid new [] [] keeper r all one =
+module _ {F K : Type 0} (does : F → FileCall K → F → Type 0) where
+  -- calls, and then others
+  pub calls_then : (old mid new : F) (xs ys : List (FileCall K)) → Calls does old xs mid → Calls does mid ys new → Calls does old (xs ++ ys) new
+  calls_then old mid new [] ys none others = subst (λ m. Calls does m ys new) none others
+  calls_then old mid new (x ∷ xs) ys (next, first, rest) others = (next, first, calls_then next mid new xs ys rest others)
+
+  -- calls, and then one more
+  pub call_more : (old mid new : F) (xs : List (FileCall K)) (call : FileCall K) → Calls does old xs mid → does mid call new → Calls does old (xs ++ call ∷ []) new
+  call_more old mid new xs call all one = calls_then old mid new xs (call ∷ []) all (new, one, refl)
+
+  -- the folder's list was read, and then these calls came
+  pub list_then : (old mid new : F) (folder : List ℕ) (sites : List Site) (listed : Led does old mid (ListsSites folder sites)) (calls : List (FileCall K)) → Calls does mid calls new
+      → Calls does old (ReadFile (list_path folder) listed.are.text ∷ calls) new
+  list_then old mid new folder sites listed calls more =
+      calls_then old mid new (ReadFile (list_path folder) listed.are.text ∷ []) calls (subst (λ cs. Calls does old cs mid) listed.are.calls_are listed.led) more
+
+  -- no call came
+  pub began_none : (old : F) (Are : List (FileCall K) → Type 0) → Are [] → Began does old Are
+  began_none old Are are = record { mid = old; begun = record { calls = []; are = are; led = refl } }
+
+  -- a call for a path failed
+  pub failed_at : (old new : F) (path asked : List ℕ) (fault : Fault) → asked ≡ path → does old (Failed asked fault) new → Calls does old (Failed path fault ∷ []) new
+  failed_at old new path asked fault e one = (new, subst (λ p. does old (Failed p fault) new) e one, refl)
+
+  -- the folder's list was read, and then perhaps blamed
+  pub list_read : (old new : F) (path asked bytes : List ℕ) → asked ≡ path → does old (ReadFile asked bytes) new → does old (ReadFile path bytes) new
+  list_read old new path asked bytes e one = subst (λ p. does old (ReadFile p bytes) new) e one
+
+  pub blamed : (old new : F) (path asked : List ℕ) → asked ≡ path → does old (Blamed asked) new → does old (Blamed path) new
+  blamed old new path asked e one = subst (λ p. does old (Blamed p) new) e one
+
+  -- a file was opened
+  pub opened_as : (old new : F) (path asked name called : List ℕ) (keeper : K) → asked ≡ path → called ≡ name → does old (OpenedSite asked called keeper) new → does old (OpenedSite path name keeper) new
+  opened_as old new path asked name called keeper e f one = subst (λ p. does old (OpenedSite p name keeper) new) e (subst (λ n. does old (OpenedSite asked n keeper) new) f one)
+
+-- the call that opens one file more
+pub opens_more : {K : Type 0} (folder : List ℕ) (sites : List Site) (site : ℕ) (keepers : List K) (keeper : K)
+    → opens_from folder sites site (keepers ++ keeper ∷ []) ≡ opens_from folder sites site keepers ++ opens_site folder sites (site + length keepers) keeper ∷ []
+opens_more folder sites site [] keeper =
+    let here : site ≡ site + 0 = omega arith in
+    ap (λ (n : ℕ). opens_site folder sites n keeper ∷ []) here
+opens_more folder sites site (k ∷ keepers) keeper =
+    let later : (site + 1) + length keepers ≡ site + length (k ∷ keepers) = omega arith in
+    ap (λ rest. opens_site folder sites site k ∷ rest)
+    (opens_more folder sites (site + 1) keepers keeper ∙ ap (λ (n : ℕ). opens_from folder sites (site + 1) keepers ++ opens_site folder sites n keeper ∷ []) later)
+
+module _ {K : Type 0} (shown : K → Option Record) (stored : K → Type 0) (sites : List Site) where
+  -- one keeper more
+  pub keep_more : (site : ℕ) (keepers : List K) (rs : List Record) (keeper : K) (r : Record) → KeepFrom shown stored sites site keepers rs
+      → KeepsSite shown stored sites (site + length keepers) keeper r → KeepFrom shown stored sites site (keepers ++ keeper ∷ []) (rs ++ r ∷ [])
+  keep_more site [] [] keeper r all one =
       let here : site + 0 ≡ site = omega arith in
-      (new, subst (λ (n : ℕ). OpensSite opens closes shown stored folder sites n old new keeper r) here (subst (λ m. OpensSite opens closes shown stored folder sites (site + 0) m new keeper r) all one), refl)
-  opens_more site old mid new (k ∷ keepers) (q ∷ rs) keeper r (next, first, rest) one =
+      (subst (λ (n : ℕ). KeepsSite shown stored sites n keeper r) here one, tt)
+  keep_more site (k ∷ keepers) (q ∷ rs) keeper r (first, rest) one =
       let later : site + length (k ∷ keepers) ≡ (site + 1) + length keepers = omega arith in
-      (next, first, opens_more (site + 1) next mid new keepers rs keeper r rest (subst (λ (n : ℕ). OpensSite opens closes shown stored folder sites n mid new keeper r) later one))
-  opens_more site old mid new [] (q ∷ rs) keeper r all one = absurd all
-  opens_more site old mid new (k ∷ keepers) [] keeper r all one = absurd all
+      (first, keep_more (site + 1) keepers rs keeper r rest (subst (λ (n : ℕ). KeepsSite shown stored sites n keeper r) later one))
+  keep_more site [] (q ∷ rs) keeper r all one = absurd all
+  keep_more site (k ∷ keepers) [] keeper r all one = absurd all
 
-  -- what was opened is shown
-  pub opened_shown : (site : ℕ) (old new : F) (keepers : List K) (rs : List Record) → OpensFrom opens closes shown stored folder sites site old new keepers rs → AreShown shown keepers rs
-  opened_shown site old new [] [] all = tt
-  opened_shown site old new (k ∷ keepers) (r ∷ rs) (mid, first, rest) = (first.shows.shows, opened_shown (site + 1) mid new keepers rs rest)
-  opened_shown site old new [] (r ∷ rs) all = absurd all
-  opened_shown site old new (k ∷ keepers) [] all = absurd all
+  -- what they keep is shown
+  pub kept_shown : (site : ℕ) (keepers : List K) (rs : List Record) → KeepFrom shown stored sites site keepers rs → AreShown shown keepers rs
+  kept_shown site [] [] all = tt
+  kept_shown site (k ∷ keepers) (r ∷ rs) (first, rest) = (first.shows.shows, kept_shown (site + 1) keepers rs rest)
+  kept_shown site [] (r ∷ rs) all = absurd all
+  kept_shown site (k ∷ keepers) [] all = absurd all
 
   -- and a crash leaves it on its file
-  pub opened_stored : (site : ℕ) (old new : F) (keepers : List K) (rs : List Record) → OpensFrom opens closes shown stored folder sites site old new keepers rs → All stored keepers
-  opened_stored site old new [] [] all = All-nil stored
-  opened_stored site old new (k ∷ keepers) (r ∷ rs) (mid, first, rest) = All-cons stored k keepers first.lasts (opened_stored (site + 1) mid new keepers rs rest)
-  opened_stored site old new [] (r ∷ rs) all = absurd all
-  opened_stored site old new (k ∷ keepers) [] all = absurd all
-
--- one file more is closed
-pub closes_more : {F K : Type 0} (closes : F → K → F → Type 0) (old mid new : F) (keepers : List K) (keeper : K) → ClosesAll closes old mid keepers → closes mid keeper new
-    → ClosesAll closes old new (keepers ++ keeper ∷ [])
-closes_more closes old mid new [] keeper all one = (new, subst (λ m. closes m keeper new) all one, refl)
-closes_more closes old mid new (k ∷ keepers) keeper (next, first, rest) one = (next, first, closes_more closes next mid new keepers keeper rest one)
+  pub kept_stored : (site : ℕ) (keepers : List K) (rs : List Record) → KeepFrom shown stored sites site keepers rs → All stored keepers
+  kept_stored site [] [] all = All-nil stored
+  kept_stored site (k ∷ keepers) (r ∷ rs) (first, rest) = All-cons stored k keepers first.lasts (kept_stored (site + 1) keepers rs rest)
+  kept_stored site [] (r ∷ rs) all = absurd all
+  kept_stored site (k ∷ keepers) [] all = absurd all
 
 -- one record more is shown
 pub shown_more : {K : Type 0} (shown : K → Option Record) (keepers : List K) (rs : List Record) (keeper : K) (r : Record) → AreShown shown keepers rs → shown keeper ≡ Some r → AreShown shown (keepers ++ keeper ∷ []) (rs ++ r ∷ [])
@@ -62,3 +105,18 @@ shown_once shown (k ∷ keepers) (r ∷ rs) [] a b = absurd b
 pub ok_so : {X E : Type 0} {P Q : X → Type 0} (r : Result X E) → ((x : X) → P x → Q x) → IfOk r P → IfOk r Q
 ok_so (Ok x) f h = f x h
 ok_so (Err e) f h = tt
+
+-- and of each fault
+pub err_so : {X E : Type 0} {P Q : E → Type 0} (r : Result X E) → ((e : E) → P e → Q e) → IfErr r P → IfErr r Q
+err_so (Ok x) f h = tt
+err_so (Err e) f h = f e h
+
+-- a fault that is handed on
+pub handed_on : {X E : Type 0} (r : Result X E) (e : E) (Q : E → Type 0) → IsErrAnd r (λ f. f ≡ e) → Q e → IfErr r Q
+handed_on (Ok x) e Q is h = tt
+handed_on (Err f) e Q is h = subst Q (sym is) h
+
+-- and of a success
+pub on_ok_so : {X E P Q : Type 0} (r : Result X E) → (P → Q) → OnOk r P → OnOk r Q
+on_ok_so (Ok x) f h = f h
+on_ok_so (Err e) f h = tt

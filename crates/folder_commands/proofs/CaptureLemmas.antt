@@ -5,7 +5,7 @@ use Rattle.std.specs.Prelude.{OnErr}
 use Rattle.std.proofs.KnownBytes.{Appends-nil}
 use Rattle.recall_text.specs.Writing.{AppendsBeginning}
 use Rattle.std.proofs.lemmas.Option.{same_Some}
-use Rattle.event_json.specs.Sites.{Site}
+use Rattle.event_json.specs.Sites.{Site, named}
 use Rattle.keeper_core.specs.Keeping.{Applies}
 use Rattle.keeper_core.specs.declared.faults.KeepFault.{KeepFault}
 use Rattle.keeper_core.specs.declared.faults.KeepFault.TheVariants as keeping
@@ -19,7 +19,11 @@ use Rattle.recall_outcomes.specs.Printing.{document_line, totals_line}
 use Rattle.recall_outcomes.specs.declared.documents.DocumentOutcome.{DocumentOutcome}
 use Rattle.recall_outcomes.specs.declared.documents.DocumentOutcome.TheVariants.{Refused}
 use Rattle.recall_outcomes.specs.declared.outcomes.Form.{Form}
-use Rattle.folder_commands.specs.Captures.{ComesTo, Document, IsOfCapture, ReadsFile, ReadsFiles, ReadsSome, Standing, Takes, TakesOne, TakesSome, TakesThose, came_of, is_blank, of_lines}
+use Rattle.folder_commands.proofs.CallsInTurn.{calls_then, list_then}
+use Rattle.folder_commands.specs.Calls.{KeepsSite, ListsSites, opens_site}
+use Rattle.folder_commands.specs.Folders.{list_path}
+use Rattle.folder_commands.specs.Captures.{ComesTo, Document, EndsEarly, EndsWhere, IsOfCapture, ReadsFile, ReadsFiles, Standing, Takes, TakesOne, TakesSome, TakesThose, came_of, is_blank, no_counts, of_lines, standing}
+use Rattle.folder_commands.specs.FileCalls.{Began, FileCall, Led, ReadFile}
 
 module _ (form : Form) (sites : List Site) where
   -- some documents, and then others
@@ -55,31 +59,28 @@ pub other_line : (path : List ℕ) (number : ℕ) (line : List ℕ) → is_blank
     → of_lines path number (line ∷ []) ≡ record { source = path ++ 58 ∷ decimal number; bytes = line } ∷ []
 other_line path number line other = ap (λ b. if b then [] else record { source = path ++ 58 ∷ decimal number; bytes = line } ∷ []) other
 
--- a line more was read
-pub reads_line : {F : Type 0} (lines : F → List ℕ → Option (List ℕ) → F → Type 0) (old mid new : F) (path : List ℕ) (texts : List (List ℕ)) (line : List ℕ)
-    → ReadsSome lines old path texts mid → lines mid path (Some line) new → ReadsSome lines old path (texts ++ line ∷ []) new
-reads_line lines old mid new path [] line none one = (new, subst (λ m. lines m path (Some line) new) none one, refl)
-reads_line lines old mid new path (text ∷ texts) line (next, first, rest) one = (next, first, reads_line lines next mid new path texts line rest one)
-
--- a file more was read
-pub reads_file : {F : Type 0} (reads : F → List ℕ → List ℕ → F → Type 0) (lines : F → List ℕ → Option (List ℕ) → F → Type 0) (by_lines : Bool) (old mid new : F) (paths : List (List ℕ)) (path : List ℕ) (some last : List Document)
-    → ReadsFiles reads lines by_lines old paths some mid → ReadsFile reads lines by_lines mid path last new
-    → ReadsFiles reads lines by_lines old (paths ++ path ∷ []) (some ++ last) new
-reads_file reads lines by_lines old mid new [] path some last (same, none) one = (
-  new,
+-- a file more is read
+pub reads_file : {K : Type 0} (by_lines : Bool) (paths : List (List ℕ)) (path : List ℕ) (some last : List Document) (calls more : List (FileCall K))
+    → ReadsFiles by_lines paths some calls → ReadsFile by_lines path last more → ReadsFiles by_lines (paths ++ path ∷ []) (some ++ last) (calls ++ more)
+reads_file by_lines [] path some last calls more (none, uncalled) one = (
   last,
   [],
-  subst (λ m. ReadsFile reads lines by_lines m path last new) same one,
+  more,
+  [],
+  one,
   (refl, refl),
   (ap (λ ds. ds ++ last) none ∙ sym (append-nil last)),
+  (ap (λ cs. cs ++ more) uncalled ∙ sym (append-nil more)),
 )
-reads_file reads lines by_lines old mid new (p ∷ paths) path some last (next, first, rest, head, tail, is) one = (
-  next,
+reads_file by_lines (p ∷ paths) path some last calls more (first, rest, here, there, head, tail, is, calls_are) one = (
   first,
   rest ++ last,
+  here,
+  there ++ more,
   head,
-  reads_file reads lines by_lines next mid new paths path rest last tail one,
+  reads_file by_lines paths path rest last there more tail one,
   (ap (λ ds. ds ++ last) is ∙ append_assoc first rest last),
+  (ap (λ cs. cs ++ more) calls_are ∙ append_assoc here there more),
 )
 
 -- what a keeper that shows a record answers to a capture are effects of one
@@ -157,12 +158,12 @@ takes_more form sites old mid first after taken some = record {
 }
 
 -- a file's document was taken
-pub takes_document : {F : Type 0} (reads : F → List ℕ → List ℕ → F → Type 0) (lines : F → List ℕ → Option (List ℕ) → F → Type 0) (old new : F) (path source bytes : List ℕ) (form : Form) (sites : List Site) (a b : Standing)
-    → source ≡ path → reads old path bytes new → TakesOne form sites a (record { source = source; bytes = bytes }) b
-    → TakesThose (λ ds. ReadsFile reads lines false old path ds new) form sites a b
-takes_document reads lines old new path source bytes form sites a b e read one = record {
+pub takes_document : {F K : Type 0} (does : F → FileCall K → F → Type 0) (old new : F) (path source bytes : List ℕ) (form : Form) (sites : List Site) (a b : Standing)
+    → source ≡ path → does old (ReadFile path bytes) new → TakesOne form sites a (record { source = source; bytes = bytes }) b
+    → TakesThose (λ ds. Led does old new (ReadsFile false path ds)) form sites a b
+takes_document does old new path source bytes form sites a b e read one = record {
   documents = record { source = path; bytes = bytes } ∷ [];
-  are = (bytes, read, refl);
+  are = record { calls = ReadFile path bytes ∷ []; are = (bytes, refl, refl); led = (new, read, refl) };
   taken = (b, subst (λ s. TakesOne form sites a (record { source = s; bytes = bytes }) b) e one, refl);
 }
 
@@ -186,12 +187,16 @@ takes_lines form sites a b c path line texts number count first rest =
     (subst (λ (n : ℕ). Takes form sites b (of_lines path n (line ∷ [])) c) count rest))
 
 -- a file more: its documents were taken
-pub takes_file : {F : Type 0} (reads : F → List ℕ → List ℕ → F → Type 0) (lines : F → List ℕ → Option (List ℕ) → F → Type 0) (by_lines : Bool) (old mid new : F) (paths : List (List ℕ)) (path : List ℕ) (form : Form) (sites : List Site) (a b c : Standing)
-    → TakesThose (λ ds. ReadsFiles reads lines by_lines old paths ds mid) form sites a b → TakesThose (λ ds. ReadsFile reads lines by_lines mid path ds new) form sites b c
-    → TakesThose (λ ds. ReadsFiles reads lines by_lines old (paths ++ path ∷ []) ds new) form sites a c
-takes_file reads lines by_lines old mid new paths path form sites a b c some more = record {
+pub takes_file : {F K : Type 0} (does : F → FileCall K → F → Type 0) (by_lines : Bool) (old mid new : F) (paths : List (List ℕ)) (path : List ℕ) (form : Form) (sites : List Site) (a b c : Standing)
+    → TakesThose (λ ds. Led does old mid (ReadsFiles by_lines paths ds)) form sites a b → TakesThose (λ ds. Led does mid new (ReadsFile by_lines path ds)) form sites b c
+    → TakesThose (λ ds. Led does old new (ReadsFiles by_lines (paths ++ path ∷ []) ds)) form sites a c
+takes_file does by_lines old mid new paths path form sites a b c some more = record {
   documents = some.documents ++ more.documents;
-  are = reads_file reads lines by_lines old mid new paths path some.documents more.documents some.are more.are;
+  are = record {
+    calls = some.are.calls ++ more.are.calls;
+    are = reads_file by_lines paths path some.documents more.documents some.are.calls more.are.calls some.are.are more.are.are;
+    led = calls_then does old mid new some.are.calls more.are.calls some.are.led more.are.led;
+  };
   taken = takes_both form sites a b c some.documents more.documents some.taken more.taken;
 }
 
@@ -203,3 +208,27 @@ takes_those Are form sites old last those = record { documents = those.documents
 pub takes_totals : (Are : List Document → Type 0) (form : Form) (sites : List Site) (old last : Standing) (after : Option (List ℕ)) → TakesThose Are form sites old last → AppendsBeginning last.output after (totals_line form last.counts.totals) → TakesSome form sites old after
 takes_totals Are form sites old last after those told =
     record { documents = those.documents; last = last; taken = those.taken; next = totals_line form last.counts.totals; is_next = inr (inr refl); told = told }
+
+-- the site's file was opened, and some documents were taken
+pub takes_early : {F K : Type 0} (does : F → FileCall K → F → Type 0) (shown : K → Option Record) (stored : K → Type 0) (form : Form) (folder name : List ℕ) (old mid new : F) (sites : List Site) (site : ℕ) (before after : Option (List ℕ)) (keeper : K) (r : Record)
+    → Led does old mid (ListsSites folder sites) → named sites name ≡ Some site → KeepsSite shown stored sites site keeper r → does mid (opens_site folder sites site keeper) new
+    → TakesSome form sites (standing r before no_counts) after → Began does old (EndsEarly shown stored form folder name before after)
+takes_early does shown stored form folder name old mid new sites site before after keeper r listed known opened one some =
+    let calls = opens_site folder sites site keeper ∷ [] in
+    record {
+      mid = new;
+      begun = record {
+        calls = ReadFile (list_path folder) listed.are.text ∷ calls;
+        are = inr (record {
+          text = listed.are.text;
+          sites = sites;
+          lists = listed.are.lists;
+          rest = calls;
+          done =
+              subst (λ s. EndsWhere shown stored form folder name sites s before after calls) (sym known)
+              (record { keeper = keeper; record_before = r; opened = opened; some = some; calls_are = refl });
+          calls_are = refl;
+        });
+        led = list_then does old mid new folder sites listed calls (new, one, refl);
+      };
+    }

@@ -25,10 +25,10 @@ seven_parts a b c d e f g = sym
     (append_assoc (a ++ b ++ c ++ d ++ e) f g ∙ (append_assoc (a ++ b ++ c ++ d) e (f ++ g) ∙ (append_assoc (a ++ b ++ c) d (e ++ (f ++ g))
     ∙ (append_assoc (a ++ b) c (d ++ (e ++ (f ++ g))) ∙ append_assoc a b (c ++ (d ++ (e ++ (f ++ g))))))))
 
-module _ {F : Type 0} (knows : F → List ℕ → List ℕ → Type 0) (folder : List ℕ) (sites : List Site) (files : F) where
+module _ (knows : List ℕ → List ℕ → Type 0) (folder : List ℕ) (sites : List Site) where
   -- one site more
-  pub tells_more : (stops : List Stop) (text : List ℕ) (stop : Stop) (known : List ℕ) → TellsStops knows folder sites files stops text
-      → knows files (file_path folder (name_at sites stop.site)) known → TellsStops knows folder sites files (stops ++ stop ∷ []) (text ++ stop_line sites stop ++ known)
+  pub tells_more : (stops : List Stop) (text : List ℕ) (stop : Stop) (known : List ℕ) → TellsStops knows folder sites stops text
+      → knows (file_path folder (name_at sites stop.site)) known → TellsStops knows folder sites (stops ++ stop ∷ []) (text ++ stop_line sites stop ++ known)
   tells_more [] text stop known none one =
       (known, [], one, refl, ap (λ t. t ++ stop_line sites stop ++ known) none ∙ sym (append-nil (stop_line sites stop ++ known)))
   tells_more (s ∷ stops) text stop known (first, rest, knows_first, tells, is) one = (

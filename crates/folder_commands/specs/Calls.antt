@@ -1,6 +1,6 @@
--- Which calls of the files lead to what a command returns, in order. What a call does is stated by relations of the kind
--- of files, and what a keeper shows by its kind.
-use Rattle.std.specs.Prelude.{◌≡◌, ⊤, ◌≤◌, ◌+◌, ℕ, List, [], ◌∷◌, length, Option, Some, None, Result, Ok, Err}
+-- Which calls of the files lead to what a command returns, in order. What a keeper shows, and what a crash leaves of it, is
+-- stated by its kind.
+use Rattle.std.specs.Prelude.{◌≡◌, ⊤, ◌≤◌, ◌+◌, ℕ, List, [], ◌∷◌, ◌++◌, length, map, Option, Some, None, Result, Ok, Err}
 use Rattle.std.specs.Global.{Global}
 use Rattle.std.specs.declared.string.String.{String}
 use Rattle.epc_core.specs.declared.items.EpcFault.{EpcFault}
@@ -16,6 +16,7 @@ use Rattle.site_core.specs.Records.{Record}
 use Rattle.site_core.specs.declared.inputs.SiteInput.{SiteInput}
 use Rattle.site_core.specs.declared.inputs.SiteInput.TheVariants.{Capture, Start}
 use Rattle.folder_commands.specs.Audits.{AnswersAudit}
+use Rattle.folder_commands.specs.FileCalls.{FileCall, ReadFile, OpenedSite, ClosedSite}
 use Rattle.folder_commands.specs.Folders.{file_path, list_path}
 use Rattle.folder_commands.specs.Refusals.{IsNoSite, IsRefusal}
 use Rattle.folder_commands.specs.Reports.{AnswersReport}
@@ -23,15 +24,52 @@ use Rattle.folder_commands.specs.Steps.{AnswersStep}
 use Rattle.folder_commands.specs.Untold.{TellsUntraced}
 use Rattle.folder_commands.specs.declared.outputs.Output.{Output}
 
--- the folder's list was read; no line of it is refused, and it lists these sites, of which there are at least two
-pub record ListsSites {F : Type 0} (reads : F → List ℕ → List ℕ → F → Type 0) (folder : List ℕ) (old new : F) (sites : List Site) : Type 0 where
-  pub text : List ℕ
-  pub read : reads old (list_path folder) text new
+-- ---- the calls
+
+-- the call that opens the file of a site
+abbrev pub opens_site : {K : Type 0} → List ℕ → List Site → ℕ → K → FileCall K
+opens_site folder sites site keeper = OpenedSite (file_path folder (name_at sites site)) (name_at sites site) keeper
+
+-- those that open the files of the sites from a number on, one after another
+abbrev pub opens_from : {K : Type 0} → List ℕ → List Site → ℕ → List K → List (FileCall K)
+opens_from folder sites site [] = []
+opens_from folder sites site (keeper ∷ keepers) = opens_site folder sites site keeper ∷ opens_from folder sites (site + 1) keepers
+
+-- those that close the files of sites, one after another
+abbrev pub closes_all : {K : Type 0} → List K → List (FileCall K)
+closes_all keepers = map (λ keeper. ClosedSite keeper) keepers
+
+-- ---- the folder's list
+
+-- no line of the text is refused, and it lists these sites, of which there are at least two
+pub record Lists (text : List ℕ) (sites : List Site) : Type 0 where
   pub list : SiteList
   pub is_list : IsSiteList text list
   pub good : list.refused.items ≡ []
   pub same : sites ≡ list.sites
   pub two : 2 ≤ length sites
+
+-- the folder's list was read, which lists these sites
+pub record ListsSites {K : Type 0} (folder : List ℕ) (sites : List Site) (calls : List (FileCall K)) : Type 0 where
+  pub text : List ℕ
+  pub lists : Lists text sites
+  pub calls_are : calls ≡ ReadFile (list_path folder) text ∷ []
+
+-- the folder's list was read, which lists sites, and of these and of the calls behind it this is said
+pub record AfterList {K : Type 0} (folder : List ℕ) (Then : List Site → List (FileCall K) → Type 0) (calls : List (FileCall K)) : Type 0 where
+  pub text : List ℕ
+  pub sites : List Site
+  pub lists : Lists text sites
+  pub rest : List (FileCall K)
+  pub done : Then sites rest
+  pub calls_are : calls ≡ ReadFile (list_path folder) text ∷ rest
+
+-- the outcome is printed by these sites, and nothing is told beside it
+pub record IsPlain (sites : List Site) (output : Output) : Type 0 where
+  pub same : output.sites ≡ sites
+  pub silent : output.notes ≡ None
+
+-- ---- what keepers show
 
 -- it shows the record of this site of these sites
 pub record ShowsSite {K : Type 0} (shown : K → Option Record) (sites : List Site) (site : ℕ) (keeper : K) (r : Record) : Type 0 where
@@ -45,106 +83,93 @@ AreShown shown [] [] = ⊤
 AreShown shown (keeper ∷ keepers) (r ∷ rs) = (shown keeper ≡ Some r) × AreShown shown keepers rs
 AreShown shown keepers rs = ⊥
 
--- their files were closed, one after another
-abbrev pub ClosesAll : {F K : Type 0} → (F → K → F → Type 0) → F → F → List K → Type 0
-ClosesAll closes old new [] = new ≡ old
-ClosesAll {F} closes old new (keeper ∷ keepers) = (mid : F) × closes old keeper mid × ClosesAll closes mid new keepers
-
-module _ {F K : Type 0} (opens : F → List ℕ → List ℕ → K → F → Type 0) (closes : F → K → F → Type 0) (shown : K → Option Record) (stored : K → Type 0) (folder : List ℕ) (sites : List Site) where
-  -- the file of the site was opened, shows its record, and a crash leaves that there
-  pub record OpensSite (site : ℕ) (old new : F) (keeper : K) (r : Record) : Type 0 where
-    pub opened : opens old (file_path folder (name_at sites site)) (name_at sites site) keeper new
+module _ {K : Type 0} (shown : K → Option Record) (stored : K → Type 0) (sites : List Site) where
+  -- it shows the record of this site, and a crash leaves that on its file
+  pub record KeepsSite (site : ℕ) (keeper : K) (r : Record) : Type 0 where
     pub shows : ShowsSite shown sites site keeper r
     pub lasts : stored keeper
 
-  -- the site's file was opened, its record took the step, which the outcome tells, and the file was closed, on which a crash
-  -- leaves the record after it
-  pub record StepsAt (site : ℕ) (input : SiteInput) (old new : F) (outcome : Outcome) : Type 0 where
-    pub mid : F
+  -- so do these keepers, of the sites from a number on
+  abbrev pub KeepFrom : ℕ → List K → List Record → Type 0
+  KeepFrom site [] [] = ⊤
+  KeepFrom site (keeper ∷ keepers) (r ∷ rs) = KeepsSite site keeper r × KeepFrom (site + 1) keepers rs
+  KeepFrom site keepers rs = ⊥
+
+-- ---- the commands
+
+module _ {K : Type 0} (shown : K → Option Record) (stored : K → Type 0) (folder : List ℕ) (sites : List Site) where
+  -- the file of the site was opened, its record took the step, which the outcome tells, and the file was closed, on which a
+  -- crash leaves the record after it
+  pub record StepsAt (site : ℕ) (input : SiteInput) (outcome : Outcome) (calls : List (FileCall K)) : Type 0 where
     pub keeper : K
     pub before : Record
-    pub opened : OpensSite site old mid keeper before
+    pub opened : KeepsSite shown stored sites site keeper before
     pub after : K
     pub answered : AnswersStep before input (shown after) outcome
     pub lasts : stored after
-    pub closed : closes mid after new
-
-  -- the files of the sites from a number on were opened, one after another
-  abbrev pub OpensFrom : ℕ → F → F → List K → List Record → Type 0
-  OpensFrom site old new [] [] = new ≡ old
-  OpensFrom site old new (keeper ∷ keepers) (r ∷ rs) = (mid : F) × OpensSite site old mid keeper r × OpensFrom (site + 1) mid new keepers rs
-  OpensFrom site old new keepers rs = ⊥
+    pub calls_are : calls ≡ opens_site folder sites site keeper ∷ ClosedSite after ∷ []
 
   -- the files of all sites were opened, the outcome is what their records say, and they were closed
-  pub record TellsAll (Tells : List Record → Outcome → Type 0) (old new : F) (outcome : Outcome) : Type 0 where
-    pub mid : F
+  pub record TellsAll (Tells : List Record → Outcome → Type 0) (outcome : Outcome) (calls : List (FileCall K)) : Type 0 where
     pub keepers : List K
     pub records : List Record
-    pub opened : OpensFrom 0 old mid keepers records
+    pub opened : KeepFrom shown stored sites 0 keepers records
     pub number : length keepers ≡ length sites
     pub told : Tells records outcome
-    pub closed : ClosesAll closes mid new keepers
-
-module _ {F K : Type 0} (reads : F → List ℕ → List ℕ → F → Type 0) (opens : F → List ℕ → List ℕ → K → F → Type 0) (closes : F → K → F → Type 0) (shown : K → Option Record) (stored : K → Type 0) where
-  -- at the site of a name; a name that isn't listed is refused without a further call
-  abbrev pub AtSite : List ℕ → Option ℕ → F → F → (ℕ → Type 0) → Outcome → Type 0
-  AtSite name None old new task outcome = IsNoSite name outcome × (new ≡ old)
-  AtSite name (Some site) old new task outcome = task site
+    pub calls_are : calls ≡ opens_from folder sites 0 keepers ++ closes_all keepers
 
   -- the document's file was read, and it was captured, or refused; it is told what of it isn't traced
-  pub record CapturesFile (folder : List ℕ) (sites : List Site) (site : ℕ) (file : List ℕ) (old new : F) (outcome : Outcome) (notes : Option (String Global)) : Type 0 where
+  pub record CapturesFile (site : ℕ) (file : List ℕ) (outcome : Outcome) (notes : Option (String Global)) (calls : List (FileCall K)) : Type 0 where
     pub document : List ℕ
-    pub mid : F
-    pub read : reads old file document mid
-    pub steps : StepsAt opens closes shown stored folder sites site (Capture document) mid new outcome
+    pub rest : List (FileCall K)
+    pub steps : StepsAt site (Capture document) outcome rest
     pub noted : TellsUntraced sites document outcome notes
+    pub calls_are : calls ≡ ReadFile file document ∷ rest
 
   -- a name that isn't listed is refused without a further call, and nothing is told beside that
-  abbrev pub CapturesNamed : List ℕ → List ℕ → List Site → Option ℕ → List ℕ → F → F → Outcome → Option (String Global) → Type 0
-  CapturesNamed folder name sites None file old new outcome notes = IsNoSite name outcome × (notes ≡ None) × (new ≡ old)
-  CapturesNamed folder name sites (Some site) file old new outcome notes = CapturesFile folder sites site file old new outcome notes
+  abbrev pub CapturesNamed : List ℕ → Option ℕ → List ℕ → Outcome → Option (String Global) → List (FileCall K) → Type 0
+  CapturesNamed name None file outcome notes calls = IsNoSite name outcome × (notes ≡ None) × (calls ≡ [])
+  CapturesNamed name (Some site) file outcome notes calls = CapturesFile site file outcome notes calls
 
+  -- a text that is no EPC is refused without a further call
+  abbrev pub StartsItem : ℕ → Result (List ℕ) EpcFault → Outcome → List (FileCall K) → Type 0
+  StartsItem site (Ok item) outcome calls = StepsAt site (Start item) outcome calls
+  StartsItem site (Err fault) outcome calls = IsRefusal BadEpc outcome × (calls ≡ [])
+
+-- at the site of a name; a name that isn't listed is refused without a further call
+abbrev pub AtSite : {K : Type 0} → List ℕ → Option ℕ → (ℕ → Outcome → List (FileCall K) → Type 0) → Outcome → List (FileCall K) → Type 0
+AtSite name None Task outcome calls = IsNoSite name outcome × (calls ≡ [])
+AtSite name (Some site) Task outcome calls = Task site outcome calls
+
+module _ {K : Type 0} (shown : K → Option Record) (stored : K → Type 0) (folder : List ℕ) where
   -- a document is captured
-  pub record CapturesAt (folder name file : List ℕ) (old new : F) (output : Output) : Type 0 where
-    pub sites : List Site
-    pub mid : F
-    pub listed : ListsSites reads folder old mid sites
-    pub same : output.sites ≡ sites
-    pub told : CapturesNamed folder name sites (named sites name) file mid new output.outcome output.notes
-
-  abbrev pub StartsItem : List ℕ → List Site → ℕ → Result (List ℕ) EpcFault → F → F → Outcome → Type 0
-  StartsItem folder sites site (Ok item) old new outcome = StepsAt opens closes shown stored folder sites site (Start item) old new outcome
-  StartsItem folder sites site (Err fault) old new outcome = IsRefusal BadEpc outcome × (new ≡ old)
+  abbrev pub CapturesAt : List ℕ → List ℕ → Output → List (FileCall K) → Type 0
+  CapturesAt name file output calls =
+      AfterList folder
+      (λ sites rest. (output.sites ≡ sites) × CapturesNamed shown stored folder sites name (named sites name) file output.outcome output.notes rest)
+      calls
 
   -- a recall is started
-  pub record StartsAt (folder name item : List ℕ) (old new : F) (output : Output) : Type 0 where
-    pub sites : List Site
-    pub mid : F
-    pub listed : ListsSites reads folder old mid sites
-    pub same : output.sites ≡ sites
-    pub told : AtSite name (named sites name) mid new (λ site. StartsItem folder sites site (reading item) mid new output.outcome) output.outcome
-    pub silent : output.notes ≡ None
+  abbrev pub StartsAt : List ℕ → List ℕ → Output → List (FileCall K) → Type 0
+  StartsAt name item output calls =
+      AfterList folder
+      (λ sites rest. IsPlain sites output
+      × AtSite name (named sites name) (λ site. StartsItem shown stored folder sites site (reading item)) output.outcome rest) calls
 
-  abbrev pub ReportsBy : List ℕ → List Site → Option (List ℕ × ℕ) → F → F → Outcome → Type 0
-  ReportsBy folder sites None old new outcome = IsRefusal BadRecall outcome × (new ≡ old)
-  ReportsBy folder sites (Some (name, number)) old new outcome =
-      AtSite name (named sites name) old new
-      (λ site. TellsAll opens closes shown stored folder sites (λ rs o. AnswersReport rs (record { site = site; number = number }) o) old new outcome) outcome
+  -- what names no recall is refused without a further call
+  abbrev pub ReportsBy : List Site → Option (List ℕ × ℕ) → Outcome → List (FileCall K) → Type 0
+  ReportsBy sites None outcome calls = IsRefusal BadRecall outcome × (calls ≡ [])
+  ReportsBy sites (Some (name, number)) outcome calls =
+      AtSite name (named sites name)
+      (λ site. TellsAll shown stored folder sites (λ rs o. AnswersReport rs (record { site = site; number = number }) o)) outcome calls
 
   -- a recall is reported
-  pub record ReportsAt (folder recall : List ℕ) (old new : F) (output : Output) : Type 0 where
-    pub sites : List Site
-    pub mid : F
-    pub listed : ListsSites reads folder old mid sites
-    pub same : output.sites ≡ sites
-    pub told : ReportsBy folder sites (recall_of recall) mid new output.outcome
-    pub silent : output.notes ≡ None
+  abbrev pub ReportsAt : List ℕ → Output → List (FileCall K) → Type 0
+  ReportsAt recall output calls =
+      AfterList folder (λ sites rest. IsPlain sites output × ReportsBy sites (recall_of recall) output.outcome rest) calls
 
   -- all sites are audited
-  pub record AuditsAt (folder : List ℕ) (old new : F) (output : Output) : Type 0 where
-    pub sites : List Site
-    pub mid : F
-    pub listed : ListsSites reads folder old mid sites
-    pub same : output.sites ≡ sites
-    pub told : TellsAll opens closes shown stored folder sites (λ rs o. AnswersAudit rs o) mid new output.outcome
-    pub silent : output.notes ≡ None
+  abbrev pub AuditsAt : Output → List (FileCall K) → Type 0
+  AuditsAt output calls =
+      AfterList folder
+      (λ sites rest. IsPlain sites output × TellsAll shown stored folder sites (λ rs o. AnswersAudit rs o) output.outcome rest) calls

@@ -1,5 +1,5 @@
 -- What captures of several documents at one site come to: its file is opened once, and each document is a step of its own.
-use Rattle.std.specs.Prelude.{◌≡◌, ◌+◌, ◌==◌, ◌||◌, ◌⊎◌, ⊤, ℕ, Bool, true, false, List, [], ◌∷◌, ◌++◌, if◌then◌else◌, Option, Some, None, string_bytes}
+use Rattle.std.specs.Prelude.{◌≡◌, ◌+◌, ◌==◌, ◌||◌, ◌⊎◌, ⊤, ℕ, Bool, true, false, List, [], ◌∷◌, ◌++◌, if◌then◌else◌, map, Option, Some, None, string_bytes}
 use Rattle.std.specs.Fmt.{decimal}
 use Rattle.std.specs.List.{list_all}
 use Rattle.std.specs.Io.KnownBytes.{Appends}
@@ -20,7 +20,8 @@ use Rattle.site_core.specs.Steps.{Does}
 use Rattle.site_core.specs.declared.inputs.SiteInput.TheVariants.{Capture}
 use Rattle.site_core.specs.declared.outcomes.Effects.{Effects}
 use Rattle.site_core.specs.declared.outcomes.Effects.TheVariants as effects
-use Rattle.folder_commands.specs.Calls.{ListsSites, OpensSite}
+use Rattle.folder_commands.specs.Calls.{AfterList, KeepsSite, opens_site}
+use Rattle.folder_commands.specs.FileCalls.{FileCall, ReadFile, ReadLine, ClosedSite}
 use Rattle.folder_commands.specs.Refusals.{IsNoSite}
 use Rattle.folder_commands.specs.Untold.{PassesOver, none_untraced}
 use Rattle.folder_commands.specs.declared.captures.Counts.{Counts}
@@ -119,28 +120,21 @@ of_lines path number [] = []
 of_lines path number (line ∷ lines) =
     if is_blank line then of_lines path (number + 1) lines else record { source = path ++ 58 ∷ decimal number; bytes = line } ∷ of_lines path (number + 1) lines
 
-module _ {F : Type 0} (lines : F → List ℕ → Option (List ℕ) → F → Type 0) where
-  -- these lines of a file were read, one after another
-  abbrev pub ReadsSome : F → List ℕ → List (List ℕ) → F → Type 0
-  ReadsSome old path [] new = new ≡ old
-  ReadsSome old path (line ∷ more) new = (mid : F) × lines old path (Some line) mid × ReadsSome mid path more new
+-- of a file one document was read, which is all of it, or one for each line that isn't blank: of all its lines to its end
+abbrev pub ReadsFile : {K : Type 0} → Bool → List ℕ → List Document → List (FileCall K) → Type 0
+ReadsFile false path documents calls =
+    (bytes : List ℕ) × (documents ≡ record { source = path; bytes = bytes } ∷ []) × (calls ≡ ReadFile path bytes ∷ [])
+ReadsFile true path documents calls =
+    (texts : List (List ℕ)) × (documents ≡ of_lines path 1 texts)
+    × (calls ≡ map (λ text. ReadLine path (Some text)) texts ++ ReadLine path None ∷ [])
 
-  -- these, and then its end
-  abbrev pub ReadsLines : F → List ℕ → List (List ℕ) → F → Type 0
-  ReadsLines old path texts new = (mid : F) × ReadsSome old path texts mid × lines mid path None new
-
-module _ {F : Type 0} (reads : F → List ℕ → List ℕ → F → Type 0) (lines : F → List ℕ → Option (List ℕ) → F → Type 0) where
-  -- of a file one document was read, which is all of it, or one for each line that isn't blank
-  abbrev pub ReadsFile : Bool → F → List ℕ → List Document → F → Type 0
-  ReadsFile false old path documents new = (bytes : List ℕ) × reads old path bytes new × (documents ≡ record { source = path; bytes = bytes } ∷ [])
-  ReadsFile true old path documents new = (texts : List (List ℕ)) × ReadsLines lines old path texts new × (documents ≡ of_lines path 1 texts)
-
-  -- of these files, one after another
-  abbrev pub ReadsFiles : Bool → F → List (List ℕ) → List Document → F → Type 0
-  ReadsFiles by_lines old [] documents new = (new ≡ old) × (documents ≡ [])
-  ReadsFiles by_lines old (path ∷ paths) documents new =
-      (mid : F) × (first : List Document) × (rest : List Document)
-      × ReadsFile by_lines old path first mid × ReadsFiles by_lines mid paths rest new × (documents ≡ first ++ rest)
+-- of these files, one after another
+abbrev pub ReadsFiles : {K : Type 0} → Bool → List (List ℕ) → List Document → List (FileCall K) → Type 0
+ReadsFiles by_lines [] documents calls = (documents ≡ []) × (calls ≡ [])
+ReadsFiles {K} by_lines (path ∷ paths) documents calls =
+    (first : List Document) × (rest : List Document) × (here : List (FileCall K)) × (there : List (FileCall K))
+    × ReadsFile by_lines path first here × ReadsFiles by_lines paths rest there
+    × (documents ≡ first ++ rest) × (calls ≡ here ++ there)
 
 -- ---- the whole
 
@@ -151,18 +145,17 @@ pub record RefusesSite (form : Form) (sites : List Site) (name : List ℕ) (befo
   pub told : Appends before after (outcome_lines form sites outcome)
   pub summary_is : summary ≡ record { status = outcome_status outcome; untraced = none_untraced }
 
-module _ {F K : Type 0} (reads : F → List ℕ → List ℕ → F → Type 0) (lines : F → List ℕ → Option (List ℕ) → F → Type 0) (opens : F → List ℕ → List ℕ → K → F → Type 0) (closes : F → K → F → Type 0) (shown : K → Option Record) (stored : K → Type 0) (form : Form) where
+module _ {K : Type 0} (shown : K → Option Record) (stored : K → Type 0) (form : Form) (folder : List ℕ) where
   -- The site's file was opened once. The documents of the files were read and taken in order, the totals were written, and
   -- the file was closed in the record to which the documents lead, which a crash leaves there. What was passed over is that of
   -- the documents that were captured.
-  pub record TakesAt (folder : List ℕ) (sites : List Site) (site : ℕ) (by_lines : Bool) (paths : List (List ℕ)) (old new : F) (before after : Option (List ℕ)) (summary : CaptureSummary) : Type 0 where
-    pub first : F
+  pub record TakesAt (sites : List Site) (site : ℕ) (by_lines : Bool) (paths : List (List ℕ)) (before after : Option (List ℕ)) (summary : CaptureSummary) (calls : List (FileCall K)) : Type 0 where
     pub keeper : K
     pub record_before : Record
-    pub opened : OpensSite opens closes shown stored folder sites site old first keeper record_before
+    pub opened : KeepsSite shown stored sites site keeper record_before
     pub documents : List Document
-    pub second : F
-    pub read : ReadsFiles reads lines by_lines first paths documents second
+    pub reads : List (FileCall K)
+    pub read : ReadsFiles by_lines paths documents reads
     pub last : Standing
     pub taken : Takes form sites (standing record_before before no_counts) documents last
     pub told : Appends last.output after (totals_line form last.counts.totals)
@@ -171,50 +164,37 @@ module _ {F K : Type 0} (reads : F → List ℕ → List ℕ → F → Type 0) (
     pub kept : K
     pub shows : shown kept ≡ Some last.site
     pub lasts : stored kept
-    pub closed : closes second kept new
+    pub calls_are : calls ≡ opens_site folder sites site keeper ∷ reads ++ ClosedSite kept ∷ []
 
   -- a site that isn't listed is refused, and no document is read
-  abbrev pub TakesWhere : List ℕ → List ℕ → List Site → Option ℕ → Bool → List (List ℕ) → F → F → Option (List ℕ) → Option (List ℕ) → CaptureSummary → Type 0
-  TakesWhere folder name sites None by_lines paths old new before after summary =
-      RefusesSite form sites name before after summary × (new ≡ old)
-  TakesWhere folder name sites (Some site) by_lines paths old new before after summary =
-      TakesAt folder sites site by_lines paths old new before after summary
+  abbrev pub TakesWhere : List ℕ → List Site → Option ℕ → Bool → List (List ℕ) → Option (List ℕ) → Option (List ℕ) → CaptureSummary → List (FileCall K) → Type 0
+  TakesWhere name sites None by_lines paths before after summary calls = RefusesSite form sites name before after summary × (calls ≡ [])
+  TakesWhere name sites (Some site) by_lines paths before after summary calls =
+      TakesAt sites site by_lines paths before after summary calls
 
   -- documents are captured at the site of a name
-  pub record CapturesAll (folder name : List ℕ) (by_lines : Bool) (paths : List (List ℕ)) (old new : F) (before after : Option (List ℕ)) (summary : CaptureSummary) : Type 0 where
-    pub sites : List Site
-    pub mid : F
-    pub listed : ListsSites reads folder old mid sites
-    pub taken : TakesWhere folder name sites (named sites name) by_lines paths mid new before after summary
+  abbrev pub CapturesAll : List ℕ → Bool → List (List ℕ) → Option (List ℕ) → Option (List ℕ) → CaptureSummary → List (FileCall K) → Type 0
+  CapturesAll name by_lines paths before after summary calls =
+      AfterList folder (λ sites rest. TakesWhere name sites (named sites name) by_lines paths before after summary rest) calls
 
--- ---- where a fault ends it
+  -- ---- where a fault ends it
 
-module _ {F K : Type 0} (reads : F → List ℕ → List ℕ → F → Type 0) (opens : F → List ℕ → List ℕ → K → F → Type 0) (closes : F → K → F → Type 0) (shown : K → Option Record) (stored : K → Type 0) (form : Form) where
-  -- a site that isn't listed was to be refused, and perhaps a beginning of that was written
-  pub record RefusesEarly (folder name : List ℕ) (old : F) (before after : Option (List ℕ)) : Type 0 where
-    pub sites : List Site
-    pub mid : F
-    pub listed : ListsSites reads folder old mid sites
-    pub unknown : named sites name ≡ None
-    pub outcome : Outcome
-    pub is_no_site : IsNoSite name outcome
-    pub told : AppendsBeginning before after (outcome_lines form sites outcome)
-
-  -- The site's file was opened. What was written are the lines of some documents, taken one after another from the record
-  -- that it showed, and perhaps a beginning of the next line.
-  pub record TakesEarly (folder name : List ℕ) (old : F) (before after : Option (List ℕ)) : Type 0 where
-    pub sites : List Site
-    pub mid : F
-    pub listed : ListsSites reads folder old mid sites
-    pub site : ℕ
-    pub known : named sites name ≡ Some site
-    pub first : F
+  -- the site's file was opened: what was written are the lines of some documents, taken one after another from the record
+  -- that it showed, and perhaps a beginning of the next line
+  pub record TakesEarly (sites : List Site) (site : ℕ) (before after : Option (List ℕ)) (calls : List (FileCall K)) : Type 0 where
     pub keeper : K
     pub record_before : Record
-    pub opened : OpensSite opens closes shown stored folder sites site mid first keeper record_before
+    pub opened : KeepsSite shown stored sites site keeper record_before
     pub some : TakesSome form sites (standing record_before before no_counts) after
+    pub calls_are : calls ≡ opens_site folder sites site keeper ∷ []
+
+  -- a site that isn't listed was to be refused, and perhaps a beginning of that was written
+  abbrev pub EndsWhere : List ℕ → List Site → Option ℕ → Option (List ℕ) → Option (List ℕ) → List (FileCall K) → Type 0
+  EndsWhere name sites None before after calls =
+      (outcome : Outcome) × IsNoSite name outcome × AppendsBeginning before after (outcome_lines form sites outcome) × (calls ≡ [])
+  EndsWhere name sites (Some site) before after calls = TakesEarly sites site before after calls
 
   -- what was written where a fault ended it: one of these, or nothing
-  abbrev pub EndsEarly : List ℕ → List ℕ → F → Option (List ℕ) → Option (List ℕ) → Type 0
-  EndsEarly folder name old before after =
-      Appends before after [] ⊎ (RefusesEarly folder name old before after ⊎ TakesEarly folder name old before after)
+  abbrev pub EndsEarly : List ℕ → Option (List ℕ) → Option (List ℕ) → List (FileCall K) → Type 0
+  EndsEarly name before after calls =
+      Appends before after [] ⊎ AfterList folder (λ sites rest. EndsWhere name sites (named sites name) before after rest) calls

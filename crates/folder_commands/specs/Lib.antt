@@ -1,7 +1,9 @@
 pub mod Audits
 pub mod Calls
 pub mod Captures
+pub mod Failing
 pub mod Faults
+pub mod FileCalls
 pub mod Folders
 pub mod Making
 pub mod NoteLaws

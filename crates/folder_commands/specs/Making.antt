@@ -1,5 +1,5 @@
 -- Which calls of the files `init` makes, and what it returns.
-use Rattle.std.specs.Prelude.{◌≡◌, ◌+◌, ℕ, zero, suc, Bool, true, false, List, [], ◌∷◌, ◌++◌, codes, length, map, nat_le, if◌then◌else◌, None}
+use Rattle.std.specs.Prelude.{◌≡◌, ◌+◌, ℕ, zero, suc, Bool, true, false, List, [], ◌∷◌, ◌++◌, codes, length, map, nat_le, if◌then◌else◌}
 use Rattle.std.specs.List.{AllZip}
 use Rattle.event_json.specs.Sites.{Site}
 use Rattle.recall_outcomes.specs.declared.outcomes.CommandRefusal.{CommandRefusal}
@@ -9,7 +9,9 @@ use Rattle.recall_outcomes.specs.declared.outcomes.Outcome.TheVariants.{Created}
 use Rattle.recall_text.specs.SiteLists.{IsSiteList}
 use Rattle.recall_text.specs.Words.{name_at}
 use Rattle.recall_text.specs.declared.site_lists.SiteList.{SiteList}
-use Rattle.site_core.specs.Records.{Record, fresh}
+use Rattle.site_core.specs.Records.{fresh}
+use Rattle.folder_commands.specs.Calls.{IsPlain}
+use Rattle.folder_commands.specs.FileCalls.{FileCall, LookedFor, MadeSite, ReadFile, WroteFile}
 use Rattle.folder_commands.specs.Folders.{file_path, list_path}
 use Rattle.folder_commands.specs.Refusals.{AreRefused, IsExists}
 use Rattle.folder_commands.specs.declared.outputs.Output.{Output}
@@ -36,56 +38,55 @@ existing sites site (found ∷ rest) = name_where found (name_at sites site) ++ 
 
 -- ---- the calls
 
-module _ {F : Type 0} (finds : F → List ℕ → Bool → F → Type 0) (folder : List ℕ) where
-  -- the files of the sites from a number on were looked for, one after another
-  abbrev pub LooksFrom : List Site → ℕ → F → F → List Bool → Type 0
-  LooksFrom sites site old new [] = new ≡ old
-  LooksFrom sites site old new (found ∷ rest) = (mid : F) × finds old (file_path folder (name_at sites site)) found mid × LooksFrom sites (site + 1) mid new rest
+-- the files of the sites from a number on are looked for, one after another, and found or not
+abbrev pub looks_from : {K : Type 0} → List ℕ → List Site → ℕ → List Bool → List (FileCall K)
+looks_from folder sites site [] = []
+looks_from folder sites site (found ∷ rest) = LookedFor (file_path folder (name_at sites site)) found ∷ looks_from folder sites (site + 1) rest
 
+-- the files of so many sites from a number on are made, one after another, in the records of sites at which nothing happened yet
+abbrev pub makes_from : {K : Type 0} → List ℕ → List Site → ℕ → ℕ → List (FileCall K)
+makes_from folder sites site zero = []
+makes_from folder sites site (suc count) =
+    MadeSite (file_path folder (name_at sites site)) (fresh sites site) ∷ makes_from folder sites (site + 1) count
+
+-- the files of all sites are made, and then the folder's list, which has the text that was read
+abbrev pub makes_all : {K : Type 0} → List ℕ → List Site → List ℕ → List (FileCall K)
+makes_all folder sites text = makes_from folder sites 0 (length sites) ++ WroteFile (list_path folder) text ∷ []
+
+-- ---- the whole
+
+module _ {K : Type 0} (folder : List ℕ) where
   -- The folder's list was looked for, where nothing is refused so far; this is refused in all.
-  abbrev pub LooksForList : List CommandRefusal → F → F → List CommandRefusal → Type 0
-  LooksForList [] old new refused = (found : Bool) × finds old (list_path folder) found new × AllZip IsExists (name_where found (codes "sites")) refused
-  LooksForList (why ∷ whys) old new refused = (refused ≡ why ∷ whys) × (new ≡ old)
-
-module _ {F : Type 0} (makes : F → List ℕ → Record → F → Type 0) (folder : List ℕ) where
-  -- the files of so many sites from a number on were made, one after another, in the records of sites at which nothing happened yet
-  abbrev pub MakesFrom : List Site → ℕ → ℕ → F → F → Type 0
-  MakesFrom sites site zero old new = new ≡ old
-  MakesFrom sites site (suc count) old new = (mid : F) × makes old (file_path folder (name_at sites site)) (fresh sites site) mid × MakesFrom sites (site + 1) count mid new
-
-module _ {F : Type 0} (reads : F → List ℕ → List ℕ → F → Type 0) (finds : F → List ℕ → Bool → F → Type 0) (makes : F → List ℕ → Record → F → Type 0) (writes : F → List ℕ → List ℕ → F → Type 0) (folder : List ℕ) where
-  -- the files of all sites were made, and then the folder's list, which has the text that was read
-  pub record MakesAll (sites : List Site) (text : List ℕ) (old new : F) : Type 0 where
-    pub mid : F
-    pub made : MakesFrom makes folder sites 0 (length sites) old mid
-    pub written : writes mid (list_path folder) text new
+  abbrev pub LooksForList : List CommandRefusal → List CommandRefusal → List (FileCall K) → Type 0
+  LooksForList [] refused calls =
+      (found : Bool) × AllZip IsExists (name_where found (codes "sites")) refused × (calls ≡ LookedFor (list_path folder) found ∷ [])
+  LooksForList (why ∷ whys) refused calls = (refused ≡ why ∷ whys) × (calls ≡ [])
 
   -- where nothing is refused all is made, and else nothing, and the refusals are the outcome
-  abbrev pub MakesWhere : List CommandRefusal → List Site → List ℕ → F → F → Outcome → Type 0
-  MakesWhere [] sites text old new outcome = (outcome ≡ Created) × MakesAll sites text old new
-  MakesWhere (why ∷ whys) sites text old new outcome = AreRefused (why ∷ whys) outcome × (new ≡ old)
+  abbrev pub MakesWhere : List CommandRefusal → List Site → List ℕ → Outcome → List (FileCall K) → Type 0
+  MakesWhere [] sites text outcome calls = (outcome ≡ Created) × (calls ≡ makes_all folder sites text)
+  MakesWhere (why ∷ whys) sites text outcome calls = AreRefused (why ∷ whys) outcome × (calls ≡ [])
 
   -- Each of the sites' files was looked for, and then the folder's list: what is refused of the list's lines, of the number of sites,
   -- and of the files, in this order, is the outcome; or all is made.
-  pub record MakesListed (listed : SiteList) (text : List ℕ) (old new : F) (outcome : Outcome) : Type 0 where
+  pub record MakesListed (listed : SiteList) (text : List ℕ) (outcome : Outcome) (calls : List (FileCall K)) : Type 0 where
     pub found : List Bool
     pub number : length found ≡ length listed.sites
-    pub first : F
-    pub looked : LooksFrom finds folder listed.sites 0 old first found
     pub exist : List CommandRefusal
     pub named : AllZip IsExists (existing listed.sites 0 found) exist
-    pub second : F
     pub refused : List CommandRefusal
-    pub last : LooksForList finds folder ((refused_lines listed ++ too_few listed.sites) ++ exist) first second refused
-    pub made : MakesWhere refused listed.sites text second new outcome
+    pub looks : List (FileCall K)
+    pub last : LooksForList ((refused_lines listed ++ too_few listed.sites) ++ exist) refused looks
+    pub makes : List (FileCall K)
+    pub made : MakesWhere refused listed.sites text outcome makes
+    pub calls_are : calls ≡ looks_from folder listed.sites 0 found ++ looks ++ makes
 
   -- the list was read, and the files of its sites were made, or what is refused is the outcome
-  pub record InitsAt (list : List ℕ) (old new : F) (output : Output) : Type 0 where
+  pub record InitsAt (list : List ℕ) (output : Output) (calls : List (FileCall K)) : Type 0 where
     pub text : List ℕ
-    pub mid : F
-    pub read : reads old list text mid
     pub listed : SiteList
     pub is_list : IsSiteList text listed
-    pub same : output.sites ≡ listed.sites
-    pub made : MakesListed listed text mid new output.outcome
-    pub silent : output.notes ≡ None
+    pub plain : IsPlain listed.sites output
+    pub rest : List (FileCall K)
+    pub made : MakesListed listed text output.outcome rest
+    pub calls_are : calls ≡ ReadFile list text ∷ rest

@@ -71,12 +71,12 @@ abbrev pub open_note : Bool → List ℕ
 open_note true = codes "a further `recall run` goes on with the recalls that are open\n"
 open_note false = []
 
-module _ {F : Type 0} (knows : F → List ℕ → List ℕ → Type 0) (folder : List ℕ) (sites : List Site) (files : F) where
+module _ (knows : List ℕ → List ℕ → Type 0) (folder : List ℕ) (sites : List Site) where
   -- a line for each site that stopped, and behind it what the files know of that site's file
   abbrev pub TellsStops : List Stop → List ℕ → Type 0
   TellsStops [] text = text ≡ []
   TellsStops (stop ∷ stops) text =
-      (known : List ℕ) × (rest : List ℕ) × knows files (file_path folder (name_at sites stop.site)) known
+      (known : List ℕ) × (rest : List ℕ) × knows (file_path folder (name_at sites stop.site)) known
       × TellsStops stops rest × (text ≡ stop_line sites stop ++ known ++ rest)
 
   -- all that is told of a run beside its recalls

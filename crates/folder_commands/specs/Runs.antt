@@ -1,5 +1,5 @@
 -- What a run of all sites comes to.
-use Rattle.std.specs.Prelude.{◌≡◌, ℕ, List, All, length, map, Option, Some, None, Result}
+use Rattle.std.specs.Prelude.{◌≡◌, ◌++◌, ℕ, List, All, length, map, Option, Some, None, Result}
 use Rattle.std.specs.List.{AllZip}
 use Rattle.event_json.specs.Sites.{Site}
 use Rattle.keeper_core.specs.declared.faults.Unopened.{Unopened}
@@ -20,8 +20,9 @@ use Rattle.site_threads.specs.declared.lists.RunLog.{RunLog}
 use Rattle.world_core.specs.declared.faults.WorldFault.{WorldFault}
 use Rattle.world_core.specs.declared.faults.WorldFault.TheVariants as worlds
 use Rattle.folder_commands.specs.Audits.{begun}
-use Rattle.folder_commands.specs.Calls.{AreShown, ClosesAll, ListsSites, OpensFrom}
+use Rattle.folder_commands.specs.Calls.{AfterList, AreShown, KeepFrom, closes_all, opens_from}
 use Rattle.folder_commands.specs.Faults.{gather_fault}
+use Rattle.folder_commands.specs.FileCalls.{FileCall}
 use Rattle.folder_commands.specs.Notes.{AreNotes, TellsOf}
 use Rattle.folder_commands.specs.declared.notes.RunNotes.{RunNotes}
 use Rattle.folder_commands.specs.declared.outputs.Output.{Output}
@@ -78,26 +79,22 @@ pub record FailsRun {K G : Type 0} (shown : K → Option Record) (may : K → Re
   pub explained : Explains shown reopens gives_up turns new cause
   pub fault_is : gather_fault cause ≡ Some fault
 
--- the files of all sites were opened, the sites ran for at most so many turns, and the files were closed, on each of
--- which a crash leaves the record that its keeper shows; then the notes were told, with what the files know of those of
--- the sites that stopped
-pub record RunsAll {F K : Type 0} (opens : F → List ℕ → List ℕ → K → F → Type 0) (closes : F → K → F → Type 0) (knows : F → List ℕ → List ℕ → Type 0) (shown : K → Option Record) (failed : K → ℕ) (stored : K → Type 0) (folder : List ℕ) (sites : List Site) (turns : ℕ) (old new : F) (output : Output) : Type 0 where
-  pub mid : F
-  pub keepers : List K
-  pub records : List Record
-  pub opened : OpensFrom opens closes shown stored folder sites 0 old mid keepers records
-  pub number : length keepers ≡ length sites
-  pub after : List K
-  pub notes : Option RunNotes
-  pub told : AnswersRun shown failed turns keepers after output.outcome notes
-  pub lasts : All stored after
-  pub closed : ClosesAll closes mid new after
-  pub noted : TellsOf knows folder sites new notes output.notes
+module _ {K : Type 0} (knows : List ℕ → List ℕ → Type 0) (shown : K → Option Record) (failed : K → ℕ) (stored : K → Type 0) (folder : List ℕ) where
+  -- the files of all sites were opened, the sites ran for at most so many turns, and the files were closed, on each of
+  -- which a crash leaves the record that its keeper shows; then the notes were told, with what the files know of those of
+  -- the sites that stopped
+  pub record RunsAll (sites : List Site) (turns : ℕ) (output : Output) (calls : List (FileCall K)) : Type 0 where
+    pub keepers : List K
+    pub records : List Record
+    pub opened : KeepFrom shown stored sites 0 keepers records
+    pub number : length keepers ≡ length sites
+    pub after : List K
+    pub notes : Option RunNotes
+    pub told : AnswersRun shown failed turns keepers after output.outcome notes
+    pub lasts : All stored after
+    pub noted : TellsOf knows folder sites notes output.notes
+    pub calls_are : calls ≡ opens_from folder sites 0 keepers ++ closes_all after
 
--- all sites of a folder ran for at most so many turns
-pub record RunsAt {F K : Type 0} (reads : F → List ℕ → List ℕ → F → Type 0) (opens : F → List ℕ → List ℕ → K → F → Type 0) (closes : F → K → F → Type 0) (knows : F → List ℕ → List ℕ → Type 0) (shown : K → Option Record) (failed : K → ℕ) (stored : K → Type 0) (folder : List ℕ) (turns : ℕ) (old new : F) (output : Output) : Type 0 where
-  pub sites : List Site
-  pub mid : F
-  pub listed : ListsSites reads folder old mid sites
-  pub same : output.sites ≡ sites
-  pub told : RunsAll opens closes knows shown failed stored folder sites turns mid new output
+  -- all sites of a folder ran for at most so many turns
+  abbrev pub RunsAt : ℕ → Output → List (FileCall K) → Type 0
+  RunsAt turns output calls = AfterList folder (λ sites rest. (output.sites ≡ sites) × RunsAll sites turns output rest) calls

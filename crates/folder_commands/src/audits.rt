@@ -7,6 +7,7 @@ ghost use Rattle.site_recovery.specs.Checking.{records_at};
 ghost use Rattle.site_recovery.specs.FittingAt.{AreAllSites};
 ghost use Rattle.folder_commands.specs.Calls.{AreShown, AuditsAt, TellsAll};
 ghost use Rattle.folder_commands.specs.Audits.{AnswersAudit, AuditsRecall, begun, begun_by};
+ghost use Rattle.folder_commands.specs.FileCalls.{Led};
 
 use crate::folders::{Files, close_all, open_all, records_of, sites_of};
 use crate::outputs::Output;
@@ -28,7 +29,7 @@ pub fn audit_sites<K: SiteKeeper, F: Files<K>>(
     files: &mut F,
     folder: &str,
 ) -> Result<Output, Fault>
-    ensures calls { IfOk result (AuditsAt F.reads F.opens F.closes K.shown K.stored folder.now files.old files.new) }
+    ensures calls { IfOk result (λ output. Led F.does files.old files.new (AuditsAt K.shown K.stored folder.now output)) }
 {
     let sites = sites_of(alloc, files, folder)?;
     let outcome = audit_all(alloc, files, folder, &sites)?;
@@ -46,7 +47,8 @@ fn audit_all<K: SiteKeeper, F: Files<K>>(
     folder: &str,
     sites: &Sites,
 ) -> Result<Outcome, Fault>
-    ensures { IfOk result (TellsAll F.opens F.closes K.shown K.stored folder.now sites.now (λ rs o. AnswersAudit rs o) files.old files.new) }
+    ensures { IfOk result (λ outcome. Led F.does files.old files.new
+        (TellsAll K.shown K.stored folder.now sites.now (λ rs o. AnswersAudit rs o) outcome)) }
 {
     let keepers = open_all(alloc, files, folder, sites)?;
     let outcome = audit_at(alloc, keepers.as_slice());

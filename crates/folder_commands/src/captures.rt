@@ -9,6 +9,7 @@ ghost use Rattle.recall_text.specs.Writing.{AppendsBeginning};
 ghost use Rattle.site_core.specs.Records.{Record};
 ghost use Rattle.site_core.specs.Steps.{IsReadAs};
 ghost use Rattle.folder_commands.specs.Captures.{CapturesAll, ComesTo, EndsEarly, IsOfCapture, ReadsFile, ReadsFiles, Takes, TakesOne, TakesSome, TakesThose, came_of, document_of, is_blank, no_counts, of_lines, standing};
+ghost use Rattle.folder_commands.specs.FileCalls.{Began, Led};
 ghost use Rattle.folder_commands.specs.Untold.{PassesOver};
 
 use crate::folders::{Files, open_site, sites_of};
@@ -73,11 +74,11 @@ pub fn capture_documents<K: SiteKeeper, F: Files<K>, W: Write>(
     form: Form,
     output: &mut W,
 ) -> Result<CaptureSummary, Fault>
-    ensures all { IfOk result (CapturesAll F.reads F.lines F.opens F.closes K.shown K.stored form folder.now site.now
-        documents.now.by_lines (map (λ p. p.now) documents.now.paths.now) files.old files.new
-        (W.contents output.old) (W.contents output.new)) }
-    ensures early { OnErr result (EndsEarly F.reads F.opens F.closes K.shown K.stored form folder.now site.now files.old
-        (W.contents output.old) (W.contents output.new)) }
+    ensures all { IfOk result (λ summary. Led F.does files.old files.new (CapturesAll K.shown K.stored form folder.now
+        site.now documents.now.by_lines (map (λ p. p.now) documents.now.paths.now)
+        (W.contents output.old) (W.contents output.new) summary)) }
+    ensures early { OnErr result (Began F.does files.old (EndsEarly K.shown K.stored form folder.now site.now
+        (W.contents output.old) (W.contents output.new))) }
 {
     let sites = sites_of(alloc, files, folder)?;
     let Some(number) = sites.find(site) else {
@@ -113,8 +114,8 @@ fn take_all<K: SiteKeeper, F: Files<K>, W: Write>(
 ) -> Result<Counts, Fault>
     ensures taken { (old : Record) → K.shown keeper.old ≡ Some old
         → IfOk result (λ counts. (new : Record) × (K.shown keeper.new ≡ Some new)
-        × TakesThose (λ ds. ReadsFiles F.reads F.lines documents.now.by_lines files.old
-        (map (λ p. p.now) documents.now.paths.now) ds files.new) form sites.now
+        × TakesThose (λ ds. Led F.does files.old files.new (ReadsFiles documents.now.by_lines
+        (map (λ p. p.now) documents.now.paths.now) ds)) form sites.now
         (standing old (W.contents output.old) no_counts) (standing new (W.contents output.new) counts)) }
     ensures early { (old : Record) → K.shown keeper.old ≡ Some old
         → OnErr result (TakesSome form sites.now (standing old (W.contents output.old) no_counts) (W.contents output.new)) }
@@ -154,7 +155,7 @@ fn take_file<K: SiteKeeper, F: Files<K>, W: Write>(
 ) -> Result<Counts, Fault>
     ensures taken { (old : Record) → K.shown keeper.old ≡ Some old
         → IfOk result (λ after. (new : Record) × (K.shown keeper.new ≡ Some new)
-        × TakesThose (λ ds. ReadsFile F.reads F.lines by_lines files.old path.now ds files.new) form sites.now
+        × TakesThose (λ ds. Led F.does files.old files.new (ReadsFile by_lines path.now ds)) form sites.now
         (standing old (W.contents output.old) counts) (standing new (W.contents output.new) after)) }
     ensures early { (old : Record) → K.shown keeper.old ≡ Some old
         → OnErr result (TakesSome form sites.now (standing old (W.contents output.old) counts) (W.contents output.new)) }
@@ -180,7 +181,7 @@ fn take_whole<K: SiteKeeper, F: Files<K>, W: Write>(
 ) -> Result<Counts, Fault>
     ensures taken { (old : Record) → K.shown keeper.old ≡ Some old
         → IfOk result (λ after. (new : Record) × (K.shown keeper.new ≡ Some new)
-        × TakesThose (λ ds. ReadsFile F.reads F.lines false files.old path.now ds files.new) form sites.now
+        × TakesThose (λ ds. Led F.does files.old files.new (ReadsFile false path.now ds)) form sites.now
         (standing old (W.contents output.old) counts) (standing new (W.contents output.new) after)) }
     ensures early { (old : Record) → K.shown keeper.old ≡ Some old
         → OnErr result (TakesSome form sites.now (standing old (W.contents output.old) counts) (W.contents output.new)) }
@@ -212,7 +213,7 @@ fn take_lines<K: SiteKeeper, F: Files<K>, W: Write>(
 ) -> Result<Counts, Fault>
     ensures taken { (old : Record) → K.shown keeper.old ≡ Some old
         → IfOk result (λ after. (new : Record) × (K.shown keeper.new ≡ Some new)
-        × TakesThose (λ ds. ReadsFile F.reads F.lines true files.old path.now ds files.new) form sites.now
+        × TakesThose (λ ds. Led F.does files.old files.new (ReadsFile true path.now ds)) form sites.now
         (standing old (W.contents output.old) counts) (standing new (W.contents output.new) after)) }
     ensures early { (old : Record) → K.shown keeper.old ≡ Some old
         → OnErr result (TakesSome form sites.now (standing old (W.contents output.old) counts) (W.contents output.new)) }

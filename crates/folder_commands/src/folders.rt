@@ -1,48 +1,32 @@
 //! The folder of the sites' files: its list of sites, and opening the sites.
 
-ghost use Rattle.std.specs.Prelude.{◌≡◌, ◌↔◌, ℕ, List, IfOk, IsTrue, length, string_bytes};
+ghost use Rattle.std.specs.Prelude.{◌≡◌, ◌≤◌, ◌↔◌, ℕ, List, IfErr, IfOk, IsTrue, length, string_bytes};
 ghost use Rattle.recall_text.specs.Words.{name_at};
 ghost use Rattle.site_core.specs.Records.{Record};
 ghost use Rattle.site_recovery.specs.Checking.{records_at};
-ghost use Rattle.folder_commands.specs.Calls.{AreShown, ClosesAll, ListsSites, OpensFrom, OpensSite, ShowsSite};
+ghost use Rattle.folder_commands.specs.Calls.{AreShown, KeepFrom, KeepsSite, ListsSites, ShowsSite, closes_all, opens_from, opens_site};
+ghost use Rattle.folder_commands.specs.Failing.{ListFails, OpenFails};
+ghost use Rattle.folder_commands.specs.FileCalls.{Calls, Led};
 ghost use Rattle.folder_commands.specs.Folders.{file_path, list_path};
 
 use event_json::laws::equal_is_same;
 use event_json::{SiteNo, Sites};
 use keeper_core::SiteKeeper;
 use recall_outcomes::{Failure, Fault};
-use recall_text::read_sites;
 use recall_text::telling::name_of;
+use recall_text::{SiteList, read_sites};
 use site_core::SiteState;
 use std::alloc::{AllocError, Global};
 
-/// The files that the commands read, make and change. What stands behind a path no contract says: each call that
-/// succeeds is stated by a relation of the kind of files, so that contracts say which calls led to an outcome.
+/// The files that the commands read, make and change. What stands behind a path no contract says: each call is stated by
+/// one relation of the kind of files, so that contracts say which calls led to an outcome, or to a fault.
 pub trait Files<K: SiteKeeper> {
-    ghost use Rattle.std.specs.Prelude.{List, ℕ, Bool, Option, IfOk, OnOk, option_map};
+    ghost use Rattle.std.specs.Prelude.{List, ℕ, Option, IfOk, IfErr, OnOk, option_map};
     ghost use Rattle.recall_outcomes.specs.declared.faults.Failure.{Failure};
-    ghost use Rattle.site_core.specs.Records.{Record};
+    ghost use Rattle.folder_commands.specs.FileCalls.{FileCall, Blamed, ClosedSite, Failed, LookedFor, MadeSite, OpenedSite, ReadFile, ReadLine, WroteFile};
 
-    /// From these files, the file of this path was read with these bytes, to those files.
-    ghost reads: { Self → List ℕ → List ℕ → Self → Type 0 };
-
-    /// The next line of the file of this path was read, without its LF; or its end was met.
-    ghost lines: { Self → List ℕ → Option (List ℕ) → Self → Type 0 };
-
-    /// The file of this path was found, or found missing.
-    ghost finds: { Self → List ℕ → Bool → Self → Type 0 };
-
-    /// The file of a site was made at this path, in this record.
-    ghost makes: { Self → List ℕ → Record → Self → Type 0 };
-
-    /// The file of this path was opened as that of the site of this name.
-    ghost opens: { Self → List ℕ → List ℕ → K → Self → Type 0 };
-
-    /// The file of a site was closed.
-    ghost closes: { Self → K → Self → Type 0 };
-
-    /// A file of these bytes was made at this path.
-    ghost writes: { Self → List ℕ → List ℕ → Self → Type 0 };
+    /// From these files, this call led to those files.
+    ghost does: { Self → FileCall K → Self → Type 0 };
 
     /// Of the file of a site at this path, which is closed, these files know this: whole lines, or nothing.
     ghost knows: { Self → List ℕ → List ℕ → Type 0 };
@@ -52,33 +36,39 @@ pub trait Files<K: SiteKeeper> {
 
     /// The bytes of a file. `Read` where it is missing or can't be read.
     fn read(&mut self, alloc: Global, path: &str) -> Result<Vec<u8>, Fault>
-        ensures { IfOk result (λ bytes. reads self.old path.now bytes.items self.new) };
+        ensures read { IfOk result (λ bytes. does self.old (ReadFile path.now bytes.items) self.new) }
+        ensures failed { IfErr result (λ fault. does self.old (Failed path.now fault) self.new) };
 
     /// The next line of a file, from its first one on, without its LF; `None` at its end. A last line needs no LF. `Read`
     /// where the file is missing or can't be read.
     fn read_line(&mut self, alloc: Global, path: &str) -> Result<Option<Vec<u8>>, Fault>
-        ensures { IfOk result (λ line. lines self.old path.now (option_map (λ l. l.items) line) self.new) };
+        ensures read { IfOk result (λ line. does self.old (ReadLine path.now (option_map (λ l. l.items) line)) self.new) }
+        ensures failed { IfErr result (λ fault. does self.old (Failed path.now fault) self.new) };
 
     /// Whether there is a file of this path.
     fn exists(&mut self, path: &str) -> Result<bool, Fault>
-        ensures { IfOk result (λ found. finds self.old path.now found self.new) };
+        ensures looked { IfOk result (λ found. does self.old (LookedFor path.now found) self.new) }
+        ensures failed { IfErr result (λ fault. does self.old (Failed path.now fault) self.new) };
 
     /// Makes the file of a site in its first record.
     fn create_site(&mut self, alloc: Global, path: &str, state: SiteState) -> Result<(), Fault>
-        ensures { OnOk result (makes self.old path.now state self.new) };
+        ensures made { OnOk result (does self.old (MadeSite path.now state) self.new) }
+        ensures failed { IfErr result (λ fault. does self.old (Failed path.now fault) self.new) };
 
     /// Opens the file of the site of a name, on which a crash leaves the record that is shown.
     fn open_site(&mut self, alloc: Global, path: &str, name: &str) -> Result<K, Fault>
-        ensures opened { IfOk result (λ keeper. opens self.old path.now name.now keeper self.new) }
-        ensures stored { IfOk result K.stored };
+        ensures opened { IfOk result (λ keeper. does self.old (OpenedSite path.now name.now keeper) self.new) }
+        ensures stored { IfOk result K.stored }
+        ensures failed { IfErr result (λ fault. does self.old (Failed path.now fault) self.new) };
 
     /// Closes the file of a site that was opened.
     fn close_site(&mut self, keeper: K)
-        ensures { closes self.old keeper self.new };
+        ensures { does self.old (ClosedSite keeper) self.new };
 
     /// Makes a file of these bytes. `Write` where one of this path exists, or it can't be made.
     fn write_new(&mut self, path: &str, bytes: &[u8]) -> Result<(), Fault>
-        ensures { OnOk result (writes self.old path.now bytes.now self.new) };
+        ensures written { OnOk result (does self.old (WroteFile path.now bytes.now) self.new) }
+        ensures failed { IfErr result (λ fault. does self.old (Failed path.now fault) self.new) };
 
     /// What is known of the failures that the file of a site met while it was open, also where it was opened again
     /// after them: a line, or nothing.
@@ -86,7 +76,8 @@ pub trait Files<K: SiteKeeper> {
         ensures { IfOk result (λ known. knows self.now path.now (string_bytes known)) };
 
     /// Is told which file a fault is about that no call of the files returned, before that fault is reported.
-    fn blame(&mut self, _path: &str) {}
+    fn blame(&mut self, path: &str)
+        ensures { does self.old (Blamed path.now) self.new };
 
     /// The last failure that the files know of: which file a call failed on or a fault is about, and what is known of
     /// the cause.
@@ -120,17 +111,25 @@ pub(crate) fn sites_of<K: SiteKeeper, F: Files<K>>(
     files: &mut F,
     folder: &str,
 ) -> Result<Sites, Fault>
-    ensures { IfOk result (λ sites. ListsSites F.reads folder.now files.old files.new sites) }
+    ensures read { IfOk result (λ sites. Led F.does files.old files.new (ListsSites folder.now sites)) }
+    ensures failed { IfErr result (λ fault. Led F.does files.old files.new (ListFails folder.now fault)) }
 {
     let path = list_path(alloc, folder)?;
     let text = files.read(alloc, path.as_str())?;
     let list = read_sites(alloc, text.as_slice())?;
-    if list.refused.as_slice().is_empty() && list.sites.ready() {
+    if is_good(&list) {
         Ok(list.sites)
     } else {
         files.blame(path.as_str());
         Err(Fault::BadSites)
     }
+}
+
+/// Whether no line of a list is refused, and it has at least two sites.
+fn is_good(list: &SiteList) -> bool
+    ensures { IsTrue result ↔ ((length list.now.refused.items ≡ 0) × (2 ≤ length list.now.sites)) }
+{
+    list.refused.as_slice().is_empty() && list.sites.ready()
 }
 
 /// Opens the file of a site, which has to have the folder's list of sites.
@@ -141,7 +140,10 @@ pub(crate) fn open_site<K: SiteKeeper, F: Files<K>>(
     sites: &Sites,
     site: SiteNo,
 ) -> Result<K, Fault>
-    ensures { IfOk result (λ keeper. (r : Record) × OpensSite F.opens F.closes K.shown K.stored folder.now sites.now site files.old files.new keeper r) }
+    ensures opened { IfOk result (λ keeper. F.does files.old (opens_site folder.now sites.now site keeper) files.new) }
+    ensures keeps { IfOk result (λ keeper. (r : Record) × KeepsSite K.shown K.stored sites.now site keeper r) }
+    ensures failed { IfErr result (λ fault. Led F.does files.old files.new
+        (OpenFails K.shown K.may K.stored folder.now sites.now site fault)) }
 {
     let path = file_path(alloc, folder, sites, site)?;
     let keeper = files.open_site(alloc, path.as_str(), name_of(sites, site))?;
@@ -155,7 +157,7 @@ pub(crate) fn open_site<K: SiteKeeper, F: Files<K>>(
 
 /// Whether the keeper is open and keeps the record of this site of these sites.
 fn keeps_site<K: SiteKeeper>(keeper: &K, sites: &Sites, site: SiteNo) -> bool
-    ensures { IsTrue result → (r : Record) × ShowsSite K.shown sites.now site keeper.now r }
+    ensures { IsTrue result ↔ ((r : Record) × ShowsSite K.shown sites.now site keeper.now r) }
 {
     // Lists of sites that are compared as equal are the same.
     equal_is_same();
@@ -172,7 +174,8 @@ pub(crate) fn open_all<K: SiteKeeper, F: Files<K>>(
     folder: &str,
     sites: &Sites,
 ) -> Result<Vec<K>, Fault>
-    ensures opened { IfOk result (λ keepers. (rs : List Record) × OpensFrom F.opens F.closes K.shown K.stored folder.now sites.now 0 files.old files.new keepers.items rs) }
+    ensures opened { IfOk result (λ keepers. Calls F.does files.old (opens_from folder.now sites.now 0 keepers.items) files.new) }
+    ensures keep { IfOk result (λ keepers. (rs : List Record) × KeepFrom K.shown K.stored sites.now 0 keepers.items rs) }
     ensures number { IfOk result (λ keepers. length keepers.items ≡ length sites.now) }
 {
     let mut keepers = Vec::new(alloc);
@@ -204,7 +207,7 @@ pub(crate) fn records_of<'a, K: SiteKeeper>(
 
 /// Closes the files of all sites.
 pub(crate) fn close_all<K: SiteKeeper, F: Files<K>>(files: &mut F, keepers: Vec<K>)
-    ensures { ClosesAll F.closes files.old files.new keepers.items }
+    ensures { Calls F.does files.old (closes_all keepers.items) files.new }
 {
     for keeper in keepers {
         files.close_site(keeper);

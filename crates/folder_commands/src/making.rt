@@ -5,7 +5,8 @@ ghost use Rattle.std.specs.List.{AllZip};
 ghost use Rattle.recall_outcomes.specs.declared.outcomes.CommandRefusal.{CommandRefusal};
 ghost use Rattle.recall_outcomes.specs.declared.outcomes.CommandRefusal.TheVariants.{Line};
 ghost use Rattle.recall_text.specs.Words.{name_at};
-ghost use Rattle.folder_commands.specs.Making.{InitsAt, LooksForList, LooksFrom, MakesAll, MakesFrom, MakesListed, existing, name_where, too_few};
+ghost use Rattle.folder_commands.specs.FileCalls.{Calls, Led, LookedFor};
+ghost use Rattle.folder_commands.specs.Making.{InitsAt, LooksForList, MakesListed, existing, looks_from, makes_all, makes_from, name_where, too_few};
 ghost use Rattle.folder_commands.specs.Refusals.{IsExists};
 
 use crate::folders::{Files, file_path, list_path};
@@ -33,7 +34,7 @@ pub fn init<K: SiteKeeper, F: Files<K>>(
     folder: &str,
     list: &str,
 ) -> Result<Output, Fault>
-    ensures calls { IfOk result (InitsAt F.reads F.finds F.makes F.writes folder.now list.now files.old files.new) }
+    ensures calls { IfOk result (λ output. Led F.does files.old files.new (InitsAt folder.now list.now output)) }
 {
     let text = files.read(alloc, list)?;
     let list = read_sites(alloc, text.as_slice())?;
@@ -54,7 +55,7 @@ fn make_listed<K: SiteKeeper, F: Files<K>>(
     text: &[u8],
     list: &SiteList,
 ) -> Result<Outcome, Fault>
-    ensures { IfOk result (MakesListed F.reads F.finds F.makes F.writes folder.now list.now text.now files.old files.new) }
+    ensures { IfOk result (λ outcome. Led F.does files.old files.new (MakesListed folder.now list.now text.now outcome)) }
 {
     let sites = &list.sites;
     let mut refusals = Vec::new(alloc);
@@ -98,7 +99,7 @@ fn push_existing<K: SiteKeeper, F: Files<K>>(
     sites: &Sites,
     refusals: &mut Vec<CommandRefusal>,
 ) -> Result<(), Fault>
-    ensures { OnOk result ((found : List Bool) × LooksFrom F.finds folder.now sites.now 0 files.old files.new found
+    ensures { OnOk result ((found : List Bool) × Calls F.does files.old (looks_from folder.now sites.now 0 found) files.new
         × (length found ≡ length sites.now) × (more : List CommandRefusal) × AllZip IsExists (existing sites.now 0 found) more
         × (refusals.new.items ≡ refusals.old.items ++ more)) }
 {
@@ -119,7 +120,8 @@ fn push_list<K: SiteKeeper, F: Files<K>>(
     folder: &str,
     refusals: &mut Vec<CommandRefusal>,
 ) -> Result<(), Fault>
-    ensures { OnOk result (LooksForList F.finds folder.now refusals.old.items files.old files.new refusals.new.items) }
+    ensures { OnOk result (Led F.does files.old files.new
+        (LooksForList folder.now refusals.old.items refusals.new.items)) }
 {
     if refusals.is_empty() {
         let path = list_path(alloc, folder)?;
@@ -136,7 +138,7 @@ fn push_where<K: SiteKeeper, F: Files<K>>(
     name: &str,
     refusals: &mut Vec<CommandRefusal>,
 ) -> Result<(), Fault>
-    ensures { OnOk result ((found : Bool) × F.finds files.old path.now found files.new
+    ensures { OnOk result ((found : Bool) × F.does files.old (LookedFor path.now found) files.new
         × (more : List CommandRefusal) × AllZip IsExists (name_where found name.now) more × (refusals.new.items ≡ refusals.old.items ++ more)) }
 {
     if files.exists(path)? {
@@ -155,7 +157,7 @@ fn make_folder<K: SiteKeeper, F: Files<K>>(
     text: &[u8],
     sites: &Sites,
 ) -> Result<(), Fault>
-    ensures { OnOk result (MakesAll F.reads F.finds F.makes F.writes folder.now sites.now text.now files.old files.new) }
+    ensures { OnOk result (Calls F.does files.old (makes_all folder.now sites.now text.now) files.new) }
 {
     make_all(alloc, keys, files, folder, sites)?;
     let path = list_path(alloc, folder)?;
@@ -170,7 +172,7 @@ fn make_all<K: SiteKeeper, F: Files<K>>(
     folder: &str,
     sites: &Sites,
 ) -> Result<(), Fault>
-    ensures { OnOk result (MakesFrom F.makes folder.now sites.now 0 (length sites.now) files.old files.new) }
+    ensures { OnOk result (Calls F.does files.old (makes_from folder.now sites.now 0 (length sites.now)) files.new) }
 {
     for number in 0..sites.len() {
         let Some(site) = SiteNo::of(number) else {

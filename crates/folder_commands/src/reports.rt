@@ -6,6 +6,7 @@ ghost use Rattle.site_core.specs.Records.{Record};
 ghost use Rattle.site_recovery.specs.Checking.{records_at};
 ghost use Rattle.site_recovery.specs.FittingAt.{AreAllSites};
 ghost use Rattle.folder_commands.specs.Calls.{AreShown, ReportsAt, ReportsBy, TellsAll};
+ghost use Rattle.folder_commands.specs.FileCalls.{Led};
 ghost use Rattle.folder_commands.specs.Reports.{AnswersReport};
 
 use crate::folders::{Files, close_all, open_all, records_of, sites_of};
@@ -31,7 +32,8 @@ pub fn report_recall<K: SiteKeeper, F: Files<K>>(
     folder: &str,
     recall: &str,
 ) -> Result<Output, Fault>
-    ensures calls { IfOk result (ReportsAt F.reads F.opens F.closes K.shown K.stored folder.now recall.now files.old files.new) }
+    ensures calls { IfOk result (λ output. Led F.does files.old files.new
+        (ReportsAt K.shown K.stored folder.now recall.now output)) }
 {
     let sites = sites_of(alloc, files, folder)?;
     let outcome = report_in(alloc, files, folder, &sites, recall)?;
@@ -50,7 +52,8 @@ fn report_in<K: SiteKeeper, F: Files<K>>(
     sites: &Sites,
     recall: &str,
 ) -> Result<Outcome, Fault>
-    ensures { IfOk result (ReportsBy F.reads F.opens F.closes K.shown K.stored folder.now sites.now (recall_of recall.now) files.old files.new) }
+    ensures { IfOk result (λ outcome. Led F.does files.old files.new
+        (ReportsBy K.shown K.stored folder.now sites.now (recall_of recall.now) outcome)) }
 {
     let Some((name, number)) = recall_of(recall) else {
         return Ok(refusal(alloc, CommandRefusal::BadRecall)?);
@@ -69,7 +72,8 @@ fn report_all<K: SiteKeeper, F: Files<K>>(
     sites: &Sites,
     recall: RecallId,
 ) -> Result<Outcome, Fault>
-    ensures { IfOk result (TellsAll F.opens F.closes K.shown K.stored folder.now sites.now (λ rs o. AnswersReport rs recall o) files.old files.new) }
+    ensures { IfOk result (λ outcome. Led F.does files.old files.new
+        (TellsAll K.shown K.stored folder.now sites.now (λ rs o. AnswersReport rs recall o) outcome)) }
 {
     let keepers = open_all(alloc, files, folder, sites)?;
     let outcome = report_at(alloc, keepers.as_slice(), recall);

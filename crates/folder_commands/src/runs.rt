@@ -6,6 +6,7 @@ ghost use Rattle.world_core.specs.Keepers.{AllShow};
 ghost use Rattle.site_threads.specs.Ends.{IsUnused};
 ghost use Rattle.site_threads.specs.Gathering.{KeepersFit};
 ghost use Rattle.folder_commands.specs.Faults.{gather_fault};
+ghost use Rattle.folder_commands.specs.FileCalls.{Led};
 ghost use Rattle.folder_commands.specs.Notes.{AreNotes, AreOfSites, TellsOf};
 ghost use Rattle.folder_commands.specs.Runs.{AnswersRun, FailsRun, RunsAt, TellsCause, TellsRecalls};
 
@@ -51,7 +52,8 @@ pub fn run_sites<
     R: Threads + Wait + Clock + Sync,
 >(rt: &R, alloc: Global, files: &mut F, gate: G, folder: &str, turns: u64) -> Result<Output, Fault>
     requires turns { turns ≤ 1000000 }
-    ensures calls { IfOk result (RunsAt F.reads F.opens F.closes F.knows K.shown K.failed K.stored folder.now turns files.old files.new) }
+    ensures calls { IfOk result (λ output. Led F.does files.old files.new
+        (RunsAt (F.knows files.new) K.shown K.failed K.stored folder.now turns output)) }
 {
     let sites = sites_of(alloc, files, folder)?;
     if sites.len() > 16 {
@@ -77,7 +79,7 @@ fn told<K: SiteKeeper, F: Files<K>>(
     sites: &Sites,
     notes: &Option<RunNotes>,
 ) -> Result<Option<String>, AllocError>
-    ensures { IfOk result (TellsOf F.knows folder.now sites.now files.now notes.now) }
+    ensures { IfOk result (TellsOf (F.knows files.now) folder.now sites.now notes.now) }
 {
     match notes {
         Some(notes) => Ok(Some(notes_text(alloc, files, folder, sites, notes)?)),

@@ -7,6 +7,8 @@ ghost use Rattle.keeper_core.specs.Keeping.{Rises};
 ghost use Rattle.site_core.specs.Records.{Record};
 ghost use Rattle.site_core.specs.declared.outcomes.Effects.{Effects};
 ghost use Rattle.folder_commands.specs.Calls.{AtSite, CapturesAt, CapturesFile, StartsAt, StartsItem, StepsAt};
+ghost use Rattle.folder_commands.specs.Failing.{CaptureFails, CaptureFailsNamed, StartFails, StartFailsNamed, StepAtFails};
+ghost use Rattle.folder_commands.specs.FileCalls.{Led};
 ghost use Rattle.folder_commands.specs.Steps.{AnswersStep, FailsStep, TellsAnswer};
 
 use crate::folders::{Files, open_site, sites_of};
@@ -33,7 +35,10 @@ pub fn capture<K: SiteKeeper, F: Files<K>>(
     site: &str,
     file: &str,
 ) -> Result<Output, Fault>
-    ensures calls { IfOk result (CapturesAt F.reads F.opens F.closes K.shown K.stored folder.now site.now file.now files.old files.new) }
+    ensures calls { IfOk result (λ output. Led F.does files.old files.new
+        (CapturesAt K.shown K.stored folder.now site.now file.now output)) }
+    ensures failed { IfErr result (λ fault. Led F.does files.old files.new
+        (CaptureFails K.shown K.may K.stored folder.now site.now file.now fault)) }
 {
     let sites = sites_of(alloc, files, folder)?;
     let Some(number) = sites.find(site) else {
@@ -61,7 +66,10 @@ fn capture_file<K: SiteKeeper, F: Files<K>>(
     site: SiteNo,
     file: &str,
 ) -> Result<(Outcome, Option<String>), Fault>
-    ensures { IfOk result (λ r. CapturesFile F.reads F.opens F.closes K.shown K.stored folder.now sites.now site file.now files.old files.new r.0 r.1) }
+    ensures calls { IfOk result (λ r. Led F.does files.old files.new
+        (CapturesFile K.shown K.stored folder.now sites.now site file.now r.0 r.1)) }
+    ensures failed { IfErr result (λ fault. Led F.does files.old files.new
+        (CaptureFailsNamed K.shown K.may K.stored folder.now sites.now (Some site) file.now fault)) }
 {
     let document = files.read(alloc, file)?;
     let untraced = untraced_of(alloc, document.as_slice(), sites)?;
@@ -83,7 +91,10 @@ pub fn start<K: SiteKeeper, F: Files<K>>(
     site: &str,
     item: &str,
 ) -> Result<Output, Fault>
-    ensures calls { IfOk result (StartsAt F.reads F.opens F.closes K.shown K.stored folder.now site.now item.now files.old files.new) }
+    ensures calls { IfOk result (λ output. Led F.does files.old files.new
+        (StartsAt K.shown K.stored folder.now site.now item.now output)) }
+    ensures failed { IfErr result (λ fault. Led F.does files.old files.new
+        (StartFails K.shown K.may K.stored folder.now site.now item.now fault)) }
 {
     let sites = sites_of(alloc, files, folder)?;
     let outcome = start_in(alloc, files, folder, &sites, site, item)?;
@@ -103,8 +114,10 @@ fn start_in<K: SiteKeeper, F: Files<K>>(
     site: &str,
     item: &str,
 ) -> Result<Outcome, Fault>
-    ensures { IfOk result (λ outcome. AtSite F.reads F.opens F.closes K.shown K.stored site.now (named sites.now site.now) files.old files.new
-        (λ number. StartsItem F.reads F.opens F.closes K.shown K.stored folder.now sites.now number (reading item.now) files.old files.new outcome) outcome) }
+    ensures calls { IfOk result (λ outcome. Led F.does files.old files.new (AtSite site.now (named sites.now site.now)
+        (λ number. StartsItem K.shown K.stored folder.now sites.now number (reading item.now)) outcome)) }
+    ensures failed { IfErr result (λ fault. Led F.does files.old files.new (StartFailsNamed K.shown K.may K.stored
+        folder.now sites.now (named sites.now site.now) (reading item.now) fault)) }
 {
     let Some(number) = sites.find(site) else {
         return Ok(no_site(alloc, site)?);
@@ -125,7 +138,10 @@ fn step_at<K: SiteKeeper, F: Files<K>>(
     site: SiteNo,
     input: SiteInput,
 ) -> Result<Outcome, Fault>
-    ensures { IfOk result (StepsAt F.opens F.closes K.shown K.stored folder.now sites.now site input files.old files.new) }
+    ensures calls { IfOk result (λ outcome. Led F.does files.old files.new
+        (StepsAt K.shown K.stored folder.now sites.now site input outcome)) }
+    ensures failed { IfErr result (λ fault. Led F.does files.old files.new
+        (StepAtFails K.shown K.may K.stored folder.now sites.now site input fault)) }
 {
     let mut keeper = open_site(alloc, files, folder, sites, site)?;
     let outcome = step(alloc, &mut keeper, input);

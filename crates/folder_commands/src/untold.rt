@@ -1,6 +1,6 @@
 //! What captures pass over: what documents say that isn't traced.
 
-ghost use Rattle.std.specs.Prelude.{◌≡◌, Some, Ok, IfOk, string_bytes};
+ghost use Rattle.std.specs.Prelude.{◌≡◌, Some, Ok, IfErr, IfOk, string_bytes};
 ghost use Rattle.event_json.specs.Untraced.{text_untraced};
 ghost use Rattle.event_json.specs.declared.documents.Doc.{Doc};
 ghost use Rattle.event_json.specs.declared.untraced.Untraced.{Untraced};
@@ -41,8 +41,9 @@ pub(crate) fn untraced_of(
     document: &[u8],
     sites: &Sites,
 ) -> Result<Option<Untraced>, Fault>
-    ensures { (doc : Doc) → IsReadAs sites.now document.now (Ok doc)
+    ensures found { (doc : Doc) → IsReadAs sites.now document.now (Ok doc)
         → IfOk result (λ found. (untraced : Untraced) × (found ≡ Some untraced) × (text_untraced sites.now document.now ≡ Ok untraced)) }
+    ensures failed { IfErr result (λ fault. fault ≡ Fault.NoMemory) }
 {
     match read_untraced(alloc, document, sites) {
         Ok(untraced) => Ok(Some(untraced)),

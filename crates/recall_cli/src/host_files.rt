@@ -194,19 +194,7 @@ impl Files<FileSite> for HostFiles<'_> {
     ghost use Rattle.std.specs.Prelude.{⊤};
 
     // What stands behind a path no contract can say.
-    ghost reads = { λ _ _ _ _. ⊤ };
-
-    ghost lines = { λ _ _ _ _. ⊤ };
-
-    ghost finds = { λ _ _ _ _. ⊤ };
-
-    ghost makes = { λ _ _ _ _. ⊤ };
-
-    ghost opens = { λ _ _ _ _ _. ⊤ };
-
-    ghost closes = { λ _ _ _. ⊤ };
-
-    ghost writes = { λ _ _ _ _. ⊤ };
+    ghost does = { λ _ _ _. ⊤ };
 
     ghost knows = { λ _ _ _. ⊤ };
 

@@ -7,7 +7,7 @@ use Rattle.folder_commands.proofs.captures.take_all.Goals as goal
 pub loop-path-init : goal.loop-path-init
 loop-path-init g c = (
   λ kept. kept,
-  λ old shows. (old, shows, record { documents = []; are = (refl, refl); taken = λ j. standing old (g.W.Write.contents c.args.output.now) (record { totals = c.new.ensures j; untraced = c.none_untraced.ensures j }) }),
+  λ old shows. (old, shows, record { documents = []; are = record { calls = []; are = (refl, refl); led = refl }; taken = λ j. standing old (g.W.Write.contents c.args.output.now) (record { totals = c.new.ensures j; untraced = c.none_untraced.ensures j }) }),
 )
 
 pub returns-in_err-counts-clause-early : goal.returns-in_err-counts-clause-early
@@ -27,7 +27,7 @@ loop-path-preserved g c = (
         new,
         shows_new,
         rw (map_more (λ p. p.now) c.args.documents.now.paths.now c.loop-path.path-index none c.loop-path-test.true)
-            (takes_file g.F.Files.reads g.F.Files.lines c.args.documents.now.by_lines c.args.files.now c.loop-path.files c.take_file.new.files
+            (takes_file g.F.Files.does c.args.documents.now.by_lines c.args.files.now c.loop-path.files c.take_file.new.files
             (map (λ p. p.now) (take c.loop-path.path-index c.args.documents.now.paths.now)) _ c.args.form c.args.sites.now (standing old (g.W.Write.contents c.args.output.now) no_counts)
             (standing mid (g.W.Write.contents c.loop-path.output) c.loop-path.counts) (standing new (g.W.Write.contents c.take_file.new.output) c.in_ok-counts.counts) so_far more),
       ),

@@ -1,6 +1,9 @@
-use Rattle.std.proofs.Common.{◌≡◌, ◌+◌, ℕ, [], ◌∷◌, ◌++◌, length, refl, sym, subst, arith, length-append}
+use Rattle.std.proofs.Common.{◌≡◌, ◌+◌, ℕ, [], ◌∷◌, ◌++◌, map, Some, None, length, refl, sym, subst, arith, length-append}
+use Rattle.std.proofs.lemmas.List.{map_push}
 use Rattle.folder_commands.specs.Captures.{of_lines, standing}
-use Rattle.folder_commands.proofs.CaptureLemmas.{on_err, reads_line, takes_lines, takes_more, takes_none}
+use Rattle.folder_commands.specs.FileCalls.{Calls, ReadLine}
+use Rattle.folder_commands.proofs.CallsInTurn.{call_more}
+use Rattle.folder_commands.proofs.CaptureLemmas.{on_err, takes_lines, takes_more, takes_none}
 use Rattle.folder_commands.proofs.captures.take_lines.Goals as goal
 
 pub loop-number-init : goal.loop-number-init
@@ -23,7 +26,13 @@ returns-in_default-clause-taken g c = λ old shows.
       shown,
       record {
         documents = of_lines c.args.path.now 1 texts;
-        are = (texts, (c.loop-number.files, read, rw c.in_default.is at c.in_ok-bytes.ensures), refl);
+        are = record {
+          calls = map (λ text. ReadLine c.args.path.now (Some text)) texts ++ ReadLine c.args.path.now None ∷ [];
+          are = (texts, refl, refl);
+          led =
+              call_more g.F.Files.does c.args.files.now c.loop-number.files c.read_line.new.self (map (λ text. ReadLine c.args.path.now (Some text)) texts) (ReadLine c.args.path.now None) read
+              (rw c.in_default.is at c.in_ok-bytes.ensures.read);
+        };
         taken = taken;
       },
     )
@@ -42,7 +51,9 @@ loop-number-preserved g c =
     let line = c.in-Some.bytes.items in (
       texts ++ line ∷ [],
       subst (λ (n : ℕ). n + 1 ≡ 1 + length (texts ++ line ∷ [])) (sym count) (omega (arith, length-append texts (line ∷ []))),
-      reads_line g.F.Files.lines c.args.files.now c.loop-number.files c.read_line.new.self c.args.path.now texts line read (rw c.in-Some.is at c.in_ok-bytes.ensures),
+      subst (λ cs. Calls g.F.Files.does c.args.files.now cs c.read_line.new.self) (sym (map_push (λ text. ReadLine c.args.path.now (Some text)) texts line))
+          (call_more g.F.Files.does c.args.files.now c.loop-number.files c.read_line.new.self (map (λ text. ReadLine c.args.path.now (Some text)) texts) (ReadLine c.args.path.now (Some line)) read
+          (rw c.in-Some.is at c.in_ok-bytes.ensures.read)),
       λ kept. c.take_line.ensures.stored (lasts kept),
       λ old shows.
           let (mid, shown, taken) = so_far old shows in

@@ -16,7 +16,7 @@ returns-clause-taken g c = λ old shows.
     (λ after (new, shown, one). (
       new,
       shown,
-      takes_document g.F.Files.reads g.F.Files.lines c.args.files.now c.read.new.self c.args.path.now (string_bytes c.in_ok-source.source) c.in_ok-bytes.bytes.items c.args.form c.args.sites.now
-          (standing old (g.W.Write.contents c.args.output.now) c.args.counts) (standing new (g.W.Write.contents c.take.new.output) after) c.in_ok-source.ensures.ok c.in_ok-bytes.ensures one,
+      takes_document g.F.Files.does c.args.files.now c.read.new.self c.args.path.now (string_bytes c.in_ok-source.source) c.in_ok-bytes.bytes.items c.args.form c.args.sites.now
+          (standing old (g.W.Write.contents c.args.output.now) c.args.counts) (standing new (g.W.Write.contents c.take.new.output) after) c.in_ok-source.ensures.ok c.in_ok-bytes.ensures.read one,
     ))
     (c.take.ensures.taken old shows)

@@ -13,4 +13,4 @@ pub returns-in-Some : goal.returns-in-Some
 returns-in-Some g c = λ old shows.
     let same = same_Some c.in-Some.state.now old (sym (ap (option_map (λ s. s.now)) c.in-Some.is) ∙ c.view.ensures ∙ shows) in
     let lists = c.sites.ensures ∙ ap (λ (r : Record). r.sites) same in
-    subst (λ ss. (doc : Doc) → IsReadAs ss c.args.document.now (Ok doc) → IfOk c.untraced_of.result (λ found. (x : Untraced) × (found ≡ Some x) × (text_untraced ss c.args.document.now ≡ Ok x))) lists c.untraced_of.ensures
+    subst (λ ss. (doc : Doc) → IsReadAs ss c.args.document.now (Ok doc) → IfOk c.untraced_of.result (λ found. (x : Untraced) × (found ≡ Some x) × (text_untraced ss c.args.document.now ≡ Ok x))) lists c.untraced_of.ensures.found

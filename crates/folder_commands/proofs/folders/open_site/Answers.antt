@@ -1,7 +1,35 @@
-use Rattle.std.proofs.Common.{rules, refl}
+use Rattle.std.proofs.Common.{[], ◌∷◌, refl, ◌∙◌, inl, inr}
+use Rattle.recall_text.specs.Words.{name_at}
+use Rattle.folder_commands.specs.Calls.{opens_site}
+use Rattle.folder_commands.specs.FileCalls.{Blamed, Failed}
+use Rattle.folder_commands.specs.Folders.{file_path}
+use Rattle.folder_commands.proofs.CallsInTurn.{blamed, failed_at, handed_on, opened_as}
 use Rattle.folder_commands.proofs.folders.open_site.Goals as goal
 
-pub returns-then-keeps_site : goal.returns-then-keeps_site
-returns-then-keeps_site g c =
-    let there = c.if-keeps_site.ensures refl in
-    (there.0, record { opened = search rules; shows = there.1; lasts = search rules })
+pub returns-in_err-path-clause-failed : goal.returns-in_err-path-clause-failed
+returns-in_err-path-clause-failed g c = handed_on c.from_residual.result _ _ c.from_residual.ensures.1 (record { calls = []; are = inr (inr (refl, refl)); led = refl })
+
+pub returns-in_err-keeper-clause-failed : goal.returns-in_err-keeper-clause-failed
+returns-in_err-keeper-clause-failed g c =
+    let path = c.as_str.ensures.value ∙ c.in_ok-path.ensures in
+    handed_on c.from_residual-in_err-keeper.result _ _ c.from_residual-in_err-keeper.ensures.1
+    (record { calls = Failed (file_path c.args.folder.now (name_at c.args.sites.now c.args.site)) _ ∷ []; are = inl refl; led = failed_at g.F.Files.does _ _ _ _ _ path c.in_err-keeper.ensures.failed })
+
+pub returns-then-keeps_site-clause-keeps : goal.returns-then-keeps_site-clause-keeps
+returns-then-keeps_site-clause-keeps g c =
+    let there = c.if-keeps_site.ensures.0 refl in
+    (there.0, record { shows = there.1; lasts = c.in_ok-keeper.ensures.stored })
+
+pub returns-clause-failed : goal.returns-clause-failed
+returns-clause-failed g c =
+    let path = c.as_str.ensures.value ∙ c.in_ok-path.ensures in
+    let keeper = c.in_ok-keeper.keeper in
+    record {
+      calls = opens_site c.args.folder.now c.args.sites.now c.args.site keeper ∷ Blamed (file_path c.args.folder.now (name_at c.args.sites.now c.args.site)) ∷ [];
+      are = inr (inl (keeper, (λ r shows. let bad = c.if-keeps_site.ensures.1 (r, shows) in absurd (let none : ⊥ = cc in none)), refl, refl));
+      led = (
+        c.open_site.new.self,
+        opened_as g.F.Files.does _ _ _ _ _ _ _ path c.name_of.ensures c.in_ok-keeper.ensures.opened,
+        (c.blame.new.self, blamed g.F.Files.does _ _ _ _ (c.as_str-else-keeps_site.ensures.value ∙ c.in_ok-path.ensures) c.blame.ensures, refl),
+      );
+    }

@@ -1,14 +1,71 @@
-use Rattle.std.proofs.Common.{rules, refl, sym, ◌∙◌, length, eqb-true}
+use Rattle.std.proofs.Common.{[], ◌∷◌, length, refl, sym, ap, ◌∙◌, inl, inr, subst}
 use Rattle.std.proofs.lemmas.List.{nil_from_length}
+use Rattle.folder_commands.specs.FileCalls.{Blamed, Failed, ReadFile}
+use Rattle.folder_commands.specs.Folders.{list_path}
+use Rattle.recall_text.specs.SiteLists.{IsSiteList}
+use Rattle.folder_commands.proofs.CallsInTurn.{blamed, failed_at, handed_on, list_read}
 use Rattle.folder_commands.proofs.folders.sites_of.Goals as goal
 
-pub returns-then-ready : goal.returns-then-ready
-returns-then-ready g c = record {
-  text = c.in_ok-text.text.items;
-  read = search rules;
-  list = c.in_ok-list.list;
-  is_list = search rules;
-  good = sym c.as_slice-2.ensures.value ∙ nil_from_length c.as_slice-2.result.now (eqb-true (length c.as_slice-2.result.now) 0 (sym c.is_empty.ensures ∙ c.if-is_empty.true));
-  same = refl;
-  two = search rules;
-}
+pub returns-in_err-path-clause-failed : goal.returns-in_err-path-clause-failed
+returns-in_err-path-clause-failed g c = handed_on c.from_residual.result _ _ c.from_residual.ensures.1 (record { calls = []; are = inr (inr (refl, inl refl)); led = refl })
+
+pub returns-in_err-text-clause-failed : goal.returns-in_err-text-clause-failed
+returns-in_err-text-clause-failed g c =
+    let path = c.as_str.ensures.value ∙ c.in_ok-path.ensures in
+    handed_on c.from_residual-in_err-text.result _ _ c.from_residual-in_err-text.ensures.1
+    (record { calls = Failed (list_path c.args.folder.now) _ ∷ []; are = inl refl; led = failed_at g.F.Files.does _ _ _ _ _ path c.in_err-text.ensures.failed })
+
+pub returns-in_err-list-clause-failed : goal.returns-in_err-list-clause-failed
+returns-in_err-list-clause-failed g c =
+    let path = c.as_str.ensures.value ∙ c.in_ok-path.ensures in
+    let text = c.in_ok-text.text.items in
+    handed_on c.from_residual-in_err-list.result _ _ c.from_residual-in_err-list.ensures.1
+    (record {
+      calls = ReadFile (list_path c.args.folder.now) text ∷ [];
+      are = inr (inr (refl, inr (text, refl)));
+      led = (c.read.new.self, list_read g.F.Files.does _ _ _ _ _ path c.in_ok-text.ensures.read, refl);
+    })
+
+pub returns-then-is_good-clause-read : goal.returns-then-is_good-clause-read
+returns-then-is_good-clause-read g c =
+    let path = c.as_str.ensures.value ∙ c.in_ok-path.ensures in
+    let text = c.in_ok-text.text.items in
+    let good = c.if-is_good.ensures.0 refl in
+    record {
+      calls = ReadFile (list_path c.args.folder.now) text ∷ [];
+      are = record {
+        text = text;
+        lists = record {
+          list = c.in_ok-list.list;
+          is_list = subst (λ t. IsSiteList t c.in_ok-list.list) c.as_slice.ensures.value c.in_ok-list.ensures;
+          good = nil_from_length _ good.0;
+          same = refl;
+          two = good.1;
+        };
+        calls_are = refl;
+      };
+      led = (c.read.new.self, list_read g.F.Files.does _ _ _ _ _ path c.in_ok-text.ensures.read, refl);
+    }
+
+pub returns-clause-failed : goal.returns-clause-failed
+returns-clause-failed g c =
+    let path = c.as_str.ensures.value ∙ c.in_ok-path.ensures in
+    let text = c.in_ok-text.text.items in
+    record {
+      calls = ReadFile (list_path c.args.folder.now) text ∷ Blamed (list_path c.args.folder.now) ∷ [];
+      are = inr (inl (
+        text,
+        record {
+          list = c.in_ok-list.list;
+          is_list = subst (λ t. IsSiteList t c.in_ok-list.list) c.as_slice.ensures.value c.in_ok-list.ensures;
+          bad = λ none two. let bad = c.if-is_good.ensures.1 (ap length none, two) in absurd (let none : ⊥ = cc in none);
+        },
+        refl,
+        refl,
+      ));
+      led = (
+        c.read.new.self,
+        list_read g.F.Files.does _ _ _ _ _ path c.in_ok-text.ensures.read,
+        (c.blame.new.self, blamed g.F.Files.does _ _ _ _ (c.as_str-else-is_good.ensures.value ∙ c.in_ok-path.ensures) c.blame.ensures, refl),
+      );
+    }

@@ -2,8 +2,10 @@ use Rattle.std.proofs.Common.{◌≡◌, ◌+◌, ℕ, [], ◌∷◌, ◌++◌, 
 use Rattle.std.specs.List.{AllZip}
 use Rattle.recall_text.specs.Words.{name_at}
 use Rattle.folder_commands.specs.Folders.{file_path}
-use Rattle.folder_commands.specs.Making.{existing, name_where}
+use Rattle.folder_commands.specs.FileCalls.{Calls, LookedFor}
+use Rattle.folder_commands.specs.Making.{existing, looks_from, name_where}
 use Rattle.folder_commands.specs.Refusals.{IsExists}
+use Rattle.folder_commands.proofs.CallsInTurn.{call_more}
 use Rattle.folder_commands.proofs.MakingLemmas.{existing_more, looks_more, zip_both}
 use Rattle.folder_commands.proofs.making.push_existing.Goals as goal
 
@@ -12,7 +14,8 @@ loop-number-init g c = (([], refl, refl, [], tt, sym (append-nil c.args.refusals
 
 pub loop-number-preserved : goal.loop-number-preserved
 loop-number-preserved g c =
-    let finds = g.F.Files.finds in
+    let does = g.F.Files.does in
+    let old = c.args.files.now in
     let folder = c.args.folder.now in
     let sites = c.args.sites.now in
     let before = c.loop-number.invariant.0 in
@@ -29,7 +32,9 @@ loop-number-preserved g c =
     let more = c.in_ok-push_where.ensures.2 in (
       (
         found ++ one ∷ [],
-        looks_more finds folder sites 0 c.args.files.now files after found one before.1 (subst (λ p. finds files p one after) path c.in_ok-push_where.ensures.1),
+        subst (λ cs. Calls does old cs after) (sym (looks_more folder sites 0 found one))
+            (call_more does old files after (looks_from folder sites 0 found) (LookedFor (file_path folder (name_at sites (0 + length found))) one) before.1
+            (subst (λ p. does files (LookedFor p one) after) path c.in_ok-push_where.ensures.1)),
         length-append found (one ∷ []) ∙ ap (λ (n : ℕ). n + 1) before.2,
         others ++ more,
         subst (λ names. AllZip IsExists names (others ++ more)) (sym (existing_more sites 0 found one))

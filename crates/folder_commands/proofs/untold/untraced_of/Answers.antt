@@ -2,8 +2,8 @@ use Rattle.std.proofs.Common.{sym, ◌∙◌}
 use Rattle.folder_commands.proofs.UntoldLemmas.{read_untraced, read_utf8}
 use Rattle.folder_commands.proofs.untold.untraced_of.Goals as goal
 
-pub returns-in-Err-Doc : goal.returns-in-Err-Doc
-returns-in-Err-Doc c = λ doc read.
+pub returns-in-Err-Doc-clause-found : goal.returns-in-Err-Doc-clause-found
+returns-in-Err-Doc-clause-found c = λ doc read.
     let there = read_untraced c.args.sites.now c.args.document.now doc read in
     let fails = rw c.in-Err-Doc.field-0-is at (c.in-Err-Doc.ensures.text (read_utf8 c.args.sites.now c.args.document.now doc read)) in
     let bad = sym there.1 ∙ fails in
