@@ -263,7 +263,7 @@ for ((n = 0; n < stops; n++)); do
     stop $((spent * n / stops)) start stopped plant "$tank"
     "$recall" audit stopped >out 2>err
     case "$?:$(cat out)$(cat err)" in
-    0:) old=$((old + 1)) ;;
+    '0:note: the records of the sites are consistent, and no recall was begun') old=$((old + 1)) ;;
     '0:open plant#1') ;;
     *) echo "audit after a stop: $(cat out err)" >&2; failed=1 ;;
     esac

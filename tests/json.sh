@@ -88,10 +88,26 @@ done
 
 tells 1 '{"refused":"BadEpc"}' '' start made plant 'a b'
 tells 1 '{"refused":"UnknownItem"}' '' start made shop-1 x
+tells 0 '{"messages":2,"new":4,"would":"recall"}' '{"note":"note: nothing was begun; this is of the site alone, and `recall trace` tells what a recall would find at all sites"}' start made plant "$tank" --dry-run
+for words in "" --brief --back "--back --brief"; do
+    # shellcheck disable=SC2086
+    "$recall" trace --json made plant "$tank" $words >out 2>err || complain "a trace: $(cat out err)"
+    is_json out && is_json err || complain "no JSON: $(cat out err)"
+done
+tells 1 '{"refused":"UnknownItem"}' '' trace made shop-1 x
+tells 0 '{"events":2,"item":"sgtin 09521321000117 tank-7","site":"plant"}' '' items made plant tank
+tells 0 '' '' status made
 "$recall" start --json made plant "$tank" >out 2>err || complain "a start: $(cat out err)"
 is_json out && is_json err || complain "no JSON: $(cat out err)"
 [ "$(sed -E 's/"(messages|new)":[0-9]+/"\1":n/g' out)" = '{"ended":false,"messages":n,"new":n,"recall":"plant#1"}' ] || complain "a start: $(cat out)"
 tells 0 '{"audit":"open","recall":"plant#1"}' '' audit made
+open='{"ended":false,"quarantined":4,"recall":"plant#1","root":{"item":"sgtin 09521321000117 tank-7","site":"plant"},"waiting":2}'
+goes_on='{"note":"note: `recall run` goes on with what is open"}'
+tells 0 "$open" "$goes_on" status made
+tells 5 "$open" "$goes_on" status made --exit-code
+"$recall" status --json made 'plant#1' >out 2>err || complain "how a recall stands: $(cat out err)"
+is_json out && is_json err || complain "no JSON: $(cat out err)"
+tells 1 '{"refused":"UnknownRecall"}' '' status made 'plant#9'
 cp -r made before
 for ((n = 0; n < 20; n++)); do
     "$recall" run --json made >out 2>err || complain "a run: $(cat out err)"

@@ -17,7 +17,7 @@ use Rattle.command_line.specs.declared.command_lines.Asked.{Asked}
 use Rattle.command_line.specs.declared.command_lines.Asked.TheVariants as asked
 use Rattle.command_line.specs.declared.command_lines.Batch.{Batch}
 use Rattle.command_line.specs.declared.command_lines.FileCommand.{FileCommand}
-use Rattle.command_line.specs.declared.command_lines.FileCommand.TheVariants.{Init, Capture, Start, Run, Report, Audit}
+use Rattle.command_line.specs.declared.command_lines.FileCommand.TheVariants.{Init, Capture, Start, Run, Report, Audit, Trace, Recalls, Recall, Items}
 use Rattle.command_line.specs.CommandLines.{recall, faults_of, named, AsksBatch, AsksSim, AsksFiles, AsksHelp, AsksNamed, IsBad, IsCapture, IsCommand, IsSet, AsksFor, IsToldAs}
 use mathlib.Core.Logic.{◌⊎◌}
 
@@ -47,10 +47,14 @@ help_faults name = refl
 sim_is_no_command : (command : FileCommand) (rows : List Row) → IsCommand command (codes "sim") rows → ⊥
 sim_is_no_command (Init folder list) rows is = let bad = is.0 in cc
 sim_is_no_command (Capture folder site file) rows is = let bad = is.0 in cc
-sim_is_no_command (Start folder site item) rows is = let bad = is.0 in cc
+sim_is_no_command (Start folder site item dry) rows is = let bad = is.0 in cc
 sim_is_no_command (Run folder turns) rows is = let bad : ◌≡◌ {A = ℕ} 115 114 = ap (λ (text : List ℕ). get_or text 0 0) is.0 in absurd (omega arith)
-sim_is_no_command (Report folder recall) rows is = let bad = is.0 in cc
+sim_is_no_command (Report folder recall ways) rows is = let bad = is.0 in cc
 sim_is_no_command (Audit folder) rows is = let bad = is.0 in cc
+sim_is_no_command (Trace folder site item back ways) rows is = let bad = is.0 in cc
+sim_is_no_command (Recalls folder coded) rows is = let bad = is.0 in cc
+sim_is_no_command (Recall folder recall coded) rows is = let bad = is.0 in cc
+sim_is_no_command (Items folder site text) rows is = let bad = is.0 in cc
 
 module _ (words : List (List ℕ)) (name : List ℕ) where
   pub sim_is_no_help : AsksHelp words → words ≡ name ∷ codes "sim" ∷ [] → ⊥

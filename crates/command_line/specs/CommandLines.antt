@@ -1,5 +1,5 @@
 -- What the words of a command line ask for, as `clap` reads them.
-use Rattle.std.specs.Prelude.{◌≡◌, ◌≢◌, ◌≤◌, ◌↔◌, ⊤, ℕ, Bool, true, false, IsTrue, List, [], ◌∷◌, Option, Some, codes, length, map, string_bytes}
+use Rattle.std.specs.Prelude.{◌≡◌, ◌≢◌, ◌≤◌, ◌↔◌, ⊤, ℕ, Bool, true, false, IsTrue, List, [], ◌∷◌, Option, Some, None, codes, length, map, string_bytes, unwrap_or}
 use mathlib.Core.Logic.{◌⊎◌}
 use Rattle.std.specs.Global.{Global}
 use Rattle.std.specs.declared.string.String.{String}
@@ -11,11 +11,13 @@ use Rattle.clap.specs.declared.error.ErrorKind.{ErrorKind}
 use Rattle.clap.specs.declared.error.ErrorKind.TheVariants.{DisplayHelp, OutOfMemory}
 use Rattle.recall_outcomes.specs.declared.outcomes.Form.{Form}
 use Rattle.recall_outcomes.specs.declared.outcomes.Form.TheVariants as forms
+use Rattle.recall_outcomes.specs.declared.outcomes.Ways.{Ways}
+use Rattle.recall_outcomes.specs.declared.outcomes.Ways.TheVariants.{Trails, Steps}
 use Rattle.command_line.specs.declared.command_lines.Asked.{Asked}
 use Rattle.command_line.specs.declared.command_lines.Asked.TheVariants as asked
 use Rattle.command_line.specs.declared.command_lines.Batch.{Batch}
 use Rattle.command_line.specs.declared.command_lines.FileCommand.{FileCommand}
-use Rattle.command_line.specs.declared.command_lines.FileCommand.TheVariants.{Init, Capture, Start, Run, Report, Audit}
+use Rattle.command_line.specs.declared.command_lines.FileCommand.TheVariants.{Init, Capture, Start, Run, Report, Audit, Trace, Recalls, Recall, Items}
 
 -- the paths of a batch's files
 abbrev pub paths_of : Batch → List (List ℕ)
@@ -34,12 +36,13 @@ required name = record (new_rule name) { required = true }
 abbrev pub folder : Rule
 folder = record (required (codes "dir")) { parser = Some NonEmptyString }
 
--- `--json`
-abbrev pub json : Rule
-json = record (new_rule (codes "json")) { long = Some (codes "json"); action = Some SetTrue }
+-- `--name`, which has no value
+abbrev pub flag : Text → Rule
+flag name = record (new_rule name) { long = Some name; action = Some SetTrue }
 
+-- each can be asked to print JSON
 abbrev pub on_folder : Text → App
-on_folder name = with_rule (with_rule (new_app name) folder) json
+on_folder name = with_rule (with_rule (new_app name) folder) (flag (codes "json"))
 
 abbrev pub sim : App
 sim = new_app (codes "sim")
@@ -51,15 +54,11 @@ init = with_rule (on_folder (codes "init")) (required (codes "sites"))
 abbrev pub files : Rule
 files = record (required (codes "file")) { action = Some Append }
 
--- `--lines`
-abbrev pub lines : Rule
-lines = record (new_rule (codes "lines")) { long = Some (codes "lines"); action = Some SetTrue }
-
 abbrev pub capture : App
-capture = with_rule (with_rule (with_rule (on_folder (codes "capture")) (required (codes "site"))) files) lines
+capture = with_rule (with_rule (with_rule (on_folder (codes "capture")) (required (codes "site"))) files) (flag (codes "lines"))
 
 abbrev pub start : App
-start = with_rule (with_rule (on_folder (codes "start")) (required (codes "site"))) (required (codes "epc"))
+start = with_rule (with_rule (with_rule (on_folder (codes "start")) (required (codes "site"))) (required (codes "epc"))) (flag (codes "dry-run"))
 
 -- `--turns n`: a number from 1 to 1,000,000, or 2,000 where it isn't there
 abbrev pub turns : Rule
@@ -75,10 +74,22 @@ abbrev pub run : App
 run = with_rule (on_folder (codes "run")) turns
 
 abbrev pub report : App
-report = with_rule (on_folder (codes "report")) (required (codes "recall"))
+report = with_rule (with_rule (on_folder (codes "report")) (required (codes "recall"))) (flag (codes "brief"))
 
 abbrev pub audit : App
 audit = on_folder (codes "audit")
+
+abbrev pub trace : App
+trace =
+    with_rule (with_rule (with_rule (with_rule (on_folder (codes "trace")) (required (codes "site"))) (required (codes "epc"))) (flag (codes "back"))) (flag (codes "brief"))
+
+-- the recall may be left out
+abbrev pub status : App
+status = with_rule (with_rule (on_folder (codes "status")) (new_rule (codes "recall"))) (flag (codes "exit-code"))
+
+-- the text may be left out
+abbrev pub items : App
+items = with_rule (with_rule (on_folder (codes "items")) (required (codes "site"))) (new_rule (codes "text"))
 
 -- `recall` itself, which has to have one of them
 abbrev pub needing : App → App
@@ -88,8 +99,11 @@ abbrev pub with_command : App → App → App
 with_command above below = with_subcommand above below.top
 
 abbrev pub recall : App
-recall =
-    with_command (with_command (with_command (with_command (with_command (with_command (with_command (needing (new_app (codes "recall"))) sim) init) capture) start) run) report) audit
+recall = with_command (with_command (with_command changing trace) status) items where
+  -- those that came first
+  changing : App
+  changing =
+      with_command (with_command (with_command (with_command (with_command (with_command (with_command (needing (new_app (codes "recall"))) sim) init) capture) start) run) report) audit
 
 -- ---- what words ask for
 
@@ -113,6 +127,15 @@ GivesNumber rows name n = (text : Text) × (one_of name rows ≡ Some text) × (
 abbrev pub IsSet : List Row → Text → Type 0
 IsSet rows name = Gives rows name (codes "true")
 
+-- the argument of this name, or the empty text where it is left out
+abbrev pub GivesOrNone : List Row → Text → Text → Type 0
+GivesOrNone rows name value = value ≡ unwrap_or (first_of name rows) []
+
+-- how it is told how each pair is reached
+abbrev pub GivesWays : List Row → Ways → Type 0
+GivesWays rows Steps = IsSet rows (codes "brief")
+GivesWays rows Trails = IsSet rows (codes "brief") → ⊥
+
 -- what the command comes to is printed in this form
 abbrev pub GivesForm : List Row → Form → Type 0
 GivesForm rows forms.Json = IsSet rows (codes "json")
@@ -127,12 +150,23 @@ abbrev pub IsCommand : FileCommand → Text → List Row → Type 0
 IsCommand (Init folder list) name rows = (name ≡ codes "init") × Gives rows (codes "dir") folder.now × Gives rows (codes "sites") list.now
 IsCommand (Capture folder site file) name rows =
     (name ≡ codes "capture") × Gives rows (codes "dir") folder.now × Gives rows (codes "site") site.now × GivesFiles rows (file.now ∷ []) false
-IsCommand (Start folder site item) name rows =
+IsCommand (Start folder site item dry) name rows =
     (name ≡ codes "start") × Gives rows (codes "dir") folder.now × Gives rows (codes "site") site.now × Gives rows (codes "epc") item.now
+    × (IsTrue dry ↔ IsSet rows (codes "dry-run"))
 IsCommand (Run folder turns) name rows =
     (name ≡ codes "run") × Gives rows (codes "dir") folder.now × GivesNumber rows (codes "turns") turns × (1 ≤ turns) × (turns ≤ 1000000)
-IsCommand (Report folder recall) name rows = (name ≡ codes "report") × Gives rows (codes "dir") folder.now × Gives rows (codes "recall") recall.now
+IsCommand (Report folder recall ways) name rows =
+    (name ≡ codes "report") × Gives rows (codes "dir") folder.now × Gives rows (codes "recall") recall.now × GivesWays rows ways
 IsCommand (Audit folder) name rows = (name ≡ codes "audit") × Gives rows (codes "dir") folder.now
+IsCommand (Trace folder site item back ways) name rows =
+    (name ≡ codes "trace") × Gives rows (codes "dir") folder.now × Gives rows (codes "site") site.now × Gives rows (codes "epc") item.now
+    × (IsTrue back ↔ IsSet rows (codes "back")) × GivesWays rows ways
+IsCommand (Recalls folder coded) name rows =
+    (name ≡ codes "status") × Gives rows (codes "dir") folder.now × (first_of (codes "recall") rows ≡ None) × (IsTrue coded ↔ IsSet rows (codes "exit-code"))
+IsCommand (Recall folder recall coded) name rows =
+    (name ≡ codes "status") × Gives rows (codes "dir") folder.now × Gives rows (codes "recall") recall.now × (IsTrue coded ↔ IsSet rows (codes "exit-code"))
+IsCommand (Items folder site text) name rows =
+    (name ≡ codes "items") × Gives rows (codes "dir") folder.now × Gives rows (codes "site") site.now × GivesOrNone rows (codes "text") text.now
 
 -- Several documents are captured: those of several files, or of the lines of some. One file that is one document is none.
 pub record IsBatch (batch : Batch) (rows : List Row) : Type 0 where

@@ -6,6 +6,7 @@ use Rattle.std.specs.Io.KnownBytes.{Appends, Keeps}
 use Rattle.script_core.specs.Runs.{IsDone, Leaves}
 use Rattle.recall_outcomes.specs.Faults.{fault_line}
 use Rattle.recall_outcomes.specs.Notes.{untraced_text}
+use Rattle.recall_outcomes.specs.Advice.{advice}
 use Rattle.recall_outcomes.specs.Printing.{bare_line, fault_lines, note_lines, outcome_lines}
 use Rattle.recall_outcomes.specs.Sentences.{outcome_sentences}
 use Rattle.recall_outcomes.specs.Statuses.{outcome_status}
@@ -96,13 +97,20 @@ abbrev pub TellsNotes : Form → Option (String Global) → Option (List ℕ) �
 TellsNotes form None errors errors_after = Keeps errors errors_after
 TellsNotes form (Some notes) errors errors_after = AppendsBeginning errors errors_after (note_lines form (string_bytes notes))
 
--- the outcome was printed, then what a refusal means, then the notes; the status is the outcome's
+-- so does what is advised after an outcome, if anything
+abbrev pub Advises : Form → Option (List ℕ) → Option (List ℕ) → Option (List ℕ) → Type 0
+Advises form None errors errors_after = Keeps errors errors_after
+Advises form (Some text) errors errors_after = AppendsBeginning errors errors_after (note_lines form text)
+
+-- the outcome was printed, then what a refusal means, then the notes, and then what is advised; the status is the outcome's
 pub record OutputTold (form : Form) (told : Output) (before after : Printed) (status : ℕ) : Type 0 where
   pub status_is : status ≡ outcome_status told.outcome
   pub printed : Appends before.output after.output (outcome_lines form told.sites told.outcome)
-  pub mid : Option (List ℕ)
-  pub explained : Explains form told.outcome before.errors mid
-  pub noted : TellsNotes form told.notes mid after.errors
+  pub meant : Option (List ℕ)
+  pub explained : Explains form told.outcome before.errors meant
+  pub noted_there : Option (List ℕ)
+  pub noted : TellsNotes form told.notes meant noted_there
+  pub advised : Advises form (advice told.outcome) noted_there after.errors
 
 module _ {F : Type 0} (fails : F → Option Failure → Type 0) (form : Form) (files : F) where
   -- an output was printed; or printing failed, or memory ran out for it: status 3, and that fault

@@ -1,21 +1,26 @@
 -- Which calls of the files lead to the answer of a command. What a keeper shows is stated by its kind, and what the files know
 -- of the sites by them.
-use Rattle.std.specs.Prelude.{ℕ, List, Option}
+use Rattle.std.specs.Prelude.{ℕ, true, false, List, Option}
 use Rattle.site_core.specs.Records.{Record}
-use Rattle.folder_commands.specs.Calls.{AuditsAt, CapturesAt, ReportsAt, StartsAt}
+use Rattle.folder_commands.specs.Calls.{AuditsAt, CapturesAt, DryStartsAt, ItemsAt, RecallsStandAt, RecallStandsAt, ReportsAt, StartsAt, TracesAt}
 use Rattle.folder_commands.specs.FileCalls.{FileCall}
 use Rattle.folder_commands.specs.Making.{InitsAt}
 use Rattle.folder_commands.specs.Runs.{RunsAt}
 use Rattle.folder_commands.specs.declared.outputs.Output.{Output}
 use Rattle.command_line.specs.declared.command_lines.FileCommand.{FileCommand}
-use Rattle.command_line.specs.declared.command_lines.FileCommand.TheVariants.{Init, Capture, Start, Run, Report, Audit}
+use Rattle.command_line.specs.declared.command_lines.FileCommand.TheVariants.{Init, Capture, Start, Run, Report, Audit, Trace, Recalls, Recall, Items}
 
 module _ {K : Type 0} (knows : List ℕ → List ℕ → Type 0) (shown : K → Option Record) (failed : K → ℕ) (stored : K → Type 0) where
   -- the calls of the command, which lead to this output; only a capture and a run have notes
   abbrev pub LeadsTo : FileCommand → Output → List (FileCall K) → Type 0
   LeadsTo (Init folder list) output calls = InitsAt folder.now list.now output calls
   LeadsTo (Capture folder site file) output calls = CapturesAt shown stored folder.now site.now file.now output calls
-  LeadsTo (Start folder site item) output calls = StartsAt shown stored folder.now site.now item.now output calls
+  LeadsTo (Start folder site item false) output calls = StartsAt shown stored folder.now site.now item.now output calls
+  LeadsTo (Start folder site item true) output calls = DryStartsAt shown stored folder.now site.now item.now output calls
   LeadsTo (Run folder turns) output calls = RunsAt knows shown failed stored folder.now turns output calls
-  LeadsTo (Report folder recall) output calls = ReportsAt shown stored folder.now recall.now output calls
+  LeadsTo (Report folder recall ways) output calls = ReportsAt shown stored folder.now recall.now ways output calls
   LeadsTo (Audit folder) output calls = AuditsAt shown stored folder.now output calls
+  LeadsTo (Trace folder site item back ways) output calls = TracesAt shown stored folder.now site.now item.now back ways output calls
+  LeadsTo (Recalls folder coded) output calls = RecallsStandAt shown stored folder.now coded output calls
+  LeadsTo (Recall folder recall coded) output calls = RecallStandsAt shown stored folder.now recall.now coded output calls
+  LeadsTo (Items folder site text) output calls = ItemsAt shown stored folder.now site.now text.now output calls

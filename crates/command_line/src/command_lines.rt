@@ -1,14 +1,14 @@
 //! What the words of a command line ask for.
 
 ghost use Rattle.std.specs.Prelude.{◌≡◌, ◌↔◌, false, IfOk, IfSome, IsTrue, codes, length};
-ghost use Rattle.clap.specs.Words.{app_of, found_of, kind_of, rows_of, rule_of, subcommand_rows_of};
-ghost use Rattle.command_line.specs.CommandLines.{audit, capture, files, folder, init, json, lines, on_folder, recall, report, required, run, sim, start, texts_of, turns, AsksFor, AsksNamed, Gives, GivesForm, GivesNumber, IsCapture, IsCommand, IsSet, IsToldAs};
+ghost use Rattle.clap.specs.Words.{app_of, found_of, kind_of, new_rule, rows_of, rule_of, subcommand_rows_of};
+ghost use Rattle.command_line.specs.CommandLines.{audit, capture, files, flag, folder, init, items, on_folder, recall, report, required, run, sim, start, status, texts_of, trace, turns, AsksFor, AsksNamed, Gives, GivesForm, GivesNumber, GivesOrNone, GivesWays, IsCapture, IsCommand, IsSet, IsToldAs};
 
 use crate::helps;
 use clap::builder::ValueParser;
 use clap::error::ErrorKind;
 use clap::{Arg, ArgAction, ArgMatches, Command, Error, value_parser};
-use recall_outcomes::Form;
+use recall_outcomes::{Form, Ways};
 use std::alloc::{AllocError, Global};
 
 /// What a command line asks for.
@@ -52,11 +52,12 @@ pub(crate) enum FileCommand<'a> {
         site: &'a str,
         file: &'a str,
     },
-    /// A recall of an item is started at a site.
+    /// A recall of an item is started at a site, or it is asked what its start would do.
     Start {
         folder: &'a str,
         site: &'a str,
         item: &'a str,
+        dry: bool,
     },
     /// All sites run, for so many turns: 1 to 1,000,000.
     Run {
@@ -67,6 +68,32 @@ pub(crate) enum FileCommand<'a> {
     Report {
         folder: &'a str,
         recall: &'a str,
+        ways: Ways,
+    },
+    /// An item at a site is traced to where it went, or back to where it came from.
+    Trace {
+        folder: &'a str,
+        site: &'a str,
+        item: &'a str,
+        back: bool,
+        ways: Ways,
+    },
+    /// It is asked how all recalls stand, and perhaps for a status that tells that one is open.
+    Recalls {
+        folder: &'a str,
+        coded: bool,
+    },
+    /// It is asked how one recall stands.
+    Recall {
+        folder: &'a str,
+        recall: &'a str,
+        coded: bool,
+    },
+    /// A site is asked for the items that it knows, of which the key contains a text.
+    Items {
+        folder: &'a str,
+        site: &'a str,
+        text: &'a str,
     },
     /// All sites are audited.
     Audit {
@@ -176,9 +203,16 @@ fn file_command<'a>(name: &str, given: &ArgMatches<'a>) -> Option<FileCommand<'a
         all_sites_command(folder, given)
     } else if name == "report" {
         let recall = argument(given, "recall")?;
-        Some(FileCommand::Report { folder, recall })
+        let ways = ways_of(given);
+        Some(FileCommand::Report {
+            folder,
+            recall,
+            ways,
+        })
     } else if name == "audit" {
         Some(FileCommand::Audit { folder })
+    } else if name == "status" {
+        Some(status_command(folder, given))
     } else {
         site_command(name, folder, given)
     }
@@ -205,9 +239,65 @@ fn site_command<'a>(name: &str, folder: &'a str, given: &ArgMatches<'a>) -> Opti
     let site = argument(given, "site")?;
     if name == "start" {
         let item = argument(given, "epc")?;
-        Some(FileCommand::Start { folder, site, item })
+        let dry = is_set(given, "dry-run");
+        Some(FileCommand::Start {
+            folder,
+            site,
+            item,
+            dry,
+        })
+    } else if name == "trace" {
+        let item = argument(given, "epc")?;
+        let (back, ways) = (is_set(given, "back"), ways_of(given));
+        Some(FileCommand::Trace {
+            folder,
+            site,
+            item,
+            back,
+            ways,
+        })
+    } else if name == "items" {
+        let text = text_of(given);
+        Some(FileCommand::Items { folder, site, text })
     } else {
         None
+    }
+}
+
+/// The command that asks how recalls stand: the one that is named, or all.
+fn status_command<'a>(folder: &'a str, given: &ArgMatches<'a>) -> FileCommand<'a>
+    requires { Gives (rows_of (found_of given.now)) (codes "dir") folder.now }
+    ensures { IsCommand result (codes "status") (rows_of (found_of given.now)) }
+{
+    let coded = is_set(given, "exit-code");
+    match given.get_str("recall") {
+        Some(recall) => FileCommand::Recall {
+            folder,
+            recall,
+            coded,
+        },
+        None => FileCommand::Recalls { folder, coded },
+    }
+}
+
+/// The text that the keys of items are to contain, which is empty where none is given.
+fn text_of<'a>(given: &ArgMatches<'a>) -> &'a str
+    ensures { GivesOrNone (rows_of (found_of given.now)) (codes "text") result.now }
+{
+    match given.get_str("text") {
+        Some(text) => text,
+        None => "",
+    }
+}
+
+/// How it is told how each pair is reached.
+fn ways_of(given: &ArgMatches<'_>) -> Ways
+    ensures { GivesWays (rows_of (found_of given.now)) result }
+{
+    if is_set(given, "brief") {
+        Ways::Steps
+    } else {
+        Ways::Trails
     }
 }
 
@@ -241,7 +331,10 @@ fn recall<'a>(alloc: Global) -> Result<Command<'a>, AllocError>
         .subcommand(start(alloc)?)?
         .subcommand(run(alloc)?)?
         .subcommand(report(alloc)?)?
-        .subcommand(audit(alloc)?)
+        .subcommand(audit(alloc)?)?
+        .subcommand(trace(alloc)?)?
+        .subcommand(status(alloc)?)?
+        .subcommand(items(alloc)?)
 }
 
 /// An argument that has to be there.
@@ -280,13 +373,41 @@ fn on_folder<'a>(
 
 /// Whether what it comes to is printed as JSON.
 fn json<'a>(alloc: Global) -> Arg<'a>
-    ensures rule { rule_of result ≡ json }
+    ensures rule { rule_of result ≡ flag (codes "json") }
     ensures local { result.global ≡ false }
 {
-    Arg::new(alloc, "json")
-        .long("json")
+    flag(alloc, "json", "Print JSON, an object a line")
+}
+
+/// An option without a value.
+fn flag<'a>(alloc: Global, name: &'a str, help: &'a str) -> Arg<'a>
+    ensures rule { rule_of result ≡ flag name.entry.now }
+    ensures local { result.global ≡ false }
+{
+    Arg::new(alloc, name)
+        .long(name)
         .action(ArgAction::SetTrue)
-        .help("Print JSON, an object a line")
+        .help(help)
+}
+
+/// An argument that may be left out.
+fn optional<'a>(alloc: Global, name: &'a str, help: &'a str) -> Arg<'a>
+    ensures rule { rule_of result ≡ new_rule name.entry.now }
+    ensures local { result.global ≡ false }
+{
+    Arg::new(alloc, name).help(help)
+}
+
+/// Whether a pair is told with the pair beside it on its trail, in place of all of it.
+fn brief<'a>(alloc: Global) -> Arg<'a>
+    ensures rule { rule_of result ≡ flag (codes "brief") }
+    ensures local { result.global ≡ false }
+{
+    flag(
+        alloc,
+        "brief",
+        "Tell of each pair the step beside it, not its whole trail",
+    )
 }
 
 fn sim<'a>(alloc: Global) -> Command<'a>
@@ -336,13 +457,10 @@ fn files<'a>(alloc: Global) -> Arg<'a>
 
 /// Whether each line is a document.
 fn lines<'a>(alloc: Global) -> Arg<'a>
-    ensures rule { rule_of result ≡ lines }
+    ensures rule { rule_of result ≡ flag (codes "lines") }
     ensures local { result.global ≡ false }
 {
-    Arg::new(alloc, "lines")
-        .long("lines")
-        .action(ArgAction::SetTrue)
-        .help("Each line of a file is a document")
+    flag(alloc, "lines", "Each line of a file is a document")
 }
 
 fn start<'a>(alloc: Global) -> Result<Command<'a>, AllocError>
@@ -350,7 +468,12 @@ fn start<'a>(alloc: Global) -> Result<Command<'a>, AllocError>
 {
     on_folder(alloc, "start", helps::START_ABOUT, helps::START_EXAMPLE)?
         .arg(required(alloc, "site", "The site that starts it"))?
-        .arg(required(alloc, "epc", "The EPC of the item"))
+        .arg(required(alloc, "epc", "The EPC of the item"))?
+        .arg(flag(
+            alloc,
+            "dry-run",
+            "Tell what the start would do, and do nothing",
+        ))
 }
 
 fn run<'a>(alloc: Global) -> Result<Command<'a>, AllocError>
@@ -375,17 +498,53 @@ fn turns<'a>(alloc: Global) -> Arg<'a>
 fn report<'a>(alloc: Global) -> Result<Command<'a>, AllocError>
     ensures { IfOk result (λ command. app_of command ≡ report) }
 {
-    on_folder(alloc, "report", helps::REPORT_ABOUT, helps::REPORT_EXAMPLE)?.arg(required(
-        alloc,
-        "recall",
-        "The recall, as dairy#1",
-    ))
+    on_folder(alloc, "report", helps::REPORT_ABOUT, helps::REPORT_EXAMPLE)?
+        .arg(required(alloc, "recall", "The recall, as dairy#1"))?
+        .arg(brief(alloc))
 }
 
 fn audit<'a>(alloc: Global) -> Result<Command<'a>, AllocError>
     ensures { IfOk result (λ command. app_of command ≡ audit) }
 {
     on_folder(alloc, "audit", helps::AUDIT_ABOUT, helps::AUDIT_EXAMPLE)
+}
+
+fn trace<'a>(alloc: Global) -> Result<Command<'a>, AllocError>
+    ensures { IfOk result (λ command. app_of command ≡ trace) }
+{
+    on_folder(alloc, "trace", helps::TRACE_ABOUT, helps::TRACE_EXAMPLE)?
+        .arg(required(alloc, "site", "The site that has the item"))?
+        .arg(required(alloc, "epc", "The EPC of the item"))?
+        .arg(flag(alloc, "back", "Trace where it came from, not where it went"))?
+        .arg(brief(alloc))
+}
+
+fn status<'a>(alloc: Global) -> Result<Command<'a>, AllocError>
+    ensures { IfOk result (λ command. app_of command ≡ status) }
+{
+    on_folder(alloc, "status", helps::STATUS_ABOUT, helps::STATUS_EXAMPLE)?
+        .arg(optional(
+            alloc,
+            "recall",
+            "The recall, as dairy#1; all of them where it is left out",
+        ))?
+        .arg(flag(
+            alloc,
+            "exit-code",
+            "End with status 5 while a recall is open",
+        ))
+}
+
+fn items<'a>(alloc: Global) -> Result<Command<'a>, AllocError>
+    ensures { IfOk result (λ command. app_of command ≡ items) }
+{
+    on_folder(alloc, "items", helps::ITEMS_ABOUT, helps::ITEMS_EXAMPLE)?
+        .arg(required(alloc, "site", "The site"))?
+        .arg(optional(
+            alloc,
+            "text",
+            "What an item contains as it is printed, as the end of its serial",
+        ))
 }
 
 /// What an error of `clap` is reported as. Help that was asked for is one of its errors.

@@ -1,12 +1,13 @@
 //! What each command does.
 
 ghost use Rattle.std.specs.Prelude.{◌≡◌, ◌==◌, if◌then◌else◌, IfOk};
+ghost use Rattle.recall_outcomes.specs.Advice.{advice};
 ghost use Rattle.recall_outcomes.specs.Faults.{fault_line};
 ghost use Rattle.recall_outcomes.specs.Notes.{untraced_text};
 ghost use Rattle.recall_outcomes.specs.Printing.{note_lines};
 ghost use Rattle.recall_text.specs.Writing.{AppendsBeginning};
 ghost use Rattle.command_line.specs.CommandLines.{HasTurns};
-ghost use Rattle.command_line.specs.Ends.{BatchEnds, Ends, Explains, HelpHelps, OutputEnds, RunsScript, SimRuns, TellsFault, TellsNotes, TellsWhatCame, TextEnds, printed_on, script_fault_line, streams};
+ghost use Rattle.command_line.specs.Ends.{Advises, BatchEnds, Ends, Explains, HelpHelps, OutputEnds, RunsScript, SimRuns, TellsFault, TellsNotes, TellsWhatCame, TextEnds, printed_on, script_fault_line, streams};
 ghost use Rattle.command_line.specs.Leads.{LeadsTo};
 ghost use Rattle.folder_commands.specs.FileCalls.{Led};
 
@@ -14,8 +15,8 @@ use crate::command_lines::{self, Asked, Batch, FileCommand};
 use crate::statuses;
 use event_json::Untraced;
 use folder_commands::{
-    Documents, Files, Output, audit_sites, capture, capture_documents, init, report_recall,
-    run_sites, start,
+    Documents, Files, Output, audit_sites, capture, capture_documents, dry_start, init,
+    items_of_site, recall_standing, recalls_standing, report_recall, run_sites, start, trace_item,
 };
 use keeper_core::SiteKeeper;
 use recall_outcomes::{Fault, Form, Outcome, note_lines, untraced_text};
@@ -31,7 +32,7 @@ use std::time::Clock;
 
 /// Does what the words of a command line ask for, and returns the status to end with: 0 done, 1
 /// something was refused, 2 bad command line, 3 a fault that isn't printed as `refused`, out of
-/// memory too, 4 an audit found a discrepancy.
+/// memory too, 4 an audit found a discrepancy, 5 a recall is open, where that was asked for.
 ///
 /// The words begin with the program's name. Answers, refusals and help go to `output`, faults and
 /// what is wrong with a command line to `errors`, and so do the notes of a run. What a command on the
@@ -150,9 +151,40 @@ fn on_files<
         FileCommand::Run { folder, turns } => run_sites(rt, alloc, files, gate, folder, *turns),
         FileCommand::Init { folder, list } => init(alloc, keys, files, folder, list),
         FileCommand::Capture { folder, site, file } => capture(alloc, files, folder, site, file),
-        FileCommand::Start { folder, site, item } => start(alloc, files, folder, site, item),
-        FileCommand::Report { folder, recall } => report_recall(alloc, files, folder, recall),
+        FileCommand::Start {
+            folder,
+            site,
+            item,
+            dry,
+        } => {
+            if *dry {
+                dry_start(alloc, files, folder, site, item)
+            } else {
+                start(alloc, files, folder, site, item)
+            }
+        }
+        FileCommand::Report {
+            folder,
+            recall,
+            ways,
+        } => report_recall(alloc, files, folder, recall, *ways),
         FileCommand::Audit { folder } => audit_sites(alloc, files, folder),
+        FileCommand::Trace {
+            folder,
+            site,
+            item,
+            back,
+            ways,
+        } => trace_item(alloc, files, folder, site, item, *back, *ways),
+        FileCommand::Recalls { folder, coded } => recalls_standing(alloc, files, folder, *coded),
+        FileCommand::Recall {
+            folder,
+            recall,
+            coded,
+        } => recall_standing(alloc, files, folder, recall, *coded),
+        FileCommand::Items { folder, site, text } => items_of_site(
+            alloc, files, folder, site, text,
+        ),
     }
 }
 
@@ -217,7 +249,7 @@ fn tell<K: SiteKeeper, F: Files<K>, W: Write, E: Write>(
     }
 }
 
-/// Prints an outcome, and behind it on the error stream what it means and its notes.
+/// Prints an outcome, and behind it on the error stream what it means, its notes and what is advised.
 fn tell_output<K: SiteKeeper, F: Files<K>, W: Write, E: Write>(
     alloc: Global,
     form: Form,
@@ -237,6 +269,7 @@ fn tell_output<K: SiteKeeper, F: Files<K>, W: Write, E: Write>(
         Ok(()) => {
             explain(alloc, form, &told.outcome, errors);
             note_some(alloc, form, &told.notes, errors);
+            advise(alloc, form, &told.outcome, errors);
             told.outcome.status()
         }
         Err(_) => fault(alloc, form, files, Fault::Write, errors),
@@ -263,6 +296,15 @@ fn note_some<E: Write>(alloc: Global, form: Form, notes: &Option<String>, errors
 {
     if let Some(notes) = notes {
         note(alloc, form, notes.as_str(), errors);
+    }
+}
+
+/// Tells what to do next or what should be known after an outcome, if anything, and if there is memory for it.
+fn advise<E: Write>(alloc: Global, form: Form, outcome: &Outcome, errors: &mut E)
+    ensures { Advises form (advice outcome.now) (E.contents errors.old) (E.contents errors.new) }
+{
+    if let Some(text) = outcome.advice() {
+        note(alloc, form, text, errors);
     }
 }
 

@@ -17,12 +17,19 @@ machine crashes. `run` is kept step by step, and a crash in `init` may leave som
   recall report chain dairy#1                    what is quarantined, how it came there, what left
   recall audit chain                             whether all is consistent; lists all recalls
 
+Questions that change nothing:
+
+  recall trace chain dairy <epc>                 where an item went, without a recall of it
+  recall trace chain dairy <epc> --back          where it came from
+  recall status chain                            how each recall stands, and what it waits for
+  recall items chain dairy 400                   the items of a site, found by a part of their text
+
 A list of sites has a line for each: `site <name> <address>..`, where an address is a destination of
 shipments that stands for the site. An item is an EPC, as urn:epc:id:sgtin:0614141.112345.400, a Digital
 Link or any other text without spaces. A recall is named by its site and its number there, as dairy#1.
 
 Status: 0 done, 1 something was refused, 2 bad command line, 3 a fault, named on the error stream,
-4 an audit found a discrepancy.
+4 an audit found a discrepancy, 5 a recall is open, where `status --exit-code` asks for it.
 
 `recall <command> --help` says more of a command, with an example.";
 
@@ -83,9 +90,11 @@ pub(crate) const START_ABOUT: &str = "Starts a recall of an item at a site that 
 pub(crate) const START_EXAMPLE: &str = "\
 The item and all that the site made from it are quarantined there. `recall <recall> new <items> messages
 <count> open` has the recall's name, how many items are quarantined, and how many messages wait for other
-sites; `ended` stands in place of `open` where there are none. A start can't be undone.
+sites; `ended` stands in place of `open` where there are none. A start can't be undone, and a quarantine
+is never lifted: `recall trace` tells what it would find, and `--dry-run` what it would do at the site.
 
-Example:
+Examples:
+  recall start chain dairy urn:epc:id:sgtin:0614141.112345.400 --dry-run
   recall start chain dairy urn:epc:id:sgtin:0614141.112345.400
 
 Status: 0 done, 1 refused, 3 a fault.";
@@ -107,11 +116,13 @@ pub(crate) const REPORT_ABOUT: &str =
     "Reports a recall: what is quarantined, how it came there, what left the sites";
 
 pub(crate) const REPORT_EXAMPLE: &str = "\
-A recall is named by its site and its number there, as dairy#1; `recall audit` lists all recalls. Behind
-each quarantined item stand the steps that lead to it from the recalled one.
+A recall is named by its site and its number there, as dairy#1; `recall status` lists all recalls. Behind
+each quarantined item stand the steps that lead to it from the recalled one; with `--brief` it has the last
+step alone, in its own line.
 
-Example:
+Examples:
   recall report chain dairy#1
+  recall report chain dairy#1 --brief
 
 Status: 0 done, 1 refused (UnknownRecall: the site began none of this number), 3 a fault.";
 
@@ -127,3 +138,49 @@ Example:
   recall audit chain
 
 Status: 0 done, 3 a fault, 4 a misfit or a difference.";
+
+pub(crate) const TRACE_ABOUT: &str =
+    "Traces an item to where it went, or with `--back` to where it came from, without a recall";
+
+pub(crate) const TRACE_EXAMPLE: &str = "\
+Prints `pair <site> <item>` for each item at a site that was made from the one asked for or shipped on, with
+the steps that lead to it, `outside` for each shipment of them that left the traced sites, and a total. With
+`--back`: each item at a site that went into the one asked for, the steps from it, and `origin` for those
+that come from nowhere among the traced sites. With `--brief` each has one step, in its own line. Nothing is
+recalled, and no file is changed.
+
+Examples:
+  recall trace chain dairy urn:epc:id:sgtin:0614141.112345.400
+  recall trace chain shop https://id.gs1.org/01/09521321000179/21/1 --back --brief
+
+Status: 0 done, 1 refused (UnknownItem: no event of the site names the item), 3 a fault.";
+
+pub(crate) const STATUS_ABOUT: &str =
+    "Tells how each recall stands; of one recall, which site owes what";
+
+pub(crate) const STATUS_EXAMPLE: &str = "\
+Prints for each recall `<recall> open` or `<recall> ended`, its root, how many items at sites are
+quarantined, and how many messages wait. Of one recall also `site` for each site that holds an item of it,
+waits or is engaged, and `waiting` for each message: `untold` where its site hasn't taken it yet, and `told`
+where its signal is outstanding. An open recall goes on in the next `recall run`.
+
+Examples:
+  recall status chain
+  recall status chain dairy#1
+  until recall status chain --exit-code; do recall run chain; done
+
+Status: 0 done, 1 refused (UnknownRecall: the site began none of this number), 3 a fault, and with
+`--exit-code` 5 while a recall that is told of is open.";
+
+pub(crate) const ITEMS_ABOUT: &str =
+    "Lists the items that a site knows, found by a part of their text";
+
+pub(crate) const ITEMS_EXAMPLE: &str = "\
+Prints `item <site> <item> events <count>` for each item that contains the text as it is printed: an end of a
+serial number finds it. The count is of the events that name it. Without a text all items are listed.
+
+Examples:
+  recall items chain dairy 400
+  recall items chain dairy 'sgtin 00614141123452'
+
+Status: 0 done, 1 refused (NoSite: the folder lists no such site), 3 a fault.";

@@ -3,12 +3,12 @@ ghost use Rattle.std.specs.Prelude.{◌≤◌};
 
 use crate::numbers::site;
 use folder_commands::{
-    Documents, Files, Output, audit_sites, capture, capture_documents, init, report_recall,
-    run_sites, start,
+    Documents, Files, Output, audit_sites, capture, capture_documents, dry_start, init,
+    items_of_site, recall_standing, report_recall, run_sites, start, trace_item,
 };
 use frame_core::{Frame, MsgId};
 use keeper_core::{Keep, MemoryKeeper, SiteKeeper};
-use recall_outcomes::{Failure, Fault, Form, Outcome};
+use recall_outcomes::{Failure, Fault, Form, Outcome, Ways};
 use site_core::{SiteInput, SiteState};
 use site_threads::FreeGate;
 use std::alloc::{AllocError, Global};
@@ -163,6 +163,10 @@ enum Asked {
     Start(&'static str, &'static str),
     Report(&'static str),
     Audit(&'static str),
+    DryStart(&'static str),
+    Trace(&'static str, bool),
+    Status(&'static str),
+    Items(&'static str),
 }
 
 fn answer(
@@ -175,8 +179,12 @@ fn answer(
         Asked::Init(folder, list) => init(alloc, keys, files, folder, list),
         Asked::Capture(site, file) => capture(alloc, files, "d", site, file),
         Asked::Start(site, item) => start(alloc, files, "d", site, item),
-        Asked::Report(recall) => report_recall(alloc, files, "d", recall),
+        Asked::Report(recall) => report_recall(alloc, files, "d", recall, Ways::Trails),
         Asked::Audit(folder) => audit_sites(alloc, files, folder),
+        Asked::DryStart(item) => dry_start(alloc, files, "d", "A", item),
+        Asked::Trace(item, back) => { trace_item(alloc, files, "d", "A", item, back, Ways::Steps) }
+        Asked::Status(recall) => recall_standing(alloc, files, "d", recall, true),
+        Asked::Items(text) => items_of_site(alloc, files, "d", "A", text),
     }
 }
 
@@ -250,6 +258,18 @@ fn commands_are_answered(rt: HostRuntime) -> Result<(), Fail> {
             0,
             "captured 2 known 0 skipped 0\n",
         ),
+        (
+            Asked::Trace("x", false),
+            0,
+            "trace forward A uri x\npair A uri x\npair A uri y from A uri x\npair B uri y from A uri y\noutside A uri y z\ntotal 3 outside 1\n",
+        ),
+        (
+            Asked::Trace("y", true),
+            0,
+            "trace back A uri y\npair A uri x to A uri y\npair A uri y\norigin A uri x\ntotal 2 origins 1\n",
+        ),
+        (Asked::Trace("z", true), 1, "refused UnknownItem\n"),
+        (Asked::DryStart("x"), 0, "would recall new 2 messages 1\n"),
         (Asked::Start("A", "a b"), 1, "refused BadEpc\n"),
         (Asked::Start("B", "x"), 1, "refused UnknownItem\n"),
         (
@@ -258,6 +278,12 @@ fn commands_are_answered(rt: HostRuntime) -> Result<(), Fail> {
             "recall A#1 new 2 messages 1 open\n",
         ),
         (Asked::Audit("d"), 0, "open A#1\n"),
+        (
+            Asked::Status("A#1"),
+            5,
+            "A#1 open root uri x quarantined 2 waiting 1\nsite A quarantined 2 waiting 1\nwaiting A.1 to B uri y untold\n",
+        ),
+        (Asked::Items("y"), 0, "item A uri y events 2\ntotal 1\n"),
         (
             Asked::Report("A#1"),
             0,

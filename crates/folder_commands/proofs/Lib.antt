@@ -6,3 +6,4 @@ pub mod NoteLemmas
 pub mod RunLemmas
 pub mod StepLemmas
 pub mod UntoldLemmas
+pub mod DryStartLemmas

@@ -28,7 +28,13 @@ module _ (old : Record) (input : SiteInput) (may : Record → Type 0) where
   refusal_told why (Some new) outcomes.Created refuses is = absurd is
   refusal_told why (Some new) (outcomes.Stepped effects) refuses is = absurd is
   refusal_told why (Some new) (outcomes.Ran recalls) refuses is = absurd is
-  refusal_told why (Some new) (outcomes.Reported r report) refuses is = absurd is
+  refusal_told why (Some new) (outcomes.Reported r report ways) refuses is = absurd is
+  refusal_told why (Some new) (outcomes.Traced trace ways) refuses is = absurd is
+  refusal_told why (Some new) (outcomes.TracedBack trace ways) refuses is = absurd is
+  refusal_told why (Some new) (outcomes.Standing recalls coded) refuses is = absurd is
+  refusal_told why (Some new) (outcomes.Waiting detail coded) refuses is = absurd is
+  refusal_told why (Some new) (outcomes.Known site items) refuses is = absurd is
+  refusal_told why (Some new) (outcomes.WouldStart quarantined messages) refuses is = absurd is
   refusal_told why (Some new) (outcomes.Audited recalls) refuses is = absurd is
   refusal_told why (Some new) (outcomes.Inconsistent misfit) refuses is = absurd is
 

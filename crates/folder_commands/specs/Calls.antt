@@ -1,6 +1,6 @@
 -- Which calls of the files lead to what a command returns, in order. What a keeper shows, and what a crash leaves of it, is
 -- stated by its kind.
-use Rattle.std.specs.Prelude.{◌≡◌, ⊤, ◌≤◌, ◌+◌, ℕ, List, [], ◌∷◌, ◌++◌, length, map, Option, Some, None, Result, Ok, Err}
+use Rattle.std.specs.Prelude.{◌≡◌, ⊤, ◌≤◌, ◌+◌, ℕ, Bool, List, [], ◌∷◌, ◌++◌, length, map, Option, Some, None, Result, Ok, Err}
 use Rattle.std.specs.Global.{Global}
 use Rattle.std.specs.declared.string.String.{String}
 use Rattle.epc_core.specs.declared.items.EpcFault.{EpcFault}
@@ -8,6 +8,7 @@ use Rattle.epc_core.specs.Reading.{reading}
 use Rattle.event_json.specs.Sites.{Site, named}
 use Rattle.recall_outcomes.specs.declared.outcomes.CommandRefusal.TheVariants.{BadEpc, BadRecall}
 use Rattle.recall_outcomes.specs.declared.outcomes.Outcome.{Outcome}
+use Rattle.recall_outcomes.specs.declared.outcomes.Ways.{Ways}
 use Rattle.recall_text.specs.Numbers.{recall_of}
 use Rattle.recall_text.specs.SiteLists.{IsSiteList}
 use Rattle.recall_text.specs.Words.{name_at}
@@ -16,11 +17,15 @@ use Rattle.site_core.specs.Records.{Record}
 use Rattle.site_core.specs.declared.inputs.SiteInput.{SiteInput}
 use Rattle.site_core.specs.declared.inputs.SiteInput.TheVariants.{Capture, Start}
 use Rattle.folder_commands.specs.Audits.{AnswersAudit}
+use Rattle.folder_commands.specs.DryStarts.{AnswersDryStart}
 use Rattle.folder_commands.specs.FileCalls.{FileCall, ReadFile, OpenedSite, ClosedSite}
 use Rattle.folder_commands.specs.Folders.{file_path, list_path}
 use Rattle.folder_commands.specs.Refusals.{IsNoSite, IsRefusal}
 use Rattle.folder_commands.specs.Reports.{AnswersReport}
+use Rattle.folder_commands.specs.SiteItems.{AnswersItems}
+use Rattle.folder_commands.specs.Standings.{AnswersRecall, AnswersRecalls}
 use Rattle.folder_commands.specs.Steps.{AnswersStep}
+use Rattle.folder_commands.specs.Traces.{AnswersTrace}
 use Rattle.folder_commands.specs.Untold.{TellsUntraced}
 use Rattle.folder_commands.specs.declared.outputs.Output.{Output}
 
@@ -118,6 +123,14 @@ module _ {K : Type 0} (shown : K → Option Record) (stored : K → Type 0) (fol
     pub told : Tells records outcome
     pub calls_are : calls ≡ opens_from folder sites 0 keepers ++ closes_all keepers
 
+  -- the file of the site was opened, the outcome is what its record says, and it was closed
+  pub record TellsSite (site : ℕ) (Tells : Record → Outcome → Type 0) (outcome : Outcome) (calls : List (FileCall K)) : Type 0 where
+    pub keeper : K
+    pub r : Record
+    pub opened : KeepsSite shown stored sites site keeper r
+    pub told : Tells r outcome
+    pub calls_are : calls ≡ opens_site folder sites site keeper ∷ ClosedSite keeper ∷ []
+
   -- the document's file was read, and it was captured, or refused; it is told what of it isn't traced
   pub record CapturesFile (site : ℕ) (file : List ℕ) (outcome : Outcome) (notes : Option (String Global)) (calls : List (FileCall K)) : Type 0 where
     pub document : List ℕ
@@ -135,6 +148,14 @@ module _ {K : Type 0} (shown : K → Option Record) (stored : K → Type 0) (fol
   abbrev pub StartsItem : ℕ → Result (List ℕ) EpcFault → Outcome → List (FileCall K) → Type 0
   StartsItem site (Ok item) outcome calls = StepsAt site (Start item) outcome calls
   StartsItem site (Err fault) outcome calls = IsRefusal BadEpc outcome × (calls ≡ [])
+
+  abbrev pub DryStartsItem : ℕ → Result (List ℕ) EpcFault → Outcome → List (FileCall K) → Type 0
+  DryStartsItem site (Ok item) outcome calls = TellsSite site (λ r o. AnswersDryStart r (Start item) o) outcome calls
+  DryStartsItem site (Err fault) outcome calls = IsRefusal BadEpc outcome × (calls ≡ [])
+
+  abbrev pub TracesItem : ℕ → Result (List ℕ) EpcFault → Bool → Ways → Outcome → List (FileCall K) → Type 0
+  TracesItem site (Ok item) back ways outcome calls = TellsAll (λ rs o. AnswersTrace rs site item back ways o) outcome calls
+  TracesItem site (Err fault) back ways outcome calls = IsRefusal BadEpc outcome × (calls ≡ [])
 
 -- at the site of a name; a name that isn't listed is refused without a further call
 abbrev pub AtSite : {K : Type 0} → List ℕ → Option ℕ → (ℕ → Outcome → List (FileCall K) → Type 0) → Outcome → List (FileCall K) → Type 0
@@ -157,19 +178,58 @@ module _ {K : Type 0} (shown : K → Option Record) (stored : K → Type 0) (fol
       × AtSite name (named sites name) (λ site. StartsItem shown stored folder sites site (reading item)) output.outcome rest) calls
 
   -- what names no recall is refused without a further call
-  abbrev pub ReportsBy : List Site → Option (List ℕ × ℕ) → Outcome → List (FileCall K) → Type 0
-  ReportsBy sites None outcome calls = IsRefusal BadRecall outcome × (calls ≡ [])
-  ReportsBy sites (Some (name, number)) outcome calls =
+  abbrev pub ReportsBy : List Site → Option (List ℕ × ℕ) → Ways → Outcome → List (FileCall K) → Type 0
+  ReportsBy sites None ways outcome calls = IsRefusal BadRecall outcome × (calls ≡ [])
+  ReportsBy sites (Some (name, number)) ways outcome calls =
       AtSite name (named sites name)
-      (λ site. TellsAll shown stored folder sites (λ rs o. AnswersReport rs (record { site = site; number = number }) o)) outcome calls
+      (λ site. TellsAll shown stored folder sites (λ rs o. AnswersReport rs (record { site = site; number = number }) ways o)) outcome calls
 
   -- a recall is reported
-  abbrev pub ReportsAt : List ℕ → Output → List (FileCall K) → Type 0
-  ReportsAt recall output calls =
-      AfterList folder (λ sites rest. IsPlain sites output × ReportsBy sites (recall_of recall) output.outcome rest) calls
+  abbrev pub ReportsAt : List ℕ → Ways → Output → List (FileCall K) → Type 0
+  ReportsAt recall ways output calls =
+      AfterList folder (λ sites rest. IsPlain sites output × ReportsBy sites (recall_of recall) ways output.outcome rest) calls
 
   -- all sites are audited
   abbrev pub AuditsAt : Output → List (FileCall K) → Type 0
   AuditsAt output calls =
       AfterList folder
       (λ sites rest. IsPlain sites output × TellsAll shown stored folder sites (λ rs o. AnswersAudit rs o) output.outcome rest) calls
+
+  -- it is asked what the start of a recall would do
+  abbrev pub DryStartsAt : List ℕ → List ℕ → Output → List (FileCall K) → Type 0
+  DryStartsAt name item output calls =
+      AfterList folder
+      (λ sites rest. IsPlain sites output
+      × AtSite name (named sites name) (λ site. DryStartsItem shown stored folder sites site (reading item)) output.outcome rest) calls
+
+  -- an item is traced to where it went, or back
+  abbrev pub TracesAt : List ℕ → List ℕ → Bool → Ways → Output → List (FileCall K) → Type 0
+  TracesAt name item back ways output calls =
+      AfterList folder
+      (λ sites rest. IsPlain sites output
+      × AtSite name (named sites name) (λ site. TracesItem shown stored folder sites site (reading item) back ways) output.outcome rest) calls
+
+  -- it is asked how all recalls stand
+  abbrev pub RecallsStandAt : Bool → Output → List (FileCall K) → Type 0
+  RecallsStandAt coded output calls =
+      AfterList folder
+      (λ sites rest. IsPlain sites output × TellsAll shown stored folder sites (λ rs o. AnswersRecalls rs coded o) output.outcome rest) calls
+
+  -- what names no recall is refused without a further call
+  abbrev pub StandsBy : List Site → Option (List ℕ × ℕ) → Bool → Outcome → List (FileCall K) → Type 0
+  StandsBy sites None coded outcome calls = IsRefusal BadRecall outcome × (calls ≡ [])
+  StandsBy sites (Some (name, number)) coded outcome calls =
+      AtSite name (named sites name)
+      (λ site. TellsAll shown stored folder sites (λ rs o. AnswersRecall rs (record { site = site; number = number }) coded o)) outcome calls
+
+  -- it is asked how a recall stands
+  abbrev pub RecallStandsAt : List ℕ → Bool → Output → List (FileCall K) → Type 0
+  RecallStandsAt recall coded output calls =
+      AfterList folder (λ sites rest. IsPlain sites output × StandsBy sites (recall_of recall) coded output.outcome rest) calls
+
+  -- a site is asked for the items that it knows
+  abbrev pub ItemsAt : List ℕ → List ℕ → Output → List (FileCall K) → Type 0
+  ItemsAt name text output calls =
+      AfterList folder
+      (λ sites rest. IsPlain sites output
+      × AtSite name (named sites name) (λ site. TellsSite shown stored folder sites site (AnswersItems site text)) output.outcome rest) calls

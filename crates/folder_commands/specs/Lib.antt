@@ -1,6 +1,7 @@
 pub mod Audits
 pub mod Calls
 pub mod Captures
+pub mod DryStarts
 pub mod Failing
 pub mod Faults
 pub mod FileCalls
@@ -11,5 +12,8 @@ pub mod Notes
 pub mod Refusals
 pub mod Reports
 pub mod Runs
+pub mod SiteItems
+pub mod Standings
 pub mod Steps
+pub mod Traces
 pub mod Untold

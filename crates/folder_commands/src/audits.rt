@@ -5,19 +5,19 @@ ghost use Rattle.std.specs.List.{AllZip};
 ghost use Rattle.site_core.specs.Records.{Record};
 ghost use Rattle.site_recovery.specs.Checking.{records_at};
 ghost use Rattle.site_recovery.specs.FittingAt.{AreAllSites};
-ghost use Rattle.folder_commands.specs.Calls.{AreShown, AuditsAt, TellsAll};
+ghost use Rattle.folder_commands.specs.Calls.{AuditsAt};
 ghost use Rattle.folder_commands.specs.Audits.{AnswersAudit, AuditsRecall, begun, begun_by};
 ghost use Rattle.folder_commands.specs.FileCalls.{Led};
 
-use crate::folders::{Files, close_all, open_all, records_of, sites_of};
+use crate::folders::{Files, sites_of};
 use crate::outputs::Output;
-use event_json::Sites;
+use crate::questions::{Question, ask_all};
 use frame_core::RecallId;
 use keeper_core::SiteKeeper;
 use recall_outcomes::{AuditedRecall, Fault, Outcome, StartedRecall};
 use report_core::{ReportFault, audit};
 use site_core::SiteState;
-use site_recovery::{CheckFault, are_all_sites, check_world};
+use site_recovery::{CheckFault, check_world};
 use std::alloc::{AllocError, Global};
 
 /// Audits the sites of a folder.
@@ -32,7 +32,7 @@ pub fn audit_sites<K: SiteKeeper, F: Files<K>>(
     ensures calls { IfOk result (λ output. Led F.does files.old files.new (AuditsAt K.shown K.stored folder.now output)) }
 {
     let sites = sites_of(alloc, files, folder)?;
-    let outcome = audit_all(alloc, files, folder, &sites)?;
+    let outcome = ask_all(alloc, files, folder, &sites, &AuditOfAll {})?;
     Ok(Output {
         sites,
         outcome,
@@ -40,31 +40,18 @@ pub fn audit_sites<K: SiteKeeper, F: Files<K>>(
     })
 }
 
-/// Audits all sites from their files.
-fn audit_all<K: SiteKeeper, F: Files<K>>(
-    alloc: Global,
-    files: &mut F,
-    folder: &str,
-    sites: &Sites,
-) -> Result<Outcome, Fault>
-    ensures { IfOk result (λ outcome. Led F.does files.old files.new
-        (TellsAll K.shown K.stored folder.now sites.now (λ rs o. AnswersAudit rs o) outcome)) }
-{
-    let keepers = open_all(alloc, files, folder, sites)?;
-    let outcome = audit_at(alloc, keepers.as_slice());
-    close_all(files, keepers);
-    outcome
-}
+/// Whether the records are consistent, and how each recall's quarantine compares.
+#[derive(Drop)]
+struct AuditOfAll {}
 
-/// Audits the records that keepers show.
-fn audit_at<K: SiteKeeper>(alloc: Global, keepers: &[K]) -> Result<Outcome, Fault>
-    ensures { (rs : List Record) → AreShown K.shown keepers.now rs → IfOk result (AnswersAudit rs) }
-{
-    let records = records_of(alloc, keepers)?;
-    if !are_all_sites(records.as_slice()) {
-        return Err(Fault::OtherSites);
+impl Question for AuditOfAll {
+    ghost use Rattle.folder_commands.specs.Audits.{AnswersAudit};
+
+    ghost answers = { λ q rs o. AnswersAudit rs o };
+
+    fn answer(&self, alloc: Global, records: &[&SiteState]) -> Result<Outcome, Fault> {
+        audit_of(alloc, records)
     }
-    audit_of(alloc, records.as_slice())
 }
 
 /// Audits the records of all sites, in the order of their numbers.

@@ -1,24 +1,23 @@
 //! `report`: what is quarantined under a recall, how it came there, and what left the traced sites.
 
-ghost use Rattle.std.specs.Prelude.{◌≡◌, List, IfOk, IfErr};
+ghost use Rattle.std.specs.Prelude.{◌≡◌, IfOk, IfErr};
 ghost use Rattle.recall_text.specs.Numbers.{recall_of};
-ghost use Rattle.site_core.specs.Records.{Record};
 ghost use Rattle.site_recovery.specs.Checking.{records_at};
 ghost use Rattle.site_recovery.specs.FittingAt.{AreAllSites};
-ghost use Rattle.folder_commands.specs.Calls.{AreShown, ReportsAt, ReportsBy, TellsAll};
+ghost use Rattle.folder_commands.specs.Calls.{ReportsAt, ReportsBy};
 ghost use Rattle.folder_commands.specs.FileCalls.{Led};
 ghost use Rattle.folder_commands.specs.Reports.{AnswersReport};
 
-use crate::folders::{Files, close_all, open_all, records_of, sites_of};
+use crate::folders::{Files, sites_of};
 use crate::outputs::{Output, no_site, refusal};
+use crate::questions::{Question, ask_all};
 use event_json::Sites;
 use frame_core::RecallId;
 use keeper_core::SiteKeeper;
-use recall_outcomes::{CommandRefusal, Fault, Outcome};
+use recall_outcomes::{CommandRefusal, Fault, Outcome, Ways};
 use recall_text::telling::recall_of;
 use report_core::{ReportFault, report};
 use site_core::SiteState;
-use site_recovery::are_all_sites;
 use std::alloc::Global;
 
 /// Reports a recall from the files of all sites of a folder.
@@ -31,12 +30,13 @@ pub fn report_recall<K: SiteKeeper, F: Files<K>>(
     files: &mut F,
     folder: &str,
     recall: &str,
+    ways: Ways,
 ) -> Result<Output, Fault>
     ensures calls { IfOk result (λ output. Led F.does files.old files.new
-        (ReportsAt K.shown K.stored folder.now recall.now output)) }
+        (ReportsAt K.shown K.stored folder.now recall.now ways output)) }
 {
     let sites = sites_of(alloc, files, folder)?;
-    let outcome = report_in(alloc, files, folder, &sites, recall)?;
+    let outcome = report_in(alloc, files, folder, &sites, recall, ways)?;
     Ok(Output {
         sites,
         outcome,
@@ -51,9 +51,10 @@ fn report_in<K: SiteKeeper, F: Files<K>>(
     folder: &str,
     sites: &Sites,
     recall: &str,
+    ways: Ways,
 ) -> Result<Outcome, Fault>
     ensures { IfOk result (λ outcome. Led F.does files.old files.new
-        (ReportsBy K.shown K.stored folder.now sites.now (recall_of recall.now) outcome)) }
+        (ReportsBy K.shown K.stored folder.now sites.now (recall_of recall.now) ways outcome)) }
 {
     let Some((name, number)) = recall_of(recall) else {
         return Ok(refusal(alloc, CommandRefusal::BadRecall)?);
@@ -61,52 +62,47 @@ fn report_in<K: SiteKeeper, F: Files<K>>(
     let Some(site) = sites.find(name) else {
         return Ok(no_site(alloc, name)?);
     };
-    report_all(alloc, files, folder, sites, RecallId { site, number })
+    let recall = RecallId { site, number };
+    ask_all(alloc, files, folder, sites, &ReportOf { recall, ways })
 }
 
-/// Reports a recall from the files of all sites.
-fn report_all<K: SiteKeeper, F: Files<K>>(
-    alloc: Global,
-    files: &mut F,
-    folder: &str,
-    sites: &Sites,
+/// The report of a recall.
+#[derive(Drop)]
+struct ReportOf {
     recall: RecallId,
-) -> Result<Outcome, Fault>
-    ensures { IfOk result (λ outcome. Led F.does files.old files.new
-        (TellsAll K.shown K.stored folder.now sites.now (λ rs o. AnswersReport rs recall o) outcome)) }
-{
-    let keepers = open_all(alloc, files, folder, sites)?;
-    let outcome = report_at(alloc, keepers.as_slice(), recall);
-    close_all(files, keepers);
-    outcome
+    ways: Ways,
 }
 
-/// Reports a recall from the records that keepers show.
-fn report_at<K: SiteKeeper>(
-    alloc: Global,
-    keepers: &[K],
-    recall: RecallId,
-) -> Result<Outcome, Fault>
-    ensures { (rs : List Record) → AreShown K.shown keepers.now rs → IfOk result (AnswersReport rs recall) }
-{
-    let records = records_of(alloc, keepers)?;
-    if !are_all_sites(records.as_slice()) {
-        return Err(Fault::OtherSites);
+impl Question for ReportOf {
+    ghost use Rattle.folder_commands.specs.Reports.{AnswersReport};
+
+    ghost answers = { λ q rs o. AnswersReport rs q.recall q.ways o };
+
+    fn answer(&self, alloc: Global, records: &[&SiteState]) -> Result<Outcome, Fault> {
+        report_of(alloc, records, self.recall, self.ways)
     }
-    report_of(alloc, records.as_slice(), recall)
 }
 
 /// Reports a recall from the records of all sites, in the order of their numbers.
 ///
 /// # Errors
 /// `NoMemory` alone.
-pub fn report_of(alloc: Global, records: &[&SiteState], recall: RecallId) -> Result<Outcome, Fault>
+pub fn report_of(
+    alloc: Global,
+    records: &[&SiteState],
+    recall: RecallId,
+    ways: Ways,
+) -> Result<Outcome, Fault>
     requires all { AreAllSites (records_at records.now) }
-    ensures answered { IfOk result (AnswersReport (records_at records.now) recall) }
+    ensures answered { IfOk result (AnswersReport (records_at records.now) recall ways) }
     ensures failed { IfErr result (λ fault. fault ≡ Fault.NoMemory) }
 {
     match report(alloc, records, recall) {
-        Ok(report) => Ok(Outcome::Reported { recall, report }),
+        Ok(report) => Ok(Outcome::Reported {
+            recall,
+            report,
+            ways,
+        }),
         Err(ReportFault::UnknownRecall) => Ok(refusal(alloc, CommandRefusal::UnknownRecall)?),
         Err(ReportFault::NoMemory) => Err(Fault::NoMemory),
     }

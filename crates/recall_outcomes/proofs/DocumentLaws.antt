@@ -15,7 +15,13 @@ have_their_words sites (documents.Refused why) (outcomes.Refused whys) (refused,
 have_their_words sites (documents.Refused why) outcomes.Created (refused, is) = absurd refused
 have_their_words sites (documents.Refused why) (outcomes.Stepped effects) (refused, is) = absurd refused
 have_their_words sites (documents.Refused why) (outcomes.Ran recalls) (refused, is) = absurd refused
-have_their_words sites (documents.Refused why) (outcomes.Reported r report) (refused, is) = absurd refused
+have_their_words sites (documents.Refused why) (outcomes.Reported r report ways) (refused, is) = absurd refused
+have_their_words sites (documents.Refused why) (outcomes.Traced trace ways) (refused, is) = absurd refused
+have_their_words sites (documents.Refused why) (outcomes.TracedBack trace ways) (refused, is) = absurd refused
+have_their_words sites (documents.Refused why) (outcomes.Standing recalls coded) (refused, is) = absurd refused
+have_their_words sites (documents.Refused why) (outcomes.Waiting detail coded) (refused, is) = absurd refused
+have_their_words sites (documents.Refused why) (outcomes.Known site items) (refused, is) = absurd refused
+have_their_words sites (documents.Refused why) (outcomes.WouldStart quarantined messages) (refused, is) = absurd refused
 have_their_words sites (documents.Refused why) (outcomes.Audited recalls) (refused, is) = absurd refused
 have_their_words sites (documents.Refused why) (outcomes.Inconsistent misfit) (refused, is) = absurd refused
 

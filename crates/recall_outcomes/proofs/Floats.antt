@@ -1,12 +1,17 @@
 -- No value that is printed has a float, so that its text is known byte for byte.
 use Rattle.std.proofs.Common.{◌≡◌, ℕ, false, List, [], ◌∷◌, Option, Some, None, refl, ap₂, ap}
-use Rattle.std.specs.Prelude.{◌||◌}
+use Rattle.std.specs.Prelude.{◌||◌, option_and_then, slice_get}
 use Rattle.std.specs.List.{zip}
 use Rattle.event_json.specs.Sites.{Site}
-use Rattle.frame_core.specs.Numbers.{Recall}
+use Rattle.frame_core.specs.Numbers.{Recall, Message}
+use Rattle.query_core.specs.declared.recalls.RecallDetail.{RecallDetail}
+use Rattle.query_core.specs.declared.recalls.RecallStatus.{RecallStatus}
+use Rattle.query_core.specs.declared.recalls.SiteStanding.{SiteStanding}
 use Rattle.report_core.specs.declared.audits.Verdict.{Verdict}
 use Rattle.report_core.specs.declared.audits.Verdict.TheVariants.{Equal, Differs}
 use Rattle.report_core.specs.declared.reports.RecallReport.{RecallReport}
+use Rattle.report_core.specs.declared.traces.BackTrace.{BackTrace}
+use Rattle.report_core.specs.declared.traces.Trace.{Trace}
 use Rattle.recall_text.specs.declared.site_lists.LineRefusal.{LineRefusal}
 use Rattle.recall_text.specs.declared.site_lists.LineRefusal.TheVariants.{BadLine, BadSite}
 use Rattle.serde_json.specs.Data.{Data, string}
@@ -15,7 +20,8 @@ use Rattle.site_core.specs.declared.outcomes.Effects.{Effects}
 use Rattle.site_core.specs.declared.outcomes.Effects.TheVariants as effects
 use Rattle.site_core.specs.declared.outcomes.Refusal.TheVariants as steps
 use Rattle.trace_core.specs.declared.pairs.Pair.{Pair}
-use Rattle.recall_outcomes.specs.Json.{audited_json, created_json, document_json, effects_json, fault_json, list_of, outside_json, pair_json, report_json, traced_json, trail_json, verdict_json, why_json}
+use Rattle.recall_outcomes.specs.Json.{audited_json, back_json, beside_json, created_json, detail_json, document_json, effects_json, engaged_json, fault_json, leading_json, led_json, list_of, outside_json, pair_json, quarantined_json, report_json, standing_json, status_json, trace_json, traced_json, trail_json, verdict_json, waiting_json, why_json}
+use Rattle.recall_outcomes.specs.Texts.{before_last}
 use Rattle.recall_outcomes.specs.declared.documents.DocumentOutcome.{DocumentOutcome}
 use Rattle.recall_outcomes.specs.declared.documents.DocumentOutcome.TheVariants.{Captured, Refused}
 use Rattle.recall_outcomes.specs.declared.faults.Failure.{Failure}
@@ -23,6 +29,8 @@ use Rattle.recall_outcomes.specs.declared.faults.Fault.{Fault}
 use Rattle.recall_outcomes.specs.declared.outcomes.AuditedRecall.{AuditedRecall}
 use Rattle.recall_outcomes.specs.declared.outcomes.CommandRefusal.{CommandRefusal}
 use Rattle.recall_outcomes.specs.declared.outcomes.CommandRefusal.TheVariants as refusals
+use Rattle.recall_outcomes.specs.declared.outcomes.Ways.{Ways}
+use Rattle.recall_outcomes.specs.declared.outcomes.Ways.TheVariants.{Trails, Steps}
 
 -- a list whose values have none
 list_free : {X : Type 0} (of : X → Data) → ((x : X) → has_float (of x) ≡ false) → (xs : List X) → has_float (list_of of xs) ≡ false
@@ -36,10 +44,51 @@ trail_free sites (Some trail) = list_free (pair_json sites) (λ p. refl) trail
 traced_free : (sites : List Site) (t : Pair × Option (List Pair)) → has_float (traced_json sites t) ≡ false
 traced_free sites (p, trail) = ap (λ b. b || false) (trail_free sites trail)
 
-pub report_free : (sites : List Site) (r : Recall) (report : RecallReport) → has_float (report_json sites r report) ≡ false
-report_free sites r report =
+beside_free : (sites : List Site) (beside : Option Pair) → has_float (beside_json sites beside) ≡ false
+beside_free sites None = refl
+beside_free sites (Some p) = refl
+
+quarantined_free : (sites : List Site) (ways : Ways) (t : Pair × Option (List Pair)) → has_float (quarantined_json sites ways t) ≡ false
+quarantined_free sites Trails (p, trail) = traced_free sites (p, trail)
+quarantined_free sites Steps (p, trail) = ap (λ b. b || false) (beside_free sites (option_and_then before_last trail))
+
+pub report_free : (sites : List Site) (r : Recall) (report : RecallReport) (ways : Ways) → has_float (report_json sites r report ways) ≡ false
+unfolding report_json
+report_free sites r report ways =
     ap₂ (λ a b. a || (b || false)) (list_free (outside_json sites) (λ x. refl) report.outside)
-    (list_free (traced_json sites) (traced_free sites) (zip report.pairs report.trails))
+    (list_free (quarantined_json sites ways) (quarantined_free sites ways) (zip report.pairs report.trails))
+
+pub trace_free : (sites : List Site) (trace : Trace) (ways : Ways) → has_float (trace_json sites trace ways) ≡ false
+unfolding trace_json
+trace_free sites trace ways =
+    ap₂ (λ a b. a || (b || false)) (list_free (outside_json sites) (λ x. refl) trace.outside)
+    (list_free (led_json sites ways) (λ t. quarantined_free sites ways (t.0, Some t.1)) (zip trace.pairs trace.trails))
+
+leading_free : (sites : List Site) (ways : Ways) (t : Pair × List Pair) → has_float (leading_json sites ways t) ≡ false
+leading_free sites Trails (p, trail) = traced_free sites (p, Some trail)
+leading_free sites Steps (p, trail) = ap (λ b. b || false) (beside_free sites (slice_get trail 1))
+
+pub back_free : (sites : List Site) (trace : BackTrace) (ways : Ways) → has_float (back_json sites trace ways) ≡ false
+unfolding back_json
+back_free sites trace ways =
+    ap₂ (λ a b. a || (b || false)) (list_free (pair_json sites) (λ p. refl) trace.origins)
+    (list_free (leading_json sites ways) (leading_free sites ways) (zip trace.pairs trace.trails))
+
+pub status_free : (sites : List Site) (s : RecallStatus) → has_float (status_json sites s) ≡ false
+unfolding status_json
+status_free sites s = refl
+
+standing_free : (sites : List Site) (s : SiteStanding) → has_float (standing_json sites s) ≡ false
+standing_free sites s = ap (λ b. b || false) (engaged_free s.engaged_by) where
+  engaged_free : (parent : Option Message) → has_float (engaged_json sites parent) ≡ false
+  engaged_free None = refl
+  engaged_free (Some m) = refl
+
+pub detail_free : (sites : List Site) (detail : RecallDetail) → has_float (detail_json sites detail) ≡ false
+unfolding detail_json
+detail_free sites detail =
+    ap₂ (λ a b. a || (b || false)) (list_free (waiting_json sites) (λ w. refl) detail.waiting)
+    (list_free (standing_json sites) (standing_free sites) detail.sites)
 
 pub created_free : (sites : List Site) → has_float (created_json sites) ≡ false
 created_free sites = ap (λ b. b || false) (list_free (λ (s : Site). string s.name) (λ s. refl) sites)

@@ -1,14 +1,21 @@
 -- What a command came to, as JSON: values whose members are in the order of their names.
-use Rattle.std.specs.Prelude.{ℕ, Bool, List, [], ◌∷◌, ◌++◌, codes, Option, Some, None, map, string_bytes}
+use Rattle.std.specs.Prelude.{ℕ, Bool, List, [], ◌∷◌, ◌++◌, codes, Option, Some, None, map, option_and_then, slice_get, string_bytes}
 use Rattle.std.specs.List.{flat_map, zip}
 use Rattle.event_json.specs.Names.{field_name, kind_name, sites_fault_name}
 use Rattle.event_json.specs.Sites.{Site}
 use Rattle.event_json.specs.declared.doc_faults.DocFault.{DocFault}
-use Rattle.frame_core.specs.Numbers.{Recall}
+use Rattle.frame_core.specs.Numbers.{Recall, Message}
+use Rattle.query_core.specs.declared.known_items.KnownItem.{KnownItem}
+use Rattle.query_core.specs.declared.recalls.RecallDetail.{RecallDetail}
+use Rattle.query_core.specs.declared.recalls.RecallStatus.{RecallStatus}
+use Rattle.query_core.specs.declared.recalls.SiteStanding.{SiteStanding}
+use Rattle.query_core.specs.declared.recalls.WaitingMessage.{WaitingMessage}
 use Rattle.report_core.specs.declared.audits.Verdict.{Verdict}
 use Rattle.report_core.specs.declared.audits.Verdict.TheVariants.{Equal, Differs}
 use Rattle.report_core.specs.declared.outside.OutsideShipment.{OutsideShipment}
 use Rattle.report_core.specs.declared.reports.RecallReport.{RecallReport}
+use Rattle.report_core.specs.declared.traces.BackTrace.{BackTrace}
+use Rattle.report_core.specs.declared.traces.Trace.{Trace}
 use Rattle.recall_text.specs.Words.{name_at, recall_text, message_text}
 use Rattle.recall_text.specs.declared.site_lists.LineRefusal.{LineRefusal}
 use Rattle.recall_text.specs.declared.site_lists.LineRefusal.TheVariants.{BadLine, BadSite}
@@ -24,6 +31,7 @@ use Rattle.site_core.specs.declared.outcomes.Refusal.TheVariants as steps
 use Rattle.site_recovery.specs.declared.checking.Misfit.{Misfit}
 use Rattle.trace_core.specs.declared.pairs.Pair.{Pair}
 use Rattle.recall_outcomes.specs.Faults.{fault_name}
+use Rattle.recall_outcomes.specs.Texts.{before_last}
 use Rattle.recall_outcomes.specs.declared.documents.DocumentOutcome.{DocumentOutcome}
 use Rattle.recall_outcomes.specs.declared.documents.DocumentOutcome.TheVariants.{Captured, Refused}
 use Rattle.recall_outcomes.specs.declared.documents.Totals.{Totals}
@@ -35,6 +43,8 @@ use Rattle.recall_outcomes.specs.declared.outcomes.CommandRefusal.TheVariants as
 use Rattle.recall_outcomes.specs.declared.outcomes.Outcome.{Outcome}
 use Rattle.recall_outcomes.specs.declared.outcomes.Outcome.TheVariants as outcomes
 use Rattle.recall_outcomes.specs.declared.outcomes.StartedRecall.{StartedRecall}
+use Rattle.recall_outcomes.specs.declared.outcomes.Ways.{Ways}
+use Rattle.recall_outcomes.specs.declared.outcomes.Ways.TheVariants.{Trails, Steps}
 
 -- a member of a name, with those behind it
 abbrev pub text_at : List ℕ → List ℕ → Members → Members
@@ -90,17 +100,99 @@ trail_json sites (Some trail) = list_of (pair_json sites) trail
 abbrev pub traced_json : List Site → Pair × Option (List Pair) → Data
 traced_json sites (p, trail) = object (pair_members sites p (member (codes "trail") (trail_json sites trail) no_members))
 
+-- the pair beside another one on its trail, or null
+abbrev pub beside_json : List Site → Option Pair → Data
+beside_json sites None = null
+beside_json sites (Some p) = pair_json sites p
+
+-- a quarantined pair, and how a trail from the root leads to it, where one does
+abbrev pub quarantined_json : List Site → Ways → Pair × Option (List Pair) → Data
+quarantined_json sites Trails (p, trail) = traced_json sites (p, trail)
+quarantined_json sites Steps (p, trail) = object (member (codes "from") (beside_json sites (option_and_then before_last trail)) (pair_members sites p no_members))
+
 abbrev pub outside_json : List Site → OutsideShipment → Data
 outside_json sites x =
     object (text_at (codes "destination") x.destination (text_at (codes "item") x.item (text_at (codes "site") (name_at sites x.site) no_members)))
 
-abbrev pub report_json : List Site → Recall → RecallReport → Data
-report_json sites r report =
+unfoldable pub report_json : List Site → Recall → RecallReport → Ways → Data
+report_json sites r report ways =
     object (flag_at (codes "ended") report.ended
     (member (codes "outside") (list_of (outside_json sites) report.outside)
-    (member (codes "pairs") (list_of (traced_json sites) (zip report.pairs report.trails))
+    (member (codes "pairs") (list_of (quarantined_json sites ways) (zip report.pairs report.trails))
     (text_at (codes "recall") (recall_text sites r)
     (member (codes "root") (pair_json sites report.root) no_members)))))
+
+-- ---- a trace
+
+abbrev pub led_json : List Site → Ways → Pair × List Pair → Data
+led_json sites ways (p, trail) = quarantined_json sites ways (p, Some trail)
+
+-- where an item went
+unfoldable pub trace_json : List Site → Trace → Ways → Data
+trace_json sites trace ways =
+    object (member (codes "outside") (list_of (outside_json sites) trace.outside)
+    (member (codes "pairs") (list_of (led_json sites ways) (zip trace.pairs trace.trails))
+    (member (codes "root") (pair_json sites trace.root)
+    (text_at (codes "trace") (codes "forward") no_members))))
+
+-- a pair that a trail to the root begins with
+abbrev pub leading_json : List Site → Ways → Pair × List Pair → Data
+leading_json sites Trails (p, trail) = traced_json sites (p, Some trail)
+leading_json sites Steps (p, trail) = object (pair_members sites p (member (codes "to") (beside_json sites (slice_get trail 1)) no_members))
+
+-- where an item came from
+unfoldable pub back_json : List Site → BackTrace → Ways → Data
+back_json sites trace ways =
+    object (member (codes "origins") (list_of (pair_json sites) trace.origins)
+    (member (codes "pairs") (list_of (leading_json sites ways) (zip trace.pairs trace.trails))
+    (member (codes "root") (pair_json sites trace.root)
+    (text_at (codes "trace") (codes "back") no_members))))
+
+-- ---- how recalls stand
+
+-- the recalled item, at the site that began the recall
+abbrev pub root_json : List Site → RecallStatus → Data
+root_json sites s = pair_json sites (record { site = s.recall.site; item = s.root })
+
+unfoldable pub status_json : List Site → RecallStatus → Data
+status_json sites s =
+    object (flag_at (codes "ended") s.ended (count_at (codes "quarantined") s.quarantined (text_at (codes "recall") (recall_text sites s.recall)
+    (member (codes "root") (root_json sites s) (count_at (codes "waiting") s.waiting no_members)))))
+
+abbrev pub engaged_json : List Site → Option Message → Data
+engaged_json sites None = null
+engaged_json sites (Some m) = string (message_text sites m)
+
+abbrev pub standing_json : List Site → SiteStanding → Data
+standing_json sites s =
+    object (member (codes "engaged_by") (engaged_json sites s.engaged_by) (count_at (codes "quarantined") s.quarantined
+    (text_at (codes "site") (name_at sites s.site) (count_at (codes "waiting") s.waiting no_members))))
+
+abbrev pub waiting_json : List Site → WaitingMessage → Data
+waiting_json sites w =
+    object (text_at (codes "item") w.item (text_at (codes "message") (message_text sites w.message)
+    (text_at (codes "to") (name_at sites w.to) (flag_at (codes "told") w.told no_members))))
+
+unfoldable pub detail_json : List Site → RecallDetail → Data
+detail_json sites detail = of_status detail.status where
+  of_status : RecallStatus → Data
+  of_status s =
+      object (flag_at (codes "ended") s.ended (member (codes "messages") (list_of (waiting_json sites) detail.waiting)
+      (count_at (codes "quarantined") s.quarantined (text_at (codes "recall") (recall_text sites s.recall)
+      (member (codes "root") (root_json sites s) (member (codes "sites") (list_of (standing_json sites) detail.sites)
+      (count_at (codes "waiting") s.waiting no_members)))))))
+
+-- ---- items
+
+abbrev pub known_json : List Site → ℕ → KnownItem → Data
+known_json sites site k =
+    object (count_at (codes "events") k.events (text_at (codes "item") k.item (text_at (codes "site") (name_at sites site) no_members)))
+
+-- ---- a start that isn't made
+
+abbrev pub would_json : ℕ → ℕ → Data
+would_json quarantined messages =
+    object (count_at (codes "messages") messages (count_at (codes "new") quarantined (text_at (codes "would") (codes "recall") no_members)))
 
 -- ---- an audit
 
@@ -171,7 +263,13 @@ abbrev pub outcome_json : List Site → Outcome → List Data
 outcome_json sites outcomes.Created = created_json sites ∷ []
 outcome_json sites (outcomes.Stepped effects) = effects_json sites effects ∷ []
 outcome_json sites (outcomes.Ran recalls) = map (ran_json sites) recalls.items
-outcome_json sites (outcomes.Reported r report) = report_json sites r report ∷ []
+outcome_json sites (outcomes.Reported r report ways) = report_json sites r report ways ∷ []
+outcome_json sites (outcomes.Traced trace ways) = trace_json sites trace ways ∷ []
+outcome_json sites (outcomes.TracedBack trace ways) = back_json sites trace ways ∷ []
+outcome_json sites (outcomes.Standing recalls coded) = map (status_json sites) recalls.items
+outcome_json sites (outcomes.Waiting detail coded) = detail_json sites detail ∷ []
+outcome_json sites (outcomes.Known site items) = map (known_json sites site) items.items
+outcome_json sites (outcomes.WouldStart quarantined messages) = would_json quarantined messages ∷ []
 outcome_json sites (outcomes.Audited recalls) = map (audited_json sites) recalls.items
 outcome_json sites (outcomes.Inconsistent misfit) = misfit_json sites misfit ∷ []
 outcome_json sites (outcomes.Refused whys) = map (why_json sites) whys.items

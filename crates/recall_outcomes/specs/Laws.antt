@@ -1,5 +1,5 @@
 -- What the texts, the statuses and the sentences have to do with one another.
-use Rattle.std.specs.Prelude.{◌≡◌, ◌<◌, ◌^◌, ⊤, ℕ, List, [], ◌∷◌, ◌++◌, codes, All, bytes_eq, length, map, string_bytes}
+use Rattle.std.specs.Prelude.{◌≡◌, ◌<◌, ◌^◌, ⊤, ℕ, List, [], ◌∷◌, ◌++◌, codes, All, Option, Some, bytes_eq, length, map, string_bytes}
 use Rattle.std.specs.List.{dedup, slice_split}
 use Rattle.std.specs.Str.Lines.{lines}
 use Rattle.event_json.specs.Sites.{Site}
@@ -8,6 +8,7 @@ use Rattle.recall_text.specs.Words.{name_at}
 use Rattle.site_core.specs.declared.outcomes.Effects.TheVariants as effects
 use Rattle.site_core.specs.declared.outcomes.Refusal.{Refusal}
 use Rattle.site_core.specs.declared.outcomes.Refusal.TheVariants as steps
+use Rattle.recall_outcomes.specs.Advice.{advice}
 use Rattle.recall_outcomes.specs.Documents.{document_words, totals_status, with_one}
 use Rattle.recall_outcomes.specs.Sentences.{outcome_sentences, why_sentence}
 use Rattle.recall_outcomes.specs.Statuses.{outcome_status}
@@ -76,3 +77,13 @@ abbrev pub RefusedDocumentsAreCounted : Type 0
 RefusedDocumentsAreCounted =
     (totals : Totals) → ((why : Refusal) → totals_status (with_one totals (documents.Refused why)) ≡ 1)
     × ((fresh known skipped : ℕ) → totals_status (with_one totals (documents.Captured fresh known skipped)) ≡ totals_status totals)
+
+-- it begins as a note, and has no line's end but its last byte
+pub record IsNote (text : List ℕ) : Type 0 where
+  pub words : List ℕ
+  pub begins : text ≡ codes "note: " ++ words ++ 10 ∷ []
+  pub one_line : IsWithinLine words
+
+-- An advice is a line.
+abbrev pub AdviceIsALine : Type 0
+AdviceIsALine = (o : Outcome) (text : List ℕ) → advice o ≡ Some text → IsNote text

@@ -1,9 +1,10 @@
+pub mod Advice
 pub mod Documents
 pub mod Faults
 pub mod Json
-pub mod Printing
 pub mod Laws
 pub mod Notes
+pub mod Printing
 pub mod Sentences
 pub mod Statuses
 pub mod Texts

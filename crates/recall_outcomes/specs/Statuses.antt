@@ -1,6 +1,7 @@
 -- The status of a program that ends with what a command came to.
-use Rattle.std.specs.Prelude.{ℕ, Bool, true, false, Option, Some, None, if◌then◌else◌}
+use Rattle.std.specs.Prelude.{ℕ, Bool, true, false, not, ◌&&◌, Option, Some, None, if◌then◌else◌}
 use Rattle.std.specs.List.{list_any}
+use Rattle.query_core.specs.declared.recalls.RecallStatus.{RecallStatus}
 use Rattle.report_core.specs.declared.audits.Verdict.{Verdict}
 use Rattle.report_core.specs.declared.audits.Verdict.TheVariants.{Equal, Differs}
 use Rattle.recall_outcomes.specs.declared.outcomes.AuditedRecall.{AuditedRecall}
@@ -16,12 +17,22 @@ differs (Some (Differs p missing)) = true
 abbrev pub is_amiss : AuditedRecall → Bool
 is_amiss audited = differs audited.verdict
 
--- 0 done, 1 refused, 4 a discrepancy
+-- the site that began the recall hasn't recorded its end
+abbrev pub is_open : RecallStatus → Bool
+is_open status = not status.ended
+
+-- 0 done, 1 refused, 4 a discrepancy; and where it is asked for, 5 while a recall is open
 abbrev pub outcome_status : Outcome → ℕ
 outcome_status outcomes.Created = 0
 outcome_status (outcomes.Stepped effects) = 0
 outcome_status (outcomes.Ran recalls) = 0
-outcome_status (outcomes.Reported r report) = 0
+outcome_status (outcomes.Reported r report ways) = 0
+outcome_status (outcomes.Traced trace ways) = 0
+outcome_status (outcomes.TracedBack trace ways) = 0
+outcome_status (outcomes.Standing recalls coded) = if coded && list_any is_open recalls.items then 5 else 0
+outcome_status (outcomes.Waiting detail coded) = if coded && is_open detail.status then 5 else 0
+outcome_status (outcomes.Known site items) = 0
+outcome_status (outcomes.WouldStart quarantined messages) = 0
 outcome_status (outcomes.Audited recalls) = if list_any is_amiss recalls.items then 4 else 0
 outcome_status (outcomes.Inconsistent misfit) = 4
 outcome_status (outcomes.Refused whys) = 1

@@ -1,15 +1,22 @@
 -- What a command came to, in lines of words.
-use Rattle.std.specs.Prelude.{ℕ, Bool, true, false, List, [], ◌∷◌, ◌++◌, codes, Option, Some, None, length, string_bytes}
+use Rattle.std.specs.Prelude.{ℕ, zero, suc, Bool, true, false, List, [], ◌∷◌, ◌++◌, codes, Option, Some, None, length, slice_get, string_bytes}
 use Rattle.std.specs.Fmt.{decimal}
 use Rattle.std.specs.List.{enumerate_from, flat_map, zip}
 use Rattle.event_json.specs.Sites.{Site}
-use Rattle.frame_core.specs.Numbers.{Recall}
+use Rattle.frame_core.specs.Numbers.{Recall, Message}
+use Rattle.query_core.specs.declared.known_items.KnownItem.{KnownItem}
+use Rattle.query_core.specs.declared.recalls.RecallDetail.{RecallDetail}
+use Rattle.query_core.specs.declared.recalls.RecallStatus.{RecallStatus}
+use Rattle.query_core.specs.declared.recalls.SiteStanding.{SiteStanding}
+use Rattle.query_core.specs.declared.recalls.WaitingMessage.{WaitingMessage}
 use Rattle.report_core.specs.declared.audits.Verdict.{Verdict}
 use Rattle.report_core.specs.declared.audits.Verdict.TheVariants.{Equal, Differs}
 use Rattle.report_core.specs.declared.outside.OutsideShipment.{OutsideShipment}
 use Rattle.report_core.specs.declared.reports.RecallReport.{RecallReport}
+use Rattle.report_core.specs.declared.traces.BackTrace.{BackTrace}
+use Rattle.report_core.specs.declared.traces.Trace.{Trace}
 use Rattle.recall_text.specs.SiteLists.{refused_line_words}
-use Rattle.recall_text.specs.Words.{name_at, recall_text, ended_word, effects_text, pair_text, refusal_text}
+use Rattle.recall_text.specs.Words.{name_at, recall_text, message_text, ended_word, effects_text, pair_text, refusal_text}
 use Rattle.site_recovery.specs.declared.checking.Misfit.{Misfit}
 use Rattle.trace_core.specs.declared.pairs.Pair.{Pair}
 use Rattle.recall_outcomes.specs.declared.outcomes.AuditedRecall.{AuditedRecall}
@@ -18,6 +25,8 @@ use Rattle.recall_outcomes.specs.declared.outcomes.CommandRefusal.TheVariants as
 use Rattle.recall_outcomes.specs.declared.outcomes.Outcome.{Outcome}
 use Rattle.recall_outcomes.specs.declared.outcomes.Outcome.TheVariants as outcomes
 use Rattle.recall_outcomes.specs.declared.outcomes.StartedRecall.{StartedRecall}
+use Rattle.recall_outcomes.specs.declared.outcomes.Ways.{Ways}
+use Rattle.recall_outcomes.specs.declared.outcomes.Ways.TheVariants.{Trails, Steps}
 
 -- ---- a run
 
@@ -31,6 +40,18 @@ ran_text sites b = recall_text sites b.recall ++ 32 ∷ (ended_word b.ended ++ 1
 abbrev pub head_text : List Site → Recall → Pair → Bool → List ℕ
 head_text sites r root ended = codes "recall " ++ recall_text sites r ++ codes " root " ++ root.item ++ 32 ∷ (ended_word ended ++ 10 ∷ [])
 
+-- an item at a site
+abbrev pub item_text : List Site → Pair → List ℕ
+item_text sites p = name_at sites p.site ++ 32 ∷ (p.item ++ 10 ∷ [])
+
+-- the pair before the last one of a trail, where there is one
+abbrev pub before_last : List Pair → Option Pair
+before_last trail = at_place (length trail) where
+  at_place : ℕ → Option Pair
+  at_place zero = None
+  at_place (suc zero) = None
+  at_place (suc (suc n)) = slice_get trail n
+
 -- a pair on a trail, with its place there
 abbrev pub step_text : List Site → ℕ × Pair → List ℕ
 step_text sites (place, p) = codes "  " ++ decimal place ++ 32 ∷ (name_at sites p.site ++ 32 ∷ (p.item ++ 10 ∷ []))
@@ -39,17 +60,28 @@ step_text sites (place, p) = codes "  " ++ decimal place ++ 32 ∷ (name_at site
 abbrev pub trail_text : List Site → List Pair → List ℕ
 trail_text sites trail = flat_map (step_text sites) (enumerate_from 1 trail)
 
--- a trail from the root, where there is one
-abbrev pub some_trail_text : List Site → Option (List Pair) → List ℕ
-some_trail_text sites None = []
-some_trail_text sites (Some trail) = trail_text sites trail
+-- a pair, and behind a word the pair beside it on its trail, where there is one
+abbrev pub beside_text : List Site → List ℕ → Pair → Option Pair → List ℕ
+beside_text sites word p None = pair_text sites p
+beside_text sites word p (Some q) = codes "pair " ++ name_at sites p.site ++ 32 ∷ (p.item ++ word ++ name_at sites q.site ++ 32 ∷ (q.item ++ 10 ∷ []))
 
--- a quarantined pair, and the trail to it
-abbrev pub traced_text : List Site → Pair × Option (List Pair) → List ℕ
-traced_text sites (p, trail) = pair_text sites p ++ some_trail_text sites trail
+-- a pair that a trail from the root ends with
+abbrev pub led_text : List Site → Ways → Pair → List Pair → List ℕ
+led_text sites Trails p trail = pair_text sites p ++ trail_text sites trail
+led_text sites Steps p trail = beside_text sites (codes " from ") p (before_last trail)
 
-abbrev pub pairs_text : List Site → List Pair → List (Option (List Pair)) → List ℕ
-pairs_text sites pairs trails = flat_map (traced_text sites) (zip pairs trails)
+-- a pair that a trail to the root begins with
+abbrev pub leading_text : List Site → Ways → Pair × List Pair → List ℕ
+leading_text sites Trails (p, trail) = pair_text sites p ++ trail_text sites trail
+leading_text sites Steps (p, trail) = beside_text sites (codes " to ") p (slice_get trail 1)
+
+-- a quarantined pair, and how a trail leads to it, where one does
+abbrev pub quarantined_text : List Site → Ways → Pair × Option (List Pair) → List ℕ
+quarantined_text sites ways (p, None) = pair_text sites p
+quarantined_text sites ways (p, Some trail) = led_text sites ways p trail
+
+abbrev pub pairs_text : List Site → Ways → List Pair → List (Option (List Pair)) → List ℕ
+pairs_text sites ways pairs trails = flat_map (quarantined_text sites ways) (zip pairs trails)
 
 -- a shipment to a place that is no traced site
 abbrev pub outside_text : List Site → OutsideShipment → List ℕ
@@ -62,10 +94,80 @@ outsides_text sites out = flat_map (outside_text sites) out
 abbrev pub total_text : ℕ → ℕ → List ℕ
 total_text pairs outside = codes "total " ++ decimal pairs ++ codes " outside " ++ decimal outside ++ 10 ∷ []
 
-abbrev pub report_text : List Site → Recall → RecallReport → List ℕ
-report_text sites r report =
-    head_text sites r report.root report.ended ++ pairs_text sites report.pairs report.trails
+abbrev pub report_text : List Site → Recall → RecallReport → Ways → List ℕ
+report_text sites r report ways =
+    head_text sites r report.root report.ended ++ pairs_text sites ways report.pairs report.trails
     ++ outsides_text sites report.outside ++ total_text (length report.pairs) (length report.outside)
+
+-- ---- a trace
+
+abbrev pub led_pair_text : List Site → Ways → Pair × List Pair → List ℕ
+led_pair_text sites ways (p, trail) = led_text sites ways p trail
+
+-- where an item went
+abbrev pub trace_text : List Site → Trace → Ways → List ℕ
+trace_text sites trace ways =
+    codes "trace forward " ++ item_text sites trace.root ++ flat_map (led_pair_text sites ways) (zip trace.pairs trace.trails)
+    ++ outsides_text sites trace.outside ++ total_text (length trace.pairs) (length trace.outside)
+
+-- a pair that no pair is related to
+abbrev pub origin_text : List Site → Pair → List ℕ
+origin_text sites p = codes "origin " ++ item_text sites p
+
+-- where an item came from
+abbrev pub back_text : List Site → BackTrace → Ways → List ℕ
+back_text sites trace ways =
+    codes "trace back " ++ item_text sites trace.root ++ flat_map (leading_text sites ways) (zip trace.pairs trace.trails)
+    ++ flat_map (origin_text sites) trace.origins
+    ++ codes "total " ++ decimal (length trace.pairs) ++ codes " origins " ++ decimal (length trace.origins) ++ 10 ∷ []
+
+-- ---- how recalls stand
+
+-- how much is quarantined, and how many messages wait
+unfoldable pub counts_text : ℕ → ℕ → List ℕ
+counts_text quarantined waiting = codes " quarantined " ++ decimal quarantined ++ codes " waiting " ++ decimal waiting
+
+-- a recall, whether it has ended, its root, how much is quarantined under it, and how many of its messages wait
+abbrev pub status_text : List Site → RecallStatus → List ℕ
+status_text sites s =
+    recall_text sites s.recall ++ 32 ∷ (ended_word s.ended ++ codes " root " ++ s.root ++ counts_text s.quarantined s.waiting ++ 10 ∷ [])
+
+abbrev pub engaged_text : List Site → Option Message → List ℕ
+engaged_text sites None = []
+engaged_text sites (Some m) = codes " engaged by " ++ message_text sites m
+
+-- what the recall is to a site
+abbrev pub standing_text : List Site → SiteStanding → List ℕ
+standing_text sites s =
+    codes "site " ++ name_at sites s.site ++ counts_text s.quarantined s.waiting ++ engaged_text sites s.engaged_by ++ 10 ∷ []
+
+-- the site that a message is for has taken it, or not
+abbrev pub told_word : Bool → List ℕ
+told_word true = codes "told"
+told_word false = codes "untold"
+
+-- a message that waits
+abbrev pub waiting_text : List Site → WaitingMessage → List ℕ
+waiting_text sites w =
+    codes "waiting " ++ message_text sites w.message ++ codes " to " ++ name_at sites w.to ++ 32 ∷ (w.item ++ 32 ∷ (told_word w.told ++ 10 ∷ []))
+
+abbrev pub detail_text : List Site → RecallDetail → List ℕ
+detail_text sites detail =
+    status_text sites detail.status ++ flat_map (standing_text sites) detail.sites ++ flat_map (waiting_text sites) detail.waiting
+
+-- ---- items
+
+-- an item that a site knows, and how many events name it
+abbrev pub known_text : List Site → ℕ → KnownItem → List ℕ
+known_text sites site k = codes "item " ++ name_at sites site ++ 32 ∷ (k.item ++ codes " events " ++ decimal k.events ++ 10 ∷ [])
+
+abbrev pub items_text : List Site → ℕ → List KnownItem → List ℕ
+items_text sites site items = flat_map (known_text sites site) items ++ codes "total " ++ decimal (length items) ++ 10 ∷ []
+
+-- ---- a start that isn't made
+
+abbrev pub would_text : ℕ → ℕ → List ℕ
+would_text quarantined messages = codes "would recall new " ++ decimal quarantined ++ codes " messages " ++ decimal messages ++ 10 ∷ []
 
 -- ---- an audit
 
@@ -113,7 +215,13 @@ abbrev pub outcome_text : List Site → Outcome → List ℕ
 outcome_text sites outcomes.Created = []
 outcome_text sites (outcomes.Stepped effects) = effects_text sites [] effects
 outcome_text sites (outcomes.Ran recalls) = flat_map (ran_text sites) recalls.items
-outcome_text sites (outcomes.Reported r report) = report_text sites r report
+outcome_text sites (outcomes.Reported r report ways) = report_text sites r report ways
+outcome_text sites (outcomes.Traced trace ways) = trace_text sites trace ways
+outcome_text sites (outcomes.TracedBack trace ways) = back_text sites trace ways
+outcome_text sites (outcomes.Standing recalls coded) = flat_map (status_text sites) recalls.items
+outcome_text sites (outcomes.Waiting detail coded) = detail_text sites detail
+outcome_text sites (outcomes.Known site items) = items_text sites site items.items
+outcome_text sites (outcomes.WouldStart quarantined messages) = would_text quarantined messages
 outcome_text sites (outcomes.Audited recalls) = flat_map (audited_text sites) recalls.items
 outcome_text sites (outcomes.Inconsistent misfit) = misfit_text sites misfit
 outcome_text sites (outcomes.Refused whys) = flat_map (why_text sites) whys.items

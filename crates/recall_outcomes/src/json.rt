@@ -1,14 +1,16 @@
 //! What a command came to, as JSON values.
 
-ghost use Rattle.std.specs.Prelude.{◌≡◌, Some, IfOk, map, option_map};
+ghost use Rattle.std.specs.Prelude.{◌≡◌, Some, IfOk, codes, map, option_and_then, option_map};
 ghost use Rattle.std.specs.List.{zip};
-ghost use Rattle.serde_json.specs.Data.{array, no_members, object, string};
+ghost use Rattle.serde_json.specs.Data.{array, member, no_members, object, string};
 ghost use Rattle.serde_json.specs.View.{items_of, view};
-ghost use Rattle.recall_outcomes.specs.Json.{audited_json, blocked_members, captured_members, created_json, differs_json, doc_members, document_json, effects_json, fault_json, fault_members, line_members, list_of, misfit_json, note_json, outside_json, pair_json, ran_json, refused, report_json, step_members, totals_json, traced_json, trail_json, why_json};
+ghost use Rattle.recall_outcomes.specs.Texts.{before_last};
+ghost use Rattle.recall_outcomes.specs.Json.{audited_json, beside_json, blocked_members, captured_members, created_json, differs_json, doc_members, document_json, effects_json, fault_json, fault_members, line_members, list_of, misfit_json, note_json, outside_json, pair_json, pair_members, quarantined_json, ran_json, refused, report_json, step_members, totals_json, traced_json, trail_json, why_json};
 
 use crate::documents::{DocumentOutcome, Totals};
 use crate::faults::{Failure, Fault};
-use crate::outcomes::{AuditedRecall, CommandRefusal, StartedRecall};
+use crate::outcomes::{AuditedRecall, CommandRefusal, StartedRecall, Ways};
+use crate::report_texts::before_last;
 use epc_core::Epc;
 use event_json::{DocFault, Sequence, SiteNo, Sites};
 use frame_core::RecallId;
@@ -84,7 +86,7 @@ pub(crate) fn ran_json(
 }
 
 /// A pair.
-fn pair_json(alloc: Global, sites: &Sites, pair: &Pair) -> Result<Value, AllocError>
+pub(crate) fn pair_json(alloc: Global, sites: &Sites, pair: &Pair) -> Result<Value, AllocError>
     ensures { IfOk result (λ v. view v ≡ pair_json sites.now pair.now) }
 {
     let site = name_of(sites, pair.site);
@@ -93,7 +95,7 @@ fn pair_json(alloc: Global, sites: &Sites, pair: &Pair) -> Result<Value, AllocEr
 }
 
 /// The pairs of a trail.
-fn pairs_json(alloc: Global, sites: &Sites, pairs: &[Pair]) -> Result<Value, AllocError>
+pub(crate) fn pairs_json(alloc: Global, sites: &Sites, pairs: &[Pair]) -> Result<Value, AllocError>
     ensures { IfOk result (λ v. view v ≡ list_of (pair_json sites.now) pairs.now) }
 {
     let mut list = Vec::new(alloc);
@@ -107,9 +109,9 @@ fn pairs_json(alloc: Global, sites: &Sites, pairs: &[Pair]) -> Result<Value, All
 fn trail_json(
     alloc: Global,
     sites: &Sites,
-    trail: &Option<Sequence<Pair>>,
+    trail: Option<&Sequence<Pair>>,
 ) -> Result<Value, AllocError>
-    ensures { IfOk result (λ v. view v ≡ trail_json sites.now trail.now) }
+    ensures { IfOk result (λ v. view v ≡ trail_json sites.now (option_map (λ t. t.now) trail.entry)) }
 {
     match trail {
         None => Ok(Value::Null),
@@ -117,14 +119,14 @@ fn trail_json(
     }
 }
 
-/// A quarantined pair, and the trail to it.
-fn traced_json(
+/// A pair, and its trail, where there is one.
+pub(crate) fn traced_json(
     alloc: Global,
     sites: &Sites,
     pair: &Pair,
-    trail: &Option<Sequence<Pair>>,
+    trail: Option<&Sequence<Pair>>,
 ) -> Result<Value, AllocError>
-    ensures { IfOk result (λ v. view v ≡ traced_json sites.now (pair.now, trail.now)) }
+    ensures { IfOk result (λ v. view v ≡ traced_json sites.now (pair.now, option_map (λ t. t.now) trail.entry)) }
 {
     let site = name_of(sites, pair.site);
     let item = pair.item.key(alloc)?;
@@ -132,18 +134,72 @@ fn traced_json(
     json!(in alloc; {"item": item.as_str(), "site": site, "trail": trail})
 }
 
-/// The quarantined pairs, each with its trail.
-fn all_traced_json(
+/// A quarantined pair, and how a trail from the root leads to it, where one does.
+pub(crate) fn quarantined_json(
     alloc: Global,
     sites: &Sites,
+    ways: Ways,
+    pair: &Pair,
+    trail: Option<&Sequence<Pair>>,
+) -> Result<Value, AllocError>
+    ensures { IfOk result (λ v. view v ≡ quarantined_json sites.now ways (pair.now, option_map (λ t. t.now) trail.entry)) }
+{
+    match ways {
+        Ways::Trails => traced_json(alloc, sites, pair, trail),
+        Ways::Steps => from_json(alloc, sites, pair, before_some_last(trail)),
+    }
+}
+
+/// The pair before the last one of a trail, where there is one.
+fn before_some_last(trail: Option<&Sequence<Pair>>) -> Option<&Pair>
+    ensures { option_map (λ p. p.now) result ≡ option_and_then before_last (option_map (λ t. t.now) trail.entry) }
+{
+    before_last(trail?.as_slice())
+}
+
+/// A pair, and the one before it on its trail, where there is one.
+fn from_json(
+    alloc: Global,
+    sites: &Sites,
+    pair: &Pair,
+    beside: Option<&Pair>,
+) -> Result<Value, AllocError>
+    ensures { IfOk result (λ v. view v
+        ≡ object (member (codes "from") (beside_json sites.now (option_map (λ p. p.now) beside.entry)) (pair_members sites.now pair.now no_members))) }
+{
+    let site = name_of(sites, pair.site);
+    let item = pair.item.key(alloc)?;
+    let from = beside_json(alloc, sites, beside)?;
+    json!(in alloc; {"from": from, "item": item.as_str(), "site": site})
+}
+
+/// A pair beside another one, or null.
+pub(crate) fn beside_json(
+    alloc: Global,
+    sites: &Sites,
+    beside: Option<&Pair>,
+) -> Result<Value, AllocError>
+    ensures { IfOk result (λ v. view v ≡ beside_json sites.now (option_map (λ p. p.now) beside.entry)) }
+{
+    match beside {
+        None => Ok(Value::Null),
+        Some(pair) => pair_json(alloc, sites, pair),
+    }
+}
+
+/// The quarantined pairs, each with how its trail leads to it.
+fn all_quarantined_json(
+    alloc: Global,
+    sites: &Sites,
+    ways: Ways,
     pairs: &[Pair],
     trails: &[Option<Sequence<Pair>>],
 ) -> Result<Value, AllocError>
-    ensures { IfOk result (λ v. view v ≡ list_of (traced_json sites.now) (zip pairs.now trails.now)) }
+    ensures { IfOk result (λ v. view v ≡ list_of (quarantined_json sites.now ways) (zip pairs.now trails.now)) }
 {
     let mut list = Vec::new(alloc);
     for (pair, trail) in pairs.iter().zip(trails) {
-        list.push(traced_json(alloc, sites, pair, trail)?)?;
+        list.push(quarantined_json(alloc, sites, ways, pair, trail.as_ref())?)?;
     }
     Ok(list_value(list))
 }
@@ -162,7 +218,7 @@ fn outside_json(
 }
 
 /// The shipments out of the traced sites.
-fn outsides_json(
+pub(crate) fn outsides_json(
     alloc: Global,
     sites: &Sites,
     shipments: &[OutsideShipment],
@@ -177,18 +233,21 @@ fn outsides_json(
 }
 
 /// A report.
+#[tactic(auto, unfolding(crate::specs::Json::report_json))]
 pub(crate) fn report_json(
     alloc: Global,
     sites: &Sites,
     recall: RecallId,
     report: &RecallReport,
+    ways: Ways,
 ) -> Result<Value, AllocError>
-    ensures { IfOk result (λ v. view v ≡ report_json sites.now recall report.now) }
+    ensures { IfOk result (λ v. view v ≡ report_json sites.now recall report.now ways) }
 {
     let outside = outsides_json(alloc, sites, report.outside.as_slice())?;
-    let pairs = all_traced_json(
+    let pairs = all_quarantined_json(
         alloc,
         sites,
+        ways,
         report.pairs.as_slice(),
         report.trails.as_slice(),
     )?;
@@ -346,7 +405,7 @@ fn names_json(alloc: Global, sites: &Sites) -> Result<Vec<Value>, AllocError>
 }
 
 /// A list of values.
-fn list_value(values: Vec<Value>) -> Value
+pub(crate) fn list_value(values: Vec<Value>) -> Value
     ensures { view result ≡ array (items_of (map view values.items)) }
 {
     Value::Array(values)

@@ -1,6 +1,6 @@
 //! Laws of outcomes, each named by a function with an empty body whose contract is the law.
 
-ghost use Rattle.recall_outcomes.specs.Laws.{DocumentsHaveTheirWords, EachReasonIsALine, EachSentenceIsALine, OneIsRefused, RefusedDocumentsAreCounted};
+ghost use Rattle.recall_outcomes.specs.Laws.{AdviceIsALine, DocumentsHaveTheirWords, EachReasonIsALine, EachSentenceIsALine, OneIsRefused, RefusedDocumentsAreCounted};
 
 /// An outcome of status 1 is a refusal, and its text begins with `refused ` where it has a reason.
 pub fn status_one_is_refused()
@@ -25,4 +25,9 @@ pub fn documents_have_their_words()
 /// A refused document makes the status 1, and a captured one leaves it as it is.
 pub fn refused_documents_are_counted()
     ensures { RefusedDocumentsAreCounted }
+{}
+
+/// What is advised after an answer is a line that begins with `note: `.
+pub fn advice_is_a_line()
+    ensures { AdviceIsALine }
 {}

@@ -4,6 +4,7 @@
 //! of the error stream are functions of it, each stated once.
 #![tactic(auto)]
 
+mod advice;
 mod documents;
 mod faults;
 mod json;
@@ -11,12 +12,16 @@ pub mod laws;
 mod notes;
 mod outcomes;
 mod printing;
+mod query_json;
+mod query_texts;
 mod report_texts;
 mod sentences;
 mod texts;
+mod trace_json;
+mod trace_texts;
 
 pub use documents::{DocumentOutcome, Totals};
 pub use faults::{Failure, Fault};
 pub use notes::untraced_text;
-pub use outcomes::{AuditedRecall, CommandRefusal, Form, Outcome, StartedRecall};
+pub use outcomes::{AuditedRecall, CommandRefusal, Form, Outcome, StartedRecall, Ways};
 pub use printing::note_lines;

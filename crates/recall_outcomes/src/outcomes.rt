@@ -2,12 +2,13 @@
 
 ghost use Rattle.std.specs.Prelude.{◌≡◌};
 ghost use Rattle.std.specs.List.{list_any};
-ghost use Rattle.recall_outcomes.specs.Statuses.{is_amiss, outcome_status};
+ghost use Rattle.recall_outcomes.specs.Statuses.{is_amiss, is_open, outcome_status};
 
-use event_json::SitesFault;
+use event_json::SiteNo;
 use frame_core::RecallId;
+use query_core::{KnownItem, RecallDetail, RecallStatus};
 use recall_text::RefusedLine;
-use report_core::{RecallReport, Verdict};
+use report_core::{BackTrace, RecallReport, Trace, Verdict};
 use site_core::{Effects, Refusal};
 use site_recovery::Misfit;
 
@@ -18,6 +19,15 @@ pub enum Form {
     Text,
     /// Lines that are a JSON object each.
     Json,
+}
+
+/// How it is told how each pair of a report or a trace is reached.
+#[derive(Clone, Copy, Debug, PartialEq, Eq)]
+pub enum Ways {
+    /// By all pairs of its trail.
+    Trails,
+    /// By the pair beside it on its trail.
+    Steps,
 }
 
 /// A recall as the site that began it keeps it.
@@ -49,6 +59,39 @@ pub enum Outcome {
     Reported {
         recall: RecallId,
         report: RecallReport,
+        ways: Ways,
+    },
+    /// An item was traced to where it went.
+    Traced {
+        trace: Trace,
+        ways: Ways,
+    },
+    /// An item was traced to where it came from.
+    TracedBack {
+        trace: BackTrace,
+        ways: Ways,
+    },
+    /// How the recalls that sites have begun stand, by site and then by number.
+    Standing {
+        recalls: Vec<RecallStatus>,
+        /// Whether the program's status tells that one is open.
+        coded: bool,
+    },
+    /// How one recall stands, and what it waits for.
+    Waiting {
+        detail: RecallDetail,
+        /// Whether the program's status tells that it is open.
+        coded: bool,
+    },
+    /// Items that a site knows.
+    Known {
+        site: SiteNo,
+        items: Vec<KnownItem>,
+    },
+    /// What the site where a recall would begin would quarantine and send at once. Nothing was begun.
+    WouldStart {
+        quarantined: u64,
+        messages: u64,
     },
     /// The records are consistent, and each recall was audited, by site and then by number.
     Audited(Vec<AuditedRecall>),
@@ -80,7 +123,8 @@ pub enum CommandRefusal {
 }
 
 impl Outcome {
-    /// The status of a program that ends with it: 0 done, 1 refused, 4 a discrepancy.
+    /// The status of a program that ends with it: 0 done, 1 refused, 4 a discrepancy, and where it was asked for, 5 for a
+    /// recall that is open.
     pub fn status(&self) -> u8
         ensures { result ≡ outcome_status self.now }
     {
@@ -91,6 +135,28 @@ impl Outcome {
             Outcome::Reported {
                 recall: _,
                 report: _,
+                ways: _,
+            } => 0,
+            Outcome::Traced { trace: _, ways: _ } => 0,
+            Outcome::TracedBack { trace: _, ways: _ } => 0,
+            Outcome::Standing { recalls, coded } => {
+                if *coded && some_open(recalls.as_slice()) {
+                    5
+                } else {
+                    0
+                }
+            }
+            Outcome::Waiting { detail, coded } => {
+                if *coded && is_open(&detail.status) {
+                    5
+                } else {
+                    0
+                }
+            }
+            Outcome::Known { site: _, items: _ } => 0,
+            Outcome::WouldStart {
+                quarantined: _,
+                messages: _,
             } => 0,
             Outcome::Audited(recalls) => { if some_amiss(recalls.as_slice()) { 4 } else { 0 } }
             Outcome::Inconsistent(_) => 4,
@@ -120,4 +186,18 @@ fn is_amiss(audited: &AuditedRecall) -> bool
             },
         ) => true,
     }
+}
+
+/// Whether some recall is open.
+pub(crate) fn some_open(recalls: &[RecallStatus]) -> bool
+    ensures { result ≡ list_any is_open recalls.now }
+{
+    recalls.iter().any(|recall| is_open(recall))
+}
+
+/// Whether a recall is open: the site that began it hasn't recorded the end.
+pub(crate) fn is_open(status: &RecallStatus) -> bool
+    ensures { result ≡ is_open status.now }
+{
+    !status.ended
 }

@@ -5,7 +5,7 @@ ghost use Rattle.std.specs.Str.Lines.{lines};
 ghost use Rattle.serde_json.specs.View.{view};
 ghost use Rattle.serde_json.specs.Written.{has_float};
 ghost use Rattle.recall_outcomes.specs.Faults.{fault_text, file_line};
-ghost use Rattle.recall_outcomes.specs.Json.{audited_json, json_line, json_lines, note_json, outcome_json, ran_json, why_json};
+ghost use Rattle.recall_outcomes.specs.Json.{audited_json, json_line, json_lines, known_json, note_json, outcome_json, ran_json, status_json, why_json};
 ghost use Rattle.recall_outcomes.specs.Printing.{bare_line, document_line, fault_lines, note_lines, outcome_lines, totals_line};
 
 use crate::documents::{DocumentOutcome, Totals};
@@ -15,7 +15,10 @@ use crate::json::{
     ran_json, report_json, totals_json, why_json,
 };
 use crate::outcomes::{AuditedRecall, CommandRefusal, Form, Outcome, StartedRecall};
-use event_json::Sites;
+use crate::query_json::{detail_json, known_json, status_json, would_json};
+use crate::trace_json::{back_json, trace_json};
+use event_json::{SiteNo, Sites};
+use query_core::{KnownItem, RecallStatus};
 use serde_json::Value;
 use std::alloc::{AllocError, Global};
 
@@ -31,7 +34,7 @@ impl Outcome {
     }
 
     /// Its values, a line for each.
-    #[tactic(auto, using(crate::proofs::Floats::created_free, crate::proofs::Floats::effects_free, crate::proofs::Floats::report_free))]
+    #[tactic(auto, using(crate::proofs::Floats::created_free, crate::proofs::Floats::effects_free, crate::proofs::Floats::report_free, crate::proofs::Floats::trace_free, crate::proofs::Floats::back_free, crate::proofs::Floats::detail_free))]
     fn json_lines(&self, alloc: Global, sites: &Sites) -> Result<String, AllocError>
         ensures { IfOk result (λ t. string_bytes t ≡ json_lines (outcome_json sites.now self.now)) }
     {
@@ -39,9 +42,28 @@ impl Outcome {
             Outcome::Created => one_line(alloc, &created_json(alloc, sites)?),
             Outcome::Stepped(effects) => one_line(alloc, &effects_json(alloc, sites, effects)?),
             Outcome::Ran(recalls) => ran_lines(alloc, sites, recalls.as_slice()),
-            Outcome::Reported { recall, report } => {
-                one_line(alloc, &report_json(alloc, sites, *recall, report)?)
+            Outcome::Reported {
+                recall,
+                report,
+                ways,
+            } => one_line(alloc, &report_json(alloc, sites, *recall, report, *ways)?),
+            Outcome::Traced { trace, ways } => {
+                one_line(alloc, &trace_json(alloc, sites, trace, *ways)?)
             }
+            Outcome::TracedBack { trace, ways } => {
+                one_line(alloc, &back_json(alloc, sites, trace, *ways)?)
+            }
+            Outcome::Standing { recalls, coded: _ } => {
+                status_lines(alloc, sites, recalls.as_slice())
+            }
+            Outcome::Waiting { detail, coded: _ } => {
+                one_line(alloc, &detail_json(alloc, sites, detail)?)
+            }
+            Outcome::Known { site, items } => known_lines(alloc, sites, *site, items.as_slice()),
+            Outcome::WouldStart {
+                quarantined,
+                messages,
+            } => one_line(alloc, &would_json(alloc, *quarantined, *messages)?),
             Outcome::Audited(recalls) => audited_lines(alloc, sites, recalls.as_slice()),
             Outcome::Inconsistent(misfit) => one_line(alloc, &misfit_json(alloc, sites, *misfit)?),
             Outcome::Refused(whys) => why_lines(alloc, sites, whys.as_slice()),
@@ -74,6 +96,36 @@ fn ran_lines(alloc: Global, sites: &Sites, recalls: &[StartedRecall]) -> Result<
     let mut text = String::new(alloc);
     for recall in recalls {
         push_line(alloc, &mut text, &ran_json(alloc, sites, recall)?)?;
+    }
+    Ok(text)
+}
+
+#[tactic(auto, using(crate::proofs::Floats::status_free))]
+fn status_lines(
+    alloc: Global,
+    sites: &Sites,
+    recalls: &[RecallStatus],
+) -> Result<String, AllocError>
+    ensures { IfOk result (λ t. string_bytes t ≡ json_lines (map (status_json sites.now) recalls.now)) }
+{
+    let mut text = String::new(alloc);
+    for recall in recalls {
+        push_line(alloc, &mut text, &status_json(alloc, sites, recall)?)?;
+    }
+    Ok(text)
+}
+
+fn known_lines(
+    alloc: Global,
+    sites: &Sites,
+    site: SiteNo,
+    items: &[KnownItem],
+) -> Result<String, AllocError>
+    ensures { IfOk result (λ t. string_bytes t ≡ json_lines (map (known_json sites.now site) items.now)) }
+{
+    let mut text = String::new(alloc);
+    for item in items {
+        push_line(alloc, &mut text, &known_json(alloc, sites, site, item)?)?;
     }
     Ok(text)
 }

@@ -1,9 +1,11 @@
 //! The text of a report: a recall, the pairs that it quarantined with the trails to them, and what left the traced
 //! sites.
 
-ghost use Rattle.std.specs.Prelude.{◌≡◌, ◌++◌, IfOk, OnOk, string_bytes};
-ghost use Rattle.recall_outcomes.specs.Texts.{head_text, outside_text, outsides_text, pairs_text, report_text, step_text, trail_text};
+ghost use Rattle.std.specs.Prelude.{◌≡◌, ◌++◌, IfOk, OnOk, option_map, string_bytes};
+ghost use Rattle.recall_outcomes.specs.Texts.{before_last, beside_text, head_text, led_text, outside_text, outsides_text, pairs_text, report_text, step_text, total_text, trail_text};
+ghost use Rattle.recall_text.specs.Words.{pair_text};
 
+use crate::outcomes::Ways;
 use event_json::{Sequence, Sites};
 use frame_core::RecallId;
 use recall_text::telling::{ended_word, name_of, push_pair, recall_text};
@@ -17,22 +19,35 @@ pub(crate) fn report_text(
     sites: &Sites,
     recall: RecallId,
     report: &RecallReport,
+    ways: Ways,
 ) -> Result<String, AllocError>
-    ensures { IfOk result (λ t. string_bytes t ≡ report_text sites.now recall report.now) }
+    ensures { IfOk result (λ t. string_bytes t ≡ report_text sites.now recall report.now ways) }
 {
     let mut text = head_text(alloc, sites, recall, &report.root, report.ended)?;
     push_pairs(
         alloc,
         &mut text,
         sites,
+        ways,
         report.pairs.as_slice(),
         report.trails.as_slice(),
     )?;
     push_outsides(alloc, &mut text, sites, report.outside.as_slice())?;
-    let (pairs, outside) = (report.pairs.len(), report.outside.len());
-    let total = format!(in alloc; "total {pairs} outside {outside}\n")?;
-    text.push_str(total.as_str())?;
+    push_total(alloc, &mut text, report.pairs.len(), report.outside.len())?;
     Ok(text)
+}
+
+/// Adds how many pairs there are, and how many shipments left.
+pub(crate) fn push_total(
+    alloc: Global,
+    text: &mut String,
+    pairs: usize,
+    outside: usize,
+) -> Result<(), AllocError>
+    ensures { OnOk result (string_bytes text.new ≡ string_bytes text.old ++ total_text pairs outside) }
+{
+    let total = format!(in alloc; "total {pairs} outside {outside}\n")?;
+    text.push_str(total.as_str())
 }
 
 /// The line of the recall and its root.
@@ -56,23 +71,87 @@ fn head_text(
     Ok(text)
 }
 
-/// Adds each pair and the trail to it.
+/// Adds each pair, and how a trail leads to it.
 fn push_pairs(
     alloc: Global,
     text: &mut String,
     sites: &Sites,
+    ways: Ways,
     pairs: &[Pair],
     trails: &[Option<Sequence<Pair>>],
 ) -> Result<(), AllocError>
-    ensures { OnOk result (string_bytes text.new ≡ string_bytes text.old ++ pairs_text sites.now pairs.now trails.now) }
+    ensures { OnOk result (string_bytes text.new ≡ string_bytes text.old ++ pairs_text sites.now ways pairs.now trails.now) }
 {
     for (pair, trail) in pairs.iter().zip(trails) {
-        push_pair(alloc, text, sites, pair)?;
-        if let Some(trail) = trail {
-            push_trail(alloc, text, sites, trail.as_slice())?;
+        match trail {
+            None => push_pair(alloc, text, sites, pair)?,
+            Some(trail) => push_led(alloc, text, sites, ways, pair, trail.as_slice())?,
         }
     }
     Ok(())
+}
+
+/// Adds a pair, and how a trail from the root leads to it.
+pub(crate) fn push_led(
+    alloc: Global,
+    text: &mut String,
+    sites: &Sites,
+    ways: Ways,
+    pair: &Pair,
+    trail: &[Pair],
+) -> Result<(), AllocError>
+    ensures { OnOk result (string_bytes text.new ≡ string_bytes text.old ++ led_text sites.now ways pair.now trail.now) }
+{
+    match ways {
+        Ways::Trails => push_with_trail(alloc, text, sites, pair, trail),
+        Ways::Steps => push_beside(alloc, text, sites, " from ", pair, before_last(trail)),
+    }
+}
+
+/// Adds a pair, and its trail.
+pub(crate) fn push_with_trail(
+    alloc: Global,
+    text: &mut String,
+    sites: &Sites,
+    pair: &Pair,
+    trail: &[Pair],
+) -> Result<(), AllocError>
+    ensures { OnOk result (string_bytes text.new ≡ string_bytes text.old ++ pair_text sites.now pair.now ++ trail_text sites.now trail.now) }
+{
+    push_pair(alloc, text, sites, pair)?;
+    push_trail(alloc, text, sites, trail)
+}
+
+/// Adds a pair, and behind a word the pair beside it on its trail, where there is one.
+pub(crate) fn push_beside(
+    alloc: Global,
+    text: &mut String,
+    sites: &Sites,
+    word: &str,
+    pair: &Pair,
+    beside: Option<&Pair>,
+) -> Result<(), AllocError>
+    ensures { OnOk result (string_bytes text.new ≡ string_bytes text.old
+        ++ beside_text sites.now word.now pair.now (option_map (λ p. p.now) beside.entry)) }
+{
+    let Some(beside) = beside else {
+        return push_pair(alloc, text, sites, pair);
+    };
+    let (name, other) = (name_of(sites, pair.site), name_of(sites, beside.site));
+    let (key, other_key) = (pair.item.key(alloc)?, beside.item.key(alloc)?);
+    let line = format!(in alloc; "pair {name} {key}{word}{other} {other_key}\n")?;
+    text.push_str(line.as_str())
+}
+
+/// The pair before the last one of a trail, where there is one.
+pub(crate) fn before_last(trail: &[Pair]) -> Option<&Pair>
+    ensures { option_map (λ p. p.now) result ≡ before_last trail.now }
+{
+    if trail.len() < 2 {
+        None
+    } else {
+        trail.get(trail.len() - 2)
+    }
 }
 
 /// Adds a line for each pair of a trail, with its place on the trail, from 1.
@@ -107,7 +186,7 @@ fn push_step(
 }
 
 /// Adds a line for each shipment out of the traced sites.
-fn push_outsides(
+pub(crate) fn push_outsides(
     alloc: Global,
     text: &mut String,
     sites: &Sites,

@@ -6,7 +6,9 @@ ghost use Rattle.recall_outcomes.specs.Texts.{audited_text, differs_text, misfit
 ghost use Rattle.recall_text.specs.SiteLists.{refused_line_words};
 
 use crate::outcomes::{AuditedRecall, CommandRefusal, Outcome, StartedRecall};
+use crate::query_texts::{detail_text, items_text, statuses_text, would_text};
 use crate::report_texts::report_text;
+use crate::trace_texts::{back_text, trace_text};
 use event_json::Sites;
 use frame_core::RecallId;
 use recall_text::telling::{effects_text, ended_word, name_of, recall_text, refusal_text};
@@ -17,8 +19,8 @@ use std::alloc::{AllocError, Global};
 use trace_core::Pair;
 
 impl Outcome {
-    /// The lines that it prints on the standard output, of which each ends with LF: for each recall, pair, shipment or
-    /// refusal its own. It is empty for [`Outcome::Created`], and where no recall was begun.
+    /// The lines that it prints on the standard output, of which each ends with LF: for each recall, pair, shipment,
+    /// item or refusal its own. It is empty for [`Outcome::Created`], and where no recall was begun.
     ///
     /// # Errors
     /// Where memory runs out.
@@ -29,7 +31,22 @@ impl Outcome {
             Outcome::Created => Ok(String::new(alloc)),
             Outcome::Stepped(effects) => effects_text(alloc, sites, "", effects),
             Outcome::Ran(recalls) => ran_lines(alloc, sites, recalls.as_slice()),
-            Outcome::Reported { recall, report } => report_text(alloc, sites, *recall, report),
+            Outcome::Reported {
+                recall,
+                report,
+                ways,
+            } => report_text(alloc, sites, *recall, report, *ways),
+            Outcome::Traced { trace, ways } => trace_text(alloc, sites, trace, *ways),
+            Outcome::TracedBack { trace, ways } => back_text(alloc, sites, trace, *ways),
+            Outcome::Standing { recalls, coded: _ } => {
+                statuses_text(alloc, sites, recalls.as_slice())
+            }
+            Outcome::Waiting { detail, coded: _ } => detail_text(alloc, sites, detail),
+            Outcome::Known { site, items } => items_text(alloc, sites, *site, items.as_slice()),
+            Outcome::WouldStart {
+                quarantined,
+                messages,
+            } => would_text(alloc, *quarantined, *messages),
             Outcome::Audited(recalls) => audited_lines(alloc, sites, recalls.as_slice()),
             Outcome::Inconsistent(misfit) => misfit_text(alloc, sites, *misfit),
             Outcome::Refused(whys) => refused_lines(alloc, sites, whys.as_slice()),

@@ -18,4 +18,7 @@ returns c =
     let fourth = adds_command _ _ _ _ _ c.in_ok-subcommand-3.ensures third c.in_ok-start.ensures refl in
     let fifth = adds_command _ _ _ _ _ c.in_ok-subcommand-4.ensures fourth c.in_ok-run.ensures refl in
     let sixth = adds_command _ _ _ _ _ c.in_ok-subcommand-5.ensures fifth c.in_ok-report.ensures refl in
-    IfOk-weaker c.subcommand-7.result _ _ (λ command adds. adds_command _ _ command _ _ adds sixth c.in_ok-audit.ensures refl) c.subcommand-7.ensures
+    let seventh = adds_command _ _ _ _ _ c.in_ok-subcommand-6.ensures sixth c.in_ok-audit.ensures refl in
+    let eighth = adds_command _ _ _ _ _ c.in_ok-subcommand-7.ensures seventh c.in_ok-trace.ensures refl in
+    let ninth = adds_command _ _ _ _ _ c.in_ok-subcommand-8.ensures eighth c.in_ok-status.ensures refl in
+    IfOk-weaker c.subcommand-10.result _ _ (λ command adds. adds_command _ _ command _ _ adds ninth c.in_ok-items.ensures refl) c.subcommand-10.ensures

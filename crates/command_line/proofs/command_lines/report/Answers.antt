@@ -4,6 +4,5 @@ use Rattle.command_line.proofs.command_lines.report.Goals as goal
 
 pub returns : goal.returns
 returns c =
-    IfOk-weaker c.arg.result _ _
-    (λ command adds. adds_rule _ _ command _ _ adds c.required.ensures.local c.in_ok-on_folder.ensures c.required.ensures.rule)
-    c.arg.ensures
+    let with1 = adds_rule _ _ _ _ _ c.in_ok-arg.ensures c.required.ensures.local c.in_ok-on_folder.ensures c.required.ensures.rule in
+    IfOk-weaker c.arg-2.result _ _ (λ command adds. adds_rule _ _ command _ _ adds c.brief.ensures.local with1 c.brief.ensures.rule) c.arg-2.ensures

@@ -4,8 +4,6 @@ use Rattle.command_line.proofs.command_lines.start.Goals as goal
 
 pub returns : goal.returns
 returns c =
-    IfOk-weaker c.arg-2.result _ _
-    (λ command adds. adds_rule _ _ command _ _ adds c.required-2.ensures.local
-    (adds_rule _ _ _ _ _ c.in_ok-arg.ensures c.required.ensures.local c.in_ok-on_folder.ensures c.required.ensures.rule)
-    c.required-2.ensures.rule)
-    c.arg-2.ensures
+    let with1 = adds_rule _ _ _ _ _ c.in_ok-arg.ensures c.required.ensures.local c.in_ok-on_folder.ensures c.required.ensures.rule in
+    let with2 = adds_rule _ _ _ _ _ c.in_ok-arg-2.ensures c.required-2.ensures.local with1 c.required-2.ensures.rule in
+    IfOk-weaker c.arg-3.result _ _ (λ command adds. adds_rule _ _ command _ _ adds c.flag.ensures.local with2 c.flag.ensures.rule) c.arg-3.ensures

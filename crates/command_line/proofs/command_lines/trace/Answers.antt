@@ -1,0 +1,10 @@
+use Rattle.std.proofs.lemmas.Result.{IfOk-weaker}
+use Rattle.command_line.proofs.Assembly.{adds_rule}
+use Rattle.command_line.proofs.command_lines.trace.Goals as goal
+
+pub returns : goal.returns
+returns c =
+    let with1 = adds_rule _ _ _ _ _ c.in_ok-arg.ensures c.required.ensures.local c.in_ok-on_folder.ensures c.required.ensures.rule in
+    let with2 = adds_rule _ _ _ _ _ c.in_ok-arg-2.ensures c.required-2.ensures.local with1 c.required-2.ensures.rule in
+    let with3 = adds_rule _ _ _ _ _ c.in_ok-arg-3.ensures c.flag.ensures.local with2 c.flag.ensures.rule in
+    IfOk-weaker c.arg-4.result _ _ (λ command adds. adds_rule _ _ command _ _ adds c.brief.ensures.local with3 c.brief.ensures.rule) c.arg-4.ensures

@@ -1,0 +1,28 @@
+use Rattle.std.proofs.Common.{◌≡◌, Some, sym, ap, subst, ◌∙◌}
+use Rattle.std.specs.Option.{option_map}
+use Rattle.recall_text.specs.Numbers.{recall_of}
+use Rattle.folder_commands.specs.Calls.{AtSite, ReportsBy, TellsAll}
+use Rattle.folder_commands.specs.Reports.{AnswersReport}
+use Rattle.folder_commands.proofs.CallsInTurn.{ok_so}
+use Rattle.folder_commands.proofs.reports.report_in.Goals as goal
+
+pub returns : goal.returns
+returns g c =
+    let shown = g.K.SiteKeeper.shown in
+    let stored = g.K.SiteKeeper.stored in
+    let folder = c.args.folder.now in
+    let sites = c.args.sites.now in
+    let ways = c.args.ways in
+    let name = c.in-Some.name.now in
+    let number = c.in-Some.number in
+    let asked : Some (name, number) ≡ recall_of c.args.recall.now = sym (ap (option_map (λ r. (r.0.now, r.1))) c.in-Some.is) ∙ c.recall_of.ensures in
+    let found = sym c.in-Some-find.is ∙ c.find.ensures in
+    ok_so c.ask_all.result
+    (λ o led. record {
+      calls = led.calls;
+      are =
+          subst (λ x. ReportsBy shown stored folder sites x ways o led.calls) asked
+          (subst (λ x. AtSite name x (λ s. TellsAll shown stored folder sites (λ rs y. AnswersReport rs (record { site = s; number = number }) ways y)) o led.calls) found led.are);
+      led = led.led;
+    })
+    c.ask_all.ensures

@@ -1,0 +1,24 @@
+-- What a trace of an item comes to.
+use Rattle.std.specs.Prelude.{◌≡◌, ℕ, Bool, true, false, List}
+use Rattle.report_core.specs.Traces.{IsBackTrace, IsKnownAt, IsTrace}
+use Rattle.recall_outcomes.specs.declared.outcomes.CommandRefusal.TheVariants.{Step}
+use Rattle.recall_outcomes.specs.declared.outcomes.Outcome.{Outcome}
+use Rattle.recall_outcomes.specs.declared.outcomes.Outcome.TheVariants.{Traced, TracedBack, Refused}
+use Rattle.recall_outcomes.specs.declared.outcomes.Ways.{Ways}
+use Rattle.site_core.specs.Records.{Record}
+use Rattle.site_core.specs.declared.outcomes.Refusal.TheVariants.{UnknownItem}
+use Rattle.site_recovery.specs.Looks.{world_of}
+use Rattle.folder_commands.specs.Refusals.{IsRefusal}
+
+-- the site doesn't know the item, and that is the refusal
+abbrev pub RefusesUnknown : List Record → ℕ → List ℕ → Outcome → Type 0
+RefusesUnknown records site item outcome = (IsKnownAt (world_of records) site item → ⊥) × IsRefusal (Step UnknownItem) outcome
+
+-- The item at the site is traced to where it went, or back to where it came from, and its ways are told as they were asked for; or
+-- the site doesn't know it.
+abbrev pub AnswersTrace : List Record → ℕ → List ℕ → Bool → Ways → Outcome → Type 0
+AnswersTrace records site item false ways (Traced trace told) = (told ≡ ways) × IsTrace records site item trace × IsKnownAt (world_of records) site item
+AnswersTrace records site item true ways (TracedBack trace told) =
+    (told ≡ ways) × IsBackTrace records site item trace × IsKnownAt (world_of records) site item
+AnswersTrace records site item back ways (Refused whys) = RefusesUnknown records site item (Refused whys)
+AnswersTrace records site item back ways other = ⊥

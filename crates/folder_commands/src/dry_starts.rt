@@ -1,0 +1,126 @@
+//! `start --dry-run`: what the start of a recall would do at its site.
+
+ghost use Rattle.std.specs.Prelude.{◌≢◌, IfOk};
+ghost use Rattle.epc_core.specs.Reading.{reading};
+ghost use Rattle.event_json.specs.Sites.{named};
+ghost use Rattle.folder_commands.specs.Calls.{AtSite, DryStartsAt, DryStartsItem};
+ghost use Rattle.folder_commands.specs.DryStarts.{TellsStart, effects_of};
+ghost use Rattle.folder_commands.specs.FileCalls.{Led};
+ghost use Rattle.folder_commands.specs.Refusals.{IsRefusal};
+ghost use Rattle.recall_outcomes.specs.declared.outcomes.CommandRefusal.TheVariants.{Step};
+
+use crate::folders::{Files, sites_of};
+use crate::outputs::{Output, no_site, refusal};
+use crate::questions::{SiteQuestion, ask_site};
+use event_json::Sites;
+use keeper_core::SiteKeeper;
+use recall_outcomes::{CommandRefusal, Fault, Outcome};
+use recall_text::telling::item_of;
+use site_core::{Effects, Refusal, SiteInput, SiteState, Stepped, step};
+use std::alloc::Global;
+
+/// Tells how many items of a site of a folder the start of a recall would quarantine there, and how many messages it would
+/// have for other sites. The step is made on a copy of the record: nothing is begun or changed.
+///
+/// # Errors
+/// As those of a start but for those of writing: those of the folder's list, those of opening the site's file. A site that
+/// isn't listed and a text that is no EPC are refused before the file is opened.
+pub fn dry_start<K: SiteKeeper, F: Files<K>>(
+    alloc: Global,
+    files: &mut F,
+    folder: &str,
+    site: &str,
+    item: &str,
+) -> Result<Output, Fault>
+    ensures calls { IfOk result (λ output. Led F.does files.old files.new
+        (DryStartsAt K.shown K.stored folder.now site.now item.now output)) }
+{
+    let sites = sites_of(alloc, files, folder)?;
+    let outcome = dry_start_in(alloc, files, folder, &sites, site, item)?;
+    Ok(Output {
+        sites,
+        outcome,
+        notes: None,
+    })
+}
+
+/// What the start of a recall of an item at the site of a name would do.
+fn dry_start_in<K: SiteKeeper, F: Files<K>>(
+    alloc: Global,
+    files: &mut F,
+    folder: &str,
+    sites: &Sites,
+    site: &str,
+    item: &str,
+) -> Result<Outcome, Fault>
+    ensures { IfOk result (λ outcome. Led F.does files.old files.new (AtSite site.now (named sites.now site.now)
+        (λ number. DryStartsItem K.shown K.stored folder.now sites.now number (reading item.now)) outcome)) }
+{
+    let Some(number) = sites.find(site) else {
+        return Ok(no_site(alloc, site)?);
+    };
+    let Some(item) = item_of(alloc, item)? else {
+        return Ok(refusal(alloc, CommandRefusal::BadEpc)?);
+    };
+    let question = StartOf {
+        input: SiteInput::Start(item),
+    };
+    ask_site(alloc, files, folder, sites, number, &question)
+}
+
+/// What the start of a recall would do.
+#[derive(Drop)]
+struct StartOf {
+    input: SiteInput,
+}
+
+impl SiteQuestion for StartOf {
+    ghost use Rattle.folder_commands.specs.DryStarts.{AnswersDryStart};
+
+    ghost answers = { λ q r o. AnswersDryStart r q.input o };
+
+    fn answer(&self, alloc: Global, state: &SiteState) -> Result<Outcome, Fault> {
+        match step(alloc, state, &self.input) {
+            Ok(stepped) => would_of(&stepped),
+            Err(why) => refused(alloc, why),
+        }
+    }
+}
+
+/// Why a start would be refused, for which memory alone is no reason.
+fn refused(alloc: Global, why: Refusal) -> Result<Outcome, Fault>
+    ensures { IfOk result (λ outcome. (why ≢ Refusal.NoMemory) × IsRefusal (Step why) outcome) }
+{
+    match &why {
+        Refusal::NoMemory => Err(Fault::NoMemory),
+        _ => Ok(refusal(alloc, CommandRefusal::Step(why))?),
+    }
+}
+
+/// What is told of a step.
+fn would_of(stepped: &Stepped) -> Result<Outcome, Fault>
+    ensures { IfOk result (TellsStart (effects_of stepped.now)) }
+{
+    match stepped {
+        Stepped::Same(effects) => would(effects),
+        Stepped::Next(_, effects) => would(effects),
+    }
+}
+
+/// What is told of the effects of a start.
+fn would(effects: &Effects) -> Result<Outcome, Fault>
+    ensures { IfOk result (TellsStart effects.now) }
+{
+    match effects {
+        Effects::Started {
+            quarantined,
+            numbered,
+            ..
+        } => Ok(Outcome::WouldStart {
+            quarantined: *quarantined,
+            messages: *numbered,
+        }),
+        // A start has no other effects.
+        _ => Err(Fault::NoMemory),
+    }
+}

@@ -1,0 +1,112 @@
+//! What is asked of the records that the sites' files keep. A question leaves them as they are.
+
+ghost use Rattle.std.specs.Prelude.{◌≡◌, List, Some, IfOk};
+ghost use Rattle.recall_outcomes.specs.declared.outcomes.Outcome.{Outcome};
+ghost use Rattle.site_core.specs.Records.{Record};
+ghost use Rattle.site_recovery.specs.Checking.{records_at};
+ghost use Rattle.site_recovery.specs.FittingAt.{AreAllSites};
+ghost use Rattle.folder_commands.specs.Calls.{AreShown, TellsAll, TellsSite};
+ghost use Rattle.folder_commands.specs.FileCalls.{Led};
+
+use crate::folders::{Files, close_all, open_all, open_site, records_of};
+use event_json::{SiteNo, Sites};
+use keeper_core::SiteKeeper;
+use recall_outcomes::{Fault, Outcome};
+use site_core::SiteState;
+use site_recovery::are_all_sites;
+use std::alloc::Global;
+
+/// A question to the records of all sites.
+pub(crate) trait Question {
+    ghost use Rattle.std.specs.Prelude.{List, IfOk};
+    ghost use Rattle.recall_outcomes.specs.declared.outcomes.Outcome.{Outcome};
+    ghost use Rattle.site_core.specs.Records.{Record};
+    ghost use Rattle.site_recovery.specs.Checking.{records_at};
+    ghost use Rattle.site_recovery.specs.FittingAt.{AreAllSites};
+
+    /// What these records answer.
+    ghost answers: { Self → List Record → Outcome → Type 0 };
+
+    /// The answer of the records of all sites, in the order of their numbers.
+    fn answer(&self, alloc: Global, records: &[&SiteState]) -> Result<Outcome, Fault>
+        requires all { AreAllSites (records_at records.now) }
+        ensures answered { IfOk result (answers self.now (records_at records.now)) };
+}
+
+/// Asks the records of all sites of a folder, whose files are opened and closed for it.
+pub(crate) fn ask_all<K: SiteKeeper, F: Files<K>, Q: Question>(
+    alloc: Global,
+    files: &mut F,
+    folder: &str,
+    sites: &Sites,
+    question: &Q,
+) -> Result<Outcome, Fault>
+    ensures { IfOk result (λ outcome. Led F.does files.old files.new
+        (TellsAll K.shown K.stored folder.now sites.now (Q.answers question.now) outcome)) }
+{
+    let keepers = open_all(alloc, files, folder, sites)?;
+    let outcome = ask_keepers(alloc, keepers.as_slice(), question);
+    close_all(files, keepers);
+    outcome
+}
+
+/// Asks the records that keepers show.
+fn ask_keepers<K: SiteKeeper, Q: Question>(
+    alloc: Global,
+    keepers: &[K],
+    question: &Q,
+) -> Result<Outcome, Fault>
+    ensures { (rs : List Record) → AreShown K.shown keepers.now rs → IfOk result (Q.answers question.now rs) }
+{
+    let records = records_of(alloc, keepers)?;
+    if !are_all_sites(records.as_slice()) {
+        return Err(Fault::OtherSites);
+    }
+    question.answer(alloc, records.as_slice())
+}
+
+/// A question to the record of one site.
+pub(crate) trait SiteQuestion {
+    ghost use Rattle.std.specs.Prelude.{IfOk};
+    ghost use Rattle.recall_outcomes.specs.declared.outcomes.Outcome.{Outcome};
+    ghost use Rattle.site_core.specs.Records.{Record};
+
+    /// What this record answers.
+    ghost answers: { Self → Record → Outcome → Type 0 };
+
+    /// The answer of a site's record.
+    fn answer(&self, alloc: Global, state: &SiteState) -> Result<Outcome, Fault>
+        ensures answered { IfOk result (answers self.now state.now) };
+}
+
+/// Asks the record of one site of a folder, whose file is opened and closed for it.
+pub(crate) fn ask_site<K: SiteKeeper, F: Files<K>, Q: SiteQuestion>(
+    alloc: Global,
+    files: &mut F,
+    folder: &str,
+    sites: &Sites,
+    site: SiteNo,
+    question: &Q,
+) -> Result<Outcome, Fault>
+    ensures { IfOk result (λ outcome. Led F.does files.old files.new
+        (TellsSite K.shown K.stored folder.now sites.now site (Q.answers question.now) outcome)) }
+{
+    let keeper = open_site(alloc, files, folder, sites, site)?;
+    let outcome = ask_keeper(alloc, &keeper, question);
+    files.close_site(keeper);
+    outcome
+}
+
+/// Asks the record that a keeper shows.
+fn ask_keeper<K: SiteKeeper, Q: SiteQuestion>(
+    alloc: Global,
+    keeper: &K,
+    question: &Q,
+) -> Result<Outcome, Fault>
+    ensures { (r : Record) → K.shown keeper.now ≡ Some r → IfOk result (Q.answers question.now r) }
+{
+    match keeper.view() {
+        Some(state) => question.answer(alloc, state),
+        None => Err(Fault::Closed),
+    }
+}

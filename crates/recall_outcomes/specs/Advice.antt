@@ -1,0 +1,49 @@
+-- What a person does next, or should know, after what a command came to: a line for the error stream, behind the answer.
+use Rattle.std.specs.Prelude.{ℕ, Bool, true, false, List, [], ◌∷◌, codes, Option, Some, None}
+use Rattle.std.specs.List.{list_any}
+use Rattle.recall_outcomes.specs.Statuses.{is_open}
+use Rattle.recall_outcomes.specs.declared.outcomes.AuditedRecall.{AuditedRecall}
+use Rattle.recall_outcomes.specs.declared.outcomes.Outcome.{Outcome}
+use Rattle.recall_outcomes.specs.declared.outcomes.Outcome.TheVariants as outcomes
+use Rattle.site_core.specs.declared.outcomes.Effects.{Effects}
+use Rattle.site_core.specs.declared.outcomes.Effects.TheVariants as effects
+
+-- after a start, by whether the recall has ended at once
+abbrev pub start_advice : Bool → List ℕ
+start_advice false = codes "note: `recall run` tells the other sites of the recall; a quarantine is never lifted\n"
+start_advice true = codes "note: nothing of it was shipped to another traced site, so the recall has ended; a quarantine is never lifted\n"
+
+abbrev pub effects_advice : Effects → Option (List ℕ)
+effects_advice (effects.Started r quarantined numbered ended) = Some (start_advice ended)
+effects_advice other = None
+
+-- of a recall that is open
+abbrev pub open_advice : Bool → Option (List ℕ)
+open_advice true = Some (codes "note: `recall run` goes on with what is open\n")
+open_advice false = None
+
+abbrev pub report_advice : Bool → Option (List ℕ)
+report_advice false = Some (codes "note: the recall is open, so this isn't all yet: `recall run` goes on with it\n")
+report_advice true = None
+
+abbrev pub audit_advice : List AuditedRecall → Option (List ℕ)
+audit_advice [] = Some (codes "note: the records of the sites are consistent, and no recall was begun\n")
+audit_advice (r ∷ recalls) = None
+
+abbrev pub would_advice : List ℕ
+would_advice = codes "note: nothing was begun; this is of the site alone, and `recall trace` tells what a recall would find at all sites\n"
+
+abbrev pub advice : Outcome → Option (List ℕ)
+advice outcomes.Created = None
+advice (outcomes.Stepped effects) = effects_advice effects
+advice (outcomes.Ran recalls) = None
+advice (outcomes.Reported r report ways) = report_advice report.ended
+advice (outcomes.Traced trace ways) = None
+advice (outcomes.TracedBack trace ways) = None
+advice (outcomes.Standing recalls coded) = open_advice (list_any is_open recalls.items)
+advice (outcomes.Waiting detail coded) = open_advice (is_open detail.status)
+advice (outcomes.Known site items) = None
+advice (outcomes.WouldStart quarantined messages) = Some would_advice
+advice (outcomes.Audited recalls) = audit_advice recalls.items
+advice (outcomes.Inconsistent misfit) = None
+advice (outcomes.Refused whys) = None

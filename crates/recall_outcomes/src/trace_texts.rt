@@ -1,0 +1,154 @@
+//! The text of a trace: where an item went, or where it came from.
+
+ghost use Rattle.std.specs.Prelude.{◌≡◌, ◌++◌, IfOk, OnOk, string_bytes};
+ghost use Rattle.std.specs.List.{flat_map, zip};
+ghost use Rattle.recall_outcomes.specs.Texts.{back_text, item_text, leading_text, led_pair_text, origin_text, trace_text};
+
+use crate::outcomes::Ways;
+use crate::report_texts::{push_beside, push_led, push_outsides, push_total, push_with_trail};
+use event_json::{Sequence, Sites};
+use recall_text::telling::name_of;
+use report_core::{BackTrace, Trace};
+use std::alloc::{AllocError, Global};
+use trace_core::Pair;
+
+/// The text of a trace to where an item went.
+pub(crate) fn trace_text(
+    alloc: Global,
+    sites: &Sites,
+    trace: &Trace,
+    ways: Ways,
+) -> Result<String, AllocError>
+    ensures { IfOk result (λ t. string_bytes t ≡ trace_text sites.now trace.now ways) }
+{
+    let mut text = String::from_str(alloc, "trace forward ")?;
+    push_item(alloc, &mut text, sites, &trace.root)?;
+    push_all_led(
+        alloc,
+        &mut text,
+        sites,
+        ways,
+        trace.pairs.as_slice(),
+        trace.trails.as_slice(),
+    )?;
+    push_outsides(alloc, &mut text, sites, trace.outside.as_slice())?;
+    push_total(alloc, &mut text, trace.pairs.len(), trace.outside.len())?;
+    Ok(text)
+}
+
+/// The text of a trace to where an item came from.
+pub(crate) fn back_text(
+    alloc: Global,
+    sites: &Sites,
+    trace: &BackTrace,
+    ways: Ways,
+) -> Result<String, AllocError>
+    ensures { IfOk result (λ t. string_bytes t ≡ back_text sites.now trace.now ways) }
+{
+    let mut text = String::from_str(alloc, "trace back ")?;
+    push_item(alloc, &mut text, sites, &trace.root)?;
+    push_all_leading(
+        alloc,
+        &mut text,
+        sites,
+        ways,
+        trace.pairs.as_slice(),
+        trace.trails.as_slice(),
+    )?;
+    push_origins(alloc, &mut text, sites, trace.origins.as_slice())?;
+    let (pairs, origins) = (trace.pairs.len(), trace.origins.len());
+    let total = format!(in alloc; "total {pairs} origins {origins}\n")?;
+    text.push_str(total.as_str())?;
+    Ok(text)
+}
+
+/// Adds an item at a site, to the end of a line.
+fn push_item(alloc: Global, text: &mut String, sites: &Sites, pair: &Pair) -> Result<(), AllocError>
+    ensures { OnOk result (string_bytes text.new ≡ string_bytes text.old ++ item_text sites.now pair.now) }
+{
+    let name = name_of(sites, pair.site);
+    let key = pair.item.key(alloc)?;
+    let line = format!(in alloc; "{name} {key}\n")?;
+    text.push_str(line.as_str())
+}
+
+/// Adds each pair, and how a trail from the root leads to it.
+fn push_all_led(
+    alloc: Global,
+    text: &mut String,
+    sites: &Sites,
+    ways: Ways,
+    pairs: &[Pair],
+    trails: &[Sequence<Pair>],
+) -> Result<(), AllocError>
+    ensures { OnOk result (string_bytes text.new ≡ string_bytes text.old
+        ++ flat_map (led_pair_text sites.now ways) (zip pairs.now trails.now)) }
+{
+    for (pair, trail) in pairs.iter().zip(trails) {
+        push_led(alloc, text, sites, ways, pair, trail.as_slice())?;
+    }
+    Ok(())
+}
+
+/// Adds each pair, and how a trail leads from it to the root.
+fn push_all_leading(
+    alloc: Global,
+    text: &mut String,
+    sites: &Sites,
+    ways: Ways,
+    pairs: &[Pair],
+    trails: &[Sequence<Pair>],
+) -> Result<(), AllocError>
+    ensures { OnOk result (string_bytes text.new ≡ string_bytes text.old
+        ++ flat_map (leading_text sites.now ways) (zip pairs.now trails.now)) }
+{
+    for (pair, trail) in pairs.iter().zip(trails) {
+        push_leading(alloc, text, sites, ways, pair, trail.as_slice())?;
+    }
+    Ok(())
+}
+
+/// Adds a pair, and how a trail leads from it to the root.
+fn push_leading(
+    alloc: Global,
+    text: &mut String,
+    sites: &Sites,
+    ways: Ways,
+    pair: &Pair,
+    trail: &[Pair],
+) -> Result<(), AllocError>
+    ensures { OnOk result (string_bytes text.new ≡ string_bytes text.old ++ leading_text sites.now ways (pair.now, trail.now)) }
+{
+    match ways {
+        Ways::Trails => push_with_trail(alloc, text, sites, pair, trail),
+        Ways::Steps => push_beside(alloc, text, sites, " to ", pair, trail.get(1)),
+    }
+}
+
+/// Adds a line for each pair that no pair is related to.
+fn push_origins(
+    alloc: Global,
+    text: &mut String,
+    sites: &Sites,
+    origins: &[Pair],
+) -> Result<(), AllocError>
+    ensures { OnOk result (string_bytes text.new ≡ string_bytes text.old ++ flat_map (origin_text sites.now) origins.now) }
+{
+    for origin in origins {
+        push_origin(alloc, text, sites, origin)?;
+    }
+    Ok(())
+}
+
+/// Adds the line of a pair that no pair is related to.
+fn push_origin(
+    alloc: Global,
+    text: &mut String,
+    sites: &Sites,
+    origin: &Pair,
+) -> Result<(), AllocError>
+    ensures { OnOk result (string_bytes text.new ≡ string_bytes text.old ++ origin_text sites.now origin.now) }
+{
+    text.push_str("origin ")?;
+    push_item(alloc, text, sites, origin)
+}

@@ -1,0 +1,337 @@
+#!/usr/bin/env bash
+# Asks the built program the questions that change nothing, and compares its answers with those of a second program in python,
+# which knows the events that were captured and nothing of how `recall` works:
+# - trace, forward and back, of each item at each site of small random chains with shipments, pallets and transformations in
+#   parts: the pairs, that each way is a shortest one, origins, what left the traced sites, and --brief;
+# - items, of each site: which there are, how often they are named, and those that contain a text;
+# - status while a recall is open and once it has ended, with --exit-code; a report beside a trace of its root;
+# - start --dry-run, which tells what the start then does. No question changes a byte of a file.
+# Run by hand, and by the gate on the program that it built. RECALL names another program. CHAINS is how many chains are made, 6
+# where it isn't set. It ends with status 0 where all is as it should be.
+set -u
+here=$(cd "$(dirname "$0")/.." && pwd) || exit 2
+recall=${RECALL:-}
+if [ -z "$recall" ]; then
+    "$here/recall" --help >/dev/null || exit 2
+    recall="$here/crates/recall_cli/out/recall_cli"
+fi
+command -v python3 >/dev/null || {
+    echo "python3 isn't installed: no answer is compared"
+    exit 0
+}
+recall=$(realpath -e -- "$recall") || exit 2
+work=$(mktemp -d) || exit 2
+trap 'rm -rf "$work"' EXIT
+cd "$work" || exit 2
+RECALL=$recall CHAINS=${CHAINS:-6} python3 - <<'PYTHON'
+import collections
+import hashlib
+import itertools
+import json
+import os
+import random
+import subprocess
+import sys
+
+RECALL = os.environ["RECALL"]
+SITES = ["north", "east-1", "south_2"]
+answers = 0
+asked = collections.Counter()
+
+
+def ask(*words, status=0):
+    """What the program prints for these words, which ends so."""
+    global answers
+    answers += 1
+    asked[words[0]] += 1
+    ran = subprocess.run([RECALL, *words], capture_output=True, text=True, stdin=subprocess.DEVNULL)
+    if ran.returncode != status:
+        sys.exit(f"{' '.join(words)}: status {ran.returncode}, wanted {status}\n{ran.stdout}{ran.stderr}")
+    return ran.stdout
+
+
+def same(what, told, wanted):
+    if told != wanted:
+        sys.exit(f"{what}\n  told   {told}\n  wanted {wanted}")
+
+
+def fingerprint(folder):
+    """The bytes of all files, but for the logs, which opening a database may write anew."""
+    return {
+        name: hashlib.sha256(open(f"{folder}/{name}", "rb").read()).hexdigest()
+        for name in sorted(os.listdir(folder))
+        if not name.endswith("-wal")
+    }
+
+
+def chain(number):
+    """The events of each site of a chain, as documents and as they are meant."""
+    rand = random.Random(number)
+    items = [f"x{n}" for n in range(12)]
+    some = lambda most: rand.sample(items, rand.randint(1, most))
+    events = {site: [] for site in SITES}
+    for site in SITES:
+        for _ in range(rand.randint(8, 16)):
+            kind = rand.choice(["ship", "ship", "make", "make", "part", "pack", "note"])
+            others = [to for to in SITES if to != site]
+            if kind == "ship":
+                goes = rand.sample([*others, "out-1", "out-2"], rand.randint(1, 2))
+                events[site].append({"kind": "ship", "items": some(2), "to": goes})
+            elif kind == "make":
+                events[site].append({"kind": "make", "id": None, "ins": some(2), "outs": some(2)})
+            elif kind == "part":
+                ins, outs = rand.choice([(some(2), []), ([], some(2)), (some(1), some(1))])
+                events[site].append({"kind": "make", "id": rand.choice(["t1", "t2"]), "ins": ins, "outs": outs})
+            elif kind == "pack":
+                parent, *children = rand.sample(items, rand.randint(2, 4))
+                events[site].append({"kind": "pack", "parent": parent, "children": children, "action": rand.choice(["ADD", "ADD", "DELETE"])})
+            else:
+                events[site].append({"kind": "note", "items": some(3)})
+    return events
+
+
+def document(event, name):
+    """An event as EPCIS has it."""
+    common = {"eventID": f"ni:///{name}", "eventTime": "2024-05-01T08:00:00Z", "eventTimeZoneOffset": "+00:00"}
+    if event["kind"] == "ship":
+        to = [{"type": "location", "destination": f"at:{place}"} for place in event["to"]]
+        return common | {"type": "ObjectEvent", "action": "OBSERVE", "epcList": event["items"], "destinationList": to}
+    if event["kind"] == "note":
+        return common | {"type": "ObjectEvent", "action": "OBSERVE", "epcList": event["items"]}
+    if event["kind"] == "pack":
+        return common | {"type": "AggregationEvent", "action": event["action"], "parentID": event["parent"], "childEPCs": event["children"]}
+    made = common | {"type": "TransformationEvent", "inputEPCList": event["ins"], "outputEPCList": event["outs"]}
+    return made | ({"transformationID": event["id"]} if event["id"] else {})
+
+
+def names(event):
+    return {*event.get("items", []), *event.get("ins", []), *event.get("outs", []), *event.get("children", []), *filter(None, [event.get("parent")])}
+
+
+def inside(events, item):
+    """The item, and what was ever put into it, and into that."""
+    found, left = {item}, [item]
+    while left:
+        here = left.pop()
+        for event in events:
+            if event["kind"] == "pack" and event["action"] == "ADD" and event["parent"] == here:
+                left += [child for child in event["children"] if child not in found]
+                found |= set(event["children"])
+    return found
+
+
+def relate(events):
+    """What each pair is related to, and what was shipped out of the traced sites."""
+    related, out = collections.defaultdict(set), set()
+    for site, own in events.items():
+        for event in own:
+            if event["kind"] == "ship":
+                for item in set().union(*(inside(own, it) for it in event["items"])):
+                    for place in event["to"]:
+                        if place in SITES:
+                            if place != site:
+                                related[site, item].add((place, item))
+                        else:
+                            out.add((site, item, f"at:{place}"))
+            elif event["kind"] == "make":
+                for other in own:
+                    if other is event or (other["kind"] == "make" and event["id"] and other["id"] == event["id"]):
+                        for came, went in itertools.product(event["ins"], other["outs"]):
+                            related[site, came].add((site, went))
+    return related, out
+
+
+def steps(related, root):
+    """Each pair that chains lead to, with how many pairs a shortest one has."""
+    far, left = {root: 1}, [root]
+    for pair in left:
+        for target in related[pair]:
+            if target not in far:
+                far[target] = far[pair] + 1
+                left.append(target)
+    return far
+
+
+def key(item):
+    return f"uri {item}"
+
+
+def pair(words):
+    site, form, item = words
+    same("the form of an item", form, "uri")
+    return site, item
+
+
+def read_trace(text):
+    """A trace as it is printed: its head, its pairs with their ways, its other lines."""
+    head, ways, rest = None, [], []
+    for line in text.splitlines():
+        words = line.split()
+        if line.startswith("  "):
+            same("the place of a step", int(words[0]), len(ways[-1][1]) + 1)
+            ways[-1][1].append(pair(words[1:]))
+        elif words[0] == "trace":
+            head = (words[1], pair(words[2:]))
+        elif words[0] == "pair":
+            ways.append((pair(words[1:4]), [], (words[4], pair(words[5:])) if words[4:] else None))
+        else:
+            rest.append(words)
+    return head, ways, rest
+
+
+def in_order(pairs):
+    return sorted(pairs, key=lambda it: (SITES.index(it[0]), key(it[1])))
+
+
+def hold_ways(what, ways, wanted, related, back):
+    """The ways are those of the pairs that are wanted, in order, each a shortest chain of related pairs."""
+    same(f"{what}: pairs", [it[0] for it in ways], in_order(wanted))
+    for found, way, _ in ways:
+        same(f"{what}: the length of the way of {found}", len(way), wanted[found])
+        same(f"{what}: its ends", way[0 if back else -1], found)
+        for first, second in zip(way, way[1:]):
+            if second not in related[first]:
+                sys.exit(f"{what}: {first} isn't related to {second}")
+
+
+def hold_brief(what, text, ways, back):
+    """With --brief each pair has the step beside it."""
+    _, brief, _ = read_trace(text)
+    wanted = [(found, ("to" if back else "from", way[1 if back else -2]) if len(way) > 1 else None) for found, way, _ in ways]
+    same(f"{what} --brief", [(found, beside) for found, _, beside in brief], wanted)
+
+
+def hold_json(what, text, ways, back):
+    """The same as JSON."""
+    told = json.loads(text)
+    same(f"{what} --json", told["trace"], "back" if back else "forward")
+    same(f"{what} --json: ways", [[(it["site"], it["item"]) for it in p["trail"]] for p in told["pairs"]], [[(s, key(i)) for s, i in way] for _, way, _ in ways])
+
+
+def trace(folder, events):
+    related, out = relate(events)
+    converse = collections.defaultdict(set)
+    for first, targets in list(related.items()):
+        for second in targets:
+            converse[second].add(first)
+    for site in SITES:
+        known = set().union(set(), *map(names, events[site]))
+        for item in sorted(known):
+            root = (site, item)
+            what = f"trace {folder} {site} {item}"
+            text = ask("trace", folder, site, item)
+            head, ways, rest = read_trace(text)
+            wanted = steps(related, root)
+            same(f"{what}: head", head, ("forward", root))
+            hold_ways(what, ways, wanted, related, False)
+            left = [["outside", s, "uri", i, d] for s, i, d in sorted(out, key=lambda it: (SITES.index(it[0]), key(it[1]), it[2])) if (s, i) in wanted]
+            same(f"{what}: the rest", rest, [*left, ["total", str(len(wanted)), "outside", str(len(left))]])
+            text_back = ask("trace", folder, site, item, "--back")
+            head, ways_back, rest = read_trace(text_back)
+            wanted = steps(converse, root)
+            same(f"{what} --back: head", head, ("back", root))
+            hold_ways(f"{what} --back", ways_back, wanted, related, True)
+            origins = [["origin", s, "uri", i] for s, i in in_order(wanted) if not converse[s, i]]
+            same(f"{what} --back: the rest", rest, [*origins, ["total", str(len(wanted)), "origins", str(len(origins))]])
+            if item in ("x1", "x2"):
+                hold_brief(what, ask("trace", folder, site, item, "--brief"), ways, False)
+                hold_brief(f"{what} --back", ask("trace", "--back", "--brief", folder, site, item), ways_back, True)
+                hold_json(what, ask("trace", "--json", folder, site, item), ways, False)
+                hold_json(f"{what} --back", ask("trace", "--json", "--back", folder, site, item), ways_back, True)
+        same("an unknown item", ask("trace", folder, site, "x99", status=1), "refused UnknownItem\n")
+        same("an unknown item", ask("trace", folder, site, "x99", "--back", status=1), "refused UnknownItem\n")
+    same("a site that isn't listed", ask("trace", folder, "west", "x1", status=1), "refused NoSite west\n")
+    same("no EPC", ask("trace", folder, "north", "x 1", status=1), "refused BadEpc\n")
+
+
+def list_items(folder, events, quarantined):
+    for site in SITES:
+        for text in ("", "x1", "11", "uri x", "nothing"):
+            counts = collections.Counter(itertools.chain.from_iterable(map(names, events[site])))
+            known = {*counts, *(item for at, item in quarantined if at == site)}
+            told = sorted(key(item) for item in known if text in key(item))
+            wanted = [f"item {site} {it} events {counts[it[4:]]}" for it in told] + [f"total {len(told)}"]
+            same(f"items {site} '{text}'", ask("items", folder, site, *([text] if text else [])).splitlines(), wanted)
+            as_json = [json.loads(line) for line in ask("items", "--json", folder, site, text).splitlines()]
+            same("items --json", as_json, [{"events": counts[it[4:]], "item": it, "site": site} for it in told])
+    same("a site that isn't listed", ask("items", folder, "west", status=1), "refused NoSite west\n")
+
+
+def read_status(line):
+    words = line.split()
+    same("a line of status", [words[2], words[3], words[5], words[7]], ["root", "uri", "quarantined", "waiting"])
+    return words[0], words[1], words[4], int(words[6]), int(words[8])
+
+
+def hold_detail(folder, recall):
+    """How a recall stands adds up, and is what the list of all says."""
+    listed = {read_status(line)[0]: line for line in ask("status", folder).splitlines()}
+    first, *rest = ask("status", folder, recall).splitlines()
+    same(f"status {recall}", first, listed[recall])
+    _, state, _, quarantined, waiting = read_status(first)
+    sites = [line.split() for line in rest if line.startswith("site ")]
+    messages = [line.split() for line in rest if line.startswith("waiting ")]
+    same("lines of status", len(rest), len(sites) + len(messages))
+    same("sites add up", sum(int(it[3]) for it in sites), quarantined)
+    same("messages add up", (sum(int(it[5]) for it in sites), len(messages)), (waiting, waiting))
+    told = json.loads(ask("status", "--json", folder, recall))
+    same("status --json", (told["ended"], told["quarantined"], told["waiting"], len(told["messages"]), len(told["sites"])), (state == "ended", quarantined, waiting, len(messages), len(sites)))
+    same("messages --json", [(it["message"], it["to"], it["item"], "told" if it["told"] else "untold") for it in told["messages"]], [(it[1], it[3], " ".join(it[4:6]), it[6]) for it in messages])
+    is_open = state == "open"
+    ask("status", folder, recall, "--exit-code", status=5 if is_open else 0)
+    ask("status", folder, "--exit-code", status=5 if any(read_status(line)[1] == "open" for line in listed.values()) else 0)
+    return state, quarantined, waiting, messages
+
+
+def recall_one(folder, events, site, item):
+    """A recall, from what its start would do to its end."""
+    before = fingerprint(folder)
+    would = ask("start", folder, site, item, "--dry-run").split()
+    same("a dry start", fingerprint(folder), before)
+    did = ask("start", folder, site, item).split()
+    same("what the start would do", would[2:6], did[2:6])
+    recall = did[1]
+    state, quarantined, waiting, messages = hold_detail(folder, recall)
+    same("a start", (state, quarantined, waiting), (did[6], int(did[3]), int(did[5])))
+    if any(it[6] != "untold" for it in messages):
+        sys.exit(f"a message is told before a run: {messages}")
+    for turns in [2] * 5 + [2000] * 20:
+        ran = ask("run", folder, "--turns", str(turns)).splitlines()
+        state, *_ = hold_detail(folder, recall)
+        same("status and run", f"{recall} {state}" in ran, True)
+        if state == "ended":
+            break
+    same("the end", hold_detail(folder, recall)[0::2], ("ended", 0))
+    report, traced = ask("report", folder, recall).splitlines(), ask("trace", folder, site, item).splitlines()
+    same("a report and a trace", report[1:], traced[1:])
+    same("a report and a trace --brief", ask("report", folder, recall, "--brief").splitlines()[1:], ask("trace", folder, site, item, "--brief").splitlines()[1:])
+    return {(s, i) for s, i in steps(relate(events)[0], (site, item))}
+
+
+for number in range(int(os.environ["CHAINS"])):
+    folder = f"chain{number}"
+    os.mkdir(folder)
+    with open(f"{folder}.sites", "w") as file:
+        file.writelines(f"site {site} at:{site}\n" for site in SITES)
+    ask("init", folder, f"{folder}.sites")
+    same("status without a recall", ask("status", folder, "--exit-code"), "")
+    events = chain(number)
+    for site in SITES:
+        with open(f"{folder}.{site}.json", "w") as file:
+            listed = [document(event, f"{site}-{place}") for place, event in enumerate(events[site])]
+            json.dump({"type": "EPCISDocument", "schemaVersion": "2.0", "creationDate": "2024-05-01T08:00:00Z", "epcisBody": {"eventList": listed}}, file)
+        ask("capture", folder, site, f"{folder}.{site}.json")
+    before = fingerprint(folder)
+    trace(folder, events)
+    list_items(folder, events, set())
+    same("files after questions", fingerprint(folder), before)
+    held = set()
+    for place, site in enumerate(SITES[:2]):
+        item = sorted(set().union(*map(names, events[site])))[number % 3]
+        held |= recall_one(folder, events, site, item)
+        list_items(folder, events, held)
+    same("an unknown recall", ask("status", folder, "north#9", status=1), "refused UnknownRecall\n")
+    same("no recall", ask("status", folder, "north", status=1), "refused BadLine\n")
+    same("a site that isn't listed", ask("status", folder, "west#1", status=1), "refused NoSite west\n")
+print(f"{answers} answers are as they should be: {', '.join(f'{count} {name}' for name, count in sorted(asked.items()))}")
+PYTHON
