@@ -4,6 +4,8 @@
 #[cfg(test)]
 mod commands;
 #[cfg(test)]
+mod memory_files;
+#[cfg(test)]
 mod numbers;
 #[cfg(test)]
 mod reports;

@@ -1,0 +1,145 @@
+//! Files and sites in memory, over which the commands on files run.
+
+use folder_commands::Files;
+use keeper_core::{MemoryKeeper, SiteKeeper};
+use recall_outcomes::{Failure, Fault};
+use site_core::SiteState;
+use std::alloc::{AllocError, Global};
+use std::test::Fail;
+
+/// An item x is made into y, which is shipped to B.
+const MADE: &str =
+    "{\"type\":\"EPCISDocument\",\"epcisBody\":{\"eventList\":[{\"type\":\"TransformationEvent\",\"eventTime\":\"2024-05-01T08:00:00Z\",\"eventTimeZoneOffset\":\"+00:00\",\"inputEPCList\":[\"x\"],\"outputEPCList\":[\"y\"]},{\"type\":\"ObjectEvent\",\"eventTime\":\"2024-05-01T08:00:00Z\",\"eventTimeZoneOffset\":\"+00:00\",\"action\":\"OBSERVE\",\"epcList\":[\"y\"],\"destinationList\":[{\"type\":\"location\",\"destination\":\"b\"},{\"type\":\"location\",\"destination\":\"z\"}]}]}}";
+
+/// The site of a file, and its keeper while the file is closed.
+#[derive(Drop)]
+pub(crate) struct Kept {
+    path: String,
+    pub(crate) keeper: Option<MemoryKeeper>,
+}
+
+/// Files in memory.
+#[derive(Drop)]
+pub(crate) struct MemoryFiles {
+    alloc: Global,
+    texts: Vec<(String, Vec<u8>)>,
+    /// How many lines of a text have been read.
+    lines_read: usize,
+    pub(crate) sites: Vec<Kept>,
+}
+
+impl MemoryFiles {
+    fn text_at(&self, path: &str) -> Option<&Vec<u8>> {
+        for (name, bytes) in &self.texts {
+            if name.as_str() == path {
+                return Some(bytes);
+            }
+        }
+        None
+    }
+
+    fn site_at(&self, path: &str) -> Option<usize> {
+        self.sites
+            .iter()
+            .position(|kept| kept.path.as_str() == path)
+    }
+}
+
+impl Files<MemoryKeeper> for MemoryFiles {
+    ghost use Rattle.std.specs.Prelude.{⊤};
+
+    // The texts that the tests read say what the calls did.
+    ghost does = { λ _ _ _. ⊤ };
+
+    ghost fails = { λ _ _. ⊤ };
+
+    ghost knows = { λ _ _ _. ⊤ };
+
+    fn read(&mut self, alloc: Global, path: &str) -> Result<Vec<u8>, Fault> {
+        match self.text_at(path) {
+            Some(bytes) => Ok(bytes.as_slice().to_vec(alloc)?),
+            None => Err(Fault::Read),
+        }
+    }
+
+    fn read_line(&mut self, alloc: Global, path: &str) -> Result<Option<Vec<u8>>, Fault> {
+        let Some(bytes) = self.text_at(path) else {
+            return Err(Fault::Read);
+        };
+        let mut lines = bytes.split(|byte| *byte == b'\n');
+        match lines.nth(self.lines_read) {
+            Some(line) => {
+                let line = line.to_vec(alloc)?;
+                self.lines_read += 1;
+                Ok(Some(line))
+            }
+            None => {
+                self.lines_read = 0;
+                Ok(None)
+            }
+        }
+    }
+
+    fn exists(&mut self, path: &str) -> Result<bool, Fault> {
+        Ok(self.text_at(path).is_some() || self.site_at(path).is_some())
+    }
+
+    fn create_site(&mut self, alloc: Global, path: &str, state: SiteState) -> Result<(), Fault> {
+        let path = String::from_str(alloc, path)?;
+        let keeper = Some(MemoryKeeper::new(state));
+        Ok(self.sites.push(Kept { path, keeper })?)
+    }
+
+    fn open_site(&mut self, _: Global, path: &str, _: &str) -> Result<MemoryKeeper, Fault> {
+        let Some(place) = self.site_at(path) else {
+            return Err(Fault::NotAStore);
+        };
+        match self.sites.get_mut(place) {
+            Some(kept) => kept.keeper.take().ok_or(Fault::Store),
+            None => Err(Fault::Store),
+        }
+    }
+
+    fn close_site(&mut self, keeper: MemoryKeeper) {
+        let place = match keeper.view() {
+            Some(state) => state.me().number() as usize,
+            None => self.sites.len(),
+        };
+        if place < self.sites.len() {
+            self.sites[place].keeper = Some(keeper);
+        }
+    }
+
+    fn known_of(&self, alloc: Global, path: &str) -> Result<String, AllocError> {
+        format!(in alloc; "known of {path}\n")
+    }
+
+    fn blame(&mut self, _: &str) {}
+
+    fn failure(&self) -> Option<&Failure> {
+        None
+    }
+
+    fn write_new(&mut self, path: &str, bytes: &[u8]) -> Result<(), Fault> {
+        let path = String::from_str(self.alloc, path)?;
+        let bytes = bytes.to_vec(self.alloc)?;
+        Ok(self.texts.push((path, bytes))?)
+    }
+}
+
+/// A folder of two sites, with documents and lists beside it.
+pub(crate) fn files(alloc: Global) -> Result<MemoryFiles, Fail> {
+    let mut files = MemoryFiles {
+        alloc,
+        texts: Vec::new(alloc),
+        lines_read: 0,
+        sites: Vec::new(alloc),
+    };
+    files.write_new("list", b"# two sites\r\nsite A a\n\nsite B b".as_slice())?;
+    files.write_new("bad", b"site A a\nreach A x\nsite A a".as_slice())?;
+    files.write_new("f/sites", b"site A a\n".as_slice())?;
+    files.write_new("made", MADE.as_bytes())?;
+    files.write_new("broken", b"{".as_slice())?;
+    files.write_new("lines", b"{\n \r\n{".as_slice())?;
+    Ok(files)
+}
