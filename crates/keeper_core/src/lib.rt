@@ -3,6 +3,7 @@
 
 mod faults;
 mod keepers;
+pub mod laws;
 mod memory;
 
 pub use faults::{Keep, KeepFault, Unopened};
