@@ -10,7 +10,6 @@ mod gathering;
 mod item_places;
 pub mod laws;
 mod makers;
-mod ordered_keys;
 mod origins;
 mod outside;
 mod reports;

@@ -7,14 +7,13 @@ ghost use Rattle.report_core.specs.Outside.{AreOutside, AreOutsideOf};
 use crate::destinations::Destination;
 use crate::gathering::{add_of_events, add_of_site};
 use crate::item_places::items_by_site;
-use crate::ordered_keys::keys_in_order;
 use epc_core::Epc;
 use event_json::SiteNo;
 use frame_core::RecallId;
 use site_core::SiteState;
 use std::alloc::{AllocError, Global};
 use std::collections::BTreeSet;
-use trace_core::Pair;
+use trace_core::{Pair, keys_in_order};
 
 /// A recalled or traced item that was shipped to a place outside the traced sites. These shipments are ordered by site, then
 /// by item, then by destination.

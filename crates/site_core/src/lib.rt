@@ -13,7 +13,6 @@ mod item_sets;
 pub mod laws;
 mod looks;
 mod naming;
-mod ordered_keys;
 mod outcomes;
 mod plans;
 mod quarantines;

@@ -5,12 +5,11 @@ ghost use Rattle.trace_core.specs.Pairs.{IsShipped};
 ghost use Rattle.site_core.specs.Shipments.{AreShipments};
 ghost use Rattle.site_core.specs.Shipping.{is_in};
 
-use crate::ordered_keys::keys_in_order;
 use epc_core::Epc;
 use event_json::SiteNo;
 use std::alloc::{AllocError, Global};
 use std::collections::BTreeSet;
-use trace_core::Captured;
+use trace_core::{Captured, keys_in_order};
 
 /// An item that was shipped to a site. Shipments are ordered by item, then by site.
 #[derive(Debug, Drop, PartialEq, Eq, PartialOrd, Ord)]

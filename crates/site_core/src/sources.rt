@@ -8,13 +8,12 @@ ghost use Rattle.site_core.specs.Quarantines.{held};
 ghost use Rattle.site_core.specs.Blocks.{IsMaking};
 ghost use Rattle.site_core.specs.Sources.{FindsAlso, FindsInputsAt, FindsParts, FindsIfInput, FindsHeldInputs, FindsJoined};
 
-use crate::ordered_keys::keys_in_order;
 use crate::quarantines::Quarantine;
 use epc_core::Epc;
 use event_json::{Body, Event, PlainText};
 use std::alloc::{AllocError, Global};
 use std::collections::BTreeSet;
-use trace_core::Captured;
+use trace_core::{Captured, keys_in_order};
 
 /// All quarantined items from which a transformation would give new pairs, and maybe others, ascending. Of a part of
 /// a transformation with an id they are looked for among what is quarantined, or among the inputs of the

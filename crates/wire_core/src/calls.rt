@@ -16,6 +16,7 @@ use frame_core::Frame;
 use site_core::{SiteInput, SiteState};
 use std::marker::Brand;
 use std::snapshot::Snapshot;
+use world_core::addressee;
 
 /// What became of a frame that was to be posted.
 #[derive(Debug, Drop, PartialEq, Eq)]
@@ -38,7 +39,7 @@ pub fn post_on(hub: &Hub, token: &mut Token, frame: Frame) -> Post
         (λ f. (f ≡ frame) × (token.new.me.0.sites ≡ on (sender frame) (offers frame) token.old.me.0.sites) × Sent (sender frame) (addressee frame) token.old.me.0.sites × OneMore (sender frame) (addressee frame) token.old.me.0.sites) }
 {
     let from = ways::sender(&frame);
-    let to = ways::addressee(&frame);
+    let to = addressee(&frame);
     if claim::<Brand>(hub, token, from, to, &frame) != EMPTY {
         return Post::Full(frame);
     }

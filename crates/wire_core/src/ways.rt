@@ -1,7 +1,6 @@
 //! Where a frame goes, and where its mailbox stands.
 
 ghost use Rattle.std.specs.Prelude.{◌≡◌};
-ghost use Rattle.world_core.specs.Turns.{addressee};
 ghost use Rattle.wire_core.specs.Frames.{sender};
 ghost use Rattle.wire_core.specs.Mailboxes.{slot_of, word_of};
 
@@ -15,16 +14,6 @@ pub fn sender(frame: &Frame) -> SiteNo
     match frame {
         Frame::Recall { id, .. } => id.site,
         Frame::Signal { by, .. } => *by,
-    }
-}
-
-/// The site that a frame is for.
-pub fn addressee(frame: &Frame) -> SiteNo
-    ensures { result ≡ addressee frame.now }
-{
-    match frame {
-        Frame::Recall { dest, .. } => *dest,
-        Frame::Signal { id, .. } => id.site,
     }
 }
 

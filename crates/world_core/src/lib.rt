@@ -15,4 +15,5 @@ mod worlds;
 
 pub use events::{Answer, WorldEvent, WorldInput};
 pub use faults::{NotAWorld, ViewFault, WorldFault};
+pub use turns::addressee;
 pub use worlds::World;

@@ -21,6 +21,7 @@ use std::alloc::Global;
 use std::snapshot::Snapshot;
 use std::test::Fail;
 use std::thread;
+use world_core::addressee;
 
 /// Whether the records of both sites are consistent.
 pub fn fit(alloc: Global, first: &SiteState, second: &SiteState) -> bool {
@@ -52,7 +53,7 @@ fn first_frame(alloc: Global, state: &SiteState) -> Option<Frame>
         return None;
     };
     let from = ways::sender(&frame);
-    let to = ways::addressee(&frame);
+    let to = addressee(&frame);
     if from == state.me() && to != from && to.number() < 2 {
         Some(frame)
     } else {
