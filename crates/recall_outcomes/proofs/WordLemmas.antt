@@ -36,13 +36,13 @@ within (b ∷ bs) e =
     let above = leb-true 14 b parts.0 in
     All-cons (λ c. is_newline c ≡ false) b bs (ne_eqb b 10 (λ h. let no : ⊥ = omega (arith, above, h) in no)) (within bs parts.1)
 
-record Within (s : List ℕ) : Type 0 where
+pub record Within (s : List ℕ) : Type 0 where
   pub is : IsWithinLine s
 
-fixed : (s : List ℕ) → list_all (nat_le 14) s ≡ true → Within s
+pub fixed : (s : List ℕ) → list_all (nat_le 14) s ≡ true → Within s
 fixed s e = record { is = within s e }
 
-both : {a b : List ℕ} → Within a → Within b → Within (a ++ b)
+pub both : {a b : List ℕ} → Within a → Within b → Within (a ++ b)
 both {a} {b} first second = record { is = All-append (λ c. is_newline c ≡ false) a b first.is second.is }
 
 digits : (ds : List ℕ) → AllDigits 10 ds → IsWithinLine ds
@@ -51,8 +51,8 @@ digits (b ∷ bs) all =
     let parts = tells_digits.parts b bs all in
     All-cons (λ c. is_newline c ≡ false) b bs (ne_eqb b 10 (λ h. let no : ⊥ = omega (arith, parts.0.0, h) in no)) (digits bs parts.1)
 
-number : (n : ℕ) → n < 2 ^ 64 → Within (decimal n)
-number n small = record { is = digits (decimal n) (decimal_is_IsNumeral n small).0.1 }
+pub decimal_within : (n : ℕ) → n < 2 ^ 64 → Within (decimal n)
+decimal_within n small = record { is = digits (decimal n) (decimal_is_IsNumeral n small).0.1 }
 
 site_word : (s : SitesFault) → Within (sites_fault_name s)
 site_word faults.NoMemory = fixed (sites_fault_name faults.NoMemory) refl
@@ -106,18 +106,18 @@ refused_word (BadSite fault) = both (fixed (codes "BadSite ") refl) (site_word f
 
 step_words : (sites : List Site) (why : Refusal) → IsPlainStep sites why → Within (refusal_text sites why)
 step_words sites (steps.Blocked r item event) (name, key, small, place) =
-    let hash : Within (35 ∷ decimal r.number) = record { is = All-cons (λ c. is_newline c ≡ false) 35 (decimal r.number) refl (number r.number small).is } in
+    let hash : Within (35 ∷ decimal r.number) = record { is = All-cons (λ c. is_newline c ≡ false) 35 (decimal r.number) refl (decimal_within r.number small).is } in
     let named : Within (name_at sites r.site) = record { is = name } in
     let keyed : Within item = record { is = key } in
     both (both (both (both (fixed (codes "Blocked ") refl) (both named hash)) (fixed (32 ∷ []) refl)) keyed)
-    (both (fixed (codes " event ") refl) (number event place))
-step_words sites (steps.IdTaken event) place = both (fixed (codes "IdTaken event ") refl) (number event place)
+    (both (fixed (codes " event ") refl) (decimal_within event place))
+step_words sites (steps.IdTaken event) place = both (fixed (codes "IdTaken event ") refl) (decimal_within event place)
 step_words sites steps.UnknownItem plain = fixed (codes "UnknownItem") refl
 step_words sites steps.NotMine plain = fixed (codes "NotMine") refl
 step_words sites steps.NumbersSpent plain = fixed (codes "NumbersSpent") refl
 step_words sites (steps.Doc fault) place =
     both
-    (both (both (both (both (fixed (codes "Doc ") refl) (kind_word fault.kind)) (fixed (codes " event ") refl)) (number fault.event place)) (fixed (codes " field ") refl))
+    (both (both (both (both (fixed (codes "Doc ") refl) (kind_word fault.kind)) (fixed (codes " event ") refl)) (decimal_within fault.event place)) (fixed (codes " field ") refl))
     (field_word fault.field)
 step_words sites steps.NoMemory plain = fixed (codes "NoMemory") refl
 

@@ -1,4 +1,5 @@
 pub mod Advice
+pub mod Causes
 pub mod Documents
 pub mod Faults
 pub mod Json
@@ -7,4 +8,5 @@ pub mod Notes
 pub mod Printing
 pub mod Sentences
 pub mod Statuses
+pub mod Telling
 pub mod Texts

@@ -1,5 +1,6 @@
 //! Laws of outcomes, each named by a function with an empty body whose contract is the law.
 
+ghost use Rattle.recall_outcomes.specs.Telling.{LinesTellValues, ValuesAreRead, ValuesTellKinds, ValuesTellOutcomes};
 ghost use Rattle.recall_outcomes.specs.Laws.{AdviceIsALine, DocumentsHaveTheirWords, EachReasonIsALine, EachSentenceIsALine, OneIsRefused, RefusedDocumentsAreCounted};
 
 /// An outcome of status 1 is a refusal, and its text begins with `refused ` where it has a reason.
@@ -30,4 +31,24 @@ pub fn refused_documents_are_counted()
 /// What is advised after an answer is a line that begins with `note: `.
 pub fn advice_is_a_line()
     ensures { AdviceIsALine }
+{}
+
+/// The same lines of JSON are those of the same values, where numbers have 64 bits.
+pub fn lines_tell_values()
+    ensures { LinesTellValues }
+{}
+
+/// What is printed of an outcome as JSON, read by serde_json, is its values, where numbers have 64 bits.
+pub fn values_are_read()
+    ensures { ValuesAreRead }
+{}
+
+/// Where a value is printed, it tells which outcome it is of.
+pub fn values_tell_kinds()
+    ensures { ValuesTellKinds }
+{}
+
+/// Two outcomes of one kind whose values are the same have the same contents, where the sites that they name are listed.
+pub fn values_tell_outcomes()
+    ensures { ValuesTellOutcomes }
 {}
