@@ -52,9 +52,9 @@ tells() {
     is_json out && is_json err || complain "no JSON: $(cat out err)"
 }
 
-# fault NAME FILE CAUSE: the line of a fault of a file
+# fault NAME FILE CAUSE KIND [MEMBERS]: the line of a fault of a file, with what its kind of cause has besides
 fault() {
-    printf '{"cause":"%s","fault":"%s","file":"%s"}' "$3" "$1" "$2"
+    printf '{"cause":"%s","fault":"%s","file":"%s","kind":"%s"%s}' "$3" "$1" "$2" "$4" "${5:+,$5}"
 }
 
 mkdir made
@@ -69,7 +69,7 @@ tells 1 '{"name":"dairy","refused":"Exists"}
 {"name":"shop-2","refused":"Exists"}' '' init made "$chain/sites"
 
 tells 1 '{"refused":"NoSite","site":"Dairy"}' '' capture made Dairy none
-tells 3 '' "$(fault Read none 'no such file or folder')" capture made dairy none
+tells 3 '' "$(fault Read none 'no such file or folder' Missing)" capture made dairy none
 printf '{"type":"ObjectEvent","quantityList":[{}]}' >quantities
 tells 1 '{"event":1,"field":"quantityList","kind":"Quantities","refused":"Doc"}' '' capture made dairy quantities
 "$recall" capture --json made dairy "$chain/dairy.json" >out 2>err || complain "a capture: $(cat out err)"
@@ -140,25 +140,25 @@ PYTHON
 cmp -s words again || complain "a report in two forms: $(diff words again)"
 
 echo "faults"
-tells 3 '' "$(fault Read none/sites 'no such file or folder')" audit none
-tells 3 '' "$(fault Device none/dairy.db 'no such file or folder')" init none "$chain/sites"
+tells 3 '' "$(fault Read none/sites 'no such file or folder' Missing)" audit none
+tells 3 '' "$(fault Device none/dairy.db 'no such file or folder' Missing)" init none "$chain/sites"
 cp -r made at
 echo 'site late z' >>at/sites
 tells 3 '' '{"fault":"OtherSites","file":"at/dairy.db"}' audit at
 echo 'reach dairy x' >>at/sites
 tells 3 '' '{"fault":"BadSites","file":"at/sites"}' audit at
 rm -rf at && cp -r made at && rm at/plant.db-wal && echo 'no database' >at/plant.db
-tells 3 '' "$(fault NotAStore at/plant.db 'no sqlite database')" report at 'plant#1'
+tells 3 '' "$(fault NotAStore at/plant.db 'no sqlite database' NoDatabase)" report at 'plant#1'
 rm -rf at && cp -r made at && mv at/plant.db at/dairy.db && mv at/plant.db-wal at/dairy.db-wal
-tells 3 '' "$(fault OtherSite at/dairy.db 'the file of plant')" run at
+tells 3 '' "$(fault OtherSite at/dairy.db 'the file of plant' Site '"site":"plant"')" run at
 rm -rf at && cp -r made at && cp before/shop-1.db before/shop-1.db-wal at
 tells 4 '{"misfit":2,"site":"shop-1"}' '' audit at
 tells 4 '{"misfit":2,"site":"shop-1"}' '' run at
 if command -v sqlite3 >/dev/null; then
     rm -rf at && cp -r made at && sqlite3 at/plant.db 'update store set version = 7'
-    tells 3 '' "$(fault Version at/plant.db 'version 7')" audit at
+    tells 3 '' "$(fault Version at/plant.db 'version 7' Version '"version":7')" audit at
     rm -rf at && cp -r made at && sqlite3 at/plant.db 'update event set kind = 9 where no = 2'
-    tells 3 '' "$(fault BadRow at/plant.db 'row 2 of the table event')" audit at
+    tells 3 '' "$(fault BadRow at/plant.db 'row 2 of the table event' Row '"row":2,"table":"event"')" audit at
 else
     echo "  sqlite3 isn't installed: no row is changed"
 fi

@@ -5,7 +5,7 @@ use Rattle.std.specs.declared.string.String.{String}
 use Rattle.std.specs.Io.KnownBytes.{Keeps}
 use Rattle.recall_text.specs.Writing.{AppendsBeginning}
 use Rattle.site_core.specs.Records.{Record}
-use Rattle.recall_outcomes.specs.declared.faults.Failure.{Failure}
+use Rattle.recall_outcomes.specs.declared.causes.Failure.{Failure}
 use Rattle.recall_outcomes.specs.declared.faults.Fault.{Fault}
 use Rattle.recall_outcomes.specs.declared.outcomes.Form.{Form}
 use Rattle.folder_commands.specs.FileCalls.{FileCall, Led}

@@ -10,7 +10,7 @@ use Rattle.recall_outcomes.specs.Advice.{advice}
 use Rattle.recall_outcomes.specs.Printing.{bare_line, fault_lines, note_lines, outcome_lines}
 use Rattle.recall_outcomes.specs.Sentences.{outcome_sentences}
 use Rattle.recall_outcomes.specs.Statuses.{outcome_status}
-use Rattle.recall_outcomes.specs.declared.faults.Failure.{Failure}
+use Rattle.recall_outcomes.specs.declared.causes.Failure.{Failure}
 use Rattle.recall_outcomes.specs.declared.faults.Fault.{Fault}
 use Rattle.recall_outcomes.specs.declared.faults.Fault.TheVariants.{NoMemory, Write}
 use Rattle.recall_outcomes.specs.declared.outcomes.Form.{Form}

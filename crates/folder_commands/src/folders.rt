@@ -22,7 +22,7 @@ use std::alloc::{AllocError, Global};
 /// one relation of the kind of files, so that contracts say which calls led to an outcome, or to a fault.
 pub trait Files<K: SiteKeeper> {
     ghost use Rattle.std.specs.Prelude.{List, ℕ, Option, IfOk, IfErr, OnOk, option_map};
-    ghost use Rattle.recall_outcomes.specs.declared.faults.Failure.{Failure};
+    ghost use Rattle.recall_outcomes.specs.declared.causes.Failure.{Failure};
     ghost use Rattle.folder_commands.specs.FileCalls.{FileCall, Blamed, ClosedSite, Failed, LookedFor, MadeSite, OpenedSite, ReadFile, ReadLine, WroteFile};
 
     /// From these files, this call led to those files.

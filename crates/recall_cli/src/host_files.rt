@@ -4,14 +4,14 @@ ghost use Rattle.std.specs.Prelude.{IfOk};
 ghost use Rattle.site_store.specs.Leavings.{KeepsOwn};
 ghost use Rattle.site_store.specs.Opened.{IsFound};
 
-use crate::causes::{Known, Trouble, failure_of};
+use crate::causes::{Trouble, failure_of};
 use crate::line_files::{INPUT, LineFile};
 use crate::stores::{
-    FileConnection, FileSite, close, close_connection, known_of_step, unfound, unmade, unopened,
+    FileConnection, FileSite, cause_of_step, close, close_connection, unfound, unmade, unopened,
 };
 use folder_commands::Files;
 use keeper_core::SiteKeeper;
-use recall_outcomes::{Failure, Fault};
+use recall_outcomes::{Cause, Failure, Fault};
 use site_core::SiteState;
 use site_store::StoredSite;
 use sqlite::{Connection, Options, Wary};
@@ -65,14 +65,14 @@ impl<'a> HostFiles<'a> {
     }
 
     /// Keeps the path of a file that a fault is about, and what is known of it.
-    fn keep(&mut self, path: &str, of_log: bool, known: Known) {
-        self.failure = failure_of(self.runtime.alloc(), path, of_log, &known).ok();
+    fn keep(&mut self, path: &str, of_log: bool, cause: Option<Cause>) {
+        self.failure = failure_of(self.runtime.alloc(), path, of_log, cause).ok();
     }
 
     /// Keeps the path of a file of which a call failed, and returns the fault.
     fn note(&mut self, path: &str, trouble: Trouble) -> Fault {
-        let (fault, known, of_log) = trouble.parts();
-        self.keep(path, of_log, known);
+        let (fault, cause, of_log) = trouble.parts();
+        self.keep(path, of_log, cause);
         fault
     }
 
@@ -81,8 +81,9 @@ impl<'a> HostFiles<'a> {
         if failures == 0 {
             return;
         }
-        let known = known_of_step(failures, tally);
-        if let Ok(failure) = failure_of(self.runtime.alloc(), path.as_str(), false, &known) {
+        let alloc = self.runtime.alloc();
+        let cause = cause_of_step(alloc, failures, tally);
+        if let Ok(failure) = failure_of(alloc, path.as_str(), false, cause) {
             let _ = self.met.push(failure);
         }
     }
@@ -129,7 +130,7 @@ impl<'a> HostFiles<'a> {
     fn options(&self) -> Result<Options, Trouble> {
         match RandomState::new(self.runtime) {
             Ok(state) => Ok(Options::new(state.hash_one(&0u8))),
-            Err(error) => Err(Trouble::of_error(&error, Fault::Device)),
+            Err(error) => Err(Trouble::of_error(self.runtime.alloc(), &error, Fault::Device)),
         }
     }
 
@@ -137,7 +138,7 @@ impl<'a> HostFiles<'a> {
     fn finds(&self, path: &str) -> Result<bool, Trouble> {
         match fs::exists(self.runtime, path) {
             Ok(exists) => Ok(exists),
-            Err(error) => Err(Trouble::of_error(&error, Fault::Read)),
+            Err(error) => Err(Trouble::of_error(self.runtime.alloc(), &error, Fault::Read)),
         }
     }
 
@@ -150,7 +151,7 @@ impl<'a> HostFiles<'a> {
                 close(site);
                 Ok(())
             }
-            Err(left) => Err(unmade(left.fault, close_connection(left.conn))),
+            Err(left) => Err(unmade(alloc, left.fault, close_connection(left.conn))),
         }
     }
 
@@ -160,7 +161,7 @@ impl<'a> HostFiles<'a> {
     {
         // Connecting would make a file.
         if !self.finds(path)? {
-            return Err(Trouble::new(Fault::Read, Known::Missing));
+            return Err(Trouble::new(Fault::Read, Cause::Missing));
         }
         let options = self.options()?;
         let conn = self.connect(path)?;
@@ -175,10 +176,10 @@ impl<'a> HostFiles<'a> {
         ensures { IfOk result (λ site. KeepsOwn site) }
     {
         let Ok(kept) = String::from_str(alloc, path) else {
-            return Err(Trouble::new(Fault::NoMemory, Known::Nothing));
+            return Err(Trouble::bare(Fault::NoMemory));
         };
         if self.opened.push_back(kept).is_err() {
-            return Err(Trouble::new(Fault::NoMemory, Known::Nothing));
+            return Err(Trouble::bare(Fault::NoMemory));
         }
         match self.open(alloc, path, name) {
             Ok(site) => Ok(site),
@@ -203,14 +204,20 @@ impl Files<FileSite> for HostFiles<'_> {
     fn read(&mut self, _: Global, path: &str) -> Result<Vec<u8>, Fault> {
         match self.bytes(path) {
             Ok(bytes) => Ok(bytes),
-            Err(error) => Err(self.note(path, Trouble::of_error(&error, Fault::Read))),
+            Err(error) => Err(self.note(
+                path,
+                Trouble::of_error(self.runtime.alloc(), &error, Fault::Read),
+            )),
         }
     }
 
     fn read_line(&mut self, alloc: Global, path: &str) -> Result<Option<Vec<u8>>, Fault> {
         match self.next_line(alloc, path) {
             Ok(line) => Ok(line),
-            Err(error) => Err(self.note(path, Trouble::of_error(&error, Fault::Read))),
+            Err(error) => Err(self.note(
+                path,
+                Trouble::of_error(self.runtime.alloc(), &error, Fault::Read),
+            )),
         }
     }
 
@@ -247,7 +254,8 @@ impl Files<FileSite> for HostFiles<'_> {
         if is_open {
             self.meet(path, failures, tally);
         } else if self.failure.is_none() {
-            self.keep(path.as_str(), false, known_of_step(failures, tally));
+            let cause = cause_of_step(self.runtime.alloc(), failures, tally);
+            self.keep(path.as_str(), false, cause);
         }
     }
 
@@ -265,7 +273,10 @@ impl Files<FileSite> for HostFiles<'_> {
     fn write_new(&mut self, path: &str, bytes: &[u8]) -> Result<(), Fault> {
         match written(self.runtime, path, bytes) {
             Ok(()) => Ok(()),
-            Err(error) => Err(self.note(path, Trouble::of_error(&error, Fault::Write))),
+            Err(error) => Err(self.note(
+                path,
+                Trouble::of_error(self.runtime.alloc(), &error, Fault::Write),
+            )),
         }
     }
 
@@ -275,7 +286,7 @@ impl Files<FileSite> for HostFiles<'_> {
     }
 
     fn blame(&mut self, path: &str) {
-        self.keep(path, false, Known::Nothing);
+        self.keep(path, false, None);
     }
 }
 

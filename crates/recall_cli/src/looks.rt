@@ -1,7 +1,7 @@
 //! Looks at the files of a database that wasn't opened, for what the database's error doesn't tell.
 
-use crate::causes::{Known, Trouble};
-use recall_outcomes::Fault;
+use crate::causes::{Trouble, cause_of_database, cause_of_error};
+use recall_outcomes::{Cause, Fault};
 use sqlite::{Error as DatabaseError, ErrorCode};
 use std::fs::{self, File, OpenOptions};
 use std::io::{self, ErrorKind, Read};
@@ -16,9 +16,9 @@ pub(crate) fn hindrance(rt: &HostRuntime, path: &str) -> Trouble {
         Ok(Some(trouble)) => trouble,
         Ok(None) => {
             let error = DatabaseError::SqliteFailure(ErrorCode::CannotOpen);
-            Trouble::new(Fault::Device, Known::Database(error))
+            Trouble::perhaps(Fault::Device, cause_of_database(rt.alloc(), &error))
         }
-        Err(error) => Trouble::of_error(&error, Fault::Device),
+        Err(error) => Trouble::of_error(rt.alloc(), &error, Fault::Device),
     }
 }
 
@@ -33,7 +33,7 @@ fn found_hindrance(rt: &HostRuntime, path: &str) -> io::Result<Option<Trouble>> 
     }
     let journal = format!(in rt.alloc(); "{real}-journal")?;
     if fs::exists(rt, journal.as_str())? {
-        return Ok(Some(Trouble::new(Fault::Device, Known::Journal)));
+        return Ok(Some(Trouble::new(Fault::Device, Cause::Journal)));
     }
     let log = format!(in rt.alloc(); "{real}-wal")?;
     at_file(rt, log.as_str(), true)
@@ -41,37 +41,37 @@ fn found_hindrance(rt: &HostRuntime, path: &str) -> io::Result<Option<Trouble>> 
 
 /// What keeps a file from being opened or made.
 fn at_file(rt: &HostRuntime, path: &str, of_log: bool) -> io::Result<Option<Trouble>> {
-    match known_of_file(rt, path)? {
-        Some(known) => Ok(Some(Trouble {
+    match cause_at(rt, path)? {
+        Some(cause) => Ok(Some(Trouble {
             fault: Fault::Device,
-            known,
+            cause: Some(cause),
             of_log,
         })),
         None => Ok(None),
     }
 }
 
-fn known_of_file(rt: &HostRuntime, path: &str) -> io::Result<Option<Known>> {
+fn cause_at(rt: &HostRuntime, path: &str) -> io::Result<Option<Cause>> {
     match fs::symlink_metadata(rt, path) {
-        Ok(found) if !found.is_file() => Ok(Some(Known::NotAFile)),
-        Ok(found) if found.nlink() != 1 => Ok(Some(Known::HardLink)),
-        Ok(_) => Ok(known_of_opening(rt, path)),
-        Err(error) if error.kind() == ErrorKind::NotFound => known_of_making(rt, path),
-        Err(error) => Ok(Some(Known::of_error(&error))),
+        Ok(found) if !found.is_file() => Ok(Some(Cause::NotAFile)),
+        Ok(found) if found.nlink() != 1 => Ok(Some(Cause::HardLink)),
+        Ok(_) => Ok(cause_of_opening(rt, path)),
+        Err(error) if error.kind() == ErrorKind::NotFound => cause_of_making(rt, path),
+        Err(error) => Ok(cause_of_error(rt.alloc(), &error)),
     }
 }
 
 /// What keeps a file that is there from being opened.
-fn known_of_opening(rt: &HostRuntime, path: &str) -> Option<Known> {
+fn cause_of_opening(rt: &HostRuntime, path: &str) -> Option<Cause> {
     match OpenOptions::new().read(true).write(true).open(rt, path) {
         Ok(_) => None,
-        Err(error) => Some(Known::of_error(&error)),
+        Err(error) => cause_of_error(rt.alloc(), &error),
     }
 }
 
 /// What keeps a file from being made. One of another name is tried, so that no other program finds this one and writes
 /// to it.
-fn known_of_making(rt: &HostRuntime, path: &str) -> io::Result<Option<Known>> {
+fn cause_of_making(rt: &HostRuntime, path: &str) -> io::Result<Option<Cause>> {
     let other = format!(in rt.alloc(); "{path}.new")?;
     match OpenOptions::new()
         .write(true)
@@ -82,7 +82,7 @@ fn known_of_making(rt: &HostRuntime, path: &str) -> io::Result<Option<Known>> {
             fs::remove_file(rt, other.as_str())?;
             Ok(None)
         }
-        Err(error) => Ok(Some(Known::of_error(&error))),
+        Err(error) => Ok(cause_of_error(rt.alloc(), &error)),
     }
 }
 

@@ -1,6 +1,7 @@
 //! What the tables of a file have that a site's don't, or lack.
 
-use crate::causes::{Known, name_of};
+use crate::causes::name_of;
+use recall_outcomes::Cause;
 use site_rows::Table;
 use site_tables::version_of;
 use sqlite_schema::schema::Schema;
@@ -27,9 +28,9 @@ const AUTOMATIC: &[u8] = b"sqlite_autoindex_";
 
 /// Why a database of these tables is no site's: what it has besides, what it lacks, or that its table `store` has no row of
 /// their version.
-pub(crate) fn known_of(alloc: Global, schema: &Schema) -> Known {
+pub(crate) fn cause_of(alloc: Global, schema: &Schema) -> Cause {
     if version_of(schema).is_some() {
-        return Known::NoStoreRow;
+        return Cause::NoStoreRow;
     }
     if let Some(name) = first_foreign(schema) {
         return foreign(alloc, name);
@@ -40,10 +41,10 @@ pub(crate) fn known_of(alloc: Global, schema: &Schema) -> Known {
             continue;
         }
         if !has_table(schema, name_of(table)) {
-            return Known::TableMissing(table);
+            return Cause::TableMissing(name_of(table));
         }
     }
-    Known::OtherTables
+    Cause::OtherTables
 }
 
 fn has_table(schema: &Schema, name: &str) -> bool {
@@ -81,12 +82,12 @@ fn first_foreign(schema: &Schema) -> Option<&[u8]> {
 }
 
 /// An object of this name, where there is memory for it and the name is text.
-fn foreign(alloc: Global, name: &[u8]) -> Known {
+fn foreign(alloc: Global, name: &[u8]) -> Cause {
     let Ok(bytes) = name.to_vec(alloc) else {
-        return Known::OtherTables;
+        return Cause::OtherTables;
     };
     match String::from_utf8(bytes) {
-        Ok(name) => Known::Foreign(name),
-        Err(_) => Known::OtherTables,
+        Ok(name) => Cause::Foreign(name),
+        Err(_) => Cause::OtherTables,
     }
 }

@@ -1,9 +1,9 @@
 //! What is told of the databases in which the machine keeps sites, where they fail.
 
-use crate::causes::{Known, Trouble};
+use crate::causes::{Trouble, cause_of_database, name_of};
 use crate::{looks, schemas};
 use keeper_core::KeepFault;
-use recall_outcomes::Fault;
+use recall_outcomes::{Cause, Fault};
 use site_store::{Link, OpenFault, StoredSite, Unfound};
 use sqlite::{Connection, Error, ErrorCode, FileFrom, FileStore, Files, Wary};
 use sqlite_disk::Tally;
@@ -41,33 +41,33 @@ fn close_files(files: Files<KeptFile>) -> Tally {
 }
 
 /// What a failure of the disk was, by what the failed calls of the files met.
-fn known_of(tally: Tally) -> Known {
+fn cause_of(alloc: Global, tally: Tally) -> Option<Cause> {
     if tally.caught > 0 {
-        Known::Damaged
+        Some(Cause::Damaged)
     } else if tally.refused > 0 {
-        Known::NoSpace
+        Some(Cause::NoSpace)
     } else {
-        Known::Database(Error::SqliteFailure(ErrorCode::SystemIoFailure))
+        cause_of_database(alloc, &Error::SqliteFailure(ErrorCode::SystemIoFailure))
     }
 }
 
 /// Why a step closed a site: its device failed, which its keeper counts, and its calls met that; or the database
 /// refused.
-pub(crate) fn known_of_step(failures: u64, tally: Tally) -> Known {
+pub(crate) fn cause_of_step(alloc: Global, failures: u64, tally: Tally) -> Option<Cause> {
     if failures > 0 {
-        known_of(tally)
+        cause_of(alloc, tally)
     } else {
-        Known::Nothing
+        None
     }
 }
 
 /// Why a site wasn't made, and the failed calls of its files met that.
-pub(crate) fn unmade(fault: KeepFault, tally: Tally) -> Trouble {
+pub(crate) fn unmade(alloc: Global, fault: KeepFault, tally: Tally) -> Trouble {
     match fault {
-        KeepFault::NoMemory => Trouble::new(Fault::NoMemory, Known::Nothing),
-        KeepFault::Device => Trouble::new(Fault::Device, known_of(tally)),
+        KeepFault::NoMemory => Trouble::bare(Fault::NoMemory),
+        KeepFault::Device => Trouble::perhaps(Fault::Device, cause_of(alloc, tally)),
         KeepFault::Store | KeepFault::Closed | KeepFault::Refused(_) => {
-            Trouble::new(Fault::Store, Known::Nothing)
+            Trouble::bare(Fault::Store)
         }
     }
 }
@@ -75,33 +75,31 @@ pub(crate) fn unmade(fault: KeepFault, tally: Tally) -> Trouble {
 /// Why a file wasn't opened as a database.
 pub(crate) fn unopened(rt: &HostRuntime, path: &str, error: &Error) -> Trouble {
     match error {
-        Error::SqliteFailure(ErrorCode::OutOfMemory) => {
-            Trouble::new(Fault::NoMemory, Known::Nothing)
-        }
+        Error::SqliteFailure(ErrorCode::OutOfMemory) => { Trouble::bare(Fault::NoMemory) }
         Error::SqliteFailure(ErrorCode::NotADatabase) => {
             Trouble::new(Fault::NotAStore, no_database(rt, path))
         }
         Error::SqliteFailure(ErrorCode::CannotOpen) => looks::hindrance(rt, path),
         Error::SqliteFailure(ErrorCode::DatabaseBusy) => {
-            Trouble::new(Fault::Device, Known::InUse)
+            Trouble::new(Fault::Device, Cause::InUse)
         }
-        Error::SqliteFailure(ErrorCode::DiskFull) => Trouble::new(Fault::Device, Known::NoSpace),
+        Error::SqliteFailure(ErrorCode::DiskFull) => Trouble::new(Fault::Device, Cause::NoSpace),
         Error::SqliteFailure(ErrorCode::DatabaseCorrupt) => {
-            Trouble::new(Fault::Device, Known::Damaged)
+            Trouble::new(Fault::Device, Cause::Damaged)
         }
         Error::SqliteFailure(ErrorCode::SystemIoFailure) if looks::is_cut(rt, path) => {
-            Trouble::new(Fault::Device, Known::Damaged)
+            Trouble::new(Fault::Device, Cause::Damaged)
         }
-        _ => Trouble::new(Fault::Device, Known::Database(*error)),
+        _ => Trouble::perhaps(Fault::Device, cause_of_database(rt.alloc(), error)),
     }
 }
 
 /// Why a file's contents were refused as a database.
-fn no_database(rt: &HostRuntime, path: &str) -> Known {
+fn no_database(rt: &HostRuntime, path: &str) -> Cause {
     if looks::begins_as_database(rt, path) {
-        Known::Unsound
+        Cause::Unsound
     } else {
-        Known::NoDatabase
+        Cause::NoDatabase
     }
 }
 
@@ -109,17 +107,23 @@ fn no_database(rt: &HostRuntime, path: &str) -> Known {
 pub(crate) fn unfound(alloc: Global, left: Unfound<KeptFile>) -> Trouble {
     let Unfound { conn, fault } = left;
     let foreign = match &fault {
-        OpenFault::NotAStore => schemas::known_of(alloc, conn.schema()),
-        _ => Known::Nothing,
+        OpenFault::NotAStore => Some(schemas::cause_of(alloc, conn.schema())),
+        _ => None,
     };
     let tally = close_connection(conn);
     match fault {
-        OpenFault::NotAStore => Trouble::new(Fault::NotAStore, foreign),
-        OpenFault::Version(version) => Trouble::new(Fault::Version, Known::Version(version)),
-        OpenFault::OtherSite(name) => Trouble::new(Fault::OtherSite, Known::Site(name)),
-        OpenFault::BadRow(bad) => Trouble::new(Fault::BadRow, Known::Row(bad)),
-        OpenFault::Device => Trouble::new(Fault::Device, known_of(tally)),
-        OpenFault::Store => Trouble::new(Fault::Store, Known::Nothing),
-        OpenFault::NoMemory => Trouble::new(Fault::NoMemory, Known::Nothing),
+        OpenFault::NotAStore => Trouble::perhaps(Fault::NotAStore, foreign),
+        OpenFault::Version(version) => Trouble::new(Fault::Version, Cause::Version(version)),
+        OpenFault::OtherSite(name) => Trouble::new(Fault::OtherSite, Cause::Site(name)),
+        OpenFault::BadRow(bad) => Trouble::new(
+            Fault::BadRow,
+            Cause::Row {
+                table: name_of(bad.table),
+                row: bad.row,
+            },
+        ),
+        OpenFault::Device => Trouble::perhaps(Fault::Device, cause_of(alloc, tally)),
+        OpenFault::Store => Trouble::bare(Fault::Store),
+        OpenFault::NoMemory => Trouble::bare(Fault::NoMemory),
     }
 }

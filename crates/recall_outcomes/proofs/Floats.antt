@@ -1,6 +1,6 @@
 -- No value that is printed has a float, so that its text is known byte for byte.
-use Rattle.std.proofs.Common.{◌≡◌, ℕ, false, List, [], ◌∷◌, Option, Some, None, refl, ap₂, ap}
-use Rattle.std.specs.Prelude.{◌||◌, option_and_then, slice_get}
+use Rattle.std.proofs.Common.{◌≡◌, ℕ, ℤ, pos, negsuc, false, List, [], ◌∷◌, Option, Some, None, refl, ap₂, ap}
+use Rattle.std.specs.Prelude.{◌||◌, option_and_then, slice_get, string_bytes}
 use Rattle.std.specs.List.{zip}
 use Rattle.event_json.specs.Sites.{Site}
 use Rattle.frame_core.specs.Numbers.{Recall, Message}
@@ -14,17 +14,21 @@ use Rattle.report_core.specs.declared.traces.BackTrace.{BackTrace}
 use Rattle.report_core.specs.declared.traces.Trace.{Trace}
 use Rattle.recall_text.specs.declared.site_lists.LineRefusal.{LineRefusal}
 use Rattle.recall_text.specs.declared.site_lists.LineRefusal.TheVariants.{BadLine, BadSite}
-use Rattle.serde_json.specs.Data.{Data, string}
+use Rattle.serde_json.specs.Data.{Data, number, object, string}
+use Rattle.serde_json.specs.Find.{of_integer}
 use Rattle.serde_json.specs.Written.{has_float}
 use Rattle.site_core.specs.declared.outcomes.Effects.{Effects}
 use Rattle.site_core.specs.declared.outcomes.Effects.TheVariants as effects
 use Rattle.site_core.specs.declared.outcomes.Refusal.TheVariants as steps
 use Rattle.trace_core.specs.declared.pairs.Pair.{Pair}
-use Rattle.recall_outcomes.specs.Json.{audited_json, back_json, beside_json, created_json, detail_json, document_json, effects_json, engaged_json, fault_json, leading_json, led_json, list_of, outside_json, pair_json, quarantined_json, report_json, standing_json, status_json, trace_json, traced_json, trail_json, verdict_json, waiting_json, why_json}
+use Rattle.recall_outcomes.specs.Json.{audited_json, back_json, beside_json, caused_members, created_json, detail_json, document_json, effects_json, engaged_json, fault_json, leading_json, led_json, list_of, outside_json, pair_json, quarantined_json, report_json, standing_json, status_json, trace_json, traced_json, trail_json, verdict_json, waiting_json, why_json}
+use Rattle.recall_outcomes.specs.Faults.{fault_name}
 use Rattle.recall_outcomes.specs.Texts.{before_last}
 use Rattle.recall_outcomes.specs.declared.documents.DocumentOutcome.{DocumentOutcome}
 use Rattle.recall_outcomes.specs.declared.documents.DocumentOutcome.TheVariants.{Captured, Refused}
-use Rattle.recall_outcomes.specs.declared.faults.Failure.{Failure}
+use Rattle.recall_outcomes.specs.declared.causes.Cause.{Cause}
+use Rattle.recall_outcomes.specs.declared.causes.Cause.TheVariants as causes
+use Rattle.recall_outcomes.specs.declared.causes.Failure.{Failure}
 use Rattle.recall_outcomes.specs.declared.faults.Fault.{Fault}
 use Rattle.recall_outcomes.specs.declared.outcomes.AuditedRecall.{AuditedRecall}
 use Rattle.recall_outcomes.specs.declared.outcomes.CommandRefusal.{CommandRefusal}
@@ -141,6 +145,31 @@ document_free sites source (Refused steps.NumbersSpent) = refl
 document_free sites source (Refused (steps.Doc fault)) = refl
 document_free sites source (Refused steps.NoMemory) = refl
 
+version_free : (v : ℤ) → has_float (number (of_integer v)) ≡ false
+version_free (pos n) = refl
+version_free (negsuc n) = refl
+
+caused_free : (name file : List ℕ) (cause : Cause) → has_float (object (caused_members name file cause)) ≡ false
+caused_free name file causes.InUse = refl
+caused_free name file causes.NoPermission = refl
+caused_free name file causes.NoSpace = refl
+caused_free name file causes.Missing = refl
+caused_free name file causes.Exists = refl
+caused_free name file causes.NotAFile = refl
+caused_free name file causes.HardLink = refl
+caused_free name file causes.Journal = refl
+caused_free name file causes.Damaged = refl
+caused_free name file causes.NoDatabase = refl
+caused_free name file causes.Unsound = refl
+caused_free name file (causes.TableMissing table) = refl
+caused_free name file (causes.Foreign foreign) = refl
+caused_free name file causes.OtherTables = refl
+caused_free name file causes.NoStoreRow = refl
+caused_free name file (causes.Row table row) = refl
+caused_free name file (causes.Version version) = ap (λ b. b || false) (version_free version)
+caused_free name file (causes.Site site) = refl
+caused_free name file (causes.Other text) = refl
+
 pub fault_free : (fault : Fault) (failure : Option Failure) → has_float (fault_json fault failure) ≡ false
 fault_free fault None = refl
-fault_free fault (Some failure) = elim failure.cause as (λ cause. has_float (fault_json fault (Some (record { file = failure.file; cause = cause }))) ≡ false) [ None ↦ refl | Some cause ↦ refl ]
+fault_free fault (Some failure) = elim failure.cause as (λ cause. has_float (fault_json fault (Some (record { file = failure.file; cause = cause }))) ≡ false) [ None ↦ refl | Some cause ↦ caused_free (fault_name fault) (string_bytes failure.file) cause ]

@@ -271,9 +271,19 @@ led_deep sites ways (p, trail) = quarantined_deep sites ways (p, Some trail)
 
 report_tree : (sites : List Site) (r : Recall) (report : RecallReport) (ways : Ways) → IsTree 6 (report_json sites r report ways)
 unfolding report_json
-report_tree sites r report ways =
-    (refl, (tt, (outsides_tree sites report.outside, (list_tree 4 (quarantined_json sites ways) (quarantined_deep sites ways) (zip report.pairs report.trails),
-    (tt, (pair_tree 4 sites report.root, tt))))))
+report_tree sites r report ways = (
+  refl,
+  (
+    tt,
+    (
+      outsides_tree sites report.outside,
+      (
+        list_tree 4 (quarantined_json sites ways) (quarantined_deep sites ways) (zip report.pairs report.trails),
+        (tt, (pair_tree 4 sites report.root, tt)),
+      ),
+    ),
+  ),
+)
 
 trace_tree : (sites : List Site) (trace : Trace) (ways : Ways) → IsTree 6 (trace_json sites trace ways)
 unfolding trace_json
@@ -282,10 +292,16 @@ trace_tree sites trace ways =
 
 back_tree : (sites : List Site) (trace : BackTrace) (ways : Ways) → IsTree 6 (back_json sites trace ways)
 unfolding back_json
-back_tree sites trace ways =
-    (refl, (list_tree 4 (pair_json sites) (pair_tree 3 sites) trace.origins,
-    (list_tree 4 (leading_json sites ways) (λ z. deeper 3 (leading_json sites ways z) (leading_tree sites ways z)) (zip trace.pairs trace.trails),
-    (pair_tree 4 sites trace.root, (tt, tt)))))
+back_tree sites trace ways = (
+  refl,
+  (
+    list_tree 4 (pair_json sites) (pair_tree 3 sites) trace.origins,
+    (
+      list_tree 4 (leading_json sites ways) (λ z. deeper 3 (leading_json sites ways z) (leading_tree sites ways z)) (zip trace.pairs trace.trails),
+      (pair_tree 4 sites trace.root, (tt, tt)),
+    ),
+  ),
+)
 
 root_tree : (sites : List Site) (s : RecallStatus) → IsTree 5 (root_json sites s)
 root_tree sites s = pair_tree 4 sites (record { site = s.recall.site; item = s.root })
@@ -299,9 +315,16 @@ standing_tree sites s = (refl, (engaged_tree sites s.engaged_by, (tt, (tt, (tt, 
 
 detail_tree : (sites : List Site) (detail : RecallDetail) → IsTree 6 (detail_json sites detail)
 unfolding detail_json
-detail_tree sites detail =
-    (refl, (tt, (list_tree 4 (waiting_json sites) (λ w. (refl, (tt, (tt, (tt, (tt, tt)))))) detail.waiting,
-    (tt, (tt, (root_tree sites detail.status, (list_tree 4 (standing_json sites) (standing_tree sites) detail.sites, (tt, tt))))))))
+detail_tree sites detail = (
+  refl,
+  (
+    tt,
+    (
+      list_tree 4 (waiting_json sites) (λ w. (refl, (tt, (tt, (tt, (tt, tt)))))) detail.waiting,
+      (tt, (tt, (root_tree sites detail.status, (list_tree 4 (standing_json sites) (standing_tree sites) detail.sites, (tt, tt))))),
+    ),
+  ),
+)
 
 created_tree : (sites : List Site) → IsTree 6 (created_json sites)
 created_tree sites = (refl, (list_tree 4 (λ (s : Site). string s.name) (λ s. tt) sites, tt))

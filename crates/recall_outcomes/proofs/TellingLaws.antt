@@ -307,17 +307,19 @@ module _ {X : Type 0} (sites : List Site) (IsOf : X → Type 0) (beside : X → 
 
   trails_tell : (ways other : Ways) (ps qs : List Pair) (ts us : List X) → Tells ways other ps qs ts us
   trails_tell Trails Trails ps qs ts us one other hp hq ht hu e =
-      let tells = λ (z w : Pair × X) (hz : BothAre z) (hw : BothAre w) (same : of Trails z ≡ of Trails w). each.whole z.0 w.0 z.1 w.1 hz.0 hw.0 hz.1 hw.1 same in
-      (sym (firsts ps ts one) ∙ all_tell (λ z. z.0) Trails (λ z w hz hw same. (tells z w hz hw same).0) (zip ps ts) (zip qs us) (both_are ps ts hp ht) (both_are qs us hq hu) e ∙ firsts qs us other,
-      sym (map-id ts) ∙ sym (seconds (λ t. t) ps ts one)
-      ∙ all_tell (λ z. z.1) Trails (λ z w hz hw same. (tells z w hz hw same).1) (zip ps ts) (zip qs us) (both_are ps ts hp ht) (both_are qs us hq hu) e
-      ∙ seconds (λ t. t) qs us other ∙ map-id us)
+      let tells = λ (z w : Pair × X) (hz : BothAre z) (hw : BothAre w) (same : of Trails z ≡ of Trails w). each.whole z.0 w.0 z.1 w.1 hz.0 hw.0 hz.1 hw.1 same in (
+        sym (firsts ps ts one) ∙ all_tell (λ z. z.0) Trails (λ z w hz hw same. (tells z w hz hw same).0) (zip ps ts) (zip qs us) (both_are ps ts hp ht) (both_are qs us hq hu) e ∙ firsts qs us other,
+        sym (map-id ts) ∙ sym (seconds (λ t. t) ps ts one)
+            ∙ all_tell (λ z. z.1) Trails (λ z w hz hw same. (tells z w hz hw same).1) (zip ps ts) (zip qs us) (both_are ps ts hp ht) (both_are qs us hq hu) e
+            ∙ seconds (λ t. t) qs us other ∙ map-id us,
+      )
   trails_tell Steps Steps ps qs ts us one other hp hq ht hu e =
-      let tells = λ (z w : Pair × X) (hz : BothAre z) (hw : BothAre w) (same : of Steps z ≡ of Steps w). each.step z.0 w.0 z.1 w.1 hz.0 hw.0 hz.1 hw.1 same in
-      (sym (firsts ps ts one) ∙ all_tell (λ z. z.0) Steps (λ z w hz hw same. (tells z w hz hw same).0) (zip ps ts) (zip qs us) (both_are ps ts hp ht) (both_are qs us hq hu) e ∙ firsts qs us other,
-      sym (seconds beside ps ts one)
-      ∙ all_tell (λ z. beside z.1) Steps (λ z w hz hw same. (tells z w hz hw same).1) (zip ps ts) (zip qs us) (both_are ps ts hp ht) (both_are qs us hq hu) e
-      ∙ seconds beside qs us other)
+      let tells = λ (z w : Pair × X) (hz : BothAre z) (hw : BothAre w) (same : of Steps z ≡ of Steps w). each.step z.0 w.0 z.1 w.1 hz.0 hw.0 hz.1 hw.1 same in (
+        sym (firsts ps ts one) ∙ all_tell (λ z. z.0) Steps (λ z w hz hw same. (tells z w hz hw same).0) (zip ps ts) (zip qs us) (both_are ps ts hp ht) (both_are qs us hq hu) e ∙ firsts qs us other,
+        sym (seconds beside ps ts one)
+            ∙ all_tell (λ z. beside z.1) Steps (λ z w hz hw same. (tells z w hz hw same).1) (zip ps ts) (zip qs us) (both_are ps ts hp ht) (both_are qs us hq hu) e
+            ∙ seconds beside qs us other,
+      )
   trails_tell Trails Steps ps qs ts us one other hp hq ht hu e = let told = none_tell ps qs ts us one other e in (told.0, (told.1, told.2))
   trails_tell Steps Trails ps qs ts us one other hp hq ht hu e = let told = none_tell qs ps us ts other one (sym e) in (sym told.0, (told.2, told.1))
 
@@ -326,9 +328,10 @@ unfolding pair_by
 reported_tell sites are = record {
   whole = λ p q t u hp hq ht hu e.
       (ap₂ pair_by (site_tells sites are p.site q.site hp hq (ap (text_at 1) e)) (ap (text_at 0) e), trail_tells sites are t u ht hu (ap (at 2) e));
-  step = λ p q t u hp hq ht hu e.
-      (ap₂ pair_by (site_tells sites are p.site q.site hp hq (ap (text_at 2) e)) (ap (text_at 1) e),
-      beside_tells sites are (option_and_then before_last t) (option_and_then before_last u) (before_is_of sites t ht) (before_is_of sites u hu) (ap (at 0) e));
+  step = λ p q t u hp hq ht hu e. (
+    ap₂ pair_by (site_tells sites are p.site q.site hp hq (ap (text_at 2) e)) (ap (text_at 1) e),
+    beside_tells sites are (option_and_then before_last t) (option_and_then before_last u) (before_is_of sites t ht) (before_is_of sites u hu) (ap (at 0) e),
+  );
   apart = λ p q t u e. omega (arith, ap tag e);
 }
 
@@ -351,14 +354,16 @@ unfolding report_json
 report_tells sites are r s a b ways other hr hs ha hb e =
     let each = trails_tell sites (SomeIsOf (All (PairIsOf sites))) (option_and_then before_last) (quarantined_json sites) (reported_tell sites are) ways other a.pairs b.pairs a.trails b.trails
     ha.one_each hb.one_each ha.pairs hb.pairs ha.trails hb.trails
-    (lists_tell (quarantined_json sites ways) (quarantined_json sites other) (zip a.pairs a.trails) (zip b.pairs b.trails) (ap (at 2) e)) in
-    (recall_tells sites are r s hr hs (ap (text_at 3) e), record {
-      root = pair_tells sites are a.root b.root ha.root hb.root (ap (at 4) e);
-      ended = ap (flag_at 0) e;
-      pairs = each.0;
-      trails = each.1;
-      outside = outsides_tell sites are a.outside b.outside ha.outside hb.outside (ap (at 1) e);
-    })
+    (lists_tell (quarantined_json sites ways) (quarantined_json sites other) (zip a.pairs a.trails) (zip b.pairs b.trails) (ap (at 2) e)) in (
+      recall_tells sites are r s hr hs (ap (text_at 3) e),
+      record {
+        root = pair_tells sites are a.root b.root ha.root hb.root (ap (at 4) e);
+        ended = ap (flag_at 0) e;
+        pairs = each.0;
+        trails = each.1;
+        outside = outsides_tell sites are a.outside b.outside ha.outside hb.outside (ap (at 1) e);
+      },
+    )
 
 some_same : {X : Type 0} (x y : X) → Some x ≡ Some y → x ≡ y
 some_same x y e = cc
@@ -391,9 +396,10 @@ unfolding pair_by
 led_tell sites are =
     record {
       whole = λ p q t u hp hq ht hu e. (traced_tell sites are).whole p q t u hp hq ht hu e;
-      step = λ p q t u hp hq ht hu e.
-          (ap₂ pair_by (site_tells sites are p.site q.site hp hq (ap (text_at 1) e)) (ap (text_at 0) e),
-          beside_tells sites are (slice_get t 1) (slice_get u 1) (place_is sites t ht 1) (place_is sites u hu 1) (ap (at 2) e));
+      step = λ p q t u hp hq ht hu e. (
+        ap₂ pair_by (site_tells sites are p.site q.site hp hq (ap (text_at 1) e)) (ap (text_at 0) e),
+        beside_tells sites are (slice_get t 1) (slice_get u 1) (place_is sites t ht 1) (place_is sites u hu 1) (ap (at 2) e),
+      );
       apart = λ p q t u e. omega (arith, ap tag e);
     }
 
@@ -506,9 +512,10 @@ verdict_tells : (sites : List Site) → AreSites sites → (r s : Recall) (v w :
 unfolding pair_by
 verdict_tells sites are r s None None hv hw e = (ap (text_at 1) e, refl)
 verdict_tells sites are r s (Some (Equal m)) (Some (Equal n)) hv hw e = (ap (text_at 2) e, ap (λ d. Some (Equal (count_at 1 d))) e)
-verdict_tells sites are r s (Some (Differs p missing)) (Some (Differs q lacking)) hv hw e =
-    (ap (text_at 3) e,
-    ap₂ (λ (x : Pair) (b : Bool). Some (Differs x b)) (ap₂ pair_by (site_tells sites are p.site q.site hv hw (ap (text_at 4) e)) (ap (text_at 1) e)) (ap (flag_at 2) e))
+verdict_tells sites are r s (Some (Differs p missing)) (Some (Differs q lacking)) hv hw e = (
+  ap (text_at 3) e,
+  ap₂ (λ (x : Pair) (b : Bool). Some (Differs x b)) (ap₂ pair_by (site_tells sites are p.site q.site hv hw (ap (text_at 4) e)) (ap (text_at 1) e)) (ap (flag_at 2) e),
+)
 verdict_tells sites are r s None (Some (Equal n)) hv hw e = absurd (let no : ⊥ = omega (arith, ap tag e) in no)
 verdict_tells sites are r s v w hv hw e = absurd (let no : ⊥ = omega (arith, ap tag e) in no)
 

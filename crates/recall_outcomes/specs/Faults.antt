@@ -1,8 +1,8 @@
 -- How the faults of the commands on the sites' files are printed.
 use Rattle.std.specs.Prelude.{ℕ, List, [], ◌∷◌, ◌++◌, codes, Option, Some, None, string_bytes}
-use Rattle.std.specs.Global.{Global}
-use Rattle.std.specs.declared.string.String.{String}
-use Rattle.recall_outcomes.specs.declared.faults.Failure.{Failure}
+use Rattle.recall_outcomes.specs.Causes.{cause_words}
+use Rattle.recall_outcomes.specs.declared.causes.Cause.{Cause}
+use Rattle.recall_outcomes.specs.declared.causes.Failure.{Failure}
 use Rattle.recall_outcomes.specs.declared.faults.Fault.{Fault}
 use Rattle.recall_outcomes.specs.declared.faults.Fault.TheVariants as faults
 
@@ -27,9 +27,9 @@ abbrev pub fault_line : Fault → List ℕ
 fault_line fault = codes "fault " ++ fault_name fault ++ 10 ∷ []
 
 -- what is known of the cause, behind the path
-abbrev pub cause_text : Option (String Global) → List ℕ
+abbrev pub cause_text : Option Cause → List ℕ
 cause_text None = []
-cause_text (Some cause) = codes ": " ++ string_bytes cause
+cause_text (Some cause) = codes ": " ++ cause_words cause
 
 -- the line of the file that a fault is about
 abbrev pub file_line : Failure → List ℕ

@@ -20,10 +20,9 @@ use Rattle.recall_text.specs.Words.{name_at, recall_text, message_text}
 use Rattle.recall_text.specs.declared.site_lists.LineRefusal.{LineRefusal}
 use Rattle.recall_text.specs.declared.site_lists.LineRefusal.TheVariants.{BadLine, BadSite}
 use Rattle.serde_json.specs.Data.{Data, null, boolean, number, unsigned, string, array, object, Members, member, no_members, put}
+use Rattle.serde_json.specs.Find.{of_integer}
 use Rattle.serde_json.specs.View.{items_of}
 use Rattle.serde_json.specs.Written.{compact_text}
-use Rattle.std.specs.Global.{Global}
-use Rattle.std.specs.declared.string.String.{String}
 use Rattle.site_core.specs.declared.outcomes.Effects.{Effects}
 use Rattle.site_core.specs.declared.outcomes.Effects.TheVariants as effects
 use Rattle.site_core.specs.declared.outcomes.Refusal.{Refusal}
@@ -35,7 +34,10 @@ use Rattle.recall_outcomes.specs.Texts.{before_last}
 use Rattle.recall_outcomes.specs.declared.documents.DocumentOutcome.{DocumentOutcome}
 use Rattle.recall_outcomes.specs.declared.documents.DocumentOutcome.TheVariants.{Captured, Refused}
 use Rattle.recall_outcomes.specs.declared.documents.Totals.{Totals}
-use Rattle.recall_outcomes.specs.declared.faults.Failure.{Failure}
+use Rattle.recall_outcomes.specs.Causes.{cause_words, kind_name as cause_kind}
+use Rattle.recall_outcomes.specs.declared.causes.Cause.{Cause}
+use Rattle.recall_outcomes.specs.declared.causes.Cause.TheVariants as causes
+use Rattle.recall_outcomes.specs.declared.causes.Failure.{Failure}
 use Rattle.recall_outcomes.specs.declared.faults.Fault.{Fault}
 use Rattle.recall_outcomes.specs.declared.outcomes.AuditedRecall.{AuditedRecall}
 use Rattle.recall_outcomes.specs.declared.outcomes.CommandRefusal.{CommandRefusal}
@@ -290,18 +292,29 @@ totals_json t =
 
 -- ---- faults and notes
 
-abbrev pub cause_at : List ℕ → Members → Members
-cause_at cause rest = text_at (codes "cause") cause rest
+-- what a cause names
+abbrev pub named_by : Cause → Members
+named_by (causes.TableMissing table) = text_at (codes "table") table.now no_members
+named_by (causes.Foreign name) = text_at (codes "name") (string_bytes name) no_members
+named_by (causes.Row table row) = count_at (codes "row") row (text_at (codes "table") table.now no_members)
+named_by (causes.Version version) = member (codes "version") (number (of_integer version)) no_members
+named_by (causes.Site name) = text_at (codes "site") (string_bytes name) no_members
+named_by other = no_members
+
+-- a fault of a file, with its cause in words, which it is, and what that names
+abbrev pub caused_with : List ℕ → List ℕ → List ℕ → List ℕ → Members → Members
+caused_with name file words kind named =
+    text_at (codes "cause") words (text_at (codes "fault") name (text_at (codes "file") file (text_at (codes "kind") kind named)))
+
+abbrev pub caused_members : List ℕ → List ℕ → Cause → Members
+caused_members name file cause = caused_with name file (cause_words cause) (cause_kind cause) (named_by cause)
 
 abbrev pub fault_members : List ℕ → Option Failure → Members
 fault_members name None = text_at (codes "fault") name no_members
 fault_members name (Some failure) = of_cause failure.cause where
-  behind : Members
-  behind = text_at (codes "fault") name (text_at (codes "file") (string_bytes failure.file) no_members)
-
-  of_cause : Option (String Global) → Members
-  of_cause None = behind
-  of_cause (Some cause) = cause_at (string_bytes cause) behind
+  of_cause : Option Cause → Members
+  of_cause None = text_at (codes "fault") name (text_at (codes "file") (string_bytes failure.file) no_members)
+  of_cause (Some cause) = caused_members name (string_bytes failure.file) cause
 
 abbrev pub fault_json : Fault → Option Failure → Data
 fault_json fault failure = object (fault_members (fault_name fault) failure)

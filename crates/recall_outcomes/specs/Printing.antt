@@ -8,7 +8,7 @@ use Rattle.recall_outcomes.specs.Json.{document_json, fault_json, json_line, jso
 use Rattle.recall_outcomes.specs.Texts.{outcome_text}
 use Rattle.recall_outcomes.specs.declared.documents.DocumentOutcome.{DocumentOutcome}
 use Rattle.recall_outcomes.specs.declared.documents.Totals.{Totals}
-use Rattle.recall_outcomes.specs.declared.faults.Failure.{Failure}
+use Rattle.recall_outcomes.specs.declared.causes.Failure.{Failure}
 use Rattle.recall_outcomes.specs.declared.faults.Fault.{Fault}
 use Rattle.recall_outcomes.specs.declared.outcomes.Form.{Form}
 use Rattle.recall_outcomes.specs.declared.outcomes.Form.TheVariants.{Text, Json}

@@ -38,22 +38,6 @@ pub enum Fault {
     GaveUp,
 }
 
-/// A file that a fault is about, and what is known of it.
-#[derive(Debug)]
-pub struct Failure {
-    /// The file's path.
-    pub file: String,
-    /// What is known of the cause, in words.
-    pub cause: Option<String>,
-}
-
-// It is written out, so that a caller does not prove again how each part is dropped.
-impl Drop for Failure {
-    fn drop(self) {
-        let Failure { file: _, cause: _ } = self;
-    }
-}
-
 impl Fault {
     /// The name of the fault, as `Read`.
     pub fn name(self) -> &'static str

@@ -5,10 +5,11 @@ ghost use Rattle.std.specs.List.{zip};
 ghost use Rattle.serde_json.specs.Data.{array, member, no_members, object, string};
 ghost use Rattle.serde_json.specs.View.{items_of, view};
 ghost use Rattle.recall_outcomes.specs.Texts.{before_last};
-ghost use Rattle.recall_outcomes.specs.Json.{audited_json, beside_json, blocked_members, captured_members, created_json, differs_json, doc_members, document_json, effects_json, fault_json, fault_members, line_members, list_of, misfit_json, note_json, outside_json, pair_json, pair_members, quarantined_json, ran_json, refused, report_json, step_members, totals_json, traced_json, trail_json, why_json};
+ghost use Rattle.recall_outcomes.specs.Json.{audited_json, beside_json, blocked_members, captured_members, created_json, differs_json, doc_members, document_json, effects_json, line_members, list_of, misfit_json, note_json, outside_json, pair_json, pair_members, quarantined_json, ran_json, refused, report_json, step_members, totals_json, traced_json, trail_json, why_json};
 
+use crate::causes::{Cause, Failure};
 use crate::documents::{DocumentOutcome, Totals};
-use crate::faults::{Failure, Fault};
+use crate::faults::Fault;
 use crate::outcomes::{AuditedRecall, CommandRefusal, StartedRecall, Ways};
 use crate::report_texts::before_last;
 use epc_core::Epc;
@@ -446,30 +447,6 @@ pub(crate) fn totals_json(alloc: Global, totals: Totals) -> Result<Value, AllocE
         "refused": totals.refused,
         "skipped": totals.skipped
     })
-}
-
-/// A fault, and the file that it is about.
-pub(crate) fn fault_json(
-    alloc: Global,
-    fault: Fault,
-    failure: Option<&Failure>,
-) -> Result<Value, AllocError>
-    ensures { IfOk result (λ v. view v ≡ fault_json fault (option_map (λ f. f.now) failure.entry)) }
-{
-    match failure {
-        None => json!(in alloc; {"fault": fault.name()}),
-        Some(failure) => file_fault_json(alloc, fault.name(), failure),
-    }
-}
-
-fn file_fault_json(alloc: Global, name: &str, failure: &Failure) -> Result<Value, AllocError>
-    ensures { IfOk result (λ v. view v ≡ object (fault_members name.now (Some failure.now))) }
-{
-    let file = failure.file.as_str();
-    match &failure.cause {
-        None => json!(in alloc; {"fault": name, "file": file}),
-        Some(cause) => json!(in alloc; {"cause": cause.as_str(), "fault": name, "file": file}),
-    }
 }
 
 /// A line of the error stream that is no fault.

@@ -5,7 +5,9 @@
 #![tactic(auto)]
 
 mod advice;
+mod causes;
 mod documents;
+mod fault_json;
 mod faults;
 mod json;
 pub mod laws;
@@ -20,8 +22,9 @@ mod texts;
 mod trace_json;
 mod trace_texts;
 
+pub use causes::{Cause, Failure};
 pub use documents::{DocumentOutcome, Totals};
-pub use faults::{Failure, Fault};
+pub use faults::Fault;
 pub use notes::untraced_text;
 pub use outcomes::{AuditedRecall, CommandRefusal, Form, Outcome, StartedRecall, Ways};
 pub use printing::note_lines;

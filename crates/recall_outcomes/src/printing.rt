@@ -8,11 +8,13 @@ ghost use Rattle.recall_outcomes.specs.Faults.{fault_text, file_line};
 ghost use Rattle.recall_outcomes.specs.Json.{audited_json, json_line, json_lines, known_json, note_json, outcome_json, ran_json, status_json, why_json};
 ghost use Rattle.recall_outcomes.specs.Printing.{bare_line, document_line, fault_lines, note_lines, outcome_lines, totals_line};
 
+use crate::causes::Failure;
 use crate::documents::{DocumentOutcome, Totals};
-use crate::faults::{Failure, Fault};
+use crate::fault_json::fault_json;
+use crate::faults::Fault;
 use crate::json::{
-    audited_json, created_json, document_json, effects_json, fault_json, misfit_json, note_json,
-    ran_json, report_json, totals_json, why_json,
+    audited_json, created_json, document_json, effects_json, misfit_json, note_json, ran_json,
+    report_json, totals_json, why_json,
 };
 use crate::outcomes::{AuditedRecall, CommandRefusal, Form, Outcome, StartedRecall};
 use crate::query_json::{detail_json, known_json, status_json, would_json};
@@ -239,7 +241,7 @@ impl Failure {
         ensures { IfOk result (λ t. string_bytes t ≡ file_line self.now) }
     {
         let mut text = String::new(alloc);
-        push_file(&mut text, self)?;
+        push_file(alloc, &mut text, self)?;
         Ok(text)
     }
 }
@@ -250,7 +252,7 @@ fn fault_text(alloc: Global, fault: Fault, failure: Option<&Failure>) -> Result<
 {
     let mut text = String::from_str(alloc, fault.line())?;
     if let Some(failure) = failure {
-        push_file(&mut text, failure)?;
+        push_file(alloc, &mut text, failure)?;
     }
     text.push_str(fault.sentence())?;
     text.push_str("\n")?;
@@ -258,14 +260,14 @@ fn fault_text(alloc: Global, fault: Fault, failure: Option<&Failure>) -> Result<
 }
 
 /// Adds the line of the file that a fault is about.
-fn push_file(text: &mut String, failure: &Failure) -> Result<(), AllocError>
+fn push_file(alloc: Global, text: &mut String, failure: &Failure) -> Result<(), AllocError>
     ensures { OnOk result (string_bytes text.new ≡ string_bytes text.old ++ file_line failure.now) }
 {
     text.push_str("file ")?;
     text.push_str(failure.file.as_str())?;
     if let Some(cause) = &failure.cause {
         text.push_str(": ")?;
-        text.push_str(cause.as_str())?;
+        text.push_str(cause.words(alloc)?.as_str())?;
     }
     text.push_str("\n")
 }
