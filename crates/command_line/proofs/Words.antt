@@ -1,6 +1,6 @@
 -- what some command lines ask for
 use Rattle.std.proofs.Common.{◌≡◌, ◌↔◌, ℕ, Bool, Bor, true, false, List, [], ◌∷◌, Option, Some, None, Result, Ok, Err, IfOk, IfSome, arith, codes, length, map, get_or, refl, sym, ap, ◌∙◌, subst, ⊎_elim, inl, inr, ◌≢◌}
-use mathlib.Core.Bool.{false≢true}
+use mathlib.Core.Bool.{false≢true, true≢false}
 use Rattle.std.specs.Prelude.{IsTrue}
 use Rattle.std.specs.Option.{ok_or}
 use Rattle.std.specs.Result.{result_ok}
@@ -10,7 +10,7 @@ use Rattle.std.specs.Prelude.{bytes_eq}
 use Rattle.std.specs.declared.alloc.AllocError.{AllocError}
 use Rattle.clap.specs.Words.{IsAmong, Row, Text, first_of, is_simple, is_simple_and_free}
 use Rattle.clap.specs.declared.error.ErrorKind.{ErrorKind}
-use Rattle.clap.specs.declared.error.ErrorKind.TheVariants.{DisplayHelp, OutOfMemory}
+use Rattle.clap.specs.declared.error.ErrorKind.TheVariants.{DisplayHelp, DisplayVersion, OutOfMemory}
 use Rattle.clap.proofs.OnLiterals.{clap_on_literals}
 use Rattle.recall_outcomes.specs.declared.outcomes.Form.{Form}
 use Rattle.command_line.specs.declared.command_lines.Asked.{Asked}
@@ -18,7 +18,7 @@ use Rattle.command_line.specs.declared.command_lines.Asked.TheVariants as asked
 use Rattle.command_line.specs.declared.command_lines.Batch.{Batch}
 use Rattle.command_line.specs.declared.command_lines.FileCommand.{FileCommand}
 use Rattle.command_line.specs.declared.command_lines.FileCommand.TheVariants.{Init, Capture, Start, Run, Report, Audit, Trace, Recalls, Recall, Items}
-use Rattle.command_line.specs.CommandLines.{recall, faults_of, named, AsksBatch, AsksSim, AsksFiles, AsksHelp, AsksNamed, IsBad, IsCapture, IsCommand, IsSet, AsksFor, IsToldAs}
+use Rattle.command_line.specs.CommandLines.{recall, faults_of, named, AsksBatch, AsksSim, AsksFiles, AsksHelp, AsksNamed, IsBad, IsCapture, IsCommand, IsSet, IsShown, AsksFor, IsToldAs}
 use mathlib.Core.Logic.{◌⊎◌}
 
 -- `clap`'s contract says which errors the command gives
@@ -58,7 +58,7 @@ sim_is_no_command (Items folder site text) rows is = let bad = is.0 in cc
 
 module _ (words : List (List ℕ)) (name : List ℕ) where
   pub sim_is_no_help : AsksHelp words → words ≡ name ∷ codes "sim" ∷ [] → ⊥
-  sim_is_no_help asked e = subst (λ kinds. IsAmong DisplayHelp kinds) (ap faults_of e ∙ sim_faults name) asked
+  sim_is_no_help (kind, shown, among) e = subst (λ kinds. IsAmong kind kinds) (ap faults_of e ∙ sim_faults name) among
 
   pub sim_is_not_bad : IsBad words → words ≡ name ∷ codes "sim" ∷ [] → ⊥
   sim_is_not_bad (kind, among, other) e = subst (λ kinds. IsAmong kind kinds) (ap faults_of e ∙ sim_faults name) among
@@ -87,7 +87,11 @@ module _ (words : List (List ℕ)) (name : List ℕ) where
 
   pub help_is_not_bad : IsBad words → words ≡ name ∷ codes "--help" ∷ [] → ⊥
   help_is_not_bad (kind, among, other) e =
-      ⊎_elim (λ same. other same) (λ none. none) (subst (λ kinds. IsAmong kind kinds) (ap faults_of e ∙ help_faults name) among)
+      ⊎_elim (λ same. other (inl same)) (λ none. none) (subst (λ kinds. IsAmong kind kinds) (ap faults_of e ∙ help_faults name) among)
+
+memory_is_not_shown : IsShown OutOfMemory → ⊥
+memory_is_not_shown (inl help) = let bad : OutOfMemory ≡ DisplayHelp = help in let no : true ≡ false = cc in absurd (true≢false no)
+memory_is_not_shown (inr version) = let bad : OutOfMemory ≡ DisplayVersion = version in let no : true ≡ false = cc in absurd (true≢false no)
 
 -- an error is reported as what it says of the words
 pub asks_told : (words : List (List ℕ)) (kind : ErrorKind) (told_as : Asked) → (kind ≡ OutOfMemory) ⊎ IsAmong kind (faults_of words) → IsToldAs kind told_as → AsksFor words told_as
@@ -95,7 +99,7 @@ asks_told words kind asked.Sim has told = absurd told
 asks_told words kind (asked.Files command form) has told = absurd told
 asks_told words kind (asked.Batch batch) has told = absurd told
 asks_told words kind (asked.Help text) has told =
-    ⊎_elim (λ memory. let bad : DisplayHelp ≡ OutOfMemory = sym told ∙ memory in cc) (λ among. subst (λ k. IsAmong k (faults_of words)) told among) has
+    ⊎_elim (λ memory. absurd (memory_is_not_shown (subst IsShown memory told))) (λ among. (kind, told, among)) has
 asks_told words kind (asked.Mistake text) has told = ⊎_elim (λ memory. absurd (told.1 memory)) (λ among. (kind, among, told.0)) has
 
 -- a command that was met is asked for, where nothing is wrong with the words

@@ -1,5 +1,5 @@
 -- What the words of a command line ask for, as `clap` reads them.
-use Rattle.std.specs.Prelude.{◌≡◌, ◌≢◌, ◌≤◌, ◌↔◌, ⊤, ℕ, Bool, true, false, IsTrue, List, [], ◌∷◌, Option, Some, None, codes, length, map, string_bytes, unwrap_or}
+use Rattle.std.specs.Prelude.{◌≡◌, ◌≢◌, ◌⊎◌, ◌≤◌, ◌↔◌, ⊤, ℕ, Bool, true, false, IsTrue, List, [], ◌∷◌, Option, Some, None, codes, length, map, string_bytes, unwrap_or}
 use mathlib.Core.Logic.{◌⊎◌}
 use Rattle.std.specs.Global.{Global}
 use Rattle.std.specs.declared.string.String.{String}
@@ -8,7 +8,7 @@ use Rattle.clap.specs.Words.{App, Row, Rule, Text, new_app, new_rule, with_rule,
 use Rattle.clap.specs.declared.builder.action.ArgAction.TheVariants.{Append, SetTrue}
 use Rattle.clap.specs.declared.builder.value_parser.ValueParser.TheVariants.{NonEmptyString, Unsigned}
 use Rattle.clap.specs.declared.error.ErrorKind.{ErrorKind}
-use Rattle.clap.specs.declared.error.ErrorKind.TheVariants.{DisplayHelp, OutOfMemory}
+use Rattle.clap.specs.declared.error.ErrorKind.TheVariants.{DisplayHelp, DisplayVersion, OutOfMemory}
 use Rattle.recall_outcomes.specs.declared.outcomes.Form.{Form}
 use Rattle.recall_outcomes.specs.declared.outcomes.Form.TheVariants as forms
 use Rattle.recall_outcomes.specs.declared.outcomes.Ways.{Ways}
@@ -98,16 +98,24 @@ needing a = record a { top = record a.top { subcommand_required = true } }
 abbrev pub with_command : App → App → App
 with_command above below = with_subcommand above below.top
 
+-- a command that tells its version
+abbrev pub versioned : App → App
+versioned a = record a { top = record a.top { has_version = true } }
+
 abbrev pub recall : App
 recall = with_command (with_command (with_command changing trace) status) items where
   -- those that came first
   changing : App
   changing =
-      with_command (with_command (with_command (with_command (with_command (with_command (with_command (needing (new_app (codes "recall"))) sim) init) capture) start) run) report) audit
+      with_command (with_command (with_command (with_command (with_command (with_command (with_command (needing (versioned (new_app (codes "recall")))) sim) init) capture) start) run) report) audit
 
 -- ---- what words ask for
 
--- what is wrong with the words, by kind; no kind where nothing is. Help that is asked for is the kind DisplayHelp.
+-- what is asked to be shown, in place of something to be done
+abbrev pub IsShown : ErrorKind → Type 0
+IsShown kind = (kind ≡ DisplayHelp) ⊎ (kind ≡ DisplayVersion)
+
+-- what is wrong with the words, by kind; no kind where nothing is. Help and the version that are asked for are kinds, too.
 abbrev pub faults_of : List (List ℕ) → Kinds
 faults_of words = fault_of recall words
 
@@ -207,11 +215,11 @@ abbrev pub AsksBatch : List (List ℕ) → Batch → Type 0
 AsksBatch words batch = (faults_of words ≡ []) × AsksNamed (named words) (asked.Batch batch)
 
 abbrev pub AsksHelp : List (List ℕ) → Type 0
-AsksHelp words = IsAmong DisplayHelp (faults_of words)
+AsksHelp words = (kind : ErrorKind) × IsShown kind × IsAmong kind (faults_of words)
 
 -- something else is wrong with them
 abbrev pub IsBad : List (List ℕ) → Type 0
-IsBad words = (kind : ErrorKind) × IsAmong kind (faults_of words) × (kind ≢ DisplayHelp)
+IsBad words = (kind : ErrorKind) × IsAmong kind (faults_of words) × (¬ IsShown kind)
 
 -- the words ask for this
 abbrev pub AsksFor : List (List ℕ) → Asked → Type 0
@@ -226,5 +234,5 @@ abbrev pub IsToldAs : ErrorKind → Asked → Type 0
 IsToldAs kind asked.Sim = ⊥
 IsToldAs kind (asked.Files command form) = ⊥
 IsToldAs kind (asked.Batch batch) = ⊥
-IsToldAs kind (asked.Help text) = kind ≡ DisplayHelp
-IsToldAs kind (asked.Mistake text) = (kind ≢ DisplayHelp) × (kind ≢ OutOfMemory)
+IsToldAs kind (asked.Help text) = IsShown kind
+IsToldAs kind (asked.Mistake text) = (¬ IsShown kind) × (kind ≢ OutOfMemory)

@@ -20,7 +20,7 @@ pub(crate) enum Asked<'a> {
     Files(FileCommand<'a>, Form),
     /// Documents of several files, or of their lines, are captured at a site.
     Batch(Batch<'a>),
-    /// Help, which is an answer.
+    /// Help, or the version, which is an answer.
     Help(String),
     /// A bad command line, with what is wrong with it.
     Mistake(String),
@@ -322,6 +322,7 @@ fn recall<'a>(alloc: Global) -> Result<Command<'a>, AllocError>
     let program = Command::new(alloc, "recall")
         .bin_name("recall")?
         .about(helps::ABOUT)
+        .version(helps::VERSION)
         .after_help(helps::PAGE)
         .subcommand_required(true)
         .subcommand(sim(alloc))?
@@ -547,13 +548,15 @@ fn items<'a>(alloc: Global) -> Result<Command<'a>, AllocError>
         ))
 }
 
-/// What an error of `clap` is reported as. Help that was asked for is one of its errors.
+/// What an error of `clap` is reported as. Help and the version that were asked for are among its errors.
 fn of_error<'a>(alloc: Global, error: &Error) -> Result<Asked<'a>, AllocError>
     ensures { IfOk result (IsToldAs (kind_of error.now)) }
 {
     match error.kind() {
         ErrorKind::OutOfMemory => Err(AllocError),
-        ErrorKind::DisplayHelp => Ok(Asked::Help(error.to_string(alloc)?)),
+        ErrorKind::DisplayHelp | ErrorKind::DisplayVersion => {
+            Ok(Asked::Help(error.to_string(alloc)?))
+        }
         _ => Ok(Asked::Mistake(error.to_string(alloc)?)),
     }
 }

@@ -4,6 +4,9 @@
 pub(crate) const ABOUT: &str =
     "Traces recalled products through a supply chain: sites capture GS1 EPCIS 2.0 events, and a recall of an item finds all that was made from it or shipped on.";
 
+/// The program's version, and that of the sites' files which it makes.
+pub(crate) const VERSION: &str = "0.1.0 (site files of version 2)";
+
 /// The page behind the list of commands.
 pub(crate) const PAGE: &str = "\
 A folder holds a supply chain: the file `sites` lists its sites, and each site keeps its record in a file

@@ -2,16 +2,18 @@ use Rattle.std.proofs.Common.{◌≡◌, codes, ap, ◌∙◌, refl}
 use Rattle.std.proofs.lemmas.Result.{IfOk-weaker}
 use Rattle.clap.specs.Words.{app_of, new_app}
 use Rattle.clap.specs.Simple.{app_of_fields}
-use Rattle.command_line.specs.CommandLines.{needing}
+use Rattle.command_line.specs.CommandLines.{needing, versioned}
 use Rattle.command_line.proofs.Assembly.{adds_command}
 use Rattle.command_line.proofs.command_lines.recall.Goals as goal
 
 pub returns : goal.returns
 returns c =
-    let named : app_of c.after_help.result ≡ new_app (codes "recall") =
-    ap app_of_fields c.after_help.ensures ∙ ap app_of_fields c.about.ensures ∙ ap app_of_fields c.in_ok-bin_name.ensures.0 ∙ c.new.ensures.app in
-    let needs : app_of c.subcommand_required.result ≡ needing (new_app (codes "recall")) =
-    ap app_of_fields c.subcommand_required.ensures ∙ ap needing named in
+    let named : app_of c.about.result ≡ new_app (codes "recall") =
+    ap app_of_fields c.about.ensures ∙ ap app_of_fields c.in_ok-bin_name.ensures.0 ∙ c.new.ensures.app in
+    let told : app_of c.after_help.result ≡ versioned (new_app (codes "recall")) =
+    ap app_of_fields c.after_help.ensures ∙ ap app_of_fields c.version.ensures ∙ ap versioned named in
+    let needs : app_of c.subcommand_required.result ≡ needing (versioned (new_app (codes "recall"))) =
+    ap app_of_fields c.subcommand_required.ensures ∙ ap needing told in
     let first = adds_command _ _ _ _ _ c.in_ok-subcommand.ensures needs c.sim.ensures refl in
     let second = adds_command _ _ _ _ _ c.in_ok-subcommand-2.ensures first c.in_ok-init.ensures refl in
     let third = adds_command _ _ _ _ _ c.in_ok-program.ensures second c.in_ok-capture.ensures refl in
