@@ -1,11 +1,12 @@
 -- Calls one after another, and keepers opened in turn.
 use Rattle.std.proofs.Common.{◌≡◌, ℕ, ◌+◌, List, [], ◌∷◌, All, ◌++◌, length, Some, refl, sym, ap, ◌∙◌, subst, arith}
-use Rattle.std.specs.Prelude.{Option, Result, Ok, Err, IfOk, IfErr, IsErrAnd, OnOk}
+use Rattle.std.specs.Prelude.{Option, Result, Ok, Err, IfOk, IfErr, IsErrAnd, IsSome, OnOk}
 use Rattle.std.proofs.lemmas.List.Elements.{All-cons, All-nil}
 use Rattle.std.proofs.lemmas.Option.{same_Some}
 use Rattle.event_json.specs.Sites.{Site}
 use Rattle.site_core.specs.Records.{Record}
 use Rattle.recall_outcomes.specs.declared.faults.Fault.{Fault}
+use Rattle.world_core.specs.Keepers.{AllShow}
 use Rattle.folder_commands.specs.Calls.{AreShown, KeepFrom, KeepsSite, ListsSites, opens_from, opens_site}
 use Rattle.folder_commands.specs.FileCalls.{Began, Blamed, Calls, Failed, FileCall, Led, OpenedSite, ReadFile}
 use Rattle.folder_commands.specs.Folders.{list_path}
@@ -100,6 +101,20 @@ shown_once shown [] (r ∷ rs) qs a b = absurd a
 shown_once shown [] [] (q ∷ qs) a b = absurd b
 shown_once shown (k ∷ keepers) [] qs a b = absurd a
 shown_once shown (k ∷ keepers) (r ∷ rs) [] a b = absurd b
+
+-- the same, in the words of a world
+pub are_shown : {K : Type 0} (shown : K → Option Record) (keepers : List K) (rs : List Record) → AllShow shown keepers rs → AreShown shown keepers rs
+are_shown shown [] [] all = tt
+are_shown shown (k ∷ keepers) (r ∷ rs) all = (all.0, are_shown shown keepers rs all.1)
+are_shown shown [] (r ∷ rs) all = absurd all
+are_shown shown (k ∷ keepers) [] all = absurd all
+
+-- each is open
+pub shown_open : {K : Type 0} (shown : K → Option Record) (keepers : List K) (rs : List Record) → AreShown shown keepers rs → All (λ k. IsSome (shown k)) keepers
+shown_open shown [] [] all = All-nil (λ k. IsSome (shown k))
+shown_open shown (k ∷ keepers) (r ∷ rs) (first, rest) = All-cons (λ k. IsSome (shown k)) k keepers (subst (λ o. IsSome o) (sym first) refl) (shown_open shown keepers rs rest)
+shown_open shown [] (r ∷ rs) all = absurd all
+shown_open shown (k ∷ keepers) [] all = absurd all
 
 -- what follows of each answer
 pub ok_so : {X E : Type 0} {P Q : X → Type 0} (r : Result X E) → ((x : X) → P x → Q x) → IfOk r P → IfOk r Q

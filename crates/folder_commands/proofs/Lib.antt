@@ -1,3 +1,4 @@
+pub mod AskingLemmas
 pub mod CallsInTurn
 pub mod CaptureLemmas
 pub mod MakingLemmas

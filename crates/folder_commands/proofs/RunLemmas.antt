@@ -16,18 +16,12 @@ use Rattle.site_threads.specs.declared.lists.RunLog.{RunLog}
 use Rattle.world_core.specs.Keepers.{AllShow}
 use Rattle.world_core.specs.declared.faults.WorldFault.TheVariants as worlds
 use Rattle.folder_commands.specs.Calls.{AreShown}
+use Rattle.folder_commands.proofs.CallsInTurn.{are_shown}
 use Rattle.folder_commands.specs.Runs.{AnswersRun, CameToItsEnd, TellsCause, TellsRecalls}
 use Rattle.folder_commands.specs.Notes.{AreNotes, AreOfSites}
 use Rattle.folder_commands.specs.declared.notes.RunNotes.{RunNotes}
 
 module _ {K : Type 0} (shown : K → Option Record) where
-  -- the same, in the words of a folder
-  pub are_shown : (keepers : List K) (rs : List Record) → AllShow shown keepers rs → AreShown shown keepers rs
-  are_shown [] [] all = tt
-  are_shown (k ∷ keepers) (r ∷ rs) all = (all.0, are_shown keepers rs all.1)
-  are_shown [] (r ∷ rs) all = absurd all
-  are_shown (k ∷ keepers) [] all = absurd all
-
   -- a keeper that stands where its list leads is open
   pub all_kept_open : (keepers : List K) (lists : List RunLog) → AllZip (IsKept shown) keepers lists → All (λ k. IsSome (shown k)) keepers
   all_kept_open [] [] all = All-nil (λ (k : K). IsSome (shown k))
@@ -81,7 +75,7 @@ module _ {K : Type 0} (shown : K → Option Record) where
         subst (λ o. AnswersRun shown failed turns old new o notes) (sym told) (
           record {
             records = records;
-            shows = subst (λ ks. AreShown shown ks records) fit (are_shown new records shows);
+            shows = subst (λ ks. AreShown shown ks records) fit (are_shown shown new records shows);
             is_misfit = dont.1;
           },
           fit,

@@ -13,7 +13,7 @@ use Rattle.recall_text.specs.Numbers.{recall_of}
 use Rattle.recall_text.specs.SiteLists.{IsSiteList}
 use Rattle.recall_text.specs.Words.{name_at}
 use Rattle.recall_text.specs.declared.site_lists.SiteList.{SiteList}
-use Rattle.site_core.specs.Records.{Record}
+use Rattle.site_core.specs.Records.{Record, IsSound}
 use Rattle.site_core.specs.declared.inputs.SiteInput.{SiteInput}
 use Rattle.site_core.specs.declared.inputs.SiteInput.TheVariants.{Capture, Start}
 use Rattle.folder_commands.specs.Audits.{AnswersAudit}
@@ -89,9 +89,10 @@ AreShown shown (keeper ∷ keepers) (r ∷ rs) = (shown keeper ≡ Some r) × Ar
 AreShown shown keepers rs = ⊥
 
 module _ {K : Type 0} (shown : K → Option Record) (stored : K → Type 0) (sites : List Site) where
-  -- it shows the record of this site, and a crash leaves that on its file
+  -- it shows the record of this site, which is sound, and a crash leaves that on its file
   pub record KeepsSite (site : ℕ) (keeper : K) (r : Record) : Type 0 where
     pub shows : ShowsSite shown sites site keeper r
+    pub sound : IsSound r
     pub lasts : stored keeper
 
   -- so do these keepers, of the sites from a number on

@@ -3,6 +3,9 @@ pub mod Calls
 pub mod Captures
 pub mod DryStarts
 pub mod Failing
+pub mod FailingToAsk
+pub mod FailingToMake
+pub mod FailingToRun
 pub mod Faults
 pub mod FileCalls
 pub mod Folders

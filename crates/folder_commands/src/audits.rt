@@ -7,6 +7,7 @@ ghost use Rattle.site_recovery.specs.Checking.{records_at};
 ghost use Rattle.site_recovery.specs.FittingAt.{AreAllSites};
 ghost use Rattle.folder_commands.specs.Calls.{AuditsAt};
 ghost use Rattle.folder_commands.specs.Audits.{AnswersAudit, AuditsRecall, begun, begun_by};
+ghost use Rattle.folder_commands.specs.FailingToAsk.{AllFails};
 ghost use Rattle.folder_commands.specs.FileCalls.{Led};
 
 use crate::folders::{Files, sites_of};
@@ -23,13 +24,15 @@ use std::alloc::{AllocError, Global};
 /// Audits the sites of a folder.
 ///
 /// # Errors
-/// In this order: those of the folder's list, and those of opening the sites' files.
+/// In this order: those of the folder's list, and those of opening the sites' files; once these are open `NoMemory`
+/// alone. The sites' records are as they were.
 pub fn audit_sites<K: SiteKeeper, F: Files<K>>(
     alloc: Global,
     files: &mut F,
     folder: &str,
 ) -> Result<Output, Fault>
     ensures calls { IfOk result (λ output. Led F.does files.old files.new (AuditsAt K.shown K.stored folder.now output)) }
+    ensures failed { IfErr result (λ fault. Led F.does files.old files.new (AllFails K.shown K.stored folder.now fault)) }
 {
     let sites = sites_of(alloc, files, folder)?;
     let outcome = ask_all(alloc, files, folder, &sites, &AuditOfAll {})?;

@@ -1,10 +1,12 @@
 //! `start --dry-run`: what the start of a recall would do at its site.
 
-ghost use Rattle.std.specs.Prelude.{◌≢◌, IfOk};
+ghost use Rattle.std.specs.Prelude.{◌≡◌, ◌≢◌, IfErr, IfOk};
 ghost use Rattle.epc_core.specs.Reading.{reading};
 ghost use Rattle.event_json.specs.Sites.{named};
 ghost use Rattle.folder_commands.specs.Calls.{AtSite, DryStartsAt, DryStartsItem};
 ghost use Rattle.folder_commands.specs.DryStarts.{TellsStart, effects_of};
+ghost use Rattle.folder_commands.specs.Failing.{AtSiteFails};
+ghost use Rattle.folder_commands.specs.FailingToAsk.{AskSiteOfItemFails, DryStartFails};
 ghost use Rattle.folder_commands.specs.FileCalls.{Led};
 ghost use Rattle.folder_commands.specs.Refusals.{IsRefusal};
 ghost use Rattle.recall_outcomes.specs.declared.outcomes.CommandRefusal.TheVariants.{Step};
@@ -23,8 +25,9 @@ use std::alloc::Global;
 /// have for other sites. The step is made on a copy of the record: nothing is begun or changed.
 ///
 /// # Errors
-/// As those of a start but for those of writing: those of the folder's list, those of opening the site's file. A site that
-/// isn't listed and a text that is no EPC are refused before the file is opened.
+/// As those of a start but for those of writing: those of the folder's list, those of opening the site's file; once that
+/// is open `NoMemory` alone. The site's record is as it was. A site that isn't listed and a text that is no EPC are
+/// refused before the file is opened.
 pub fn dry_start<K: SiteKeeper, F: Files<K>>(
     alloc: Global,
     files: &mut F,
@@ -34,6 +37,8 @@ pub fn dry_start<K: SiteKeeper, F: Files<K>>(
 ) -> Result<Output, Fault>
     ensures calls { IfOk result (λ output. Led F.does files.old files.new
         (DryStartsAt K.shown K.stored folder.now site.now item.now output)) }
+    ensures failed { IfErr result (λ fault. Led F.does files.old files.new
+        (DryStartFails K.shown K.stored folder.now site.now item.now fault)) }
 {
     let sites = sites_of(alloc, files, folder)?;
     let outcome = dry_start_in(alloc, files, folder, &sites, site, item)?;
@@ -53,8 +58,10 @@ fn dry_start_in<K: SiteKeeper, F: Files<K>>(
     site: &str,
     item: &str,
 ) -> Result<Outcome, Fault>
-    ensures { IfOk result (λ outcome. Led F.does files.old files.new (AtSite site.now (named sites.now site.now)
+    ensures calls { IfOk result (λ outcome. Led F.does files.old files.new (AtSite site.now (named sites.now site.now)
         (λ number. DryStartsItem K.shown K.stored folder.now sites.now number (reading item.now)) outcome)) }
+    ensures failed { IfErr result (λ fault. Led F.does files.old files.new (AtSiteFails (named sites.now site.now)
+        (AskSiteOfItemFails K.shown K.stored folder.now sites.now item.now) fault)) }
 {
     let Some(number) = sites.find(site) else {
         return Ok(no_site(alloc, site)?);
@@ -89,7 +96,8 @@ impl SiteQuestion for StartOf {
 
 /// Why a start would be refused, for which memory alone is no reason.
 fn refused(alloc: Global, why: Refusal) -> Result<Outcome, Fault>
-    ensures { IfOk result (λ outcome. (why ≢ Refusal.NoMemory) × IsRefusal (Step why) outcome) }
+    ensures answered { IfOk result (λ outcome. (why ≢ Refusal.NoMemory) × IsRefusal (Step why) outcome) }
+    ensures failed { IfErr result (λ fault. fault ≡ Fault.NoMemory) }
 {
     match &why {
         Refusal::NoMemory => Err(Fault::NoMemory),
@@ -99,7 +107,8 @@ fn refused(alloc: Global, why: Refusal) -> Result<Outcome, Fault>
 
 /// What is told of a step.
 fn would_of(stepped: &Stepped) -> Result<Outcome, Fault>
-    ensures { IfOk result (TellsStart (effects_of stepped.now)) }
+    ensures answered { IfOk result (TellsStart (effects_of stepped.now)) }
+    ensures failed { IfErr result (λ fault. fault ≡ Fault.NoMemory) }
 {
     match stepped {
         Stepped::Same(effects) => would(effects),
@@ -109,7 +118,8 @@ fn would_of(stepped: &Stepped) -> Result<Outcome, Fault>
 
 /// What is told of the effects of a start.
 fn would(effects: &Effects) -> Result<Outcome, Fault>
-    ensures { IfOk result (TellsStart effects.now) }
+    ensures answered { IfOk result (TellsStart effects.now) }
+    ensures failed { IfErr result (λ fault. fault ≡ Fault.NoMemory) }
 {
     match effects {
         Effects::Started {

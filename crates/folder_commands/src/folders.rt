@@ -1,11 +1,13 @@
 //! The folder of the sites' files: its list of sites, and opening the sites.
 
-ghost use Rattle.std.specs.Prelude.{◌≡◌, ◌≤◌, ◌↔◌, ℕ, List, IfErr, IfOk, IsTrue, length, string_bytes};
+ghost use Rattle.std.specs.Prelude.{◌≡◌, ◌≤◌, ◌↔◌, ℕ, All, List, Some, IfErr, IfOk, IsSome, IsTrue, length, string_bytes};
 ghost use Rattle.recall_text.specs.Words.{name_at};
-ghost use Rattle.site_core.specs.Records.{Record};
+ghost use Rattle.site_core.specs.Records.{Record, IsSound};
 ghost use Rattle.site_recovery.specs.Checking.{records_at};
-ghost use Rattle.folder_commands.specs.Calls.{AreShown, KeepFrom, KeepsSite, ListsSites, ShowsSite, closes_all, opens_from, opens_site};
+ghost use Rattle.world_core.specs.Keepers.{AllShow};
+ghost use Rattle.folder_commands.specs.Calls.{KeepFrom, KeepsSite, ListsSites, ShowsSite, closes_all, opens_from, opens_site};
 ghost use Rattle.folder_commands.specs.Failing.{ListFails, OpenFails};
+ghost use Rattle.folder_commands.specs.FailingToAsk.{OpensSome};
 ghost use Rattle.folder_commands.specs.FileCalls.{Calls, Led};
 ghost use Rattle.folder_commands.specs.Folders.{file_path, list_path};
 
@@ -143,7 +145,7 @@ pub(crate) fn open_site<K: SiteKeeper, F: Files<K>>(
     ensures opened { IfOk result (λ keeper. F.does files.old (opens_site folder.now sites.now site keeper) files.new) }
     ensures keeps { IfOk result (λ keeper. (r : Record) × KeepsSite K.shown K.stored sites.now site keeper r) }
     ensures failed { IfErr result (λ fault. Led F.does files.old files.new
-        (OpenFails K.shown K.may K.stored folder.now sites.now site fault)) }
+        (OpenFails K.shown folder.now sites.now site fault)) }
 {
     let path = file_path(alloc, folder, sites, site)?;
     let keeper = files.open_site(alloc, path.as_str(), name_of(sites, site))?;
@@ -157,7 +159,8 @@ pub(crate) fn open_site<K: SiteKeeper, F: Files<K>>(
 
 /// Whether the keeper is open and keeps the record of this site of these sites.
 fn keeps_site<K: SiteKeeper>(keeper: &K, sites: &Sites, site: SiteNo) -> bool
-    ensures { IsTrue result ↔ ((r : Record) × ShowsSite K.shown sites.now site keeper.now r) }
+    ensures keeps { IsTrue result ↔ ((r : Record) × ShowsSite K.shown sites.now site keeper.now r) }
+    ensures sound { IsTrue result → (r : Record) → K.shown keeper.now ≡ Some r → IsSound r }
 {
     // Lists of sites that are compared as equal are the same.
     equal_is_same();
@@ -177,30 +180,34 @@ pub(crate) fn open_all<K: SiteKeeper, F: Files<K>>(
     ensures opened { IfOk result (λ keepers. Calls F.does files.old (opens_from folder.now sites.now 0 keepers.items) files.new) }
     ensures keep { IfOk result (λ keepers. (rs : List Record) × KeepFrom K.shown K.stored sites.now 0 keepers.items rs) }
     ensures number { IfOk result (λ keepers. length keepers.items ≡ length sites.now) }
+    ensures few { length sites.now ≤ 16 }
+    ensures failed { IfErr result (λ fault. Led F.does files.old files.new
+        (OpensSome K.shown K.stored folder.now sites.now fault)) }
 {
     let mut keepers = Vec::new(alloc);
     for number in 0..sites.len() {
         let Some(site) = SiteNo::of(number) else {
-            return Err(Fault::BadSites);
+            unreachable!()
         };
         keepers.push(open_site(alloc, files, folder, sites, site)?)?;
     }
     Ok(keepers)
 }
 
-/// The records that keepers show.
-pub(crate) fn records_of<'a, K: SiteKeeper>(
+/// The records of keepers that are open.
+pub(crate) fn open_records<K: SiteKeeper>(
     alloc: Global,
-    keepers: &'a [K],
-) -> Result<Vec<&'a SiteState>, Fault>
-    ensures { IfOk result (λ records. AreShown K.shown keepers.now (records_at records.items)) }
+    keepers: &[K],
+) -> Result<Vec<&SiteState>, AllocError>
+    requires { All (λ k. IsSome (K.shown k)) keepers.now }
+    ensures { IfOk result (λ records. AllShow K.shown keepers.now (records_at records.items)) }
 {
-    let mut records = Vec::new(alloc);
+    let mut records = Vec::with_capacity(alloc, keepers.len())?;
     for keeper in keepers {
-        match keeper.view() {
-            Some(state) => records.push(state)?,
-            None => return Err(Fault::Closed),
-        }
+        let Some(state) = keeper.view() else {
+            unreachable!()
+        };
+        records.push(state)?;
     }
     Ok(records)
 }

@@ -1,11 +1,14 @@
 //! `init`: a file for each site of a list.
 
-ghost use Rattle.std.specs.Prelude.{◌≡◌, ◌++◌, Bool, List, IfOk, OnOk, length, map};
+ghost use Rattle.std.specs.Prelude.{◌≡◌, ◌⊎◌, ◌++◌, Bool, List, [], IfErr, IfOk, OnOk, length, map};
 ghost use Rattle.std.specs.List.{AllZip};
 ghost use Rattle.recall_outcomes.specs.declared.outcomes.CommandRefusal.{CommandRefusal};
 ghost use Rattle.recall_outcomes.specs.declared.outcomes.CommandRefusal.TheVariants.{Line};
 ghost use Rattle.recall_text.specs.Words.{name_at};
+ghost use Rattle.folder_commands.specs.Failing.{RunsOut};
+ghost use Rattle.folder_commands.specs.FailingToMake.{InitFails, LookFails, LooksForSome, MakeFails, MakesSome};
 ghost use Rattle.folder_commands.specs.FileCalls.{Calls, Led, LookedFor};
+ghost use Rattle.folder_commands.specs.Folders.{list_path};
 ghost use Rattle.folder_commands.specs.Making.{InitsAt, LooksForList, MakesListed, existing, looks_from, makes_all, makes_from, name_where, too_few};
 ghost use Rattle.folder_commands.specs.Refusals.{IsExists};
 
@@ -26,7 +29,9 @@ use std::hash::RandomState;
 /// each site that has a file already, and where none has one and the folder has a list.
 ///
 /// # Errors
-/// `Read` where the list can't be read, and the faults of the files. Those of some sites may have been made then.
+/// `Read` where the list can't be read, then the fault of the first look for a file that fails: nothing was made. Then
+/// that of the first file that can't be made, behind those of the sites before it. `NoMemory` at any time, with the files
+/// of the first sites made, or none.
 pub fn init<K: SiteKeeper, F: Files<K>>(
     alloc: Global,
     keys: RandomState,
@@ -35,6 +40,7 @@ pub fn init<K: SiteKeeper, F: Files<K>>(
     list: &str,
 ) -> Result<Output, Fault>
     ensures calls { IfOk result (λ output. Led F.does files.old files.new (InitsAt folder.now list.now output)) }
+    ensures failed { IfErr result (λ fault. Led F.does files.old files.new (InitFails folder.now list.now fault)) }
 {
     let text = files.read(alloc, list)?;
     let list = read_sites(alloc, text.as_slice())?;
@@ -55,7 +61,8 @@ fn make_listed<K: SiteKeeper, F: Files<K>>(
     text: &[u8],
     list: &SiteList,
 ) -> Result<Outcome, Fault>
-    ensures { IfOk result (λ outcome. Led F.does files.old files.new (MakesListed folder.now list.now text.now outcome)) }
+    ensures calls { IfOk result (λ outcome. Led F.does files.old files.new (MakesListed folder.now list.now text.now outcome)) }
+    ensures failed { IfErr result (λ fault. Led F.does files.old files.new (MakeFails folder.now list.now fault)) }
 {
     let sites = &list.sites;
     let mut refusals = Vec::new(alloc);
@@ -99,13 +106,14 @@ fn push_existing<K: SiteKeeper, F: Files<K>>(
     sites: &Sites,
     refusals: &mut Vec<CommandRefusal>,
 ) -> Result<(), Fault>
-    ensures { OnOk result ((found : List Bool) × Calls F.does files.old (looks_from folder.now sites.now 0 found) files.new
+    ensures looked { OnOk result ((found : List Bool) × Calls F.does files.old (looks_from folder.now sites.now 0 found) files.new
         × (length found ≡ length sites.now) × (more : List CommandRefusal) × AllZip IsExists (existing sites.now 0 found) more
         × (refusals.new.items ≡ refusals.old.items ++ more)) }
+    ensures failed { IfErr result (λ fault. Led F.does files.old files.new (LooksForSome folder.now sites.now fault)) }
 {
     for number in 0..sites.len() {
         let Some(site) = SiteNo::of(number) else {
-            return Err(Fault::BadSites);
+            unreachable!()
         };
         let path = file_path(alloc, folder, sites, site)?;
         push_where(alloc, files, path.as_str(), name_of(sites, site), refusals)?;
@@ -120,8 +128,10 @@ fn push_list<K: SiteKeeper, F: Files<K>>(
     folder: &str,
     refusals: &mut Vec<CommandRefusal>,
 ) -> Result<(), Fault>
-    ensures { OnOk result (Led F.does files.old files.new
+    ensures looked { OnOk result (Led F.does files.old files.new
         (LooksForList folder.now refusals.old.items refusals.new.items)) }
+    ensures failed { IfErr result (λ fault. (refusals.old.items ≡ []) × Led F.does files.old files.new
+        (λ calls. LookFails (list_path folder.now) fault calls ⊎ RunsOut fault calls)) }
 {
     if refusals.is_empty() {
         let path = list_path(alloc, folder)?;
@@ -138,8 +148,9 @@ fn push_where<K: SiteKeeper, F: Files<K>>(
     name: &str,
     refusals: &mut Vec<CommandRefusal>,
 ) -> Result<(), Fault>
-    ensures { OnOk result ((found : Bool) × F.does files.old (LookedFor path.now found) files.new
+    ensures looked { OnOk result ((found : Bool) × F.does files.old (LookedFor path.now found) files.new
         × (more : List CommandRefusal) × AllZip IsExists (name_where found name.now) more × (refusals.new.items ≡ refusals.old.items ++ more)) }
+    ensures failed { IfErr result (λ fault. Led F.does files.old files.new (LookFails path.now fault)) }
 {
     if files.exists(path)? {
         let name = String::from_str(alloc, name)?;
@@ -157,7 +168,8 @@ fn make_folder<K: SiteKeeper, F: Files<K>>(
     text: &[u8],
     sites: &Sites,
 ) -> Result<(), Fault>
-    ensures { OnOk result (Calls F.does files.old (makes_all folder.now sites.now text.now) files.new) }
+    ensures made { OnOk result (Calls F.does files.old (makes_all folder.now sites.now text.now) files.new) }
+    ensures failed { IfErr result (λ fault. Led F.does files.old files.new (MakesSome folder.now sites.now fault)) }
 {
     make_all(alloc, keys, files, folder, sites)?;
     let path = list_path(alloc, folder)?;
@@ -172,11 +184,12 @@ fn make_all<K: SiteKeeper, F: Files<K>>(
     folder: &str,
     sites: &Sites,
 ) -> Result<(), Fault>
-    ensures { OnOk result (Calls F.does files.old (makes_from folder.now sites.now 0 (length sites.now)) files.new) }
+    ensures made { OnOk result (Calls F.does files.old (makes_from folder.now sites.now 0 (length sites.now)) files.new) }
+    ensures failed { IfErr result (λ fault. Led F.does files.old files.new (MakesSome folder.now sites.now fault)) }
 {
     for number in 0..sites.len() {
         let Some(site) = SiteNo::of(number) else {
-            return Err(Fault::BadSites);
+            unreachable!()
         };
         let path = file_path(alloc, folder, sites, site)?;
         let state = SiteState::new(alloc, keys, sites.copy(alloc)?, site);

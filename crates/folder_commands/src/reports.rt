@@ -5,6 +5,7 @@ ghost use Rattle.recall_text.specs.Numbers.{recall_of};
 ghost use Rattle.site_recovery.specs.Checking.{records_at};
 ghost use Rattle.site_recovery.specs.FittingAt.{AreAllSites};
 ghost use Rattle.folder_commands.specs.Calls.{ReportsAt, ReportsBy};
+ghost use Rattle.folder_commands.specs.FailingToAsk.{AskOfRecallFails, RecallFails};
 ghost use Rattle.folder_commands.specs.FileCalls.{Led};
 ghost use Rattle.folder_commands.specs.Reports.{AnswersReport};
 
@@ -23,8 +24,9 @@ use std::alloc::Global;
 /// Reports a recall from the files of all sites of a folder.
 ///
 /// # Errors
-/// In this order: those of the folder's list, and those of opening the sites' files. A text that names no recall and a
-/// site that isn't listed are refused before the files are opened.
+/// In this order: those of the folder's list, and those of opening the sites' files; once these are open `NoMemory`
+/// alone. The sites' records are as they were. A text that names no recall and a site that isn't listed are refused
+/// before the files are opened.
 pub fn report_recall<K: SiteKeeper, F: Files<K>>(
     alloc: Global,
     files: &mut F,
@@ -34,6 +36,8 @@ pub fn report_recall<K: SiteKeeper, F: Files<K>>(
 ) -> Result<Output, Fault>
     ensures calls { IfOk result (λ output. Led F.does files.old files.new
         (ReportsAt K.shown K.stored folder.now recall.now ways output)) }
+    ensures failed { IfErr result (λ fault. Led F.does files.old files.new
+        (RecallFails K.shown K.stored folder.now recall.now fault)) }
 {
     let sites = sites_of(alloc, files, folder)?;
     let outcome = report_in(alloc, files, folder, &sites, recall, ways)?;
@@ -53,8 +57,10 @@ fn report_in<K: SiteKeeper, F: Files<K>>(
     recall: &str,
     ways: Ways,
 ) -> Result<Outcome, Fault>
-    ensures { IfOk result (λ outcome. Led F.does files.old files.new
+    ensures calls { IfOk result (λ outcome. Led F.does files.old files.new
         (ReportsBy K.shown K.stored folder.now sites.now (recall_of recall.now) ways outcome)) }
+    ensures failed { IfErr result (λ fault. Led F.does files.old files.new
+        (AskOfRecallFails K.shown K.stored folder.now sites.now (recall_of recall.now) fault)) }
 {
     let Some((name, number)) = recall_of(recall) else {
         return Ok(refusal(alloc, CommandRefusal::BadRecall)?);

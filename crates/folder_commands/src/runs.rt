@@ -1,17 +1,16 @@
 //! `run`: all sites of a folder, each in a thread of its own.
 
 ghost use Rattle.std.specs.Prelude.{◌≡◌, ◌≤◌, None, Some, All, IfErr, IfOk, IsSome, length, map};
-ghost use Rattle.site_recovery.specs.Checking.{records_at};
-ghost use Rattle.world_core.specs.Keepers.{AllShow};
 ghost use Rattle.site_threads.specs.Ends.{IsUnused};
 ghost use Rattle.site_threads.specs.Gathering.{KeepersFit};
+ghost use Rattle.folder_commands.specs.FailingToRun.{RunFails};
 ghost use Rattle.folder_commands.specs.Faults.{gather_fault};
 ghost use Rattle.folder_commands.specs.FileCalls.{Led};
 ghost use Rattle.folder_commands.specs.Notes.{AreNotes, AreOfSites, TellsOf};
 ghost use Rattle.folder_commands.specs.Runs.{AnswersRun, FailsRun, RunsAt, TellsCause, TellsRecalls};
 
 use crate::audits::begun;
-use crate::folders::{Files, close_all, open_all, sites_of};
+use crate::folders::{Files, close_all, open_all, open_records, sites_of};
 use crate::notes::{RunNotes, failures_of, notes_of, notes_text};
 use crate::outputs::Output;
 use event_json::Sites;
@@ -54,11 +53,10 @@ pub fn run_sites<
     requires turns { turns ≤ 1000000 }
     ensures calls { IfOk result (λ output. Led F.does files.old files.new
         (RunsAt (F.knows files.new) K.shown K.failed K.stored folder.now turns output)) }
+    ensures failed { IfErr result (λ fault. Led F.does files.old files.new
+        (RunFails K.shown K.failed K.may K.reopens G.gives_up K.stored folder.now turns fault)) }
 {
     let sites = sites_of(alloc, files, folder)?;
-    if sites.len() > 16 {
-        return Err(Fault::BadSites);
-    }
     let keepers = open_all(alloc, files, folder, &sites)?;
     let (after, ran) = run_of(rt, alloc, keepers, gate, turns);
     close_all(files, after);
@@ -182,21 +180,6 @@ fn tell_cause(cause: GatherCause) -> Result<Ran, Fault>
         GatherCause::SiteLost(_) => Err(Fault::SiteLost),
         GatherCause::GaveUp(_) => Err(Fault::GaveUp),
     }
-}
-
-/// The records of keepers that are open.
-fn open_records<K: SiteKeeper>(alloc: Global, keepers: &[K]) -> Result<Vec<&SiteState>, AllocError>
-    requires { All (λ k. IsSome (K.shown k)) keepers.now }
-    ensures { IfOk result (λ records. AllShow K.shown keepers.now (records_at records.items)) }
-{
-    let mut records = Vec::with_capacity(alloc, keepers.len())?;
-    for keeper in keepers {
-        let Some(state) = keeper.view() else {
-            unreachable!()
-        };
-        records.push(state)?;
-    }
-    Ok(records)
 }
 
 /// What is told of a run that has come to its end, before which the devices had failed so often: the recalls in the

@@ -1,8 +1,10 @@
 //! `items`: the items that a site knows.
 
-ghost use Rattle.std.specs.Prelude.{IfOk};
+ghost use Rattle.std.specs.Prelude.{IfErr, IfOk};
 ghost use Rattle.event_json.specs.Sites.{named};
 ghost use Rattle.folder_commands.specs.Calls.{AtSite, ItemsAt, TellsSite};
+ghost use Rattle.folder_commands.specs.Failing.{AtSiteFails};
+ghost use Rattle.folder_commands.specs.FailingToAsk.{AskSiteFails, ItemsFail};
 ghost use Rattle.folder_commands.specs.FileCalls.{Led};
 ghost use Rattle.folder_commands.specs.SiteItems.{AnswersItems};
 
@@ -20,8 +22,8 @@ use std::alloc::Global;
 /// the empty text. Nothing is begun or changed.
 ///
 /// # Errors
-/// In this order: those of the folder's list, and those of opening the site's file. A site that isn't listed is refused
-/// before the file is opened.
+/// In this order: those of the folder's list, and those of opening the site's file; once that is open `NoMemory` alone.
+/// The site's record is as it was. A site that isn't listed is refused before the file is opened.
 pub fn items_of_site<K: SiteKeeper, F: Files<K>>(
     alloc: Global,
     files: &mut F,
@@ -31,6 +33,8 @@ pub fn items_of_site<K: SiteKeeper, F: Files<K>>(
 ) -> Result<Output, Fault>
     ensures calls { IfOk result (λ output. Led F.does files.old files.new
         (ItemsAt K.shown K.stored folder.now site.now text.now output)) }
+    ensures failed { IfErr result (λ fault. Led F.does files.old files.new
+        (ItemsFail K.shown K.stored folder.now site.now fault)) }
 {
     let sites = sites_of(alloc, files, folder)?;
     let outcome = items_in(alloc, files, folder, &sites, site, text)?;
@@ -50,8 +54,10 @@ fn items_in<K: SiteKeeper, F: Files<K>>(
     site: &str,
     text: &str,
 ) -> Result<Outcome, Fault>
-    ensures { IfOk result (λ outcome. Led F.does files.old files.new (AtSite site.now (named sites.now site.now)
+    ensures calls { IfOk result (λ outcome. Led F.does files.old files.new (AtSite site.now (named sites.now site.now)
         (λ number. TellsSite K.shown K.stored folder.now sites.now number (AnswersItems number text.now)) outcome)) }
+    ensures failed { IfErr result (λ fault. Led F.does files.old files.new (AtSiteFails (named sites.now site.now)
+        (AskSiteFails K.shown K.stored folder.now sites.now) fault)) }
 {
     let Some(site) = sites.find(site) else {
         return Ok(no_site(alloc, site)?);

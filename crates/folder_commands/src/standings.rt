@@ -1,8 +1,9 @@
 //! `status`: how recalls stand, and what one of them waits for.
 
-ghost use Rattle.std.specs.Prelude.{◌≡◌, IfOk, option_map};
+ghost use Rattle.std.specs.Prelude.{◌≡◌, IfErr, IfOk, option_map};
 ghost use Rattle.recall_text.specs.Numbers.{recall_of};
 ghost use Rattle.folder_commands.specs.Calls.{RecallStandsAt, RecallsStandAt, StandsBy};
+ghost use Rattle.folder_commands.specs.FailingToAsk.{AllFails, AskOfRecallFails, RecallFails};
 ghost use Rattle.folder_commands.specs.FileCalls.{Led};
 
 use crate::folders::{Files, sites_of};
@@ -21,7 +22,8 @@ use std::alloc::Global;
 /// Nothing is begun or changed.
 ///
 /// # Errors
-/// In this order: those of the folder's list, and those of opening the sites' files.
+/// In this order: those of the folder's list, and those of opening the sites' files; once these are open `NoMemory`
+/// alone. The sites' records are as they were.
 pub fn recalls_standing<K: SiteKeeper, F: Files<K>>(
     alloc: Global,
     files: &mut F,
@@ -30,6 +32,7 @@ pub fn recalls_standing<K: SiteKeeper, F: Files<K>>(
 ) -> Result<Output, Fault>
     ensures calls { IfOk result (λ output. Led F.does files.old files.new
         (RecallsStandAt K.shown K.stored folder.now coded output)) }
+    ensures failed { IfErr result (λ fault. Led F.does files.old files.new (AllFails K.shown K.stored folder.now fault)) }
 {
     let sites = sites_of(alloc, files, folder)?;
     let outcome = ask_all(alloc, files, folder, &sites, &AllRecalls { coded })?;
@@ -43,8 +46,9 @@ pub fn recalls_standing<K: SiteKeeper, F: Files<K>>(
 /// Tells how a recall stands: at each site that it concerns, and which messages of it wait. Nothing is begun or changed.
 ///
 /// # Errors
-/// In this order: those of the folder's list, and those of opening the sites' files. A text that names no recall and a
-/// site that isn't listed are refused before the files are opened.
+/// In this order: those of the folder's list, and those of opening the sites' files; once these are open `NoMemory`
+/// alone. The sites' records are as they were. A text that names no recall and a site that isn't listed are refused
+/// before the files are opened.
 pub fn recall_standing<K: SiteKeeper, F: Files<K>>(
     alloc: Global,
     files: &mut F,
@@ -54,6 +58,8 @@ pub fn recall_standing<K: SiteKeeper, F: Files<K>>(
 ) -> Result<Output, Fault>
     ensures calls { IfOk result (λ output. Led F.does files.old files.new
         (RecallStandsAt K.shown K.stored folder.now recall.now coded output)) }
+    ensures failed { IfErr result (λ fault. Led F.does files.old files.new
+        (RecallFails K.shown K.stored folder.now recall.now fault)) }
 {
     let sites = sites_of(alloc, files, folder)?;
     let outcome = standing_in(alloc, files, folder, &sites, recall, coded)?;
@@ -73,8 +79,10 @@ fn standing_in<K: SiteKeeper, F: Files<K>>(
     recall: &str,
     coded: bool,
 ) -> Result<Outcome, Fault>
-    ensures { IfOk result (λ outcome. Led F.does files.old files.new
+    ensures calls { IfOk result (λ outcome. Led F.does files.old files.new
         (StandsBy K.shown K.stored folder.now sites.now (recall_of recall.now) coded outcome)) }
+    ensures failed { IfErr result (λ fault. Led F.does files.old files.new
+        (AskOfRecallFails K.shown K.stored folder.now sites.now (recall_of recall.now) fault)) }
 {
     let Some((name, number)) = recall_of(recall) else {
         return Ok(refusal(alloc, CommandRefusal::BadRecall)?);

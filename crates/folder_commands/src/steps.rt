@@ -7,7 +7,7 @@ ghost use Rattle.keeper_core.specs.Keeping.{Rises};
 ghost use Rattle.site_core.specs.Records.{Record};
 ghost use Rattle.site_core.specs.declared.outcomes.Effects.{Effects};
 ghost use Rattle.folder_commands.specs.Calls.{AtSite, CapturesAt, CapturesFile, StartsAt, StartsItem, StepsAt};
-ghost use Rattle.folder_commands.specs.Failing.{CaptureFails, CaptureFailsNamed, StartFails, StartFailsNamed, StepAtFails};
+ghost use Rattle.folder_commands.specs.Failing.{AtSiteFails, CaptureFails, CaptureFailsAt, StartFails, StartFailsAt, StepAtFails};
 ghost use Rattle.folder_commands.specs.FileCalls.{Led};
 ghost use Rattle.folder_commands.specs.Steps.{AnswersStep, FailsStep, TellsAnswer};
 
@@ -26,8 +26,8 @@ use std::alloc::Global;
 ///
 /// # Errors
 /// In this order, each without a change: those of the folder's list, `Read` where the document can't be read, those of
-/// opening the site's file; and then those of its step. A site that isn't listed is refused before the document is read.
-/// After `NoMemory` the document may be captured and not reported.
+/// opening the site's file; and then those of its step, as [`step`] has them. A site that isn't listed is refused before
+/// the document is read. After `NoMemory` the document may be captured and not reported.
 pub fn capture<K: SiteKeeper, F: Files<K>>(
     alloc: Global,
     files: &mut F,
@@ -38,7 +38,7 @@ pub fn capture<K: SiteKeeper, F: Files<K>>(
     ensures calls { IfOk result (λ output. Led F.does files.old files.new
         (CapturesAt K.shown K.stored folder.now site.now file.now output)) }
     ensures failed { IfErr result (λ fault. Led F.does files.old files.new
-        (CaptureFails K.shown K.may K.stored folder.now site.now file.now fault)) }
+        (CaptureFails K.shown K.may K.failed K.stored folder.now site.now file.now fault)) }
 {
     let sites = sites_of(alloc, files, folder)?;
     let Some(number) = sites.find(site) else {
@@ -69,7 +69,7 @@ fn capture_file<K: SiteKeeper, F: Files<K>>(
     ensures calls { IfOk result (λ r. Led F.does files.old files.new
         (CapturesFile K.shown K.stored folder.now sites.now site file.now r.0 r.1)) }
     ensures failed { IfErr result (λ fault. Led F.does files.old files.new
-        (CaptureFailsNamed K.shown K.may K.stored folder.now sites.now (Some site) file.now fault)) }
+        (CaptureFailsAt K.shown K.may K.failed K.stored folder.now sites.now file.now site fault)) }
 {
     let document = files.read(alloc, file)?;
     let untraced = untraced_of(alloc, document.as_slice(), sites)?;
@@ -83,7 +83,8 @@ fn capture_file<K: SiteKeeper, F: Files<K>>(
 ///
 /// # Errors
 /// In this order, each without a change: those of the folder's list, those of opening the site's file; and then those of
-/// its step. A site that isn't listed and a text that is no EPC are refused before the file is opened.
+/// its step, as [`step`] has them. A site that isn't listed and a text that is no EPC are refused before the file is
+/// opened.
 pub fn start<K: SiteKeeper, F: Files<K>>(
     alloc: Global,
     files: &mut F,
@@ -94,7 +95,7 @@ pub fn start<K: SiteKeeper, F: Files<K>>(
     ensures calls { IfOk result (λ output. Led F.does files.old files.new
         (StartsAt K.shown K.stored folder.now site.now item.now output)) }
     ensures failed { IfErr result (λ fault. Led F.does files.old files.new
-        (StartFails K.shown K.may K.stored folder.now site.now item.now fault)) }
+        (StartFails K.shown K.may K.failed K.stored folder.now site.now item.now fault)) }
 {
     let sites = sites_of(alloc, files, folder)?;
     let outcome = start_in(alloc, files, folder, &sites, site, item)?;
@@ -116,8 +117,8 @@ fn start_in<K: SiteKeeper, F: Files<K>>(
 ) -> Result<Outcome, Fault>
     ensures calls { IfOk result (λ outcome. Led F.does files.old files.new (AtSite site.now (named sites.now site.now)
         (λ number. StartsItem K.shown K.stored folder.now sites.now number (reading item.now)) outcome)) }
-    ensures failed { IfErr result (λ fault. Led F.does files.old files.new (StartFailsNamed K.shown K.may K.stored
-        folder.now sites.now (named sites.now site.now) (reading item.now) fault)) }
+    ensures failed { IfErr result (λ fault. Led F.does files.old files.new (AtSiteFails (named sites.now site.now)
+        (StartFailsAt K.shown K.may K.failed K.stored folder.now sites.now item.now) fault)) }
 {
     let Some(number) = sites.find(site) else {
         return Ok(no_site(alloc, site)?);
@@ -141,7 +142,7 @@ fn step_at<K: SiteKeeper, F: Files<K>>(
     ensures calls { IfOk result (λ outcome. Led F.does files.old files.new
         (StepsAt K.shown K.stored folder.now sites.now site input outcome)) }
     ensures failed { IfErr result (λ fault. Led F.does files.old files.new
-        (StepAtFails K.shown K.may K.stored folder.now sites.now site input fault)) }
+        (StepAtFails K.shown K.may K.failed K.stored folder.now sites.now site input fault)) }
 {
     let mut keeper = open_site(alloc, files, folder, sites, site)?;
     let outcome = step(alloc, &mut keeper, input);

@@ -1,6 +1,6 @@
 //! `trace`: where an item went, or where it came from, whether or not it was recalled.
 
-ghost use Rattle.std.specs.Prelude.{◌≡◌, true, false, IfOk};
+ghost use Rattle.std.specs.Prelude.{◌≡◌, true, false, IfErr, IfOk};
 ghost use Rattle.epc_core.specs.Reading.{reading};
 ghost use Rattle.event_json.specs.Sites.{named};
 ghost use Rattle.recall_outcomes.specs.declared.outcomes.CommandRefusal.TheVariants.{Step};
@@ -8,6 +8,8 @@ ghost use Rattle.site_core.specs.declared.outcomes.Refusal.TheVariants.{UnknownI
 ghost use Rattle.site_recovery.specs.Checking.{records_at};
 ghost use Rattle.site_recovery.specs.FittingAt.{AreAllSites};
 ghost use Rattle.folder_commands.specs.Calls.{AtSite, TracesAt, TracesItem};
+ghost use Rattle.folder_commands.specs.Failing.{AtSiteFails};
+ghost use Rattle.folder_commands.specs.FailingToAsk.{AskOfItemFails, TraceFails};
 ghost use Rattle.folder_commands.specs.FileCalls.{Led};
 ghost use Rattle.folder_commands.specs.Refusals.{IsRefusal};
 ghost use Rattle.folder_commands.specs.Traces.{AnswersTrace};
@@ -27,8 +29,9 @@ use std::alloc::Global;
 /// Traces an item at a site of a folder to where it went, or back to where it came from. Nothing is begun or changed.
 ///
 /// # Errors
-/// In this order: those of the folder's list, and those of opening the sites' files. A site that isn't listed and a text
-/// that is no EPC are refused before the files are opened.
+/// In this order: those of the folder's list, and those of opening the sites' files; once these are open `NoMemory`
+/// alone. The sites' records are as they were. A site that isn't listed and a text that is no EPC are refused before the
+/// files are opened.
 pub fn trace_item<K: SiteKeeper, F: Files<K>>(
     alloc: Global,
     files: &mut F,
@@ -40,6 +43,8 @@ pub fn trace_item<K: SiteKeeper, F: Files<K>>(
 ) -> Result<Output, Fault>
     ensures calls { IfOk result (λ output. Led F.does files.old files.new
         (TracesAt K.shown K.stored folder.now site.now item.now back ways output)) }
+    ensures failed { IfErr result (λ fault. Led F.does files.old files.new
+        (TraceFails K.shown K.stored folder.now site.now item.now fault)) }
 {
     let sites = sites_of(alloc, files, folder)?;
     let outcome = trace_in(alloc, files, folder, &sites, site, item, back, ways)?;
@@ -61,8 +66,10 @@ fn trace_in<K: SiteKeeper, F: Files<K>>(
     back: bool,
     ways: Ways,
 ) -> Result<Outcome, Fault>
-    ensures { IfOk result (λ outcome. Led F.does files.old files.new (AtSite site.now (named sites.now site.now)
+    ensures calls { IfOk result (λ outcome. Led F.does files.old files.new (AtSite site.now (named sites.now site.now)
         (λ number. TracesItem K.shown K.stored folder.now sites.now number (reading item.now) back ways) outcome)) }
+    ensures failed { IfErr result (λ fault. Led F.does files.old files.new (AtSiteFails (named sites.now site.now)
+        (AskOfItemFails K.shown K.stored folder.now sites.now item.now) fault)) }
 {
     let Some(site) = sites.find(site) else {
         return Ok(no_site(alloc, site)?);
@@ -113,6 +120,7 @@ fn forward_of(
 ) -> Result<Outcome, Fault>
     requires all { AreAllSites (records_at records.now) }
     ensures answered { IfOk result (AnswersTrace (records_at records.now) site item.now false ways) }
+    ensures failed { IfErr result (λ fault. fault ≡ Fault.NoMemory) }
 {
     match trace(alloc, records, site, item) {
         Ok(trace) => Ok(Outcome::Traced { trace, ways }),
@@ -130,6 +138,7 @@ fn back_of(
 ) -> Result<Outcome, Fault>
     requires all { AreAllSites (records_at records.now) }
     ensures answered { IfOk result (AnswersTrace (records_at records.now) site item.now true ways) }
+    ensures failed { IfErr result (λ fault. fault ≡ Fault.NoMemory) }
 {
     match trace_back(alloc, records, site, item) {
         Ok(trace) => Ok(Outcome::TracedBack { trace, ways }),
@@ -139,7 +148,8 @@ fn back_of(
 
 /// An item that isn't known is refused as the start of its recall would be.
 fn untraced(alloc: Global, fault: TraceFault) -> Result<Outcome, Fault>
-    ensures { IfOk result (λ outcome. (fault ≡ TraceFault.UnknownItem) × IsRefusal (Step UnknownItem) outcome) }
+    ensures answered { IfOk result (λ outcome. (fault ≡ TraceFault.UnknownItem) × IsRefusal (Step UnknownItem) outcome) }
+    ensures failed { IfErr result (λ fault. fault ≡ Fault.NoMemory) }
 {
     match fault {
         TraceFault::UnknownItem => {

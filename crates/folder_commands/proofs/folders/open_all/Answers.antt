@@ -1,7 +1,8 @@
-use Rattle.std.proofs.Common.{◌≡◌, ◌+◌, ℕ, [], ◌∷◌, ◌++◌, length, length-append, sym, ap, ◌∙◌, subst, arith}
+use Rattle.std.proofs.Common.{◌≡◌, ◌<◌, ◌+◌, ℕ, [], ◌∷◌, ◌++◌, length, length-append, sym, ap, ◌∙◌, subst, arith}
 use Rattle.folder_commands.specs.Calls.{KeepFrom, KeepsSite, opens_from, opens_site}
 use Rattle.folder_commands.specs.FileCalls.{Calls}
-use Rattle.folder_commands.proofs.CallsInTurn.{call_more, keep_more, opens_more}
+use Rattle.folder_commands.proofs.AskingLemmas.{next_failed, some_opened}
+use Rattle.folder_commands.proofs.CallsInTurn.{call_more, handed_on, keep_more, opens_more}
 use Rattle.folder_commands.proofs.folders.open_all.Goals as goal
 
 pub loop-number-preserved : goal.loop-number-preserved
@@ -29,3 +30,35 @@ loop-number-preserved g c =
       ap length items ∙ length-append keepers (keeper ∷ []) ∙ ap (λ (n : ℕ). n + 1) count,
       omega (arith, c.loop-number-test.true),
     )
+
+pub returns-in_err-open_site-clause-failed : goal.returns-in_err-open_site-clause-failed
+returns-in_err-open_site-clause-failed g c =
+    let (led, (rs, keep), count, few) = c.loop-number.invariant in
+    let keepers = c.loop-number.keepers.items in
+    let place : c.in-Some.site ≡ length keepers = c.in-Some.ensures.value ∙ sym count in
+    let below : length keepers < length c.args.sites.now = omega (arith, count, c.loop-number-test.true, c.len-number-end.ensures.count) in
+    handed_on c.from_residual.result _ _ c.from_residual.ensures.1
+    (next_failed g.F.Files.does c.args.folder.now g.K.SiteKeeper.shown g.K.SiteKeeper.stored c.args.sites.now _ _ _ keepers rs c.in-Some.site _ led keep place below c.in_err-open_site.ensures.failed)
+
+pub returns-in_err-push-clause-failed : goal.returns-in_err-push-clause-failed
+returns-in_err-push-clause-failed g c =
+    let does = g.F.Files.does in
+    let stored = g.K.SiteKeeper.stored in
+    let shown = g.K.SiteKeeper.shown in
+    let folder = c.args.folder.now in
+    let sites = c.args.sites.now in
+    let old = c.args.files.now in
+    let mid = c.loop-number.files in
+    let new = c.open_site.new.files in
+    let (led, (rs, keep), count, few) = c.loop-number.invariant in
+    let keepers = c.loop-number.keepers.items in
+    let keeper = c.in_ok-open_site.field-0 in
+    let (r, one) = c.in_ok-open_site.ensures.keeps in
+    let place : c.in-Some.site ≡ 0 + length keepers = let none : length keepers ≡ 0 + length keepers = omega arith in c.in-Some.ensures.value ∙ sym count ∙ none in
+    let call = subst (λ (n : ℕ). does mid (opens_site folder sites n keeper) new) place c.in_ok-open_site.ensures.opened in
+    let calls = subst (λ cs. Calls does old cs new) (sym (opens_more folder sites 0 keepers keeper))
+    (call_more does old mid new (opens_from folder sites 0 keepers) (opens_site folder sites (0 + length keepers) keeper) led call) in
+    let all = keep_more shown stored sites 0 keepers rs keeper r keep (subst (λ (n : ℕ). KeepsSite shown stored sites n keeper r) place one) in
+    let counted = length-append keepers (keeper ∷ []) in
+    handed_on c.from_residual-in_err-push.result _ _ c.from_residual-in_err-push.ensures.1
+    (some_opened does folder shown stored sites old new (keepers ++ keeper ∷ []) (rs ++ r ∷ []) calls all (omega (arith, counted, count, c.loop-number-test.true, c.len-number-end.ensures.count)))

@@ -17,8 +17,8 @@ returns-in_err-keeper-clause-failed g c =
 
 pub returns-then-keeps_site-clause-keeps : goal.returns-then-keeps_site-clause-keeps
 returns-then-keeps_site-clause-keeps g c =
-    let there = c.if-keeps_site.ensures.0 refl in
-    (there.0, record { shows = there.1; lasts = c.in_ok-keeper.ensures.stored })
+    let there = c.if-keeps_site.ensures.keeps.0 refl in
+    (there.0, record { shows = there.1; sound = c.if-keeps_site.ensures.sound refl there.0 there.1.shows; lasts = c.in_ok-keeper.ensures.stored })
 
 pub returns-clause-failed : goal.returns-clause-failed
 returns-clause-failed g c =
@@ -26,7 +26,7 @@ returns-clause-failed g c =
     let keeper = c.in_ok-keeper.keeper in
     record {
       calls = opens_site c.args.folder.now c.args.sites.now c.args.site keeper ∷ Blamed (file_path c.args.folder.now (name_at c.args.sites.now c.args.site)) ∷ [];
-      are = inr (inl (keeper, (λ r shows. let bad = c.if-keeps_site.ensures.1 (r, shows) in absurd (let none : ⊥ = cc in none)), refl, refl));
+      are = inr (inl (keeper, (λ r shows. let bad = c.if-keeps_site.ensures.keeps.1 (r, shows) in absurd (let none : ⊥ = cc in none)), refl, refl));
       led = (
         c.open_site.new.self,
         opened_as g.F.Files.does _ _ _ _ _ _ _ path c.name_of.ensures c.in_ok-keeper.ensures.opened,

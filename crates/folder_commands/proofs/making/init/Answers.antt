@@ -1,25 +1,53 @@
-use Rattle.std.proofs.Common.{List, ℕ, ◌∷◌, rules, refl, subst}
-use Rattle.folder_commands.specs.FileCalls.{Led, ReadFile}
+use Rattle.std.proofs.Common.{List, ℕ, [], ◌∷◌, rules, refl, subst, inl, inr}
+use Rattle.recall_text.specs.SiteLists.{IsSiteList}
+use Rattle.folder_commands.specs.FileCalls.{Failed, Led, ReadFile}
 use Rattle.folder_commands.specs.Making.{MakesListed}
+use Rattle.folder_commands.proofs.CallsInTurn.{handed_on}
 use Rattle.folder_commands.proofs.making.init.Goals as goal
 
-pub returns : goal.returns
-returns g c =
+pub returns-in_err-text-clause-failed : goal.returns-in_err-text-clause-failed
+returns-in_err-text-clause-failed g c =
+    handed_on c.from_residual.result _ _ c.from_residual.ensures.1
+    (record { calls = Failed c.args.list.now _ ∷ []; are = inl refl; led = (c.read.new.self, c.in_err-text.ensures.failed, refl) })
+
+pub returns-in_err-list-clause-failed : goal.returns-in_err-list-clause-failed
+returns-in_err-list-clause-failed g c =
+    let text = c.in_ok-text.text.items in
+    handed_on c.from_residual-in_err-list.result _ _ c.from_residual-in_err-list.ensures.1
+    (record {
+      calls = ReadFile c.args.list.now text ∷ [];
+      are = inr (record { text = text; rest = []; came = inl (refl, refl); calls_are = refl });
+      led = (c.read.new.self, c.in_ok-text.ensures.read, refl);
+    })
+
+pub returns-in_err-outcome-clause-failed : goal.returns-in_err-outcome-clause-failed
+returns-in_err-outcome-clause-failed g c =
     let text = c.in_ok-text.text.items in
     let listed = c.in_ok-list.list in
-    let made = subst (λ (t : List ℕ). Led g.F.Files.does c.read.new.self c.make_listed.new.files (MakesListed c.args.folder.now listed t c.in_ok-outcome.outcome)) c.as_slice-2.ensures.value c.in_ok-outcome.ensures in
+    let more = c.in_err-outcome.ensures.failed in
+    let is_list = subst (λ (t : List ℕ). IsSiteList t listed) c.as_slice.ensures.value c.in_ok-list.ensures in
+    handed_on c.from_residual-in_err-outcome.result _ _ c.from_residual-in_err-outcome.ensures.1
+    (record {
+      calls = ReadFile c.args.list.now text ∷ more.calls;
+      are = inr (record { text = text; rest = more.calls; came = inr (listed, is_list, more.are); calls_are = refl });
+      led = (c.read.new.self, c.in_ok-text.ensures.read, more.led);
+    })
+
+pub returns-clause-calls : goal.returns-clause-calls
+returns-clause-calls g c =
+    let text = c.in_ok-text.text.items in
+    let listed = c.in_ok-list.list in
+    let made = subst (λ (t : List ℕ). Led g.F.Files.does c.read.new.self c.make_listed.new.files (MakesListed c.args.folder.now listed t c.in_ok-outcome.outcome)) c.as_slice-2.ensures.value c.in_ok-outcome.ensures.calls in
     record {
-      calls = record {
-        calls = ReadFile c.args.list.now text ∷ made.calls;
-        are = record {
-          text = text;
-          listed = listed;
-          is_list = search rules;
-          plain = record { same = refl; silent = refl };
-          rest = made.calls;
-          made = made.are;
-          calls_are = refl;
-        };
-        led = (c.read.new.self, c.in_ok-text.ensures.read, made.led);
+      calls = ReadFile c.args.list.now text ∷ made.calls;
+      are = record {
+        text = text;
+        listed = listed;
+        is_list = search rules;
+        plain = record { same = refl; silent = refl };
+        rest = made.calls;
+        made = made.are;
+        calls_are = refl;
       };
+      led = (c.read.new.self, c.in_ok-text.ensures.read, made.led);
     }

@@ -1,11 +1,11 @@
-use Rattle.std.proofs.Common.{◌≡◌, ◌+◌, ℕ, suc, sym, ap, ap₂, ◌∙◌, subst, arith}
+use Rattle.std.proofs.Common.{◌≡◌, ◌<◌, ◌≤◌, ◌+◌, ℕ, suc, [], ◌∷◌, length, refl, sym, ap, ap₂, ◌∙◌, subst, arith, inl, inr}
 use Rattle.recall_text.specs.Words.{name_at}
 use Rattle.site_core.specs.Records.{Record, fresh}
-use Rattle.folder_commands.specs.FileCalls.{Calls, MadeSite}
+use Rattle.folder_commands.specs.FileCalls.{Calls, Failed, MadeSite}
 use Rattle.folder_commands.specs.Folders.{file_path}
 use Rattle.folder_commands.specs.Making.{makes_from}
-use Rattle.folder_commands.proofs.CallsInTurn.{call_more}
-use Rattle.folder_commands.proofs.MakingLemmas.{makes_more}
+use Rattle.folder_commands.proofs.CallsInTurn.{call_more, failed_at, handed_on}
+use Rattle.folder_commands.proofs.MakingLemmas.{made_then, makes_more}
 use Rattle.folder_commands.proofs.making.make_all.Goals as goal
 
 pub loop-number-preserved : goal.loop-number-preserved
@@ -29,3 +29,24 @@ loop-number-preserved g c =
       subst (λ (n : ℕ). Calls does old (makes_from folder sites 0 n) after) next all,
       omega (arith, c.loop-number-test.true),
     )
+
+pub returns-in_err-path-clause-failed : goal.returns-in_err-path-clause-failed
+returns-in_err-path-clause-failed g c =
+    let few : c.loop-number.number ≤ length c.args.sites.now = omega (arith, c.loop-number-test.true, c.len-number-end.ensures.count) in
+    handed_on c.from_residual.result _ _ c.from_residual.ensures.1
+    (made_then g.F.Files.does c.args.folder.now c.args.sites.now _ _ _ c.loop-number.number _ [] c.loop-number.invariant.0 few (inr (inr (refl, refl))) refl)
+
+pub returns-in_err-copy-clause-failed : goal.returns-in_err-copy-clause-failed
+returns-in_err-copy-clause-failed g c =
+    let few : c.loop-number.number ≤ length c.args.sites.now = omega (arith, c.loop-number-test.true, c.len-number-end.ensures.count) in
+    handed_on c.from_residual-in_err-copy.result _ _ c.from_residual-in_err-copy.ensures.1
+    (made_then g.F.Files.does c.args.folder.now c.args.sites.now _ _ _ c.loop-number.number _ [] c.loop-number.invariant.0 few (inr (inr (refl, refl))) refl)
+
+pub returns-in_err-create_site-clause-failed : goal.returns-in_err-create_site-clause-failed
+returns-in_err-create_site-clause-failed g c =
+    let below : c.loop-number.number < length c.args.sites.now = omega (arith, c.loop-number-test.true, c.len-number-end.ensures.count) in
+    let place = ap (λ (n : ℕ). file_path c.args.folder.now (name_at c.args.sites.now n)) c.in-Some.ensures.value in
+    let path = c.as_str.ensures.value ∙ c.in_ok-path.ensures ∙ place in
+    handed_on c.from_residual-in_err-create_site.result _ _ c.from_residual-in_err-create_site.ensures.1
+    (made_then g.F.Files.does c.args.folder.now c.args.sites.now _ _ _ c.loop-number.number _ (Failed (file_path c.args.folder.now (name_at c.args.sites.now c.loop-number.number)) _ ∷ []) c.loop-number.invariant.0 (omega (arith, below)) (inl (below, refl))
+    (failed_at g.F.Files.does _ _ _ _ _ path c.in_err-create_site.ensures.failed))

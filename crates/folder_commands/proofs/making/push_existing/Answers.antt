@@ -1,12 +1,14 @@
-use Rattle.std.proofs.Common.{◌≡◌, ◌+◌, ℕ, [], ◌∷◌, ◌++◌, length, length-append, append_assoc, append-nil, refl, sym, ap, ◌∙◌, subst, arith}
+use Rattle.std.proofs.Common.{◌≡◌, ◌<◌, ◌+◌, ℕ, [], ◌∷◌, ◌++◌, length, length-append, append_assoc, append-nil, refl, sym, ap, ◌∙◌, subst, arith}
 use Rattle.std.specs.List.{AllZip}
 use Rattle.recall_text.specs.Words.{name_at}
+use Rattle.folder_commands.specs.FailingToMake.{LookFails}
 use Rattle.folder_commands.specs.Folders.{file_path}
 use Rattle.folder_commands.specs.FileCalls.{Calls, LookedFor}
 use Rattle.folder_commands.specs.Making.{existing, looks_from, name_where}
 use Rattle.folder_commands.specs.Refusals.{IsExists}
-use Rattle.folder_commands.proofs.CallsInTurn.{call_more}
-use Rattle.folder_commands.proofs.MakingLemmas.{existing_more, looks_more, zip_both}
+use Rattle.folder_commands.proofs.CallsInTurn.{call_more, handed_on}
+use Rattle.folder_commands.proofs.MakingLemmas.{existing_more, looks_more, next_look_failed, some_looked, zip_both}
+use Rattle.folder_commands.proofs.AskingLemmas.{led_so}
 use Rattle.folder_commands.proofs.making.push_existing.Goals as goal
 
 pub loop-number-init : goal.loop-number-init
@@ -22,25 +24,43 @@ loop-number-preserved g c =
     let found = before.0 in
     let files = c.loop-number.files in
     let after = c.push_where.new.files in
-    let one = c.in_ok-push_where.ensures.0 in
+    let one = c.in_ok-push_where.ensures.looked.0 in
     let place : c.in-Some.site ≡ 0 + length found = let none : length found ≡ 0 + length found = omega arith in c.in-Some.ensures.value ∙ sym before.2 ∙ none in
     let path : c.as_str.result.now ≡ file_path folder (name_at sites (0 + length found)) =
     c.as_str.ensures.value ∙ c.in_ok-path.ensures ∙ ap (λ (n : ℕ). file_path folder (name_at sites n)) place in
     let name : c.name_of.result.now ≡ name_at sites (0 + length found) = c.name_of.ensures ∙ ap (λ (n : ℕ). name_at sites n) place in
     let so_far = c.args.refusals.now.items in
     let others = before.3 in
-    let more = c.in_ok-push_where.ensures.2 in (
+    let more = c.in_ok-push_where.ensures.looked.2 in (
       (
         found ++ one ∷ [],
         subst (λ cs. Calls does old cs after) (sym (looks_more folder sites 0 found one))
             (call_more does old files after (looks_from folder sites 0 found) (LookedFor (file_path folder (name_at sites (0 + length found))) one) before.1
-            (subst (λ p. does files (LookedFor p one) after) path c.in_ok-push_where.ensures.1)),
+            (subst (λ p. does files (LookedFor p one) after) path c.in_ok-push_where.ensures.looked.1)),
         length-append found (one ∷ []) ∙ ap (λ (n : ℕ). n + 1) before.2,
         others ++ more,
         subst (λ names. AllZip IsExists names (others ++ more)) (sym (existing_more sites 0 found one))
             (zip_both IsExists (existing sites 0 found) (name_where one (name_at sites (0 + length found))) others more before.4
-            (subst (λ nm. AllZip IsExists (name_where one nm) more) name c.in_ok-push_where.ensures.3)),
-        c.in_ok-push_where.ensures.4 ∙ ap (λ whys. whys ++ more) before.5 ∙ append_assoc so_far others more,
+            (subst (λ nm. AllZip IsExists (name_where one nm) more) name c.in_ok-push_where.ensures.looked.3)),
+        c.in_ok-push_where.ensures.looked.4 ∙ ap (λ whys. whys ++ more) before.5 ∙ append_assoc so_far others more,
       ),
       omega (arith, c.loop-number-test.true),
     )
+
+pub returns-in_err-path-clause-failed : goal.returns-in_err-path-clause-failed
+returns-in_err-path-clause-failed g c =
+    let before = c.loop-number.invariant.0 in
+    handed_on c.from_residual.result _ _ c.from_residual.ensures.1
+    (some_looked g.F.Files.does c.args.folder.now c.args.sites.now _ _ before.0 before.1 (omega (arith, before.2, c.loop-number-test.true, c.len-number-end.ensures.count)))
+
+pub returns-in_err-push_where-clause-failed : goal.returns-in_err-push_where-clause-failed
+returns-in_err-push_where-clause-failed g c =
+    let folder = c.args.folder.now in
+    let sites = c.args.sites.now in
+    let before = c.loop-number.invariant.0 in
+    let below : length before.0 < length sites = omega (arith, before.2, c.loop-number-test.true, c.len-number-end.ensures.count) in
+    let place = ap (λ (n : ℕ). file_path folder (name_at sites n)) (c.in-Some.ensures.value ∙ sym before.2) in
+    let path = c.as_str.ensures.value ∙ c.in_ok-path.ensures ∙ place in
+    handed_on c.from_residual-in_err-push_where.result _ _ c.from_residual-in_err-push_where.ensures.1
+    (next_look_failed g.F.Files.does folder sites _ _ _ before.0 _ before.1 below
+    (led_so g.F.Files.does _ _ (λ calls fails. subst (λ p. LookFails p c.in_err-push_where.field-0.0 calls) path fails) c.in_err-push_where.ensures.failed))

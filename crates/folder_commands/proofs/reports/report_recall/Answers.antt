@@ -1,26 +1,24 @@
-use Rattle.std.proofs.Common.{◌∷◌, refl}
-use Rattle.folder_commands.specs.FileCalls.{ReadFile}
-use Rattle.folder_commands.specs.Folders.{list_path}
-use Rattle.folder_commands.proofs.CallsInTurn.{list_then}
+use Rattle.std.proofs.Common.{refl}
+use Rattle.recall_text.specs.Numbers.{recall_of}
+use Rattle.folder_commands.specs.Calls.{IsPlain, ReportsBy}
+use Rattle.folder_commands.specs.FailingToAsk.{AskOfRecallFails}
+use Rattle.folder_commands.proofs.AskingLemmas.{behind_list, failed_behind, led_so, list_failed}
+use Rattle.folder_commands.proofs.CallsInTurn.{handed_on}
 use Rattle.folder_commands.proofs.reports.report_recall.Goals as goal
 
-pub returns : goal.returns
-returns g c =
+pub returns-in_err-sites-clause-failed : goal.returns-in_err-sites-clause-failed
+returns-in_err-sites-clause-failed g c = handed_on c.from_residual.result _ _ c.from_residual.ensures.1 (list_failed g.F.Files.does c.args.folder.now _ _ _ _ c.in_err-sites.ensures.failed)
+
+pub returns-in_err-outcome-clause-failed : goal.returns-in_err-outcome-clause-failed
+returns-in_err-outcome-clause-failed g c =
+    handed_on c.from_residual-in_err-outcome.result _ _ c.from_residual-in_err-outcome.ensures.1
+    (failed_behind g.F.Files.does c.args.folder.now (λ sites. AskOfRecallFails g.K.SiteKeeper.shown g.K.SiteKeeper.stored c.args.folder.now sites (recall_of c.args.recall.now)) _ _ _ c.in_ok-sites.sites _ c.in_ok-sites.ensures.read c.in_err-outcome.ensures.failed)
+
+pub returns-clause-calls : goal.returns-clause-calls
+returns-clause-calls g c =
+    let shown = g.K.SiteKeeper.shown in
+    let stored = g.K.SiteKeeper.stored in
     let folder = c.args.folder.now in
-    let sites = c.in_ok-sites.sites in
-    let listed = c.in_ok-sites.ensures.read in
-    let more = c.in_ok-outcome.ensures in
-    record {
-      calls = record {
-        calls = ReadFile (list_path folder) listed.are.text ∷ more.calls;
-        are = record {
-          text = listed.are.text;
-          sites = sites;
-          lists = listed.are.lists;
-          rest = more.calls;
-          done = (record { same = refl; silent = refl }, more.are);
-          calls_are = refl;
-        };
-        led = list_then g.F.Files.does _ _ _ folder sites listed more.calls more.led;
-      };
-    }
+    let outcome = c.in_ok-outcome.outcome in
+    behind_list g.F.Files.does folder (λ sites rest. IsPlain sites _ × ReportsBy shown stored folder sites (recall_of c.args.recall.now) c.args.ways outcome rest) _ _ _ c.in_ok-sites.sites c.in_ok-sites.ensures.read
+    (led_so g.F.Files.does _ _ (λ calls done. (record { same = refl; silent = refl }, done)) c.in_ok-outcome.ensures.calls)

@@ -3,7 +3,8 @@ use Rattle.site_recovery.specs.Checking.{records_at}
 use Rattle.world_core.specs.Keepers.{AllShow}
 use Rattle.folder_commands.specs.Audits.{begun}
 use Rattle.folder_commands.specs.Notes.{AreNotes, AreOfSites}
-use Rattle.folder_commands.proofs.RunLemmas.{are_shown, shown_stand}
+use Rattle.folder_commands.proofs.CallsInTurn.{are_shown}
+use Rattle.folder_commands.proofs.RunLemmas.{shown_stand}
 use Rattle.folder_commands.proofs.runs.tell_run.Goals as goal
 
 pub open_records-requires : goal.open_records-requires

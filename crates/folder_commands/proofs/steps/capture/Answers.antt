@@ -1,53 +1,31 @@
-use Rattle.std.proofs.Common.{◌∷◌, refl, sym, subst, ◌∙◌, inl, inr}
+use Rattle.std.proofs.Common.{◌≡◌, refl, sym, subst, ◌∙◌}
+use Rattle.event_json.specs.Sites.{named}
 use Rattle.folder_commands.specs.Calls.{CapturesNamed}
-use Rattle.folder_commands.specs.Failing.{CaptureFailsNamed}
-use Rattle.folder_commands.specs.FileCalls.{ReadFile}
-use Rattle.folder_commands.specs.Folders.{list_path}
-use Rattle.folder_commands.proofs.CallsInTurn.{handed_on, list_then}
+use Rattle.folder_commands.specs.Failing.{AtSiteFails, CaptureFailsAt}
+use Rattle.folder_commands.proofs.AskingLemmas.{behind_list, failed_behind, led_so, list_failed}
+use Rattle.folder_commands.proofs.CallsInTurn.{handed_on}
 use Rattle.folder_commands.proofs.steps.capture.Goals as goal
 
 pub returns-in_err-sites-clause-failed : goal.returns-in_err-sites-clause-failed
 returns-in_err-sites-clause-failed g c =
-    let fails = c.in_err-sites.ensures.failed in
-    handed_on c.from_residual.result _ _ c.from_residual.ensures.1 (record { calls = fails.calls; are = inl fails.are; led = fails.led })
+    handed_on c.from_residual.result _ _ c.from_residual.ensures.1 (list_failed g.F.Files.does c.args.folder.now _ _ _ _ c.in_err-sites.ensures.failed)
 
 pub returns-in_err-outcome-2-clause-failed : goal.returns-in_err-outcome-2-clause-failed
 returns-in_err-outcome-2-clause-failed g c =
-    let folder = c.args.folder.now in
+    let does = g.F.Files.does in
     let sites = c.in_ok-sites.sites in
-    let listed = c.in_ok-sites.ensures.read in
-    let more = c.in_err-outcome-2.ensures.failed in
     let known = sym c.find.ensures ∙ c.in-Some.is in
+    let file = c.args.file.now in
+    let Fails = λ ss. CaptureFailsAt g.K.SiteKeeper.shown g.K.SiteKeeper.may g.K.SiteKeeper.failed g.K.SiteKeeper.stored c.args.folder.now ss file in
     handed_on c.from_residual-in_err-outcome-2.result _ _ c.from_residual-in_err-outcome-2.ensures.1
-    (record {
-      calls = ReadFile (list_path folder) listed.are.text ∷ more.calls;
-      are = inr (record {
-        text = listed.are.text;
-        sites = sites;
-        lists = listed.are.lists;
-        rest = more.calls;
-        done = subst (λ site. CaptureFailsNamed g.K.SiteKeeper.shown g.K.SiteKeeper.may g.K.SiteKeeper.stored folder sites site c.args.file.now c.in_err-outcome-2.field-0.0 more.calls) (sym known) more.are;
-        calls_are = refl;
-      });
-      led = list_then g.F.Files.does _ _ _ folder sites listed more.calls more.led;
-    })
+    (failed_behind does c.args.folder.now (λ ss. AtSiteFails (named ss c.args.site.now) (Fails ss)) _ _ _ sites _ c.in_ok-sites.ensures.read
+    (led_so does _ _ (λ calls fails. subst (λ site. AtSiteFails site (Fails sites) c.in_err-outcome-2.field-0.0 calls) (sym known) fails) c.in_err-outcome-2.ensures.failed))
 
 pub returns-clause-calls : goal.returns-clause-calls
 returns-clause-calls g c =
-    let folder = c.args.folder.now in
+    let does = g.F.Files.does in
     let sites = c.in_ok-sites.sites in
-    let listed = c.in_ok-sites.ensures.read in
-    let more = c.in_ok-outcome-2.ensures.calls in
     let known = sym c.find.ensures ∙ c.in-Some.is in
-    record {
-      calls = ReadFile (list_path folder) listed.are.text ∷ more.calls;
-      are = record {
-        text = listed.are.text;
-        sites = sites;
-        lists = listed.are.lists;
-        rest = more.calls;
-        done = (refl, subst (λ site. CapturesNamed g.K.SiteKeeper.shown g.K.SiteKeeper.stored folder sites c.args.site.now site c.args.file.now c.in_ok-outcome-2.outcome c.in_ok-outcome-2.notes more.calls) (sym known) more.are);
-        calls_are = refl;
-      };
-      led = list_then g.F.Files.does _ _ _ folder sites listed more.calls more.led;
-    }
+    let Comes = λ ss site. CapturesNamed g.K.SiteKeeper.shown g.K.SiteKeeper.stored c.args.folder.now ss c.args.site.now site c.args.file.now c.in_ok-outcome-2.outcome c.in_ok-outcome-2.notes in
+    behind_list does c.args.folder.now (λ ss rest. (_ ≡ ss) × Comes ss (named ss c.args.site.now) rest) _ _ _ sites c.in_ok-sites.ensures.read
+    (led_so does _ _ (λ calls done. (refl, subst (λ site. Comes sites site calls) (sym known) done)) c.in_ok-outcome-2.ensures.calls)

@@ -27,7 +27,7 @@ pub returns-in_err-outcome-clause-failed : goal.returns-in_err-outcome-clause-fa
 returns-in_err-outcome-clause-failed g c =
     let document = c.in_ok-document.document.items in
     let step = subst
-    (λ (d : List ℕ). Led g.F.Files.does c.read.new.self c.step_at.new.files (StepAtFails g.K.SiteKeeper.shown g.K.SiteKeeper.may g.K.SiteKeeper.stored c.args.folder.now c.args.sites.now c.args.site (Capture d) c.in_err-outcome.field-0.0))
+    (λ (d : List ℕ). Led g.F.Files.does c.read.new.self c.step_at.new.files (StepAtFails g.K.SiteKeeper.shown g.K.SiteKeeper.may g.K.SiteKeeper.failed g.K.SiteKeeper.stored c.args.folder.now c.args.sites.now c.args.site (Capture d) c.in_err-outcome.field-0.0))
     c.from_vec.ensures c.in_err-outcome.ensures.failed in
     handed_on c.from_residual-in_err-outcome.result _ _ c.from_residual-in_err-outcome.ensures.1
     (record {

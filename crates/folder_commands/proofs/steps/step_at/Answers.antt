@@ -38,7 +38,8 @@ returns-clause-failed g c =
         before = before;
         opened = opened;
         after = after;
-        failed = fails;
+        broke = fails;
+        caused = λ device. c.step-outcome.ensures.cause device;
         lasts = c.step-outcome.ensures.stored opened.lasts;
         calls_are = refl;
       });

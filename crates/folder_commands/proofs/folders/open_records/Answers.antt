@@ -5,7 +5,7 @@ use Rattle.site_core.specs.Records.{Record}
 use Rattle.site_recovery.specs.Checking.{records_at}
 use Rattle.world_core.specs.Keepers.{AllShow}
 use Rattle.world_core.proofs.Showing.{zip_more}
-use Rattle.folder_commands.proofs.runs.open_records.Goals as goal
+use Rattle.folder_commands.proofs.folders.open_records.Goals as goal
 
 pub loop-keeper-preserved : goal.loop-keeper-preserved
 loop-keeper-preserved g c =
