@@ -1,8 +1,9 @@
 -- How a command ends: with which status, and what it leaves on its streams.
-use Rattle.std.specs.Prelude.{◌≡◌, ◌⊎◌, ◌==◌, ℕ, List, [], ◌∷◌, Option, Some, None, Result, Ok, Err, IfOk, IfSome, codes, string_bytes, if◌then◌else◌}
+use Rattle.std.specs.Prelude.{◌≡◌, ◌⊎◌, ◌==◌, ℕ, List, [], ◌∷◌, Option, Some, None, Result, Ok, Err, IfErr, IfOk, IfSome, codes, string_bytes, if◌then◌else◌}
 use Rattle.std.specs.Global.{Global}
 use Rattle.std.specs.declared.string.String.{String}
 use Rattle.std.specs.Io.KnownBytes.{Appends, Keeps}
+use Rattle.keeper_core.specs.declared.faults.Unopened.{Unopened}
 use Rattle.script_core.specs.Runs.{IsDone, Leaves}
 use Rattle.recall_outcomes.specs.Faults.{fault_line}
 use Rattle.recall_outcomes.specs.Notes.{untraced_text}
@@ -22,7 +23,7 @@ use Rattle.recall_text.specs.declared.faults.ScriptFault.TheVariants as faults
 use Rattle.script_core.specs.declared.tallies.Tally.{Tally}
 use Rattle.site_core.specs.Records.{Record}
 use Rattle.command_line.specs.CommandLines.{AsksBatch, AsksFiles, AsksHelp, AsksSim, IsBad, paths_of, texts_of}
-use Rattle.command_line.specs.Leads.{LeadsTo}
+use Rattle.command_line.specs.Leads.{FailsBy, LeadsTo}
 use Rattle.folder_commands.specs.declared.captures.CaptureSummary.{CaptureSummary}
 use Rattle.folder_commands.specs.declared.outputs.Output.{Output}
 use Rattle.folder_commands.specs.Captures.{CapturesAll, EndsEarly}
@@ -200,15 +201,16 @@ module _ {F K : Type 0} (does : F → FileCall K → F → Type 0) (fails : F �
 
 -- ---- the whole
 
-module _ {F K : Type 0} (does : F → FileCall K → F → Type 0) (knows : F → List ℕ → List ℕ → Type 0) (fails : F → Option Failure → Type 0) (shown : K → Option Record) (failed : K → ℕ) (stored : K → Type 0) where
+module _ {F K G : Type 0} (does : F → FileCall K → F → Type 0) (knows : F → List ℕ → List ℕ → Type 0) (fails : F → Option Failure → Type 0) (shown : K → Option Record) (failed : K → ℕ) (may : K → Record → Type 0) (reopens : K → Result K (Unopened K) → Type 0) (gives_up : G → ℕ → ℕ → Type 0) (stored : K → Type 0) where
   -- A command on files was asked for, and what it came to was printed in the form that was asked for: an output, which is
-  -- that of these calls of the files; or a fault, after which nothing is said of the files.
+  -- that of these calls of the files; or a fault, which is.
   pub record DoesFiles (words : List (List ℕ)) (old new : F) (before after : Streams) (status : ℕ) : Type 0 where
     pub command : FileCommand
     pub form : Form
     pub asked : AsksFiles words command form
     pub came : Result Output Fault
     pub led : IfOk came (λ output. Led does old new (LeadsTo (knows new) shown failed stored command output))
+    pub broke : IfErr came (λ fault. Led does old new (FailsBy shown failed may reopens gives_up stored command fault))
     pub unread : Keeps before.input after.input
     pub told : TellsWhatCame fails form new came before.printed after.printed status
 

@@ -1,6 +1,6 @@
 //! What each command does.
 
-ghost use Rattle.std.specs.Prelude.{◌≡◌, ◌==◌, if◌then◌else◌, IfOk};
+ghost use Rattle.std.specs.Prelude.{◌≡◌, ◌==◌, if◌then◌else◌, IfErr, IfOk};
 ghost use Rattle.recall_outcomes.specs.Advice.{advice};
 ghost use Rattle.recall_outcomes.specs.Faults.{fault_line};
 ghost use Rattle.recall_outcomes.specs.Notes.{untraced_text};
@@ -8,7 +8,7 @@ ghost use Rattle.recall_outcomes.specs.Printing.{note_lines};
 ghost use Rattle.recall_text.specs.Writing.{AppendsBeginning};
 ghost use Rattle.command_line.specs.CommandLines.{HasTurns};
 ghost use Rattle.command_line.specs.Ends.{Advises, BatchEnds, Ends, Explains, HelpHelps, OutputEnds, RunsScript, SimRuns, TellsFault, TellsNotes, TellsWhatCame, TextEnds, printed_on, script_fault_line, streams};
-ghost use Rattle.command_line.specs.Leads.{LeadsTo};
+ghost use Rattle.command_line.specs.Leads.{FailsBy, LeadsTo};
 ghost use Rattle.folder_commands.specs.FileCalls.{Led};
 
 use crate::command_lines::{self, Asked, Batch, FileCommand};
@@ -59,7 +59,8 @@ pub fn run_command<
     output: &mut W,
     errors: &mut E,
 ) -> u8
-    ensures ends { Ends F.does F.knows F.fails K.shown K.failed K.stored words.now files.old files.new
+    ensures ends { Ends F.does F.knows F.fails K.shown K.failed K.may K.reopens G.gives_up K.stored
+        words.now files.old files.new
         (streams I.remaining W.contents E.contents input.old output.old errors.old)
         (streams I.remaining W.contents E.contents input.new output.new errors.new) result }
     ensures sim { SimRuns words.now files.old files.new
@@ -144,8 +145,10 @@ fn on_files<
     command: &FileCommand<'_>,
 ) -> Result<Output, Fault>
     requires { HasTurns command.now }
-    ensures { IfOk result (λ output. Led F.does files.old files.new
+    ensures led { IfOk result (λ output. Led F.does files.old files.new
         (LeadsTo (F.knows files.new) K.shown K.failed K.stored command.now output)) }
+    ensures failed { IfErr result (λ fault. Led F.does files.old files.new
+        (FailsBy K.shown K.failed K.may K.reopens G.gives_up K.stored command.now fault)) }
 {
     match command {
         FileCommand::Run { folder, turns } => run_sites(rt, alloc, files, gate, folder, *turns),

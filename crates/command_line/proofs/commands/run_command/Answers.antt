@@ -24,14 +24,14 @@ returns-in-Ok-Files-clause-help g c = λ name e. absurd (help_is_no_files _ name
 
 pub returns-in-Ok-Mistake-clause-ends : goal.returns-in-Ok-Mistake-clause-ends
 returns-in-Ok-Mistake-clause-ends g c =
-    ends_mistaken g.F.Files.does g.F.Files.knows g.F.Files.fails g.K.SiteKeeper.shown g.K.SiteKeeper.failed g.K.SiteKeeper.stored
+    ends_mistaken g.F.Files.does g.F.Files.knows g.F.Files.fails g.K.SiteKeeper.shown g.K.SiteKeeper.failed g.K.SiteKeeper.may g.K.SiteKeeper.reopens g.G.Gate.gives_up g.K.SiteKeeper.stored
     c.args.words.now _ _ _ _ _
     (rw c.in-Ok-Mistake.field-0-is at c.in-Ok-Mistake.ensures) refl (search rules) (search rules) c.say.ensures
 
 pub returns-in-Ok-Files-clause-ends : goal.returns-in-Ok-Files-clause-ends
 returns-in-Ok-Files-clause-ends g c =
-    ends_files g.F.Files.does g.F.Files.knows g.F.Files.fails g.K.SiteKeeper.shown g.K.SiteKeeper.failed g.K.SiteKeeper.stored
-    c.args.words.now _ _ _ _ _ _ _ _ (rw c.in-Ok-Files.field-0-is at c.in-Ok-Files.ensures) c.on_files-came.ensures (Keeps-refl _) c.tell.ensures
+    ends_files g.F.Files.does g.F.Files.knows g.F.Files.fails g.K.SiteKeeper.shown g.K.SiteKeeper.failed g.K.SiteKeeper.may g.K.SiteKeeper.reopens g.G.Gate.gives_up g.K.SiteKeeper.stored
+    c.args.words.now _ _ _ _ _ _ _ _ (rw c.in-Ok-Files.field-0-is at c.in-Ok-Files.ensures) c.on_files-came.ensures.led c.on_files-came.ensures.failed (Keeps-refl _) c.tell.ensures
 
 pub returns-in-Ok-Batch-clause-sim : goal.returns-in-Ok-Batch-clause-sim
 returns-in-Ok-Batch-clause-sim g c = λ name e. absurd (sim_is_no_batch _ name _ (rw c.in-Ok-Batch.field-0-is at c.in-Ok-Batch.ensures) e)
@@ -41,5 +41,5 @@ returns-in-Ok-Batch-clause-help g c = λ name e. absurd (help_is_no_batch _ name
 
 pub returns-in-Ok-Batch-clause-ends : goal.returns-in-Ok-Batch-clause-ends
 returns-in-Ok-Batch-clause-ends g c =
-    ends_batch g.F.Files.does g.F.Files.knows g.F.Files.fails g.K.SiteKeeper.shown g.K.SiteKeeper.failed g.K.SiteKeeper.stored
+    ends_batch g.F.Files.does g.F.Files.knows g.F.Files.fails g.K.SiteKeeper.shown g.K.SiteKeeper.failed g.K.SiteKeeper.may g.K.SiteKeeper.reopens g.G.Gate.gives_up g.K.SiteKeeper.stored
     c.args.words.now _ _ _ _ _ _ (rw c.in-Ok-Batch.field-0-is at c.in-Ok-Batch.ensures) (search rules) c.capture_batch.ensures
