@@ -159,6 +159,21 @@ row 'reach S16 x' 'pair S16 uri x' 'pairs 1'
 row 'site S17' 'refused Late'
 ends 'lists of sites'
 
+# Numbers of frames and of recalls have 1 to 18 digits, of which the first may be 0.
+
+begins 'site A a' 'site B b'
+row 'send A 1' 'refused NoFrame'
+row 'send A 01' 'refused NoFrame'
+row 'send A 000000000000000001' 'refused NoFrame'
+row 'send A 123456789012345678' 'refused NoFrame'
+row 'send A 1234567890123456789' 'refused BadLine'
+row 'send A 0000000000000000001' 'refused BadLine'
+row 'quarantine A#01' 'refused NoRecall'
+row 'quarantine A#123456789012345678' 'refused NoRecall'
+row 'quarantine A#1234567890123456789' 'refused BadLine'
+row 'quarantine A#' 'refused BadLine'
+ends 'numbers'
+
 # Pairs come by site and then by item; the least item and then the least recall are named that block.
 
 begins 'site A a' 'site B b' 'site C c'
