@@ -10,9 +10,13 @@ mod Numbers
 mod Offering
 mod OneList
 mod OneLog
+mod Owing
 mod Parting
 pub mod Passed
+mod Placing
+mod Posting
 mod Refusing
+mod Rounding
 mod Sending
 mod Settling
 mod Slices

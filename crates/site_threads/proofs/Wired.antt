@@ -89,11 +89,11 @@ rise_from : (number : Frame → ℕ) (a b c : ℕ) (fs : List Frame) → a ≤ b
 rise_from number a b c [] h r = omega arith
 rise_from number a b c (f ∷ fs) h r = (let s = r.0 in omega arith, r.1)
 
-rise_more : (number : Frame → ℕ) (a b c : ℕ) (fs gs : List Frame) → Rise number a fs b → Rise number b gs c → Rise number a (fs ++ gs) c
+pub rise_more : (number : Frame → ℕ) (a b c : ℕ) (fs gs : List Frame) → Rise number a fs b → Rise number b gs c → Rise number a (fs ++ gs) c
 rise_more number a b c [] gs r s = rise_from number a b c gs r s
 rise_more number a b c (f ∷ fs) gs r s = (r.0, rise_more number (number f + 1) b c fs gs r.1 s)
 
-rise_one : (number : Frame → ℕ) (a : ℕ) (f : Frame) → number f ≡ a → Rise number a (f ∷ []) (a + 1)
+pub rise_one : (number : Frame → ℕ) (a : ℕ) (f : Frame) → number f ≡ a → Rise number a (f ∷ []) (a + 1)
 rise_one number a f is = (omega arith, omega arith)
 
 -- Who is asked.
@@ -104,23 +104,23 @@ range_more a (suc n) m =
     ap (range_with_len a) (let z : suc n + m ≡ suc (n + m) = omega arith in z)
     ∙ ap (λ l. a ∷ l) (range_more (a + 1) n m ∙ ap (λ k. range_with_len (a + 1) n ++ range_with_len k m) (let z : a + 1 + n ≡ a + suc n = omega arith in z))
 
-others_more : (me a b c : ℕ) → a ≤ b → b ≤ c → others me a c ≡ others me a b ++ others me b c
+pub others_more : (me a b c : ℕ) → a ≤ b → b ≤ c → others me a c ≡ others me a b ++ others me b c
 others_more me a b c h k =
     let sum : c - a ≡ (b - a) + (c - b) = omega arith in
     let mid : a + (b - a) ≡ b = omega arith in
     ap (filter (λ site. not (nat_eq site me))) (ap (range_with_len a) sum ∙ range_more a (b - a) (c - b) ∙ ap (λ k. range_with_len a (b - a) ++ range_with_len k (c - b)) mid)
     ∙ filter-append (λ site. not (nat_eq site me)) (range_with_len a (b - a)) (range_with_len b (c - b))
 
-others_none : (me a : ℕ) → others me a a ≡ []
+pub others_none : (me a : ℕ) → others me a a ≡ []
 others_none me a = ap (λ n. filter (λ site. not (nat_eq site me)) (range_with_len a n)) (let z : a - a ≡ 0 = omega arith in z)
 
 one_wide : (me a : ℕ) → others me a (a + 1) ≡ filter (λ site. not (nat_eq site me)) (a ∷ [])
 one_wide me a = ap (λ n. filter (λ site. not (nat_eq site me)) (range_with_len a n)) (let z : a + 1 - a ≡ 1 = omega arith in z)
 
-others_one : (me other : ℕ) → other ≢ me → others me other (other + 1) ≡ other ∷ []
+pub others_one : (me other : ℕ) → other ≢ me → others me other (other + 1) ≡ other ∷ []
 others_one me other apart = one_wide me other ∙ ap (λ (b : Bool). cond (not b) (other ∷ []) []) (ne_eqb other me apart)
 
-others_itself : (me : ℕ) → others me me (me + 1) ≡ []
+pub others_itself : (me : ℕ) → others me me (me + 1) ≡ []
 others_itself me = one_wide me me ∙ ap (λ (b : Bool). cond (not b) (me ∷ []) []) (eq-eqb me me refl)
 
 module _ (me : ℕ) (asked : List ℕ) where
@@ -312,53 +312,6 @@ takes_more me a b c old mid new before between after xs ys zs n m l k s t = reco
   enters = enters_more before between after s.took t.took xs ys zs n m l k s.enters t.enters;
 }
 
--- What is posted.
-
-pub posts_none : (me low high : ℕ) (shown : Option Record) (old : Outgoing) → low ≤ high → PostsFrames me low high shown old old 0
-posts_none me low high shown old h = record { offers = []; offered = sym (append-nil old.offered); rise = h; each = All-nil (IsSentBy me shown); went = []; tells = refl; sent = sym (append-nil old.sent); many = refl }
-
-posts_one : (me to : ℕ) (shown : Option Record) (r : Record) (old new : Outgoing) (f : Frame) (went : Bool) → shown ≡ Some r → IsFor r.engagement to f → sender f ≡ me → to ≢ me → new.offered ≡ old.offered ++ f ∷ [] → new.sent ≡ old.sent ++ went_of (went ∷ []) (f ∷ [])
-    → PostsFrames me to (to + 1) shown old new (length (went_of (went ∷ []) (f ∷ [])))
-posts_one me to shown r old new f went stands fits from apart is sent = record {
-  offers = f ∷ [];
-  offered = is;
-  rise = rise_one addressee to f fits.there;
-  each = All-cons (IsSentBy me shown) f [] (record { from = from; other = λ same. apart (sym fits.there ∙ same); record_is = r; stands = stands; emitted = fits.emitted }) (All-nil (IsSentBy me shown));
-  went = went ∷ [];
-  tells = refl;
-  sent = sent;
-  many = refl;
-}
-
-went_more : (ws vs : List Bool) (fs gs : List Frame) → length ws ≡ length fs → went_of (ws ++ vs) (fs ++ gs) ≡ went_of ws fs ++ went_of vs gs
-went_more [] vs [] gs e = refl
-went_more (w ∷ ws) vs (f ∷ fs) gs e = ap (λ l. cond w (f ∷ []) [] ++ l) (went_more ws vs fs gs (omega (arith, e))) ∙ sym (append_assoc (cond w (f ∷ []) []) (went_of ws fs) (went_of vs gs))
-went_more [] vs (f ∷ fs) gs e = absurd (omega (arith, e))
-went_more (w ∷ ws) vs [] gs e = absurd (omega (arith, e))
-
-pub posts_more : (me a b c : ℕ) (shown : Option Record) (old mid new : Outgoing) (n m : ℕ) → PostsFrames me a b shown old mid n → PostsFrames me b c shown mid new m → PostsFrames me a c shown old new (n + m)
-posts_more me a b c shown old mid new n m s t = let went = went_more s.went t.went s.offers t.offers s.tells in record {
-  offers = s.offers ++ t.offers;
-  offered = t.offered ∙ ap (λ l. l ++ t.offers) s.offered ∙ append_assoc old.offered s.offers t.offers;
-  rise = rise_more addressee a b c s.offers t.offers s.rise t.rise;
-  each = All-append (IsSentBy me shown) s.offers t.offers s.each t.each;
-  went = s.went ++ t.went;
-  tells = length-append s.went t.went ∙ (λ i. s.tells i + t.tells i) ∙ sym (length-append s.offers t.offers);
-  sent = t.sent ∙ ap (λ l. l ++ went_of t.went t.offers) s.sent ∙ append_assoc old.sent (went_of s.went s.offers) (went_of t.went t.offers) ∙ ap (λ l. old.sent ++ l) (sym went);
-  many = ap length went ∙ length-append (went_of s.went s.offers) (went_of t.went t.offers) ∙ (λ i. s.many i + t.many i);
-}
-
-module _ (shown : Option Record) (may : Record → Type 0) (logs : List Log) (me : ℕ) (kept : Stamp) (entries : List Entry) (start : Record) (h : Runs shown may logs me kept entries start) (r : Record) (is : shown ≡ Some r) (to : ℕ) (f : Frame) (fits : IsFor r.engagement to f) (from : sender f ≡ me) (apart : to ≢ me) (new : List Log) where
-  -- by what became of it
-  pub posted : (A B C : Type 0) (n : ℕ) (p : Post) → MatchPost p ((new ≡ on (sender f) (sends f) logs) × A) (λ g. (g ≡ f) × (new ≡ on (sender f) (offers f) logs) × B × C) → MatchPost p (n ≡ 1) (λ g. n ≡ 0)
-      → PostsFrames me to (to + 1) shown (outgoing logs) (outgoing new) n × (incoming new ≡ incoming logs)
-  posted A B C n Posted answer count =
-      let one = sent_one h.log logs me new h.alone h.own.site f (answer.0 ∙ ap (λ k. on k (sends f) logs) from) in
-      (subst (PostsFrames me to (to + 1) shown (outgoing logs) (outgoing new)) (sym count) (posts_one me to shown r (outgoing logs) (outgoing new) f true is fits from apart one.1 one.0), one.2)
-  posted A B C n (Full g) answer count =
-      let one = offered_one h.log logs me new h.alone h.own.site f (answer.1 ∙ ap (λ k. on k (offers f) logs) from) in
-      (subst (PostsFrames me to (to + 1) shown (outgoing logs) (outgoing new)) (sym count) (posts_one me to shown r (outgoing logs) (outgoing new) f false is fits from apart one.1 (one.0 ∙ sym (append-nil (outgoing logs).sent))), one.2)
-
 -- The same of other names of the same values.
 
 pub takes_as : (low high : ℕ) (me me' : ℕ) (old old' new new' : Incoming) (before before' after after' : Bool) (xs xs' ys ys' : List Entry) (n l : ℕ) → me ≡ me' → old ≡ old' → new ≡ new' → before ≡ before' → after ≡ after' → xs ≡ xs' → ys ≡ ys' → TakesFrames me low high old new before after xs ys n l
@@ -366,16 +319,8 @@ pub takes_as : (low high : ℕ) (me me' : ℕ) (old old' new new' : Incoming) (b
 takes_as low high me me' old old' new new' before before' after after' xs xs' ys ys' n l a b c d e f g t =
     subst (λ (y : ℕ × (Incoming × (Incoming × (Bool × (Bool × (List Entry × List Entry)))))). TakesFrames y.0 low high y.1.0 y.1.1.0 y.1.1.1.0 y.1.1.1.1.0 y.1.1.1.1.1.0 y.1.1.1.1.1.1 n l) (λ i. (a i, (b i, (c i, (d i, (e i, (f i, g i))))))) t
 
-pub posts_as : (low high : ℕ) (me me' : ℕ) (shown shown' : Option Record) (old old' new new' : Outgoing) (n : ℕ) → me ≡ me' → shown ≡ shown' → old ≡ old' → new ≡ new' → PostsFrames me low high shown old new n → PostsFrames me' low high shown' old' new' n
-posts_as low high me me' shown shown' old old' new new' n a b c d t =
-    subst (λ (y : ℕ × (Option Record × (Outgoing × Outgoing))). PostsFrames y.0 low high y.1.0 y.1.1.0 y.1.1.1 n) (λ i. (a i, (b i, (c i, d i)))) t
-
 -- a turn's frames, from before it began
 pub turn_takes : {E : Type 0} (r : Result TurnReport E) (high me me' : ℕ) (old old' new : Incoming) (after : Bool) (begun before now : List Entry) → me ≡ me' → old ≡ old' → begun ≡ before → IfOk r (λ x. TakesFrames me 0 high old new (open_after x.receipt) after (begun ++ map entry_of (option_items x.receipt)) now x.applied x.lost)
     → IfOk r (λ x. TakesFrames me' 0 high old' new (open_after x.receipt) after (before ++ map entry_of (option_items x.receipt)) now x.applied x.lost)
 turn_takes (Ok x) high me me' old old' new after begun before now a b c t = takes_as 0 high me me' old old' new new (open_after x.receipt) (open_after x.receipt) after after _ _ now now x.applied x.lost a b refl refl refl (ap (λ l. l ++ map entry_of (option_items x.receipt)) c) refl t
 turn_takes (Err e) high me me' old old' new after begun before now a b c t = tt
-
-pub turn_posts : {E : Type 0} (r : Result TurnReport E) (high me me' : ℕ) (shown : Option Record) (old old' new : Outgoing) → me ≡ me' → old ≡ old' → IfOk r (λ x. PostsFrames me 0 high shown old new x.posted) → IfOk r (λ x. PostsFrames me' 0 high shown old' new x.posted)
-turn_posts (Ok x) high me me' shown old old' new a b t = posts_as 0 high me me' shown shown old old' new new x.posted a refl b refl t
-turn_posts (Err e) high me me' shown old old' new a b t = tt

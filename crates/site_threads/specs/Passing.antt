@@ -1,6 +1,7 @@
 -- The frames that a site takes from the wire and posts to it, and what those add to its list of steps.
-use Rattle.std.specs.Prelude.{◌≡◌, ◌≢◌, ◌⊎◌, ⊤, ℕ, ◌+◌, ◌-◌, ◌≤◌, nat_eq, Bool, true, false, not, if◌then◌else◌, List, [], ◌∷◌, ◌++◌, All, Contains, filter, flat_map, length, map, is_some, Option, Some}
+use Rattle.std.specs.Prelude.{◌≡◌, ◌≢◌, ◌⊎◌, ⊤, ℕ, ◌+◌, ◌-◌, ◌≤◌, nat_eq, fold, slice_index_or, Bool, true, false, not, if◌then◌else◌, List, [], ◌∷◌, ◌++◌, All, Contains, filter, flat_map, length, map, is_some, Option, Some, None}
 use Rattle.std.specs.List.{range_with_len}
+use Rattle.frame_core.specs.Numbers.{Message}
 use Rattle.frame_core.specs.declared.frames.Frame.{Frame}
 use Rattle.site_core.specs.Emitting.{emittable}
 use Rattle.site_core.specs.Records.{Record}
@@ -10,6 +11,7 @@ use Rattle.wire_core.specs.Frames.{sender}
 use Rattle.world_core.specs.Turns.{addressee}
 use Rattle.site_threads.specs.Jobs.{AreOfFrames, ComesTo, entry_of, open_after, option_items}
 use Rattle.site_threads.specs.Keepers.{shown_in}
+use Rattle.site_threads.specs.Offers.{behind, owed_by, owes, round_at, wish}
 use Rattle.site_threads.specs.declared.jobs.Entry.{Entry}
 use Rattle.site_threads.specs.declared.sites.Site.{Site}
 use Rattle.site_threads.specs.declared.turns.TurnReport.{TurnReport}
@@ -99,17 +101,40 @@ abbrev pub went_of : List Bool → List Frame → List Frame
 went_of (went ∷ ws) (f ∷ fs) = (if went then f ∷ [] else []) ++ went_of ws fs
 went_of ws fs = []
 
--- at most one frame was offered to each site from low on and below high, each by the site's record; so many of them went
--- and were sent
-pub record PostsFrames (me low high : ℕ) (shown : Option Record) (old new : Outgoing) (count : ℕ) : Type 0 where
+-- what the record that is shown has for each other site from low on and below high, ascending, by what is owed to it and
+-- by its place; nothing while none is shown
+abbrev pub wishes : ℕ → ℕ → ℕ → Option Record → (ℕ → Option Message) → (ℕ → ℕ) → List Frame
+wishes me low high None owed place = []
+wishes me low high (Some r) owed place = flat_map (λ to. option_items (wish r.engagement to (owed to) (place to))) (others me low high)
+
+-- Each such frame was offered, but for so many of which memory for a copy ran out. Of those offered so many went and were
+-- sent, and the places are behind them.
+pub record PostsFrames (me low high : ℕ) (shown : Option Record) (owed : ℕ → Option Message) (old new : Outgoing) (place place' : ℕ → ℕ) (count uncopied : ℕ) : Type 0 where
   pub offers : List Frame
+  pub copied : List Bool
+  pub each : length copied ≡ length (wishes me low high shown owed place)
+  pub of : offers ≡ went_of copied (wishes me low high shown owed place)
+  pub others : length offers + uncopied ≡ length (wishes me low high shown owed place)
   pub offered : new.offered ≡ old.offered ++ offers
   pub rise : Rise addressee low offers high
-  pub each : All (IsSentBy me shown) offers
+  pub by : All (IsSentBy me shown) offers
   pub went : List Bool
   pub tells : length went ≡ length offers
   pub sent : new.sent ≡ old.sent ++ went_of went offers
   pub many : length (went_of went offers) ≡ count
+  pub places : (to : ℕ) → place' to ≡ fold (behind to) (place to) (went_of went offers)
+
+-- by site, the place of its messages, and the message that was taken from it in this turn
+abbrev pub place_of : {K : Type 0} → Site K → ℕ → ℕ
+place_of s to = (round_at s.rounds to).place
+
+abbrev pub owed_in : {K : Type 0} → Site K → ℕ → Option Message
+owed_in s to = slice_index_or s.owed to None
+
+-- what is owed to each site, once the frames noted since were taken
+abbrev pub OwesFor : List Frame → List Frame → List (Option Message) → List (Option Message) → Type 0
+OwesFor old new owed owed' =
+    (took : List Frame) → new ≡ old ++ took → (to : ℕ) → slice_index_or owed' to None ≡ fold (owes to) (slice_index_or owed to None) took
 
 -- The frames of a running site, and of its turn.
 module _ {K : Type 0} (shown : K → Option Record) where
@@ -117,10 +142,17 @@ module _ {K : Type 0} (shown : K → Option Record) where
   TakesOfEach low high old new count lost =
       TakesFrames old.me low high (incoming old.seat.logs) (incoming new.seat.logs) (is_some (shown_in shown old.keeper)) (is_some (shown_in shown new.keeper)) old.entries.items new.entries.items count lost
 
-  abbrev pub PostsToEach : ℕ → ℕ → Site K → Site K → ℕ → Type 0
-  PostsToEach low high old new count = PostsFrames old.me low high (shown_in shown new.keeper) (outgoing old.seat.logs) (outgoing new.seat.logs) count
+  abbrev pub PostsToEach : ℕ → ℕ → (ℕ → Option Message) → Site K → Site K → ℕ → ℕ → Type 0
+  PostsToEach low high owed old new count uncopied =
+      PostsFrames old.me low high (shown_in shown new.keeper) owed (outgoing old.seat.logs) (outgoing new.seat.logs) (place_of old) (place_of new) count uncopied
 
   -- after the step of its job, if it was given one, a site takes frames in its turn
   abbrev pub TakesAfterJob : ℕ → Site K → Site K → TurnReport → Type 0
   TakesAfterJob sites old new report =
       TakesFrames old.me 0 sites (incoming old.seat.logs) (incoming new.seat.logs) (open_after report.receipt) (is_some (shown_in shown new.keeper)) (old.entries.items ++ map entry_of (option_items report.receipt)) new.entries.items report.applied report.lost
+
+  -- and then it posts frames, by those that it took
+  abbrev pub PostsAfterTaking : ℕ → Site K → Site K → TurnReport → Type 0
+  PostsAfterTaking sites old new report =
+      (took : List Frame) → (incoming new.seat.logs).noted ≡ (incoming old.seat.logs).noted ++ took
+      → PostsToEach 0 sites (owed_by took) old new report.posted report.uncopied

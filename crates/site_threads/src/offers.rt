@@ -1,7 +1,7 @@
 //! Which frame a site has for another.
-ghost use Rattle.std.specs.Prelude.{IfSome};
+ghost use Rattle.std.specs.Prelude.{◌≡◌, IfSome, option_and_then, option_map};
 ghost use Rattle.frame_core.specs.Rows.{frame_of};
-ghost use Rattle.site_threads.specs.Offers.{IsFor};
+ghost use Rattle.site_threads.specs.Offers.{IsFor, message_to, offer_of, signal_of};
 
 use event_json::SiteNo;
 use frame_core::{FrameView, MsgId};
@@ -15,7 +15,8 @@ pub fn offer(
     to: SiteNo,
     next: Option<u64>,
 ) -> Option<FrameView<'_>>
-    ensures { IfSome result (λ f. IsFor state.now.engagement to (frame_of f)) }
+    ensures frame { option_map frame_of result ≡ offer_of state.now.engagement to owed next }
+    ensures fits { IfSome result (λ f. IsFor state.now.engagement to (frame_of f)) }
 {
     match owed_signal(state, owed, to) {
         Some(signal) => Some(signal),
@@ -28,7 +29,8 @@ pub fn offer(
 
 /// The message of this number, where it waits for a signal of the site.
 fn message_to(state: &SiteState, number: u64, to: SiteNo) -> Option<FrameView<'_>>
-    ensures { IfSome result (λ f. IsFor state.now.engagement to (frame_of f)) }
+    ensures frame { option_map frame_of result ≡ message_to state.now.engagement to number }
+    ensures fits { IfSome result (λ f. IsFor state.now.engagement to (frame_of f)) }
 {
     match state.row(number) {
         None => None,
@@ -44,7 +46,8 @@ fn message_to(state: &SiteState, number: u64, to: SiteNo) -> Option<FrameView<'_
 
 /// The signal of the message, where it is one of the site's and the record makes the signal emittable.
 fn owed_signal(state: &SiteState, owed: Option<MsgId>, to: SiteNo) -> Option<FrameView<'_>>
-    ensures { IfSome result (λ f. IsFor state.now.engagement to (frame_of f)) }
+    ensures frame { option_map frame_of result ≡ option_and_then (signal_of state.now.engagement to) owed }
+    ensures fits { IfSome result (λ f. IsFor state.now.engagement to (frame_of f)) }
 {
     match owed {
         None => None,

@@ -58,6 +58,7 @@ impl<K: SiteKeeper> Site<K> {
         ensures same { Continues K.stored 1 wire.now self.old self.new }
         ensures entries { self.new.entries ≡ self.old.entries }
         ensures passes { PassNothing self.old.seat.logs self.new.seat.logs }
+        ensures rounds { self.new.rounds ≡ self.old.rounds }
         ensures open { IfOk result (λ _. IsSome (shown_in K.shown self.new.keeper)) }
         ensures opened { IfOk result (λ _. Opened K.shown K.reopens self.old.keeper self.new.keeper) }
         ensures stays { (r : Record) → shown_in K.shown self.old.keeper ≡ Some r → shown_in K.shown self.new.keeper ≡ Some r }
@@ -112,6 +113,8 @@ impl<K: SiteKeeper> Site<K> {
         ensures told { IfOk result (λ reply. Told K.shown K.may K.applies self.old.keeper input reply self.new.keeper) }
         ensures stopped { IfOk result (λ reply. is_some (shown_in K.shown self.new.keeper) ≡ not (is_stop reply)) }
         ensures passes { PassNothing self.old.seat.logs self.new.seat.logs }
+        ensures rounds { self.new.rounds ≡ self.old.rounds }
+        ensures owed { self.new.owed ≡ self.old.owed }
         ensures room { (vec_capacity self.old.entries ≤ vec_capacity self.new.entries) × (vec_len self.new.entries ≤ vec_len self.old.entries + 1) }
         ensures back { IfErr result (λ back. (back ≡ asked) × (self.new.entries ≡ self.old.entries) × (shown_in K.shown self.new.keeper ≡ shown_in K.shown self.old.keeper)) }
     {
@@ -154,6 +157,7 @@ impl<K: SiteKeeper> Site<K> {
         ensures told { IfOk result (λ receipt. IfSome receipt (λ x. Told K.shown K.may K.applies self.old.keeper (input_of x.job) x.reply self.new.keeper)) }
         ensures stopped { IfOk result (λ receipt. is_some (shown_in K.shown self.new.keeper) ≡ open_after receipt) }
         ensures passes { PassNothing self.old.seat.logs self.new.seat.logs }
+        ensures rounds { self.new.rounds ≡ self.old.rounds }
         ensures room { (vec_capacity self.old.entries ≤ vec_capacity self.new.entries) × (vec_len self.new.entries ≤ vec_len self.old.entries + 1) }
         ensures back { IfErr result (λ job. (Some job ≡ option_map (λ x. x.job) ready) × (self.new.entries ≡ self.old.entries) × (shown_in K.shown self.new.keeper ≡ shown_in K.shown self.old.keeper)) }
     {
@@ -180,6 +184,7 @@ impl<K: SiteKeeper> Site<K> {
         ensures told { IfOk result (λ receipt. Told K.shown K.may K.applies self.old.keeper (input_of receipt.job) receipt.reply self.new.keeper) }
         ensures stopped { IfOk result (λ receipt. is_some (shown_in K.shown self.new.keeper) ≡ not (is_stop receipt.reply)) }
         ensures passes { PassNothing self.old.seat.logs self.new.seat.logs }
+        ensures rounds { self.new.rounds ≡ self.old.rounds }
         ensures room { (vec_capacity self.old.entries ≤ vec_capacity self.new.entries) × (vec_len self.new.entries ≤ vec_len self.old.entries + 1) }
         ensures back { IfErr result (λ job. (job ≡ ready.job) × (self.new.entries ≡ self.old.entries) × (shown_in K.shown self.new.keeper ≡ shown_in K.shown self.old.keeper)) }
     {

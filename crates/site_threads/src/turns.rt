@@ -6,7 +6,7 @@ ghost use Rattle.site_threads.specs.Answering.{DidJob, Opened, Told};
 ghost use Rattle.site_threads.specs.Inputs.{input_of};
 ghost use Rattle.site_threads.specs.Jobs.{jobs_in, option_items};
 ghost use Rattle.site_threads.specs.Keepers.{shown_in};
-ghost use Rattle.site_threads.specs.Passing.{PassNothing, PostsToEach, TakesAfterJob};
+ghost use Rattle.site_threads.specs.Passing.{PassNothing, PostsAfterTaking, TakesAfterJob};
 ghost use Rattle.site_threads.specs.Running.{marks_in};
 ghost use Rattle.site_threads.specs.Sites.{IsSite, Continues};
 ghost use Rattle.site_threads.specs.Starting.{IsLastMarked};
@@ -58,6 +58,8 @@ pub struct TurnReport {
     pub lost: u64,
     /// How many frames were posted.
     pub posted: u64,
+    /// How many frames weren't offered, since memory ran out for their copies.
+    pub uncopied: u64,
 }
 
 /// A running site, and the gate to its turns.
@@ -104,9 +106,13 @@ impl<K: SiteKeeper, G: Gate> SiteTurn<K, G> {
     /// One turn: the site does the job, asks each other site once, in the order of their numbers, takes at most one
     /// frame from each, and posts at most one to each. It waits for nobody.
     ///
-    /// A frame that is taken is entered, or counted as lost where its step found no memory. A frame that is offered is
-    /// posted, unless the last one that went that way still lies in its mailbox. A step in which the site stops is the
-    /// last one of the turn: from then on nobody is asked, no frame is taken, and none is offered.
+    /// A frame that is taken is entered, or counted as lost where its step found no memory. To each other site it offers
+    /// the signal of the message that it took from there in this turn, where that may be sent; else its next message for
+    /// that site: the one of the least number behind the message posted there last, and where there is none, the one of
+    /// the least number of all. Where memory runs out for the copy of such a frame, it isn't offered, and is counted. A
+    /// frame that is offered is posted, unless the last one that went that way still lies in its mailbox. A step in
+    /// which the site stops is the last one of the turn: from then on nobody is asked, no frame is taken, and none is
+    /// offered.
     ///
     /// First the gate is asked, and a closed keeper is opened again. Each step is marked on the wire after its keeper
     /// answered it and before a frame is posted; as the turn returns, the record last marked is the one that the keeper
@@ -124,10 +130,10 @@ impl<K: SiteKeeper, G: Gate> SiteTurn<K, G> {
         ensures turns { self.new.turns ≡ min (self.old.turns + 1) (2 ^ 64 - 1) }
         ensures job { IfOk result (λ report. (option_map (λ x. x.job) report.receipt ≡ job) × IfSome report.receipt (λ x. x.site ≡ self.old.site.me)) }
         ensures entered { IfOk result (TakesAfterJob K.shown wire.now.sites self.old.site self.new.site) }
-        ensures sent { IfOk result (λ report. PostsToEach K.shown 0 wire.now.sites self.old.site self.new.site report.posted) }
+        ensures sent { IfOk result (PostsAfterTaking K.shown wire.now.sites self.old.site self.new.site) }
         ensures did { IfOk result (λ report. IfSome report.receipt (DidJob K.shown K.may K.applies K.reopens self.old.site.keeper)) }
         ensures jobs { IfOk result (λ report. jobs_in self.new.site.entries.items ≡ jobs_in self.old.site.entries.items ++ option_items job) }
-        ensures posted { IfOk result (λ report. report.posted ≤ wire.now.sites) }
+        ensures posted { IfOk result (λ report. report.posted + report.uncopied ≤ wire.now.sites) }
         ensures back { IfErr result (λ fault. (fault.job ≡ job) × (self.new.site.entries.items ≡ self.old.site.entries.items) × PassNothing self.old.site.seat.logs self.new.site.seat.logs) }
         ensures unchanged { IfErr result (λ fault. (r : Record) → shown_in K.shown self.old.site.keeper ≡ Some r → shown_in K.shown self.new.site.keeper ≡ Some r) }
         ensures why { IfErr result (λ fault. HindersTurn K.shown K.reopens G.gives_up fault.cause self.old.gate self.new.site.me self.new.turns self.old.site.keeper self.new.site.keeper) }
@@ -161,6 +167,7 @@ impl<K: SiteKeeper, G: Gate> SiteTurn<K, G> {
         ensures turns { self.new.turns ≡ min (self.old.turns + 1) (2 ^ 64 - 1) }
         ensures entries { self.new.site.entries ≡ self.old.site.entries }
         ensures passes { PassNothing self.old.site.seat.logs self.new.site.seat.logs }
+        ensures rounds { self.new.site.rounds ≡ self.old.site.rounds }
         ensures open { IfOk result (λ _. IsSome (shown_in K.shown self.new.site.keeper)) }
         ensures opened { IfOk result (λ _. Opened K.shown K.reopens self.old.site.keeper self.new.site.keeper) }
         ensures stays { (r : Record) → shown_in K.shown self.old.site.keeper ≡ Some r → shown_in K.shown self.new.site.keeper ≡ Some r }
@@ -188,9 +195,9 @@ impl<K: SiteKeeper, G: Gate> SiteTurn<K, G> {
         ensures turns { self.new.turns ≡ self.old.turns }
         ensures job { IfOk result (λ report. (option_map (λ x. x.job) report.receipt ≡ option_map (λ x. x.job) ready) × IfSome report.receipt (λ x. x.site ≡ self.old.site.me)) }
         ensures entered { IfOk result (TakesAfterJob K.shown wire.now.sites self.old.site self.new.site) }
-        ensures sent { IfOk result (λ report. PostsToEach K.shown 0 wire.now.sites self.old.site self.new.site report.posted) }
+        ensures sent { IfOk result (PostsAfterTaking K.shown wire.now.sites self.old.site self.new.site) }
         ensures did { IfOk result (λ report. IfSome report.receipt (λ x. (left : Option K) × Told K.shown K.may K.applies self.old.site.keeper (input_of x.job) x.reply left)) }
-        ensures posted { IfOk result (λ report. report.posted ≤ wire.now.sites) }
+        ensures posted { IfOk result (λ report. report.posted + report.uncopied ≤ wire.now.sites) }
         ensures back { IfErr result (λ fault. (fault.job ≡ option_map (λ x. x.job) ready) × (self.new.site.entries ≡ self.old.site.entries) × PassNothing self.old.site.seat.logs self.new.site.seat.logs × (fault.cause ≡ TurnCause.NoMemory) × (shown_in K.shown self.new.site.keeper ≡ shown_in K.shown self.old.site.keeper)) }
     {
         match self.site.do_job(wire, ready) {
@@ -200,12 +207,13 @@ impl<K: SiteKeeper, G: Gate> SiteTurn<K, G> {
             }),
             Ok(receipt) => {
                 let received = self.site.receive_all(wire);
-                let posted = self.site.send_all(wire, self.alloc);
+                let given = self.site.send_all(wire, self.alloc);
                 Ok(TurnReport {
                     receipt,
                     applied: received.entered,
                     lost: received.lost,
-                    posted,
+                    posted: given.posted,
+                    uncopied: given.uncopied,
                 })
             }
         }

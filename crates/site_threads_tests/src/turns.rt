@@ -9,7 +9,7 @@ ghost use Rattle.site_threads.specs.Starting.{IsLastMarked};
 ghost use Rattle.site_threads.specs.Ends.{IsDesk, IsOut};
 ghost use Rattle.site_threads_tests.specs.Playing.{MayTurn};
 
-use crate::turns::fixtures::{capture, fresh, start};
+use crate::turns::fixtures::{both_ways, capture, fresh, start};
 use keeper_core::{MemoryKeeper, SiteKeeper};
 use site_core::SiteState;
 use site_recovery::{are_all_sites, check_world};
@@ -33,12 +33,13 @@ fn between(alloc: Global, first: &SiteState, second: &SiteState) -> Result<(Wire
     Ok(Wire::new(alloc, &states)?)
 }
 
-/// A turn: how many frames came, were lost, and went.
+/// A turn: how many frames came, were lost, went, and had no memory for their copies.
 #[derive(Clone, Copy)]
 struct Turned {
     applied: u64,
     lost: u64,
     posted: u64,
+    uncopied: u64,
 }
 
 /// Makes a turn.
@@ -48,7 +49,7 @@ fn turn_once<K: SiteKeeper, G: Gate>(
     job: Option<Job>,
 ) -> Turned
     requires ready { MayTurn K.shown K.may wire.now site.old }
-    requires few { marks_in site.old.site.seat.logs ≤ 100 }
+    requires few { marks_in site.old.site.seat.logs ≤ 1000 }
     ensures ready { MayTurn K.shown K.may wire.now site.new }
     ensures few { marks_in site.new.site.seat.logs ≤ marks_in site.old.site.seat.logs + 18 }
 {
@@ -57,18 +58,21 @@ fn turn_once<K: SiteKeeper, G: Gate>(
             applied: 0,
             lost: 0,
             posted: 0,
+            uncopied: 0,
         },
         Ok(report) => {
             let TurnReport {
                 applied,
                 lost,
                 posted,
+                uncopied,
                 ..
             } = report;
             Turned {
                 applied,
                 lost,
                 posted,
+                uncopied,
             }
         }
     }
@@ -115,7 +119,70 @@ fn exchange(
     let counts = captured.posted == 0 && started.posted == 1 && taken.posted == 1;
     let came = taken.applied == 1 && signalled.applied == 1;
     let lost = taken.lost > 0 || signalled.lost > 0;
-    counts && came && !lost && entries.len() == 3 && has_ended(&keeper)
+    let uncopied = started.uncopied > 0 || taken.uncopied > 0;
+    counts && came && !lost && !uncopied && entries.len() == 3 && has_ended(&keeper)
+}
+
+/// A turn of the one site, and then one of the other. Whether so many frames were taken and posted in each, and none was
+/// lost or had no memory for its copy.
+fn both_turn<K: SiteKeeper, G: Gate>(
+    wire: &Wire,
+    one: &mut SiteTurn<K, G>,
+    two: &mut SiteTurn<K, G>,
+    job: Option<Job>,
+    came: (u64, u64),
+    went: (u64, u64),
+) -> bool
+    requires ready { MayTurn K.shown K.may wire.now one.old × MayTurn K.shown K.may wire.now two.old }
+    requires few { (marks_in one.old.site.seat.logs ≤ 900) × (marks_in two.old.site.seat.logs ≤ 900) }
+    ensures ready { MayTurn K.shown K.may wire.now one.new × MayTurn K.shown K.may wire.now two.new }
+    ensures few { (marks_in one.new.site.seat.logs ≤ marks_in one.old.site.seat.logs + 18) × (marks_in two.new.site.seat.logs ≤ marks_in two.old.site.seat.logs + 18) }
+{
+    let first = turn_once(wire, one, job);
+    let second = turn_once(wire, two, None);
+    let all = (first.applied, second.applied) == came && (first.posted, second.posted) == went;
+    let short = first.lost + first.uncopied > 0 || second.lost + second.uncopied > 0;
+    all && !short
+}
+
+/// How many messages of others the site has seen.
+fn seen_by(keeper: &Option<MemoryKeeper>) -> usize {
+    let Some(keeper) = keeper else {
+        return 0;
+    };
+    match keeper.view() {
+        Some(state) => state.seen().len(),
+        None => 0,
+    }
+}
+
+/// The first site announces two messages, one after another. The second one is engaged by the first of them, since it
+/// has a message for the first site, and the first site signals that one before it posts its second message. Then its
+/// first message, which still waits, is next again.
+fn take_rounds(
+    alloc: Global,
+    wire: &Wire,
+    mine: Seat,
+    theirs: Seat,
+    first: SiteState,
+    second: SiteState,
+) -> bool
+    requires seats { IsSeatOf wire.now mine × IsSeatOf wire.now theirs }
+    requires first { IsLastMarked mine.logs first.engagement.me first × (marks_in mine.logs ≡ 0) }
+    requires second { IsLastMarked theirs.logs second.engagement.me second × (marks_in theirs.logs ≡ 0) }
+{
+    let (a, b) = (first.me(), second.me());
+    let mut one = SiteTurn::new(alloc, MemoryKeeper::new(first), FreeGate, mine, a);
+    let mut two = SiteTurn::new(alloc, MemoryKeeper::new(second), FreeGate, theirs, b);
+    let _ = turn_once(wire, &mut one, both_ways(alloc, false));
+    let _ = turn_once(wire, &mut two, both_ways(alloc, true));
+    let begun = both_turn(wire, &mut one, &mut two, start(alloc), (0, 1), (1, 1));
+    let signalled = both_turn(wire, &mut one, &mut two, None, (1, 1), (1, 0));
+    let next = both_turn(wire, &mut one, &mut two, None, (0, 1), (1, 1));
+    let seen = seen_by(&two.site.keeper);
+    let again = both_turn(wire, &mut one, &mut two, None, (1, 1), (1, 1));
+    let ended = both_turn(wire, &mut one, &mut two, None, (1, 0), (0, 0));
+    begun && signalled && next && seen == 2 && again && ended && has_ended(&one.site.keeper)
 }
 
 /// Makes the turns over a wire of their own.
@@ -126,12 +193,29 @@ fn by_turns(alloc: Global, first: SiteState, second: SiteState) -> Result<bool, 
     Ok(exchange(alloc, &wire, mine, theirs, first, second))
 }
 
+/// Likewise, of two messages.
+fn by_rounds(alloc: Global, first: SiteState, second: SiteState) -> Result<bool, Fail> {
+    let b = second.me();
+    let (wire, seat) = between(alloc, &first, &second)?;
+    let (mine, theirs) = wire.split(seat, b);
+    Ok(take_rounds(alloc, &wire, mine, theirs, first, second))
+}
+
 #[test]
 fn a_recall_ends_by_turns(rt: HostRuntime) -> Result<(), Fail> {
     let keys = RandomState::new(&rt)?;
     let first = fresh(rt.alloc(), keys, false)?;
     let second = fresh(rt.alloc(), keys, true)?;
     assert!(rt; by_turns(rt.alloc(), first, second)?);
+    Ok(())
+}
+
+#[test]
+fn messages_are_posted_in_rounds(rt: HostRuntime) -> Result<(), Fail> {
+    let keys = RandomState::new(&rt)?;
+    let first = fresh(rt.alloc(), keys, false)?;
+    let second = fresh(rt.alloc(), keys, true)?;
+    assert!(rt; by_rounds(rt.alloc(), first, second)?);
     Ok(())
 }
 

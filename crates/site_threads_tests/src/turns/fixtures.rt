@@ -12,6 +12,14 @@ use std::test::Fail;
 const DOCUMENT: &str =
     "{\"type\":\"EPCISDocument\",\"epcisBody\":{\"eventList\":[{\"type\":\"TransformationEvent\",\"eventTime\":\"2024-05-01T08:00:00Z\",\"eventTimeZoneOffset\":\"+00:00\",\"inputEPCList\":[\"x\"],\"outputEPCList\":[\"y\"]},{\"type\":\"ObjectEvent\",\"eventTime\":\"2024-05-01T09:00:00Z\",\"eventTimeZoneOffset\":\"+00:00\",\"action\":\"OBSERVE\",\"epcList\":[\"y\"],\"destinationList\":[{\"destination\":\"b\"}]}]}}";
 
+/// What A captures: x was made into y and z, and both were shipped to B.
+const TO_B: &str =
+    "{\"type\":\"EPCISDocument\",\"epcisBody\":{\"eventList\":[{\"type\":\"TransformationEvent\",\"eventTime\":\"2024-05-01T08:00:00Z\",\"eventTimeZoneOffset\":\"+00:00\",\"inputEPCList\":[\"x\"],\"outputEPCList\":[\"y\",\"z\"]},{\"type\":\"ObjectEvent\",\"eventTime\":\"2024-05-01T09:00:00Z\",\"eventTimeZoneOffset\":\"+00:00\",\"action\":\"OBSERVE\",\"epcList\":[\"y\",\"z\"],\"destinationList\":[{\"destination\":\"b\"}]}]}}";
+
+/// What B captures: y was shipped back to A.
+const TO_A: &str =
+    "{\"type\":\"EPCISDocument\",\"epcisBody\":{\"eventList\":[{\"type\":\"ObjectEvent\",\"eventTime\":\"2024-05-01T10:00:00Z\",\"eventTimeZoneOffset\":\"+00:00\",\"action\":\"OBSERVE\",\"epcList\":[\"y\"],\"destinationList\":[{\"destination\":\"a\"}]}]}}";
+
 /// Site A or B, which has captured nothing.
 pub fn fresh(alloc: Global, keys: RandomState, second: bool) -> Result<SiteState, Fail> {
     let mut sites = Sites::new(alloc);
@@ -22,7 +30,17 @@ pub fn fresh(alloc: Global, keys: RandomState, second: bool) -> Result<SiteState
 
 /// To capture the document. `None` where there is no memory for it.
 pub fn capture(alloc: Global) -> Option<Job> {
-    match DOCUMENT.as_bytes().to_vec(alloc) {
+    capture_of(alloc, DOCUMENT)
+}
+
+/// To capture what A, or B, captures of what goes both ways. `None` where there is no memory for it.
+pub fn both_ways(alloc: Global, second: bool) -> Option<Job> {
+    capture_of(alloc, if second { TO_A } else { TO_B })
+}
+
+/// To capture this document. `None` where there is no memory for it.
+fn capture_of(alloc: Global, document: &str) -> Option<Job> {
+    match document.as_bytes().to_vec(alloc) {
         Ok(bytes) => Some(Job::Capture(Sequence::from_vec(bytes))),
         Err(_) => None,
     }

@@ -4,6 +4,7 @@ use Rattle.keeper_core.specs.Keeping.{StaysClosed}
 use Rattle.site_threads.specs.Keepers.{shown_in, may_in}
 use Rattle.site_threads.specs.Running.{Follows, MayFollow}
 use Rattle.site_threads.specs.Stamps.{stamp}
+use Rattle.site_threads.proofs.Rounding.{followed_rounds}
 use Rattle.site_threads.proofs.Wired.{follows_pass}
 use Rattle.site_threads.proofs.Steps.{opened_follows, opened_runs, unopened_runs}
 use Rattle.site_threads.proofs.sites.Site.open_again.Goals as goal
@@ -28,6 +29,7 @@ returns-in-Err-clause-site g c =
     record {
       there = refl;
       runs = unopened_runs _ _ _ _ _ _ _ c.requires.site.runs _ _ closed (subst (λ k. StaysClosed (may_in g.K.SiteKeeper.may k) (g.K.SiteKeeper.shown keeper) (g.K.SiteKeeper.may keeper)) c.in-Some.ensures.value c.in-Err.ensures.unopened.1);
+      rounds = c.requires.site.rounds;
     }
 
 pub returns-in-Some-last-clause-site : goal.returns-in-Some-last-clause-site
@@ -39,9 +41,14 @@ returns-in-Some-last-clause-site g c =
     let same : c.in-Some-view.record.now ≡ m.0 = search rules in
     let kept = subst (λ k. may_in g.K.SiteKeeper.may k m.0) c.in-Some.ensures.value m.1 in
     let f = c.follow-self.ensures in
+    let entry = c.in-Some-last.entry.now in
+    let at : Some entry ≡ slice_get s.entries.items (length s.entries.items - 1) = search rules in
     record {
       there = refl;
       runs = opened_runs _ _ _ _ _ _ _ c.requires.site.runs _ _ m.0 _ _ closed m.2 kept (subst (λ r. Follows s.seat.logs r c.follow-self.new.seat.logs) same f.follows) (f.stamped ∙ ap stamp same);
+      rounds = followed_rounds s.seat.logs c.follow-self.new.seat.logs s.stamp entry.input c.in-Some-view.record.now s.rounds
+          (opened_follows _ _ _ _ _ _ _ c.requires.site.runs entry c.in-Some-view.record.now closed c.requires.few at (subst (may_in g.K.SiteKeeper.may s.keeper) (sym same) kept))
+          f.follows c.requires.site.rounds;
     }
 
 pub returns-in-Some-last-clause-passes : goal.returns-in-Some-last-clause-passes

@@ -1,4 +1,5 @@
 use Rattle.std.proofs.Common.{◌∙◌, refl, arith}
+use Rattle.site_threads.proofs.Owing.{owed_begins, owed_goes_on}
 use Rattle.site_threads.proofs.Wired.{takes_at_none, takes_more, takes_as}
 use Rattle.site_threads.proofs.sites.Site.receive_all.Goals as goal
 
@@ -6,10 +7,12 @@ pub loop-number-init : goal.loop-number-init
 loop-number-init g c =
     let room = c.requires.room in
     record {
-      site = record { there = c.requires.site.there; runs = c.requires.site.runs };
+      site = record { there = c.requires.site.there; runs = c.requires.site.runs; rounds = c.requires.site.rounds };
       same = record { seat = c.requires.seat; me = refl; start = refl; marks = omega arith; keeps = λ s. s };
       frames = takes_at_none _ 0 _ _ _;
       sent = refl;
+      rounds = refl;
+      owed = owed_begins _ _ _ refl c.nothing_owed-self.ensures;
       room = omega (arith, room);
       count = omega arith;
     }
@@ -29,6 +32,8 @@ loop-number-preserved g c =
       same = record { seat = t.same.seat; me = t.same.me ∙ i.same.me; start = t.same.start ∙ i.same.start; marks = omega (arith, marks, marked); keeps = λ s. t.same.keeps (i.same.keeps s) };
       frames = takes_more _ _ _ _ _ _ _ _ _ _ _ _ _ _ _ _ _ i.frames (takes_as _ _ _ _ _ _ _ _ _ _ _ _ _ _ _ _ _ _ i.same.me refl refl refl refl refl refl t.frames);
       sent = t.sent ∙ i.sent;
+      rounds = t.rounds ∙ i.rounds;
+      owed = owed_goes_on _ _ _ i.frames.took t.frames.took _ _ i.frames.notes.noted t.frames.notes.noted i.owed t.owed;
       room = omega (arith, room, more);
       count = omega (arith, one, sum);
     }

@@ -6,6 +6,7 @@ use Rattle.site_threads.specs.Jobs.{reply_to}
 use Rattle.site_threads.specs.Keepers.{shown_in, may_in}
 use Rattle.site_threads.specs.Running.{MayDeliver, MayFollow}
 use Rattle.site_threads.proofs.Answered.{told_so, stays_open}
+use Rattle.site_threads.proofs.Rounding.{may_follow_rounds}
 use Rattle.site_threads.proofs.Wired.{may_follow_pass}
 use Rattle.site_threads.proofs.Taking.{no_memory, may_follow, took_in}
 use Rattle.site_threads.proofs.sites.Site.take_in.Goals as goal
@@ -14,6 +15,7 @@ pub returns-in_default-clause-site : goal.returns-in_default-clause-site
 returns-in_default-clause-site g c = record {
   there = c.apply_to.ensures.there;
   runs = (no_memory _ _ _ _ _ _ _ c.requires.site.runs c.requires.open c.args.input c.apply_to.result c.is_delivery-frame.result _ _ c.apply_to.ensures.step (sym c.in_default.is ∙ c.answered.ensures)).0;
+  rounds = c.requires.site.rounds;
 }
 
 pub returns-in_default-clause-back : goal.returns-in_default-clause-back
@@ -39,6 +41,11 @@ returns-clause-site g c =
       runs = took_in _ _ _ _ _ _ _ c.requires.site.runs c.requires.open c.args.asked c.apply_to.result c.is_delivery-frame.result _ (may_in g.K.SiteKeeper.may c.apply_to.new.keeper)
           (λ old is. subst (λ i. Applies old i c.apply_to.result (shown_in g.K.SiteKeeper.shown c.apply_to.new.keeper) (may_in g.K.SiteKeeper.may c.apply_to.new.keeper)) same (c.apply_to.ensures.step old is))
           p _ _ _ _ (c.is_delivery-frame.ensures ∙ ap is_delivery same) e (subst (λ i. MayDeliver i c.args.self.now.seat.logs) same c.requires.noted) c.follow_shown-self.ensures.follows (let l = c.args.self.now.entries.ok.0 in omega arith) items;
+      rounds = may_follow_rounds _ c.args.self.now.seat.logs c.follow_shown-self.new.seat.logs _ _ c.args.asked c.args.self.now.rounds
+          (may_follow _ _ _ _ _ _ _ c.requires.site.runs c.requires.open c.args.asked c.apply_to.result c.is_delivery-frame.result _ (may_in g.K.SiteKeeper.may c.apply_to.new.keeper)
+          (λ old is. subst (λ i. Applies old i c.apply_to.result (shown_in g.K.SiteKeeper.shown c.apply_to.new.keeper) (may_in g.K.SiteKeeper.may c.apply_to.new.keeper)) same (c.apply_to.ensures.step old is)) c.requires.few
+          (subst (λ i. MayDeliver i c.args.self.now.seat.logs) same c.requires.noted))
+          c.follow_shown-self.ensures.follows c.requires.site.rounds;
     }
 
 pub returns-clause-told : goal.returns-clause-told

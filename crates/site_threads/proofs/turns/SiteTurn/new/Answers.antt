@@ -2,6 +2,7 @@ use Rattle.std.proofs.Common.{refl, sym, ap, ◌∙◌}
 use Rattle.std.specs.Prelude.{Some}
 use Rattle.site_threads.specs.Stamps.{stamp}
 use Rattle.site_threads.proofs.Beginning.{begins}
+use Rattle.site_threads.proofs.Rounding.{fresh_rounds}
 use Rattle.site_threads.proofs.turns.SiteTurn.new.Goals as goal
 
 pub returns-clause-site : goal.returns-clause-site
@@ -11,4 +12,5 @@ returns-clause-site g c =
     record {
       there = refl;
       runs = begins _ (g.K.SiteKeeper.may c.args.keeper) c.args.seat.logs c.args.me c.stamp_of-first.result c.of-start.result.value s.0 s.1 s.2 (c.stamp_of-first.ensures ∙ ap stamp (sym first)) (ap (λ r. Some r) first ∙ c.in-Some.ensures) c.new.result.items c.new.ensures.items;
+      rounds = fresh_rounds _ c.new-2.result c.new-2.ensures;
     }
