@@ -1,5 +1,5 @@
 -- What pins the words that a run's contract speaks in, and that what a run leaves is a world again.
-use Rattle.std.proofs.Common.{◌≡◌, ◌<◌, ⊎_elim, true, Some, List, [], ◌∷◌, length, refl, sym, ◌∙◌, ap, subst, slice_get}
+use Rattle.std.proofs.Common.{◌≡◌, ◌<◌, ◌⊎◌, ◌↔◌, inl, inr, ⊎_elim, true, Some, List, [], ◌∷◌, length, refl, sym, ◌∙◌, ap, subst, slice_get}
 use Rattle.std.specs.FinMap.{get}
 use Rattle.std.specs.Option.{option_map}
 use Rattle.std.proofs.lemmas.List.{length-map}
@@ -14,9 +14,10 @@ use Rattle.site_core.specs.declared.outcomes.Effects.TheVariants as effects
 use Rattle.site_recovery.specs.Looks.{world_of}
 use Rattle.site_recovery.proofs.Worlds.{fewer_frames_fit}
 use Rattle.trace_core.proofs.Members.{contains_none}
+use Rattle.keeper_core.specs.Keeping.{IsAfter}
 use Rattle.world_core.specs.Faults.{AreOneWorld, MakeAWorld}
 use Rattle.world_core.specs.KeptSteps.{Handed, Answered, Broken, StandsAfter, handed_to}
-use Rattle.world_core.specs.PinLaws.{EndsAreTold, RunsMakeAWorldAgain}
+use Rattle.world_core.specs.PinLaws.{AnsweredStepsAreWhole, BrokenStepsAreEither, EndsAreTold, OthersAreAbsent, RunsMakeAWorldAgain}
 use Rattle.world_core.specs.Recalls.{ended_in}
 use Rattle.world_core.specs.Turns.{Turns}
 use Rattle.world_core.specs.Worlds.{WorldState, WorldFits, records, record_of}
@@ -34,6 +35,30 @@ ends_are_told rs recall initiator at = (
       let same : h.1.initiator ≡ initiator = same_Some h.1.initiator initiator (sym h.1.there ∙ at) in
       subst (λ (r : Record). ended_in recall r ≡ Some true) same (ap (option_map (λ own. own.ended)) h.1.begun ∙ ap Some h.1.ended),
 )
+
+-- What one step that a site was handed leaves.
+
+pub answered_steps_are_whole : AnsweredStepsAreWhole
+answered_steps_are_whole old new input effects = (
+  λ h. subst (λ (r : Record). Does old input effects r) (sym h.2) h.1,
+  λ does. (new, does, refl),
+)
+
+pub whole_or_absent : (old new : Record) (input : SiteInput) → StandsAfter old (Broken input ∷ []) new ↔ ((new ≡ old) ⊎ IsAfter old input new)
+whole_or_absent old new input = (forth, back) where
+  forth : StandsAfter old (Broken input ∷ []) new → (new ≡ old) ⊎ IsAfter old input new
+  forth (inl same) = inl same
+  forth (inr (mid, after, same)) = inr (subst (λ (r : Record). IsAfter old input r) (sym same) after)
+
+  back : (new ≡ old) ⊎ IsAfter old input new → StandsAfter old (Broken input ∷ []) new
+  back (inl same) = inl same
+  back (inr after) = inr (new, after, refl)
+
+pub broken_steps_are_either : BrokenStepsAreEither
+broken_steps_are_either = (whole_or_absent, whole_or_absent, whole_or_absent)
+
+pub others_are_absent : OthersAreAbsent
+others_are_absent = ((λ why old new input. (λ same. same, λ same. same)), (λ old new input. (λ same. same, λ same. same)))
 
 -- A step leaves the list of sites.
 

@@ -6,11 +6,16 @@ use Rattle.site_core.specs.Steps.{Does}
 use Rattle.site_core.specs.declared.inputs.SiteInput.{SiteInput}
 use Rattle.site_core.specs.declared.outcomes.Effects.{Effects}
 use Rattle.site_core.specs.declared.outcomes.Effects.TheVariants.{Started, Ended}
+use Rattle.site_core.specs.declared.outcomes.Refusal.{Refusal}
+use Rattle.keeper_core.specs.Keeping.{IsAfter}
+use Rattle.keeper_core.specs.declared.faults.KeepFault.TheVariants.{Refused, Device, Store}
 use Rattle.world_core.specs.Faults.{AreOneWorld, MakeAWorld}
+use Rattle.world_core.specs.KeptSteps.{StandsAfter, handed}
 use Rattle.world_core.specs.Recalls.{HasEnded, ended_in}
 use Rattle.world_core.specs.Turns.{Runs}
 use Rattle.world_core.specs.Worlds.{WorldState, WorldFits, records}
 use Rattle.world_core.specs.declared.events.Answer.{Answer}
+use Rattle.world_core.specs.declared.events.Answer.TheVariants.{Done, Fault, NoMemory, Stopped}
 use Rattle.world_core.specs.declared.events.WorldEvent.{WorldEvent}
 
 -- The end that is told is the end that the headline speaks of.
@@ -47,3 +52,24 @@ abbrev pub RunsMakeAWorldAgain : Type 0
 RunsMakeAWorldAgain =
     (old new : WorldState) (events : List WorldEvent) (answers : List Answer)
     → WorldFits old → AreOneWorld (records old) → Runs old events answers new → MakeAWorld (records new)
+
+-- A step that was answered with effects stands whole: the record after it is the one that the step leaves, and not the one before.
+abbrev pub AnsweredStepsAreWhole : Type 0
+AnsweredStepsAreWhole =
+    (old new : Record) (input : SiteInput) (effects : Effects)
+    → StandsAfter old (handed (Done effects) (Some input)) new ↔ Does old input effects new
+
+-- One in which the site stopped, or its device or its store failed, stands whole or not at all.
+abbrev pub IsWholeOrAbsent : Answer → Type 0
+IsWholeOrAbsent answer =
+    (old new : Record) (input : SiteInput) → StandsAfter old (handed answer (Some input)) new ↔ ((new ≡ old) ⊎ IsAfter old input new)
+
+-- A step that is refused, or finds no memory, doesn't stand.
+abbrev pub IsAbsent : Answer → Type 0
+IsAbsent answer = (old new : Record) (input : SiteInput) → StandsAfter old (handed answer (Some input)) new ↔ (new ≡ old)
+
+abbrev pub OthersAreAbsent : Type 0
+OthersAreAbsent = ((why : Refusal) → IsAbsent (Fault (Refused why))) × IsAbsent NoMemory
+
+abbrev pub BrokenStepsAreEither : Type 0
+BrokenStepsAreEither = IsWholeOrAbsent Stopped × IsWholeOrAbsent (Fault Device) × IsWholeOrAbsent (Fault Store)

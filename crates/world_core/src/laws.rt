@@ -4,7 +4,7 @@ ghost use Rattle.world_core.specs.Counting.{MessagesAreCounted};
 ghost use Rattle.world_core.specs.EndingLaws.{EveryRecallCanEnd, FramesFindTheirSite, FreshSitesAreGoing, RunsKeepGoing};
 ghost use Rattle.world_core.specs.FormingLaws.{FreshSitesMakeAWorld, OnlyMemoryHindersAWorld};
 ghost use Rattle.world_core.specs.Laws.{EndedStays, EndsAreExact, FramesStay, FreshSitesFit, QuarantinesAscend, RunsComeOut, RunsFromTheStartComeOut, RunsKeepTheFit, SitesStandAsKept, TurnsKeepTheFit};
-ghost use Rattle.world_core.specs.PinLaws.{AnsweredEndsStand, EndsAreTold, NothingElseEnds, RunsMakeAWorldAgain, StartsTellTheEnd};
+ghost use Rattle.world_core.specs.PinLaws.{AnsweredEndsStand, AnsweredStepsAreWhole, BrokenStepsAreEither, EndsAreTold, NothingElseEnds, OthersAreAbsent, RunsMakeAWorldAgain, StartsTellTheEnd};
 ghost use Rattle.world_core.specs.SendingLaws.{FramesWereEmittable};
 
 /// The records of all sites in order, at which nothing happened yet, make a world; and only out of memory prevents
@@ -18,6 +18,14 @@ pub fn records_make_a_world()
 pub fn sites_stand_as_their_kept_steps()
     ensures frames { FramesStay }
     ensures sites { SitesStandAsKept }
+{}
+
+/// Of the steps that a site was handed an answered one stands whole, one that it went down in whole or not at all, and
+/// one that was refused or found no memory doesn't stand.
+pub fn an_answered_step_is_whole()
+    ensures answered { AnsweredStepsAreWhole }
+    ensures broken { BrokenStepsAreEither }
+    ensures others { OthersAreAbsent }
 {}
 
 /// Whatever happens, whatever its answer, the records of all sites, up or down, are consistent with all frames sent.
