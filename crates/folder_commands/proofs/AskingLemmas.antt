@@ -7,7 +7,7 @@ use Rattle.recall_outcomes.specs.declared.faults.Fault.TheVariants.{NoMemory}
 use Rattle.site_core.specs.Records.{Record, IsSound, fresh}
 use Rattle.site_recovery.specs.FittingAt.{AreAllSites, IsOneOf}
 use Rattle.folder_commands.specs.Calls.{AfterList, KeepFrom, KeepsSite, ListsSites, closes_all, opens_from, opens_site}
-use Rattle.folder_commands.specs.Failing.{FailsIn, ListFails, OpenFails, RunsOut}
+use Rattle.folder_commands.specs.Failing.{FailsIn, OpenFails, RunsOut}
 use Rattle.folder_commands.specs.FailingToAsk.{AskAllFails, AsksInVain, OpensSome}
 use Rattle.folder_commands.specs.FileCalls.{Calls, FileCall, Led, ReadFile}
 use Rattle.folder_commands.specs.Folders.{list_path}
@@ -31,9 +31,6 @@ module _ {F K : Type 0} (does : F → FileCall K → F → Type 0) where
       are = record { text = listed.are.text; sites = sites; lists = listed.are.lists; rest = more.calls; done = more.are; calls_are = refl };
       led = list_then does old mid new folder sites listed more.calls more.led;
     }
-
-    pub list_failed : (Fails : List Site → Fault → List (FileCall K) → Type 0) (old new : F) (fault : Fault) → Led does old new (ListFails folder fault) → Led does old new (FailsIn folder Fails fault)
-    list_failed Fails old new fault fails = record { calls = fails.calls; are = inl fails.are; led = fails.led }
 
     pub failed_behind : (Fails : List Site → Fault → List (FileCall K) → Type 0) (old mid new : F) (sites : List Site) (fault : Fault) → Led does old mid (ListsSites folder sites) → Led does mid new (Fails sites fault)
         → Led does old new (FailsIn folder Fails fault)

@@ -126,6 +126,11 @@ pub err_so : {X E : Type 0} {P Q : E → Type 0} (r : Result X E) → ((e : E) �
 err_so (Ok x) f h = tt
 err_so (Err e) f h = f e h
 
+-- and of each, by the answer that it was
+pub err_was : {X E : Type 0} {P Q : E → Type 0} (r : Result X E) → ((e : E) → r ≡ Err e → P e → Q e) → IfErr r P → IfErr r Q
+err_was (Ok x) f h = tt
+err_was (Err e) f h = f e refl h
+
 -- a fault that is handed on
 pub handed_on : {X E : Type 0} (r : Result X E) (e : E) (Q : E → Type 0) → IsErrAnd r (λ f. f ≡ e) → Q e → IfErr r Q
 handed_on (Ok x) e Q is h = tt

@@ -6,7 +6,7 @@ use Rattle.folder_commands.proofs.CallsInTurn.{are_shown, shown_once, shown_open
 use Rattle.folder_commands.proofs.questions.ask_keepers.Goals as goal
 
 pub open_records-requires : goal.open_records-requires
-open_records-requires g c = shown_open g.K.SiteKeeper.shown c.args.keepers.now c.requires.0 c.requires.1.0
+open_records-requires g c = shown_open g.K.SiteKeeper.shown c.args.keepers.now c.requires.0 c.requires.1
 
 pub answer-requires : goal.answer-requires
 answer-requires g c =

@@ -2,12 +2,12 @@ use Rattle.std.proofs.Common.{◌≡◌, ◌++◌, IfErr, IfOk, refl, subst, inl
 use Rattle.folder_commands.specs.Calls.{closes_all, opens_from}
 use Rattle.folder_commands.specs.FailingToRun.{RunFailsAt}
 use Rattle.folder_commands.specs.Runs.{AnswersRun, FailsRun, RunsAll}
-use Rattle.folder_commands.proofs.AskingLemmas.{behind_list, failed_behind, led_so, list_failed}
+use Rattle.folder_commands.proofs.AskingLemmas.{behind_list, failed_behind, led_so}
 use Rattle.folder_commands.proofs.CallsInTurn.{calls_then, handed_on, kept_stored}
 use Rattle.folder_commands.proofs.runs.run_sites.Goals as goal
 
 pub returns-in_err-sites-clause-failed : goal.returns-in_err-sites-clause-failed
-returns-in_err-sites-clause-failed g c = handed_on c.from_residual.result _ _ c.from_residual.ensures.1 (list_failed g.F.Files.does c.args.folder.now _ _ _ _ c.in_err-sites.ensures.failed)
+returns-in_err-sites-clause-failed g c = handed_on c.from_residual.result _ _ c.from_residual.ensures.1 (let fails = c.in_err-sites.ensures.failed in record { calls = fails.calls; are = inl fails.are; led = fails.led })
 
 pub returns-in_err-keepers-clause-failed : goal.returns-in_err-keepers-clause-failed
 returns-in_err-keepers-clause-failed g c =

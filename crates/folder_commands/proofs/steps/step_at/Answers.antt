@@ -1,7 +1,7 @@
-use Rattle.std.proofs.Common.{[], ◌∷◌, refl, inr}
+use Rattle.std.proofs.Common.{[], ◌∷◌, Err, refl, ap, ◌∙◌, inr}
 use Rattle.folder_commands.specs.Calls.{opens_site}
 use Rattle.folder_commands.specs.FileCalls.{ClosedSite}
-use Rattle.folder_commands.proofs.CallsInTurn.{err_so, ok_so}
+use Rattle.folder_commands.proofs.CallsInTurn.{err_was, ok_so}
 use Rattle.folder_commands.proofs.steps.step_at.Goals as goal
 
 pub returns-clause-calls : goal.returns-clause-calls
@@ -30,8 +30,8 @@ returns-clause-failed g c =
     let keeper = c.in_ok-keeper.keeper in
     let after = c.step-outcome.new.keeper in
     let (before, opened) = c.in_ok-keeper.ensures.keeps in
-    err_so c.step-outcome.result
-    (λ f fails. record {
+    err_was c.step-outcome.result
+    (λ f was fails. record {
       calls = opens_site c.args.folder.now c.args.sites.now c.args.site keeper ∷ ClosedSite after ∷ [];
       are = inr (record {
         keeper = keeper;
@@ -39,7 +39,7 @@ returns-clause-failed g c =
         opened = opened;
         after = after;
         broke = fails;
-        caused = λ device. c.step-outcome.ensures.cause device;
+        caused = λ device. c.step-outcome.ensures.cause (was ∙ ap Err device);
         lasts = c.step-outcome.ensures.stored opened.lasts;
         calls_are = refl;
       });

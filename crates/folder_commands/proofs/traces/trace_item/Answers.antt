@@ -1,15 +1,15 @@
-use Rattle.std.proofs.Common.{refl}
+use Rattle.std.proofs.Common.{refl, inl}
 use Rattle.epc_core.specs.Reading.{reading}
 use Rattle.event_json.specs.Sites.{named}
 use Rattle.folder_commands.specs.Calls.{IsPlain, AtSite, TracesItem}
 use Rattle.folder_commands.specs.Failing.{AtSiteFails}
 use Rattle.folder_commands.specs.FailingToAsk.{AskOfItemFails}
-use Rattle.folder_commands.proofs.AskingLemmas.{behind_list, failed_behind, led_so, list_failed}
+use Rattle.folder_commands.proofs.AskingLemmas.{behind_list, failed_behind, led_so}
 use Rattle.folder_commands.proofs.CallsInTurn.{handed_on}
 use Rattle.folder_commands.proofs.traces.trace_item.Goals as goal
 
 pub returns-in_err-sites-clause-failed : goal.returns-in_err-sites-clause-failed
-returns-in_err-sites-clause-failed g c = handed_on c.from_residual.result _ _ c.from_residual.ensures.1 (list_failed g.F.Files.does c.args.folder.now _ _ _ _ c.in_err-sites.ensures.failed)
+returns-in_err-sites-clause-failed g c = handed_on c.from_residual.result _ _ c.from_residual.ensures.1 (let fails = c.in_err-sites.ensures.failed in record { calls = fails.calls; are = inl fails.are; led = fails.led })
 
 pub returns-in_err-outcome-clause-failed : goal.returns-in_err-outcome-clause-failed
 returns-in_err-outcome-clause-failed g c =
