@@ -47,7 +47,7 @@ use Rattle.site_recovery.specs.declared.checking.Misfit.{Misfit}
 use Rattle.trace_core.specs.declared.pairs.Pair.{Pair}
 use Rattle.recall_outcomes.specs.Json.{audited_json, back_json, beside_json, detail_json, effects_json, engaged_json, known_json, leading_json, led_json, line_members, list_of, misfit_json, outcome_json, outside_json, pair_json, quarantined_json, ran_json, report_json, standing_json, status_json, step_members, trace_json, traced_json, trail_json, verdict_json, waiting_json, why_json, would_json}
 use Rattle.recall_outcomes.specs.Telling.{AuditedIsOf, BackTraceIsOf, DetailIsOf, EffectsAreOf, MessageIsOf, OutsideIsOf, PairIsOf, RecallIsOf, ReportIsOf, SomeIsOf, StandingIsOf, StepIsOf, TellsBack, TellsReport, TellsTrace, TellsTrails, TellsWhy, TraceIsOf, ValuesTell, ValuesTellKinds, ValuesTellOutcomes, VerdictIsOf, WaitingIsOf, WhyIsOf, kind_of}
-use Rattle.recall_outcomes.specs.Texts.{before_last}
+use Rattle.report_forms.specs.Steps.{before_last}
 use Rattle.recall_outcomes.specs.declared.outcomes.AuditedRecall.{AuditedRecall}
 use Rattle.recall_outcomes.specs.declared.outcomes.CommandRefusal.{CommandRefusal}
 use Rattle.recall_outcomes.specs.declared.outcomes.CommandRefusal.TheVariants as refusals
