@@ -111,7 +111,7 @@ asks_told words kind (asked.Files command form) has told = absurd told
 asks_told words kind (asked.Batch batch) has told = absurd told
 asks_told words kind (asked.Help text) has told =
     ⊎_elim (λ memory. absurd (memory_is_not_shown (subst IsShown memory told))) (λ among. (kind, told, among)) has
-asks_told words kind (asked.Mistake text) has told = ⊎_elim (λ memory. absurd (told.1 memory)) (λ among. (kind, among, told.0)) has
+asks_told words kind (asked.Mistake text) has told = ⊎_elim (λ memory. absurd (told.1 memory)) (λ among. inl (kind, among, told.0)) has
 
 -- a command that was met is asked for, where nothing is wrong with the words
 pub asks_named : (words : List (List ℕ)) (told_as : Asked) → faults_of words ≡ [] → AsksNamed (named words) told_as → AsksFor words told_as
