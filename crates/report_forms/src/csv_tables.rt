@@ -1,7 +1,7 @@
 //! A report and a trace as rows of comma-separated fields, for a spreadsheet.
 
-ghost use Rattle.std.specs.Prelude.{◌≡◌, ◌++◌, ◌<◌, [], IfOk, OnOk, length, map, option_map, string_bytes};
-ghost use Rattle.std.specs.Option.{option_map_or};
+ghost use Rattle.std.specs.Prelude.{◌≡◌, ◌++◌, ◌<◌, [], IfOk, OnOk, length, option_map, slice_get, string_bytes};
+ghost use Rattle.std.specs.Option.{option_and_then, option_map_or};
 ghost use Rattle.epc_core.specs.Items.{parted};
 ghost use Rattle.std.specs.List.{flat_map, list_any, zip};
 ghost use Rattle.csv.specs.Writing.{default_writer, escaped, needs_byte, needs_quotes, quoted};
@@ -114,17 +114,16 @@ fn push_held_pair(
 ) -> Result<(), AllocError>
     ensures { OnOk result (string_bytes text.new ≡ string_bytes text.old ++ held_line sites.now recall.now (pair.now, trail.now)) }
 {
+    push_pair(alloc, text, sites, recall, "held", pair, step_before(trail))
+}
+
+/// The step before the last one of a trail, where there are both.
+fn step_before(trail: &Option<Sequence<Pair>>) -> Option<&Pair>
+    ensures { option_map (λ p. p.now) result ≡ option_and_then before_last trail.now }
+{
     match trail {
-        None => push_pair(alloc, text, sites, recall, "held", pair, None),
-        Some(trail) => push_pair(
-            alloc,
-            text,
-            sites,
-            recall,
-            "held",
-            pair,
-            before_last(trail.as_slice()),
-        ),
+        None => None,
+        Some(trail) => before_last(trail.as_slice()),
     }
 }
 
@@ -183,7 +182,14 @@ fn push_leading_pair(
 ) -> Result<(), AllocError>
     ensures { OnOk result (string_bytes text.new ≡ string_bytes text.old ++ leading_line sites.now (pair.now, trail.now)) }
 {
-    push_pair(alloc, text, sites, "", "found", pair, trail.get(1))
+    push_pair(alloc, text, sites, "", "found", pair, step_behind(trail))
+}
+
+/// The step behind the first one of a trail, where there is one.
+fn step_behind(trail: &[Pair]) -> Option<&Pair>
+    ensures { option_map (λ p. p.now) result ≡ slice_get trail.now 1 }
+{
+    trail.get(1)
 }
 
 /// Adds a row for each pair that no pair is related to.
