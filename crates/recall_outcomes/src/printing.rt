@@ -12,7 +12,7 @@ use crate::causes::Failure;
 use crate::documents::{DocumentOutcome, Totals};
 use crate::fault_json::fault_json;
 use crate::faults::Fault;
-use crate::json::{
+use crate::outcome_json::{
     audited_json, created_json, document_json, effects_json, misfit_json, note_json, ran_json,
     report_json, totals_json, why_json,
 };

@@ -6,7 +6,7 @@ ghost use Rattle.serde_json.specs.Data.{member, no_members, object};
 ghost use Rattle.serde_json.specs.View.{view};
 ghost use Rattle.recall_outcomes.specs.Json.{back_json, beside_json, leading_json, led_json, list_of, pair_members, trace_json};
 
-use crate::json::{
+use crate::outcome_json::{
     beside_json, list_value, outsides_json, pair_json, pairs_json, quarantined_json, traced_json,
 };
 use crate::outcomes::Ways;

@@ -1,7 +1,7 @@
 use Rattle.std.proofs.Common.{◌≡◌, ◌≤◌, map, take}
 use Rattle.serde_json.specs.Data.{string}
 use Rattle.serde_json.specs.View.{view}
-use Rattle.recall_outcomes.proofs.json.names_json.Given as goal
+use Rattle.recall_outcomes.proofs.outcome_json.names_json.Given as goal
 
 -- the names so far
 abbrev pub invariant-loop-number : goal.invariant-loop-number

@@ -4,7 +4,7 @@ use Rattle.recall_text.specs.Words.{name_at}
 use Rattle.serde_json.specs.Data.{Data, string}
 use Rattle.serde_json.specs.View.{view}
 use Rattle.recall_outcomes.proofs.JsonLists.{names_more}
-use Rattle.recall_outcomes.proofs.json.names_json.Goals as goal
+use Rattle.recall_outcomes.proofs.outcome_json.names_json.Goals as goal
 
 pub loop-number-preserved : goal.loop-number-preserved
 loop-number-preserved c =
