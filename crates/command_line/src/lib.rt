@@ -3,6 +3,7 @@
 
 mod command_lines;
 mod commands;
+mod grammar;
 mod helps;
 mod statuses;
 

@@ -2,7 +2,7 @@ use Rattle.std.proofs.Common.{ap, ◌∙◌}
 use Rattle.std.proofs.lemmas.Result.{IfOk-weaker}
 use Rattle.clap.specs.Simple.{app_of_fields}
 use Rattle.command_line.proofs.Assembly.{adds_rule}
-use Rattle.command_line.proofs.command_lines.on_folder.Goals as goal
+use Rattle.command_line.proofs.grammar.on_folder.Goals as goal
 
 pub returns : goal.returns
 returns c =

@@ -4,7 +4,7 @@ use Rattle.clap.specs.Words.{app_of, new_app}
 use Rattle.clap.specs.Simple.{app_of_fields}
 use Rattle.command_line.specs.CommandLines.{needing, versioned}
 use Rattle.command_line.proofs.Assembly.{adds_command}
-use Rattle.command_line.proofs.command_lines.recall.Goals as goal
+use Rattle.command_line.proofs.grammar.recall.Goals as goal
 
 pub returns : goal.returns
 returns c =

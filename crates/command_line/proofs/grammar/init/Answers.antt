@@ -1,6 +1,6 @@
 use Rattle.std.proofs.lemmas.Result.{IfOk-weaker}
 use Rattle.command_line.proofs.Assembly.{adds_rule}
-use Rattle.command_line.proofs.command_lines.init.Goals as goal
+use Rattle.command_line.proofs.grammar.init.Goals as goal
 
 pub returns : goal.returns
 returns c =

@@ -1,0 +1,267 @@
+//! The commands of `recall` with their arguments and options, as `clap` reads them.
+
+ghost use Rattle.std.specs.Prelude.{◌≡◌, false, IfOk, codes};
+ghost use Rattle.clap.specs.Words.{app_of, new_rule, rule_of};
+ghost use Rattle.command_line.specs.CommandLines.{audit, capture, files, flag, folder, init, items, on_folder, recall, report, required, run, sim, start, status, trace, turns};
+
+use crate::helps;
+use clap::builder::ValueParser;
+use clap::{Arg, ArgAction, Command, value_parser};
+use std::alloc::{AllocError, Global};
+
+/// The command `recall`.
+pub(crate) fn recall<'a>(alloc: Global) -> Result<Command<'a>, AllocError>
+    ensures { IfOk result (λ command. app_of command ≡ recall) }
+{
+    let program = Command::new(alloc, "recall")
+        .bin_name("recall")?
+        .about(helps::ABOUT)
+        .version(helps::VERSION)
+        .after_help(helps::PAGE)
+        .subcommand_required(true)
+        .subcommand(sim(alloc))?
+        .subcommand(init(alloc)?)?
+        .subcommand(capture(alloc)?)?;
+    program
+        .subcommand(start(alloc)?)?
+        .subcommand(run(alloc)?)?
+        .subcommand(report(alloc)?)?
+        .subcommand(audit(alloc)?)?
+        .subcommand(trace(alloc)?)?
+        .subcommand(status(alloc)?)?
+        .subcommand(items(alloc)?)
+}
+
+/// An argument that has to be there.
+fn required<'a>(alloc: Global, name: &'a str, help: &'a str) -> Arg<'a>
+    ensures rule { rule_of result ≡ required name.entry.now }
+    ensures local { result.global ≡ false }
+{
+    Arg::new(alloc, name).required(true).help(help)
+}
+
+/// The folder. The empty word is none: it comes of a variable of the shell that isn't set, and `/sites` would be read.
+fn folder<'a>(alloc: Global) -> Arg<'a>
+    ensures rule { rule_of result ≡ folder }
+    ensures local { result.global ≡ false }
+{
+    required(alloc, "dir", "The folder of the sites' files").value_parser(
+        ValueParser::NonEmptyString,
+    )
+}
+
+/// A command on a folder.
+fn on_folder<'a>(
+    alloc: Global,
+    name: &'a str,
+    about: &'a str,
+    example: &'a str,
+) -> Result<Command<'a>, AllocError>
+    ensures { IfOk result (λ command. app_of command ≡ on_folder name.entry.now) }
+{
+    Command::new(alloc, name)
+        .about(about)
+        .after_help(example)
+        .arg(folder(alloc))?
+        .arg(json(alloc))
+}
+
+/// Whether what it comes to is printed as JSON.
+fn json<'a>(alloc: Global) -> Arg<'a>
+    ensures rule { rule_of result ≡ flag (codes "json") }
+    ensures local { result.global ≡ false }
+{
+    flag(alloc, "json", "Print JSON, an object a line")
+}
+
+/// An option without a value.
+fn flag<'a>(alloc: Global, name: &'a str, help: &'a str) -> Arg<'a>
+    ensures rule { rule_of result ≡ flag name.entry.now }
+    ensures local { result.global ≡ false }
+{
+    Arg::new(alloc, name)
+        .long(name)
+        .action(ArgAction::SetTrue)
+        .help(help)
+}
+
+/// An argument that may be left out.
+fn optional<'a>(alloc: Global, name: &'a str, help: &'a str) -> Arg<'a>
+    ensures rule { rule_of result ≡ new_rule name.entry.now }
+    ensures local { result.global ≡ false }
+{
+    Arg::new(alloc, name).help(help)
+}
+
+/// Whether a pair is told with the pair beside it on its trail, in place of all of it.
+fn brief<'a>(alloc: Global) -> Arg<'a>
+    ensures rule { rule_of result ≡ flag (codes "brief") }
+    ensures local { result.global ≡ false }
+{
+    flag(
+        alloc,
+        "brief",
+        "Tell of each pair the step beside it, not its whole trail",
+    )
+}
+
+/// Whether it is printed as rows.
+fn csv<'a>(alloc: Global) -> Arg<'a>
+    ensures rule { rule_of result ≡ flag (codes "csv") }
+    ensures local { result.global ≡ false }
+{
+    flag(
+        alloc,
+        "csv",
+        "Print rows of comma-separated fields, for a spreadsheet",
+    )
+}
+
+/// Whether it is printed as a picture.
+fn dot<'a>(alloc: Global) -> Arg<'a>
+    ensures rule { rule_of result ≡ flag (codes "dot") }
+    ensures local { result.global ≡ false }
+{
+    flag(alloc, "dot", "Print a picture of the spread for Graphviz")
+}
+
+fn sim<'a>(alloc: Global) -> Command<'a>
+    ensures { app_of result ≡ sim }
+{
+    Command::new(alloc, "sim")
+        .about(helps::SIM_ABOUT)
+        .after_help(helps::SIM_EXAMPLE)
+}
+
+fn init<'a>(alloc: Global) -> Result<Command<'a>, AllocError>
+    ensures { IfOk result (λ command. app_of command ≡ init) }
+{
+    on_folder(alloc, "init", helps::INIT_ABOUT, helps::INIT_EXAMPLE)?.arg(required(
+        alloc,
+        "sites",
+        "The file that lists the sites",
+    ))
+}
+
+fn capture<'a>(alloc: Global) -> Result<Command<'a>, AllocError>
+    ensures { IfOk result (λ command. app_of command ≡ capture) }
+{
+    on_folder(
+        alloc,
+        "capture",
+        helps::CAPTURE_ABOUT,
+        helps::CAPTURE_EXAMPLE,
+    )?
+    .arg(required(alloc, "site", "The site that captures them"))?
+    .arg(files(alloc))?
+    .arg(lines(alloc))
+}
+
+/// The files of the documents, one at least.
+fn files<'a>(alloc: Global) -> Arg<'a>
+    ensures rule { rule_of result ≡ files }
+    ensures local { result.global ≡ false }
+{
+    required(
+        alloc,
+        "file",
+        "The files of the documents; `-` is the standard input",
+    )
+    .action(ArgAction::Append)
+}
+
+/// Whether each line is a document.
+fn lines<'a>(alloc: Global) -> Arg<'a>
+    ensures rule { rule_of result ≡ flag (codes "lines") }
+    ensures local { result.global ≡ false }
+{
+    flag(alloc, "lines", "Each line of a file is a document")
+}
+
+fn start<'a>(alloc: Global) -> Result<Command<'a>, AllocError>
+    ensures { IfOk result (λ command. app_of command ≡ start) }
+{
+    on_folder(alloc, "start", helps::START_ABOUT, helps::START_EXAMPLE)?
+        .arg(required(alloc, "site", "The site that starts it"))?
+        .arg(required(alloc, "epc", "The EPC of the item"))?
+        .arg(flag(
+            alloc,
+            "dry-run",
+            "Tell what the start would do, and do nothing",
+        ))
+}
+
+fn run<'a>(alloc: Global) -> Result<Command<'a>, AllocError>
+    ensures { IfOk result (λ command. app_of command ≡ run) }
+{
+    on_folder(alloc, "run", helps::RUN_ABOUT, helps::RUN_EXAMPLE)?.arg(turns(alloc))
+}
+
+/// The number of turns that each site makes.
+fn turns<'a>(alloc: Global) -> Arg<'a>
+    ensures rule { rule_of result ≡ turns }
+    ensures local { result.global ≡ false }
+{
+    Arg::new(alloc, "turns")
+        .long("turns")
+        .value_name("n")
+        .value_parser(value_parser!(u64).range(1..=1_000_000))
+        .default_value("2000")
+        .help("The turns that each site makes, 1 to 1000000")
+}
+
+fn report<'a>(alloc: Global) -> Result<Command<'a>, AllocError>
+    ensures { IfOk result (λ command. app_of command ≡ report) }
+{
+    on_folder(alloc, "report", helps::REPORT_ABOUT, helps::REPORT_EXAMPLE)?
+        .arg(required(alloc, "recall", "The recall, as dairy#1"))?
+        .arg(brief(alloc))?
+        .arg(csv(alloc))?
+        .arg(dot(alloc))
+}
+
+fn audit<'a>(alloc: Global) -> Result<Command<'a>, AllocError>
+    ensures { IfOk result (λ command. app_of command ≡ audit) }
+{
+    on_folder(alloc, "audit", helps::AUDIT_ABOUT, helps::AUDIT_EXAMPLE)
+}
+
+fn trace<'a>(alloc: Global) -> Result<Command<'a>, AllocError>
+    ensures { IfOk result (λ command. app_of command ≡ trace) }
+{
+    on_folder(alloc, "trace", helps::TRACE_ABOUT, helps::TRACE_EXAMPLE)?
+        .arg(required(alloc, "site", "The site that has the item"))?
+        .arg(required(alloc, "epc", "The EPC of the item"))?
+        .arg(flag(alloc, "back", "Trace where it came from, not where it went"))?
+        .arg(brief(alloc))?
+        .arg(csv(alloc))?
+        .arg(dot(alloc))
+}
+
+fn status<'a>(alloc: Global) -> Result<Command<'a>, AllocError>
+    ensures { IfOk result (λ command. app_of command ≡ status) }
+{
+    on_folder(alloc, "status", helps::STATUS_ABOUT, helps::STATUS_EXAMPLE)?
+        .arg(optional(
+            alloc,
+            "recall",
+            "The recall, as dairy#1; all of them where it is left out",
+        ))?
+        .arg(flag(
+            alloc,
+            "exit-code",
+            "End with status 5 while a recall is open",
+        ))
+}
+
+fn items<'a>(alloc: Global) -> Result<Command<'a>, AllocError>
+    ensures { IfOk result (λ command. app_of command ≡ items) }
+{
+    on_folder(alloc, "items", helps::ITEMS_ABOUT, helps::ITEMS_EXAMPLE)?
+        .arg(required(alloc, "site", "The site"))?
+        .arg(optional(
+            alloc,
+            "text",
+            "What an item contains as it is printed, as the end of its serial",
+        ))
+}
