@@ -61,9 +61,9 @@ nothing_set : (name : Text) → IsSet [] name → ⊥
 nothing_set name is = cc
 
 no_forms : AsksTwoForms [] → ⊥
-no_forms (inl both) = nothing_set _ both.0
-no_forms (inr (inl both)) = nothing_set _ both.0
-no_forms (inr (inr both)) = nothing_set _ both.0
+no_forms (inl both) = nothing_set (codes "json") both.0
+no_forms (inr (inl both)) = nothing_set (codes "json") both.0
+no_forms (inr (inr both)) = nothing_set (codes "csv") both.0
 
 module _ (words : List (List ℕ)) (name : List ℕ) where
   pub sim_is_no_help : AsksHelp words → words ≡ name ∷ codes "sim" ∷ [] → ⊥

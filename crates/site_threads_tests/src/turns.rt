@@ -141,8 +141,9 @@ fn both_turn<K: SiteKeeper, G: Gate>(
     let first = turn_once(wire, one, job);
     let second = turn_once(wire, two, None);
     let all = (first.applied, second.applied) == came && (first.posted, second.posted) == went;
-    let short = first.lost + first.uncopied > 0 || second.lost + second.uncopied > 0;
-    all && !short
+    let lost = first.lost > 0 || second.lost > 0;
+    let uncopied = first.uncopied > 0 || second.uncopied > 0;
+    all && !lost && !uncopied
 }
 
 /// How many messages of others the site has seen.
@@ -174,15 +175,23 @@ fn take_rounds(
     let (a, b) = (first.me(), second.me());
     let mut one = SiteTurn::new(alloc, MemoryKeeper::new(first), FreeGate, mine, a);
     let mut two = SiteTurn::new(alloc, MemoryKeeper::new(second), FreeGate, theirs, b);
-    let _ = turn_once(wire, &mut one, both_ways(alloc, false));
-    let _ = turn_once(wire, &mut two, both_ways(alloc, true));
+    let captured = turn_once(wire, &mut one, both_ways(alloc, false));
+    let other = turn_once(wire, &mut two, both_ways(alloc, true));
+    let quiet = captured.posted == 0 && other.posted == 0;
     let begun = both_turn(wire, &mut one, &mut two, start(alloc), (0, 1), (1, 1));
     let signalled = both_turn(wire, &mut one, &mut two, None, (1, 1), (1, 0));
     let next = both_turn(wire, &mut one, &mut two, None, (0, 1), (1, 1));
     let seen = seen_by(&two.site.keeper);
     let again = both_turn(wire, &mut one, &mut two, None, (1, 1), (1, 1));
     let ended = both_turn(wire, &mut one, &mut two, None, (1, 0), (0, 0));
-    begun && signalled && next && seen == 2 && again && ended && has_ended(&one.site.keeper)
+    quiet
+        && begun
+        && signalled
+        && next
+        && seen == 2
+        && again
+        && ended
+        && has_ended(&one.site.keeper)
 }
 
 /// Makes the turns over a wire of their own.
