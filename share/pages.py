@@ -87,7 +87,7 @@ def bash(commands):
     lines = [
         "# Completions of recall for bash, made by share/pages.py.",
         "_recall() {",
-        '    local word=${COMP_WORDS[COMP_CWORD]} options= at',
+        '    local word=${COMP_WORDS[COMP_CWORD]} options=',
         '    if [ "$COMP_CWORD" = 1 ]; then',
         f'        COMPREPLY=($(compgen -W "{" ".join(commands)} help --help --version" -- "$word"))',
         "        return",
