@@ -1,6 +1,7 @@
 mod Answered
 mod Beginning
 mod Confirming
+mod Delivering
 mod Ending
 mod Gathering
 mod Handing

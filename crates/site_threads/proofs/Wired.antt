@@ -17,7 +17,7 @@ use Rattle.world_core.specs.Turns.{addressee}
 use Rattle.site_threads.specs.Inputs.{is_delivery}
 use Rattle.site_threads.specs.Jobs.{ComesTo, entry_of, is_stop, open_after, option_items}
 use Rattle.site_threads.specs.Offers.{IsFor}
-use Rattle.site_threads.specs.Passing.{AsksEach, Incoming, Outgoing, PassNothing, Rise, Notes, AreDelivered, EntersFrames, TakesFrames, IsSentBy, PostsFrames, incoming, others, outgoing, went_of}
+use Rattle.site_threads.specs.Passing.{AsksEach, Incoming, Outgoing, PassNothing, Rise, Notes, EntersFrames, TakesFrames, IsSentBy, PostsFrames, incoming, others, outgoing, went_of}
 use Rattle.site_threads.specs.Running.{Follows, Runs}
 use Rattle.site_threads.specs.Stamps.{stamp}
 use Rattle.site_threads.specs.declared.jobs.Entry.{Entry}
@@ -224,19 +224,6 @@ notes_more me a b c old mid new fs gs s t = record {
 
 -- What is entered of it.
 
-left_out : (xs : List Entry) (fs gs : List Frame) → AreDelivered xs gs → AreDelivered xs (fs ++ gs)
-left_out [] fs gs d = tt
-left_out (x ∷ xs) [] gs d = d
-left_out (x ∷ xs) (f ∷ fs) gs d = inr (left_out (x ∷ xs) fs gs d)
-
-delivered_more : (fs : List Frame) (xs ys : List Entry) (gs : List Frame) → AreDelivered xs fs → AreDelivered ys gs → AreDelivered (xs ++ ys) (fs ++ gs)
-delivered_more fs [] ys gs d e = left_out ys fs gs e
-delivered_more [] (x ∷ xs) ys gs d e = absurd d
-delivered_more (f ∷ fs) (x ∷ xs) ys gs d e = elim d [
-  | inl here ↦ inl (here.0, delivered_more fs xs ys gs here.1 e)
-  | inr later ↦ inr (delivered_more fs (x ∷ xs) ys gs later e)
-]
-
 comes_more : (before between after : Bool) (xs ys : List Entry) → ComesTo before xs between → ComesTo between ys after → ComesTo before (xs ++ ys) after
 comes_more before between after [] ys s t = subst (λ b. ComesTo b ys after) s t
 comes_more before between after (x ∷ xs) ys s t = (s.0, comes_more (not (is_stop x.reply)) between after xs ys s.1 t)
@@ -250,14 +237,13 @@ abbrev IsOfFrame : Entry → Type 0
 IsOfFrame x = IsTrue (is_delivery x.input)
 
 enters_none : (before : Bool) (took : List Frame) (xs : List Entry) → EntersFrames before before took xs xs 0 (length took)
-enters_none before took xs = record { frames = []; all = sym (append-nil xs); each = All-nil IsOfFrame; delivered = tt; many = refl; counts = omega arith; comes = refl }
+enters_none before took xs = record { frames = []; all = sym (append-nil xs); each = All-nil IsOfFrame; many = refl; counts = omega arith; comes = refl }
 
 enters_more : (before between after : Bool) (fs gs : List Frame) (xs ys zs : List Entry) (n m l k : ℕ) → EntersFrames before between fs xs ys n l → EntersFrames between after gs ys zs m k → EntersFrames before after (fs ++ gs) xs zs (n + m) (l + k)
 enters_more before between after fs gs xs ys zs n m l k s t = record {
   frames = s.frames ++ t.frames;
   all = t.all ∙ ap (λ l. l ++ t.frames) s.all ∙ append_assoc xs s.frames t.frames;
   each = All-append IsOfFrame s.frames t.frames s.each t.each;
-  delivered = delivered_more fs s.frames t.frames gs s.delivered t.delivered;
   many = length-append s.frames t.frames ∙ (λ i. s.many i + t.many i);
   counts = let all = length-append fs gs in let one = s.counts in let two = t.counts in omega (arith, all, one, two);
   comes = comes_more before between after s.frames t.frames s.comes t.comes;
@@ -268,7 +254,7 @@ module _ {E L : Type 0} (items : L → List Entry) (old new : L) (before after :
       → EntersFrames before after (f ∷ []) (items old) (items new) (cond (is_ok r) 1 0) (cond (is_ok r) 0 1)
   enters_one (Ok p) h stays back =
       let x : Entry = record { number = n; input = inputs.Deliver f; reply = p } in
-      record { frames = x ∷ []; all = h; each = All-cons IsOfFrame x [] refl (All-nil IsOfFrame); delivered = inl (refl, tt); many = refl; counts = refl; comes = (up, stays) }
+      record { frames = x ∷ []; all = h; each = All-cons IsOfFrame x [] refl (All-nil IsOfFrame); many = refl; counts = refl; comes = (up, stays) }
   enters_one (Err e) h stays back =
       subst (λ (b : Bool). EntersFrames before b (f ∷ []) (items old) (items new) 0 1) (sym back.1) (subst (λ l. EntersFrames before before (f ∷ []) (items old) (items l) 0 1) (sym back.0) (enters_none before (f ∷ []) (items old)))
 

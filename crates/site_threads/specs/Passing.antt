@@ -1,14 +1,18 @@
 -- The frames that a site takes from the wire and posts to it, and what those add to its list of steps.
-use Rattle.std.specs.Prelude.{◌≡◌, ◌≢◌, ◌⊎◌, ⊤, ℕ, ◌+◌, ◌-◌, ◌≤◌, nat_eq, fold, slice_index_or, Bool, true, false, not, if◌then◌else◌, List, [], ◌∷◌, ◌++◌, All, Contains, filter, flat_map, length, map, is_some, Option, Some, None}
+use Rattle.std.specs.Prelude.{◌≡◌, ◌≢◌, ◌⊎◌, ⊤, ℕ, ◌+◌, ◌-◌, ◌≤◌, nat_eq, fold, slice_index_or, Bool, true, false, not, if◌then◌else◌, List, [], ◌∷◌, ◌++◌, All, Contains, filter, flat_map, length, map, is_some, Option, Some, None, Result}
 use Rattle.std.specs.List.{range_with_len}
 use Rattle.frame_core.specs.Numbers.{Message}
 use Rattle.frame_core.specs.declared.frames.Frame.{Frame}
 use Rattle.site_core.specs.Emitting.{emittable}
 use Rattle.site_core.specs.Records.{Record}
-use Rattle.site_core.specs.declared.inputs.SiteInput.TheVariants as inputs
+use Rattle.keeper_core.specs.declared.faults.KeepFault.{KeepFault}
+use Rattle.keeper_core.specs.declared.faults.Unopened.{Unopened}
+use Rattle.site_core.specs.declared.inputs.SiteInput.{SiteInput}
+use Rattle.site_core.specs.declared.outcomes.Effects.{Effects}
 use Rattle.wire_core.specs.declared.views.Log.{Log}
 use Rattle.wire_core.specs.Frames.{sender}
 use Rattle.world_core.specs.Turns.{addressee}
+use Rattle.site_threads.specs.Answering.{Delivers, DoesJob, Opened}
 use Rattle.site_threads.specs.Jobs.{AreOfFrames, ComesTo, entry_of, open_after, option_items}
 use Rattle.site_threads.specs.Keepers.{shown_in}
 use Rattle.site_threads.specs.Offers.{behind, owed_by, owes, round_at, wish}
@@ -63,19 +67,12 @@ pub record AsksEach (me low high : ℕ) (before after : Bool) (took : List Frame
   pub none : before ≡ false → (end ≡ low) × (took ≡ [])
   pub stopped : before ≡ true → after ≡ false → (earlier : List Frame) × (f : Frame) × (took ≡ earlier ++ f ∷ []) × (sender f + 1 ≡ end)
 
--- each step delivers one of the frames, in their order; some may be left out
-abbrev pub AreDelivered : List Entry → List Frame → Type 0
-AreDelivered [] frames = ⊤
-AreDelivered (x ∷ xs) [] = ⊥
-AreDelivered (x ∷ xs) (f ∷ fs) = ((x.input ≡ inputs.Deliver f) × AreDelivered xs fs) ⊎ AreDelivered (x ∷ xs) fs
-
--- so many steps came, each by one of these frames, and so many of the frames were lost; before the steps the list is the
+-- so many steps came, each of a frame, and so many of the frames were lost; before the steps the list is the
 -- same; whether the site was open before them, and is afterwards
 pub record EntersFrames (before after : Bool) (took : List Frame) (old new : List Entry) (count lost : ℕ) : Type 0 where
   pub frames : List Entry
   pub all : new ≡ old ++ frames
   pub each : AreOfFrames frames
-  pub delivered : AreDelivered frames took
   pub many : length frames ≡ count
   pub counts : length took ≡ count + lost
   pub comes : ComesTo before frames after
@@ -150,6 +147,12 @@ module _ {K : Type 0} (shown : K → Option Record) where
   abbrev pub TakesAfterJob : ℕ → Site K → Site K → TurnReport → Type 0
   TakesAfterJob sites old new report =
       TakesFrames old.me 0 sites (incoming old.seat.logs) (incoming new.seat.logs) (open_after report.receipt) (is_some (shown_in shown new.keeper)) (old.entries.items ++ map entry_of (option_items report.receipt)) new.entries.items report.applied report.lost
+
+  -- the keeper is open, or is opened again; it does the job, if the site was given one; and then the frames are delivered
+  abbrev pub AnswersInTurn : (K → Record → Type 0) → (K → SiteInput → Result Effects KeepFault → K → Type 0) → (K → Result K (Unopened K) → Type 0) → Site K → Site K → TurnReport → Type 0
+  AnswersInTurn may applies reopens old new report =
+      (begun : Option K) × (left : Option K) × Opened shown reopens old.keeper begun × DoesJob shown may applies begun report.receipt left
+      × Delivers shown may applies left new.keeper (incoming old.seat.logs).noted (incoming new.seat.logs).noted (old.entries.items ++ map entry_of (option_items report.receipt)) new.entries.items
 
   -- and then it posts frames, by those that it took
   abbrev pub PostsAfterTaking : ℕ → Site K → Site K → TurnReport → Type 0

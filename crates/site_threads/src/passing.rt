@@ -6,6 +6,7 @@ ghost use Rattle.scholten_core.specs.Engagement.{Engagement};
 ghost use Rattle.site_core.specs.declared.inputs.SiteInput.TheVariants.{Deliver};
 ghost use Rattle.wire_core.specs.Answers.{MatchPost};
 ghost use Rattle.wire_core.specs.Seats.{IsSeatOf};
+ghost use Rattle.site_threads.specs.Answering.{Delivers};
 ghost use Rattle.site_threads.specs.Keepers.{shown_in};
 ghost use Rattle.site_threads.specs.Offers.{IsFor, IsRound, message_of, next_to, offer_of, owed_by};
 ghost use Rattle.site_threads.specs.Passing.{EntersFrames, OwesFor, PassNothing, PostsToEach, TakesOfEach, incoming, outgoing, owed_in};
@@ -68,6 +69,7 @@ impl<K: SiteKeeper> Site<K> {
         ensures same { Continues K.stored 1 wire.now self.old self.new }
         ensures frames { TakesOfEach K.shown other (other + 1) self.old self.new result.entered result.lost }
         ensures sent { outgoing self.new.seat.logs ≡ outgoing self.old.seat.logs }
+        ensures delivered { Delivers K.shown K.may K.applies self.old.keeper self.new.keeper (incoming self.old.seat.logs).noted (incoming self.new.seat.logs).noted self.old.entries.items self.new.entries.items }
         ensures rounds { self.new.rounds ≡ self.old.rounds }
         ensures owed { OwesFor (incoming self.old.seat.logs).noted (incoming self.new.seat.logs).noted self.old.owed self.new.owed }
         ensures room { (vec_capacity self.old.entries ≤ vec_capacity self.new.entries) × (vec_len self.new.entries ≤ vec_len self.old.entries + 1) }
@@ -102,6 +104,7 @@ impl<K: SiteKeeper> Site<K> {
         ensures owed { self.new.owed ≡ self.old.owed }
         ensures frames { EntersFrames (is_some (shown_in K.shown self.old.keeper)) (is_some (shown_in K.shown self.new.keeper)) (frame ∷ []) self.old.entries.items self.new.entries.items result.entered result.lost }
         ensures passes { PassNothing self.old.seat.logs self.new.seat.logs }
+        ensures delivered { (noted : List Frame) (came : List Frame) → came ≡ noted ++ frame ∷ [] → Delivers K.shown K.may K.applies self.old.keeper self.new.keeper noted came self.old.entries.items self.new.entries.items }
         ensures rounds { self.new.rounds ≡ self.old.rounds }
         ensures room { (vec_capacity self.old.entries ≤ vec_capacity self.new.entries) × (vec_len self.new.entries ≤ vec_len self.old.entries + 1) }
         ensures count { result.entered + result.lost ≤ 1 }
@@ -160,6 +163,7 @@ impl<K: SiteKeeper> Site<K> {
         ensures same { Continues K.stored 1 wire.now self.old self.new }
         ensures frames { TakesOfEach K.shown number (number + 1) self.old self.new result.entered result.lost }
         ensures sent { outgoing self.new.seat.logs ≡ outgoing self.old.seat.logs }
+        ensures delivered { Delivers K.shown K.may K.applies self.old.keeper self.new.keeper (incoming self.old.seat.logs).noted (incoming self.new.seat.logs).noted self.old.entries.items self.new.entries.items }
         ensures rounds { self.new.rounds ≡ self.old.rounds }
         ensures owed { OwesFor (incoming self.old.seat.logs).noted (incoming self.new.seat.logs).noted self.old.owed self.new.owed }
         ensures room { (vec_capacity self.old.entries ≤ vec_capacity self.new.entries) × (vec_len self.new.entries ≤ vec_len self.old.entries + 1) }
@@ -209,6 +213,7 @@ impl<K: SiteKeeper> Site<K> {
         ensures same { Continues K.stored MAX_SITES wire.now self.old self.new }
         ensures frames { TakesOfEach K.shown 0 wire.now.sites self.old self.new result.entered result.lost }
         ensures sent { outgoing self.new.seat.logs ≡ outgoing self.old.seat.logs }
+        ensures delivered { Delivers K.shown K.may K.applies self.old.keeper self.new.keeper (incoming self.old.seat.logs).noted (incoming self.new.seat.logs).noted self.old.entries.items self.new.entries.items }
         ensures rounds { self.new.rounds ≡ self.old.rounds }
         ensures owed { (took : List Frame) → (incoming self.new.seat.logs).noted ≡ (incoming self.old.seat.logs).noted ++ took
             → (to : ℕ) → owed_in self.new to ≡ owed_by took to }

@@ -1,9 +1,10 @@
 //! One running site: opening it again, and a step of it.
-ghost use Rattle.std.specs.Prelude.{◌≡◌, ◌≢◌, ◌+◌, ◌^◌, ◌<◌, ◌≤◌, [], ◌∷◌, ◌++◌, Some, None, IfOk, IfErr, IfSome, IsSome, is_some, not, map, option_map, vec_len, vec_capacity};
+ghost use Rattle.std.specs.Prelude.{◌≡◌, ◌≢◌, ◌+◌, ◌^◌, ◌<◌, ◌≤◌, [], ◌∷◌, ◌++◌, Some, None, Err, IfOk, IfErr, IfSome, IsSome, is_some, not, map, option_map, vec_len, vec_capacity};
 ghost use Rattle.keeper_core.specs.Keeping.{Applies, HindersOpening};
 ghost use Rattle.site_core.specs.Records.{Record};
+ghost use Rattle.site_core.specs.Steps.{CopiesRecord};
 ghost use Rattle.wire_core.specs.Seats.{IsSeatOf};
-ghost use Rattle.site_threads.specs.Answering.{Opened, Told};
+ghost use Rattle.site_threads.specs.Answering.{DoesJob, IsShort, Opened, Told};
 ghost use Rattle.site_threads.specs.Inputs.{input_of};
 ghost use Rattle.site_threads.specs.Jobs.{entry_of, is_stop, open_after, option_items};
 ghost use Rattle.site_threads.specs.Keepers.{shown_in, may_in};
@@ -117,6 +118,7 @@ impl<K: SiteKeeper> Site<K> {
         ensures owed { self.new.owed ≡ self.old.owed }
         ensures room { (vec_capacity self.old.entries ≤ vec_capacity self.new.entries) × (vec_len self.new.entries ≤ vec_len self.old.entries + 1) }
         ensures back { IfErr result (λ back. (back ≡ asked) × (self.new.entries ≡ self.old.entries) × (shown_in K.shown self.new.keeper ≡ shown_in K.shown self.old.keeper)) }
+        ensures short { IfErr result (λ _. IsShort K.shown K.may K.applies self.old.keeper input self.new.keeper) }
     {
         let frame = is_delivery(&input);
         let Some(reply) = answered(apply_to(&mut self.keeper, input), frame) else {
@@ -154,7 +156,7 @@ impl<K: SiteKeeper> Site<K> {
         ensures same { Continues K.stored 1 wire.now self.old self.new }
         ensures job { IfOk result (λ receipt. (option_map (λ x. x.job) receipt ≡ option_map (λ x. x.job) ready) × IfSome receipt (λ x. x.site ≡ self.old.me)) }
         ensures entered { IfOk result (λ receipt. self.new.entries.items ≡ self.old.entries.items ++ map entry_of (option_items receipt)) }
-        ensures told { IfOk result (λ receipt. IfSome receipt (λ x. Told K.shown K.may K.applies self.old.keeper (input_of x.job) x.reply self.new.keeper)) }
+        ensures told { IfOk result (λ receipt. DoesJob K.shown K.may K.applies self.old.keeper receipt self.new.keeper) }
         ensures stopped { IfOk result (λ receipt. is_some (shown_in K.shown self.new.keeper) ≡ open_after receipt) }
         ensures passes { PassNothing self.old.seat.logs self.new.seat.logs }
         ensures rounds { self.new.rounds ≡ self.old.rounds }
@@ -217,6 +219,7 @@ fn apply_to<K: SiteKeeper>(keeper: &mut Option<K>, input: SiteInput) -> Result<E
     requires { IsSome (shown_in K.shown keeper.old) }
     ensures step { (old : Record) → shown_in K.shown keeper.old ≡ Some old → Applies old input result (shown_in K.shown keeper.new) (may_in K.may keeper.new) }
     ensures asked { (k : K) → keeper.old ≡ Some k → (left : K) × (keeper.new ≡ Some left) × K.applies k input result left }
+    ensures memory { (r : Record) → shown_in K.shown keeper.old ≡ Some r → result ≡ Err KeepFault.NoMemory → CopiesRecord r input }
     ensures there { IsSome keeper.new }
     ensures stored { IfSome keeper.old K.stored → IfSome keeper.new K.stored }
 {

@@ -1,12 +1,11 @@
 //! One turn of a site.
-ghost use Rattle.std.specs.Prelude.{◌≡◌, ◌≢◌, ◌+◌, ◌-◌, ◌++◌, ◌^◌, ◌<◌, ◌≤◌, [], Some, None, IfOk, IfErr, IfSome, IsSome, Option, OnOk, min, option_map, vec_len, vec_capacity};
+ghost use Rattle.std.specs.Prelude.{◌≡◌, ◌≢◌, ◌+◌, ◌-◌, ◌++◌, ◌^◌, ◌<◌, ◌≤◌, [], Some, None, IfOk, IfErr, IfSome, IsSome, Option, OnOk, map, min, option_map, vec_len, vec_capacity};
 ghost use Rattle.site_core.specs.Records.{Record};
 ghost use Rattle.wire_core.specs.Seats.{IsSeatOf};
-ghost use Rattle.site_threads.specs.Answering.{DidJob, Opened, Told};
-ghost use Rattle.site_threads.specs.Inputs.{input_of};
-ghost use Rattle.site_threads.specs.Jobs.{jobs_in, option_items};
+ghost use Rattle.site_threads.specs.Answering.{Delivers, DoesJob, Opened};
+ghost use Rattle.site_threads.specs.Jobs.{entry_of, jobs_in, option_items};
 ghost use Rattle.site_threads.specs.Keepers.{shown_in};
-ghost use Rattle.site_threads.specs.Passing.{PassNothing, PostsAfterTaking, TakesAfterJob};
+ghost use Rattle.site_threads.specs.Passing.{AnswersInTurn, PassNothing, PostsAfterTaking, TakesAfterJob, incoming};
 ghost use Rattle.site_threads.specs.Running.{marks_in};
 ghost use Rattle.site_threads.specs.Sites.{IsSite, Continues};
 ghost use Rattle.site_threads.specs.Starting.{IsLastMarked};
@@ -131,7 +130,7 @@ impl<K: SiteKeeper, G: Gate> SiteTurn<K, G> {
         ensures job { IfOk result (λ report. (option_map (λ x. x.job) report.receipt ≡ job) × IfSome report.receipt (λ x. x.site ≡ self.old.site.me)) }
         ensures entered { IfOk result (TakesAfterJob K.shown wire.now.sites self.old.site self.new.site) }
         ensures sent { IfOk result (PostsAfterTaking K.shown wire.now.sites self.old.site self.new.site) }
-        ensures did { IfOk result (λ report. IfSome report.receipt (DidJob K.shown K.may K.applies K.reopens self.old.site.keeper)) }
+        ensures answers { IfOk result (AnswersInTurn K.shown K.may K.applies K.reopens self.old.site self.new.site) }
         ensures jobs { IfOk result (λ report. jobs_in self.new.site.entries.items ≡ jobs_in self.old.site.entries.items ++ option_items job) }
         ensures posted { IfOk result (λ report. report.posted + report.uncopied ≤ wire.now.sites) }
         ensures back { IfErr result (λ fault. (fault.job ≡ job) × (self.new.site.entries.items ≡ self.old.site.entries.items) × PassNothing self.old.site.seat.logs self.new.site.seat.logs) }
@@ -196,7 +195,8 @@ impl<K: SiteKeeper, G: Gate> SiteTurn<K, G> {
         ensures job { IfOk result (λ report. (option_map (λ x. x.job) report.receipt ≡ option_map (λ x. x.job) ready) × IfSome report.receipt (λ x. x.site ≡ self.old.site.me)) }
         ensures entered { IfOk result (TakesAfterJob K.shown wire.now.sites self.old.site self.new.site) }
         ensures sent { IfOk result (PostsAfterTaking K.shown wire.now.sites self.old.site self.new.site) }
-        ensures did { IfOk result (λ report. IfSome report.receipt (λ x. (left : Option K) × Told K.shown K.may K.applies self.old.site.keeper (input_of x.job) x.reply left)) }
+        ensures answers { IfOk result (λ report. (left : Option K) × DoesJob K.shown K.may K.applies self.old.site.keeper report.receipt left
+            × Delivers K.shown K.may K.applies left self.new.site.keeper (incoming self.old.site.seat.logs).noted (incoming self.new.site.seat.logs).noted (self.old.site.entries.items ++ map entry_of (option_items report.receipt)) self.new.site.entries.items) }
         ensures posted { IfOk result (λ report. report.posted + report.uncopied ≤ wire.now.sites) }
         ensures back { IfErr result (λ fault. (fault.job ≡ option_map (λ x. x.job) ready) × (self.new.site.entries ≡ self.old.site.entries) × PassNothing self.old.site.seat.logs self.new.site.seat.logs × (fault.cause ≡ TurnCause.NoMemory) × (shown_in K.shown self.new.site.keeper ≡ shown_in K.shown self.old.site.keeper)) }
     {

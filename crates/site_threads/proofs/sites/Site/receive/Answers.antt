@@ -4,6 +4,7 @@ use Rattle.site_threads.specs.Keepers.{shown_in}
 use Rattle.site_threads.specs.Offers.{message_of}
 use Rattle.site_threads.specs.Passing.{Incoming, OwesFor, incoming}
 use Rattle.site_threads.proofs.Passed.{asked_runs, may_take, noted_runs, taken_delivers}
+use Rattle.site_threads.proofs.Delivering.{delivers_none}
 use Rattle.site_threads.proofs.Owing.{owes_none, owes_one}
 use Rattle.site_threads.proofs.Rounding.{changed_rounds}
 use Rattle.site_threads.proofs.Wired.{asked_one, noted_one, takes_closed, takes_in_vain, takes_one}
@@ -68,3 +69,17 @@ returns-clause-owed g c =
     let owed : c.enter.new.self.owed ≡ set s.owed c.args.other (message_of c.in-Some.frame) = c.enter.ensures.owed ∙ (λ i. set s.owed (c.number.ensures.value i) (c.message_of.ensures i)) in
     subst (λ o. OwesFor (incoming s.seat.logs).noted (incoming c.enter.new.self.seat.logs).noted s.owed o) (sym owed)
     (owes_one _ _ s.owed c.in-Some.frame c.args.other (ap (λ (n : Incoming). n.noted) c.enter.ensures.passes.0 ∙ one.0) a.1 (subst (λ k. k < length s.owed) c.number.ensures.value there))
+
+pub returns-then-is_none-clause-delivered : goal.returns-then-is_none-clause-delivered
+returns-then-is_none-clause-delivered g c = delivers_none g.K.SiteKeeper.shown g.K.SiteKeeper.may g.K.SiteKeeper.applies _ _ _ _ _ _ refl refl refl
+
+pub returns-in_default-clause-delivered : goal.returns-in_default-clause-delivered
+returns-in_default-clause-delivered g c =
+    let h = c.requires.site.runs in
+    delivers_none g.K.SiteKeeper.shown g.K.SiteKeeper.may g.K.SiteKeeper.applies _ _ _ _ _ _ refl (asked_one h.log _ _ _ h.alone h.own.site c.args.other c.in_default.ensures.answer.0).0 refl
+
+pub returns-clause-delivered : goal.returns-clause-delivered
+returns-clause-delivered g c =
+    let h = c.requires.site.runs in
+    let one = noted_one h.log _ _ _ h.alone h.own.site c.args.other c.in-Some.frame c.in-Some.ensures.answer.0 in
+    c.enter.ensures.delivered _ _ (ap (λ (i : Incoming). i.noted) c.enter.ensures.passes.0 ∙ one.0)

@@ -1,4 +1,5 @@
 use Rattle.std.proofs.Common.{◌∙◌, refl, arith}
+use Rattle.site_threads.proofs.Delivering.{delivers_more, delivers_none}
 use Rattle.site_threads.proofs.Owing.{owed_begins, owed_goes_on}
 use Rattle.site_threads.proofs.Wired.{takes_at_none, takes_more, takes_as}
 use Rattle.site_threads.proofs.sites.Site.receive_all.Goals as goal
@@ -13,6 +14,7 @@ loop-number-init g c =
       sent = refl;
       rounds = refl;
       owed = owed_begins _ _ _ refl c.nothing_owed-self.ensures;
+      delivered = delivers_none g.K.SiteKeeper.shown g.K.SiteKeeper.may g.K.SiteKeeper.applies _ _ _ _ _ _ refl refl refl;
       room = omega (arith, room);
       count = omega arith;
     }
@@ -34,6 +36,7 @@ loop-number-preserved g c =
       sent = t.sent ∙ i.sent;
       rounds = t.rounds ∙ i.rounds;
       owed = owed_goes_on _ _ _ i.frames.took t.frames.took _ _ i.frames.notes.noted t.frames.notes.noted i.owed t.owed;
+      delivered = delivers_more g.K.SiteKeeper.shown g.K.SiteKeeper.may g.K.SiteKeeper.applies _ _ _ _ _ _ _ _ _ i.delivered t.delivered;
       room = omega (arith, room, more);
       count = omega (arith, one, sum);
     }

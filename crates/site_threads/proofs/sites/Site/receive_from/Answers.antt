@@ -2,6 +2,7 @@ use Rattle.std.proofs.Common.{◌≡◌, ◌+◌, is_some, refl, sym, ◌∙◌,
 use Rattle.std.proofs.lemmas.Bool.{eqb-true}
 use Rattle.site_threads.specs.Keepers.{shown_in}
 use Rattle.site_threads.specs.Passing.{TakesFrames, incoming}
+use Rattle.site_threads.proofs.Delivering.{delivers_none}
 use Rattle.site_threads.proofs.Owing.{owes_none}
 use Rattle.site_threads.proofs.Wired.{takes_itself}
 use Rattle.site_threads.proofs.sites.Site.receive_from.Goals as goal
@@ -15,3 +16,6 @@ returns-then-eq-clause-frames g c =
 
 pub returns-then-eq-clause-owed : goal.returns-then-eq-clause-owed
 returns-then-eq-clause-owed g c = owes_none _ _ c.args.self.now.owed refl
+
+pub returns-then-eq-clause-delivered : goal.returns-then-eq-clause-delivered
+returns-then-eq-clause-delivered g c = delivers_none g.K.SiteKeeper.shown g.K.SiteKeeper.may g.K.SiteKeeper.applies _ _ _ _ _ _ refl refl refl

@@ -6,6 +6,7 @@ use Rattle.site_threads.specs.Jobs.{reply_to}
 use Rattle.site_threads.specs.Keepers.{shown_in, may_in}
 use Rattle.site_threads.specs.Running.{MayDeliver, MayFollow}
 use Rattle.site_threads.proofs.Answered.{told_so, stays_open}
+use Rattle.site_threads.proofs.Delivering.{is_short}
 use Rattle.site_threads.proofs.Rounding.{may_follow_rounds}
 use Rattle.site_threads.proofs.Wired.{may_follow_pass}
 use Rattle.site_threads.proofs.Taking.{no_memory, may_follow, took_in}
@@ -59,3 +60,7 @@ returns-clause-stopped g c =
 
 pub returns-clause-passes : goal.returns-clause-passes
 returns-clause-passes g c = let h = c.requires.site.runs in may_follow_pass _ h.log c.args.self.now.seat.logs c.follow_shown-self.new.seat.logs _ _ h.alone c.follow_shown-self.ensures.follows
+
+pub returns-in_default-clause-short : goal.returns-in_default-clause-short
+returns-in_default-clause-short g c =
+    is_short g.K.SiteKeeper.shown g.K.SiteKeeper.may g.K.SiteKeeper.applies c.args.self.now.keeper c.apply_to.new.keeper c.args.input c.apply_to.result c.is_delivery-frame.result c.requires.open c.apply_to.ensures.asked c.apply_to.ensures.memory (sym c.in_default.is ∙ c.answered.ensures)

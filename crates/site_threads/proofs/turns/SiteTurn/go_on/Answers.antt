@@ -4,6 +4,7 @@ use Rattle.site_threads.specs.Offers.{owed_by}
 use Rattle.site_threads.specs.Keepers.{shown_in}
 use Rattle.std.specs.Prelude.{is_some}
 use Rattle.site_threads.proofs.Wired.{takes_as}
+use Rattle.site_threads.proofs.Delivering.{delivers_as}
 use Rattle.site_threads.proofs.Posting.{posts_as, same_owed, same_places}
 use Rattle.site_threads.proofs.turns.SiteTurn.go_on.Goals as goal
 
@@ -21,3 +22,13 @@ returns-in-Ok-clause-sent g c took is =
     let sent = c.send_all-given.ensures in
     let came = sym (ap (λ (n : Incoming). n.noted) sent.noted) ∙ is ∙ ap (λ (n : Incoming). n.noted ++ took) (sym job.passes.0) in
     posts_as _ _ _ _ _ _ _ _ _ _ _ _ _ _ _ _ (taken.same.me ∙ job.same.me) refl (same_owed (owed_in c.receive_all-received.new.self) (owed_by took) (taken.owed took came)) (taken.sent ∙ job.passes.1) (same_places _ _ (taken.rounds ∙ job.rounds)) sent.posted
+
+pub returns-in-Ok-clause-answers : goal.returns-in-Ok-clause-answers
+returns-in-Ok-clause-answers g c =
+    let K = g.K.SiteKeeper in
+    let job = c.do_job.ensures in
+    let sent = c.send_all-given.ensures in (
+      c.do_job.new.self.keeper,
+      c.in-Ok.ensures.told,
+      delivers_as K.shown K.may K.applies _ _ _ _ _ _ _ _ _ _ _ _ refl (sym sent.entries.1) (ap (λ (n : Incoming). n.noted) job.passes.0) (sym (ap (λ (n : Incoming). n.noted) sent.noted)) c.in-Ok.ensures.entered (sym (ap (λ v. v.items) sent.entries.0)) c.receive_all-received.ensures.delivered,
+    )

@@ -2,6 +2,7 @@ use Rattle.std.proofs.Common.{ap, ◌∙◌}
 use Rattle.site_threads.specs.Passing.{Incoming}
 use Rattle.site_threads.proofs.Passed.{other_entries, jobs_done}
 use Rattle.site_threads.proofs.Wired.{turn_takes}
+use Rattle.site_threads.proofs.Delivering.{turn_answers}
 use Rattle.site_threads.proofs.Posting.{same_places, turn_posts}
 use Rattle.site_threads.proofs.turns.SiteTurn.turn.Goals as goal
 
@@ -24,3 +25,8 @@ returns-in-Ok-clause-entered g c =
 pub returns-in-Ok-clause-sent : goal.returns-in-Ok-clause-sent
 returns-in-Ok-clause-sent g c =
     turn_posts c.go_on.result _ _ _ _ _ _ _ _ _ _ _ _ _ c.begin.ensures.same.me (ap (λ (n : Incoming). n.noted) c.begin.ensures.passes.0) c.begin.ensures.passes.1 (same_places _ _ c.begin.ensures.rounds) c.go_on.ensures.sent
+
+pub returns-in-Ok-clause-answers : goal.returns-in-Ok-clause-answers
+returns-in-Ok-clause-answers g c =
+    let K = g.K.SiteKeeper in
+    turn_answers K.shown K.may K.applies K.reopens c.go_on.result _ _ _ _ _ _ _ _ _ c.in_default.ensures.opened (ap (λ (n : Incoming). n.noted) c.begin.ensures.passes.0) (c.reserve.ensures.items ∙ ap (λ v. v.items) c.begin.ensures.entries) c.go_on.ensures.answers
