@@ -21,7 +21,7 @@ use Rattle.site_core.specs.declared.outcomes.Effects.TheVariants as effects
 use Rattle.site_core.specs.declared.outcomes.Refusal.TheVariants as steps
 use Rattle.trace_core.specs.declared.pairs.Pair.{Pair}
 use Rattle.recall_outcomes.specs.Json.{audited_json, back_json, beside_json, created_json, detail_json, document_json, effects_json, engaged_json, fault_json, leading_json, led_json, list_of, outside_json, pair_json, quarantined_json, report_json, standing_json, status_json, trace_json, traced_json, trail_json, verdict_json, waiting_json, why_json}
-use Rattle.recall_outcomes.specs.Texts.{before_last}
+use Rattle.report_forms.specs.Steps.{before_last}
 use Rattle.recall_outcomes.specs.declared.documents.DocumentOutcome.{DocumentOutcome}
 use Rattle.recall_outcomes.specs.declared.documents.DocumentOutcome.TheVariants.{Captured, Refused}
 use Rattle.recall_outcomes.specs.declared.faults.Failure.{Failure}

@@ -1,5 +1,5 @@
 -- What a command came to, in lines of words.
-use Rattle.std.specs.Prelude.{ℕ, zero, suc, Bool, true, false, List, [], ◌∷◌, ◌++◌, codes, Option, Some, None, length, slice_get, string_bytes}
+use Rattle.std.specs.Prelude.{ℕ, Bool, true, false, List, [], ◌∷◌, ◌++◌, codes, Option, Some, None, length, slice_get, string_bytes}
 use Rattle.std.specs.Fmt.{decimal}
 use Rattle.std.specs.List.{enumerate_from, flat_map, zip}
 use Rattle.event_json.specs.Sites.{Site}
@@ -17,6 +17,7 @@ use Rattle.report_core.specs.declared.traces.BackTrace.{BackTrace}
 use Rattle.report_core.specs.declared.traces.Trace.{Trace}
 use Rattle.recall_text.specs.SiteLists.{refused_line_words}
 use Rattle.recall_text.specs.Words.{name_at, recall_text, message_text, ended_word, effects_text, pair_text, refusal_text}
+use Rattle.report_forms.specs.Steps.{before_last}
 use Rattle.site_recovery.specs.declared.checking.Misfit.{Misfit}
 use Rattle.trace_core.specs.declared.pairs.Pair.{Pair}
 use Rattle.recall_outcomes.specs.declared.outcomes.AuditedRecall.{AuditedRecall}
@@ -43,14 +44,6 @@ head_text sites r root ended = codes "recall " ++ recall_text sites r ++ codes "
 -- an item at a site
 abbrev pub item_text : List Site → Pair → List ℕ
 item_text sites p = name_at sites p.site ++ 32 ∷ (p.item ++ 10 ∷ [])
-
--- the pair before the last one of a trail, where there is one
-abbrev pub before_last : List Pair → Option Pair
-before_last trail = at_place (length trail) where
-  at_place : ℕ → Option Pair
-  at_place zero = None
-  at_place (suc zero) = None
-  at_place (suc (suc n)) = slice_get trail n
 
 -- a pair on a trail, with its place there
 abbrev pub step_text : List Site → ℕ × Pair → List ℕ

@@ -4,13 +4,12 @@ ghost use Rattle.std.specs.Prelude.{◌≡◌, Some, IfOk, codes, map, option_an
 ghost use Rattle.std.specs.List.{zip};
 ghost use Rattle.serde_json.specs.Data.{array, member, no_members, object, string};
 ghost use Rattle.serde_json.specs.View.{items_of, view};
-ghost use Rattle.recall_outcomes.specs.Texts.{before_last};
+ghost use Rattle.report_forms.specs.Steps.{before_last};
 ghost use Rattle.recall_outcomes.specs.Json.{audited_json, beside_json, blocked_members, captured_members, created_json, differs_json, doc_members, document_json, effects_json, fault_json, fault_members, line_members, list_of, misfit_json, note_json, outside_json, pair_json, pair_members, quarantined_json, ran_json, refused, report_json, step_members, totals_json, traced_json, trail_json, why_json};
 
 use crate::documents::{DocumentOutcome, Totals};
 use crate::faults::{Failure, Fault};
 use crate::outcomes::{AuditedRecall, CommandRefusal, StartedRecall, Ways};
-use crate::report_texts::before_last;
 use epc_core::Epc;
 use event_json::{DocFault, Sequence, SiteNo, Sites};
 use frame_core::RecallId;
@@ -18,6 +17,7 @@ use recall_text::telling::{name_of, recall_text};
 use recall_text::texts::message_text;
 use recall_text::{LineRefusal, RefusedLine};
 use report_core::{OutsideShipment, RecallReport, Verdict};
+use report_forms::before_last;
 use serde_json::{Value, json};
 use site_core::{Effects, Refusal};
 use site_recovery::Misfit;

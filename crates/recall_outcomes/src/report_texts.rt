@@ -2,7 +2,7 @@
 //! sites.
 
 ghost use Rattle.std.specs.Prelude.{◌≡◌, ◌++◌, IfOk, OnOk, option_map, string_bytes};
-ghost use Rattle.recall_outcomes.specs.Texts.{before_last, beside_text, head_text, led_text, outside_text, outsides_text, pairs_text, report_text, step_text, total_text, trail_text};
+ghost use Rattle.recall_outcomes.specs.Texts.{beside_text, head_text, led_text, outside_text, outsides_text, pairs_text, report_text, step_text, total_text, trail_text};
 ghost use Rattle.recall_text.specs.Words.{pair_text};
 
 use crate::outcomes::Ways;
@@ -10,6 +10,7 @@ use event_json::{Sequence, Sites};
 use frame_core::RecallId;
 use recall_text::telling::{ended_word, name_of, push_pair, recall_text};
 use report_core::{OutsideShipment, RecallReport};
+use report_forms::before_last;
 use std::alloc::{AllocError, Global};
 use trace_core::Pair;
 
@@ -141,17 +142,6 @@ pub(crate) fn push_beside(
     let (key, other_key) = (pair.item.key(alloc)?, beside.item.key(alloc)?);
     let line = format!(in alloc; "pair {name} {key}{word}{other} {other_key}\n")?;
     text.push_str(line.as_str())
-}
-
-/// The pair before the last one of a trail, where there is one.
-pub(crate) fn before_last(trail: &[Pair]) -> Option<&Pair>
-    ensures { option_map (λ p. p.now) result ≡ before_last trail.now }
-{
-    if trail.len() < 2 {
-        None
-    } else {
-        trail.get(trail.len() - 2)
-    }
 }
 
 /// Adds a line for each pair of a trail, with its place on the trail, from 1.

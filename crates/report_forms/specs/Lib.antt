@@ -1,0 +1,5 @@
+pub mod Csv
+pub mod Dot
+pub mod Laws
+pub mod Pieces
+pub mod Steps
