@@ -14,7 +14,7 @@ use Rattle.recall_outcomes.specs.declared.faults.Failure.{Failure}
 use Rattle.recall_outcomes.specs.declared.faults.Fault.{Fault}
 use Rattle.recall_outcomes.specs.declared.faults.Fault.TheVariants.{NoMemory, Write}
 use Rattle.recall_outcomes.specs.declared.outcomes.Form.{Form}
-use Rattle.recall_outcomes.specs.declared.outcomes.Form.TheVariants.{Text, Json}
+use Rattle.recall_outcomes.specs.declared.outcomes.Form.TheVariants.{Json}
 use Rattle.recall_outcomes.specs.declared.outcomes.Outcome.{Outcome}
 use Rattle.recall_text.specs.Writing.{AppendsBeginning}
 use Rattle.recall_text.specs.declared.faults.ScriptFault.{ScriptFault}
@@ -87,10 +87,10 @@ pub record TellsFault {F : Type 0} (fails : F → Option Failure → Type 0) (fo
   pub known : fails files failure
   pub told : AppendsBeginning errors errors_after (fault_lines form fault failure) ⊎ AppendsBeginning errors errors_after (bare_line form fault)
 
--- in text, a sentence says of each refusal what it means, as far as the error stream takes it and there is memory for it
+-- but in JSON, a sentence says of each refusal what it means, as far as the error stream takes it and there is memory for it
 abbrev pub Explains : Form → Outcome → Option (List ℕ) → Option (List ℕ) → Type 0
-Explains Text outcome errors errors_after = AppendsBeginning errors errors_after (outcome_sentences outcome)
 Explains Json outcome errors errors_after = Keeps errors errors_after
+Explains other outcome errors errors_after = AppendsBeginning errors errors_after (outcome_sentences outcome)
 
 -- notes go to the error stream, as far as that takes them and there is memory for it
 abbrev pub TellsNotes : Form → Option (String Global) → Option (List ℕ) → Option (List ℕ) → Type 0

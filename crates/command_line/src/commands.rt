@@ -36,8 +36,8 @@ use std::time::Clock;
 ///
 /// The words begin with the program's name. Answers, refusals and help go to `output`, faults and
 /// what is wrong with a command line to `errors`, and so do the notes of a run. What a command on the
-/// sites' files says is that of the calls of `files` that lead to it, as text or, where the words ask
-/// for it, as JSON; without such a command `files` isn't asked. What stands in the files no contract says. In a run each site has a copy of the gate
+/// sites' files says is that of the calls of `files` that lead to it, as text or in the form that the
+/// words ask for; without such a command `files` isn't asked. What stands in the files no contract says. In a run each site has a copy of the gate
 /// to its turns. The keys are those of the hash by which items are numbered, drawn at random, so that
 /// nobody can choose texts that collide.
 pub fn run_command<
@@ -276,12 +276,12 @@ fn tell_output<K: SiteKeeper, F: Files<K>, W: Write, E: Write>(
     }
 }
 
-/// Tells in a sentence what a refusal means and what to do, where that is printed as text and there is memory for it.
+/// Tells in a sentence what a refusal means and what to do, where that isn't printed as JSON and there is memory for it.
 fn explain<E: Write>(alloc: Global, form: Form, outcome: &Outcome, errors: &mut E)
     ensures { Explains form outcome.now (E.contents errors.old) (E.contents errors.new) }
 {
     match form {
-        Form::Text => {
+        Form::Text | Form::Csv | Form::Dot => {
             if let Ok(text) = outcome.sentences(alloc) {
                 say(errors, text.as_str());
             }

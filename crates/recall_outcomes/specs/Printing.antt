@@ -1,4 +1,4 @@
--- How what a command came to is printed, in either form.
+-- How what a command came to is printed, in each form.
 use Rattle.std.specs.Prelude.{ℕ, List, ◌++◌, Option, codes, map}
 use Rattle.std.specs.Str.Lines.{lines}
 use Rattle.event_json.specs.Sites.{Site}
@@ -11,35 +11,54 @@ use Rattle.recall_outcomes.specs.declared.documents.Totals.{Totals}
 use Rattle.recall_outcomes.specs.declared.faults.Failure.{Failure}
 use Rattle.recall_outcomes.specs.declared.faults.Fault.{Fault}
 use Rattle.recall_outcomes.specs.declared.outcomes.Form.{Form}
-use Rattle.recall_outcomes.specs.declared.outcomes.Form.TheVariants.{Text, Json}
+use Rattle.recall_outcomes.specs.declared.outcomes.Form.TheVariants.{Text, Json, Csv, Dot}
 use Rattle.recall_outcomes.specs.declared.outcomes.Outcome.{Outcome}
+use Rattle.recall_outcomes.specs.declared.outcomes.Outcome.TheVariants as outcomes
+use Rattle.report_forms.specs.Csv.{back_csv, report_csv, trace_csv}
+use Rattle.report_forms.specs.Dot.{back_dot, report_dot, trace_dot}
+
+-- a report and a trace as rows of comma-separated fields, and any other outcome as text
+abbrev pub csv_text : List Site → Outcome → List ℕ
+csv_text sites (outcomes.Reported r report ways) = report_csv sites r report
+csv_text sites (outcomes.Traced trace ways) = trace_csv sites trace
+csv_text sites (outcomes.TracedBack trace ways) = back_csv sites trace
+csv_text sites other = outcome_text sites other
+
+-- a report and a trace as a picture for Graphviz, and any other outcome as text
+abbrev pub dot_picture : List Site → Outcome → List ℕ
+dot_picture sites (outcomes.Reported r report ways) = report_dot sites r report
+dot_picture sites (outcomes.Traced trace ways) = trace_dot sites trace
+dot_picture sites (outcomes.TracedBack trace ways) = back_dot sites trace
+dot_picture sites other = outcome_text sites other
 
 -- what a command came to, on the standard output
 abbrev pub outcome_lines : Form → List Site → Outcome → List ℕ
 outcome_lines Text sites outcome = outcome_text sites outcome
 outcome_lines Json sites outcome = json_lines (outcome_json sites outcome)
+outcome_lines Csv sites outcome = csv_text sites outcome
+outcome_lines Dot sites outcome = dot_picture sites outcome
 
 -- what a document of several came to, with its source
 abbrev pub document_line : Form → List Site → List ℕ → DocumentOutcome → List ℕ
-document_line Text sites source came = document_text sites source came
 document_line Json sites source came = json_line (document_json sites source came)
+document_line other sites source came = document_text sites source came
 
 -- what all of them came to
 abbrev pub totals_line : Form → Totals → List ℕ
-totals_line Text t = totals_text t
 totals_line Json t = json_line (totals_json t)
+totals_line other t = totals_text t
 
 -- a fault, on the error stream
 abbrev pub fault_lines : Form → Fault → Option Failure → List ℕ
-fault_lines Text fault failure = fault_text fault failure
 fault_lines Json fault failure = json_line (fault_json fault failure)
+fault_lines other fault failure = fault_text fault failure
 
 -- a fault by its name alone
 abbrev pub bare_line : Form → Fault → List ℕ
-bare_line Text fault = fault_line fault
 bare_line Json fault = codes "{\"fault\":\"" ++ fault_name fault ++ codes "\"}\n"
+bare_line other fault = fault_line fault
 
 -- lines of the error stream that are no faults
 abbrev pub note_lines : Form → List ℕ → List ℕ
-note_lines Text text = text
 note_lines Json text = json_lines (map note_json (lines text))
+note_lines other text = text

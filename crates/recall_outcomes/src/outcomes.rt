@@ -19,6 +19,10 @@ pub enum Form {
     Text,
     /// Lines that are a JSON object each.
     Json,
+    /// A report or a trace as rows of comma-separated fields; any other outcome as text.
+    Csv,
+    /// A report or a trace as a picture for Graphviz; any other outcome as text.
+    Dot,
 }
 
 /// How it is told how each pair of a report or a trace is reached.

@@ -1,4 +1,4 @@
-//! What a command came to, as it is printed, in either form.
+//! What a command came to, as it is printed, in each form.
 
 ghost use Rattle.std.specs.Prelude.{◌≡◌, ◌++◌, false, IfOk, OnOk, map, option_map, string_bytes};
 ghost use Rattle.std.specs.Str.Lines.{lines};
@@ -6,7 +6,7 @@ ghost use Rattle.serde_json.specs.View.{view};
 ghost use Rattle.serde_json.specs.Written.{has_float};
 ghost use Rattle.recall_outcomes.specs.Faults.{fault_text, file_line};
 ghost use Rattle.recall_outcomes.specs.Json.{audited_json, json_line, json_lines, known_json, note_json, outcome_json, ran_json, status_json, why_json};
-ghost use Rattle.recall_outcomes.specs.Printing.{bare_line, document_line, fault_lines, note_lines, outcome_lines, totals_line};
+ghost use Rattle.recall_outcomes.specs.Printing.{bare_line, csv_text, document_line, dot_picture, fault_lines, note_lines, outcome_lines, totals_line};
 
 use crate::documents::{DocumentOutcome, Totals};
 use crate::faults::{Failure, Fault};
@@ -19,6 +19,7 @@ use crate::query_json::{detail_json, known_json, status_json, would_json};
 use crate::trace_json::{back_json, trace_json};
 use event_json::{SiteNo, Sites};
 use query_core::{KnownItem, RecallStatus};
+use report_forms::{back_csv, back_dot, report_csv, report_dot, trace_csv, trace_dot};
 use serde_json::Value;
 use std::alloc::{AllocError, Global};
 
@@ -30,6 +31,40 @@ impl Outcome {
         match form {
             Form::Text => self.text(alloc, sites),
             Form::Json => self.json_lines(alloc, sites),
+            Form::Csv => self.csv(alloc, sites),
+            Form::Dot => self.dot(alloc, sites),
+        }
+    }
+
+    /// A report or a trace as rows of comma-separated fields, and any other outcome as text.
+    fn csv(&self, alloc: Global, sites: &Sites) -> Result<String, AllocError>
+        ensures { IfOk result (λ t. string_bytes t ≡ csv_text sites.now self.now) }
+    {
+        match self {
+            Outcome::Reported {
+                recall,
+                report,
+                ways: _,
+            } => report_csv(alloc, sites, *recall, report),
+            Outcome::Traced { trace, ways: _ } => trace_csv(alloc, sites, trace),
+            Outcome::TracedBack { trace, ways: _ } => back_csv(alloc, sites, trace),
+            _ => self.text(alloc, sites),
+        }
+    }
+
+    /// A report or a trace as a picture for Graphviz, and any other outcome as text.
+    fn dot(&self, alloc: Global, sites: &Sites) -> Result<String, AllocError>
+        ensures { IfOk result (λ t. string_bytes t ≡ dot_picture sites.now self.now) }
+    {
+        match self {
+            Outcome::Reported {
+                recall,
+                report,
+                ways: _,
+            } => report_dot(alloc, sites, *recall, report),
+            Outcome::Traced { trace, ways: _ } => trace_dot(alloc, sites, trace),
+            Outcome::TracedBack { trace, ways: _ } => back_dot(alloc, sites, trace),
+            _ => self.text(alloc, sites),
         }
     }
 
@@ -166,7 +201,7 @@ impl DocumentOutcome {
         ensures { IfOk result (λ t. string_bytes t ≡ document_line form sites.now source.now self.now) }
     {
         match form {
-            Form::Text => self.text(alloc, sites, source),
+            Form::Text | Form::Csv | Form::Dot => self.text(alloc, sites, source),
             Form::Json => one_line(alloc, &document_json(alloc, sites, source, self)?),
         }
     }
@@ -178,7 +213,7 @@ impl Totals {
         ensures { IfOk result (λ t. string_bytes t ≡ totals_line form self) }
     {
         match form {
-            Form::Text => self.text(alloc),
+            Form::Text | Form::Csv | Form::Dot => self.text(alloc),
             Form::Json => one_line(alloc, &totals_json(alloc, self)?),
         }
     }
@@ -196,7 +231,7 @@ impl Fault {
         ensures { IfOk result (λ t. string_bytes t ≡ fault_lines form self (option_map (λ f. f.now) failure.entry)) }
     {
         match form {
-            Form::Text => fault_text(alloc, self, failure),
+            Form::Text | Form::Csv | Form::Dot => fault_text(alloc, self, failure),
             Form::Json => one_line(alloc, &fault_json(alloc, self, failure)?),
         }
     }
@@ -206,7 +241,7 @@ impl Fault {
         ensures { result.now ≡ bare_line form self }
     {
         match form {
-            Form::Text => self.line(),
+            Form::Text | Form::Csv | Form::Dot => self.line(),
             Form::Json => self.json_line(),
         }
     }
@@ -275,7 +310,7 @@ pub fn note_lines(alloc: Global, form: Form, text: &str) -> Result<String, Alloc
     ensures { IfOk result (λ t. string_bytes t ≡ note_lines form text.now) }
 {
     match form {
-        Form::Text => String::from_str(alloc, text),
+        Form::Text | Form::Csv | Form::Dot => String::from_str(alloc, text),
         Form::Json => json_notes(alloc, text),
     }
 }
