@@ -18,7 +18,7 @@ use Rattle.command_line.specs.declared.command_lines.Asked.TheVariants as asked
 use Rattle.command_line.specs.declared.command_lines.Batch.{Batch}
 use Rattle.command_line.specs.declared.command_lines.FileCommand.{FileCommand}
 use Rattle.command_line.specs.declared.command_lines.FileCommand.TheVariants.{Init, Capture, Start, Run, Report, Audit, Trace, Recalls, Recall, Items}
-use Rattle.command_line.specs.CommandLines.{recall, faults_of, named, AsksBatch, AsksSim, AsksFiles, AsksHelp, AsksNamed, IsBad, IsCapture, IsCommand, IsSet, AsksFor, IsToldAs}
+use Rattle.command_line.specs.CommandLines.{recall, faults_of, named, AsksBatch, AsksSim, AsksFiles, AsksHelp, AsksNamed, AsksTwoForms, IsBad, IsCapture, IsCommand, IsMistake, IsSet, AsksFor, IsToldAs, NamesTwoForms}
 use mathlib.Core.Logic.{◌⊎◌}
 
 -- `clap`'s contract says which errors the command gives
@@ -56,12 +56,22 @@ sim_is_no_command (Recalls folder coded) rows is = let bad = is.0 in cc
 sim_is_no_command (Recall folder recall coded) rows is = let bad = is.0 in cc
 sim_is_no_command (Items folder site text) rows is = let bad = is.0 in cc
 
+-- without arguments no form is asked for
+nothing_set : (name : Text) → IsSet [] name → ⊥
+nothing_set name is = cc
+
+no_forms : AsksTwoForms [] → ⊥
+no_forms (inl both) = nothing_set _ both.0
+no_forms (inr (inl both)) = nothing_set _ both.0
+no_forms (inr (inr both)) = nothing_set _ both.0
+
 module _ (words : List (List ℕ)) (name : List ℕ) where
   pub sim_is_no_help : AsksHelp words → words ≡ name ∷ codes "sim" ∷ [] → ⊥
   sim_is_no_help asked e = subst (λ kinds. IsAmong DisplayHelp kinds) (ap faults_of e ∙ sim_faults name) asked
 
   pub sim_is_not_bad : IsBad words → words ≡ name ∷ codes "sim" ∷ [] → ⊥
-  sim_is_not_bad (kind, among, other) e = subst (λ kinds. IsAmong kind kinds) (ap faults_of e ∙ sim_faults name) among
+  sim_is_not_bad (inl (kind, among, other)) e = subst (λ kinds. IsAmong kind kinds) (ap faults_of e ∙ sim_faults name) among
+  sim_is_not_bad (inr (none, two)) e = no_forms (subst NamesTwoForms (ap named e ∙ sim_named name) two)
 
   pub sim_is_no_files : (command : FileCommand) (form : Form) → AsksFiles words command form → words ≡ name ∷ codes "sim" ∷ [] → ⊥
   sim_is_no_files command form asks e =
@@ -86,7 +96,8 @@ module _ (words : List (List ℕ)) (name : List ℕ) where
   help_is_no_batch batch asks e = help_is_faulty (faults_of words) asks.0 (ap faults_of e ∙ help_faults name)
 
   pub help_is_not_bad : IsBad words → words ≡ name ∷ codes "--help" ∷ [] → ⊥
-  help_is_not_bad (kind, among, other) e =
+  help_is_not_bad (inr (none, two)) e = help_is_faulty (faults_of words) none (ap faults_of e ∙ help_faults name)
+  help_is_not_bad (inl (kind, among, other)) e =
       ⊎_elim (λ same. other same) (λ none. none) (subst (λ kinds. IsAmong kind kinds) (ap faults_of e ∙ help_faults name) among)
 
 -- an error is reported as what it says of the words
@@ -108,11 +119,11 @@ asks_named words (asked.Help text) none is = absurd (no_help (named words) is)
     no_help : (found : Option (Text × List Row)) → AsksNamed found (asked.Help text) → ⊥
     no_help None is = is
     no_help (Some entry) is = is
-asks_named words (asked.Mistake text) none is = absurd (no_mistake (named words) is)
+asks_named words (asked.Mistake text) none is = inr (none, two (named words) is)
   where
-    no_mistake : (found : Option (Text × List Row)) → AsksNamed found (asked.Mistake text) → ⊥
-    no_mistake None is = is
-    no_mistake (Some entry) is = is
+    two : (found : Option (Text × List Row)) → AsksNamed found (asked.Mistake text) → NamesTwoForms found
+    two None is = is
+    two (Some entry) is = is
 
 -- and so where a command was met at all, or else memory ran out
 pub asks_some : (words : List (List ℕ)) (found : Option Asked) (result : Result Asked AllocError) (error : AllocError) → result ≡ ok_or {E = AllocError} found error
@@ -128,6 +139,16 @@ capture_named name rows (Some (asked.Files command form)) e is = (subst (λ (n :
 capture_named name rows (Some (asked.Batch batch)) e is = (e, is)
 capture_named name rows (Some (asked.Help text)) e is = absurd is
 capture_named name rows (Some (asked.Mistake text)) e is = absurd is
+
+-- where two forms are asked for, that is what is wrong
+pub mistake_named : (found : Option (Text × List Row)) (result : Option Asked) → NamesTwoForms found → IfSome result IsMistake → IfSome result (AsksNamed found)
+mistake_named found None two is = tt
+mistake_named found (Some asked.Sim) two is = absurd is
+mistake_named found (Some (asked.Files command form)) two is = absurd is
+mistake_named found (Some (asked.Batch batch)) two is = absurd is
+mistake_named found (Some (asked.Help text)) two is = absurd is
+mistake_named None (Some (asked.Mistake text)) two is = two
+mistake_named (Some entry) (Some (asked.Mistake text)) two is = two
 
 -- the option has a text, or it isn't there
 pub set_where : (rows : List Row) (name text : Text) (b : Bool) → first_of name rows ≡ Some text → b ≡ bytes_eq text (codes "true") → IsTrue b ↔ IsSet rows name

@@ -73,15 +73,20 @@ turns =
 abbrev pub run : App
 run = with_rule (on_folder (codes "run")) turns
 
+-- a command that can also be asked to print rows, or a picture
+abbrev pub with_forms : App → App
+with_forms a = with_rule (with_rule a (flag (codes "csv"))) (flag (codes "dot"))
+
 abbrev pub report : App
-report = with_rule (with_rule (on_folder (codes "report")) (required (codes "recall"))) (flag (codes "brief"))
+report = with_forms (with_rule (with_rule (on_folder (codes "report")) (required (codes "recall"))) (flag (codes "brief")))
 
 abbrev pub audit : App
 audit = on_folder (codes "audit")
 
 abbrev pub trace : App
 trace =
-    with_rule (with_rule (with_rule (with_rule (on_folder (codes "trace")) (required (codes "site"))) (required (codes "epc"))) (flag (codes "back"))) (flag (codes "brief"))
+    with_forms
+    (with_rule (with_rule (with_rule (with_rule (on_folder (codes "trace")) (required (codes "site"))) (required (codes "epc"))) (flag (codes "back"))) (flag (codes "brief")))
 
 -- the recall may be left out
 abbrev pub status : App
@@ -136,10 +141,21 @@ abbrev pub GivesWays : List Row → Ways → Type 0
 GivesWays rows Steps = IsSet rows (codes "brief")
 GivesWays rows Trails = IsSet rows (codes "brief") → ⊥
 
--- what the command comes to is printed in this form
+-- the option of this name isn't there
+abbrev pub IsUnset : List Row → Text → Type 0
+IsUnset rows name = IsSet rows name → ⊥
+
+-- what the command comes to is printed in this form, and no other is asked for
 abbrev pub GivesForm : List Row → Form → Type 0
-GivesForm rows forms.Json = IsSet rows (codes "json")
-GivesForm rows forms.Text = IsSet rows (codes "json") → ⊥
+GivesForm rows forms.Text = IsUnset rows (codes "json") × IsUnset rows (codes "csv") × IsUnset rows (codes "dot")
+GivesForm rows forms.Json = IsSet rows (codes "json") × IsUnset rows (codes "csv") × IsUnset rows (codes "dot")
+GivesForm rows forms.Csv = IsUnset rows (codes "json") × IsSet rows (codes "csv") × IsUnset rows (codes "dot")
+GivesForm rows forms.Dot = IsUnset rows (codes "json") × IsUnset rows (codes "csv") × IsSet rows (codes "dot")
+
+-- two forms are asked for
+abbrev pub AsksTwoForms : List Row → Type 0
+AsksTwoForms rows =
+    (IsSet rows (codes "json") × IsSet rows (codes "csv")) ⊎ (IsSet rows (codes "json") × IsSet rows (codes "dot")) ⊎ (IsSet rows (codes "csv") × IsSet rows (codes "dot"))
 
 -- the files of the documents, and whether each of their lines is one
 abbrev pub GivesFiles : List Row → List Text → Bool → Type 0
@@ -182,6 +198,11 @@ IsCapture rows (asked.Files command form) = IsCommand command (codes "capture") 
 IsCapture rows (asked.Batch batch) = IsBatch batch rows
 IsCapture rows other = ⊥
 
+-- no command is asked for, but something is wrong
+abbrev pub IsMistake : Asked → Type 0
+IsMistake (asked.Mistake text) = ⊤
+IsMistake other = ⊥
+
 -- a run is of at most 1,000,000 turns
 abbrev pub HasTurns : FileCommand → Type 0
 HasTurns (Run folder turns) = turns ≤ 1000000
@@ -192,6 +213,7 @@ abbrev pub AsksNamed : Option (Text × List Row) → Asked → Type 0
 AsksNamed (Some (name, rows)) asked.Sim = name ≡ codes "sim"
 AsksNamed (Some (name, rows)) (asked.Files command form) = IsCommand command name rows × GivesForm rows form
 AsksNamed (Some (name, rows)) (asked.Batch batch) = (name ≡ codes "capture") × IsBatch batch rows
+AsksNamed (Some (name, rows)) (asked.Mistake text) = AsksTwoForms rows
 AsksNamed named other = ⊥
 
 -- nothing is wrong with the words: a script is to be run
@@ -209,9 +231,18 @@ AsksBatch words batch = (faults_of words ≡ []) × AsksNamed (named words) (ask
 abbrev pub AsksHelp : List (List ℕ) → Type 0
 AsksHelp words = IsAmong DisplayHelp (faults_of words)
 
--- something else is wrong with them
+-- `clap` finds something else wrong with them
+abbrev pub HasFault : List (List ℕ) → Type 0
+HasFault words = (kind : ErrorKind) × IsAmong kind (faults_of words) × (kind ≢ DisplayHelp)
+
+-- the named command is to print two forms
+abbrev pub NamesTwoForms : Option (Text × List Row) → Type 0
+NamesTwoForms None = ⊥
+NamesTwoForms (Some (name, rows)) = AsksTwoForms rows
+
+-- something is wrong with them that is no call for help
 abbrev pub IsBad : List (List ℕ) → Type 0
-IsBad words = (kind : ErrorKind) × IsAmong kind (faults_of words) × (kind ≢ DisplayHelp)
+IsBad words = HasFault words ⊎ ((faults_of words ≡ []) × NamesTwoForms (named words))
 
 -- the words ask for this
 abbrev pub AsksFor : List (List ℕ) → Asked → Type 0

@@ -1,8 +1,8 @@
 //! What the words of a command line ask for.
 
-ghost use Rattle.std.specs.Prelude.{◌≡◌, ◌↔◌, false, IfOk, IfSome, IsTrue, codes, length};
+ghost use Rattle.std.specs.Prelude.{◌≡◌, ◌↔◌, false, IfNone, IfOk, IfSome, IsTrue, codes, length};
 ghost use Rattle.clap.specs.Words.{app_of, found_of, kind_of, new_rule, rows_of, rule_of, subcommand_rows_of};
-ghost use Rattle.command_line.specs.CommandLines.{audit, capture, files, flag, folder, init, items, on_folder, recall, report, required, run, sim, start, status, texts_of, trace, turns, AsksFor, AsksNamed, Gives, GivesForm, GivesNumber, GivesOrNone, GivesWays, IsCapture, IsCommand, IsSet, IsToldAs};
+ghost use Rattle.command_line.specs.CommandLines.{audit, capture, files, flag, folder, init, items, on_folder, recall, report, required, run, sim, start, status, texts_of, trace, turns, AsksFor, AsksNamed, AsksTwoForms, Gives, GivesForm, GivesNumber, GivesOrNone, GivesWays, IsCapture, IsCommand, IsMistake, IsSet, IsToldAs};
 
 use crate::helps;
 use clap::builder::ValueParser;
@@ -118,25 +118,36 @@ fn named<'a>(alloc: Global, matches: &ArgMatches<'a>) -> Option<Asked<'a>>
     ensures { IfSome result (AsksNamed (subcommand_rows_of matches.now)) }
 {
     let (name, given) = matches.subcommand()?;
+    let Some(form) = form_of(given) else {
+        return two_forms(alloc).ok();
+    };
     if name == "sim" {
         Some(Asked::Sim)
     } else if name == "capture" {
-        capture_command(alloc, given)
+        capture_command(alloc, given, form)
     } else {
         let command = file_command(name, given)?;
-        Some(Asked::Files(command, form_of(given)))
+        Some(Asked::Files(command, form))
     }
 }
 
+/// What is reported where two forms are asked for. `clap` would refuse them, but then its contract tells no argument.
+fn two_forms<'a>(alloc: Global) -> Result<Asked<'a>, AllocError>
+    ensures { IfOk result IsMistake }
+{
+    let text = String::from_str(alloc, helps::TWO_FORMS)?;
+    Ok(Asked::Mistake(text))
+}
+
 /// The command to capture documents: that of one file, or a batch.
-fn capture_command<'a>(alloc: Global, given: &ArgMatches<'a>) -> Option<Asked<'a>>
+fn capture_command<'a>(alloc: Global, given: &ArgMatches<'a>, form: Form) -> Option<Asked<'a>>
+    requires { GivesForm (rows_of (found_of given.now)) form }
     ensures { IfSome result (IsCapture (rows_of (found_of given.now))) }
 {
     let folder = argument(given, "dir")?;
     let site = argument(given, "site")?;
     let paths = given.get_strs("file")?;
     let by_lines = is_set(given, "lines");
-    let form = form_of(given);
     if is_one_document(paths, by_lines) {
         let file = paths[0];
         let command = FileCommand::Capture { folder, site, file };
@@ -180,14 +191,20 @@ fn is_set(given: &ArgMatches<'_>, name: &str) -> bool
     }
 }
 
-/// How what a command comes to is printed.
-fn form_of(given: &ArgMatches<'_>) -> Form
-    ensures { GivesForm (rows_of (found_of given.now)) result }
+/// How what a command comes to is printed. None where two forms are asked for.
+fn form_of(given: &ArgMatches<'_>) -> Option<Form>
+    ensures one { IfSome result (GivesForm (rows_of (found_of given.now))) }
+    ensures two { IfNone result (AsksTwoForms (rows_of (found_of given.now))) }
 {
-    if is_set(given, "json") {
-        Form::Json
-    } else {
-        Form::Text
+    let json = is_set(given, "json");
+    let csv = is_set(given, "csv");
+    let dot = is_set(given, "dot");
+    match (json, csv, dot) {
+        (false, false, false) => Some(Form::Text),
+        (true, false, false) => Some(Form::Json),
+        (false, true, false) => Some(Form::Csv),
+        (false, false, true) => Some(Form::Dot),
+        _ => None,
     }
 }
 
@@ -410,6 +427,26 @@ fn brief<'a>(alloc: Global) -> Arg<'a>
     )
 }
 
+/// Whether it is printed as rows.
+fn csv<'a>(alloc: Global) -> Arg<'a>
+    ensures rule { rule_of result ≡ flag (codes "csv") }
+    ensures local { result.global ≡ false }
+{
+    flag(
+        alloc,
+        "csv",
+        "Print rows of comma-separated fields, for a spreadsheet",
+    )
+}
+
+/// Whether it is printed as a picture.
+fn dot<'a>(alloc: Global) -> Arg<'a>
+    ensures rule { rule_of result ≡ flag (codes "dot") }
+    ensures local { result.global ≡ false }
+{
+    flag(alloc, "dot", "Print a picture of the spread for Graphviz")
+}
+
 fn sim<'a>(alloc: Global) -> Command<'a>
     ensures { app_of result ≡ sim }
 {
@@ -500,7 +537,9 @@ fn report<'a>(alloc: Global) -> Result<Command<'a>, AllocError>
 {
     on_folder(alloc, "report", helps::REPORT_ABOUT, helps::REPORT_EXAMPLE)?
         .arg(required(alloc, "recall", "The recall, as dairy#1"))?
-        .arg(brief(alloc))
+        .arg(brief(alloc))?
+        .arg(csv(alloc))?
+        .arg(dot(alloc))
 }
 
 fn audit<'a>(alloc: Global) -> Result<Command<'a>, AllocError>
@@ -516,7 +555,9 @@ fn trace<'a>(alloc: Global) -> Result<Command<'a>, AllocError>
         .arg(required(alloc, "site", "The site that has the item"))?
         .arg(required(alloc, "epc", "The EPC of the item"))?
         .arg(flag(alloc, "back", "Trace where it came from, not where it went"))?
-        .arg(brief(alloc))
+        .arg(brief(alloc))?
+        .arg(csv(alloc))?
+        .arg(dot(alloc))
 }
 
 fn status<'a>(alloc: Global) -> Result<Command<'a>, AllocError>

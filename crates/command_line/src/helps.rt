@@ -4,6 +4,13 @@
 pub(crate) const ABOUT: &str =
     "Traces recalled products through a supply chain: sites capture GS1 EPCIS 2.0 events, and a recall of an item finds all that was made from it or shipped on.";
 
+/// What is wrong where two forms are asked for.
+pub(crate) const TWO_FORMS: &str = "\
+error: only one of '--json', '--csv' and '--dot' can be given
+
+For more information, try '--help'.
+";
+
 /// The page behind the list of commands.
 pub(crate) const PAGE: &str = "\
 A folder holds a supply chain: the file `sites` lists its sites, and each site keeps its record in a file
@@ -120,9 +127,14 @@ A recall is named by its site and its number there, as dairy#1; `recall status` 
 each quarantined item stand the steps that lead to it from the recalled one; with `--brief` it has the last
 step alone, in its own line.
 
+With `--csv` each quarantined item and each shipment that left is a row of a table for a spreadsheet, with
+the step before it; with `--dot` the spread is a picture for Graphviz. A refusal is printed as text.
+
 Examples:
   recall report chain dairy#1
   recall report chain dairy#1 --brief
+  recall report chain dairy#1 --csv > recall.csv
+  recall report chain dairy#1 --dot | dot -Tsvg > recall.svg
 
 Status: 0 done, 1 refused (UnknownRecall: the site began none of this number), 3 a fault.";
 
@@ -149,9 +161,13 @@ the steps that lead to it, `outside` for each shipment of them that left the tra
 that come from nowhere among the traced sites. With `--brief` each has one step, in its own line. Nothing is
 recalled, and no file is changed.
 
+With `--csv` it is a table for a spreadsheet, with a row for each item at a site and one for each shipment
+that left or each origin; with `--dot` a picture for Graphviz. A refusal is printed as text.
+
 Examples:
   recall trace chain dairy urn:epc:id:sgtin:0614141.112345.400
   recall trace chain shop https://id.gs1.org/01/09521321000179/21/1 --back --brief
+  recall trace chain dairy urn:epc:id:sgtin:0614141.112345.400 --dot | dot -Tsvg > trace.svg
 
 Status: 0 done, 1 refused (UnknownItem: no event of the site names the item), 3 a fault.";
 

@@ -161,17 +161,18 @@ fn commands_are_answered(rt: HostRuntime) -> Result<(), Fail> {
     Ok(())
 }
 
-/// Whether a command prints this JSON, and the status is this.
-fn gives_json(
+/// Whether a command prints this in a form, and the status is this.
+fn gives_form(
     alloc: Global,
     keys: RandomState,
     files: &mut MemoryFiles,
     asked: Asked,
+    form: Form,
     status: u8,
     text: &str,
 ) -> bool {
     match answer(alloc, keys, files, asked) {
-        Ok(output) => is_printed(alloc, &output, Form::Json, status, text),
+        Ok(output) => is_printed(alloc, &output, form, status, text),
         Err(_) => false,
     }
 }
@@ -184,11 +185,76 @@ fn first_other_json(
     table: &[(Asked, u8, &str)],
 ) -> Option<usize> {
     for (place, (asked, status, text)) in table.iter().enumerate() {
-        if !gives_json(alloc, keys, files, *asked, *status, text) {
+        if !gives_form(alloc, keys, files, *asked, Form::Json, *status, text) {
             return Some(place);
         }
     }
     None
+}
+
+/// The place of the first of some commands that doesn't print this in its form, from 0.
+fn first_other_form(
+    alloc: Global,
+    keys: RandomState,
+    files: &mut MemoryFiles,
+    table: &[(Asked, Form, u8, &str)],
+) -> Option<usize> {
+    for (place, (asked, form, status, text)) in table.iter().enumerate() {
+        if !gives_form(alloc, keys, files, *asked, *form, *status, text) {
+            return Some(place);
+        }
+    }
+    None
+}
+
+#[test]
+fn reports_are_rows_and_pictures(rt: HostRuntime) -> Result<(), Fail> {
+    let keys = RandomState::new(&rt)?;
+    let mut files = files(rt.alloc())?;
+    let table = [
+        (Asked::Init("d", "list"), Form::Text, 0, ""),
+        (
+            Asked::Capture("A", "made"),
+            Form::Csv,
+            0,
+            "captured 2 known 0 skipped 0\n",
+        ),
+        (
+            Asked::Start("A", "x"),
+            Form::Dot,
+            0,
+            "recall A#1 new 2 messages 1 open\n",
+        ),
+        (
+            Asked::Report("A#1"),
+            Form::Csv,
+            0,
+            "recall,site,item,gtin,serial,sscc,from_site,from_item,kind,destination\r\n\
+             A#1,A,uri x,,,,,,held,\r\n\
+             A#1,A,uri y,,,,A,uri x,held,\r\n\
+             A#1,A,uri y,,,,,,outside,z\r\n",
+        ),
+        (
+            Asked::Report("A#1"),
+            Form::Dot,
+            0,
+            "digraph recall {\n  label=\"recall A#1 open\";\n  rankdir=LR;\n  node [shape=box];\n  subgraph \"cluster A\" {\n    label=\"A\";\n    \"A uri x\" [label=\"uri x\"];\n    \"A uri y\" [label=\"uri y\"];\n  }\n  subgraph \"cluster B\" {\n    label=\"B\";\n  }\n  \"A uri x\" [penwidth=3];\n  \"A uri x\" -> \"A uri y\";\n  \"> z\" [label=\"z\", style=dashed];\n  \"A uri y\" -> \"> z\";\n}\n",
+        ),
+        (
+            Asked::Report("A#9"),
+            Form::Csv,
+            1,
+            "refused UnknownRecall\n",
+        ),
+        (
+            Asked::Report("A#9"),
+            Form::Dot,
+            1,
+            "refused UnknownRecall\n",
+        ),
+    ];
+    assert!(rt; first_other_form(rt.alloc(), keys, &mut files, table.as_slice()).is_none());
+    Ok(())
 }
 
 #[test]

@@ -171,6 +171,22 @@ fn a_bad_command_line_ends_with_2(rt: HostRuntime) -> Result<(), Fail> {
         // The folder is the empty word.
         ("recall audit ", "", 2, "", "error:"),
         ("recall init  list", "", 2, "", "error:"),
+        // Two forms, and a form that the command hasn't got.
+        (
+            "recall report d A#1 --csv --dot",
+            "",
+            2,
+            "",
+            "error: only one of",
+        ),
+        (
+            "recall trace d A x --json --csv",
+            "",
+            2,
+            "",
+            "error: only one of",
+        ),
+        ("recall audit d --csv", "", 2, "", "error: unexpected"),
     ];
     assert!(rt; first_other(&rt, rt.alloc(), keys, &rows)? == None);
     Ok(())
@@ -196,6 +212,8 @@ fn commands_on_files_are_told(rt: HostRuntime) -> Result<(), Fail> {
         ),
         ("recall audit d --json", "", 3, "", "{\"fault\":\"Read\"}\n"),
         ("recall audit d", "", 3, "", "fault Read\n"),
+        ("recall report d A#1 --csv", "", 3, "", "fault Read\n"),
+        ("recall trace d A x --dot --back", "", 3, "", "fault Read\n"),
         ("recall capture d A a b", "", 3, "", "fault Read\n"),
         ("recall capture d A - --lines", "", 3, "", "fault Read\n"),
         ("recall run d", "", 3, "", "fault Read\n"),

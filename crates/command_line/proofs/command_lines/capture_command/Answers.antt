@@ -16,7 +16,7 @@ returns-then-is_one_document c =
         c.in_ok-site.ensures,
         (paths ∙ ap Some (one_text_alone c.in_ok-paths.paths.now _ one.1), not_set c.is_set-by_lines.result one.0 c.is_set-by_lines.ensures),
       ),
-      c.form_of-form.ensures,
+      c.requires,
     )
 
 pub returns : goal.returns
@@ -31,5 +31,5 @@ returns c =
       folder = c.in_ok-folder.ensures;
       site = c.in_ok-site.ensures;
       files = (paths ∙ ap Some texts, c.is_set-by_lines.ensures);
-      form = c.form_of-form.ensures;
+      form = c.requires;
     }

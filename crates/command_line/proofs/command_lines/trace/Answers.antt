@@ -7,4 +7,6 @@ returns c =
     let with1 = adds_rule _ _ _ _ _ c.in_ok-arg.ensures c.required.ensures.local c.in_ok-on_folder.ensures c.required.ensures.rule in
     let with2 = adds_rule _ _ _ _ _ c.in_ok-arg-2.ensures c.required-2.ensures.local with1 c.required-2.ensures.rule in
     let with3 = adds_rule _ _ _ _ _ c.in_ok-arg-3.ensures c.flag.ensures.local with2 c.flag.ensures.rule in
-    IfOk-weaker c.arg-4.result _ _ (λ command adds. adds_rule _ _ command _ _ adds c.brief.ensures.local with3 c.brief.ensures.rule) c.arg-4.ensures
+    let with4 = adds_rule _ _ _ _ _ c.in_ok-arg-4.ensures c.brief.ensures.local with3 c.brief.ensures.rule in
+    let with5 = adds_rule _ _ _ _ _ c.in_ok-arg-5.ensures c.csv.ensures.local with4 c.csv.ensures.rule in
+    IfOk-weaker c.arg-6.result _ _ (λ command adds. adds_rule _ _ command _ _ adds c.dot.ensures.local with5 c.dot.ensures.rule) c.arg-6.ensures
