@@ -1,0 +1,4 @@
+pub mod Cutting
+pub mod Steps
+pub mod Words
+pub mod Written

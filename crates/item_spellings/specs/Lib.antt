@@ -1,0 +1,9 @@
+pub mod Elements
+pub mod Writing
+pub mod Reading
+pub mod Scans
+pub mod Keys
+pub mod Names
+pub mod Seen
+pub mod Named
+pub mod Laws

@@ -1,0 +1,21 @@
+//! Items as they are printed and scanned.
+//!
+//! An item is spelled by an EPC text, by the key that is printed of it, or by the GS1 element strings that a scanner gives
+//! (GS1 General Specifications, section 7.8). Keys and EPC texts are `epc_core`'s; this crate reads element strings, and
+//! tells why a text spells no item.
+#![tactic(auto)]
+
+mod bytes;
+mod elements;
+mod faults;
+mod forms;
+mod keys;
+pub mod laws;
+mod lookups;
+mod scans;
+mod spellings;
+
+pub use faults::{ScanFault, SpellingFault};
+pub use keys::read_key;
+pub use scans::read_scan;
+pub use spellings::{Spelling, read_item};
