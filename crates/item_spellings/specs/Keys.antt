@@ -9,6 +9,7 @@ use Rattle.item_spellings.specs.Scans.{scan_reading}
 use Rattle.item_spellings.specs.declared.faults.ScanFault.{ScanFault}
 use Rattle.item_spellings.specs.declared.faults.SpellingFault.{SpellingFault}
 use Rattle.item_spellings.specs.declared.faults.SpellingFault.TheVariants.{NoEpc, NoKey, NoScan}
+use Rattle.item_spellings.specs.declared.spellings.Spelled.{Spelled}
 use Rattle.item_spellings.specs.declared.spellings.Spelling.{Spelling}
 use Rattle.item_spellings.specs.declared.spellings.Spelling.TheVariants.{Epc, Key, Scan}
 
@@ -52,8 +53,11 @@ abbrev pub of_scan : Result (List ℕ) ScanFault → Result (List ℕ) SpellingF
 of_scan (Ok key) = Ok key
 of_scan (Err fault) = Err (NoScan fault)
 
--- the key of the item that a text spells so, or why it spells none
-unfoldable pub item_reading : Spelling → List ℕ → Result (List ℕ) SpellingFault
-item_reading Epc text = of_epc (reading text)
-item_reading Key text = of_key (key_reading text)
-item_reading Scan text = of_scan (scan_reading text)
+abbrev pub reading_by : Spelling → List ℕ → Result (List ℕ) SpellingFault
+reading_by Epc text = of_epc (reading text)
+reading_by Key text = of_key (key_reading text)
+reading_by Scan text = of_scan (scan_reading text)
+
+-- the key of the item that a text spells, or why it spells none
+unfoldable pub item_reading : Spelled → Result (List ℕ) SpellingFault
+item_reading item = reading_by item.spelling item.text.now

@@ -18,4 +18,4 @@ mod spellings;
 pub use faults::{ScanFault, SpellingFault};
 pub use keys::read_key;
 pub use scans::read_scan;
-pub use spellings::{Spelling, read_item};
+pub use spellings::{Spelled, Spelling, read_item};

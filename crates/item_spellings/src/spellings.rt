@@ -1,6 +1,6 @@
 //! An item by one of its spellings.
 ghost use Rattle.std.specs.Prelude.{◌≡◌, IfOk};
-ghost use Rattle.item_spellings.specs.Keys.{item_reading};
+ghost use Rattle.item_spellings.specs.Keys.{item_reading, reading_by};
 
 use crate::faults::SpellingFault;
 use crate::keys::read_key;
@@ -19,22 +19,28 @@ pub enum Spelling {
     Scan,
 }
 
-/// The item that a text spells so, or why it spells none. It fails only where memory runs out.
+/// A text, and how it is to spell an item.
+#[derive(Debug, Clone, Copy)]
+pub struct Spelled<'a> {
+    pub text: &'a str,
+    pub spelling: Spelling,
+}
+
+/// The item that a text spells, or why it spells none. It fails only where memory runs out.
 #[tactic(auto, unfolding(crate::specs::Keys::item_reading))]
 pub fn read_item(
     alloc: Global,
-    spelling: Spelling,
-    text: &str,
+    item: &Spelled<'_>,
 ) -> Result<Result<Epc, SpellingFault>, AllocError>
-    ensures { IfOk result (λ item. item ≡ item_reading spelling text.now) }
+    ensures { IfOk result (λ read. read ≡ item_reading item.now) }
 {
-    match spelling {
-        Spelling::Epc => epc_of(alloc, text),
-        Spelling::Key => match read_key(alloc, text)? {
+    match item.spelling {
+        Spelling::Epc => epc_of(alloc, item.text),
+        Spelling::Key => match read_key(alloc, item.text)? {
             Some(item) => Ok(Ok(item)),
             None => Ok(Err(SpellingFault::NoKey)),
         },
-        Spelling::Scan => match read_scan(alloc, text)? {
+        Spelling::Scan => match read_scan(alloc, item.text)? {
             Ok(item) => Ok(Ok(item)),
             Err(fault) => Ok(Err(SpellingFault::NoScan(fault))),
         },
@@ -42,9 +48,8 @@ pub fn read_item(
 }
 
 /// The item of an EPC text.
-#[tactic(auto, unfolding(crate::specs::Keys::item_reading))]
 fn epc_of(alloc: Global, text: &str) -> Result<Result<Epc, SpellingFault>, AllocError>
-    ensures { IfOk result (λ item. item ≡ item_reading Spelling.Epc text.now) }
+    ensures { IfOk result (λ read. read ≡ reading_by Spelling.Epc text.now) }
 {
     match Epc::read(alloc, text) {
         Ok(item) => Ok(Ok(item)),

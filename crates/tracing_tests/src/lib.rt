@@ -7,4 +7,6 @@ mod documents;
 #[cfg(test)]
 mod epcs;
 #[cfg(test)]
+mod scans;
+#[cfg(test)]
 mod tracing;
