@@ -1,14 +1,15 @@
-use Rattle.std.specs.Prelude.{◌≡◌, ◌↔◌, ℕ, List, codes, Some, Ok}
+use Rattle.std.specs.Prelude.{◌≡◌, ◌↔◌, ◌⊎◌, ℕ, List, codes, Some, Ok, Err}
 use Rattle.std.specs.List.{Contains}
-use Rattle.epc_core.specs.Items.{sgtin_key}
+use Rattle.epc_core.specs.Items.{sgtin_key, sscc_key}
 use Rattle.epc_core.specs.Numbers.{IsChecked}
 use Rattle.epc_core.specs.Serials.{IsSerial}
 use Rattle.epc_core.specs.Spellings.{IsKey}
 use Rattle.item_spellings.specs.Elements.{Element}
 use Rattle.item_spellings.specs.Keys.{key_reading}
 use Rattle.item_spellings.specs.Reading.{elements_of}
-use Rattle.item_spellings.specs.Scans.{item_of}
+use Rattle.item_spellings.specs.Scans.{item_of, scan_reading}
 use Rattle.item_spellings.specs.Writing.{IsWriting}
+use Rattle.item_spellings.specs.declared.faults.ScanFault.TheVariants.{NoElements}
 
 -- what is read are the elements of which the text is written
 abbrev pub ReadsWhatIsWritten : Type 0
@@ -34,9 +35,31 @@ pub record NamesSgtin (es : List Element) (key : List ℕ) : Type 0 where
   pub allowed : IsSerial serial
   pub names : key ≡ sgtin_key gtin serial
 
--- elements of a GTIN and a serial number name its item
-abbrev pub SgtinsAreNamed : Type 0
-SgtinsAreNamed = (es : List Element) (key : List ℕ) → NamesSgtin es key → item_of es ≡ Ok key
+-- no two elements with this AI have different values
+abbrev pub Agrees : List ℕ → List Element → Type 0
+Agrees ai es = (value other : List ℕ) → Contains es (ai, value) → Contains es (ai, other) → value ≡ other
+
+-- an SSCC, and not both a GTIN and a serial number
+pub record NamesSscc (es : List Element) (key : List ℕ) : Type 0 where
+  pub sscc : List ℕ
+  pub sscc_is : IsValue (codes "00") sscc es
+  pub gtin_agrees : Agrees (codes "01") es
+  pub serial_agrees : Agrees (codes "21") es
+  pub no_other : Lacks (codes "01") es ⊎ Lacks (codes "21") es
+  pub checked : IsChecked 18 sscc
+  pub names : key ≡ sscc_key sscc
+
+-- elements name the item of their GTIN and serial number, or of their SSCC, in whatever order they stand
+abbrev pub ElementsNameItems : Type 0
+ElementsNameItems = (es : List Element) (key : List ℕ) → (item_of es ≡ Ok key) ↔ (NamesSgtin es key ⊎ NamesSscc es key)
+
+-- a scanned text spells the item that the elements name of which it is written
+abbrev pub ScansSpellItems : Type 0
+ScansSpellItems = (text key : List ℕ) → (scan_reading text ≡ Ok key) ↔ ((es : List Element) × IsWriting es text × (NamesSgtin es key ⊎ NamesSscc es key))
+
+-- a text is refused for want of elements where it is written of none
+abbrev pub OtherTextsAreRefused : Type 0
+OtherTextsAreRefused = (text : List ℕ) → (scan_reading text ≡ Err NoElements) ↔ ((es : List Element) → ¬ IsWriting es text)
 
 -- a text is read as a key where it is one, and as no other
 abbrev pub KeysAreRead : Type 0

@@ -1,6 +1,6 @@
 //! Laws of the definitions, each of which a call ensures.
 ghost use Rattle.std.specs.Prelude.{◌≡◌};
-ghost use Rattle.item_spellings.specs.Laws.{ReadsWhatIsWritten, SgtinsAreNamed, KeysAreRead};
+ghost use Rattle.item_spellings.specs.Laws.{ElementsNameItems, KeysAreRead, OtherTextsAreRefused, ReadsWhatIsWritten, ScansSpellItems};
 
 /// The elements that are read of a text are those of which it is written, so a text has no second reading.
 pub fn reading_is_writing()
@@ -10,4 +10,15 @@ pub fn reading_is_writing()
 /// Reading a key is the inverse of printing it.
 pub fn keys_are_read()
     ensures { KeysAreRead }
+{}
+
+/// Which item elements name, in whatever order they stand and whatever stands beside them.
+pub fn elements_name_items()
+    ensures { ElementsNameItems }
+{}
+
+/// Which item a scanned text spells, and which texts are refused since they are no element strings.
+pub fn scans_spell_items()
+    ensures spells { ScansSpellItems }
+    ensures others { OtherTextsAreRefused }
 {}
