@@ -7,6 +7,8 @@ use Rattle.event_json.specs.declared.doc_faults.DocFaultKind.{DocFaultKind}
 use Rattle.event_json.specs.declared.doc_faults.DocFaultKind.TheVariants as kinds
 use Rattle.event_json.specs.declared.site_lists.SitesFault.{SitesFault}
 use Rattle.event_json.specs.declared.site_lists.SitesFault.TheVariants as sites
+use Rattle.item_spellings.specs.declared.faults.ScanFault.{ScanFault}
+use Rattle.item_spellings.specs.declared.faults.ScanFault.TheVariants as scans
 use Rattle.recall_text.specs.declared.site_lists.LineRefusal.{LineRefusal}
 use Rattle.recall_text.specs.declared.site_lists.LineRefusal.TheVariants.{BadLine, BadSite}
 use Rattle.recall_text.proofs.LineLemmas.{lines_at}
@@ -14,7 +16,7 @@ use Rattle.site_core.specs.declared.outcomes.Refusal.{Refusal}
 use Rattle.site_core.specs.declared.outcomes.Refusal.TheVariants as steps
 use Rattle.recall_outcomes.proofs.WordLemmas.{within}
 use Rattle.recall_outcomes.specs.Laws.{EachSentenceIsALine}
-use Rattle.recall_outcomes.specs.Sentences.{kind_sentence, line_sentence, sentence_line, site_sentence, step_sentence, why_sentence}
+use Rattle.recall_outcomes.specs.Sentences.{kind_sentence, line_sentence, scan_sentence, sentence_line, site_sentence, step_sentence, why_sentence}
 use Rattle.recall_outcomes.specs.declared.outcomes.CommandRefusal.{CommandRefusal}
 use Rattle.recall_outcomes.specs.declared.outcomes.CommandRefusal.TheVariants as refusals
 use Rattle.recall_outcomes.specs.declared.outcomes.Outcome.TheVariants as outcomes
@@ -60,12 +62,23 @@ step_line steps.NotMine = (refl, refl)
 step_line steps.NumbersSpent = (refl, refl)
 step_line (steps.Doc fault) = kind_line fault.kind
 
+scan_line : (fault : ScanFault) → IsOneLine (scan_sentence fault)
+scan_line scans.NoElements = (refl, refl)
+scan_line scans.Differing = (refl, refl)
+scan_line scans.TwoItems = (refl, refl)
+scan_line scans.NoItem = (refl, refl)
+scan_line scans.NoSerial = (refl, refl)
+scan_line scans.CheckDigit = (refl, refl)
+scan_line scans.BadSerial = (refl, refl)
+
 why_line : (why : CommandRefusal) → IsOneLine (why_sentence why)
 why_line (refusals.Line line) = refused_line line.why
 why_line refusals.NoWorld = (refl, refl)
 why_line (refusals.Exists name) = (refl, refl)
 why_line (refusals.NoSite name) = (refl, refl)
 why_line refusals.BadEpc = (refl, refl)
+why_line refusals.BadKey = (refl, refl)
+why_line (refusals.BadScan fault) = scan_line fault
 why_line refusals.BadRecall = (refl, refl)
 why_line refusals.UnknownRecall = (refl, refl)
 why_line (refusals.Step why) = step_line why

@@ -23,6 +23,9 @@ use Rattle.event_json.specs.declared.doc_faults.DocField.TheVariants as fields
 use Rattle.event_json.specs.declared.site_lists.SitesFault.{SitesFault}
 use Rattle.event_json.specs.declared.site_lists.SitesFault.TheVariants as faults
 use Rattle.frame_core.specs.Numbers.{Message, Recall}
+use Rattle.item_spellings.specs.Names.{scan_fault_name}
+use Rattle.item_spellings.specs.declared.faults.ScanFault.{ScanFault}
+use Rattle.item_spellings.specs.declared.faults.ScanFault.TheVariants as scans
 use Rattle.query_core.specs.declared.known_items.KnownItem.{KnownItem}
 use Rattle.query_core.specs.declared.recalls.RecallDetail.{RecallDetail}
 use Rattle.query_core.specs.declared.recalls.RecallStatus.{RecallStatus}
@@ -576,6 +579,16 @@ site_fault_tells faults.BadAddress faults.BadAddress e = refl
 site_fault_tells faults.AddressTaken faults.AddressTaken e = refl
 site_fault_tells k l e = absurd (let no : ⊥ = omega (arith, ap code e) in no)
 
+scan_fault_tells : (k l : ScanFault) → scan_fault_name k ≡ scan_fault_name l → k ≡ l
+scan_fault_tells scans.NoElements scans.NoElements e = refl
+scan_fault_tells scans.Differing scans.Differing e = refl
+scan_fault_tells scans.TwoItems scans.TwoItems e = refl
+scan_fault_tells scans.NoItem scans.NoItem e = refl
+scan_fault_tells scans.NoSerial scans.NoSerial e = refl
+scan_fault_tells scans.CheckDigit scans.CheckDigit e = refl
+scan_fault_tells scans.BadSerial scans.BadSerial e = refl
+scan_fault_tells k l e = absurd (let no : ⊥ = omega (arith, ap code e) in no)
+
 doc_tells : (a b : DocFault) → a.event ≡ b.event → field_name a.field ≡ field_name b.field → kind_name a.kind ≡ kind_name b.kind → a ≡ b
 doc_tells a b event field kind =
     let of : ℕ → DocField × DocFaultKind → DocFault = λ n x. record { event = n; field = x.0; kind = x.1 } in
@@ -610,6 +623,8 @@ family_of refusals.BadEpc = 5
 family_of refusals.BadRecall = 6
 family_of refusals.UnknownRecall = 7
 family_of (refusals.Step why) = 8
+family_of refusals.BadKey = 9
+family_of (refusals.BadScan fault) = 10
 
 abbrev names_line : Members → Bool
 names_line no_members = false
@@ -622,7 +637,9 @@ family_named word =
     if bytes_eq word (codes "NoSite") then 4 else
     if bytes_eq word (codes "BadEpc") then 5 else
     if bytes_eq word (codes "BadLine") then 6 else
-    if bytes_eq word (codes "UnknownRecall") then 7 else 8
+    if bytes_eq word (codes "UnknownRecall") then 7 else
+    if bytes_eq word (codes "BadKey") then 9 else
+    if bytes_eq word (codes "BadScan") then 10 else 8
 
 -- the word of the refusal
 abbrev refused_word : Members → List ℕ
@@ -651,6 +668,8 @@ family_is sites refusals.NoWorld = refl
 family_is sites (refusals.Exists name) = refl
 family_is sites (refusals.NoSite name) = refl
 family_is sites refusals.BadEpc = refl
+family_is sites refusals.BadKey = refl
+family_is sites (refusals.BadScan fault) = refl
 family_is sites refusals.BadRecall = refl
 family_is sites refusals.UnknownRecall = refl
 family_is sites (refusals.Step why) = step_family sites why
@@ -662,6 +681,8 @@ whys_of sites are refusals.NoWorld refusals.NoWorld same ha hb e = refl
 whys_of sites are (refusals.Exists name) (refusals.Exists other) same ha hb e = ap (text_at 0) e
 whys_of sites are (refusals.NoSite name) (refusals.NoSite other) same ha hb e = ap (text_at 1) e
 whys_of sites are refusals.BadEpc refusals.BadEpc same ha hb e = refl
+whys_of sites are refusals.BadKey refusals.BadKey same ha hb e = refl
+whys_of sites are (refusals.BadScan x) (refusals.BadScan y) same ha hb e = ap refusals.BadScan (scan_fault_tells x y (ap (text_at 0) e))
 whys_of sites are refusals.BadRecall refusals.BadRecall same ha hb e = refl
 whys_of sites are refusals.UnknownRecall refusals.UnknownRecall same ha hb e = refl
 whys_of sites are (refusals.Step x) (refusals.Step y) same ha hb e = ap refusals.Step (steps_tell sites are x y ha hb e)
@@ -760,6 +781,8 @@ why_kind sites refusals.NoWorld = refl
 why_kind sites (refusals.Exists name) = refl
 why_kind sites (refusals.NoSite name) = refl
 why_kind sites refusals.BadEpc = refl
+why_kind sites refusals.BadKey = refl
+why_kind sites (refusals.BadScan fault) = refl
 why_kind sites refusals.BadRecall = refl
 why_kind sites refusals.UnknownRecall = refl
 why_kind sites (refusals.Step why) = step_kind sites why

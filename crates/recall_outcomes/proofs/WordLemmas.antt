@@ -17,6 +17,9 @@ use Rattle.event_json.specs.declared.doc_faults.DocField.TheVariants as fields
 use Rattle.event_json.specs.declared.site_lists.SitesFault.{SitesFault}
 use Rattle.event_json.specs.declared.site_lists.SitesFault.TheVariants as faults
 use Rattle.recall_text.specs.Lines.{is_newline, IsWithinLine}
+use Rattle.item_spellings.specs.Names.{scan_fault_name}
+use Rattle.item_spellings.specs.declared.faults.ScanFault.{ScanFault}
+use Rattle.item_spellings.specs.declared.faults.ScanFault.TheVariants as scans
 use Rattle.recall_text.specs.SiteLists.{line_words}
 use Rattle.recall_text.specs.Words.{name_at, refusal_text}
 use Rattle.recall_text.specs.declared.site_lists.LineRefusal.{LineRefusal}
@@ -61,6 +64,15 @@ site_word faults.NameTaken = fixed (sites_fault_name faults.NameTaken) refl
 site_word faults.TooMany = fixed (sites_fault_name faults.TooMany) refl
 site_word faults.BadAddress = fixed (sites_fault_name faults.BadAddress) refl
 site_word faults.AddressTaken = fixed (sites_fault_name faults.AddressTaken) refl
+
+scan_word : (s : ScanFault) → Within (scan_fault_name s)
+scan_word scans.NoElements = fixed (scan_fault_name scans.NoElements) refl
+scan_word scans.Differing = fixed (scan_fault_name scans.Differing) refl
+scan_word scans.TwoItems = fixed (scan_fault_name scans.TwoItems) refl
+scan_word scans.NoItem = fixed (scan_fault_name scans.NoItem) refl
+scan_word scans.NoSerial = fixed (scan_fault_name scans.NoSerial) refl
+scan_word scans.CheckDigit = fixed (scan_fault_name scans.CheckDigit) refl
+scan_word scans.BadSerial = fixed (scan_fault_name scans.BadSerial) refl
 
 kind_word : (d : DocFaultKind) → Within (kind_name d)
 kind_word kinds.Syntax = fixed (kind_name kinds.Syntax) refl
@@ -127,6 +139,8 @@ words_are sites refusals.NoWorld plain = fixed (codes "NoWorld") refl
 words_are sites (refusals.Exists name) plain = both (fixed (codes "Exists ") refl) (record { is = plain })
 words_are sites (refusals.NoSite name) plain = both (fixed (codes "NoSite ") refl) (record { is = plain })
 words_are sites refusals.BadEpc plain = fixed (codes "BadEpc") refl
+words_are sites refusals.BadKey plain = fixed (codes "BadKey") refl
+words_are sites (refusals.BadScan fault) plain = both (fixed (codes "BadScan ") refl) (scan_word fault)
 words_are sites refusals.BadRecall plain = fixed (codes "BadLine") refl
 words_are sites refusals.UnknownRecall plain = fixed (codes "UnknownRecall") refl
 words_are sites (refusals.Step why) plain = step_words sites why plain

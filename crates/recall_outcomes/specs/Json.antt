@@ -5,6 +5,7 @@ use Rattle.event_json.specs.Names.{field_name, kind_name, sites_fault_name}
 use Rattle.event_json.specs.Sites.{Site}
 use Rattle.event_json.specs.declared.doc_faults.DocFault.{DocFault}
 use Rattle.frame_core.specs.Numbers.{Recall, Message}
+use Rattle.item_spellings.specs.Names.{scan_fault_name}
 use Rattle.query_core.specs.declared.known_items.KnownItem.{KnownItem}
 use Rattle.query_core.specs.declared.recalls.RecallDetail.{RecallDetail}
 use Rattle.query_core.specs.declared.recalls.RecallStatus.{RecallStatus}
@@ -247,6 +248,8 @@ why_members sites refusals.NoWorld = refused (codes "NoWorld") no_members
 why_members sites (refusals.Exists name) = text_at (codes "name") (string_bytes name) (refused (codes "Exists") no_members)
 why_members sites (refusals.NoSite name) = refused (codes "NoSite") (text_at (codes "site") (string_bytes name) no_members)
 why_members sites refusals.BadEpc = refused (codes "BadEpc") no_members
+why_members sites refusals.BadKey = refused (codes "BadKey") no_members
+why_members sites (refusals.BadScan fault) = text_at (codes "kind") (scan_fault_name fault) (refused (codes "BadScan") no_members)
 why_members sites refusals.BadRecall = refused (codes "BadLine") no_members
 why_members sites refusals.UnknownRecall = refused (codes "UnknownRecall") no_members
 why_members sites (refusals.Step why) = step_members sites why

@@ -5,6 +5,8 @@ use Rattle.event_json.specs.declared.doc_faults.DocFaultKind.{DocFaultKind}
 use Rattle.event_json.specs.declared.doc_faults.DocFaultKind.TheVariants as kinds
 use Rattle.event_json.specs.declared.site_lists.SitesFault.{SitesFault}
 use Rattle.event_json.specs.declared.site_lists.SitesFault.TheVariants as sites
+use Rattle.item_spellings.specs.declared.faults.ScanFault.{ScanFault}
+use Rattle.item_spellings.specs.declared.faults.ScanFault.TheVariants as scans
 use Rattle.recall_text.specs.declared.site_lists.LineRefusal.{LineRefusal}
 use Rattle.recall_text.specs.declared.site_lists.LineRefusal.TheVariants.{BadLine, BadSite}
 use Rattle.site_core.specs.declared.outcomes.Refusal.{Refusal}
@@ -52,10 +54,21 @@ abbrev pub step_sentence : Refusal → List ℕ
 step_sentence steps.NoMemory = codes "memory ran out, which is never a refusal: report it"
 step_sentence (steps.Blocked recall item event) = codes "the event would lead an item that is quarantined here on to a place where it isn't: hold the goods; if they have left, the guide says what to do with documents that come late"
 step_sentence (steps.IdTaken event) = codes "another event with this `eventID` was captured, and its content differs: find out which is right; a corrected event needs an `eventID` of its own"
-step_sentence steps.UnknownItem = codes "no event of this site names the item, and it isn't quarantined there: check its text, capture the site's documents, or start at a site that has it"
+step_sentence steps.UnknownItem = codes "no event of this site names the item, and it isn't quarantined there: check its text (`--key` takes a printed key, `--scan` what a scanner gives), capture the site's documents, or start at a site that has it"
 step_sentence steps.NotMine = codes "the frame is for another site, which no command brings about: report it"
 step_sentence steps.NumbersSpent = codes "a recall or a message would get a number past 2^62: begin a new folder"
 step_sentence (steps.Doc fault) = kind_sentence fault.kind
+
+-- ---- a scanned text
+
+abbrev pub scan_sentence : ScanFault → List ℕ
+scan_sentence scans.NoElements = codes "the text is no list of GS1 element strings, in brackets or as a scanner gives them: scan it again; behind a value of no fixed length stands an FNC1, the byte 29"
+scan_sentence scans.Differing = codes "an application identifier that names the item stands twice, with different values: scan one label alone"
+scan_sentence scans.TwoItems = codes "the text has an SSCC (00) and a GTIN (01) with a serial number (21), which name two items: give the elements of one of them"
+scan_sentence scans.NoItem = codes "the text has neither an SSCC (00) nor a GTIN (01): scan the code that has one of them"
+scan_sentence scans.NoSerial = codes "the GTIN (01) has no serial number (21), so it names no single item: scan the code that has it, or find its items by `recall items`"
+scan_sentence scans.CheckDigit = codes "the last digit of the GTIN (01) or of the SSCC (00) isn't its check digit, so a digit is wrong: scan it again, or compare it with the label"
+scan_sentence scans.BadSerial = codes "the serial number (21) has more than 20 characters, or one that the standard has no place for: scan it again"
 
 -- ---- the whole
 
@@ -64,7 +77,9 @@ why_sentence (refusals.Line line) = line_sentence line.why
 why_sentence refusals.NoWorld = codes "fewer than two sites are listed: list two or more"
 why_sentence (refusals.Exists name) = codes "there is a file of this site, or a list of sites, already: use another folder, or remove the files if they are left of a `recall init` that crashed"
 why_sentence (refusals.NoSite name) = codes "the folder's list has no site of this name: look at its file `sites`, and at the order of the command's words"
-why_sentence refusals.BadEpc = codes "the text is empty, or has a space, a control character or more than 512 bytes: write an EPC as a URN or a link, not the key that is printed of it"
+why_sentence refusals.BadEpc = codes "the text is empty, or has a space, a control character or more than 512 bytes: write an EPC as a URN or a link; add `--key` where it is the key that is printed of it"
+why_sentence refusals.BadKey = codes "the text is no key as it is printed of an item: quote it whole, as `sgtin`, a GTIN of 14 digits with its check digit and the serial number, or `sscc` and 18 digits, with one space between"
+why_sentence (refusals.BadScan fault) = scan_sentence fault
 why_sentence refusals.BadRecall = codes "a recall is written as a site's name, `#` and a number: `recall audit` lists the recalls"
 why_sentence refusals.UnknownRecall = codes "`recall audit` lists the recalls that sites began"
 why_sentence (refusals.Step why) = step_sentence why

@@ -4,6 +4,7 @@ use Rattle.std.specs.Fmt.{decimal}
 use Rattle.std.specs.List.{enumerate_from, flat_map, zip}
 use Rattle.event_json.specs.Sites.{Site}
 use Rattle.frame_core.specs.Numbers.{Recall, Message}
+use Rattle.item_spellings.specs.Names.{scan_fault_name}
 use Rattle.query_core.specs.declared.known_items.KnownItem.{KnownItem}
 use Rattle.query_core.specs.declared.recalls.RecallDetail.{RecallDetail}
 use Rattle.query_core.specs.declared.recalls.RecallStatus.{RecallStatus}
@@ -194,6 +195,8 @@ why_words sites refusals.NoWorld = codes "NoWorld"
 why_words sites (refusals.Exists name) = codes "Exists " ++ string_bytes name
 why_words sites (refusals.NoSite name) = codes "NoSite " ++ string_bytes name
 why_words sites refusals.BadEpc = codes "BadEpc"
+why_words sites refusals.BadKey = codes "BadKey"
+why_words sites (refusals.BadScan fault) = codes "BadScan " ++ scan_fault_name fault
 why_words sites refusals.BadRecall = codes "BadLine"
 why_words sites refusals.UnknownRecall = codes "UnknownRecall"
 why_words sites (refusals.Step why) = refusal_text sites why

@@ -315,6 +315,10 @@ pub(crate) fn why_json(
             json!(in alloc; {"refused": "NoSite", "site": name.as_str()})
         }
         CommandRefusal::BadEpc => refused(alloc, "BadEpc"),
+        CommandRefusal::BadKey => refused(alloc, "BadKey"),
+        CommandRefusal::BadScan(fault) => {
+            json!(in alloc; {"kind": fault.name(), "refused": "BadScan"})
+        }
         CommandRefusal::BadRecall => refused(alloc, "BadLine"),
         CommandRefusal::UnknownRecall => refused(alloc, "UnknownRecall"),
         CommandRefusal::Step(why) => step_json(alloc, sites, why),

@@ -6,6 +6,7 @@ ghost use Rattle.recall_outcomes.specs.Statuses.{is_amiss, is_open, outcome_stat
 
 use event_json::SiteNo;
 use frame_core::RecallId;
+use item_spellings::ScanFault;
 use query_core::{KnownItem, RecallDetail, RecallStatus};
 use recall_text::RefusedLine;
 use report_core::{BackTrace, RecallReport, Trace, Verdict};
@@ -118,6 +119,10 @@ pub enum CommandRefusal {
     NoSite(String),
     /// The text is no EPC.
     BadEpc,
+    /// The text is no item's printed key.
+    BadKey,
+    /// The text isn't what a scanner gives of an item.
+    BadScan(ScanFault),
     /// The text names no recall.
     BadRecall,
     /// The site began no such recall.

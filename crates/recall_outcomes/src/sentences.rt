@@ -2,10 +2,11 @@
 
 ghost use Rattle.std.specs.Prelude.{◌≡◌, ◌++◌, IfOk, OnOk, bytes_eq, map, option_map, string_bytes};
 ghost use Rattle.std.specs.List.{dedup, flat_map};
-ghost use Rattle.recall_outcomes.specs.Sentences.{is_last, kind_sentence, line_sentence, other_line, outcome_sentences, sentence_line, site_sentence, step_sentence, why_sentence};
+ghost use Rattle.recall_outcomes.specs.Sentences.{is_last, kind_sentence, line_sentence, other_line, outcome_sentences, scan_sentence, sentence_line, site_sentence, step_sentence, why_sentence};
 
 use crate::outcomes::{CommandRefusal, Outcome};
 use event_json::{DocFaultKind, SitesFault};
+use item_spellings::ScanFault;
 use recall_text::LineRefusal;
 use site_core::Refusal;
 use std::alloc::{AllocError, Global};
@@ -85,13 +86,46 @@ impl CommandRefusal {
                 "the folder's list has no site of this name: look at its file `sites`, and at the order of the command's words"
             }
             CommandRefusal::BadEpc => {
-                "the text is empty, or has a space, a control character or more than 512 bytes: write an EPC as a URN or a link, not the key that is printed of it"
+                "the text is empty, or has a space, a control character or more than 512 bytes: write an EPC as a URN or a link; add `--key` where it is the key that is printed of it"
             }
+            CommandRefusal::BadKey => {
+                "the text is no key as it is printed of an item: quote it whole, as `sgtin`, a GTIN of 14 digits with its check digit and the serial number, or `sscc` and 18 digits, with one space between"
+            }
+            CommandRefusal::BadScan(fault) => scan_sentence(*fault),
             CommandRefusal::BadRecall => {
                 "a recall is written as a site's name, `#` and a number: `recall audit` lists the recalls"
             }
             CommandRefusal::UnknownRecall => "`recall audit` lists the recalls that sites began",
             CommandRefusal::Step(why) => step_sentence(why),
+        }
+    }
+}
+
+/// What it means that a scanned text spells no item.
+fn scan_sentence(fault: ScanFault) -> &'static str
+    ensures { result.now ≡ scan_sentence fault }
+{
+    match fault {
+        ScanFault::NoElements => {
+            "the text is no list of GS1 element strings, in brackets or as a scanner gives them: scan it again; behind a value of no fixed length stands an FNC1, the byte 29"
+        }
+        ScanFault::Differing => {
+            "an application identifier that names the item stands twice, with different values: scan one label alone"
+        }
+        ScanFault::TwoItems => {
+            "the text has an SSCC (00) and a GTIN (01) with a serial number (21), which name two items: give the elements of one of them"
+        }
+        ScanFault::NoItem => {
+            "the text has neither an SSCC (00) nor a GTIN (01): scan the code that has one of them"
+        }
+        ScanFault::NoSerial => {
+            "the GTIN (01) has no serial number (21), so it names no single item: scan the code that has it, or find its items by `recall items`"
+        }
+        ScanFault::CheckDigit => {
+            "the last digit of the GTIN (01) or of the SSCC (00) isn't its check digit, so a digit is wrong: scan it again, or compare it with the label"
+        }
+        ScanFault::BadSerial => {
+            "the serial number (21) has more than 20 characters, or one that the standard has no place for: scan it again"
         }
     }
 }
@@ -143,7 +177,7 @@ fn step_sentence(why: &Refusal) -> &'static str
             "another event with this `eventID` was captured, and its content differs: find out which is right; a corrected event needs an `eventID` of its own"
         }
         Refusal::UnknownItem => {
-            "no event of this site names the item, and it isn't quarantined there: check its text, capture the site's documents, or start at a site that has it"
+            "no event of this site names the item, and it isn't quarantined there: check its text (`--key` takes a printed key, `--scan` what a scanner gives), capture the site's documents, or start at a site that has it"
         }
         Refusal::NotMine => {
             "the frame is for another site, which no command brings about: report it"

@@ -211,6 +211,11 @@ fn why_words(alloc: Global, sites: &Sites, why: &CommandRefusal) -> Result<Strin
             format!(in alloc; "NoSite {name}")
         }
         CommandRefusal::BadEpc => format!(in alloc; "BadEpc"),
+        CommandRefusal::BadKey => format!(in alloc; "BadKey"),
+        CommandRefusal::BadScan(fault) => {
+            let name = fault.name();
+            format!(in alloc; "BadScan {name}")
+        }
         CommandRefusal::BadRecall => format!(in alloc; "BadLine"),
         CommandRefusal::UnknownRecall => format!(in alloc; "UnknownRecall"),
         CommandRefusal::Step(why) => refusal_text(alloc, sites, why),
