@@ -1,5 +1,5 @@
 -- What a linter finds in a document: of each event its fault, or what is strange about it.
-use Rattle.std.specs.Prelude.{ℕ, Bool, if◌then◌else◌, List, [], ◌∷◌, ◌++◌, Option, Some, None, Result, Ok, Err, codes, bytes_eq, map, ⊤}
+use Rattle.std.specs.Prelude.{◌≡◌, ℕ, Bool, IsUtf8, if◌then◌else◌, List, [], ◌∷◌, ◌++◌, Option, Some, None, Result, Ok, Err, codes, bytes_eq, map, ⊤}
 use Rattle.std.specs.List.{enumerate_from, flat_map}
 use Rattle.serde_json.specs.Data.{Data, Items, array, item, member, no_items, no_members, object, string}
 use Rattle.serde_json.specs.Read.{read}
@@ -118,3 +118,9 @@ found_at sites (Some d) = value_lint sites d
 -- a document of these bytes, which are UTF-8
 unfoldable pub text_lint : List Site → List ℕ → Lint
 text_lint sites text = found_at sites (read text)
+
+-- a document of these bytes
+abbrev pub IsLint : List Site → List ℕ → Lint → Type 0
+IsLint sites bytes lint =
+    (IsUtf8 bytes → lint ≡ text_lint sites bytes)
+    × ((IsUtf8 bytes → ⊥) → lint ≡ without_list (whole fields.Document kinds.Syntax))

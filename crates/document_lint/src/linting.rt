@@ -1,13 +1,13 @@
 //! Linting a document.
 
-ghost use Rattle.std.specs.Prelude.{◌≡◌, ◌≤◌, ◌++◌, IsUtf8, IfOk, OnOk, length, option_to_list};
+ghost use Rattle.std.specs.Prelude.{◌≡◌, ◌≤◌, ◌++◌, IfOk, OnOk, length, option_to_list};
 ghost use Rattle.std.specs.List.{enumerate_from, flat_map};
 ghost use Rattle.event_json.specs.Untraced.{in_order};
 ghost use Rattle.serde_json.specs.View.{items_view, view};
 ghost use Rattle.event_json.specs.Documents.{few_events, numbered_event, whole};
 ghost use Rattle.event_json.specs.declared.doc_faults.DocField.TheVariants as fields;
 ghost use Rattle.event_json.specs.declared.doc_faults.DocFaultKind.TheVariants as kinds;
-ghost use Rattle.document_lint.specs.Findings.{alone, at_number, event_findings, fault_finding, found_of, length_findings, text_lint, value_lint, without_list};
+ghost use Rattle.document_lint.specs.Findings.{IsLint, alone, at_number, event_findings, fault_finding, found_of, length_findings, text_lint, value_lint, without_list};
 
 use crate::event_lists::{event_list, whole};
 use crate::findings::{Finding, Lint, What};
@@ -26,9 +26,8 @@ use std::alloc::{AllocError, Global};
 /// # Errors
 /// Where memory runs out.
 #[tactic(auto, unfolding(crate::specs::Findings::text_lint))]
-pub fn lint(alloc: Global, bytes: &[u8], sites: &Sites) -> Result<Lint, AllocError>
-    ensures text { IsUtf8 bytes.now → IfOk result (λ l. l ≡ text_lint sites.now bytes.now) }
-    ensures bytes { (IsUtf8 bytes.now → ⊥) → IfOk result (λ l. l ≡ without_list (whole fields.Document kinds.Syntax)) }
+pub fn lint_document(alloc: Global, bytes: &[u8], sites: &Sites) -> Result<Lint, AllocError>
+    ensures { IfOk result (IsLint sites.now bytes.now) }
 {
     match Value::from_slice(alloc, bytes) {
         Ok(value) => lint_value(alloc, &value, sites),
