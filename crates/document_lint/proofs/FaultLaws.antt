@@ -1,0 +1,128 @@
+-- the first fault that is found is the one that a document is refused for
+use Rattle.std.proofs.Common.{◌≡◌, ℕ, ◌+◌, Bool, true, false, List, [], ◌∷◌, ◌++◌, Option, Some, None, Result, Ok, Err, map, refl, sym, ap, ◌∙◌, append_assoc}
+use Rattle.std.specs.Prelude.{⊤}
+use Rattle.std.specs.List.{enumerate_from, flat_map}
+use Rattle.std.proofs.lemmas.List.{map-append}
+use Rattle.serde_json.specs.Data.{Data, Items, no_items, item}
+use Rattle.serde_json.specs.Read.{read}
+use Rattle.event_json.specs.Documents.{doc_of, document_of, event_list, events_of, few_events, numbered_event, text_document}
+use Rattle.event_json.specs.EventReading.{event_of}
+use Rattle.event_json.specs.Events.{Content}
+use Rattle.event_json.specs.Faults.{◌>>=◌, at_event}
+use Rattle.event_json.specs.Members.{each}
+use Rattle.event_json.specs.Sites.{Site}
+use Rattle.event_json.specs.Untraced.{in_order, is_aimless, outside_of}
+use Rattle.event_json.specs.declared.bodies.Body.{Body}
+use Rattle.event_json.specs.declared.bodies.Body.TheVariants.{Note, Ship, Make, Pack}
+use Rattle.event_json.specs.declared.doc_faults.DocFault.{DocFault}
+use Rattle.event_json.specs.declared.doc_faults.DocField.{DocField}
+use Rattle.event_json.specs.declared.doc_faults.DocField.TheVariants as fields
+use Rattle.event_json.specs.declared.doc_faults.Flaw.{Flaw}
+use Rattle.document_lint.specs.Findings.{aims, at_number, event_findings, found_in, found_of, length_findings, missed, names, near, nears, nears_of, parent_nears, strange, text_lint, value_lint}
+use Rattle.document_lint.specs.Laws.{FirstFaultRefuses, first_fault, refused_for}
+use Rattle.document_lint.specs.NearMisses.{near_text}
+use Rattle.document_lint.specs.declared.findings.Finding.{Finding}
+use Rattle.document_lint.specs.declared.findings.What.{What}
+use Rattle.document_lint.specs.declared.findings.What.TheVariants.{ShipsNowhere, Outside, NoEventId, NearMiss}
+
+-- none of this is a fault
+record NoFault (found : List What) : Type 0 where
+  pub passed : (n : ℕ) (rest : List Finding) → first_fault (at_number n found ++ rest) ≡ first_fault rest
+
+nothing : NoFault []
+nothing = record { passed = λ n rest. refl }
+
+one_more : (what : What) (found : List What) → ((n : ℕ) (rest : List Finding) → first_fault (record { event = n; what = what } ∷ rest) ≡ first_fault rest) → NoFault found → NoFault (what ∷ found)
+one_more what found passes none = record { passed = λ n rest. passes n (at_number n found ++ rest) ∙ none.passed n rest }
+
+both : (xs ys : List What) → NoFault xs → NoFault ys → NoFault (xs ++ ys)
+both xs ys first second = record {
+  passed = λ n rest.
+      ap (λ (found : List Finding). first_fault (found ++ rest)) (map-append _ xs ys)
+      ∙ ap first_fault (append_assoc (at_number n xs) (at_number n ys) rest) ∙ first.passed n (at_number n ys ++ rest) ∙ second.passed n rest;
+}
+
+aimed : (aimless : Bool) → NoFault (aims aimless)
+aimed true = one_more ShipsNowhere [] (λ n rest. refl) nothing
+aimed false = nothing
+
+places : (texts : List (List ℕ)) → NoFault (map Outside texts)
+places [] = nothing
+places (text ∷ texts) = one_more (Outside text) (map Outside texts) (λ n rest. refl) (places texts)
+
+named : (id : Option (List ℕ)) → NoFault (names id)
+named None = one_more NoEventId [] (λ n rest. refl) nothing
+named (Some id) = nothing
+
+missing : (field : DocField) (text : Option (List ℕ)) → NoFault (missed field text)
+missing field None = nothing
+missing field (Some text) = one_more (NearMiss field text) [] (λ n rest. refl) nothing
+
+misses : (field : DocField) (items : List (List ℕ)) → NoFault (nears_of field items)
+misses field [] = nothing
+misses field (x ∷ items) = both (near field x) (nears_of field items) (missing field (near_text x)) (misses field items)
+
+parents : (parent : Option (List ℕ)) → NoFault (parent_nears parent)
+parents None = nothing
+parents (Some x) = missing fields.ParentId (near_text x)
+
+bodies : (body : Body) → NoFault (nears body)
+bodies (Note items) = misses fields.EpcList items
+bodies (Ship items sites outside) = misses fields.EpcList items
+bodies (Make id ins outs) = both (nears_of fields.InputEpcList ins) (nears_of fields.OutputEpcList outs) (misses fields.InputEpcList ins) (misses fields.OutputEpcList outs)
+bodies (Pack action parent children) = both (parent_nears parent) (nears_of fields.ChildEpcs children) (parents parent) (misses fields.ChildEpcs children)
+
+kept_event : (d : Data) (e : Content) → NoFault (strange d e)
+kept_event d e =
+    both (aims (is_aimless d)) (map Outside (outside_of e.body) ++ (names e.id ++ nears e.body)) (aimed (is_aimless d))
+    (both (map Outside (outside_of e.body)) (names e.id ++ nears e.body) (places (outside_of e.body)) (both (names e.id) (nears e.body) (named e.id) (bodies e.body)))
+
+-- ---- the events of a list
+
+abbrev fault_in : Result (List (Option Content)) DocFault → Option DocFault
+fault_in (Ok found) = None
+fault_in (Err fault) = Some fault
+
+behind_one : (first : Option Content) (rest : Result (List (Option Content)) DocFault) → fault_in (rest >>= λ others. Ok (first ∷ others)) ≡ fault_in rest
+behind_one first (Ok others) = refl
+behind_one first (Err fault) = refl
+
+listed_faults : (sites : List Site) (n : ℕ) (items : Items)
+    → first_fault (flat_map (event_findings sites) (enumerate_from n (in_order items))) ≡ fault_in (each (numbered_event sites) n items)
+listed_faults sites n no_items = refl
+listed_faults sites n (item d ds) = by (event_of sites d) (listed_faults sites (n + 1) ds)
+  where
+    by : (read : Result (Option Content) Flaw) → first_fault (flat_map (event_findings sites) (enumerate_from (n + 1) (in_order ds))) ≡ fault_in (each (numbered_event sites) (n + 1) ds)
+        → first_fault (at_number n (found_of d (at_event n read)) ++ flat_map (event_findings sites) (enumerate_from (n + 1) (in_order ds)))
+        ≡ fault_in (at_event n read >>= λ first. each (numbered_event sites) (n + 1) ds >>= λ rest. Ok (first ∷ rest))
+    by (Err flaw) rest = refl
+    by (Ok None) rest = rest ∙ sym (behind_one None (each (numbered_event sites) (n + 1) ds))
+    by (Ok (Some e)) rest =
+        (kept_event d e).passed n (flat_map (event_findings sites) (enumerate_from (n + 1) (in_order ds))) ∙ rest
+        ∙ sym (behind_one (Some e) (each (numbered_event sites) (n + 1) ds))
+
+whole_fault : (read : Result (List (Option Content)) DocFault) → fault_in read ≡ refused_for (read >>= λ found. Ok (doc_of found))
+whole_fault (Ok found) = refl
+whole_fault (Err fault) = refl
+
+value_faults : (sites : List Site) (d : Data) → first_fault (value_lint sites d).findings ≡ refused_for (document_of sites d)
+unfolding value_lint document_of events_of
+value_faults sites d = by (event_list d)
+  where
+    by_length : (items : Items) (few : Result ⊤ DocFault)
+        → first_fault (length_findings few ++ flat_map (event_findings sites) (enumerate_from 1 (in_order items)))
+        ≡ refused_for (few >>= λ _. each (numbered_event sites) 1 items >>= λ found. Ok (doc_of found))
+    by_length items (Err fault) = refl
+    by_length items (Ok passed) = listed_faults sites 1 items ∙ whole_fault (each (numbered_event sites) 1 items)
+
+    by : (list : Result Items DocFault) → first_fault (found_in sites list).findings ≡ refused_for (list >>= λ items. few_events items >>= λ _. events_of sites items)
+    by (Err fault) = refl
+    by (Ok items) = by_length items (few_events items)
+
+read_faults : (sites : List Site) (text : List ℕ) (value : Option Data) → read text ≡ value → first_fault (text_lint sites text).findings ≡ refused_for (text_document sites text)
+unfolding text_lint text_document
+read_faults sites text None is = rw is refl
+read_faults sites text (Some d) is = rw is (value_faults sites d)
+
+pub first_is_told : FirstFaultRefuses
+first_is_told sites text = read_faults sites text (read text) refl

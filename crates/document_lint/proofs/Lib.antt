@@ -1,0 +1,4 @@
+pub mod Alone
+pub mod FaultLaws
+pub mod FloatFree
+pub mod NearLaws

@@ -1,0 +1,4 @@
+pub mod Findings
+pub mod Laws
+pub mod Lines
+pub mod NearMisses

@@ -1,0 +1,117 @@
+//! What is found, in lines of JSON.
+
+ghost use Rattle.std.specs.Prelude.{◌≡◌, ◌++◌, false, IfOk, OnOk, string_bytes};
+ghost use Rattle.serde_json.specs.Data.{object};
+ghost use Rattle.serde_json.specs.View.{view};
+ghost use Rattle.serde_json.specs.Written.{has_float};
+ghost use Rattle.document_lint.specs.Lines.{aimless_members, fault_members, finding_json, finding_line, json_line, lint_json, near_members, outside_members, skipped_members, unnamed_members};
+
+use crate::findings::{Finding, Lint, What};
+use serde_json::{Value, json};
+use std::alloc::{AllocError, Global};
+
+impl Lint {
+    /// An object for each finding, in a line of its own, with the document's source in it, which is its file's path.
+    ///
+    /// # Errors
+    /// Where memory runs out.
+    pub fn json(&self, alloc: Global, source: &str) -> Result<String, AllocError>
+        ensures { IfOk result (λ t. string_bytes t ≡ lint_json source.now self.now) }
+    {
+        let mut text = String::new(alloc);
+        for finding in self.findings.as_slice() {
+            push_finding(alloc, &mut text, source, finding)?;
+        }
+        Ok(text)
+    }
+}
+
+/// Adds the line of a finding.
+#[tactic(auto, using(crate::proofs::FloatFree::finding_free))]
+fn push_finding(
+    alloc: Global,
+    text: &mut String,
+    source: &str,
+    finding: &Finding,
+) -> Result<(), AllocError>
+    ensures { OnOk result (string_bytes text.new ≡ string_bytes text.old ++ finding_line source.now finding.now) }
+{
+    let value = finding_json(alloc, source, finding)?;
+    let line = json_line(alloc, &value)?;
+    text.push_str(line.as_str())
+}
+
+/// A value in a line of its own.
+pub(crate) fn json_line(alloc: Global, value: &Value) -> Result<String, AllocError>
+    requires { has_float (view value.now) ≡ false }
+    ensures { IfOk result (λ t. string_bytes t ≡ json_line (view value.now)) }
+{
+    let mut text = value.to_string(alloc)?;
+    text.push('\n')?;
+    Ok(text)
+}
+
+/// The value of a finding.
+fn finding_json(alloc: Global, source: &str, finding: &Finding) -> Result<Value, AllocError>
+    ensures { IfOk result (λ v. view v ≡ finding_json source.now finding.now) }
+{
+    let event = finding.event;
+    match &finding.what {
+        What::Fault { field, kind } => fault_json(alloc, event, kind.name(), field.name(), source),
+        What::Skipped(skipped) => skipped_json(alloc, event, source, skipped.name()),
+        What::ShipsNowhere => aimless_json(alloc, event, source),
+        What::Outside(place) => outside_json(alloc, place.as_str(), event, source),
+        What::NoEventId => unnamed_json(alloc, event, source),
+        What::NearMiss { field, text } => {
+            near_json(alloc, event, field.name(), source, text.as_str())
+        }
+    }
+}
+
+fn fault_json(
+    alloc: Global,
+    event: u64,
+    kind: &str,
+    field: &str,
+    source: &str,
+) -> Result<Value, AllocError>
+    ensures { IfOk result (λ v. view v ≡ object (fault_members source.now event field.now kind.now)) }
+{
+    json!(in alloc; {"event": event, "fault": kind, "field": field, "file": source})
+}
+
+fn skipped_json(alloc: Global, event: u64, source: &str, skipped: &str) -> Result<Value, AllocError>
+    ensures { IfOk result (λ v. view v ≡ object (skipped_members source.now event skipped.now)) }
+{
+    json!(in alloc; {"event": event, "file": source, "type": skipped, "warning": "Skipped"})
+}
+
+fn aimless_json(alloc: Global, event: u64, source: &str) -> Result<Value, AllocError>
+    ensures { IfOk result (λ v. view v ≡ object (aimless_members source.now event)) }
+{
+    json!(in alloc; {"event": event, "field": "destinationList", "file": source, "warning": "ShipsNowhere"})
+}
+
+fn outside_json(alloc: Global, place: &str, event: u64, source: &str) -> Result<Value, AllocError>
+    ensures { IfOk result (λ v. view v ≡ object (outside_members source.now event place.now)) }
+{
+    json!(in alloc; {"address": place, "event": event, "field": "destinationList", "file": source, "warning": "Outside"})
+}
+
+fn unnamed_json(alloc: Global, event: u64, source: &str) -> Result<Value, AllocError>
+    ensures { IfOk result (λ v. view v ≡ object (unnamed_members source.now event)) }
+{
+    json!(in alloc; {"event": event, "file": source, "warning": "NoEventID"})
+}
+
+fn near_json(
+    alloc: Global,
+    event: u64,
+    field: &str,
+    source: &str,
+    text: &str,
+) -> Result<Value, AllocError>
+    ensures { IfOk result (λ v. view v ≡ object (near_members source.now event field.now text.now)) }
+{
+    json!(in alloc; {"event": event, "field": field, "file": source, "text": text, "warning": "NearMiss"})
+}

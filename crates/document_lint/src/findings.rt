@@ -1,0 +1,47 @@
+//! What a linter finds in a document.
+
+use event_json::{DocFaultKind, DocField, PlainText, Sequence};
+
+/// An event type of the standard that isn't traced.
+#[derive(Clone, Copy, Debug, PartialEq, Eq)]
+pub enum SkippedType {
+    /// TransactionEvent
+    Transaction,
+    /// AssociationEvent
+    Association,
+}
+
+/// What is wrong with an event or a document, or strange about an event.
+#[derive(Debug, Drop)]
+pub enum What {
+    /// It can't be read: the first fault of the event, or a fault of the document itself.
+    Fault { field: DocField, kind: DocFaultKind },
+    /// The event is skipped, being of a type that isn't traced.
+    Skipped(SkippedType),
+    /// An ObjectEvent of the business step shipping has no destination, so that nothing is traced past it.
+    ShipsNowhere,
+    /// Goods were shipped to this place, which is no traced site.
+    Outside(PlainText),
+    /// The event has no eventID, so that it counts again where it is captured again.
+    NoEventId,
+    /// The text of an item begins as that of an SGTIN or an SSCC does and breaks a rule of these, so that it is taken as any
+    /// other text.
+    NearMiss { field: DocField, text: PlainText },
+}
+
+/// Something that is found at an event.
+#[derive(Debug, Drop)]
+pub struct Finding {
+    /// The event's number in the document, from 1; 0 of the document itself.
+    pub event: u64,
+    pub what: What,
+}
+
+/// What is found in a document.
+#[derive(Debug, Drop)]
+pub struct Lint {
+    /// How many events its list has.
+    pub events: u64,
+    /// What is found, of the document itself first and then event by event.
+    pub findings: Sequence<Finding>,
+}

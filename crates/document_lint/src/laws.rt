@@ -1,0 +1,18 @@
+//! Laws of linting, each named by a function with an empty body whose contract is the law.
+
+ghost use Rattle.document_lint.specs.Laws.{FirstFaultRefuses, NearMissesSpellNone, SpellingsBeginSo};
+
+/// A document is refused for the first fault that is found in it, and read where none is found.
+pub fn first_fault_refuses()
+    ensures { FirstFaultRefuses }
+{}
+
+/// The item of a text is a near miss where the text begins as one of an SGTIN or an SSCC and spells none.
+pub fn near_misses_spell_none()
+    ensures { NearMissesSpellNone }
+{}
+
+/// Each text that spells an SGTIN or an SSCC begins so.
+pub fn spellings_begin_so()
+    ensures { SpellingsBeginSo }
+{}

@@ -1,0 +1,17 @@
+//! What is wrong and what is strange in a document, before it is captured: every event that can't be read with its fault, and
+//! what an event says that isn't traced or is probably not meant; and how that is printed.
+#![tactic(auto)]
+
+mod event_lists;
+mod finding_json;
+mod finding_texts;
+mod findings;
+pub mod laws;
+mod linting;
+mod near_misses;
+mod strange_events;
+mod totals;
+
+pub use findings::{Finding, Lint, SkippedType, What};
+pub use linting::lint_document;
+pub use totals::LintTotals;
