@@ -1,5 +1,5 @@
 //! Which items a site knows.
-use crate::sites::{is_item, recalling, tell, untold};
+use crate::sites::{is_item, recalling, recalling_twice, tell, untold};
 use query_core::{KnownItem, known_items_with};
 use std::alloc::Global;
 use std::hash::RandomState;
@@ -40,6 +40,23 @@ fn are_told(alloc: Global, keys: RandomState) -> Result<bool, Fail> {
 fn items_are_found_by_parts_of_their_keys(rt: HostRuntime) -> Result<(), Fail> {
     let keys = RandomState::new(&rt)?;
     assert!(rt; are_told(rt.alloc(), keys)?);
+    Ok(())
+}
+
+/// Whether site A tells of x and of y that two events name each, though one of them names x twice.
+fn are_counted_once(alloc: Global, keys: RandomState) -> Result<bool, Fail> {
+    let site = recalling_twice(alloc, keys)?;
+    let items = known_items_with(alloc, &site, "")?;
+    Ok(match items.as_slice() {
+        [first, second] => is_known(first, "x", 2) && is_known(second, "y", 2),
+        _ => false,
+    })
+}
+
+#[test]
+fn an_event_that_names_an_item_twice_counts_once(rt: HostRuntime) -> Result<(), Fail> {
+    let keys = RandomState::new(&rt)?;
+    assert!(rt; are_counted_once(rt.alloc(), keys)?);
     Ok(())
 }
 

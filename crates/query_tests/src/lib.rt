@@ -5,6 +5,8 @@
 #[cfg(test)]
 mod items;
 #[cfg(test)]
+mod orders;
+#[cfg(test)]
 mod recalls;
 #[cfg(test)]
 mod sites;

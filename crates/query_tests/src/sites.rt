@@ -11,6 +11,14 @@ use std::test::Fail;
 const DOCUMENT: &str =
     "{\"type\":\"EPCISDocument\",\"epcisBody\":{\"eventList\":[{\"type\":\"ObjectEvent\",\"eventTime\":\"2024-05-01T08:00:00Z\",\"eventTimeZoneOffset\":\"+00:00\",\"action\":\"OBSERVE\",\"epcList\":[\"x\"],\"destinationList\":[{\"destination\":\"b\"}]},{\"type\":\"ObjectEvent\",\"eventTime\":\"2024-05-02T08:00:00Z\",\"eventTimeZoneOffset\":\"+00:00\",\"action\":\"OBSERVE\",\"epcList\":[\"x\",\"xy\"],\"destinationList\":[{\"destination\":\"b\"}]}]}}";
 
+/// A document of a transformation that takes x in and gives x and y out, and of a shipment of both to the address b.
+const REWORKED: &str =
+    "{\"type\":\"EPCISDocument\",\"epcisBody\":{\"eventList\":[{\"type\":\"TransformationEvent\",\"eventTime\":\"2024-05-01T08:00:00Z\",\"eventTimeZoneOffset\":\"+00:00\",\"inputEPCList\":[\"x\"],\"outputEPCList\":[\"x\",\"y\"]},{\"type\":\"ObjectEvent\",\"eventTime\":\"2024-05-02T08:00:00Z\",\"eventTimeZoneOffset\":\"+00:00\",\"action\":\"OBSERVE\",\"epcList\":[\"x\",\"y\"],\"destinationList\":[{\"destination\":\"b\"}]}]}}";
+
+/// A document of a shipment of x to the address a.
+const SENT_BACK: &str =
+    "{\"type\":\"ObjectEvent\",\"eventTime\":\"2024-05-03T08:00:00Z\",\"eventTimeZoneOffset\":\"+00:00\",\"action\":\"OBSERVE\",\"epcList\":[\"x\"],\"destinationList\":[{\"destination\":\"a\"}]}";
+
 /// Site A.
 pub fn a() -> SiteNo {
     SiteNo::of(0).unwrap()
@@ -54,12 +62,40 @@ fn take(state: &mut SiteState, input: &SiteInput) -> Result<(), Fail> {
     }
 }
 
+/// Captures a document.
+fn capture(alloc: Global, state: &mut SiteState, document: &str) -> Result<(), Fail> {
+    let bytes = document.as_bytes().to_vec(alloc)?;
+    take(state, &SiteInput::Capture(Sequence::from_vec(bytes)))
+}
+
+/// Begins a recall of an item.
+fn start(alloc: Global, state: &mut SiteState, item: &str) -> Result<(), Fail> {
+    take(state, &SiteInput::Start(Epc::read(alloc, item)?))
+}
+
 /// Site A, which captured the document and began a recall of x.
 pub fn recalling(alloc: Global, keys: RandomState) -> Result<SiteState, Fail> {
     let mut site = fresh(alloc, keys, false)?;
-    let bytes = DOCUMENT.as_bytes().to_vec(alloc)?;
-    take(&mut site, &SiteInput::Capture(Sequence::from_vec(bytes)))?;
-    take(&mut site, &SiteInput::Start(Epc::read(alloc, "x")?))?;
+    capture(alloc, &mut site, DOCUMENT)?;
+    start(alloc, &mut site, "x")?;
+    Ok(site)
+}
+
+/// Site A, which made y of x and shipped both to B, and began a recall of x, with two messages, and one of y.
+pub fn recalling_twice(alloc: Global, keys: RandomState) -> Result<SiteState, Fail> {
+    let mut site = fresh(alloc, keys, false)?;
+    capture(alloc, &mut site, REWORKED)?;
+    start(alloc, &mut site, "x")?;
+    start(alloc, &mut site, "y")?;
+    Ok(site)
+}
+
+/// Site B, which shipped x to A, took A's message that x is recalled, so that it has one for A, and began a recall of x.
+pub fn recalling_too(alloc: Global, keys: RandomState) -> Result<SiteState, Fail> {
+    let mut site = untold(alloc, keys)?;
+    capture(alloc, &mut site, SENT_BACK)?;
+    tell(alloc, &mut site)?;
+    start(alloc, &mut site, "x")?;
     Ok(site)
 }
 
