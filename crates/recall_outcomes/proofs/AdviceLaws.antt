@@ -3,7 +3,7 @@ use Rattle.std.proofs.Common.{◌≡◌, ℕ, Bool, true, false, List, [], ◌�
 use Rattle.std.specs.List.{list_all, list_any}
 use Rattle.std.specs.Prelude.{nat_le}
 use Rattle.std.proofs.lemmas.Option.{same_Some}
-use Rattle.recall_outcomes.specs.Advice.{advice, audit_advice, effects_advice, open_advice, report_advice, start_advice, would_advice}
+use Rattle.recall_outcomes.specs.Advice.{advice, audit_advice, blocked_advice, effects_advice, is_blocked, open_advice, report_advice, start_advice, would_advice}
 use Rattle.recall_outcomes.specs.Laws.{AdviceIsALine, IsNote}
 use Rattle.recall_outcomes.specs.Statuses.{is_open}
 use Rattle.recall_outcomes.specs.declared.outcomes.AuditedRecall.{AuditedRecall}
@@ -48,6 +48,10 @@ audit_note : (recalls : List AuditedRecall) → AllNotes (audit_advice recalls)
 audit_note [] = note (codes "the records of the sites are consistent, and no recall was begun") refl
 audit_note (r ∷ recalls) = nothing
 
+blocked_note : (blocked : Bool) → AllNotes (blocked_advice blocked)
+blocked_note true = note (codes "nothing of the document was kept: if the goods have left, capture what the site that took them wrote, and start a recall of the item there") refl
+blocked_note false = nothing
+
 pub advice_is_line : AdviceIsALine
 advice_is_line outcomes.Created = nothing
 advice_is_line (outcomes.Stepped effects) = effects_note effects
@@ -62,4 +66,4 @@ advice_is_line (outcomes.WouldStart quarantined messages) =
     note (codes "nothing was begun; this is of the site alone, and `recall trace` tells what a recall would find at all sites") refl
 advice_is_line (outcomes.Audited recalls) = audit_note recalls.items
 advice_is_line (outcomes.Inconsistent misfit) = nothing
-advice_is_line (outcomes.Refused whys) = nothing
+advice_is_line (outcomes.Refused whys) = blocked_note (list_any is_blocked whys.items)

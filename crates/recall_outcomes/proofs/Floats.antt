@@ -21,11 +21,9 @@ use Rattle.site_core.specs.declared.outcomes.Effects.{Effects}
 use Rattle.site_core.specs.declared.outcomes.Effects.TheVariants as effects
 use Rattle.site_core.specs.declared.outcomes.Refusal.TheVariants as steps
 use Rattle.trace_core.specs.declared.pairs.Pair.{Pair}
-use Rattle.recall_outcomes.specs.Json.{audited_json, back_json, beside_json, caused_members, created_json, detail_json, document_json, effects_json, engaged_json, fault_json, leading_json, led_json, list_of, outside_json, pair_json, quarantined_json, report_json, standing_json, status_json, trace_json, traced_json, trail_json, verdict_json, waiting_json, why_json}
+use Rattle.recall_outcomes.specs.Json.{audited_json, back_json, beside_json, caused_members, created_json, detail_json, effects_json, engaged_json, fault_json, leading_json, led_json, list_of, outside_json, pair_json, quarantined_json, report_json, standing_json, status_json, trace_json, traced_json, trail_json, verdict_json, waiting_json, why_json}
 use Rattle.recall_outcomes.specs.Faults.{fault_name}
 use Rattle.report_forms.specs.Steps.{before_last}
-use Rattle.recall_outcomes.specs.declared.documents.DocumentOutcome.{DocumentOutcome}
-use Rattle.recall_outcomes.specs.declared.documents.DocumentOutcome.TheVariants.{Captured, Refused}
 use Rattle.recall_outcomes.specs.declared.causes.Cause.{Cause}
 use Rattle.recall_outcomes.specs.declared.causes.Cause.TheVariants as causes
 use Rattle.recall_outcomes.specs.declared.causes.Failure.{Failure}
@@ -136,16 +134,6 @@ why_free sites (refusals.Step steps.NotMine) = refl
 why_free sites (refusals.Step steps.NumbersSpent) = refl
 why_free sites (refusals.Step (steps.Doc fault)) = refl
 why_free sites (refusals.Step steps.NoMemory) = refl
-
-pub document_free : (sites : List Site) (source : List ℕ) (came : DocumentOutcome) → has_float (document_json sites source came) ≡ false
-document_free sites source (Captured fresh known skipped) = refl
-document_free sites source (Refused (steps.Blocked r item event)) = refl
-document_free sites source (Refused (steps.IdTaken event)) = refl
-document_free sites source (Refused steps.UnknownItem) = refl
-document_free sites source (Refused steps.NotMine) = refl
-document_free sites source (Refused steps.NumbersSpent) = refl
-document_free sites source (Refused (steps.Doc fault)) = refl
-document_free sites source (Refused steps.NoMemory) = refl
 
 version_free : (v : ℤ) → has_float (number (of_integer v)) ≡ false
 version_free (pos n) = refl

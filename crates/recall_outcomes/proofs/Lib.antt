@@ -1,4 +1,4 @@
-pub mod DocumentLaws
+pub mod BatchLaws
 pub mod RefusalLaws
 pub mod Floats
 pub mod SentenceLaws

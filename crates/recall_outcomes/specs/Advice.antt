@@ -3,10 +3,13 @@ use Rattle.std.specs.Prelude.{ℕ, Bool, true, false, List, [], ◌∷◌, codes
 use Rattle.std.specs.List.{list_any}
 use Rattle.recall_outcomes.specs.Statuses.{is_open}
 use Rattle.recall_outcomes.specs.declared.outcomes.AuditedRecall.{AuditedRecall}
+use Rattle.recall_outcomes.specs.declared.outcomes.CommandRefusal.{CommandRefusal}
+use Rattle.recall_outcomes.specs.declared.outcomes.CommandRefusal.TheVariants as refusals
 use Rattle.recall_outcomes.specs.declared.outcomes.Outcome.{Outcome}
 use Rattle.recall_outcomes.specs.declared.outcomes.Outcome.TheVariants as outcomes
 use Rattle.site_core.specs.declared.outcomes.Effects.{Effects}
 use Rattle.site_core.specs.declared.outcomes.Effects.TheVariants as effects
+use Rattle.site_core.specs.declared.outcomes.Refusal.TheVariants as steps
 
 -- after a start, by whether the recall has ended at once
 abbrev pub start_advice : Bool → List ℕ
@@ -33,6 +36,15 @@ audit_advice (r ∷ recalls) = None
 abbrev pub would_advice : List ℕ
 would_advice = codes "note: nothing was begun; this is of the site alone, and `recall trace` tells what a recall would find at all sites\n"
 
+-- an event was blocked, so that its document was
+abbrev pub is_blocked : CommandRefusal → Bool
+is_blocked (refusals.Step (steps.Blocked r item event)) = true
+is_blocked other = false
+
+abbrev pub blocked_advice : Bool → Option (List ℕ)
+blocked_advice true = Some (codes "note: nothing of the document was kept: if the goods have left, capture what the site that took them wrote, and start a recall of the item there\n")
+blocked_advice false = None
+
 abbrev pub advice : Outcome → Option (List ℕ)
 advice outcomes.Created = None
 advice (outcomes.Stepped effects) = effects_advice effects
@@ -46,4 +58,4 @@ advice (outcomes.Known site items) = None
 advice (outcomes.WouldStart quarantined messages) = Some would_advice
 advice (outcomes.Audited recalls) = audit_advice recalls.items
 advice (outcomes.Inconsistent misfit) = None
-advice (outcomes.Refused whys) = None
+advice (outcomes.Refused whys) = blocked_advice (list_any is_blocked whys.items)

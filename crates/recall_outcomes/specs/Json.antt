@@ -32,9 +32,11 @@ use Rattle.site_recovery.specs.declared.checking.Misfit.{Misfit}
 use Rattle.trace_core.specs.declared.pairs.Pair.{Pair}
 use Rattle.recall_outcomes.specs.Faults.{fault_name}
 use Rattle.report_forms.specs.Steps.{before_last}
-use Rattle.recall_outcomes.specs.declared.documents.DocumentOutcome.{DocumentOutcome}
-use Rattle.recall_outcomes.specs.declared.documents.DocumentOutcome.TheVariants.{Captured, Refused}
-use Rattle.recall_outcomes.specs.declared.documents.Totals.{Totals}
+use Rattle.recall_outcomes.specs.declared.batches.InputOutcome.{InputOutcome}
+use Rattle.recall_outcomes.specs.declared.batches.InputOutcome.TheVariants.{Captured, Started, Refused}
+use Rattle.recall_outcomes.specs.declared.batches.Task.{Task}
+use Rattle.recall_outcomes.specs.declared.batches.Task.TheVariants as tasks
+use Rattle.recall_outcomes.specs.declared.batches.Totals.{Totals}
 use Rattle.recall_outcomes.specs.Causes.{cause_words, kind_name as cause_kind}
 use Rattle.recall_outcomes.specs.declared.causes.Cause.{Cause}
 use Rattle.recall_outcomes.specs.declared.causes.Cause.TheVariants as causes
@@ -69,10 +71,13 @@ abbrev pub captured_members : ℕ → ℕ → ℕ → Members
 captured_members fresh known skipped =
     count_at (codes "captured") fresh (count_at (codes "known") known (count_at (codes "skipped") skipped no_members))
 
+abbrev pub started_members : List Site → Recall → ℕ → ℕ → Bool → Members
+started_members sites r new messages ended =
+    flag_at (codes "ended") ended (count_at (codes "messages") messages (count_at (codes "new") new (text_at (codes "recall") (recall_text sites r) no_members)))
+
 abbrev pub effects_json : List Site → Effects → Data
 effects_json sites (effects.Captured fresh known skipped) = object (captured_members fresh known skipped)
-effects_json sites (effects.Started r new numbered ended) =
-    object (flag_at (codes "ended") ended (count_at (codes "messages") numbered (count_at (codes "new") new (text_at (codes "recall") (recall_text sites r) no_members))))
+effects_json sites (effects.Started r new numbered ended) = object (started_members sites r new numbered ended)
 effects_json sites (effects.Received new numbered owed) =
     object (count_at (codes "messages") numbered (count_at (codes "new") new (flag_at (codes "owed") owed no_members)))
 effects_json sites effects.Repeat = object (text_at (codes "effect") (codes "repeat") no_members)
@@ -279,19 +284,35 @@ outcome_json sites (outcomes.Audited recalls) = map (audited_json sites) recalls
 outcome_json sites (outcomes.Inconsistent misfit) = misfit_json sites misfit ∷ []
 outcome_json sites (outcomes.Refused whys) = map (why_json sites) whys.items
 
--- ---- documents of a capture of several, with their source
+-- ---- inputs of several, with their source
 
-abbrev pub document_members : List Site → DocumentOutcome → Members
-document_members sites (Captured fresh known skipped) = captured_members fresh known skipped
-document_members sites (Refused why) = step_members sites why
+abbrev pub input_members : List Site → InputOutcome → Members
+input_members sites (Captured fresh known skipped) = captured_members fresh known skipped
+input_members sites (Started r new messages ended) = started_members sites r new messages ended
+input_members sites (Refused why) = why_members sites why
 
-abbrev pub document_json : List Site → List ℕ → DocumentOutcome → Data
-document_json sites source came = object (put (codes "file") (string source) (document_members sites came))
+-- a document comes of a file, and an EPC of a file or of the command line
+abbrev pub source_name : Task → List ℕ
+source_name tasks.Capture = codes "file"
+source_name tasks.Start = codes "source"
+
+abbrev pub input_json : Task → List Site → List ℕ → InputOutcome → Data
+input_json task sites source came = object (put (source_name task) (string source) (input_members sites came))
+
+abbrev pub documents_json : Totals → Data
+documents_json t =
+    object (count_at (codes "captured") t.captured (count_at (codes "documents") t.inputs (count_at (codes "known") t.known
+    (count_at (codes "refused") t.refused (count_at (codes "skipped") t.skipped no_members)))))
+
+abbrev pub items_json : Totals → Data
+items_json t = object (count_at (codes "items") t.inputs (count_at (codes "refused") t.refused (count_at (codes "started") t.started no_members)))
+
+abbrev pub total_json : Task → Totals → Data
+total_json tasks.Capture t = documents_json t
+total_json tasks.Start t = items_json t
 
 abbrev pub totals_json : Totals → Data
-totals_json t =
-    object (count_at (codes "captured") t.captured (count_at (codes "documents") t.documents (count_at (codes "known") t.known
-    (count_at (codes "refused") t.refused (count_at (codes "skipped") t.skipped no_members)))))
+totals_json t = total_json t.task t
 
 -- ---- faults and notes
 

@@ -9,13 +9,13 @@ use Rattle.site_core.specs.declared.outcomes.Effects.TheVariants as effects
 use Rattle.site_core.specs.declared.outcomes.Refusal.{Refusal}
 use Rattle.site_core.specs.declared.outcomes.Refusal.TheVariants as steps
 use Rattle.recall_outcomes.specs.Advice.{advice}
-use Rattle.recall_outcomes.specs.Documents.{document_words, totals_status, with_one}
+use Rattle.recall_outcomes.specs.Batches.{input_words, totals_status, with_one}
 use Rattle.recall_outcomes.specs.Sentences.{outcome_sentences, why_sentence}
 use Rattle.recall_outcomes.specs.Statuses.{outcome_status}
 use Rattle.recall_outcomes.specs.Texts.{outcome_text, why_words}
-use Rattle.recall_outcomes.specs.declared.documents.DocumentOutcome.{DocumentOutcome}
-use Rattle.recall_outcomes.specs.declared.documents.DocumentOutcome.TheVariants as documents
-use Rattle.recall_outcomes.specs.declared.documents.Totals.{Totals}
+use Rattle.recall_outcomes.specs.declared.batches.InputOutcome.{InputOutcome}
+use Rattle.recall_outcomes.specs.declared.batches.InputOutcome.TheVariants as inputs
+use Rattle.recall_outcomes.specs.declared.batches.Totals.{Totals}
 use Rattle.recall_outcomes.specs.declared.outcomes.CommandRefusal.{CommandRefusal}
 use Rattle.recall_outcomes.specs.declared.outcomes.CommandRefusal.TheVariants as refusals
 use Rattle.recall_outcomes.specs.declared.outcomes.Outcome.{Outcome}
@@ -62,21 +62,21 @@ EachReasonIsALine =
 abbrev pub EachSentenceIsALine : Type 0
 EachSentenceIsALine = (o : Outcome) → lines (outcome_sentences o) ≡ dedup bytes_eq (map why_sentence (refusals_of o))
 
--- the outcome of a command that captures one document alone
-abbrev pub IsOfDocument : DocumentOutcome → Outcome → Type 0
-IsOfDocument (documents.Captured fresh known skipped) o = o ≡ outcomes.Stepped (effects.Captured fresh known skipped)
-IsOfDocument (documents.Refused why) o = IsRefused o × (refusals_of o ≡ refusals.Step why ∷ [])
+-- the outcome of a command that takes one input alone
+abbrev pub IsOfInput : InputOutcome → Outcome → Type 0
+IsOfInput (inputs.Captured fresh known skipped) o = o ≡ outcomes.Stepped (effects.Captured fresh known skipped)
+IsOfInput (inputs.Started r new messages ended) o = o ≡ outcomes.Stepped (effects.Started r new messages ended)
+IsOfInput (inputs.Refused why) o = IsRefused o × (refusals_of o ≡ why ∷ [])
 
--- Of several documents each has the words that it has alone.
-abbrev pub DocumentsHaveTheirWords : Type 0
-DocumentsHaveTheirWords =
-    (sites : List Site) (came : DocumentOutcome) (o : Outcome) → IsOfDocument came o → outcome_text sites o ≡ document_words sites came ++ 10 ∷ []
+-- Of several inputs each has the words that it has alone.
+abbrev pub InputsHaveTheirWords : Type 0
+InputsHaveTheirWords = (sites : List Site) (came : InputOutcome) (o : Outcome) → IsOfInput came o → outcome_text sites o ≡ input_words sites came ++ 10 ∷ []
 
--- A document that is refused makes the status 1, and one that is captured leaves it as it is.
-abbrev pub RefusedDocumentsAreCounted : Type 0
-RefusedDocumentsAreCounted =
-    (totals : Totals) → ((why : Refusal) → totals_status (with_one totals (documents.Refused why)) ≡ 1)
-    × ((fresh known skipped : ℕ) → totals_status (with_one totals (documents.Captured fresh known skipped)) ≡ totals_status totals)
+-- An input that is refused makes the status 1, and any other leaves it as it is.
+abbrev pub RefusedInputsAreCounted : Type 0
+RefusedInputsAreCounted =
+    (totals : Totals) → ((why : CommandRefusal) → totals_status (with_one totals (inputs.Refused why)) ≡ 1)
+    × ((came : InputOutcome) → ((why : CommandRefusal) → came ≡ inputs.Refused why → ⊥) → totals_status (with_one totals came) ≡ totals_status totals)
 
 -- it begins as a note, and has no line's end but its last byte
 pub record IsNote (text : List ℕ) : Type 0 where

@@ -1,6 +1,6 @@
 pub mod Advice
 pub mod Causes
-pub mod Documents
+pub mod Batches
 pub mod Faults
 pub mod Json
 pub mod Laws

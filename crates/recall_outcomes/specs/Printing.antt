@@ -2,12 +2,13 @@
 use Rattle.std.specs.Prelude.{ℕ, List, ◌++◌, Option, codes, map}
 use Rattle.std.specs.Str.Lines.{lines}
 use Rattle.event_json.specs.Sites.{Site}
-use Rattle.recall_outcomes.specs.Documents.{document_text, totals_text}
+use Rattle.recall_outcomes.specs.Batches.{input_text, totals_text}
 use Rattle.recall_outcomes.specs.Faults.{fault_line, fault_name, fault_text}
-use Rattle.recall_outcomes.specs.Json.{document_json, fault_json, json_line, json_lines, note_json, outcome_json, totals_json}
+use Rattle.recall_outcomes.specs.Json.{fault_json, input_json, json_line, json_lines, note_json, outcome_json, totals_json}
 use Rattle.recall_outcomes.specs.Texts.{outcome_text}
-use Rattle.recall_outcomes.specs.declared.documents.DocumentOutcome.{DocumentOutcome}
-use Rattle.recall_outcomes.specs.declared.documents.Totals.{Totals}
+use Rattle.recall_outcomes.specs.declared.batches.InputOutcome.{InputOutcome}
+use Rattle.recall_outcomes.specs.declared.batches.Task.{Task}
+use Rattle.recall_outcomes.specs.declared.batches.Totals.{Totals}
 use Rattle.recall_outcomes.specs.declared.causes.Failure.{Failure}
 use Rattle.recall_outcomes.specs.declared.faults.Fault.{Fault}
 use Rattle.recall_outcomes.specs.declared.outcomes.Form.{Form}
@@ -38,10 +39,10 @@ outcome_lines Json sites outcome = json_lines (outcome_json sites outcome)
 outcome_lines Csv sites outcome = csv_text sites outcome
 outcome_lines Dot sites outcome = dot_picture sites outcome
 
--- what a document of several came to, with its source
-abbrev pub document_line : Form → List Site → List ℕ → DocumentOutcome → List ℕ
-document_line Json sites source came = json_line (document_json sites source came)
-document_line other sites source came = document_text sites source came
+-- what an input of several came to, with its source
+abbrev pub input_line : Form → Task → List Site → List ℕ → InputOutcome → List ℕ
+input_line Json task sites source came = json_line (input_json task sites source came)
+input_line other task sites source came = input_text sites source came
 
 -- what all of them came to
 abbrev pub totals_line : Form → Totals → List ℕ

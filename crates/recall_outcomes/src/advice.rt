@@ -1,10 +1,11 @@
 //! What a person does next, or should know, after what a command came to.
 
 ghost use Rattle.std.specs.Prelude.{◌≡◌, option_map};
-ghost use Rattle.recall_outcomes.specs.Advice.{advice, audit_advice, effects_advice, open_advice, report_advice, start_advice};
+ghost use Rattle.std.specs.List.{list_any};
+ghost use Rattle.recall_outcomes.specs.Advice.{advice, audit_advice, blocked_advice, effects_advice, is_blocked, open_advice, report_advice, start_advice};
 
-use crate::outcomes::{AuditedRecall, Outcome, is_open, some_open};
-use site_core::Effects;
+use crate::outcomes::{AuditedRecall, CommandRefusal, Outcome, is_open, some_open};
+use site_core::{Effects, Refusal};
 
 impl Outcome {
     /// What to do next, or what should be known of it: a line for the error stream, behind the answer, which begins with
@@ -37,7 +38,7 @@ impl Outcome {
             }
             Outcome::Audited(recalls) => audit_advice(recalls.as_slice()),
             Outcome::Inconsistent(_) => None,
-            Outcome::Refused(_) => None,
+            Outcome::Refused(whys) => blocked_advice(some_blocked(whys.as_slice())),
         }
     }
 }
@@ -74,6 +75,41 @@ fn open_advice(is_open: bool) -> Option<&'static str>
 {
     if is_open {
         Some("note: `recall run` goes on with what is open\n")
+    } else {
+        None
+    }
+}
+
+/// Whether some event was blocked.
+fn some_blocked(whys: &[CommandRefusal]) -> bool
+    ensures { result ≡ list_any is_blocked whys.now }
+{
+    whys.iter().any(|why| is_blocked(why))
+}
+
+fn is_blocked(why: &CommandRefusal) -> bool
+    ensures { result ≡ is_blocked why.now }
+{
+    match why {
+        CommandRefusal::Step(
+            Refusal::Blocked {
+                recall: _,
+                item: _,
+                event: _,
+            },
+        ) => true,
+        _ => false,
+    }
+}
+
+/// Where a document was refused since an event was blocked.
+fn blocked_advice(is_blocked: bool) -> Option<&'static str>
+    ensures { option_map (λ t. t.now) result ≡ blocked_advice is_blocked }
+{
+    if is_blocked {
+        Some(
+            "note: nothing of the document was kept: if the goods have left, capture what the site that took them wrote, and start a recall of the item there\n",
+        )
     } else {
         None
     }

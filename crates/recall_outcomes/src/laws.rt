@@ -1,7 +1,7 @@
 //! Laws of outcomes, each named by a function with an empty body whose contract is the law.
 
 ghost use Rattle.recall_outcomes.specs.Telling.{LinesTellValues, ValuesAreRead, ValuesTellKinds, ValuesTellOutcomes};
-ghost use Rattle.recall_outcomes.specs.Laws.{AdviceIsALine, DocumentsHaveTheirWords, EachReasonIsALine, EachSentenceIsALine, OneIsRefused, RefusedDocumentsAreCounted};
+ghost use Rattle.recall_outcomes.specs.Laws.{AdviceIsALine, EachReasonIsALine, EachSentenceIsALine, InputsHaveTheirWords, OneIsRefused, RefusedInputsAreCounted};
 
 /// An outcome of status 1 is a refusal, and its text begins with `refused ` where it has a reason.
 pub fn status_one_is_refused()
@@ -18,14 +18,14 @@ pub fn each_sentence_is_a_line()
     ensures { EachSentenceIsALine }
 {}
 
-/// Each of several documents has the words that it has where it is captured alone.
-pub fn documents_have_their_words()
-    ensures { DocumentsHaveTheirWords }
+/// Each of several inputs has the words that it has alone.
+pub fn inputs_have_their_words()
+    ensures { InputsHaveTheirWords }
 {}
 
-/// A refused document makes the status 1, and a captured one leaves it as it is.
-pub fn refused_documents_are_counted()
-    ensures { RefusedDocumentsAreCounted }
+/// A refused input makes the status 1, and any other leaves it as it is.
+pub fn refused_inputs_are_counted()
+    ensures { RefusedInputsAreCounted }
 {}
 
 /// What is advised after an answer is a line that begins with `note: `.

@@ -5,8 +5,8 @@
 #![tactic(auto)]
 
 mod advice;
+mod batches;
 mod causes;
-mod documents;
 mod fault_json;
 mod faults;
 pub mod laws;
@@ -22,8 +22,8 @@ mod texts;
 mod trace_json;
 mod trace_texts;
 
+pub use batches::{InputOutcome, Task, Totals};
 pub use causes::{Cause, Failure};
-pub use documents::{DocumentOutcome, Totals};
 pub use faults::Fault;
 pub use notes::untraced_text;
 pub use outcomes::{AuditedRecall, CommandRefusal, Form, Outcome, StartedRecall, Ways};

@@ -5,9 +5,9 @@ ghost use Rattle.std.specs.List.{zip};
 ghost use Rattle.serde_json.specs.Data.{array, member, no_members, object, string};
 ghost use Rattle.serde_json.specs.View.{items_of, view};
 ghost use Rattle.report_forms.specs.Steps.{before_last};
-ghost use Rattle.recall_outcomes.specs.Json.{audited_json, beside_json, blocked_members, captured_members, created_json, differs_json, doc_members, document_json, effects_json, line_members, list_of, misfit_json, note_json, outside_json, pair_json, pair_members, quarantined_json, ran_json, refused, report_json, step_members, totals_json, traced_json, trail_json, why_json};
+ghost use Rattle.recall_outcomes.specs.Json.{audited_json, beside_json, blocked_members, captured_members, created_json, differs_json, doc_members, documents_json, effects_json, input_json, items_json, line_members, list_of, misfit_json, note_json, outside_json, pair_json, pair_members, quarantined_json, ran_json, refused, report_json, source_name, started_members, step_members, totals_json, traced_json, trail_json, why_json};
 
-use crate::documents::{DocumentOutcome, Totals};
+use crate::batches::{InputOutcome, Task, Totals};
 use crate::outcomes::{AuditedRecall, CommandRefusal, StartedRecall, Ways};
 use epc_core::Epc;
 use event_json::{DocFault, Sequence, SiteNo, Sites};
@@ -42,10 +42,7 @@ pub(crate) fn effects_json(
             quarantined,
             numbered,
             ended,
-        } => {
-            let recall = recall_text(alloc, sites, *recall)?;
-            json!(in alloc; {"ended": *ended, "messages": *numbered, "new": *quarantined, "recall": recall.as_str()})
-        }
+        } => started_json(alloc, sites, *recall, *quarantined, *numbered, *ended),
         Effects::Received {
             quarantined,
             numbered,
@@ -70,6 +67,21 @@ fn captured_json(alloc: Global, fresh: u64, known: u64, skipped: u64) -> Result<
     ensures { IfOk result (λ v. view v ≡ object (captured_members fresh known skipped)) }
 {
     json!(in alloc; {"captured": fresh, "known": known, "skipped": skipped})
+}
+
+/// What a start did.
+fn started_json(
+    alloc: Global,
+    sites: &Sites,
+    recall: RecallId,
+    quarantined: u64,
+    messages: u64,
+    ended: bool,
+) -> Result<Value, AllocError>
+    ensures { IfOk result (λ v. view v ≡ object (started_members sites.now recall quarantined messages ended)) }
+{
+    let recall = recall_text(alloc, sites, recall)?;
+    json!(in alloc; {"ended": ended, "messages": messages, "new": quarantined, "recall": recall.as_str()})
 }
 
 /// Whether a recall has ended.
@@ -414,41 +426,66 @@ pub(crate) fn list_value(values: Vec<Value>) -> Value
     Value::Array(values)
 }
 
-/// What a document of several came to, with its source.
-pub(crate) fn document_json(
+/// What an input of several came to, with its source.
+pub(crate) fn input_json(
     alloc: Global,
+    task: Task,
     sites: &Sites,
     source: &str,
-    came: &DocumentOutcome,
+    came: &InputOutcome,
 ) -> Result<Value, AllocError>
-    ensures { IfOk result (λ v. view v ≡ document_json sites.now source.now came.now) }
+    ensures { IfOk result (λ v. view v ≡ input_json task sites.now source.now came.now) }
 {
     let mut value = match came {
-        DocumentOutcome::Captured {
+        InputOutcome::Captured {
             fresh,
             known,
             skipped,
         } => captured_json(alloc, *fresh, *known, *skipped)?,
-        DocumentOutcome::Refused(why) => step_json(alloc, sites, why)?,
+        InputOutcome::Started {
+            recall,
+            quarantined,
+            messages,
+            ended,
+        } => started_json(alloc, sites, *recall, *quarantined, *messages, *ended)?,
+        InputOutcome::Refused(why) => why_json(alloc, sites, why)?,
     };
     let Some(members) = value.as_object_mut() else {
         unreachable!()
     };
-    serde_json::put(members, alloc, "file", Value::try_from_str(alloc, source)?)?;
+    let source = Value::try_from_str(alloc, source)?;
+    serde_json::put(members, alloc, source_name(task), source)?;
     Ok(value)
 }
 
-/// What all documents came to.
+/// The name of the member that tells where an input comes from.
+fn source_name(task: Task) -> &'static str
+    ensures { result.now ≡ source_name task }
+{
+    match task {
+        Task::Capture => "file",
+        Task::Start => "source",
+    }
+}
+
+/// What all inputs came to.
 pub(crate) fn totals_json(alloc: Global, totals: Totals) -> Result<Value, AllocError>
     ensures { IfOk result (λ v. view v ≡ totals_json totals) }
 {
-    json!(in alloc; {
-        "captured": totals.captured,
-        "documents": totals.documents,
-        "known": totals.known,
-        "refused": totals.refused,
-        "skipped": totals.skipped
-    })
+    match totals.task {
+        Task::Capture => json!(in alloc; {
+            "captured": totals.captured,
+            "documents": totals.inputs,
+            "known": totals.known,
+            "refused": totals.refused,
+            "skipped": totals.skipped
+        }),
+        Task::Start => json!(in alloc; {
+            "items": totals.inputs,
+            "refused": totals.refused,
+            "started": totals.started
+        }),
+    }
 }
 
 /// A line of the error stream that is no fault.

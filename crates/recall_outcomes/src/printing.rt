@@ -6,14 +6,14 @@ ghost use Rattle.serde_json.specs.View.{view};
 ghost use Rattle.serde_json.specs.Written.{has_float};
 ghost use Rattle.recall_outcomes.specs.Faults.{fault_text, file_line};
 ghost use Rattle.recall_outcomes.specs.Json.{audited_json, json_line, json_lines, known_json, note_json, outcome_json, ran_json, status_json, why_json};
-ghost use Rattle.recall_outcomes.specs.Printing.{bare_line, csv_text, document_line, dot_picture, fault_lines, note_lines, outcome_lines, totals_line};
+ghost use Rattle.recall_outcomes.specs.Printing.{bare_line, csv_text, dot_picture, fault_lines, input_line, note_lines, outcome_lines, totals_line};
 
+use crate::batches::{InputOutcome, Task, Totals};
 use crate::causes::Failure;
-use crate::documents::{DocumentOutcome, Totals};
 use crate::fault_json::fault_json;
 use crate::faults::Fault;
 use crate::outcome_json::{
-    audited_json, created_json, document_json, effects_json, misfit_json, note_json, ran_json,
+    audited_json, created_json, effects_json, input_json, misfit_json, note_json, ran_json,
     report_json, totals_json, why_json,
 };
 use crate::outcomes::{AuditedRecall, CommandRefusal, Form, Outcome, StartedRecall};
@@ -191,20 +191,21 @@ fn why_lines(alloc: Global, sites: &Sites, whys: &[CommandRefusal]) -> Result<St
     Ok(text)
 }
 
-impl DocumentOutcome {
-    /// What is printed of it, a line, for a document of this source.
+impl InputOutcome {
+    /// What is printed of it, a line, for an input of this source with which this was done.
     pub fn line(
         &self,
         alloc: Global,
         form: Form,
+        task: Task,
         sites: &Sites,
         source: &str,
     ) -> Result<String, AllocError>
-        ensures { IfOk result (λ t. string_bytes t ≡ document_line form sites.now source.now self.now) }
+        ensures { IfOk result (λ t. string_bytes t ≡ input_line form task sites.now source.now self.now) }
     {
         match form {
             Form::Text | Form::Csv | Form::Dot => self.text(alloc, sites, source),
-            Form::Json => one_line(alloc, &document_json(alloc, sites, source, self)?),
+            Form::Json => one_line(alloc, &input_json(alloc, task, sites, source, self)?),
         }
     }
 }

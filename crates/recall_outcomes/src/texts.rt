@@ -196,7 +196,11 @@ fn push_refused(
 }
 
 /// What is refused, behind the first word of its line.
-fn why_words(alloc: Global, sites: &Sites, why: &CommandRefusal) -> Result<String, AllocError>
+pub(crate) fn why_words(
+    alloc: Global,
+    sites: &Sites,
+    why: &CommandRefusal,
+) -> Result<String, AllocError>
     ensures { IfOk result (λ t. string_bytes t ≡ why_words sites.now why.now) }
 {
     match why {
