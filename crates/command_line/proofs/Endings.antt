@@ -11,11 +11,12 @@ use Rattle.recall_outcomes.specs.declared.faults.Fault.{Fault}
 use Rattle.recall_outcomes.specs.declared.outcomes.Form.{Form}
 use Rattle.folder_commands.specs.FileCalls.{FileCall, Led}
 use Rattle.folder_commands.specs.declared.outputs.Output.{Output}
-use Rattle.command_line.specs.CommandLines.{texts_of, AsksBatch, AsksFiles, IsBad}
-use Rattle.command_line.specs.Ends.{BatchEnds, Ends, Streams, TellsWhatCame}
+use Rattle.command_line.specs.CommandLines.{texts_of, AsksBatch, AsksFiles, AsksLint, IsBad}
+use Rattle.command_line.specs.Ends.{BatchEnds, Ends, LintEnds, Streams, TellsWhatCame}
 use Rattle.command_line.specs.Leads.{FailsBy, LeadsTo}
 use Rattle.command_line.specs.declared.command_lines.Batch.{Batch}
 use Rattle.command_line.specs.declared.command_lines.FileCommand.{FileCommand}
+use Rattle.command_line.specs.declared.lint_commands.LintFiles.{LintFiles}
 
 module _ {F K G : Type 0} (does : F → FileCall K → F → Type 0) (knows : F → List ℕ → List ℕ → Type 0) (fails : F → Option Failure → Type 0) (shown : K → Option Record) (failed : K → ℕ) (may : K → Record → Type 0) (reopens : K → Result K (Unopened K) → Type 0) (gives_up : G → ℕ → ℕ → Type 0) (stored : K → Type 0) where
   pub ends_mistaken : (words : List (String Global)) (old new : F) (before after : Streams) (text : List ℕ) → IsBad (texts_of words) → new ≡ old
@@ -36,4 +37,10 @@ module _ {F K G : Type 0} (does : F → FileCall K → F → Type 0) (knows : F 
       → BatchEnds does fails shown stored batch old new before.printed after.printed status
       → Ends does knows fails shown failed may reopens gives_up stored words old new before after status
   ends_batch words old new before after status batch asked unread ends =
-      inr (inr (inl (record { batch = batch; asked = asked; unread = unread; ends = ends })))
+      inr (inr (inl (inl (record { batch = batch; asked = asked; unread = unread; ends = ends }))))
+
+  pub ends_lint : (words : List (String Global)) (old new : F) (before after : Streams) (status : ℕ) (files : LintFiles) → AsksLint (texts_of words) files → Keeps before.input after.input
+      → LintEnds does fails files old new before.printed after.printed status
+      → Ends does knows fails shown failed may reopens gives_up stored words old new before after status
+  ends_lint words old new before after status files asked unread ends =
+      inr (inr (inl (inr (record { files = files; asked = asked; unread = unread; ends = ends }))))

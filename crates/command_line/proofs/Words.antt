@@ -16,9 +16,13 @@ use Rattle.recall_outcomes.specs.declared.outcomes.Form.{Form}
 use Rattle.command_line.specs.declared.command_lines.Asked.{Asked}
 use Rattle.command_line.specs.declared.command_lines.Asked.TheVariants as asked
 use Rattle.command_line.specs.declared.command_lines.Batch.{Batch}
+use Rattle.item_spellings.specs.declared.spellings.Spelling.{Spelling}
+use Rattle.folder_commands.specs.declared.batches.WordKind.{WordKind}
+use Rattle.folder_commands.specs.declared.batches.WordKind.TheVariants as kinds
 use Rattle.command_line.specs.declared.command_lines.FileCommand.{FileCommand}
+use Rattle.command_line.specs.declared.lint_commands.LintFiles.{LintFiles}
 use Rattle.command_line.specs.declared.command_lines.FileCommand.TheVariants.{Init, Capture, Start, Run, Report, Audit, Trace, Recalls, Recall, Items}
-use Rattle.command_line.specs.CommandLines.{recall, faults_of, named, AsksBatch, AsksSim, AsksFiles, AsksHelp, AsksNamed, AsksTwoForms, IsBad, IsCapture, IsCommand, IsMistake, IsSet, IsShown, AsksFor, IsToldAs, NamesTwoForms}
+use Rattle.command_line.specs.CommandLines.{recall, faults_of, named, AsksBatch, AsksDryBatch, AsksSim, AsksFiles, AsksHelp, AsksLint, AsksNamed, AsksTwo, AsksTwoForms, Contradicts, GivesEpcs, GivesFiles, GivesSpelling, GivesWords, IsBad, IsBatch, IsCapture, IsCommand, IsContradiction, IsLintCommand, IsMistake, IsSet, IsShown, IsStart, AsksFor, IsToldAs, IsUnset, documents_kind, epcs_kind, has_lines, words_of}
 use mathlib.Core.Logic.{◌⊎◌}
 
 -- `clap`'s contract says which errors the command gives
@@ -65,13 +69,29 @@ no_forms (inl both) = nothing_set (codes "json") both.0
 no_forms (inr (inl both)) = nothing_set (codes "json") both.0
 no_forms (inr (inr both)) = nothing_set (codes "csv") both.0
 
+nothing_twice : AsksTwo [] → ⊥
+nothing_twice (inl forms) = no_forms forms
+nothing_twice (inr both) = nothing_set (codes "key") both.0
+
+-- `sim` has no options that contradict one another
+no_contradiction : Contradicts (codes "sim") [] → ⊥
+no_contradiction (inl two) = nothing_twice two
+no_contradiction (inr (is, dry)) = nothing_set (codes "dry-run") dry.dry
+
+-- and no inputs
+sim_has_no_words : (kind : WordKind) (rows : List Row) (words : List Text) → GivesWords (codes "sim") rows kind words → ⊥
+sim_has_no_words kinds.Document rows words is = let bad : ◌≡◌ {A = ℕ} 115 99 = ap (λ (text : List ℕ). get_or text 0 0) is.0 in absurd (omega arith)
+sim_has_no_words kinds.DocumentLines rows words is = let bad : ◌≡◌ {A = ℕ} 115 99 = ap (λ (text : List ℕ). get_or text 0 0) is.0 in absurd (omega arith)
+sim_has_no_words (kinds.Epc spelling) rows words is = let bad = is.0 in cc
+sim_has_no_words (kinds.EpcLines spelling) rows words is = let bad = is.0 in cc
+
 module _ (words : List (List ℕ)) (name : List ℕ) where
   pub sim_is_no_help : AsksHelp words → words ≡ name ∷ codes "sim" ∷ [] → ⊥
   sim_is_no_help (kind, shown, among) e = subst (λ kinds. IsAmong kind kinds) (ap faults_of e ∙ sim_faults name) among
 
   pub sim_is_not_bad : IsBad words → words ≡ name ∷ codes "sim" ∷ [] → ⊥
   sim_is_not_bad (inl (kind, among, other)) e = subst (λ kinds. IsAmong kind kinds) (ap faults_of e ∙ sim_faults name) among
-  sim_is_not_bad (inr (none, two)) e = no_forms (subst NamesTwoForms (ap named e ∙ sim_named name) two)
+  sim_is_not_bad (inr (none, two)) e = no_contradiction (subst IsContradiction (ap named e ∙ sim_named name) two)
 
   pub sim_is_no_files : (command : FileCommand) (form : Form) → AsksFiles words command form → words ≡ name ∷ codes "sim" ∷ [] → ⊥
   sim_is_no_files command form asks e =
@@ -81,7 +101,12 @@ module _ (words : List (List ℕ)) (name : List ℕ) where
   pub sim_is_no_batch : (batch : Batch) → AsksBatch words batch → words ≡ name ∷ codes "sim" ∷ [] → ⊥
   sim_is_no_batch batch asks e =
       let is : AsksNamed (Some (codes "sim", [])) (asked.Batch batch) = subst (λ found. AsksNamed found (asked.Batch batch)) (ap named e ∙ sim_named name) asks.1 in
-      let bad : ◌≡◌ {A = ℕ} 115 99 = ap (λ (text : List ℕ). get_or text 0 0) is.0 in absurd (omega arith)
+      sim_has_no_words batch.kind [] (words_of batch) is.words
+
+  pub sim_is_no_lint : (files : LintFiles) → AsksLint words files → words ≡ name ∷ codes "sim" ∷ [] → ⊥
+  sim_is_no_lint files asks e =
+      let is : AsksNamed (Some (codes "sim", [])) (asked.Lint files) = subst (λ found. AsksNamed found (asked.Lint files)) (ap named e ∙ sim_named name) asks.1 in
+      let bad : ◌≡◌ {A = ℕ} 115 108 = ap (λ (text : List ℕ). get_or text 0 0) is.0 in absurd (omega arith)
 
   help_is_faulty : (kinds : List ErrorKind) → kinds ≡ [] → kinds ≡ DisplayHelp ∷ [] → ⊥
   help_is_faulty kinds none some = cc
@@ -94,6 +119,9 @@ module _ (words : List (List ℕ)) (name : List ℕ) where
 
   pub help_is_no_batch : (batch : Batch) → AsksBatch words batch → words ≡ name ∷ codes "--help" ∷ [] → ⊥
   help_is_no_batch batch asks e = help_is_faulty (faults_of words) asks.0 (ap faults_of e ∙ help_faults name)
+
+  pub help_is_no_lint : (files : LintFiles) → AsksLint words files → words ≡ name ∷ codes "--help" ∷ [] → ⊥
+  help_is_no_lint files asks e = help_is_faulty (faults_of words) asks.0 (ap faults_of e ∙ help_faults name)
 
   pub help_is_not_bad : IsBad words → words ≡ name ∷ codes "--help" ∷ [] → ⊥
   help_is_not_bad (inr (none, two)) e = help_is_faulty (faults_of words) none (ap faults_of e ∙ help_faults name)
@@ -109,6 +137,7 @@ pub asks_told : (words : List (List ℕ)) (kind : ErrorKind) (told_as : Asked) �
 asks_told words kind asked.Sim has told = absurd told
 asks_told words kind (asked.Files command form) has told = absurd told
 asks_told words kind (asked.Batch batch) has told = absurd told
+asks_told words kind (asked.Lint files) has told = absurd told
 asks_told words kind (asked.Help text) has told =
     ⊎_elim (λ memory. absurd (memory_is_not_shown (subst IsShown memory told))) (λ among. (kind, told, among)) has
 asks_told words kind (asked.Mistake text) has told = ⊎_elim (λ memory. absurd (told.1 memory)) (λ among. inl (kind, among, told.0)) has
@@ -118,6 +147,7 @@ pub asks_named : (words : List (List ℕ)) (told_as : Asked) → faults_of words
 asks_named words asked.Sim none is = (none, is)
 asks_named words (asked.Files command form) none is = (none, is)
 asks_named words (asked.Batch batch) none is = (none, is)
+asks_named words (asked.Lint files) none is = (none, is)
 asks_named words (asked.Help text) none is = absurd (no_help (named words) is)
   where
     no_help : (found : Option (Text × List Row)) → AsksNamed found (asked.Help text) → ⊥
@@ -125,7 +155,7 @@ asks_named words (asked.Help text) none is = absurd (no_help (named words) is)
     no_help (Some entry) is = is
 asks_named words (asked.Mistake text) none is = inr (none, two (named words) is)
   where
-    two : (found : Option (Text × List Row)) → AsksNamed found (asked.Mistake text) → NamesTwoForms found
+    two : (found : Option (Text × List Row)) → AsksNamed found (asked.Mistake text) → IsContradiction found
     two None is = is
     two (Some entry) is = is
 
@@ -140,16 +170,38 @@ pub capture_named : (name : Text) (rows : List Row) (result : Option Asked) → 
 capture_named name rows None e is = tt
 capture_named name rows (Some asked.Sim) e is = absurd is
 capture_named name rows (Some (asked.Files command form)) e is = (subst (λ (n : Text). IsCommand command n rows) (sym e) is.0, is.1)
-capture_named name rows (Some (asked.Batch batch)) e is = (e, is)
+capture_named name rows (Some (asked.Batch batch)) e is = subst (λ (n : Text). IsBatch batch n rows) (sym e) is
+capture_named name rows (Some (asked.Lint files)) e is = absurd is
 capture_named name rows (Some (asked.Help text)) e is = absurd is
 capture_named name rows (Some (asked.Mistake text)) e is = absurd is
 
--- where two forms are asked for, that is what is wrong
-pub mistake_named : (found : Option (Text × List Row)) (result : Option Asked) → NamesTwoForms found → IfSome result IsMistake → IfSome result (AsksNamed found)
+-- and what `start` asks for, by its name
+pub start_named : (name : Text) (rows : List Row) (result : Option Asked) → name ≡ codes "start" → IfSome result (IsStart rows) → IfSome result (AsksNamed (Some (name, rows)))
+start_named name rows None e is = tt
+start_named name rows (Some asked.Sim) e is = absurd is
+start_named name rows (Some (asked.Files command form)) e is = (subst (λ (n : Text). IsCommand command n rows) (sym e) is.0, is.1)
+start_named name rows (Some (asked.Batch batch)) e is = subst (λ (n : Text). IsBatch batch n rows) (sym e) is
+start_named name rows (Some (asked.Lint files)) e is = absurd is
+start_named name rows (Some (asked.Help text)) e is = absurd is
+start_named name rows (Some (asked.Mistake text)) e is = inr (e, is)
+
+-- what `lint` asks for is asked for by that name
+pub lint_named : (name : Text) (rows : List Row) (result : Option Asked) → name ≡ codes "lint" → IfSome result (IsLintCommand rows) → IfSome result (AsksNamed (Some (name, rows)))
+lint_named name rows None e is = tt
+lint_named name rows (Some asked.Sim) e is = absurd is
+lint_named name rows (Some (asked.Files command form)) e is = absurd is
+lint_named name rows (Some (asked.Batch batch)) e is = absurd is
+lint_named name rows (Some (asked.Lint files)) e is = (e, is)
+lint_named name rows (Some (asked.Help text)) e is = absurd is
+lint_named name rows (Some (asked.Mistake text)) e is = absurd is
+
+-- where options contradict one another, that is what is wrong
+pub mistake_named : (found : Option (Text × List Row)) (result : Option Asked) → IsContradiction found → IfSome result IsMistake → IfSome result (AsksNamed found)
 mistake_named found None two is = tt
 mistake_named found (Some asked.Sim) two is = absurd is
 mistake_named found (Some (asked.Files command form)) two is = absurd is
 mistake_named found (Some (asked.Batch batch)) two is = absurd is
+mistake_named found (Some (asked.Lint files)) two is = absurd is
 mistake_named found (Some (asked.Help text)) two is = absurd is
 mistake_named None (Some (asked.Mistake text)) two is = two
 mistake_named (Some entry) (Some (asked.Mistake text)) two is = two
@@ -171,16 +223,49 @@ unset_where rows name none = (
 pub not_set : {P : Type 0} (b : Bool) → b ≡ false → IsTrue b ↔ P → IsTrue false ↔ P
 not_set b e is = (λ t. absurd (false≢true t), λ p. sym e ∙ is.1 p)
 
--- documents that aren't one file's one: there are lines, or not one file
+-- inputs that aren't one word's one: there are lines, or not one word
 pub are_several : (one by_lines : Bool) (n : ℕ) → IsTrue one ↔ ((by_lines ≡ false) × (n ≡ 1)) → one ≡ false → (by_lines ≡ true) ⊎ (n ≢ 1)
 are_several one true n is other = inl refl
 are_several one false n is other = inr (λ n_is. false≢true (sym other ∙ is.1 (refl, n_is)))
+
+-- and so of a batch of this kind
+pub several_of : (kind : WordKind) (by_lines : Bool) (n m : ℕ) → has_lines kind ≡ by_lines → n ≡ m → (by_lines ≡ true) ⊎ (n ≢ 1) → (has_lines kind ≡ true) ⊎ (m ≢ 1)
+several_of kind by_lines n m lines same (inl t) = inl (lines ∙ t)
+several_of kind by_lines n m lines same (inr other) = inr (subst (λ (k : ℕ). k ≢ 1) same other)
+
+pub documents_have_lines : (by_lines : Bool) → has_lines (documents_kind by_lines) ≡ by_lines
+documents_have_lines false = refl
+documents_have_lines true = refl
+
+pub epcs_have_lines : (by_lines : Bool) (spelling : Spelling) → has_lines (epcs_kind by_lines spelling) ≡ by_lines
+epcs_have_lines false spelling = refl
+epcs_have_lines true spelling = refl
+
+-- what the words are is given
+pub gives_documents : (rows : List Row) (words : List Text) (by_lines : Bool) → GivesFiles rows words by_lines → GivesWords (codes "capture") rows (documents_kind by_lines) words
+gives_documents rows words false given = (refl, given)
+gives_documents rows words true given = (refl, given)
+
+pub gives_epcs : (rows : List Row) (words : List Text) (by_lines : Bool) (spelling : Spelling) → GivesEpcs rows words by_lines → IsUnset rows (codes "dry-run") → GivesSpelling rows spelling
+    → GivesWords (codes "start") rows (epcs_kind by_lines spelling) words
+gives_epcs rows words false spelling given wet spells = (refl, given, wet, spells)
+gives_epcs rows words true spelling given wet spells = (refl, given, wet, spells)
 
 -- a list of one text
 pub one_text_alone : (texts : List (Bor Text)) (d : Bor Text) → length texts ≡ 1 → map (λ t. t.now) texts ≡ (get_or texts 0 d).now ∷ []
 one_text_alone [] d one = absurd (omega (arith, one))
 one_text_alone (t ∷ []) d one = refl
 one_text_alone (t ∷ u ∷ texts) d one = absurd (omega (arith, one))
+
+-- where a dry start of several recalls is asked for, that is what is wrong
+pub mistake_there : (rows : List Row) (result : Result Asked AllocError) (told : Option Asked) → told ≡ result_ok result → IfOk result IsMistake → AsksDryBatch rows → IfSome told (IsStart rows)
+mistake_there rows (Err e) told is mistakes dry = subst (λ o. IfSome o (IsStart rows)) (sym is) tt
+mistake_there rows (Ok asked.Sim) told is mistakes dry = absurd mistakes
+mistake_there rows (Ok (asked.Files command form)) told is mistakes dry = absurd mistakes
+mistake_there rows (Ok (asked.Batch batch)) told is mistakes dry = absurd mistakes
+mistake_there rows (Ok (asked.Lint files)) told is mistakes dry = absurd mistakes
+mistake_there rows (Ok (asked.Help text)) told is mistakes dry = absurd mistakes
+mistake_there rows (Ok (asked.Mistake text)) told is mistakes dry = subst (λ o. IfSome o (IsStart rows)) (sym is) dry
 
 -- what is said of a result that is there
 pub ok_there : {V E : Type 0} (P : V → Type 0) (r : Result V E) (v : V) → Some v ≡ result_ok r → IfOk r P → P v

@@ -9,6 +9,11 @@ use Rattle.clap.specs.declared.builder.action.ArgAction.TheVariants.{Append, Set
 use Rattle.clap.specs.declared.builder.value_parser.ValueParser.TheVariants.{NonEmptyString, Unsigned}
 use Rattle.clap.specs.declared.error.ErrorKind.{ErrorKind}
 use Rattle.clap.specs.declared.error.ErrorKind.TheVariants.{DisplayHelp, DisplayVersion, OutOfMemory}
+use Rattle.folder_commands.specs.declared.batches.WordKind.{WordKind}
+use Rattle.folder_commands.specs.declared.batches.WordKind.TheVariants as kinds
+use Rattle.item_spellings.specs.declared.spellings.Spelled.{Spelled}
+use Rattle.item_spellings.specs.declared.spellings.Spelling.{Spelling}
+use Rattle.item_spellings.specs.declared.spellings.Spelling.TheVariants as spellings
 use Rattle.recall_outcomes.specs.declared.outcomes.Form.{Form}
 use Rattle.recall_outcomes.specs.declared.outcomes.Form.TheVariants as forms
 use Rattle.recall_outcomes.specs.declared.outcomes.Ways.{Ways}
@@ -17,11 +22,29 @@ use Rattle.command_line.specs.declared.command_lines.Asked.{Asked}
 use Rattle.command_line.specs.declared.command_lines.Asked.TheVariants as asked
 use Rattle.command_line.specs.declared.command_lines.Batch.{Batch}
 use Rattle.command_line.specs.declared.command_lines.FileCommand.{FileCommand}
+use Rattle.command_line.specs.declared.lint_commands.LintFiles.{LintFiles}
 use Rattle.command_line.specs.declared.command_lines.FileCommand.TheVariants.{Init, Capture, Start, Run, Report, Audit, Trace, Recalls, Recall, Items}
 
--- the paths of a batch's files
-abbrev pub paths_of : Batch → List (List ℕ)
-paths_of batch = map (λ path. path.now) batch.paths.items
+-- the words of a batch
+abbrev pub words_of : Batch → List (List ℕ)
+words_of batch = map (λ word. word.now) batch.words.items
+
+-- whether they are files whose lines are the inputs
+abbrev pub has_lines : WordKind → Bool
+has_lines kinds.Document = false
+has_lines kinds.DocumentLines = true
+has_lines (kinds.Epc spelling) = false
+has_lines (kinds.EpcLines spelling) = true
+
+-- what words are of which the lines may be the inputs: files of documents
+abbrev pub documents_kind : Bool → WordKind
+documents_kind false = kinds.Document
+documents_kind true = kinds.DocumentLines
+
+-- and EPCs, or files of these
+abbrev pub epcs_kind : Bool → Spelling → WordKind
+epcs_kind false spelling = kinds.Epc spelling
+epcs_kind true spelling = kinds.EpcLines spelling
 
 -- the words as texts
 abbrev pub texts_of : List (String Global) → List (List ℕ)
@@ -40,9 +63,19 @@ folder = record (required (codes "dir")) { parser = Some NonEmptyString }
 abbrev pub flag : Text → Rule
 flag name = record (new_rule name) { long = Some name; action = Some SetTrue }
 
--- each can be asked to print JSON
+-- `--wait n`: a number of seconds up to a day, or 0 where it isn't there
+abbrev pub wait : Rule
+wait =
+    record (new_rule (codes "wait")) {
+      long = Some (codes "wait");
+      value_names = 1;
+      parser = Some (Unsigned 0 86400);
+      defaults = codes "0" ∷ [];
+    }
+
+-- each can be asked to print JSON, and to wait for a file that is in use
 abbrev pub on_folder : Text → App
-on_folder name = with_rule (with_rule (new_app name) folder) (flag (codes "json"))
+on_folder name = with_rule (with_rule (with_rule (new_app name) folder) (flag (codes "json"))) wait
 
 abbrev pub sim : App
 sim = new_app (codes "sim")
@@ -57,8 +90,18 @@ files = record (required (codes "file")) { action = Some Append }
 abbrev pub capture : App
 capture = with_rule (with_rule (with_rule (on_folder (codes "capture")) (required (codes "site"))) files) (flag (codes "lines"))
 
+-- one EPC or more
+abbrev pub epcs : Rule
+epcs = record (required (codes "epc")) { action = Some Append }
+
+-- a command whose items can be given as they are printed, or as a scanner gives them
+abbrev pub with_spellings : App → App
+with_spellings a = with_rule (with_rule a (flag (codes "key"))) (flag (codes "scan"))
+
 abbrev pub start : App
-start = with_rule (with_rule (with_rule (on_folder (codes "start")) (required (codes "site"))) (required (codes "epc"))) (flag (codes "dry-run"))
+start =
+    with_spellings
+    (with_rule (with_rule (with_rule (with_rule (on_folder (codes "start")) (required (codes "site"))) epcs) (flag (codes "from"))) (flag (codes "dry-run")))
 
 -- `--turns n`: a number from 1 to 1,000,000, or 2,000 where it isn't there
 abbrev pub turns : Rule
@@ -85,8 +128,9 @@ audit = on_folder (codes "audit")
 
 abbrev pub trace : App
 trace =
-    with_forms
-    (with_rule (with_rule (with_rule (with_rule (on_folder (codes "trace")) (required (codes "site"))) (required (codes "epc"))) (flag (codes "back"))) (flag (codes "brief")))
+    with_spellings
+    (with_forms
+    (with_rule (with_rule (with_rule (with_rule (on_folder (codes "trace")) (required (codes "site"))) (required (codes "epc"))) (flag (codes "back"))) (flag (codes "brief"))))
 
 -- the recall may be left out
 abbrev pub status : App
@@ -95,6 +139,10 @@ status = with_rule (with_rule (on_folder (codes "status")) (new_rule (codes "rec
 -- the text may be left out
 abbrev pub items : App
 items = with_rule (with_rule (on_folder (codes "items")) (required (codes "site"))) (new_rule (codes "text"))
+
+-- it needs no folder, but a list of sites
+abbrev pub lint : App
+lint = with_rule (with_rule (with_rule (new_app (codes "lint")) (required (codes "sites"))) files) (flag (codes "json"))
 
 -- `recall` itself, which has to have one of them
 abbrev pub needing : App → App
@@ -108,7 +156,7 @@ abbrev pub versioned : App → App
 versioned a = record a { top = record a.top { has_version = true } }
 
 abbrev pub recall : App
-recall = with_command (with_command (with_command changing trace) status) items where
+recall = with_command (with_command (with_command (with_command changing trace) status) items) lint where
   -- those that came first
   changing : App
   changing =
@@ -135,6 +183,15 @@ Gives rows name value = first_of name rows ≡ Some value
 -- the argument of this name is this number
 abbrev pub GivesNumber : List Row → Text → ℕ → Type 0
 GivesNumber rows name n = (text : Text) × (one_of name rows ≡ Some text) × (n ≡ digits_value 10 (without_leading_plus text))
+
+-- nothing is waited for, or for so many seconds, which the command's option says
+abbrev pub WaitsNamed : Option (Text × List Row) → ℕ → Type 0
+WaitsNamed None n = n ≡ 0
+WaitsNamed (Some (name, rows)) n = (n ≡ 0) ⊎ GivesNumber rows (codes "wait") n
+
+-- bad words, and those of help, wait for nothing
+abbrev pub WaitsFor : List (List ℕ) → ℕ → Type 0
+WaitsFor words n = (n ≡ 0) ⊎ ((faults_of words ≡ []) × WaitsNamed (named words) n)
 
 -- the option of this name is there
 abbrev pub IsSet : List Row → Text → Type 0
@@ -165,9 +222,35 @@ abbrev pub AsksTwoForms : List Row → Type 0
 AsksTwoForms rows =
     (IsSet rows (codes "json") × IsSet rows (codes "csv")) ⊎ (IsSet rows (codes "json") × IsSet rows (codes "dot")) ⊎ (IsSet rows (codes "csv") × IsSet rows (codes "dot"))
 
--- the files of the documents, and whether each of their lines is one
+-- the items are spelled in this way, and in no other
+abbrev pub GivesSpelling : List Row → Spelling → Type 0
+GivesSpelling rows spellings.Epc = IsUnset rows (codes "key") × IsUnset rows (codes "scan")
+GivesSpelling rows spellings.Key = IsSet rows (codes "key") × IsUnset rows (codes "scan")
+GivesSpelling rows spellings.Scan = IsUnset rows (codes "key") × IsSet rows (codes "scan")
+
+-- two ways to spell them are named
+abbrev pub AsksTwoSpellings : List Row → Type 0
+AsksTwoSpellings rows = IsSet rows (codes "key") × IsSet rows (codes "scan")
+
+-- options that exclude each other are there
+abbrev pub AsksTwo : List Row → Type 0
+AsksTwo rows = AsksTwoForms rows ⊎ AsksTwoSpellings rows
+
+-- this item, by its text and its spelling
+abbrev pub GivesItem : List Row → Spelled → Type 0
+GivesItem rows item = Gives rows (codes "epc") item.text.now × GivesSpelling rows item.spelling
+
+-- the words of this name, and whether their lines are the inputs, which this option says
+abbrev pub GivesInputs : List Row → Text → Text → List Text → Bool → Type 0
+GivesInputs rows name option words by_lines = (all_of name rows ≡ Some words) × (IsTrue by_lines ↔ IsSet rows option)
+
+-- of a capture
 abbrev pub GivesFiles : List Row → List Text → Bool → Type 0
-GivesFiles rows paths by_lines = (all_of (codes "file") rows ≡ Some paths) × (IsTrue by_lines ↔ IsSet rows (codes "lines"))
+GivesFiles rows paths by_lines = GivesInputs rows (codes "file") (codes "lines") paths by_lines
+
+-- of a start
+abbrev pub GivesEpcs : List Row → List Text → Bool → Type 0
+GivesEpcs rows epcs by_lines = GivesInputs rows (codes "epc") (codes "from") epcs by_lines
 
 -- the command has this name and these arguments
 abbrev pub IsCommand : FileCommand → Text → List Row → Type 0
@@ -175,7 +258,8 @@ IsCommand (Init folder list) name rows = (name ≡ codes "init") × Gives rows (
 IsCommand (Capture folder site file) name rows =
     (name ≡ codes "capture") × Gives rows (codes "dir") folder.now × Gives rows (codes "site") site.now × GivesFiles rows (file.now ∷ []) false
 IsCommand (Start folder site item dry) name rows =
-    (name ≡ codes "start") × Gives rows (codes "dir") folder.now × Gives rows (codes "site") site.now × Gives rows (codes "epc") item.now
+    (name ≡ codes "start") × Gives rows (codes "dir") folder.now × Gives rows (codes "site") site.now × GivesEpcs rows (item.text.now ∷ []) false
+    × GivesSpelling rows item.spelling
     × (IsTrue dry ↔ IsSet rows (codes "dry-run"))
 IsCommand (Run folder turns) name rows =
     (name ≡ codes "run") × Gives rows (codes "dir") folder.now × GivesNumber rows (codes "turns") turns × (1 ≤ turns) × (turns ≤ 1000000)
@@ -183,7 +267,7 @@ IsCommand (Report folder recall ways) name rows =
     (name ≡ codes "report") × Gives rows (codes "dir") folder.now × Gives rows (codes "recall") recall.now × GivesWays rows ways
 IsCommand (Audit folder) name rows = (name ≡ codes "audit") × Gives rows (codes "dir") folder.now
 IsCommand (Trace folder site item back ways) name rows =
-    (name ≡ codes "trace") × Gives rows (codes "dir") folder.now × Gives rows (codes "site") site.now × Gives rows (codes "epc") item.now
+    (name ≡ codes "trace") × Gives rows (codes "dir") folder.now × Gives rows (codes "site") site.now × GivesItem rows item
     × (IsTrue back ↔ IsSet rows (codes "back")) × GivesWays rows ways
 IsCommand (Recalls folder coded) name rows =
     (name ≡ codes "status") × Gives rows (codes "dir") folder.now × (first_of (codes "recall") rows ≡ None) × (IsTrue coded ↔ IsSet rows (codes "exit-code"))
@@ -192,19 +276,52 @@ IsCommand (Recall folder recall coded) name rows =
 IsCommand (Items folder site text) name rows =
     (name ≡ codes "items") × Gives rows (codes "dir") folder.now × Gives rows (codes "site") site.now × GivesOrNone rows (codes "text") text.now
 
--- Several documents are captured: those of several files, or of the lines of some. One file that is one document is none.
-pub record IsBatch (batch : Batch) (rows : List Row) : Type 0 where
-  pub several : (batch.by_lines ≡ true) ⊎ (length (paths_of batch) ≢ 1)
+-- documents are captured, or recalls started that aren't dry
+abbrev pub GivesWords : Text → List Row → WordKind → List Text → Type 0
+GivesWords name rows kinds.Document words = (name ≡ codes "capture") × GivesFiles rows words false
+GivesWords name rows kinds.DocumentLines words = (name ≡ codes "capture") × GivesFiles rows words true
+GivesWords name rows (kinds.Epc spelling) words = (name ≡ codes "start") × GivesEpcs rows words false × IsUnset rows (codes "dry-run") × GivesSpelling rows spelling
+GivesWords name rows (kinds.EpcLines spelling) words = (name ≡ codes "start") × GivesEpcs rows words true × IsUnset rows (codes "dry-run") × GivesSpelling rows spelling
+
+-- There are several inputs: those of several words, or of the lines of files. One word that is one input is no batch.
+pub record IsBatch (batch : Batch) (name : Text) (rows : List Row) : Type 0 where
+  pub several : (has_lines batch.kind ≡ true) ⊎ (length (words_of batch) ≢ 1)
   pub folder : Gives rows (codes "dir") batch.folder.now
   pub site : Gives rows (codes "site") batch.site.now
-  pub files : GivesFiles rows (paths_of batch) batch.by_lines
+  pub words : GivesWords name rows batch.kind (words_of batch)
   pub form : GivesForm rows batch.form
+
+-- what several starts would do is asked for, which nobody tells
+pub record AsksDryBatch (rows : List Row) : Type 0 where
+  pub epcs : List Text
+  pub by_lines : Bool
+  pub given : GivesEpcs rows epcs by_lines
+  pub several : (by_lines ≡ true) ⊎ (length epcs ≢ 1)
+  pub dry : IsSet rows (codes "dry-run")
+
+-- documents of files are looked through, by a list of sites
+pub record IsLint (asked : LintFiles) (rows : List Row) : Type 0 where
+  pub list : Gives rows (codes "sites") asked.list.now
+  pub files : all_of (codes "file") rows ≡ Some (map (λ path. path.now) asked.paths.items)
+  pub form : GivesForm rows asked.form
+
+-- what `lint` with these arguments asks for
+abbrev pub IsLintCommand : List Row → Asked → Type 0
+IsLintCommand rows (asked.Lint files) = IsLint files rows
+IsLintCommand rows other = ⊥
 
 -- what `capture` with these arguments asks for
 abbrev pub IsCapture : List Row → Asked → Type 0
 IsCapture rows (asked.Files command form) = IsCommand command (codes "capture") rows × GivesForm rows form
-IsCapture rows (asked.Batch batch) = IsBatch batch rows
+IsCapture rows (asked.Batch batch) = IsBatch batch (codes "capture") rows
 IsCapture rows other = ⊥
+
+-- and what `start` with them asks for
+abbrev pub IsStart : List Row → Asked → Type 0
+IsStart rows (asked.Files command form) = IsCommand command (codes "start") rows × GivesForm rows form
+IsStart rows (asked.Batch batch) = IsBatch batch (codes "start") rows
+IsStart rows (asked.Mistake text) = AsksDryBatch rows
+IsStart rows other = ⊥
 
 -- no command is asked for, but something is wrong
 abbrev pub IsMistake : Asked → Type 0
@@ -213,15 +330,20 @@ IsMistake other = ⊥
 
 -- a run is of at most 1,000,000 turns
 abbrev pub HasTurns : FileCommand → Type 0
-HasTurns (Run folder turns) = turns ≤ 1000000
+HasTurns (Run dir turns) = turns ≤ 1000000
 HasTurns command = ⊤
+
+-- two options exclude each other, or a dry start of several recalls is asked for
+abbrev pub Contradicts : Text → List Row → Type 0
+Contradicts name rows = AsksTwo rows ⊎ ((name ≡ codes "start") × AsksDryBatch rows)
 
 -- the named command is asked for
 abbrev pub AsksNamed : Option (Text × List Row) → Asked → Type 0
 AsksNamed (Some (name, rows)) asked.Sim = name ≡ codes "sim"
 AsksNamed (Some (name, rows)) (asked.Files command form) = IsCommand command name rows × GivesForm rows form
-AsksNamed (Some (name, rows)) (asked.Batch batch) = (name ≡ codes "capture") × IsBatch batch rows
-AsksNamed (Some (name, rows)) (asked.Mistake text) = AsksTwoForms rows
+AsksNamed (Some (name, rows)) (asked.Batch batch) = IsBatch batch name rows
+AsksNamed (Some (name, rows)) (asked.Lint files) = (name ≡ codes "lint") × IsLint files rows
+AsksNamed (Some (name, rows)) (asked.Mistake text) = Contradicts name rows
 AsksNamed named other = ⊥
 
 -- nothing is wrong with the words: a script is to be run
@@ -232,9 +354,13 @@ AsksSim words = (faults_of words ≡ []) × AsksNamed (named words) asked.Sim
 abbrev pub AsksFiles : List (List ℕ) → FileCommand → Form → Type 0
 AsksFiles words command form = (faults_of words ≡ []) × AsksNamed (named words) (asked.Files command form)
 
--- or several documents are to be captured
+-- or several inputs are to be taken
 abbrev pub AsksBatch : List (List ℕ) → Batch → Type 0
 AsksBatch words batch = (faults_of words ≡ []) × AsksNamed (named words) (asked.Batch batch)
+
+-- or documents are to be looked through
+abbrev pub AsksLint : List (List ℕ) → LintFiles → Type 0
+AsksLint words files = (faults_of words ≡ []) × AsksNamed (named words) (asked.Lint files)
 
 abbrev pub AsksHelp : List (List ℕ) → Type 0
 AsksHelp words = (kind : ErrorKind) × IsShown kind × IsAmong kind (faults_of words)
@@ -243,20 +369,21 @@ AsksHelp words = (kind : ErrorKind) × IsShown kind × IsAmong kind (faults_of w
 abbrev pub HasFault : List (List ℕ) → Type 0
 HasFault words = (kind : ErrorKind) × IsAmong kind (faults_of words) × (¬ IsShown kind)
 
--- the named command is to print two forms
-abbrev pub NamesTwoForms : Option (Text × List Row) → Type 0
-NamesTwoForms None = ⊥
-NamesTwoForms (Some (name, rows)) = AsksTwoForms rows
+-- the named command's options contradict one another
+abbrev pub IsContradiction : Option (Text × List Row) → Type 0
+IsContradiction None = ⊥
+IsContradiction (Some (name, rows)) = Contradicts name rows
 
 -- something is wrong with them, and help or the version isn't asked for
 abbrev pub IsBad : List (List ℕ) → Type 0
-IsBad words = HasFault words ⊎ ((faults_of words ≡ []) × NamesTwoForms (named words))
+IsBad words = HasFault words ⊎ ((faults_of words ≡ []) × IsContradiction (named words))
 
 -- the words ask for this
 abbrev pub AsksFor : List (List ℕ) → Asked → Type 0
 AsksFor words asked.Sim = AsksSim words
 AsksFor words (asked.Files command form) = AsksFiles words command form
 AsksFor words (asked.Batch batch) = AsksBatch words batch
+AsksFor words (asked.Lint files) = AsksLint words files
 AsksFor words (asked.Help text) = AsksHelp words
 AsksFor words (asked.Mistake text) = IsBad words
 
@@ -265,5 +392,6 @@ abbrev pub IsToldAs : ErrorKind → Asked → Type 0
 IsToldAs kind asked.Sim = ⊥
 IsToldAs kind (asked.Files command form) = ⊥
 IsToldAs kind (asked.Batch batch) = ⊥
+IsToldAs kind (asked.Lint asked_for) = ⊥
 IsToldAs kind (asked.Help text) = IsShown kind
 IsToldAs kind (asked.Mistake text) = (¬ IsShown kind) × (kind ≢ OutOfMemory)

@@ -1,5 +1,5 @@
 -- How a command ends: with which status, and what it leaves on its streams.
-use Rattle.std.specs.Prelude.{◌≡◌, ◌⊎◌, ◌==◌, ℕ, List, [], ◌∷◌, Option, Some, None, Result, Ok, Err, IfErr, IfOk, IfSome, codes, string_bytes, if◌then◌else◌}
+use Rattle.std.specs.Prelude.{◌≡◌, ◌⊎◌, ◌==◌, ℕ, List, [], ◌∷◌, Option, Some, None, Result, Ok, Err, IfErr, IfOk, IfSome, codes, map, string_bytes, if◌then◌else◌}
 use Rattle.std.specs.Global.{Global}
 use Rattle.std.specs.declared.string.String.{String}
 use Rattle.std.specs.Io.KnownBytes.{Appends, Keeps}
@@ -22,14 +22,17 @@ use Rattle.recall_text.specs.declared.faults.ScriptFault.{ScriptFault}
 use Rattle.recall_text.specs.declared.faults.ScriptFault.TheVariants as faults
 use Rattle.script_core.specs.declared.tallies.Tally.{Tally}
 use Rattle.site_core.specs.Records.{Record}
-use Rattle.command_line.specs.CommandLines.{AsksBatch, AsksFiles, AsksHelp, AsksSim, IsBad, paths_of, texts_of}
+use Rattle.command_line.specs.CommandLines.{AsksBatch, AsksFiles, AsksHelp, AsksLint, AsksSim, IsBad, texts_of, words_of}
 use Rattle.command_line.specs.Leads.{FailsBy, LeadsTo}
-use Rattle.folder_commands.specs.declared.captures.CaptureSummary.{CaptureSummary}
+use Rattle.folder_commands.specs.declared.batches.BatchSummary.{BatchSummary}
 use Rattle.folder_commands.specs.declared.outputs.Output.{Output}
-use Rattle.folder_commands.specs.Captures.{CapturesAll, EndsEarly}
+use Rattle.folder_commands.specs.Batches.{DoesAll, EndsEarly, task_of}
+use Rattle.folder_commands.specs.Lints.{LintEndsEarly, Lints}
+use Rattle.folder_commands.specs.declared.lints.LintSummary.{LintSummary}
 use Rattle.folder_commands.specs.FileCalls.{Began, FileCall, Led}
 use Rattle.command_line.specs.declared.command_lines.Batch.{Batch}
 use Rattle.command_line.specs.declared.command_lines.FileCommand.{FileCommand}
+use Rattle.command_line.specs.declared.lint_commands.LintFiles.{LintFiles}
 
 -- what the output and the error stream hold, where they report it
 pub record Printed : Type 0 where
@@ -172,32 +175,52 @@ HelpHelps words old new before after status =
     (name : List ℕ) → texts_of words ≡ name ∷ codes "--help" ∷ []
     → Helps old new before after status (texts_of words) ⊎ LacksMemory old new before after status
 
--- ---- several documents
+-- ---- several inputs
 
--- a fault ended the capture of several documents: status 3, the fault, and what was written before
+-- a fault ended a batch: status 3, the fault, and what was written before
 pub record BreaksOff {F : Type 0} (fails : F → Option Failure → Type 0) (form : Form) (files : F) (Early : Type 0) (errors errors_after : Option (List ℕ)) (status : ℕ) : Type 0 where
   pub fault : Fault
   pub early : Early
   pub told : TellsFault fails form files fault errors errors_after
   pub status_is : status ≡ 3
 
--- they were captured or refused, each answered on its own, and then what isn't traced of them is told
-pub record BatchTold (Captures : CaptureSummary → Type 0) (form : Form) (errors errors_after : Option (List ℕ)) (status : ℕ) : Type 0 where
-  pub summary : CaptureSummary
-  pub captured : Captures summary
+-- the inputs were taken or refused, each answered on its own, and then what isn't traced of them is told
+pub record BatchTold (Does : BatchSummary → Type 0) (form : Form) (errors errors_after : Option (List ℕ)) (status : ℕ) : Type 0 where
+  pub summary : BatchSummary
+  pub done : Does summary
   pub noted : AppendsBeginning errors errors_after (note_lines form (untraced_text summary.untraced))
   pub status_is : status ≡ summary.status
 
 module _ {F K : Type 0} (does : F → FileCall K → F → Type 0) (fails : F → Option Failure → Type 0) (shown : K → Option Record) (stored : K → Type 0) (batch : Batch) where
-  -- several documents were captured; or a fault ended it
+  -- the inputs were taken; or a fault ended it
   abbrev pub BatchEnds : F → F → Printed → Printed → ℕ → Type 0
   BatchEnds old new before after status =
       BatchTold
       (λ summary. Led does old new
-      (CapturesAll shown stored batch.form batch.folder.now batch.site.now batch.by_lines (paths_of batch) before.output after.output summary))
+      (DoesAll shown stored batch.form batch.folder.now batch.site.now batch.kind (words_of batch) before.output after.output summary))
       batch.form before.errors after.errors status
       ⊎ BreaksOff fails batch.form new
-      (Began does old (EndsEarly shown stored batch.form batch.folder.now batch.site.now before.output after.output)) before.errors after.errors status
+      (Began does old (EndsEarly shown stored batch.form batch.folder.now (task_of batch.kind) batch.site.now before.output after.output)) before.errors after.errors status
+
+-- ---- a lint
+
+-- documents were looked through, and the error stream was left as it was
+pub record LintTold (Linted : LintSummary → Type 0) (errors errors_after : Option (List ℕ)) (status : ℕ) : Type 0 where
+  pub summary : LintSummary
+  pub linted : Linted summary
+  pub silent : Keeps errors errors_after
+  pub status_is : status ≡ summary.status
+
+module _ {F K : Type 0} (does : F → FileCall K → F → Type 0) (fails : F → Option Failure → Type 0) (asked : LintFiles) where
+  -- documents were looked through; or a fault ended it
+  abbrev pub LintEnds : F → F → Printed → Printed → ℕ → Type 0
+  LintEnds old new before after status =
+      LintTold
+      (λ summary. Led does old new (Lints asked.form asked.list.now (map (λ path. path.now) asked.paths.items) before.output after.output summary))
+      before.errors after.errors status
+      ⊎ BreaksOff fails asked.form new
+      (Began does old (LintEndsEarly asked.form asked.list.now (map (λ path. path.now) asked.paths.items) before.output after.output))
+      before.errors after.errors status
 
 -- ---- the whole
 
@@ -214,18 +237,25 @@ module _ {F K G : Type 0} (does : F → FileCall K → F → Type 0) (knows : F 
     pub unread : Keeps before.input after.input
     pub told : TellsWhatCame fails form new came before.printed after.printed status
 
-  -- several documents were asked to be captured, and what came of it was reported
+  -- several inputs were asked to be taken, and what came of it was reported
   pub record DoesBatch (words : List (List ℕ)) (old new : F) (before after : Streams) (status : ℕ) : Type 0 where
     pub batch : Batch
     pub asked : AsksBatch words batch
     pub unread : Keeps before.input after.input
     pub ends : BatchEnds does fails shown stored batch old new before.printed after.printed status
 
+  -- documents were asked to be looked through, and what was found was reported
+  pub record DoesLint (words : List (List ℕ)) (old new : F) (before after : Streams) (status : ℕ) : Type 0 where
+    pub files : LintFiles
+    pub asked : AsksLint words files
+    pub unread : Keeps before.input after.input
+    pub ends : LintEnds does fails files old new before.printed after.printed status
+
   -- how a command line ends, from old files to new ones
   abbrev pub Ends : List (String Global) → F → F → Streams → Streams → ℕ → Type 0
   Ends words old new before after status =
       RunsAsked old new before after status (texts_of words)
       ⊎ (DoesFiles (texts_of words) old new before after status
-      ⊎ (DoesBatch (texts_of words) old new before after status
+      ⊎ ((DoesBatch (texts_of words) old new before after status ⊎ DoesLint (texts_of words) old new before after status)
       ⊎ (Helps old new before after status (texts_of words)
       ⊎ (IsMistaken old new before after status (texts_of words) ⊎ LacksMemory old new before after status))))

@@ -2,12 +2,15 @@
 
 ghost use Rattle.std.specs.Prelude.{◌≡◌, ◌↔◌, false, IfNone, IfOk, IfSome, IsTrue, codes, length};
 ghost use Rattle.clap.specs.Words.{found_of, kind_of, rows_of, subcommand_rows_of};
-ghost use Rattle.command_line.specs.CommandLines.{texts_of, AsksFor, AsksNamed, AsksTwoForms, Gives, GivesForm, GivesNumber, GivesOrNone, GivesWays, IsCapture, IsCommand, IsMistake, IsSet, IsToldAs};
+ghost use Rattle.command_line.specs.CommandLines.{texts_of, AsksDryBatch, AsksFor, AsksNamed, AsksTwoForms, AsksTwoSpellings, Gives, GivesForm, GivesItem, GivesNumber, GivesOrNone, GivesSpelling, GivesWays, IsCapture, IsCommand, IsMistake, IsSet, IsStart, IsToldAs, documents_kind, epcs_kind};
 
 use crate::grammar::recall;
 use crate::helps;
+use crate::lint_commands::{LintFiles, lint_command};
 use clap::error::ErrorKind;
 use clap::{ArgMatches, Error};
+use folder_commands::WordKind;
+use item_spellings::{Spelled, Spelling};
 use recall_outcomes::{Form, Ways};
 use std::alloc::{AllocError, Global};
 
@@ -18,22 +21,25 @@ pub(crate) enum Asked<'a> {
     Sim,
     /// Something of the sites' files, which is printed in this form.
     Files(FileCommand<'a>, Form),
-    /// Documents of several files, or of their lines, are captured at a site.
+    /// Several documents are captured at a site, or several recalls started.
     Batch(Batch<'a>),
+    /// Documents of files are looked through.
+    Lint(LintFiles<'a>),
     /// Help, or the version, which is an answer.
     Help(String),
     /// A bad command line, with what is wrong with it.
     Mistake(String),
 }
 
-/// Documents that are captured at a site of a folder one after another: those of several files, or of the lines of some.
+/// What a site of a folder does one after another: the documents that it captures, or the items whose recall it starts, of
+/// several words, or of the lines of files.
 #[derive(Debug, Drop)]
 pub(crate) struct Batch<'a> {
     pub(crate) folder: &'a str,
     pub(crate) site: &'a str,
-    pub(crate) paths: Vec<&'a str>,
-    /// Whether each line of a file is a document.
-    pub(crate) by_lines: bool,
+    pub(crate) words: Vec<&'a str>,
+    /// What each of the words is.
+    pub(crate) kind: WordKind,
     /// How it is printed.
     pub(crate) form: Form,
 }
@@ -56,7 +62,7 @@ pub(crate) enum FileCommand<'a> {
     Start {
         folder: &'a str,
         site: &'a str,
-        item: &'a str,
+        item: Spelled<'a>,
         dry: bool,
     },
     /// All sites run, for so many turns: 1 to 1,000,000.
@@ -74,7 +80,7 @@ pub(crate) enum FileCommand<'a> {
     Trace {
         folder: &'a str,
         site: &'a str,
-        item: &'a str,
+        item: Spelled<'a>,
         back: bool,
         ways: Ways,
     },
@@ -119,23 +125,30 @@ fn named<'a>(alloc: Global, matches: &ArgMatches<'a>) -> Option<Asked<'a>>
 {
     let (name, given) = matches.subcommand()?;
     let Some(form) = form_of(given) else {
-        return two_forms(alloc).ok();
+        return mistake(alloc, helps::TWO_FORMS).ok();
     };
+    if spelling_of(given).is_none() {
+        return mistake(alloc, helps::TWO_SPELLINGS).ok();
+    }
     if name == "sim" {
         Some(Asked::Sim)
     } else if name == "capture" {
         capture_command(alloc, given, form)
+    } else if name == "start" {
+        start_command(alloc, given, form)
+    } else if name == "lint" {
+        lint_command(alloc, given, form)
     } else {
         let command = file_command(name, given)?;
         Some(Asked::Files(command, form))
     }
 }
 
-/// What is reported where two forms are asked for. `clap` would refuse them, but then its contract tells no argument.
-fn two_forms<'a>(alloc: Global) -> Result<Asked<'a>, AllocError>
+/// What is reported where options contradict one another. `clap` would refuse them, but then its contract tells no argument.
+fn mistake<'a>(alloc: Global, what: &str) -> Result<Asked<'a>, AllocError>
     ensures { IfOk result IsMistake }
 {
-    let text = String::from_str(alloc, helps::TWO_FORMS)?;
+    let text = String::from_str(alloc, what)?;
     Ok(Asked::Mistake(text))
 }
 
@@ -148,30 +161,89 @@ fn capture_command<'a>(alloc: Global, given: &ArgMatches<'a>, form: Form) -> Opt
     let site = argument(given, "site")?;
     let paths = given.get_strs("file")?;
     let by_lines = is_set(given, "lines");
-    if is_one_document(paths, by_lines) {
+    if is_one_input(paths, by_lines) {
         let file = paths[0];
         let command = FileCommand::Capture { folder, site, file };
         return Some(Asked::Files(command, form));
     }
-    let paths = copied(alloc, paths).ok()?;
+    let words = copied(alloc, paths).ok()?;
+    let kind = documents_kind(by_lines);
     Some(Asked::Batch(Batch {
         folder,
         site,
-        paths,
-        by_lines,
+        words,
+        kind,
         form,
     }))
 }
 
-/// Whether the files are one that is one document.
-fn is_one_document(paths: &[&str], by_lines: bool) -> bool
-    ensures { IsTrue result ↔ ((by_lines ≡ false) × (length paths.now ≡ 1)) }
+/// The command to start a recall of an item, or a batch.
+fn start_command<'a>(alloc: Global, given: &ArgMatches<'a>, form: Form) -> Option<Asked<'a>>
+    requires { GivesForm (rows_of (found_of given.now)) form }
+    ensures { IfSome result (IsStart (rows_of (found_of given.now))) }
 {
-    !by_lines && paths.len() == 1
+    let folder = argument(given, "dir")?;
+    let site = argument(given, "site")?;
+    let epcs = given.get_strs("epc")?;
+    let spelling = spelling_of(given)?;
+    let by_lines = is_set(given, "from");
+    let dry = is_set(given, "dry-run");
+    if is_one_input(epcs, by_lines) {
+        let text = epcs[0];
+        let item = Spelled { text, spelling };
+        let command = FileCommand::Start {
+            folder,
+            site,
+            item,
+            dry,
+        };
+        return Some(Asked::Files(command, form));
+    }
+    if dry {
+        return mistake(alloc, helps::ONE_DRY_START).ok();
+    }
+    let words = copied(alloc, epcs).ok()?;
+    let kind = epcs_kind(by_lines, spelling);
+    Some(Asked::Batch(Batch {
+        folder,
+        site,
+        words,
+        kind,
+        form,
+    }))
+}
+
+/// What words are that are files of documents, of which each line may be one.
+fn documents_kind(by_lines: bool) -> WordKind
+    ensures { result ≡ documents_kind by_lines }
+{
+    if by_lines {
+        WordKind::DocumentLines
+    } else {
+        WordKind::Document
+    }
+}
+
+/// What words are that are EPCs, or files of which each line is one.
+fn epcs_kind(by_lines: bool, spelling: Spelling) -> WordKind
+    ensures { result ≡ epcs_kind by_lines spelling }
+{
+    if by_lines {
+        WordKind::EpcLines(spelling)
+    } else {
+        WordKind::Epc(spelling)
+    }
+}
+
+/// Whether the words are one that is one input.
+fn is_one_input(words: &[&str], by_lines: bool) -> bool
+    ensures { IsTrue result ↔ ((by_lines ≡ false) × (length words.now ≡ 1)) }
+{
+    !by_lines && words.len() == 1
 }
 
 /// A list of the same texts.
-fn copied<'a>(alloc: Global, texts: &[&'a str]) -> Result<Vec<&'a str>, AllocError>
+pub(crate) fn copied<'a>(alloc: Global, texts: &[&'a str]) -> Result<Vec<&'a str>, AllocError>
     ensures { IfOk result (λ copy. copy.items ≡ texts.now) }
 {
     let mut copy = Vec::new(alloc);
@@ -254,17 +326,8 @@ fn site_command<'a>(name: &str, folder: &'a str, given: &ArgMatches<'a>) -> Opti
     ensures { IfSome result (λ c. IsCommand c name.now (rows_of (found_of given.now))) }
 {
     let site = argument(given, "site")?;
-    if name == "start" {
-        let item = argument(given, "epc")?;
-        let dry = is_set(given, "dry-run");
-        Some(FileCommand::Start {
-            folder,
-            site,
-            item,
-            dry,
-        })
-    } else if name == "trace" {
-        let item = argument(given, "epc")?;
+    if name == "trace" {
+        let item = item_of(given)?;
         let (back, ways) = (is_set(given, "back"), ways_of(given));
         Some(FileCommand::Trace {
             folder,
@@ -307,6 +370,30 @@ fn text_of<'a>(given: &ArgMatches<'a>) -> &'a str
     }
 }
 
+/// The item that is given, by its spelling.
+fn item_of<'a>(given: &ArgMatches<'a>) -> Option<Spelled<'a>>
+    ensures { IfSome result (GivesItem (rows_of (found_of given.now))) }
+{
+    let text = argument(given, "epc")?;
+    let spelling = spelling_of(given)?;
+    Some(Spelled { text, spelling })
+}
+
+/// How the item is spelled. None where two ways are named.
+fn spelling_of(given: &ArgMatches<'_>) -> Option<Spelling>
+    ensures one { IfSome result (GivesSpelling (rows_of (found_of given.now))) }
+    ensures two { IfNone result (AsksTwoSpellings (rows_of (found_of given.now))) }
+{
+    let key = is_set(given, "key");
+    let scan = is_set(given, "scan");
+    match (key, scan) {
+        (false, false) => Some(Spelling::Epc),
+        (true, false) => Some(Spelling::Key),
+        (false, true) => Some(Spelling::Scan),
+        (true, true) => None,
+    }
+}
+
 /// How it is told how each pair is reached.
 fn ways_of(given: &ArgMatches<'_>) -> Ways
     ensures { GivesWays (rows_of (found_of given.now)) result }
@@ -319,14 +406,14 @@ fn ways_of(given: &ArgMatches<'_>) -> Ways
 }
 
 /// The argument of a name.
-fn argument<'a>(given: &ArgMatches<'a>, name: &str) -> Option<&'a str>
+pub(crate) fn argument<'a>(given: &ArgMatches<'a>, name: &str) -> Option<&'a str>
     ensures { IfSome result (λ v. Gives (rows_of (found_of given.now)) name.now v.now) }
 {
     given.get_str(name)
 }
 
 /// The number that the argument of a name gives.
-fn number(given: &ArgMatches<'_>, name: &str) -> Option<u64>
+pub(crate) fn number(given: &ArgMatches<'_>, name: &str) -> Option<u64>
     ensures { IfSome result (λ n. GivesNumber (rows_of (found_of given.now)) name.now n) }
 {
     given.get_one::<u64>(name)

@@ -12,11 +12,12 @@ ghost use Rattle.command_line.specs.Leads.{FailsBy, LeadsTo};
 ghost use Rattle.folder_commands.specs.FileCalls.{Led};
 
 use crate::command_lines::{self, Asked, Batch, FileCommand};
+use crate::lint_commands::lint_files;
 use crate::statuses;
 use event_json::Untraced;
 use folder_commands::{
-    Documents, Files, Output, audit_sites, capture, capture_documents, dry_start, init,
-    items_of_site, recall_standing, recalls_standing, report_recall, run_sites, start, trace_item,
+    Files, Output, audit_sites, capture, do_batch, dry_start, init, items_of_site, recall_standing,
+    recalls_standing, report_recall, run_sites, start, trace_item,
 };
 use keeper_core::SiteKeeper;
 use recall_outcomes::{Fault, Form, Outcome, note_lines, untraced_text};
@@ -76,7 +77,8 @@ pub fn run_command<
             let came = on_files(rt, alloc, keys, files, gate, &command);
             tell(alloc, form, files, &came, output, errors)
         }
-        Ok(Asked::Batch(batch)) => capture_batch(alloc, files, &batch, output, errors),
+        Ok(Asked::Batch(batch)) => take_batch(alloc, files, &batch, output, errors),
+        Ok(Asked::Lint(asked)) => lint_files(alloc, files, &asked, output, errors),
         Ok(Asked::Help(text)) => print(text.as_str(), output, errors),
         Ok(Asked::Mistake(text)) => {
             say(errors, text.as_str());
@@ -191,8 +193,8 @@ fn on_files<
     }
 }
 
-/// Captures several documents, each of which is answered once it is kept.
-fn capture_batch<K: SiteKeeper, F: Files<K>, W: Write, E: Write>(
+/// Captures several documents, or starts several recalls, each of which is answered once it is kept.
+fn take_batch<K: SiteKeeper, F: Files<K>, W: Write, E: Write>(
     alloc: Global,
     files: &mut F,
     batch: &Batch<'_>,
@@ -203,16 +205,16 @@ fn capture_batch<K: SiteKeeper, F: Files<K>, W: Write, E: Write>(
         (printed_on W.contents E.contents output.old errors.old)
         (printed_on W.contents E.contents output.new errors.new) result }
 {
-    let documents = Documents {
-        paths: batch.paths.as_slice(),
-        by_lines: batch.by_lines,
+    let inputs = folder_commands::Batch {
+        words: batch.words.as_slice(),
+        kind: batch.kind,
     };
-    match capture_documents(
+    match do_batch(
         alloc,
         files,
         batch.folder,
         batch.site,
-        &documents,
+        &inputs,
         batch.form,
         output,
     ) {
@@ -334,7 +336,7 @@ fn print<W: Write, E: Write>(text: &str, output: &mut W, errors: &mut E) -> u8
 
 /// Prints a fault of a command on the sites' files: its line, the file that it is about and what is known of that, and
 /// what it means. Its name alone, where memory runs out for the rest.
-fn fault<K: SiteKeeper, F: Files<K>, E: Write>(
+pub(crate) fn fault<K: SiteKeeper, F: Files<K>, E: Write>(
     alloc: Global,
     form: Form,
     files: &F,

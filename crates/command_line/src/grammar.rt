@@ -2,7 +2,7 @@
 
 ghost use Rattle.std.specs.Prelude.{◌≡◌, false, IfOk, codes};
 ghost use Rattle.clap.specs.Words.{app_of, new_rule, rule_of};
-ghost use Rattle.command_line.specs.CommandLines.{audit, capture, files, flag, folder, init, items, on_folder, recall, report, required, run, sim, start, status, trace, turns};
+ghost use Rattle.command_line.specs.CommandLines.{audit, capture, epcs, files, flag, folder, init, items, lint, on_folder, recall, report, required, run, sim, start, status, trace, turns, wait};
 
 use crate::helps;
 use clap::builder::ValueParser;
@@ -29,7 +29,8 @@ pub(crate) fn recall<'a>(alloc: Global) -> Result<Command<'a>, AllocError>
         .subcommand(audit(alloc)?)?
         .subcommand(trace(alloc)?)?
         .subcommand(status(alloc)?)?
-        .subcommand(items(alloc)?)
+        .subcommand(items(alloc)?)?
+        .subcommand(lint(alloc)?)
 }
 
 /// An argument that has to be there.
@@ -63,7 +64,8 @@ fn on_folder<'a>(
         .about(about)
         .after_help(example)
         .arg(folder(alloc))?
-        .arg(json(alloc))
+        .arg(json(alloc))?
+        .arg(wait(alloc))
 }
 
 /// Whether what it comes to is printed as JSON.
@@ -72,6 +74,19 @@ fn json<'a>(alloc: Global) -> Arg<'a>
     ensures local { result.global ≡ false }
 {
     flag(alloc, "json", "Print JSON, an object a line")
+}
+
+/// For how many seconds a file is waited for that is in use.
+fn wait<'a>(alloc: Global) -> Arg<'a>
+    ensures rule { rule_of result ≡ wait }
+    ensures local { result.global ≡ false }
+{
+    Arg::new(alloc, "wait")
+        .long("wait")
+        .value_name("seconds")
+        .value_parser(value_parser!(u64).range(0..=86_400))
+        .default_value("0")
+        .help("Wait so long for a site's file that another program has open, 0 to 86400")
 }
 
 /// An option without a value.
@@ -123,6 +138,26 @@ fn dot<'a>(alloc: Global) -> Arg<'a>
     ensures local { result.global ≡ false }
 {
     flag(alloc, "dot", "Print a picture of the spread for Graphviz")
+}
+
+/// Whether the item is given as it is printed.
+fn key<'a>(alloc: Global) -> Arg<'a>
+    ensures rule { rule_of result ≡ flag (codes "key") }
+    ensures local { result.global ≡ false }
+{
+    flag(alloc, "key", "The item is given as this program prints it")
+}
+
+/// Whether the item is given as a scanner gives it.
+fn scan<'a>(alloc: Global) -> Arg<'a>
+    ensures rule { rule_of result ≡ flag (codes "scan") }
+    ensures local { result.global ≡ false }
+{
+    flag(
+        alloc,
+        "scan",
+        "The item is given as a scanner gives it, in GS1 element strings",
+    )
 }
 
 fn sim<'a>(alloc: Global) -> Command<'a>
@@ -183,12 +218,32 @@ fn start<'a>(alloc: Global) -> Result<Command<'a>, AllocError>
 {
     on_folder(alloc, "start", helps::START_ABOUT, helps::START_EXAMPLE)?
         .arg(required(alloc, "site", "The site that starts it"))?
-        .arg(required(alloc, "epc", "The EPC of the item"))?
+        .arg(epcs(alloc))?
+        .arg(flag(
+            alloc,
+            "from",
+            "Each word is a file, of which each line is an EPC",
+        ))?
         .arg(flag(
             alloc,
             "dry-run",
             "Tell what the start would do, and do nothing",
-        ))
+        ))?
+        .arg(key(alloc))?
+        .arg(scan(alloc))
+}
+
+/// The EPCs of the items, one at least.
+fn epcs<'a>(alloc: Global) -> Arg<'a>
+    ensures rule { rule_of result ≡ epcs }
+    ensures local { result.global ≡ false }
+{
+    required(
+        alloc,
+        "epc",
+        "The EPCs of the items, each of which is recalled",
+    )
+    .action(ArgAction::Append)
 }
 
 fn run<'a>(alloc: Global) -> Result<Command<'a>, AllocError>
@@ -235,7 +290,9 @@ fn trace<'a>(alloc: Global) -> Result<Command<'a>, AllocError>
         .arg(flag(alloc, "back", "Trace where it came from, not where it went"))?
         .arg(brief(alloc))?
         .arg(csv(alloc))?
-        .arg(dot(alloc))
+        .arg(dot(alloc))?
+        .arg(key(alloc))?
+        .arg(scan(alloc))
 }
 
 fn status<'a>(alloc: Global) -> Result<Command<'a>, AllocError>
@@ -264,4 +321,15 @@ fn items<'a>(alloc: Global) -> Result<Command<'a>, AllocError>
             "text",
             "What an item contains as it is printed, as the end of its serial",
         ))
+}
+
+fn lint<'a>(alloc: Global) -> Result<Command<'a>, AllocError>
+    ensures { IfOk result (λ command. app_of command ≡ lint) }
+{
+    Command::new(alloc, "lint")
+        .about(helps::LINT_ABOUT)
+        .after_help(helps::LINT_EXAMPLE)
+        .arg(required(alloc, "sites", "The file that lists the sites"))?
+        .arg(files(alloc))?
+        .arg(json(alloc))
 }

@@ -14,6 +14,20 @@ error: only one of '--json', '--csv' and '--dot' can be given
 For more information, try '--help'.
 ";
 
+/// What is wrong where a start of several recalls is to be dry.
+pub(crate) const ONE_DRY_START: &str = "\
+error: '--dry-run' takes one EPC, and no '--from'
+
+For more information, try '--help'.
+";
+
+/// What is wrong where an item is said to be spelled in two ways.
+pub(crate) const TWO_SPELLINGS: &str = "\
+error: only one of '--key' and '--scan' can be given
+
+For more information, try '--help'.
+";
+
 /// The page behind the list of commands.
 pub(crate) const PAGE: &str = "\
 A folder holds a supply chain: the file `sites` lists its sites, and each site keeps its record in a file
@@ -33,6 +47,7 @@ Questions that change nothing:
   recall trace chain dairy <epc> --back          where it came from
   recall status chain                            how each recall stands, and what it waits for
   recall items chain dairy 400                   the items of a site, found by a part of their text
+  recall lint sites.txt monday.json              all that is wrong in documents, before they are captured
 
 A list of sites has a line for each: `site <name> <address>..`, where an address is a destination of
 shipments that stands for the site. An item is an EPC, as urn:epc:id:sgtin:0614141.112345.400, a Digital
@@ -103,9 +118,19 @@ The item and all that the site made from it are quarantined there. `recall <reca
 sites; `ended` stands in place of `open` where there are none. A start can't be undone, and a quarantine
 is never lifted: `recall trace` tells what it would find, and `--dry-run` what it would do at the site.
 
+Of several EPCs each has a recall of its own, and the site's file is opened once. Each recall is kept, and its
+line printed with the EPC behind it, before the next one is started. With `--from` the EPCs are the lines of
+a file (`-` is the standard input), and behind each line of the answer stand the file and the line's number.
+An item that is refused doesn't stop the others. A last line has the totals.
+With `--key` the item is given as this program prints it, with `--scan` as a scanner gives it: a list of GS1
+element strings with a GTIN (01) and a serial number (21), or an SSCC (00), in brackets or not.
+
 Examples:
   recall start chain dairy urn:epc:id:sgtin:0614141.112345.400 --dry-run
   recall start chain dairy urn:epc:id:sgtin:0614141.112345.400
+  recall start chain dairy --from lot-7.txt
+  recall start chain dairy --key 'sgtin 10614141123459 400'
+  recall start chain dairy --scan '(01)10614141123459(21)400'
 
 Status: 0 done, 1 refused, 3 a fault.";
 
@@ -167,8 +192,12 @@ recalled, and no file is changed.
 With `--csv` it is a table for a spreadsheet, with a row for each item at a site and one for each shipment
 that left or each origin; with `--dot` a picture for Graphviz. A refusal is printed as text.
 
+With `--key` the item is given as this program prints it, with `--scan` as a scanner gives it.
+
 Examples:
   recall trace chain dairy urn:epc:id:sgtin:0614141.112345.400
+  recall trace chain dairy --key 'sgtin 10614141123459 400'
+  recall trace chain dairy --scan '(01)10614141123459(21)400'
   recall trace chain shop https://id.gs1.org/01/09521321000179/21/1 --back --brief
   recall trace chain dairy urn:epc:id:sgtin:0614141.112345.400 --dot | dot -Tsvg > trace.svg
 
@@ -186,7 +215,7 @@ where its signal is outstanding. An open recall goes on in the next `recall run`
 Examples:
   recall status chain
   recall status chain dairy#1
-  until recall status chain --exit-code; do recall run chain; done
+  for i in 1 2 3; do recall status chain --exit-code; [ $? -eq 5 ] || break; recall run chain; done
 
 Status: 0 done, 1 refused (UnknownRecall: the site began none of this number), 3 a fault, and with
 `--exit-code` 5 while a recall that is told of is open.";
@@ -203,3 +232,19 @@ Examples:
   recall items chain dairy 'sgtin 00614141123452'
 
 Status: 0 done, 1 refused (NoSite: the folder lists no such site), 3 a fault.";
+
+pub(crate) const LINT_ABOUT: &str =
+    "Tells all that is wrong or strange in documents, before they are captured";
+
+pub(crate) const LINT_EXAMPLE: &str = "\
+Needs the list of sites alone, and writes nothing. `fault <kind> event <number> field <field> <file>` for the
+first fault of each event, in the words of a refused capture; a document without a fault is one that is read.
+`warn` for what is read and probably not meant: ShipsNowhere (shipping without a destination), Outside (a
+destination that is no traced site), Skipped (an event of a type that isn't traced), NoEventID (captured
+again it counts again), NearMiss (begins as an SGTIN or an SSCC and breaks its rules). Then a total.
+
+Examples:
+  recall lint examples/dairy/sites examples/dairy/dairy.json
+  recall lint chain/sites monday/*.json --json
+
+Status: 0 no fault, 1 a fault, or the list is refused, 3 a fault of a file, named on the error stream.";

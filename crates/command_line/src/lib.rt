@@ -5,7 +5,10 @@ mod command_lines;
 mod commands;
 mod grammar;
 mod helps;
+mod lint_commands;
 mod statuses;
+mod waits;
 
 pub use commands::run_command;
 pub use statuses::{BAD_COMMAND_LINE, FAULT};
+pub use waits::patience;

@@ -141,5 +141,6 @@ pub(crate) fn files(alloc: Global) -> Result<MemoryFiles, Fail> {
     files.write_new("made", MADE.as_bytes())?;
     files.write_new("broken", b"{".as_slice())?;
     files.write_new("lines", b"{\n \r\n{".as_slice())?;
+    files.write_new("epcs", b"y \r\n\n\xff\n".as_slice())?;
     Ok(files)
 }

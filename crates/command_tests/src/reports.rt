@@ -22,6 +22,8 @@ const TIMES: &str = "\"eventTime\":\"2024-05-01T08:00:00Z\",\"eventTimeZoneOffse
 enum Short {
     Made(char, char),
     Shipped(char, char),
+    /// The first item was put into the second.
+    Packed(char, char),
     /// A recall of x.
     Start,
     /// The message A.1 to B, which notifies it of y under the recall A#1.
@@ -57,6 +59,9 @@ fn input(alloc: Global, short: Short) -> Result<SiteInput, Fail> {
         )?)),
         Short::Shipped(item, to) => Ok(document(format!(in alloc;
             "{{\"type\":\"ObjectEvent\",{TIMES},\"action\":\"OBSERVE\",\"epcList\":[\"{item}\"],\"destinationList\":[{{\"destination\":\"{to}\"}}]}}"
+        )?)),
+        Short::Packed(child, parent) => Ok(document(format!(in alloc;
+            "{{\"type\":\"AggregationEvent\",{TIMES},\"action\":\"ADD\",\"parentID\":\"{parent}\",\"childEPCs\":[\"{child}\"]}}"
         )?)),
         Short::Start => Ok(SiteInput::Start(Epc::read(alloc, "x")?)),
         Short::Told => Ok(SiteInput::Deliver(Frame::Recall {
@@ -247,5 +252,52 @@ fn a_report_has_trails_and_shipments_outside(rt: HostRuntime) -> Result<(), Fail
     let late = [WHOLE[0], WHOLE[1], WHOLE[2], Short::Shipped('x', 'z')];
     let late = reported(rt.alloc(), keys, &late)?;
     assert!(rt; tells(&late, true));
+    Ok(())
+}
+
+/// Whether these are x, which went to z in what it was put into, and then y, which went to w; all from A.
+fn are_x_and_y_out(outside: &[OutsideShipment]) -> bool {
+    outside.len() == 2
+        && is_x_to_z(&outside[..1])
+        && outside[1].site.number() == 0
+        && is_item(&outside[1].item, "y")
+        && outside[1].destination.as_str() == "w"
+}
+
+#[test]
+fn shipments_outside_go_by_item_with_what_it_lies_in(rt: HostRuntime) -> Result<(), Fail> {
+    let keys = RandomState::new(&rt)?;
+    let a = [
+        Short::Made('x', 'y'),
+        Short::Packed('x', 'p'),
+        Short::Shipped('p', 'z'),
+        Short::Shipped('y', 'w'),
+        Short::Start,
+    ];
+    let report = reported(rt.alloc(), keys, &a)?;
+    assert!(rt; matches!(&report, Ok(report) if are_x_and_y_out(report.outside.as_slice())));
+    Ok(())
+}
+
+/// Whether x at B is missing.
+fn x_is_missing_at_b(verdict: &Result<Verdict, ReportFault>) -> bool {
+    match verdict {
+        Ok(Verdict::Differs { pair, missing }) => *missing && is_pair(pair, 1, "x"),
+        _ => false,
+    }
+}
+
+#[test]
+fn an_audit_names_the_least_pair_that_differs(rt: HostRuntime) -> Result<(), Fail> {
+    let keys = RandomState::new(&rt)?;
+    // B's record is from before the recall, and lacks y, too.
+    let a = [
+        Short::Made('x', 'y'),
+        Short::Shipped('y', 'b'),
+        Short::Shipped('x', 'b'),
+        Short::Start,
+    ];
+    let verdict = audited(rt.alloc(), keys, &a, &[])?;
+    assert!(rt; x_is_missing_at_b(&verdict));
     Ok(())
 }

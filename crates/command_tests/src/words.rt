@@ -158,7 +158,10 @@ fn a_bad_command_line_ends_with_2(rt: HostRuntime) -> Result<(), Fail> {
         ("recall", "", 2, "", "error:"),
         ("recall -xh", "", 2, "", "error:"),
         ("recall start d A", "", 2, "", "error:"),
+        ("recall start d A x y --dry-run", "", 2, "", "error:"),
+        ("recall start d A x y", "", 3, "", "fault Read"),
         ("recall capture d A", "", 2, "", "error:"),
+        ("recall lint list", "", 2, "", "error:"),
         ("recall run d --turns 0", "", 2, "", "error: invalid value"),
         (
             "recall run d --turns 1000001",
@@ -187,6 +190,22 @@ fn a_bad_command_line_ends_with_2(rt: HostRuntime) -> Result<(), Fail> {
             "error: only one of",
         ),
         ("recall audit d --csv", "", 2, "", "error: unexpected"),
+        // An item that is said to be spelled in two ways, and a command without a spelling.
+        (
+            "recall start d A x --key --scan",
+            "",
+            2,
+            "",
+            "error: only one of '--key' and '--scan'",
+        ),
+        (
+            "recall trace d A x --scan --key",
+            "",
+            2,
+            "",
+            "error: only one of '--key' and '--scan'",
+        ),
+        ("recall items d A x --key", "", 2, "", "error: unexpected"),
     ];
     assert!(rt; first_other(&rt, rt.alloc(), keys, &rows)? == None);
     Ok(())
@@ -211,11 +230,39 @@ fn commands_on_files_are_told(rt: HostRuntime) -> Result<(), Fail> {
             "",
         ),
         ("recall audit d --json", "", 3, "", "{\"fault\":\"Read\"}\n"),
-        ("recall audit d", "", 3, "", "fault Read\n"),
+        (
+            "recall audit d",
+            "",
+            3,
+            "",
+            "fault Read\na file is missing or wasn't read: look at its path\n",
+        ),
         ("recall report d A#1 --csv", "", 3, "", "fault Read\n"),
         ("recall trace d A x --dot --back", "", 3, "", "fault Read\n"),
+        ("recall trace d A x --scan", "", 3, "", "fault Read\n"),
+        (
+            "recall start d A x --key --dry-run",
+            "",
+            3,
+            "",
+            "fault Read\n",
+        ),
         ("recall capture d A a b", "", 3, "", "fault Read\n"),
         ("recall capture d A - --lines", "", 3, "", "fault Read\n"),
+        (
+            "recall lint none a b --json",
+            "",
+            3,
+            "",
+            "{\"fault\":\"Read\"}\n",
+        ),
+        (
+            "recall lint list a",
+            "",
+            1,
+            "refused BadLine\nrefused NoWorld\n",
+            "",
+        ),
         ("recall run d", "", 3, "", "fault Read\n"),
         ("recall run d --turns 1000000", "", 3, "", "fault Read\n"),
     ];

@@ -4,11 +4,11 @@ use Rattle.std.specs.Prelude.{Option}
 use Rattle.event_json.specs.Sites.{Site}
 use Rattle.recall_outcomes.specs.declared.faults.Fault.{Fault}
 use Rattle.recall_outcomes.specs.declared.faults.Fault.TheVariants.{NoMemory}
-use Rattle.site_core.specs.Records.{Record, IsSound, fresh}
+use Rattle.site_core.specs.Records.{Record, fresh}
 use Rattle.site_recovery.specs.FittingAt.{AreAllSites, IsOneOf}
-use Rattle.folder_commands.specs.Calls.{AfterList, KeepFrom, KeepsSite, ListsSites, closes_all, opens_from, opens_site}
+use Rattle.folder_commands.specs.Calls.{AfterList, KeepFrom, ListsSites, closes_all, opens_from}
 use Rattle.folder_commands.specs.Failing.{FailsIn, OpenFails, RunsOut}
-use Rattle.folder_commands.specs.FailingToAsk.{AskAllFails, AsksInVain, OpensSome}
+use Rattle.folder_commands.specs.FailingToAsk.{AskAllFails, OpensSome}
 use Rattle.folder_commands.specs.FileCalls.{Calls, FileCall, Led, ReadFile}
 use Rattle.folder_commands.specs.Folders.{list_path}
 use Rattle.folder_commands.proofs.CallsInTurn.{calls_then, list_then}

@@ -1,5 +1,5 @@
 -- what a step on a copy is told as
-use Rattle.std.proofs.Common.{◌≡◌, refl, sym, subst}
+use Rattle.std.proofs.Common.{refl, sym, subst}
 use Rattle.recall_outcomes.specs.declared.outcomes.Outcome.{Outcome}
 use Rattle.site_core.specs.Records.{Record}
 use Rattle.site_core.specs.Stepping.{IsStepped}

@@ -1,6 +1,7 @@
 pub mod AskingLemmas
 pub mod CallsInTurn
-pub mod CaptureLemmas
+pub mod BatchLemmas
+pub mod LintLemmas
 pub mod MakingLemmas
 pub mod NoteLaws
 pub mod NoteLemmas

@@ -15,7 +15,7 @@ use Rattle.recall_text.specs.declared.site_lists.SiteList.{SiteList}
 use Rattle.recall_outcomes.specs.declared.faults.Fault.{Fault}
 use Rattle.recall_outcomes.specs.declared.faults.Fault.TheVariants.{NoMemory}
 use Rattle.folder_commands.specs.Failing.{RunsOut}
-use Rattle.folder_commands.specs.FailingToMake.{IsFree, LookFails, LooksForAll, LooksForSome, MakeFails, MakesSome, MakesThen}
+use Rattle.folder_commands.specs.FailingToMake.{IsFree, LookFails, LooksForSome, MakeFails, MakesSome}
 use Rattle.folder_commands.proofs.CallsInTurn.{calls_then}
 
 -- one site more has a file, or not

@@ -4,7 +4,6 @@ use Rattle.std.proofs.lemmas.List.{length-map}
 use Rattle.std.proofs.lemmas.List.Elements.{All-cons, All-nil}
 use Rattle.std.specs.List.{AllZip}
 use Rattle.recall_outcomes.specs.declared.outcomes.Outcome.{Outcome}
-use Rattle.recall_outcomes.specs.declared.outcomes.Outcome.TheVariants.{Inconsistent}
 use Rattle.recall_outcomes.specs.declared.outcomes.StartedRecall.{StartedRecall}
 use Rattle.site_core.specs.Records.{Record}
 use Rattle.site_threads.proofs.NoJobs.{all_of_frames}

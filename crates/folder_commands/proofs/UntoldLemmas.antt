@@ -1,6 +1,6 @@
 -- a document that was captured could be read, so that it is known what of it isn't traced
-use Rattle.std.proofs.Common.{◌≡◌, Option, Some, None, Result, Ok, Err, List, ℕ, inl, inr, refl, sym, ap, ◌∙◌, subst}
-use Rattle.std.specs.Prelude.{IsUtf8, string_bytes}
+use Rattle.std.proofs.Common.{◌≡◌, Option, Some, None, Result, Ok, Err, List, ℕ, inl, inr, refl, sym, ◌∙◌, subst}
+use Rattle.std.specs.Prelude.{IsUtf8}
 use Rattle.std.specs.Global.{Global}
 use Rattle.std.specs.declared.string.String.{String}
 use Rattle.std.proofs.lemmas.Option.{same_Some}
@@ -17,7 +17,7 @@ use Rattle.event_json.specs.declared.untraced.Untraced.{Untraced}
 use Rattle.keeper_core.specs.Keeping.{Applies}
 use Rattle.keeper_core.specs.declared.faults.KeepFault.{KeepFault}
 use Rattle.keeper_core.specs.declared.faults.KeepFault.TheVariants.{Closed}
-use Rattle.recall_outcomes.specs.declared.documents.DocumentOutcome.{DocumentOutcome}
+use Rattle.recall_outcomes.specs.declared.batches.InputOutcome.{InputOutcome}
 use Rattle.recall_outcomes.specs.declared.outcomes.Outcome.{Outcome}
 use Rattle.recall_outcomes.specs.declared.outcomes.Outcome.TheVariants as outcomes
 use Rattle.site_core.specs.Records.{Record}
@@ -25,10 +25,9 @@ use Rattle.site_core.specs.Steps.{Does, IsReadAs}
 use Rattle.site_core.specs.declared.inputs.SiteInput.TheVariants.{Capture}
 use Rattle.site_core.specs.declared.outcomes.Effects.{Effects}
 use Rattle.site_core.specs.declared.outcomes.Effects.TheVariants as told
-use Rattle.folder_commands.specs.Captures.{came_of}
+use Rattle.folder_commands.specs.Batches.{came_of}
 use Rattle.folder_commands.specs.Steps.{AnswersStep}
 use Rattle.folder_commands.specs.Untold.{PassesOver, TellsUntraced, TellsWhere, with_untraced}
-use mathlib.Core.Logic.{◌⊎◌}
 
 value_read : (sites : List Site) (d : Data) (doc : Doc) → document_of sites d ≡ Ok doc → value_untraced sites d ≡ Ok (untraced_of d doc)
 unfolding value_untraced
@@ -111,7 +110,7 @@ captured_found (Some old) after may document effects result found is answers clo
         (there.0, there.1)
 
 -- and it comes to what was passed over
-pub passes_over : (old : Record) (after : Option Record) (may : Record → Type 0) (document : List ℕ) (effects : Effects) (came : DocumentOutcome) (found : Option Untraced) (untraced passed now : Untraced)
+pub passes_over : (old : Record) (after : Option Record) (may : Record → Type 0) (document : List ℕ) (effects : Effects) (came : InputOutcome) (found : Option Untraced) (untraced passed now : Untraced)
     → Applies old (Capture document) (Ok effects) after may → came_of effects ≡ Some came → Finds old.sites document found → found ≡ Some untraced → now ≡ with_untraced passed untraced → PassesOver old.sites document came passed now
 passes_over old None may document effects came found untraced passed now does is finds there counts = absurd does
 passes_over old (Some new) may document (told.Captured fresh known skipped) came found untraced passed now does is finds there counts =

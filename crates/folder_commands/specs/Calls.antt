@@ -3,10 +3,11 @@
 use Rattle.std.specs.Prelude.{◌≡◌, ⊤, ◌≤◌, ◌+◌, ℕ, Bool, List, [], ◌∷◌, ◌++◌, length, map, Option, Some, None, Result, Ok, Err}
 use Rattle.std.specs.Global.{Global}
 use Rattle.std.specs.declared.string.String.{String}
-use Rattle.epc_core.specs.declared.items.EpcFault.{EpcFault}
-use Rattle.epc_core.specs.Reading.{reading}
 use Rattle.event_json.specs.Sites.{Site, named}
-use Rattle.recall_outcomes.specs.declared.outcomes.CommandRefusal.TheVariants.{BadEpc, BadRecall}
+use Rattle.item_spellings.specs.Keys.{item_reading}
+use Rattle.item_spellings.specs.declared.faults.SpellingFault.{SpellingFault}
+use Rattle.item_spellings.specs.declared.spellings.Spelled.{Spelled}
+use Rattle.recall_outcomes.specs.declared.outcomes.CommandRefusal.TheVariants.{BadRecall}
 use Rattle.recall_outcomes.specs.declared.outcomes.Outcome.{Outcome}
 use Rattle.recall_outcomes.specs.declared.outcomes.Ways.{Ways}
 use Rattle.recall_text.specs.Numbers.{recall_of}
@@ -20,7 +21,7 @@ use Rattle.folder_commands.specs.Audits.{AnswersAudit}
 use Rattle.folder_commands.specs.DryStarts.{AnswersDryStart}
 use Rattle.folder_commands.specs.FileCalls.{FileCall, ReadFile, OpenedSite, ClosedSite}
 use Rattle.folder_commands.specs.Folders.{file_path, list_path}
-use Rattle.folder_commands.specs.Refusals.{IsNoSite, IsRefusal}
+use Rattle.folder_commands.specs.Refusals.{IsNoSite, IsRefusal, refusal_of}
 use Rattle.folder_commands.specs.Reports.{AnswersReport}
 use Rattle.folder_commands.specs.SiteItems.{AnswersItems}
 use Rattle.folder_commands.specs.Standings.{AnswersRecall, AnswersRecalls}
@@ -145,18 +146,18 @@ module _ {K : Type 0} (shown : K → Option Record) (stored : K → Type 0) (fol
   CapturesNamed name None file outcome notes calls = IsNoSite name outcome × (notes ≡ None) × (calls ≡ [])
   CapturesNamed name (Some site) file outcome notes calls = CapturesFile site file outcome notes calls
 
-  -- a text that is no EPC is refused without a further call
-  abbrev pub StartsItem : ℕ → Result (List ℕ) EpcFault → Outcome → List (FileCall K) → Type 0
+  -- a text that spells no item is refused without a further call
+  abbrev pub StartsItem : ℕ → Result (List ℕ) SpellingFault → Outcome → List (FileCall K) → Type 0
   StartsItem site (Ok item) outcome calls = StepsAt site (Start item) outcome calls
-  StartsItem site (Err fault) outcome calls = IsRefusal BadEpc outcome × (calls ≡ [])
+  StartsItem site (Err fault) outcome calls = IsRefusal (refusal_of fault) outcome × (calls ≡ [])
 
-  abbrev pub DryStartsItem : ℕ → Result (List ℕ) EpcFault → Outcome → List (FileCall K) → Type 0
+  abbrev pub DryStartsItem : ℕ → Result (List ℕ) SpellingFault → Outcome → List (FileCall K) → Type 0
   DryStartsItem site (Ok item) outcome calls = TellsSite site (λ r o. AnswersDryStart r (Start item) o) outcome calls
-  DryStartsItem site (Err fault) outcome calls = IsRefusal BadEpc outcome × (calls ≡ [])
+  DryStartsItem site (Err fault) outcome calls = IsRefusal (refusal_of fault) outcome × (calls ≡ [])
 
-  abbrev pub TracesItem : ℕ → Result (List ℕ) EpcFault → Bool → Ways → Outcome → List (FileCall K) → Type 0
+  abbrev pub TracesItem : ℕ → Result (List ℕ) SpellingFault → Bool → Ways → Outcome → List (FileCall K) → Type 0
   TracesItem site (Ok item) back ways outcome calls = TellsAll (λ rs o. AnswersTrace rs site item back ways o) outcome calls
-  TracesItem site (Err fault) back ways outcome calls = IsRefusal BadEpc outcome × (calls ≡ [])
+  TracesItem site (Err fault) back ways outcome calls = IsRefusal (refusal_of fault) outcome × (calls ≡ [])
 
 -- at the site of a name; a name that isn't listed is refused without a further call
 abbrev pub AtSite : {K : Type 0} → List ℕ → Option ℕ → (ℕ → Outcome → List (FileCall K) → Type 0) → Outcome → List (FileCall K) → Type 0
@@ -172,11 +173,11 @@ module _ {K : Type 0} (shown : K → Option Record) (stored : K → Type 0) (fol
       calls
 
   -- a recall is started
-  abbrev pub StartsAt : List ℕ → List ℕ → Output → List (FileCall K) → Type 0
+  abbrev pub StartsAt : List ℕ → Spelled → Output → List (FileCall K) → Type 0
   StartsAt name item output calls =
       AfterList folder
       (λ sites rest. IsPlain sites output
-      × AtSite name (named sites name) (λ site. StartsItem shown stored folder sites site (reading item)) output.outcome rest) calls
+      × AtSite name (named sites name) (λ site. StartsItem shown stored folder sites site (item_reading item)) output.outcome rest) calls
 
   -- what names no recall is refused without a further call
   abbrev pub ReportsBy : List Site → Option (List ℕ × ℕ) → Ways → Outcome → List (FileCall K) → Type 0
@@ -197,18 +198,18 @@ module _ {K : Type 0} (shown : K → Option Record) (stored : K → Type 0) (fol
       (λ sites rest. IsPlain sites output × TellsAll shown stored folder sites (λ rs o. AnswersAudit rs o) output.outcome rest) calls
 
   -- it is asked what the start of a recall would do
-  abbrev pub DryStartsAt : List ℕ → List ℕ → Output → List (FileCall K) → Type 0
+  abbrev pub DryStartsAt : List ℕ → Spelled → Output → List (FileCall K) → Type 0
   DryStartsAt name item output calls =
       AfterList folder
       (λ sites rest. IsPlain sites output
-      × AtSite name (named sites name) (λ site. DryStartsItem shown stored folder sites site (reading item)) output.outcome rest) calls
+      × AtSite name (named sites name) (λ site. DryStartsItem shown stored folder sites site (item_reading item)) output.outcome rest) calls
 
   -- an item is traced to where it went, or back
-  abbrev pub TracesAt : List ℕ → List ℕ → Bool → Ways → Output → List (FileCall K) → Type 0
+  abbrev pub TracesAt : List ℕ → Spelled → Bool → Ways → Output → List (FileCall K) → Type 0
   TracesAt name item back ways output calls =
       AfterList folder
       (λ sites rest. IsPlain sites output
-      × AtSite name (named sites name) (λ site. TracesItem shown stored folder sites site (reading item) back ways) output.outcome rest) calls
+      × AtSite name (named sites name) (λ site. TracesItem shown stored folder sites site (item_reading item) back ways) output.outcome rest) calls
 
   -- it is asked how all recalls stand
   abbrev pub RecallsStandAt : Bool → Output → List (FileCall K) → Type 0

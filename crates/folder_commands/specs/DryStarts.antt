@@ -1,5 +1,5 @@
 -- What it comes to when it is asked what the start of a recall would do.
-use Rattle.std.specs.Prelude.{◌≡◌, List}
+use Rattle.std.specs.Prelude.{◌≡◌}
 use Rattle.keeper_core.specs.Keeping.{IsRefusedFor}
 use Rattle.recall_outcomes.specs.declared.outcomes.CommandRefusal.TheVariants.{Step}
 use Rattle.recall_outcomes.specs.declared.outcomes.Outcome.{Outcome}

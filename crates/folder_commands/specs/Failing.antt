@@ -1,9 +1,10 @@
 -- Where a command on files has no outcome: which calls there were, and what the fault came of. First what commands share; then a
 -- capture of one document and the start of a recall.
 use Rattle.std.specs.Prelude.{◌≡◌, ◌⊎◌, ◌≤◌, ℕ, List, [], ◌∷◌, length, Option, Some, None, Result, Ok, Err}
-use Rattle.epc_core.specs.declared.items.EpcFault.{EpcFault}
-use Rattle.epc_core.specs.Reading.{reading}
 use Rattle.event_json.specs.Sites.{Site, named}
+use Rattle.item_spellings.specs.Keys.{item_reading}
+use Rattle.item_spellings.specs.declared.faults.SpellingFault.{SpellingFault}
+use Rattle.item_spellings.specs.declared.spellings.Spelled.{Spelled}
 use Rattle.keeper_core.specs.Keeping.{Rises}
 use Rattle.recall_outcomes.specs.declared.faults.Fault.{Fault}
 use Rattle.recall_outcomes.specs.declared.faults.Fault.TheVariants.{BadSites, Device, NoMemory, OtherSites}
@@ -48,8 +49,8 @@ abbrev pub AtSiteFails : {K : Type 0} → Option ℕ → (ℕ → Fault → List
 AtSiteFails None Fails fault calls = RunsOut fault calls
 AtSiteFails (Some site) Fails fault calls = Fails site fault calls
 
--- of the item of a text; for a text that is no EPC memory alone can run out, as it can while an item is read
-abbrev pub OfItemFails : {K : Type 0} → Result (List ℕ) EpcFault → (List ℕ → Fault → List (FileCall K) → Type 0) → Fault → List (FileCall K) → Type 0
+-- of the item of a text; for a text that spells none memory alone can run out, as it can while an item is read
+abbrev pub OfItemFails : {K : Type 0} → Result (List ℕ) SpellingFault → (List ℕ → Fault → List (FileCall K) → Type 0) → Fault → List (FileCall K) → Type 0
 OfItemFails (Ok item) Fails fault calls = RunsOut fault calls ⊎ Fails item fault calls
 OfItemFails (Err why) Fails fault calls = RunsOut fault calls
 
@@ -93,8 +94,8 @@ module _ {K : Type 0} (shown : K → Option Record) (may : K → Record → Type
   abbrev pub CaptureFailsAt : List ℕ → ℕ → Fault → List (FileCall K) → Type 0
   CaptureFailsAt file site fault calls = (calls ≡ Failed file fault ∷ []) ⊎ StepFails site file fault calls
 
-  abbrev pub StartFailsAt : List ℕ → ℕ → Fault → List (FileCall K) → Type 0
-  StartFailsAt text site fault calls = OfItemFails (reading text) (λ item. StepAtFails site (Start item)) fault calls
+  abbrev pub StartFailsAt : Spelled → ℕ → Fault → List (FileCall K) → Type 0
+  StartFailsAt item site fault calls = OfItemFails (item_reading item) (λ key. StepAtFails site (Start key)) fault calls
 
 module _ {K : Type 0} (shown : K → Option Record) (may : K → Record → Type 0) (failed : K → ℕ) (stored : K → Type 0) (folder : List ℕ) where
   -- a capture of a document has no outcome
@@ -103,6 +104,6 @@ module _ {K : Type 0} (shown : K → Option Record) (may : K → Record → Type
       FailsIn folder (λ sites. AtSiteFails (named sites name) (CaptureFailsAt shown may failed stored folder sites file)) fault calls
 
   -- nor has the start of a recall
-  abbrev pub StartFails : List ℕ → List ℕ → Fault → List (FileCall K) → Type 0
+  abbrev pub StartFails : List ℕ → Spelled → Fault → List (FileCall K) → Type 0
   StartFails name text fault calls =
       FailsIn folder (λ sites. AtSiteFails (named sites name) (StartFailsAt shown may failed stored folder sites text)) fault calls

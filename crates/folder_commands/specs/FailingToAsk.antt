@@ -1,8 +1,9 @@
 -- Where a question to the sites' records has no answer. Each file that was opened shows the same then as before, and no step was
 -- made; once all files that it needs are open, memory alone can run out.
 use Rattle.std.specs.Prelude.{◌≡◌, ◌⊎◌, ◌≤◌, ◌<◌, ℕ, List, [], ◌∷◌, ◌++◌, length, Option, Some, None}
-use Rattle.epc_core.specs.Reading.{reading}
 use Rattle.event_json.specs.Sites.{Site, named}
+use Rattle.item_spellings.specs.Keys.{item_reading}
+use Rattle.item_spellings.specs.declared.spellings.Spelled.{Spelled}
 use Rattle.recall_outcomes.specs.declared.faults.Fault.{Fault}
 use Rattle.recall_outcomes.specs.declared.faults.Fault.TheVariants.{NoMemory}
 use Rattle.recall_text.specs.Numbers.{recall_of}
@@ -54,12 +55,12 @@ module _ {K : Type 0} (shown : K → Option Record) (stored : K → Type 0) (fol
   AskOfRecallFails (Some (name, number)) fault calls = AtSiteFails (named sites name) (λ site. AskAllFails) fault calls
 
   -- of an item at a site: to all sites
-  abbrev pub AskOfItemFails : List ℕ → ℕ → Fault → List (FileCall K) → Type 0
-  AskOfItemFails text site fault calls = OfItemFails (reading text) (λ item. AskAllFails) fault calls
+  abbrev pub AskOfItemFails : Spelled → ℕ → Fault → List (FileCall K) → Type 0
+  AskOfItemFails text site fault calls = OfItemFails (item_reading text) (λ item. AskAllFails) fault calls
 
   -- and to that site alone
-  abbrev pub AskSiteOfItemFails : List ℕ → ℕ → Fault → List (FileCall K) → Type 0
-  AskSiteOfItemFails text site fault calls = OfItemFails (reading text) (λ item. AskSiteFails site) fault calls
+  abbrev pub AskSiteOfItemFails : Spelled → ℕ → Fault → List (FileCall K) → Type 0
+  AskSiteOfItemFails text site fault calls = OfItemFails (item_reading text) (λ item. AskSiteFails site) fault calls
 
 module _ {K : Type 0} (shown : K → Option Record) (stored : K → Type 0) (folder : List ℕ) where
   -- an audit, or how all recalls stand
@@ -71,7 +72,7 @@ module _ {K : Type 0} (shown : K → Option Record) (stored : K → Type 0) (fol
   RecallFails text fault calls = FailsIn folder (λ sites. AskOfRecallFails shown stored folder sites (recall_of text)) fault calls
 
   -- a trace of an item, either way
-  abbrev pub TraceFails : List ℕ → List ℕ → Fault → List (FileCall K) → Type 0
+  abbrev pub TraceFails : List ℕ → Spelled → Fault → List (FileCall K) → Type 0
   TraceFails name text fault calls = FailsIn folder (λ sites. AtSiteFails (named sites name) (AskOfItemFails shown stored folder sites text)) fault calls
 
   -- the items that a site knows
@@ -79,6 +80,6 @@ module _ {K : Type 0} (shown : K → Option Record) (stored : K → Type 0) (fol
   ItemsFail name fault calls = FailsIn folder (λ sites. AtSiteFails (named sites name) (AskSiteFails shown stored folder sites)) fault calls
 
   -- what the start of a recall would do
-  abbrev pub DryStartFails : List ℕ → List ℕ → Fault → List (FileCall K) → Type 0
+  abbrev pub DryStartFails : List ℕ → Spelled → Fault → List (FileCall K) → Type 0
   DryStartFails name text fault calls =
       FailsIn folder (λ sites. AtSiteFails (named sites name) (AskSiteOfItemFails shown stored folder sites text)) fault calls

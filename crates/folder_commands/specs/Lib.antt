@@ -1,6 +1,6 @@
 pub mod Audits
 pub mod Calls
-pub mod Captures
+pub mod Batches
 pub mod DryStarts
 pub mod Failing
 pub mod FailingToAsk
@@ -9,6 +9,7 @@ pub mod FailingToRun
 pub mod Faults
 pub mod FileCalls
 pub mod Folders
+pub mod Lints
 pub mod Making
 pub mod NoteLaws
 pub mod Notes

@@ -5,10 +5,10 @@ use Rattle.std.specs.declared.string.String.{String}
 use Rattle.event_json.specs.Sites.{Site}
 use Rattle.event_json.specs.Untraced.{text_untraced}
 use Rattle.event_json.specs.declared.untraced.Untraced.{Untraced}
-use Rattle.recall_outcomes.specs.Documents.{up}
+use Rattle.recall_outcomes.specs.Batches.{up}
 use Rattle.recall_outcomes.specs.Notes.{untraced_text}
-use Rattle.recall_outcomes.specs.declared.documents.DocumentOutcome.{DocumentOutcome}
-use Rattle.recall_outcomes.specs.declared.documents.DocumentOutcome.TheVariants as documents
+use Rattle.recall_outcomes.specs.declared.batches.InputOutcome.{InputOutcome}
+use Rattle.recall_outcomes.specs.declared.batches.InputOutcome.TheVariants as inputs
 use Rattle.recall_outcomes.specs.declared.outcomes.Outcome.{Outcome}
 use Rattle.recall_outcomes.specs.declared.outcomes.Outcome.TheVariants.{Stepped, Refused}
 
@@ -39,8 +39,8 @@ with_untraced all one = record {
   unnamed = up all.unnamed one.unnamed;
 }
 
--- what a document that was captured says that isn't traced comes to what was passed over; one that was refused adds nothing
-abbrev pub PassesOver : List Site → List ℕ → DocumentOutcome → Untraced → Untraced → Type 0
-PassesOver sites document (documents.Captured fresh known skipped) before after =
+-- what a document that was captured says that isn't traced comes to what was passed over; any other input adds nothing
+abbrev pub PassesOver : List Site → List ℕ → InputOutcome → Untraced → Untraced → Type 0
+PassesOver sites document (inputs.Captured fresh known skipped) before after =
     (untraced : Untraced) × (text_untraced sites document ≡ Ok untraced) × (after ≡ with_untraced before untraced)
-PassesOver sites document (documents.Refused why) before after = after ≡ before
+PassesOver sites document other before after = after ≡ before

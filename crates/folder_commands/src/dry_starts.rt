@@ -1,8 +1,8 @@
 //! `start --dry-run`: what the start of a recall would do at its site.
 
 ghost use Rattle.std.specs.Prelude.{◌≡◌, ◌≢◌, IfErr, IfOk};
-ghost use Rattle.epc_core.specs.Reading.{reading};
 ghost use Rattle.event_json.specs.Sites.{named};
+ghost use Rattle.item_spellings.specs.Keys.{item_reading};
 ghost use Rattle.folder_commands.specs.Calls.{AtSite, DryStartsAt, DryStartsItem};
 ghost use Rattle.folder_commands.specs.DryStarts.{TellsStart, effects_of};
 ghost use Rattle.folder_commands.specs.Failing.{AtSiteFails};
@@ -12,12 +12,12 @@ ghost use Rattle.folder_commands.specs.Refusals.{IsRefusal};
 ghost use Rattle.recall_outcomes.specs.declared.outcomes.CommandRefusal.TheVariants.{Step};
 
 use crate::folders::{Files, sites_of};
-use crate::outputs::{Output, no_site, refusal};
+use crate::outputs::{Output, no_site, refusal, unspelled};
 use crate::questions::{SiteQuestion, ask_site};
 use event_json::Sites;
+use item_spellings::{Spelled, read_item};
 use keeper_core::SiteKeeper;
 use recall_outcomes::{CommandRefusal, Fault, Outcome};
-use recall_text::telling::item_of;
 use site_core::{Effects, Refusal, SiteInput, SiteState, Stepped, step};
 use std::alloc::Global;
 
@@ -26,14 +26,14 @@ use std::alloc::Global;
 ///
 /// # Errors
 /// As those of a start but for those of writing: those of the folder's list, those of opening the site's file; once that
-/// is open `NoMemory` alone. The site's record is as it was. A site that isn't listed and a text that is no EPC are
+/// is open `NoMemory` alone. The site's record is as it was. A site that isn't listed and a text that spells no item are
 /// refused before the file is opened.
 pub fn dry_start<K: SiteKeeper, F: Files<K>>(
     alloc: Global,
     files: &mut F,
     folder: &str,
     site: &str,
-    item: &str,
+    item: &Spelled<'_>,
 ) -> Result<Output, Fault>
     ensures calls { IfOk result (λ output. Led F.does files.old files.new
         (DryStartsAt K.shown K.stored folder.now site.now item.now output)) }
@@ -56,23 +56,25 @@ fn dry_start_in<K: SiteKeeper, F: Files<K>>(
     folder: &str,
     sites: &Sites,
     site: &str,
-    item: &str,
+    item: &Spelled<'_>,
 ) -> Result<Outcome, Fault>
     ensures calls { IfOk result (λ outcome. Led F.does files.old files.new (AtSite site.now (named sites.now site.now)
-        (λ number. DryStartsItem K.shown K.stored folder.now sites.now number (reading item.now)) outcome)) }
+        (λ number. DryStartsItem K.shown K.stored folder.now sites.now number (item_reading item.now)) outcome)) }
     ensures failed { IfErr result (λ fault. Led F.does files.old files.new (AtSiteFails (named sites.now site.now)
         (AskSiteOfItemFails K.shown K.stored folder.now sites.now item.now) fault)) }
 {
     let Some(number) = sites.find(site) else {
         return Ok(no_site(alloc, site)?);
     };
-    let Some(item) = item_of(alloc, item)? else {
-        return Ok(refusal(alloc, CommandRefusal::BadEpc)?);
-    };
-    let question = StartOf {
-        input: SiteInput::Start(item),
-    };
-    ask_site(alloc, files, folder, sites, number, &question)
+    match read_item(alloc, item)? {
+        Ok(item) => {
+            let question = StartOf {
+                input: SiteInput::Start(item),
+            };
+            ask_site(alloc, files, folder, sites, number, &question)
+        }
+        Err(fault) => Ok(unspelled(alloc, fault)?),
+    }
 }
 
 /// What the start of a recall would do.

@@ -5,10 +5,12 @@
 #![tactic(auto)]
 
 mod audits;
-mod captures;
+mod batches;
 mod dry_starts;
 mod folders;
+mod inputs;
 pub mod laws;
+mod lints;
 mod making;
 mod notes;
 mod outputs;
@@ -22,9 +24,10 @@ mod traces;
 mod untold;
 
 pub use audits::{audit_of, audit_sites};
-pub use captures::{CaptureSummary, Documents, capture_documents};
+pub use batches::{Batch, BatchSummary, WordKind, do_batch};
 pub use dry_starts::dry_start;
 pub use folders::Files;
+pub use lints::{LintSummary, lint_documents};
 pub use making::init;
 pub use notes::{RunNotes, Stop, StopCause};
 pub use outputs::Output;

@@ -79,7 +79,10 @@ fn make_listed<K: SiteKeeper, F: Files<K>>(
 }
 
 /// Adds the lines that are refused.
-fn push_lines(lines: &[RefusedLine], refusals: &mut Vec<CommandRefusal>) -> Result<(), AllocError>
+pub(crate) fn push_lines(
+    lines: &[RefusedLine],
+    refusals: &mut Vec<CommandRefusal>,
+) -> Result<(), AllocError>
     ensures { OnOk result (refusals.new.items ≡ refusals.old.items ++ map Line lines.now) }
 {
     for line in lines {
@@ -89,7 +92,7 @@ fn push_lines(lines: &[RefusedLine], refusals: &mut Vec<CommandRefusal>) -> Resu
 }
 
 /// Adds the refusal of too few sites.
-fn push_few(sites: &Sites, refusals: &mut Vec<CommandRefusal>) -> Result<(), AllocError>
+pub(crate) fn push_few(sites: &Sites, refusals: &mut Vec<CommandRefusal>) -> Result<(), AllocError>
     ensures { OnOk result (refusals.new.items ≡ refusals.old.items ++ too_few sites.now) }
 {
     if !sites.ready() {

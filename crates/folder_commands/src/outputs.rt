@@ -1,9 +1,10 @@
 //! What a command on the sites' files returns, and refusals.
 
-ghost use Rattle.folder_commands.specs.Refusals.{IsNoSite, IsRefusal};
-ghost use Rattle.std.specs.Prelude.{IfOk};
+ghost use Rattle.std.specs.Prelude.{◌≡◌, IfOk};
+ghost use Rattle.folder_commands.specs.Refusals.{IsNoSite, IsRefusal, refusal_of};
 
 use event_json::Sites;
+use item_spellings::SpellingFault;
 use recall_outcomes::{CommandRefusal, Outcome};
 use std::alloc::{AllocError, Global};
 
@@ -26,6 +27,24 @@ pub(crate) fn refusal(alloc: Global, why: CommandRefusal) -> Result<Outcome, All
     let mut whys = Vec::new(alloc);
     whys.push(why)?;
     Ok(Outcome::Refused(whys))
+}
+
+/// The refusal of a text that spells no item.
+pub(crate) fn unspelled(alloc: Global, fault: SpellingFault) -> Result<Outcome, AllocError>
+    ensures { IfOk result (IsRefusal (refusal_of fault)) }
+{
+    refusal(alloc, refusal_of(fault))
+}
+
+/// The reason why a text that spells no item is refused.
+pub(crate) fn refusal_of(fault: SpellingFault) -> CommandRefusal
+    ensures { result ≡ refusal_of fault }
+{
+    match fault {
+        SpellingFault::NoEpc => CommandRefusal::BadEpc,
+        SpellingFault::NoKey => CommandRefusal::BadKey,
+        SpellingFault::NoScan(fault) => CommandRefusal::BadScan(fault),
+    }
 }
 
 /// The refusal of a site that isn't listed.

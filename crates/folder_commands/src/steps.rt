@@ -1,8 +1,8 @@
 //! `capture` and `start`: a step of one site.
 
 ghost use Rattle.std.specs.Prelude.{◌≡◌, None, Result, Err, IfOk, IfErr, Some};
-ghost use Rattle.epc_core.specs.Reading.{reading};
 ghost use Rattle.event_json.specs.Sites.{named};
+ghost use Rattle.item_spellings.specs.Keys.{item_reading};
 ghost use Rattle.keeper_core.specs.Keeping.{Rises};
 ghost use Rattle.site_core.specs.Records.{Record};
 ghost use Rattle.site_core.specs.declared.outcomes.Effects.{Effects};
@@ -12,12 +12,12 @@ ghost use Rattle.folder_commands.specs.FileCalls.{Led};
 ghost use Rattle.folder_commands.specs.Steps.{AnswersStep, FailsStep, TellsAnswer};
 
 use crate::folders::{Files, open_site, sites_of};
-use crate::outputs::{Output, no_site, refusal};
+use crate::outputs::{Output, no_site, refusal, unspelled};
 use crate::untold::{told_untraced, untraced_of};
 use event_json::{Sequence, SiteNo, Sites};
+use item_spellings::{Spelled, read_item};
 use keeper_core::{KeepFault, SiteKeeper};
 use recall_outcomes::{CommandRefusal, Fault, Outcome};
-use recall_text::telling::item_of;
 use site_core::SiteInput;
 use std::alloc::Global;
 
@@ -83,14 +83,14 @@ fn capture_file<K: SiteKeeper, F: Files<K>>(
 ///
 /// # Errors
 /// In this order, each without a change: those of the folder's list, those of opening the site's file; and then those of
-/// its step, as [`step`] has them. A site that isn't listed and a text that is no EPC are refused before the file is
+/// its step, as [`step`] has them. A site that isn't listed and a text that spells no item are refused before the file is
 /// opened.
 pub fn start<K: SiteKeeper, F: Files<K>>(
     alloc: Global,
     files: &mut F,
     folder: &str,
     site: &str,
-    item: &str,
+    item: &Spelled<'_>,
 ) -> Result<Output, Fault>
     ensures calls { IfOk result (λ output. Led F.does files.old files.new
         (StartsAt K.shown K.stored folder.now site.now item.now output)) }
@@ -113,21 +113,20 @@ fn start_in<K: SiteKeeper, F: Files<K>>(
     folder: &str,
     sites: &Sites,
     site: &str,
-    item: &str,
+    item: &Spelled<'_>,
 ) -> Result<Outcome, Fault>
     ensures calls { IfOk result (λ outcome. Led F.does files.old files.new (AtSite site.now (named sites.now site.now)
-        (λ number. StartsItem K.shown K.stored folder.now sites.now number (reading item.now)) outcome)) }
+        (λ number. StartsItem K.shown K.stored folder.now sites.now number (item_reading item.now)) outcome)) }
     ensures failed { IfErr result (λ fault. Led F.does files.old files.new (AtSiteFails (named sites.now site.now)
         (StartFailsAt K.shown K.may K.failed K.stored folder.now sites.now item.now) fault)) }
 {
     let Some(number) = sites.find(site) else {
         return Ok(no_site(alloc, site)?);
     };
-    let Some(item) = item_of(alloc, item)? else {
-        return Ok(refusal(alloc, CommandRefusal::BadEpc)?);
-    };
-    let input = SiteInput::Start(item);
-    step_at(alloc, files, folder, sites, number, input)
+    match read_item(alloc, item)? {
+        Ok(item) => step_at(alloc, files, folder, sites, number, SiteInput::Start(item)),
+        Err(fault) => Ok(unspelled(alloc, fault)?),
+    }
 }
 
 /// A step of the site that a file keeps.

@@ -1,8 +1,8 @@
 //! `trace`: where an item went, or where it came from, whether or not it was recalled.
 
 ghost use Rattle.std.specs.Prelude.{◌≡◌, true, false, IfErr, IfOk};
-ghost use Rattle.epc_core.specs.Reading.{reading};
 ghost use Rattle.event_json.specs.Sites.{named};
+ghost use Rattle.item_spellings.specs.Keys.{item_reading};
 ghost use Rattle.recall_outcomes.specs.declared.outcomes.CommandRefusal.TheVariants.{Step};
 ghost use Rattle.site_core.specs.declared.outcomes.Refusal.TheVariants.{UnknownItem};
 ghost use Rattle.site_recovery.specs.Checking.{records_at};
@@ -15,13 +15,13 @@ ghost use Rattle.folder_commands.specs.Refusals.{IsRefusal};
 ghost use Rattle.folder_commands.specs.Traces.{AnswersTrace};
 
 use crate::folders::{Files, sites_of};
-use crate::outputs::{Output, no_site, refusal};
+use crate::outputs::{Output, no_site, refusal, unspelled};
 use crate::questions::{Question, ask_all};
 use epc_core::Epc;
 use event_json::{SiteNo, Sites};
+use item_spellings::{Spelled, read_item};
 use keeper_core::SiteKeeper;
 use recall_outcomes::{CommandRefusal, Fault, Outcome, Ways};
-use recall_text::telling::item_of;
 use report_core::{TraceFault, trace, trace_back};
 use site_core::{Refusal, SiteState};
 use std::alloc::Global;
@@ -30,14 +30,14 @@ use std::alloc::Global;
 ///
 /// # Errors
 /// In this order: those of the folder's list, and those of opening the sites' files; once these are open `NoMemory`
-/// alone. The sites' records are as they were. A site that isn't listed and a text that is no EPC are refused before the
+/// alone. The sites' records are as they were. A site that isn't listed and a text that spells no item are refused before the
 /// files are opened.
 pub fn trace_item<K: SiteKeeper, F: Files<K>>(
     alloc: Global,
     files: &mut F,
     folder: &str,
     site: &str,
-    item: &str,
+    item: &Spelled<'_>,
     back: bool,
     ways: Ways,
 ) -> Result<Output, Fault>
@@ -62,28 +62,30 @@ fn trace_in<K: SiteKeeper, F: Files<K>>(
     folder: &str,
     sites: &Sites,
     site: &str,
-    item: &str,
+    item: &Spelled<'_>,
     back: bool,
     ways: Ways,
 ) -> Result<Outcome, Fault>
     ensures calls { IfOk result (λ outcome. Led F.does files.old files.new (AtSite site.now (named sites.now site.now)
-        (λ number. TracesItem K.shown K.stored folder.now sites.now number (reading item.now) back ways) outcome)) }
+        (λ number. TracesItem K.shown K.stored folder.now sites.now number (item_reading item.now) back ways) outcome)) }
     ensures failed { IfErr result (λ fault. Led F.does files.old files.new (AtSiteFails (named sites.now site.now)
         (AskOfItemFails K.shown K.stored folder.now sites.now item.now) fault)) }
 {
     let Some(site) = sites.find(site) else {
         return Ok(no_site(alloc, site)?);
     };
-    let Some(item) = item_of(alloc, item)? else {
-        return Ok(refusal(alloc, CommandRefusal::BadEpc)?);
-    };
-    let question = TraceOf {
-        site,
-        item,
-        back,
-        ways,
-    };
-    ask_all(alloc, files, folder, sites, &question)
+    match read_item(alloc, item)? {
+        Ok(item) => {
+            let question = TraceOf {
+                site,
+                item,
+                back,
+                ways,
+            };
+            ask_all(alloc, files, folder, sites, &question)
+        }
+        Err(fault) => Ok(unspelled(alloc, fault)?),
+    }
 }
 
 /// Where an item at a site went, or where it came from.

@@ -72,6 +72,14 @@ impl Drop for Trouble {
 }
 
 impl Trouble {
+    /// Whether another program has the file open.
+    pub(crate) fn is_in_use(&self) -> bool {
+        match &self.cause {
+            Some(Cause::InUse) => true,
+            _ => false,
+        }
+    }
+
     /// A fault of a file itself, of this cause.
     pub(crate) fn new(fault: Fault, cause: Cause) -> Trouble {
         Trouble::perhaps(fault, Some(cause))

@@ -21,12 +21,16 @@ use std::collections::VecDeque;
 use std::fs::{self, File};
 use std::hash::{BuildHasher, RandomState};
 use std::io::{self, Error, ErrorKind, Read, Write};
+use std::thread;
+use std::time::Duration;
 
 /// The files of the machine on which the program runs.
 pub(crate) struct HostFiles<'a> {
     runtime: &'a HostRuntime,
     /// The keys of the hash by which sites number items.
     keys: RandomState,
+    /// For how many seconds a site's file is waited for that is in use.
+    seconds: u64,
     /// The file of which lines are read, until its end.
     lines: Option<LineFile>,
     /// The paths of the sites that are open, in the order in which they were opened, in which they are closed, too.
@@ -43,6 +47,7 @@ impl Drop for HostFiles<'_> {
         let HostFiles {
             runtime: _,
             keys: _,
+            seconds: _,
             lines: _,
             opened: _,
             failure: _,
@@ -52,11 +57,13 @@ impl Drop for HostFiles<'_> {
 }
 
 impl<'a> HostFiles<'a> {
-    /// The files that a runtime gives, with the keys of the hash by which sites number items.
-    pub(crate) fn new(runtime: &'a HostRuntime, keys: RandomState) -> HostFiles<'a> {
+    /// The files that a runtime gives, with the keys of the hash by which sites number items, and for how many seconds a
+    /// site's file is waited for that is in use.
+    pub(crate) fn new(runtime: &'a HostRuntime, keys: RandomState, seconds: u64) -> HostFiles<'a> {
         HostFiles {
             runtime,
             keys,
+            seconds,
             lines: None,
             opened: VecDeque::new(runtime.alloc()),
             failure: None,
@@ -111,8 +118,27 @@ impl<'a> HostFiles<'a> {
         Ok(line)
     }
 
-    /// Opens a database, and makes it where there is no file or an empty one.
+    /// Opens a database, and makes it where there is no file or an empty one. One that is in use is tried again, ten times
+    /// a second, for as long as is waited for.
     fn connect(&self, path: &str) -> Result<FileConnection, Trouble>
+        ensures { IfOk result (λ conn. IsFound conn) }
+    {
+        for _ in 0..self.seconds.saturating_mul(10) {
+            match self.try_to_connect(path) {
+                Ok(conn) => return Ok(conn),
+                Err(trouble) => {
+                    if !trouble.is_in_use() {
+                        return Err(trouble);
+                    }
+                }
+            }
+            thread::sleep(self.runtime, Duration::from_millis(100));
+        }
+        self.try_to_connect(path)
+    }
+
+    /// Opens a database once, and makes it where there is no file or an empty one.
+    fn try_to_connect(&self, path: &str) -> Result<FileConnection, Trouble>
         ensures { IfOk result (λ conn. IsFound conn) }
     {
         match Connection::open_from(self.runtime, path, false, Wary) {

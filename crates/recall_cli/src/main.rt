@@ -12,7 +12,7 @@ mod progress;
 mod schemas;
 mod stores;
 
-use command_line::{BAD_COMMAND_LINE, FAULT, run_command};
+use command_line::{BAD_COMMAND_LINE, FAULT, patience, run_command};
 use host_files::HostFiles;
 use progress::{Progress, TellingGate};
 use std::env;
@@ -37,7 +37,11 @@ fn main(rt: HostRuntime) -> ExitCode {
         let _ = rt.eprintln("fault Device");
         return ExitCode::from(FAULT);
     };
-    let mut files = HostFiles::new(&rt, keys);
+    let Ok(seconds) = patience(alloc, words.as_slice()) else {
+        let _ = rt.eprintln("fault NoMemory");
+        return ExitCode::from(FAULT);
+    };
+    let mut files = HostFiles::new(&rt, keys, seconds);
     let progress = Progress::new(&rt);
     let status = run_command(
         &rt,

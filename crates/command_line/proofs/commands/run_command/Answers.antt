@@ -1,7 +1,7 @@
 use Rattle.std.proofs.Common.{rules, refl}
 use Rattle.std.proofs.KnownBytes.{Keeps-refl}
-use Rattle.command_line.proofs.Endings.{ends_batch, ends_files, ends_mistaken}
-use Rattle.command_line.proofs.Words.{sim_is_no_batch, sim_is_no_help, sim_is_not_bad, sim_is_no_files, help_is_no_batch, help_is_no_sim, help_is_not_bad, help_is_no_files}
+use Rattle.command_line.proofs.Endings.{ends_batch, ends_files, ends_lint, ends_mistaken}
+use Rattle.command_line.proofs.Words.{sim_is_no_batch, sim_is_no_help, sim_is_no_lint, sim_is_not_bad, sim_is_no_files, help_is_no_batch, help_is_no_lint, help_is_no_sim, help_is_not_bad, help_is_no_files}
 use Rattle.command_line.proofs.commands.run_command.Goals as goal
 
 pub returns-in-Ok-Sim-clause-help : goal.returns-in-Ok-Sim-clause-help
@@ -42,4 +42,15 @@ returns-in-Ok-Batch-clause-help g c = λ name e. absurd (help_is_no_batch _ name
 pub returns-in-Ok-Batch-clause-ends : goal.returns-in-Ok-Batch-clause-ends
 returns-in-Ok-Batch-clause-ends g c =
     ends_batch g.F.Files.does g.F.Files.knows g.F.Files.fails g.K.SiteKeeper.shown g.K.SiteKeeper.failed g.K.SiteKeeper.may g.K.SiteKeeper.reopens g.G.Gate.gives_up g.K.SiteKeeper.stored
-    c.args.words.now _ _ _ _ _ _ (rw c.in-Ok-Batch.field-0-is at c.in-Ok-Batch.ensures) (search rules) c.capture_batch.ensures
+    c.args.words.now _ _ _ _ _ _ (rw c.in-Ok-Batch.field-0-is at c.in-Ok-Batch.ensures) (search rules) c.take_batch.ensures
+
+pub returns-in-Ok-Lint-clause-sim : goal.returns-in-Ok-Lint-clause-sim
+returns-in-Ok-Lint-clause-sim g c = λ name e. absurd (sim_is_no_lint _ name _ (rw c.in-Ok-Lint.field-0-is at c.in-Ok-Lint.ensures) e)
+
+pub returns-in-Ok-Lint-clause-help : goal.returns-in-Ok-Lint-clause-help
+returns-in-Ok-Lint-clause-help g c = λ name e. absurd (help_is_no_lint _ name _ (rw c.in-Ok-Lint.field-0-is at c.in-Ok-Lint.ensures) e)
+
+pub returns-in-Ok-Lint-clause-ends : goal.returns-in-Ok-Lint-clause-ends
+returns-in-Ok-Lint-clause-ends g c =
+    ends_lint g.F.Files.does g.F.Files.knows g.F.Files.fails g.K.SiteKeeper.shown g.K.SiteKeeper.failed g.K.SiteKeeper.may g.K.SiteKeeper.reopens g.G.Gate.gives_up g.K.SiteKeeper.stored
+    c.args.words.now _ _ _ _ _ _ (rw c.in-Ok-Lint.field-0-is at c.in-Ok-Lint.ensures) (search rules) c.lint_files.ensures

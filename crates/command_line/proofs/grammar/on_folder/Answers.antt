@@ -8,4 +8,5 @@ pub returns : goal.returns
 returns c =
     let named = ap app_of_fields c.after_help.ensures ∙ ap app_of_fields c.about.ensures ∙ c.new.ensures.app in
     let folder = adds_rule _ _ _ _ _ c.in_ok-arg.ensures c.folder.ensures.local named c.folder.ensures.rule in
-    IfOk-weaker c.arg-2.result _ _ (λ command adds. adds_rule _ _ command _ _ adds c.json.ensures.local folder c.json.ensures.rule) c.arg-2.ensures
+    let json = adds_rule _ _ _ _ _ c.in_ok-arg-2.ensures c.json.ensures.local folder c.json.ensures.rule in
+    IfOk-weaker c.arg-3.result _ _ (λ command adds. adds_rule _ _ command _ _ adds c.wait.ensures.local json c.wait.ensures.rule) c.arg-3.ensures

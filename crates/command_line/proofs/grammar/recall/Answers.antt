@@ -23,4 +23,5 @@ returns c =
     let seventh = adds_command _ _ _ _ _ c.in_ok-subcommand-6.ensures sixth c.in_ok-audit.ensures refl in
     let eighth = adds_command _ _ _ _ _ c.in_ok-subcommand-7.ensures seventh c.in_ok-trace.ensures refl in
     let ninth = adds_command _ _ _ _ _ c.in_ok-subcommand-8.ensures eighth c.in_ok-status.ensures refl in
-    IfOk-weaker c.subcommand-10.result _ _ (λ command adds. adds_command _ _ command _ _ adds ninth c.in_ok-items.ensures refl) c.subcommand-10.ensures
+    let tenth = adds_command _ _ _ _ _ c.in_ok-subcommand-9.ensures ninth c.in_ok-items.ensures refl in
+    IfOk-weaker c.subcommand-11.result _ _ (λ command adds. adds_command _ _ command _ _ adds tenth c.in_ok-lint.ensures refl) c.subcommand-11.ensures

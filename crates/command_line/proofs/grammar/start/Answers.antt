@@ -4,6 +4,9 @@ use Rattle.command_line.proofs.grammar.start.Goals as goal
 
 pub returns : goal.returns
 returns c =
-    let with1 = adds_rule _ _ _ _ _ c.in_ok-arg.ensures c.required.ensures.local c.in_ok-on_folder.ensures c.required.ensures.rule in
-    let with2 = adds_rule _ _ _ _ _ c.in_ok-arg-2.ensures c.required-2.ensures.local with1 c.required-2.ensures.rule in
-    IfOk-weaker c.arg-3.result _ _ (λ command adds. adds_rule _ _ command _ _ adds c.flag.ensures.local with2 c.flag.ensures.rule) c.arg-3.ensures
+    let site = adds_rule _ _ _ _ _ c.in_ok-arg.ensures c.required.ensures.local c.in_ok-on_folder.ensures c.required.ensures.rule in
+    let epcs = adds_rule _ _ _ _ _ c.in_ok-arg-2.ensures c.epcs.ensures.local site c.epcs.ensures.rule in
+    let from = adds_rule _ _ _ _ _ c.in_ok-arg-3.ensures c.flag.ensures.local epcs c.flag.ensures.rule in
+    let dry = adds_rule _ _ _ _ _ c.in_ok-arg-4.ensures c.flag-2.ensures.local from c.flag-2.ensures.rule in
+    let key = adds_rule _ _ _ _ _ c.in_ok-arg-5.ensures c.key.ensures.local dry c.key.ensures.rule in
+    IfOk-weaker c.arg-6.result _ _ (λ command adds. adds_rule _ _ command _ _ adds c.scan.ensures.local key c.scan.ensures.rule) c.arg-6.ensures

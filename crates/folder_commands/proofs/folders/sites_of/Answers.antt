@@ -1,4 +1,4 @@
-use Rattle.std.proofs.Common.{[], ◌∷◌, length, refl, sym, ap, ◌∙◌, inl, inr, subst}
+use Rattle.std.proofs.Common.{[], ◌∷◌, length, refl, ap, ◌∙◌, inl, inr, subst}
 use Rattle.std.proofs.lemmas.List.{nil_from_length}
 use Rattle.folder_commands.specs.FileCalls.{Blamed, Failed, ReadFile}
 use Rattle.folder_commands.specs.Folders.{list_path}
