@@ -1,5 +1,7 @@
 pub mod Destinations
 pub mod Differences
+pub mod Evidence
+pub mod FirstPlaces
 pub mod Gathering
 pub mod Laws
 pub mod Outside
