@@ -24,9 +24,11 @@ stops=${STOPS:-50}
 # wants STATUS OUTPUT ERRORS WORD..: the program ends so on these words; sentences stand behind refusals and faults
 wants() {
     local status=$1 output=$2 errors ended
-    # Of several documents no refusal is explained.
+    # Of several inputs no refusal is explained.
     if [ "$4" = capture ] && [ "$#" -gt 7 ]; then
         errors=$(explained capture 'documents ' "$3")
+    elif [ "$4" = start ] && [ "$#" -gt 7 ] && [[ " $* " != *' --key '* && " $* " != *' --scan '* && " $* " != *' --dry-run '* ]]; then
+        errors=$(explained start 'items ' "$3")
     else
         errors=$(explained "$4" "$2" "$3")
     fi
@@ -80,6 +82,13 @@ wants 1 'refused NoSite farm' '' report chain 'farm#1'
 wants 1 'refused NoSite farm' '' capture chain farm none
 wants 1 'refused NoSite farm' '' start chain farm "$tank"
 wants 1 'refused BadEpc' '' start chain dairy 'a b'
+wants 1 'refused BadKey' '' start chain dairy --key 'sgtin 09521321000118 tank-7'
+wants 1 'refused BadScan CheckDigit' '' start chain dairy --scan '(01)09521321000118(21)tank-7'
+grep -q 'check digit' err || { echo "the sentence: $(cat err)" >&2; failed=1; }
+wants 1 'refused BadScan NoSerial' '' start chain dairy --scan 0109521321000117 --dry-run
+wants 1 'refused BadScan NoElements' '' trace chain dairy --scan "$tank"
+wants 1 'refused UnknownItem' '' start chain dairy '(01)09521321000117(21)tank-7'
+grep -q -e '--scan' err || { echo "the sentence: $(cat err)" >&2; failed=1; }
 wants 1 'refused UnknownItem' '' start chain dairy x
 echo '{' >bad.json
 wants 1 'refused Doc Syntax event 0 field document' '' capture chain dairy bad.json
@@ -110,6 +119,15 @@ wants 1 "$(printf '%s\n' 'captured 0 known 2 skipped 0 lines:1' 'refused Doc Syn
 [ $? = 1 ] && [ "$(cat out)" = "$("$recall" capture chain shop-2 lines --lines 2>/dev/null | sed 's/ lines:/ -:/')" ] || { echo "a pipe: $(cat out err)" >&2; failed=1; }
 "$recall" capture chain shop-2 - <"$chain/shop-2.json" >out 2>err
 [ $? = 0 ] && [ "$(cat out)$(without_notes err)" = 'captured 0 known 2 skipped 0' ] || { echo "a document in a pipe: $(cat out err)" >&2; failed=1; }
+
+echo "several items"
+cp -r chain starts
+wants 1 "$(printf '%s\n' "recall plant#2 new 4 messages 2 open $tank" 'refused BadEpc a b' 'refused UnknownItem x' 'items 3 started 1 refused 2')" \
+    '' start starts plant "$tank" 'a b' x
+printf '%s \r\n \nx' "$tank" >epcs
+wants 1 "$(printf '%s\n' 'recall plant#3 new 4 messages 2 open epcs:1' 'refused UnknownItem epcs:3' 'items 2 started 1 refused 1')" '' start starts plant --from epcs
+wants 3 '' "$(printf 'fault Read\nfile none: no such file or folder')" start starts plant --from none epcs
+wants 1 'refused NoSite farm' '' start starts farm "$tank" "$tank"
 
 echo "faults"
 faults Read 'none: no such file or folder' capture chain dairy none

@@ -77,6 +77,10 @@ is_json out && is_json err || complain "no JSON: $(cat out err)"
 printf '{"type":"ObjectEvent","eventTime":"2024-05-01T08:00:00Z","eventTimeZoneOffset":"+00:00","action":"OBSERVE","epcList":["x"],"bizStep":"shipping"}' >aimless
 tells 0 '{"captured":1,"known":0,"skipped":0}' '{"note":"note: 1 event of bizStep shipping has no destination: nothing is traced past it"}
 {"note":"note: 1 event has no eventID: captured again, it counts again"}' capture made dairy aimless
+tells 1 '{"event":1,"fault":"Quantities","field":"quantityList","file":"quantities"}
+{"event":1,"field":"destinationList","file":"aimless","warning":"ShipsNowhere"}
+{"event":1,"file":"aimless","warning":"NoEventID"}
+{"total":{"events":2,"faults":1,"warnings":2}}' '' lint "$chain/sites" quantities aimless
 tells 1 '{"captured":1,"file":"aimless","known":0,"skipped":0}
 {"event":1,"field":"quantityList","file":"quantities","kind":"Quantities","refused":"Doc"}
 {"captured":1,"documents":2,"known":0,"refused":1,"skipped":0}' '{"note":"note: 1 event of bizStep shipping has no destination: nothing is traced past it"}
@@ -87,6 +91,8 @@ for site in plant shop-1 shop-2; do
 done
 
 tells 1 '{"refused":"BadEpc"}' '' start made plant 'a b'
+tells 1 '{"refused":"BadKey"}' '' start made plant 'a b' --key
+tells 1 '{"kind":"CheckDigit","refused":"BadScan"}' '' start made plant '(01)09521321000118(21)tank-7' --scan
 tells 1 '{"refused":"UnknownItem"}' '' start made shop-1 x
 tells 0 '{"messages":2,"new":4,"would":"recall"}' '{"note":"note: nothing was begun; this is of the site alone, and `recall trace` tells what a recall would find at all sites"}' start made plant "$tank" --dry-run
 for words in "" --brief --back "--back --brief"; do

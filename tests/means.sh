@@ -12,6 +12,7 @@ meaning_of() {
     case $2 in
     Doc) meaning "kinds\.$3" ;;
     BadSite) meaning "sites\.$3" ;;
+    BadScan) meaning "scans\.$3" ;;
     Blocked | IdTaken | NumbersSpent | UnknownItem) meaning "steps\.$2" ;;
     BadLine) if [ "$1" = report ]; then meaning 'refusals\.BadRecall'; else meaning BadLine; fi ;;
     *) meaning "refusals\.$2" ;;
@@ -19,7 +20,7 @@ meaning_of() {
 }
 
 # explained COMMAND OUTPUT ERRORS: the error stream of a command that prints this and has these lines of a fault, or notes; of
-# several documents only a fault is explained
+# several inputs only a fault is explained
 explained() {
     local command=$1 output=$2 errors=$3 line sentence last=
     case $errors in
@@ -30,7 +31,7 @@ explained() {
         ;;
     esac
     case $output in
-    *'documents '*) ;;
+    *'documents '* | *'items '*) ;;
     *)
         while IFS= read -r line; do
             case $line in

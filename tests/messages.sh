@@ -109,7 +109,13 @@ for ((n = 0; n < 1000; n++)); do
 done
 faults Device 'at/plant.db: in use by another program' "$recall" audit at
 faults Device 'at/plant.db: in use by another program' "$recall" start at plant "$tank"
+faults Device 'at/plant.db: in use by another program' "$recall" audit at --wait 1
+# The file is free a second after this command begins to wait for it.
+"$recall" audit at --wait 60 >waited 2>&1 9>&- &
+waiting=$!
+sleep 1
 exec 9>&-
+wait "$waiting" || complain "an audit that waits: $(cat waited)"
 wait
 [ "$(without_notes fed | tail -1)" = 'documents 1 captured 0 known 6 skipped 1 refused 0' ] || complain "a capture of lines: $(cat fed)"
 must audit at

@@ -235,6 +235,7 @@ def trace(folder, events):
             same(f"{what} --back: the rest", rest, [*origins, ["total", str(len(wanted)), "origins", str(len(origins))]])
             if item in ("x1", "x2"):
                 hold_brief(what, ask("trace", folder, site, item, "--brief"), ways, False)
+                same(f"{what} --key", ask("trace", folder, site, "--key", f"uri {item}"), text)
                 hold_brief(f"{what} --back", ask("trace", "--back", "--brief", folder, site, item), ways_back, True)
                 hold_json(what, ask("trace", "--json", folder, site, item), ways, False)
                 hold_json(f"{what} --back", ask("trace", "--json", "--back", folder, site, item), ways_back, True)
@@ -242,6 +243,8 @@ def trace(folder, events):
         same("an unknown item", ask("trace", folder, site, "x99", "--back", status=1), "refused UnknownItem\n")
     same("a site that isn't listed", ask("trace", folder, "west", "x1", status=1), "refused NoSite west\n")
     same("no EPC", ask("trace", folder, "north", "x 1", status=1), "refused BadEpc\n")
+    same("no key", ask("trace", folder, "north", "x1", "--key", status=1), "refused BadKey\n")
+    same("no scan", ask("trace", folder, "north", "x1", "--scan", status=1), "refused BadScan NoElements\n")
 
 
 def list_items(folder, events, quarantined):
