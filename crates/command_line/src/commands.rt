@@ -4,6 +4,7 @@ ghost use Rattle.std.specs.Prelude.{◌≡◌, ◌==◌, if◌then◌else◌, If
 ghost use Rattle.recall_outcomes.specs.Advice.{advice};
 ghost use Rattle.recall_outcomes.specs.Faults.{fault_line};
 ghost use Rattle.recall_outcomes.specs.Notes.{untraced_text};
+ghost use Rattle.recall_outcomes.specs.Places.{place_notes};
 ghost use Rattle.recall_outcomes.specs.Printing.{note_lines};
 ghost use Rattle.recall_text.specs.Writing.{AppendsBeginning};
 ghost use Rattle.command_line.specs.CommandLines.{HasTurns};
@@ -254,7 +255,8 @@ fn tell<K: SiteKeeper, F: Files<K>, W: Write, E: Write>(
     }
 }
 
-/// Prints an outcome, and behind it on the error stream what it means, its notes and what is advised.
+/// Prints an outcome, and behind it on the error stream what it means, its notes, what is advised, and which places outside
+/// may be a traced site.
 fn tell_output<K: SiteKeeper, F: Files<K>, W: Write, E: Write>(
     alloc: Global,
     form: Form,
@@ -275,6 +277,7 @@ fn tell_output<K: SiteKeeper, F: Files<K>, W: Write, E: Write>(
             explain(alloc, form, &told.outcome, errors);
             note_some(alloc, form, &told.notes, errors);
             advise(alloc, form, &told.outcome, errors);
+            note_places(alloc, form, told, errors);
             told.outcome.status()
         }
         Err(_) => fault(alloc, form, files, Fault::Write, errors),
@@ -310,6 +313,15 @@ fn advise<E: Write>(alloc: Global, form: Form, outcome: &Outcome, errors: &mut E
 {
     if let Some(text) = outcome.advice() {
         note(alloc, form, text, errors);
+    }
+}
+
+/// Tells which places outside may be a traced site, where there is memory for it.
+fn note_places<E: Write>(alloc: Global, form: Form, told: &Output, errors: &mut E)
+    ensures { AppendsBeginning (E.contents errors.old) (E.contents errors.new) (note_lines form (place_notes told.now.sites told.now.outcome)) }
+{
+    if let Ok(text) = told.outcome.place_notes(alloc, &told.sites) {
+        note(alloc, form, text.as_str(), errors);
     }
 }
 

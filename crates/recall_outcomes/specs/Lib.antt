@@ -5,6 +5,7 @@ pub mod Faults
 pub mod Json
 pub mod Laws
 pub mod Notes
+pub mod Places
 pub mod Printing
 pub mod Sentences
 pub mod Statuses

@@ -13,6 +13,7 @@ pub mod laws;
 mod notes;
 mod outcome_json;
 mod outcomes;
+mod places;
 mod printing;
 mod query_json;
 mod query_texts;
