@@ -28,7 +28,8 @@ refused_for (Err fault) = Some fault
 
 -- A document is refused for the first fault that is found in it, and read where none is found.
 abbrev pub FirstFaultRefuses : Type 0
-FirstFaultRefuses = (sites : List Site) (text : List ℕ) → first_fault (text_lint sites text).findings ≡ refused_for (text_document sites text)
+FirstFaultRefuses =
+    (sites : List Site) (here : Option ℕ) (text : List ℕ) → first_fault (text_lint sites here text).findings ≡ refused_for (text_document sites text)
 
 -- The item of a text is a near miss where the text begins as one of an SGTIN or an SSCC and spells none.
 abbrev pub NearMissesSpellNone : Type 0

@@ -11,6 +11,15 @@ pub enum SkippedType {
     Association,
 }
 
+/// A member of an event that names a place where it happened.
+#[derive(Clone, Copy, Debug, PartialEq, Eq)]
+pub enum PlaceMember {
+    /// readPoint
+    ReadPoint,
+    /// bizLocation
+    BizLocation,
+}
+
 /// What is wrong with an event or a document, or strange about an event.
 #[derive(Debug, Drop)]
 pub enum What {
@@ -27,6 +36,11 @@ pub enum What {
     /// The text of an item begins as that of an SGTIN or an SSCC does and breaks a rule of these, so that it is taken as any
     /// other text.
     NearMiss { field: DocField, text: PlainText },
+    /// The event happened at this address of another traced site than the one that is to capture it.
+    OtherPlace {
+        member: PlaceMember,
+        address: PlainText,
+    },
 }
 
 /// Something that is found at an event.

@@ -13,7 +13,7 @@ use crate::event_lists::{event_list, whole};
 use crate::findings::{Finding, Lint, What};
 use crate::strange_events::{push_strange, skipped_type};
 use event_json::{
-    Doc, DocFault, DocFaultKind, DocField, Event, MAX_EVENTS, ReadFault, Sequence, Sites,
+    Doc, DocFault, DocFaultKind, DocField, Event, MAX_EVENTS, ReadFault, Sequence, SiteNo, Sites,
     read_value,
 };
 use serde_json::{Value, json};
@@ -21,16 +21,22 @@ use std::alloc::{AllocError, Global};
 
 /// What is wrong with a document in the JSON form of GS1 EPCIS 2.0, an EPCISDocument or one bare event, and what is
 /// strange about its events, with destinations looked up among the sites. Of each event that can't be read its first
-/// fault is told. A document without a fault is one that `read_document` of `event_json` reads.
+/// fault is told. A document without a fault is one that `read_document` of `event_json` reads. Where the site that is to
+/// capture it is named, it is told of events that happened at another one.
 ///
 /// # Errors
 /// Where memory runs out.
 #[tactic(auto, unfolding(crate::specs::Findings::text_lint))]
-pub fn lint_document(alloc: Global, bytes: &[u8], sites: &Sites) -> Result<Lint, AllocError>
-    ensures { IfOk result (IsLint sites.now bytes.now) }
+pub fn lint_document(
+    alloc: Global,
+    bytes: &[u8],
+    sites: &Sites,
+    here: Option<SiteNo>,
+) -> Result<Lint, AllocError>
+    ensures { IfOk result (IsLint sites.now here bytes.now) }
 {
     match Value::from_slice(alloc, bytes) {
-        Ok(value) => lint_value(alloc, &value, sites),
+        Ok(value) => lint_value(alloc, &value, sites, here),
         Err(error) => {
             if error.is_memory() {
                 Err(AllocError)
@@ -68,8 +74,13 @@ fn fault_finding(fault: DocFault) -> Finding
 
 /// What is found in the document of a value.
 #[tactic(auto, unfolding(crate::specs::Findings::value_lint))]
-fn lint_value(alloc: Global, value: &Value, sites: &Sites) -> Result<Lint, AllocError>
-    ensures { IfOk result (λ l. l ≡ value_lint sites.now (view value.now)) }
+fn lint_value(
+    alloc: Global,
+    value: &Value,
+    sites: &Sites,
+    here: Option<SiteNo>,
+) -> Result<Lint, AllocError>
+    ensures { IfOk result (λ l. l ≡ value_lint sites.now here (view value.now)) }
 {
     let list = match event_list(value) {
         Ok(list) => list,
@@ -77,7 +88,7 @@ fn lint_value(alloc: Global, value: &Value, sites: &Sites) -> Result<Lint, Alloc
     };
     let mut findings = Vec::new(alloc);
     push_length(&mut findings, list)?;
-    push_events(alloc, &mut findings, sites, list)?;
+    push_events(alloc, &mut findings, sites, here, list)?;
     Ok(Lint {
         events: list.len() as u64,
         findings: Sequence::from_vec(findings),
@@ -111,13 +122,14 @@ fn push_events(
     alloc: Global,
     findings: &mut Vec<Finding>,
     sites: &Sites,
+    here: Option<SiteNo>,
     list: &[Value],
 ) -> Result<(), AllocError>
     ensures { OnOk result (findings.new.items ≡ findings.old.items
-        ++ flat_map (event_findings sites.now) (enumerate_from 1 (in_order (items_view list.now)))) }
+        ++ flat_map (event_findings sites.now here) (enumerate_from 1 (in_order (items_view list.now)))) }
 {
     for (place, value) in list.iter().enumerate() {
-        push_event(alloc, findings, sites, place as u64 + 1, value)?;
+        push_event(alloc, findings, sites, here, place as u64 + 1, value)?;
     }
     Ok(())
 }
@@ -128,12 +140,13 @@ fn push_event(
     alloc: Global,
     findings: &mut Vec<Finding>,
     sites: &Sites,
+    here: Option<SiteNo>,
     number: u64,
     value: &Value,
 ) -> Result<(), AllocError>
-    ensures { OnOk result (findings.new.items ≡ findings.old.items ++ event_findings sites.now (number, view value.now)) }
+    ensures { OnOk result (findings.new.items ≡ findings.old.items ++ event_findings sites.now here (number, view value.now)) }
 {
-    let found = found_of(alloc, sites, value)?;
+    let found = found_of(alloc, sites, here, value)?;
     push_at(findings, number, found)
 }
 
@@ -151,8 +164,13 @@ fn push_at(findings: &mut Vec<Finding>, number: u64, found: Vec<What>) -> Result
 }
 
 /// The fault of an event, that it is skipped, or what is strange about it.
-fn found_of(alloc: Global, sites: &Sites, value: &Value) -> Result<Vec<What>, AllocError>
-    ensures { IfOk result (λ found. found.items ≡ found_of (view value.now) (numbered_event sites.now 1 (view value.now))) }
+fn found_of(
+    alloc: Global,
+    sites: &Sites,
+    here: Option<SiteNo>,
+    value: &Value,
+) -> Result<Vec<What>, AllocError>
+    ensures { IfOk result (λ found. found.items ≡ found_of sites.now here (view value.now) (numbered_event sites.now 1 (view value.now))) }
 {
     let mut found = Vec::new(alloc);
     match read_alone(alloc, sites, value)? {
@@ -161,7 +179,7 @@ fn found_of(alloc: Global, sites: &Sites, value: &Value) -> Result<Vec<What>, Al
             kind: fault.kind,
         })?,
         Ok(None) => found.push(What::Skipped(skipped_type(value)))?,
-        Ok(Some(event)) => push_strange(alloc, &mut found, value, &event)?,
+        Ok(Some(event)) => push_strange(alloc, &mut found, sites, here, value, &event)?,
     }
     Ok(found)
 }
