@@ -1,5 +1,5 @@
 -- What the words of a command line ask for, as `clap` reads them.
-use Rattle.std.specs.Prelude.{◌≡◌, ◌≢◌, ◌⊎◌, ◌≤◌, ◌↔◌, ⊤, ℕ, Bool, true, false, IsTrue, List, [], ◌∷◌, Option, Some, None, codes, length, map, string_bytes, unwrap_or}
+use Rattle.std.specs.Prelude.{◌≡◌, ◌≢◌, ◌⊎◌, ◌≤◌, ◌↔◌, ⊤, ℕ, Bool, true, false, IsTrue, List, [], ◌∷◌, Option, Some, None, codes, length, map, option_map, string_bytes, unwrap_or}
 use mathlib.Core.Logic.{◌⊎◌}
 use Rattle.std.specs.Global.{Global}
 use Rattle.std.specs.declared.string.String.{String}
@@ -140,9 +140,13 @@ status = with_rule (with_rule (on_folder (codes "status")) (new_rule (codes "rec
 abbrev pub items : App
 items = with_rule (with_rule (on_folder (codes "items")) (required (codes "site"))) (new_rule (codes "text"))
 
+-- `--site name`
+abbrev pub capturing : Rule
+capturing = record (new_rule (codes "site")) { long = Some (codes "site"); value_names = 1 }
+
 -- it needs no folder, but a list of sites
 abbrev pub lint : App
-lint = with_rule (with_rule (with_rule (new_app (codes "lint")) (required (codes "sites"))) files) (flag (codes "json"))
+lint = with_rule (with_rule (with_rule (with_rule (new_app (codes "lint")) (required (codes "sites"))) files) (flag (codes "json"))) capturing
 
 -- `recall` itself, which has to have one of them
 abbrev pub needing : App → App
@@ -302,6 +306,7 @@ pub record AsksDryBatch (rows : List Row) : Type 0 where
 -- documents of files are looked through, by a list of sites
 pub record IsLint (asked : LintFiles) (rows : List Row) : Type 0 where
   pub list : Gives rows (codes "sites") asked.list.now
+  pub site : option_map (λ t. t.now) asked.site ≡ first_of (codes "site") rows
   pub files : all_of (codes "file") rows ≡ Some (map (λ path. path.now) asked.paths.items)
   pub form : GivesForm rows asked.form
 

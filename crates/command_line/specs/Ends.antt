@@ -1,5 +1,5 @@
 -- How a command ends: with which status, and what it leaves on its streams.
-use Rattle.std.specs.Prelude.{◌≡◌, ◌⊎◌, ◌==◌, ℕ, List, [], ◌∷◌, Option, Some, None, Result, Ok, Err, IfErr, IfOk, IfSome, codes, map, string_bytes, if◌then◌else◌}
+use Rattle.std.specs.Prelude.{◌≡◌, ◌⊎◌, ◌==◌, ℕ, List, [], ◌∷◌, Option, Some, None, Result, Ok, Err, IfErr, IfOk, IfSome, codes, map, option_map, string_bytes, if◌then◌else◌}
 use Rattle.std.specs.Global.{Global}
 use Rattle.std.specs.declared.string.String.{String}
 use Rattle.std.specs.Io.KnownBytes.{Appends, Keeps}
@@ -220,10 +220,10 @@ module _ {F K : Type 0} (does : F → FileCall K → F → Type 0) (fails : F �
   abbrev pub LintEnds : F → F → Printed → Printed → ℕ → Type 0
   LintEnds old new before after status =
       LintTold
-      (λ summary. Led does old new (Lints asked.form asked.list.now (map (λ path. path.now) asked.paths.items) before.output after.output summary))
+      (λ summary. Led does old new (Lints asked.form asked.list.now (option_map (λ t. t.now) asked.site) (map (λ path. path.now) asked.paths.items) before.output after.output summary))
       before.errors after.errors status
       ⊎ BreaksOff fails asked.form new
-      (Began does old (LintEndsEarly asked.form asked.list.now (map (λ path. path.now) asked.paths.items) before.output after.output))
+      (Began does old (LintEndsEarly asked.form asked.list.now (option_map (λ t. t.now) asked.site) (map (λ path. path.now) asked.paths.items) before.output after.output))
       before.errors after.errors status
 
 -- ---- the whole

@@ -2,7 +2,7 @@
 
 ghost use Rattle.std.specs.Prelude.{◌≡◌, false, IfOk, codes};
 ghost use Rattle.clap.specs.Words.{app_of, new_rule, rule_of};
-ghost use Rattle.command_line.specs.CommandLines.{audit, capture, epcs, files, flag, folder, init, items, lint, on_folder, recall, report, required, run, sim, start, status, trace, turns, wait};
+ghost use Rattle.command_line.specs.CommandLines.{audit, capture, capturing, epcs, files, flag, folder, init, items, lint, on_folder, recall, report, required, run, sim, start, status, trace, turns, wait};
 
 use crate::helps;
 use clap::builder::ValueParser;
@@ -331,5 +331,17 @@ fn lint<'a>(alloc: Global) -> Result<Command<'a>, AllocError>
         .after_help(helps::LINT_EXAMPLE)
         .arg(required(alloc, "sites", "The file that lists the sites"))?
         .arg(files(alloc))?
-        .arg(json(alloc))
+        .arg(json(alloc))?
+        .arg(capturing(alloc))
+}
+
+/// The site that is to capture the documents.
+fn capturing<'a>(alloc: Global) -> Arg<'a>
+    ensures rule { rule_of result ≡ capturing }
+    ensures local { result.global ≡ false }
+{
+    Arg::new(alloc, "site")
+        .long("site")
+        .value_name("name")
+        .help("Tell of events that happened at another traced site than this one")
 }

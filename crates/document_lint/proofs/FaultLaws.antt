@@ -1,5 +1,5 @@
 -- the first fault that is found is the one that a document is refused for
-use Rattle.std.proofs.Common.{◌≡◌, ℕ, ◌+◌, Bool, true, false, ◌&&◌, if◌then◌else◌, List, [], ◌∷◌, ◌++◌, Option, Some, None, Result, Ok, Err, map, refl, sym, ap, ◌∙◌, append_assoc}
+use Rattle.std.proofs.Common.{◌≡◌, ℕ, ◌+◌, Bool, true, false, if◌then◌else◌, List, [], ◌∷◌, ◌++◌, Option, Some, None, Result, Ok, Err, map, refl, sym, ap, ◌∙◌, append_assoc}
 use Rattle.std.specs.Prelude.{⊤}
 use Rattle.std.specs.List.{enumerate_from, flat_map}
 use Rattle.std.proofs.lemmas.List.{map-append}
@@ -78,11 +78,12 @@ bodies (Pack action parent children) = both (parent_nears parent) (nears_of fiel
 
 other : (sites : List Site) (here : Option ℕ) (member : PlaceMember) (text : Option (List ℕ)) → NoFault (other_place sites here member text)
 other sites here member None = nothing
-other sites here member (Some text) = by (is_plain text && is_other sites here text)
+other sites here member (Some text) = by (is_other sites here text) (is_plain text)
   where
-    by : (t : Bool) → NoFault (if t then OtherPlace member text ∷ [] else [])
-    by true = one_more (OtherPlace member text) [] (λ n rest. refl) nothing
-    by false = nothing
+    by : (t u : Bool) → NoFault (if t then (if u then OtherPlace member text ∷ [] else []) else [])
+    by true true = one_more (OtherPlace member text) [] (λ n rest. refl) nothing
+    by true false = nothing
+    by false u = nothing
 
 others : (sites : List Site) (here : Option ℕ) (d : Data) → NoFault (other_places sites here d)
 others sites here d =

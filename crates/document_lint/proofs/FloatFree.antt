@@ -14,7 +14,7 @@ what_free source event ShipsNowhere = refl
 what_free source event (Outside place) = refl
 what_free source event NoEventId = refl
 what_free source event (NearMiss field text) = refl
-what_free source event (OtherPlace member address) = refl
+what_free source event (OtherPlace place address) = refl
 
 pub finding_free : (source : List ℕ) (found : Finding) → has_float (finding_json source found) ≡ false
 finding_free source found = what_free source found.event found.what

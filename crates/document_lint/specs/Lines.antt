@@ -30,7 +30,7 @@ named level name event = level ++ codes " " ++ name ++ codes " event " ++ decima
 
 -- and the member that is meant, by its name or its field
 abbrev pub named_in : List ℕ → List ℕ → ℕ → List ℕ → List ℕ
-named_in level name event member = named level name event ++ codes " field " ++ member
+named_in level name event field = named level name event ++ codes " field " ++ field
 
 abbrev pub named_at : List ℕ → List ℕ → ℕ → DocField → List ℕ
 named_at level name event field = named_in level name event (field_name field)
@@ -43,7 +43,7 @@ what_words event ShipsNowhere = named_at (codes "warn") (codes "ShipsNowhere") e
 what_words event (Outside place) = named_at (codes "warn") (codes "Outside") event fields.DestinationList ++ codes " " ++ place
 what_words event NoEventId = named (codes "warn") (codes "NoEventID") event
 what_words event (NearMiss field text) = named_at (codes "warn") (codes "NearMiss") event field ++ codes " " ++ text
-what_words event (OtherPlace member address) = named_in (codes "warn") (codes "OtherPlace") event (place_name member) ++ codes " " ++ address
+what_words event (OtherPlace place address) = named_in (codes "warn") (codes "OtherPlace") event (place_name place) ++ codes " " ++ address
 
 -- a finding in a document of this source
 abbrev pub finding_text : List ℕ → Finding → List ℕ
@@ -92,8 +92,8 @@ near_members source event field text =
     (text_at (codes "field") field (file_at source (text_at (codes "text") text (warning (codes "NearMiss")))))
 
 abbrev pub other_members : List ℕ → ℕ → List ℕ → List ℕ → Members
-other_members source event member address =
-    text_at (codes "address") address (count_at (codes "event") event (text_at (codes "field") member (file_at source (warning (codes "OtherPlace")))))
+other_members source event field address =
+    text_at (codes "address") address (count_at (codes "event") event (text_at (codes "field") field (file_at source (warning (codes "OtherPlace")))))
 
 abbrev pub what_members : List ℕ → ℕ → What → Members
 what_members source event (Fault field kind) = fault_members source event (field_name field) (kind_name kind)
@@ -102,7 +102,7 @@ what_members source event ShipsNowhere = aimless_members source event
 what_members source event (Outside place) = outside_members source event place
 what_members source event NoEventId = unnamed_members source event
 what_members source event (NearMiss field text) = near_members source event (field_name field) text
-what_members source event (OtherPlace member address) = other_members source event (place_name member) address
+what_members source event (OtherPlace place address) = other_members source event (place_name place) address
 
 abbrev pub finding_json : List ℕ → Finding → Data
 finding_json source found = object (what_members source found.event found.what)

@@ -43,10 +43,14 @@ abbrev pub is_other : List Site → Option ℕ → List ℕ → Bool
 is_other sites None text = false
 is_other sites (Some here) text = is_other_below sites here text (length sites)
 
+-- a place of another site, by its address
+abbrev pub placed : PlaceMember → List ℕ → List What
+placed member text = if is_plain text then OtherPlace member text ∷ [] else []
+
 -- what is found of a place that an event names
 abbrev pub other_place : List Site → Option ℕ → PlaceMember → Option (List ℕ) → List What
 other_place sites here member None = []
-other_place sites here member (Some text) = if is_plain text && is_other sites here text then OtherPlace member text ∷ [] else []
+other_place sites here member (Some text) = if is_other sites here text then placed member text else []
 
 abbrev pub other_places : List Site → Option ℕ → Data → List What
 other_places sites here d =

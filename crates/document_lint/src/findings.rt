@@ -1,6 +1,6 @@
 //! What a linter finds in a document.
 
-use event_json::{DocFaultKind, DocField, PlainText, Sequence};
+use event_json::{DocFaultKind, DocField, PlainText, Sequence, SiteNo, Sites};
 
 /// An event type of the standard that isn't traced.
 #[derive(Clone, Copy, Debug, PartialEq, Eq)]
@@ -58,4 +58,13 @@ pub struct Lint {
     pub events: u64,
     /// What is found, of the document itself first and then event by event.
     pub findings: Sequence<Finding>,
+}
+
+/// By what documents are looked through.
+#[derive(Debug, Drop)]
+pub struct Listing<'a> {
+    /// The traced sites.
+    pub sites: &'a Sites,
+    /// The one that is to capture the documents, if that is named.
+    pub here: Option<SiteNo>,
 }

@@ -13,6 +13,6 @@ mod other_places;
 mod strange_events;
 mod totals;
 
-pub use findings::{Finding, Lint, PlaceMember, SkippedType, What};
+pub use findings::{Finding, Lint, Listing, PlaceMember, SkippedType, What};
 pub use linting::lint_document;
 pub use totals::LintTotals;

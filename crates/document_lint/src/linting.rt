@@ -10,10 +10,10 @@ ghost use Rattle.event_json.specs.declared.doc_faults.DocFaultKind.TheVariants a
 ghost use Rattle.document_lint.specs.Findings.{IsLint, alone, at_number, event_findings, fault_finding, found_of, length_findings, text_lint, value_lint, without_list};
 
 use crate::event_lists::{event_list, whole};
-use crate::findings::{Finding, Lint, What};
+use crate::findings::{Finding, Lint, Listing, What};
 use crate::strange_events::{push_strange, skipped_type};
 use event_json::{
-    Doc, DocFault, DocFaultKind, DocField, Event, MAX_EVENTS, ReadFault, Sequence, SiteNo, Sites,
+    Doc, DocFault, DocFaultKind, DocField, Event, MAX_EVENTS, ReadFault, Sequence, Sites,
     read_value,
 };
 use serde_json::{Value, json};
@@ -30,13 +30,12 @@ use std::alloc::{AllocError, Global};
 pub fn lint_document(
     alloc: Global,
     bytes: &[u8],
-    sites: &Sites,
-    here: Option<SiteNo>,
+    listing: &Listing<'_>,
 ) -> Result<Lint, AllocError>
-    ensures { IfOk result (IsLint sites.now here bytes.now) }
+    ensures { IfOk result (IsLint listing.now.sites.now listing.now.here bytes.now) }
 {
     match Value::from_slice(alloc, bytes) {
-        Ok(value) => lint_value(alloc, &value, sites, here),
+        Ok(value) => lint_value(alloc, &value, listing),
         Err(error) => {
             if error.is_memory() {
                 Err(AllocError)
@@ -77,10 +76,9 @@ fn fault_finding(fault: DocFault) -> Finding
 fn lint_value(
     alloc: Global,
     value: &Value,
-    sites: &Sites,
-    here: Option<SiteNo>,
+    listing: &Listing<'_>,
 ) -> Result<Lint, AllocError>
-    ensures { IfOk result (λ l. l ≡ value_lint sites.now here (view value.now)) }
+    ensures { IfOk result (λ l. l ≡ value_lint listing.now.sites.now listing.now.here (view value.now)) }
 {
     let list = match event_list(value) {
         Ok(list) => list,
@@ -88,7 +86,7 @@ fn lint_value(
     };
     let mut findings = Vec::new(alloc);
     push_length(&mut findings, list)?;
-    push_events(alloc, &mut findings, sites, here, list)?;
+    push_events(alloc, &mut findings, listing, list)?;
     Ok(Lint {
         events: list.len() as u64,
         findings: Sequence::from_vec(findings),
@@ -121,15 +119,14 @@ fn check_count(list: &[Value]) -> Result<(), DocFault>
 fn push_events(
     alloc: Global,
     findings: &mut Vec<Finding>,
-    sites: &Sites,
-    here: Option<SiteNo>,
+    listing: &Listing<'_>,
     list: &[Value],
 ) -> Result<(), AllocError>
     ensures { OnOk result (findings.new.items ≡ findings.old.items
-        ++ flat_map (event_findings sites.now here) (enumerate_from 1 (in_order (items_view list.now)))) }
+        ++ flat_map (event_findings listing.now.sites.now listing.now.here) (enumerate_from 1 (in_order (items_view list.now)))) }
 {
     for (place, value) in list.iter().enumerate() {
-        push_event(alloc, findings, sites, here, place as u64 + 1, value)?;
+        push_event(alloc, findings, listing, place as u64 + 1, value)?;
     }
     Ok(())
 }
@@ -139,14 +136,13 @@ fn push_events(
 fn push_event(
     alloc: Global,
     findings: &mut Vec<Finding>,
-    sites: &Sites,
-    here: Option<SiteNo>,
+    listing: &Listing<'_>,
     number: u64,
     value: &Value,
 ) -> Result<(), AllocError>
-    ensures { OnOk result (findings.new.items ≡ findings.old.items ++ event_findings sites.now here (number, view value.now)) }
+    ensures { OnOk result (findings.new.items ≡ findings.old.items ++ event_findings listing.now.sites.now listing.now.here (number, view value.now)) }
 {
-    let found = found_of(alloc, sites, here, value)?;
+    let found = found_of(alloc, listing, value)?;
     push_at(findings, number, found)
 }
 
@@ -166,20 +162,19 @@ fn push_at(findings: &mut Vec<Finding>, number: u64, found: Vec<What>) -> Result
 /// The fault of an event, that it is skipped, or what is strange about it.
 fn found_of(
     alloc: Global,
-    sites: &Sites,
-    here: Option<SiteNo>,
+    listing: &Listing<'_>,
     value: &Value,
 ) -> Result<Vec<What>, AllocError>
-    ensures { IfOk result (λ found. found.items ≡ found_of sites.now here (view value.now) (numbered_event sites.now 1 (view value.now))) }
+    ensures { IfOk result (λ found. found.items ≡ found_of listing.now.sites.now listing.now.here (view value.now) (numbered_event listing.now.sites.now 1 (view value.now))) }
 {
     let mut found = Vec::new(alloc);
-    match read_alone(alloc, sites, value)? {
+    match read_alone(alloc, listing.sites, value)? {
         Err(fault) => found.push(What::Fault {
             field: fault.field,
             kind: fault.kind,
         })?,
         Ok(None) => found.push(What::Skipped(skipped_type(value)))?,
-        Ok(Some(event)) => push_strange(alloc, &mut found, sites, here, value, &event)?,
+        Ok(Some(event)) => push_strange(alloc, &mut found, listing, value, &event)?,
     }
     Ok(found)
 }

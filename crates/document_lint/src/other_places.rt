@@ -1,12 +1,13 @@
 //! Events that happened at another traced site than the one that is to capture them.
 
-ghost use Rattle.std.specs.Prelude.{◌≡◌, ◌++◌, OnOk, option_map};
+ghost use Rattle.std.specs.Prelude.{◌≡◌, ◌++◌, OnOk, length, option_map};
 ghost use Rattle.serde_json.specs.View.{view};
 ghost use Rattle.event_json.specs.declared.limits.TheConstants.{MAX_ADDRESSES};
-ghost use Rattle.document_lint.specs.OtherPlaces.{has_address, is_address, is_other, other_place, other_places, place_name, place_text};
+ghost use Rattle.document_lint.specs.OtherPlaces.{has_address, is_address, is_other, is_other_below, other_place, other_places, place_name, place_text, placed};
 
 use crate::event_lists::member_named;
-use crate::findings::{PlaceMember, What};
+use crate::findings::{Listing, PlaceMember, What};
+use epc_core::is_plain;
 use event_json::{MAX_ADDRESSES, PlainText, SiteNo, Sites};
 use serde_json::Value;
 use std::alloc::{AllocError, Global};
@@ -27,25 +28,22 @@ impl PlaceMember {
 pub(crate) fn push_other_places(
     alloc: Global,
     found: &mut Vec<What>,
-    sites: &Sites,
-    here: Option<SiteNo>,
+    listing: &Listing<'_>,
     value: &Value,
 ) -> Result<(), AllocError>
-    ensures { OnOk result (found.new.items ≡ found.old.items ++ other_places sites.now here (view value.now)) }
+    ensures { OnOk result (found.new.items ≡ found.old.items ++ other_places listing.now.sites.now listing.now.here (view value.now)) }
 {
     push_other_place(
         alloc,
         found,
-        sites,
-        here,
+        listing,
         PlaceMember::ReadPoint,
         place_text(value, PlaceMember::ReadPoint),
     )?;
     push_other_place(
         alloc,
         found,
-        sites,
-        here,
+        listing,
         PlaceMember::BizLocation,
         place_text(value, PlaceMember::BizLocation),
     )
@@ -63,33 +61,56 @@ fn place_text(value: &Value, member: PlaceMember) -> Option<&str>
 fn push_other_place(
     alloc: Global,
     found: &mut Vec<What>,
-    sites: &Sites,
-    here: Option<SiteNo>,
+    listing: &Listing<'_>,
     member: PlaceMember,
     text: Option<&str>,
 ) -> Result<(), AllocError>
     ensures { OnOk result (found.new.items ≡ found.old.items
-        ++ other_place sites.now here member (option_map (λ t. t.now) text.entry)) }
+        ++ other_place listing.now.sites.now listing.now.here member (option_map (λ t. t.now) text.entry)) }
 {
     let Some(text) = text else {
         return Ok(());
     };
-    let Some(address) = PlainText::read(alloc, text)? else {
-        return Ok(());
-    };
-    if is_other(sites, here, text) {
-        found.push(What::OtherPlace { member, address })?;
+    if is_other(listing, text) {
+        push_placed(alloc, found, member, text)
+    } else {
+        Ok(())
     }
+}
+
+/// Adds a place of another site, by its address.
+fn push_placed(
+    alloc: Global,
+    found: &mut Vec<What>,
+    member: PlaceMember,
+    text: &str,
+) -> Result<(), AllocError>
+    ensures { OnOk result (found.new.items ≡ found.old.items ++ placed member text.now) }
+{
+    if !is_plain(text) {
+        return Ok(());
+    }
+    let Some(address) = PlainText::read(alloc, text)? else {
+        unreachable!()
+    };
+    found.push(What::OtherPlace { member, address })?;
     Ok(())
 }
 
 /// Whether a text is an address of another site than this one, where that is known.
-fn is_other(sites: &Sites, here: Option<SiteNo>, text: &str) -> bool
-    ensures { result ≡ is_other sites.now here text.now }
+fn is_other(listing: &Listing<'_>, text: &str) -> bool
+    ensures { result ≡ is_other listing.now.sites.now listing.now.here text.now }
 {
-    let Some(here) = here else {
-        return false;
-    };
+    match &listing.here {
+        Some(here) => is_of_other(listing.sites, *here, text),
+        None => false,
+    }
+}
+
+/// Whether a text is an address of another site than this one.
+fn is_of_other(sites: &Sites, here: SiteNo, text: &str) -> bool
+    ensures { result ≡ is_other_below sites.now here text.now (length sites.now) }
+{
     let mut other = false;
     for number in 0..sites.len() {
         let Some(site) = SiteNo::of(number) else {
