@@ -4,4 +4,4 @@ use Rattle.report_core.proofs.trail_events.told_along_those.Given as goal
 
 -- the events of the trails so far
 abbrev pub invariant-loop-trail : goal.invariant-loop-trail
-invariant-loop-trail l = AreToldAlong l.relating l.shown (map or_no_pairs (take l.trail-index l.trails)) l.told.items
+invariant-loop-trail l = AreToldAlong l.relating l.shown (take l.trail-index (map or_no_pairs l.trails)) l.told.items
