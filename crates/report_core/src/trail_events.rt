@@ -106,13 +106,7 @@ fn pairs_shown(trail: &[Pair], shown: ShownSteps) -> &[Pair]
 {
     match shown {
         ShownSteps::Each => trail,
-        ShownSteps::First => {
-            if trail.len() > 2 {
-                &trail[..2]
-            } else {
-                trail
-            }
-        }
+        ShownSteps::First => { if trail.len() > 2 { &trail[..2] } else { trail } }
         ShownSteps::Last => {
             if trail.len() > 2 {
                 &trail[trail.len() - 2..]

@@ -20,6 +20,6 @@ loop-trail-preserved c =
     let tells = λ (steps : List (Pair × Pair)) (events : List StepEvents). AllZip (λ step. TellsStep c.args.relating.now step.0 step.1) steps events in
     let told = λ (trail : List Pair) (events : List StepEvents). tells (steps_of (pairs_shown c.args.shown trail)) events in
     let shown = c.pairs_shown-pairs.ensures ∙ ap (pairs_shown c.args.shown) c.as_slice.ensures in
-    subst (AllZip told (take (c.loop-trail.trail-index + 1) c.args.trails.now)) (sym c.in_ok-push.ensures.items)
+    subst (AllZip told (take (c.loop-trail.trail-index + 1) c.args.trails.now)) (sym {A = List (List StepEvents)} c.in_ok-push.ensures.items)
     (zip_more told c.args.trails.now c.loop-trail.told.items c.loop-trail.trail-index c.trail-item.result c.in_ok-told_of.field-0 c.loop-trail-test.true c.trail-item.is c.loop-trail.invariant
     (subst (λ (pairs : List Pair). tells (steps_of pairs) c.in_ok-told_of.field-0) shown c.in_ok-told_of.ensures))

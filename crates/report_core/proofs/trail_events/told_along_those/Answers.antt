@@ -31,7 +31,7 @@ loop-trail-preserved c =
     let below : place < length all = omega (arith, c.loop-trail-test.true, length-map c.args.trails.now or_no_pairs) in
     let stands : get_or all place trail ≡ trail = get_or-map or_no_pairs c.args.trails.now place c.trail-item.result trail c.loop-trail-test.true ∙ ap or_no_pairs (sym c.trail-item.is) in
     let shown = c.pairs_shown-pairs.ensures ∙ ap (pairs_shown c.args.shown) c.pairs_there.ensures in
-    subst (AllZip told (take (place + 1) all)) (sym c.in_ok-push.ensures.items)
+    subst (AllZip told (take (place + 1) all)) (sym {A = List (List StepEvents)} c.in_ok-push.ensures.items)
     (zip_more told all c.loop-trail.told.items place trail c.in_ok-told_of.field-0 below (sym stands) c.loop-trail.invariant
     (subst (λ (pairs : List Pair). tells (steps_of pairs) c.in_ok-told_of.field-0) shown c.in_ok-told_of.ensures))
 
