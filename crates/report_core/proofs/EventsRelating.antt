@@ -1,7 +1,6 @@
 -- The first events that relate two pairs, by the places that stand under their items.
-use Rattle.std.proofs.Common.{◌≡◌, ◌≢◌, ◌↔◌, inl, inr, ℕ, ◌<◌, ◌≤◌, Bool, true, false, List, length, slice_get, Option, Some, None, refl, sym, ap, ◌∙◌, subst, ⊎_elim, arith}
+use Rattle.std.proofs.Common.{◌≡◌, ◌≢◌, ◌↔◌, inl, inr, ℕ, ◌≤◌, Bool, List, length, slice_get, Option, Some, None, refl, sym, ap, ◌∙◌, subst, ⊎_elim, arith}
 use mathlib.Core.Bool.{false≢true}
-use mathlib.Core.Logic.{◌⊎◌}
 use Rattle.std.specs.BTreeMap.{get}
 use Rattle.std.specs.List.{Contains}
 use Rattle.std.specs.Option.{is_some}
@@ -15,7 +14,7 @@ use Rattle.trace_core.specs.Sites.{SiteEvents}
 use Rattle.trace_core.specs.declared.pairs.Pair.{Pair}
 use Rattle.trace_core.proofs.NumberLists.{some_is, none_is}
 use Rattle.site_core.specs.ItemSets.{item_cmp}
-use Rattle.report_core.specs.TrailEvents.{AnswersStep, AreOfOneMake, GivesOutWith, IsEventAt, IsFirst, IsFirstMake, IsFirstOrNone, IsFirstShipment, ShipsAt, StandsAt, TakesInAt}
+use Rattle.report_core.specs.TrailEvents.{AnswersStep, AreOfOneMake, GivesOutWith, IsFirstOrNone, IsFirstShipment, ShipsAt, StandsAt, TakesInAt}
 use Rattle.report_core.specs.FirstPlaces.{AnswersMake, AnswersShipment, Goes, IsJoinedWithOne, IsOneOf, TellsEvent}
 use Rattle.report_core.specs.Sources.{ArePlaces, Index, IsNotedAt, Notes, ShipsOff, or_no_places}
 use Rattle.report_core.specs.declared.trail_events.CapturedEvent.{CapturedEvent}

@@ -1,5 +1,5 @@
 -- The steps of a trail, place by place, and those that are shown of it.
-use Rattle.std.proofs.Common.{◌≡◌, ℕ, zero, suc, ◌+◌, ◌-◌, ◌<◌, ◌≤◌, List, [], ◌∷◌, ◌++◌, Option, Some, None, length, get_or, take, drop, slice_get, refl, sym, ap, ◌∙◌, subst, arith}
+use Rattle.std.proofs.Common.{◌≡◌, ℕ, zero, suc, ◌+◌, ◌-◌, ◌<◌, ◌≤◌, List, [], ◌∷◌, ◌++◌, Some, length, get_or, take, drop, slice_get, refl, sym, ap, ◌∙◌, subst, arith}
 use Rattle.std.specs.List.{AllZip}
 use Rattle.std.proofs.lemmas.List.{take_all}
 use Rattle.std.proofs.lemmas.Option.{slice_get-get_or}
@@ -8,7 +8,7 @@ use Rattle.trace_core.specs.Sites.{SiteEvents}
 use Rattle.trace_core.specs.declared.pairs.Pair.{Pair}
 use Rattle.trace_core.proofs.NumberLists.{some_is, none_is}
 use Rattle.trace_core.proofs.Zips.{zip_more}
-use Rattle.report_core.specs.TrailEvents.{IsRelatedStep, TellsStep, pairs_shown, steps_of}
+use Rattle.report_core.specs.TrailEvents.{TellsStep, pairs_shown, steps_of}
 use Rattle.report_core.specs.declared.trail_events.ShownSteps.{ShownSteps}
 use Rattle.report_core.specs.declared.trail_events.ShownSteps.TheVariants.{Each, First, Last}
 use Rattle.report_core.specs.declared.trail_events.StepEvents.{StepEvents}

@@ -1,5 +1,5 @@
 -- The text of a time is plain, and is read as its instant.
-use Rattle.std.proofs.Common.{◌≡◌, inl, inr, ℕ, ℤ, zero, suc, pos, negsuc, ◌+◌, ◌+ℤ◌, ◌-◌, ◌*◌, ◌/◌, ◌%◌, ◌<◌, ◌≤◌, ◌==◌, Bool, true, false, List, [], ◌∷◌, ◌++◌, length, Option, Some, None, IfSome, IsSome, ◌↔◌, Ok, refl, sym, ap, ◌∙◌, subst, arith, codes, append_assoc, append-nil}
+use Rattle.std.proofs.Common.{◌≡◌, inl, inr, ℕ, ℤ, zero, suc, pos, negsuc, ◌+◌, ◌+ℤ◌, ◌-◌, ◌/◌, ◌%◌, ◌<◌, ◌≤◌, ◌==◌, true, false, List, [], ◌∷◌, ◌++◌, length, Option, Some, None, IfSome, IsSome, ◌↔◌, Ok, refl, sym, ap, ◌∙◌, subst, arith, codes, append_assoc, append-nil}
 use mathlib.Core.Bool.{false≢true}
 use Rattle.std.proofs.lemmas.Bool.{cases_Bool}
 use Rattle.std.proofs.lemmas.Bool.Decides.{nat_tests}
@@ -16,7 +16,7 @@ use Rattle.jiff_core.specs.declared.civil.time.Time.{Time}
 use Rattle.jiff_core.specs.declared.timestamp.Timestamp.{Timestamp}
 use Rattle.jiff_core.proofs.CalendarLemmas.{days_in_month_bounds}
 use Rattle.jiff_core.proofs.SignedLemmas.{signed_arith}
-use Rattle.jiff_fmt.specs.Text.{date_text, fraction, fraction_part, pad2, pad4, places, significant, time_text, trailing_zeros, year_text}
+use Rattle.jiff_fmt.specs.Text.{date_text, fraction_part, pad2, pad4, places, significant, time_text, trailing_zeros, year_text}
 use Rattle.jiff_fmt.proofs.RoundTrip.{parse_timestamp-text}
 use Rattle.jiff_fmt.proofs.TextLemmas.{places-read, significant-not_zero}
 use Rattle.jiff.specs.Words.{iso_datetime_text}

@@ -1,4 +1,4 @@
-use Rattle.std.proofs.Common.{◌≡◌, ◌↔◌, ◌∙◌, ap, sym, subst, IfSome, IsSome}
+use Rattle.std.proofs.Common.{◌≡◌, ◌↔◌, ◌∙◌, IfSome, IsSome}
 use Rattle.std.proofs.lemmas.Int.{to_z-of_z}
 use Rattle.epc_core.specs.Spellings.{IsPlain}
 use Rattle.report_core.specs.EventTimes.{TellsTime}

@@ -1,4 +1,4 @@
-use Rattle.std.proofs.Common.{◌≡◌, ◌+◌, ◌∙◌, List, ap, subst, sym, take}
+use Rattle.std.proofs.Common.{◌+◌, ◌∙◌, List, ap, subst, sym, take}
 use Rattle.std.specs.List.{AllZip}
 use Rattle.trace_core.specs.Relations.{IsChain}
 use Rattle.trace_core.specs.declared.pairs.Pair.{Pair}

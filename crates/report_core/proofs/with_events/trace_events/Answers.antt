@@ -1,11 +1,11 @@
-use Rattle.std.proofs.Common.{◌≡◌, ◌∙◌, All, List, ap, map, subst, sym}
+use Rattle.std.proofs.Common.{◌≡◌, ◌∙◌, All, List, ap, subst, sym}
 use Rattle.std.specs.Prelude.{IfOk}
 use Rattle.trace_core.specs.Chains.{sites_at}
 use Rattle.trace_core.specs.Relations.{IsChain}
 use Rattle.trace_core.specs.Sites.{SiteEvents}
 use Rattle.site_recovery.specs.Checking.{records_at}
 use Rattle.site_recovery.specs.Laws.{captured_of}
-use Rattle.report_core.specs.TrailEvents.{AreToldAlong, IsRelatedStep, or_no_pairs}
+use Rattle.report_core.specs.TrailEvents.{AreToldAlong, IsRelatedStep}
 use Rattle.report_core.proofs.with_events.trace_events.Goals as goal
 
 pub told_along-requires : goal.told_along-requires
