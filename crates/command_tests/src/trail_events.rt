@@ -4,8 +4,7 @@ use epc_core::Epc;
 use event_json::{Sequence, SiteNo, Sites};
 use frame_core::RecallId;
 use report_core::{
-    BackTrace, CapturedEvent, RecallReport, ReportFault, StepEvents, Trace, TraceFault,
-    report_with_events, trace_back_with_events, trace_with_events,
+    CapturedEvent, StepEvents, report_with_events, trace_back_with_events, trace_with_events,
 };
 use site_core::{SiteInput, SiteState};
 use site_recovery::are_all_sites;
@@ -79,20 +78,19 @@ fn site_b(alloc: Global, keys: RandomState) -> Result<SiteState, Fail> {
 }
 
 /// What the report of the recall of x tells.
-fn reported(
-    alloc: Global,
-    keys: RandomState,
-) -> Result<Result<(RecallReport, Vec<Sequence<StepEvents>>), ReportFault>, Fail> {
+fn reported(alloc: Global, keys: RandomState) -> Result<Vec<Sequence<StepEvents>>, Fail> {
     let a = site_a(alloc, keys)?;
     let b = site_b(alloc, keys)?;
     let recall = RecallId {
         site: site(0),
         number: 1,
     };
-    if are_all_sites(&[&a, &b]) {
-        Ok(report_with_events(alloc, &[&a, &b], recall, false))
-    } else {
-        Err("not all sites".into())
+    if !are_all_sites(&[&a, &b]) {
+        return Err("not all sites".into());
+    }
+    match report_with_events(alloc, &[&a, &b], recall, false) {
+        Ok((_, events)) => Ok(events),
+        Err(_) => Err("a fault".into()),
     }
 }
 
@@ -101,14 +99,16 @@ fn traced(
     alloc: Global,
     keys: RandomState,
     brief: bool,
-) -> Result<Result<(Trace, Vec<Sequence<StepEvents>>), TraceFault>, Fail> {
+) -> Result<Vec<Sequence<StepEvents>>, Fail> {
     let a = site_a(alloc, keys)?;
     let b = site_b(alloc, keys)?;
     let item = Epc::read(alloc, "x")?;
-    if are_all_sites(&[&a, &b]) {
-        Ok(trace_with_events(alloc, &[&a, &b], site(0), &item, brief))
-    } else {
-        Err("not all sites".into())
+    if !are_all_sites(&[&a, &b]) {
+        return Err("not all sites".into());
+    }
+    match trace_with_events(alloc, &[&a, &b], site(0), &item, brief) {
+        Ok((_, events)) => Ok(events),
+        Err(_) => Err("a fault".into()),
     }
 }
 
@@ -117,14 +117,16 @@ fn traced_back(
     alloc: Global,
     keys: RandomState,
     brief: bool,
-) -> Result<Result<(BackTrace, Vec<Sequence<StepEvents>>), TraceFault>, Fail> {
+) -> Result<Vec<Sequence<StepEvents>>, Fail> {
     let a = site_a(alloc, keys)?;
     let b = site_b(alloc, keys)?;
     let item = Epc::read(alloc, "y")?;
-    if are_all_sites(&[&a, &b]) {
-        Ok(trace_back_with_events(alloc, &[&a, &b], site(1), &item, brief))
-    } else {
-        Err("not all sites".into())
+    if !are_all_sites(&[&a, &b]) {
+        return Err("not all sites".into());
+    }
+    match trace_back_with_events(alloc, &[&a, &b], site(1), &item, brief) {
+        Ok((_, events)) => Ok(events),
+        Err(_) => Err("a fault".into()),
     }
 }
 
@@ -195,6 +197,11 @@ fn are_made(x: &[StepEvents], y: &[StepEvents], z: &[StepEvents]) -> bool {
         && is_made_at_once(&z[0])
 }
 
+/// Whether that is told of three trails.
+fn is_held(told: &[Sequence<StepEvents>]) -> bool {
+    told.len() == 3 && are_made(told[0].as_slice(), told[1].as_slice(), told[2].as_slice())
+}
+
 /// Whether that is told of the trails at A, and along those to B all.
 fn is_all(told: &[Sequence<StepEvents>]) -> bool {
     if told.len() != 5 {
@@ -254,61 +261,39 @@ fn is_brief_back(told: &[Sequence<StepEvents>]) -> bool {
 #[test]
 fn a_trace_tells_the_events_along_its_trails(rt: HostRuntime) -> Result<(), Fail> {
     let keys = RandomState::new(&rt)?;
-    let told = match traced(rt.alloc(), keys, false)? {
-        Ok((_, events)) => is_all(&events),
-        Err(_) => false,
-    };
-    assert!(rt; told);
+    let events = traced(rt.alloc(), keys, false)?;
+    assert!(rt; is_all(&events));
     Ok(())
 }
 
 #[test]
 fn a_brief_trace_tells_the_events_of_last_steps(rt: HostRuntime) -> Result<(), Fail> {
     let keys = RandomState::new(&rt)?;
-    let told = match traced(rt.alloc(), keys, true)? {
-        Ok((_, events)) => is_brief(&events),
-        Err(_) => false,
-    };
-    assert!(rt; told);
+    let events = traced(rt.alloc(), keys, true)?;
+    assert!(rt; is_brief(&events));
     Ok(())
 }
 
 #[test]
 fn a_report_tells_the_events_along_its_trails(rt: HostRuntime) -> Result<(), Fail> {
     let keys = RandomState::new(&rt)?;
-    let told = match reported(rt.alloc(), keys)? {
-        Ok((_, events)) => {
-            events.len() == 3
-                && are_made(
-                    events[0].as_slice(),
-                    events[1].as_slice(),
-                    events[2].as_slice(),
-                )
-        }
-        Err(_) => false,
-    };
-    assert!(rt; told);
+    let events = reported(rt.alloc(), keys)?;
+    assert!(rt; is_held(&events));
     Ok(())
 }
 
 #[test]
 fn a_trace_back_tells_the_events_along_its_trails(rt: HostRuntime) -> Result<(), Fail> {
     let keys = RandomState::new(&rt)?;
-    let told = match traced_back(rt.alloc(), keys, false)? {
-        Ok((_, events)) => is_all_back(&events),
-        Err(_) => false,
-    };
-    assert!(rt; told);
+    let events = traced_back(rt.alloc(), keys, false)?;
+    assert!(rt; is_all_back(&events));
     Ok(())
 }
 
 #[test]
 fn a_brief_trace_back_tells_the_events_of_first_steps(rt: HostRuntime) -> Result<(), Fail> {
     let keys = RandomState::new(&rt)?;
-    let told = match traced_back(rt.alloc(), keys, true)? {
-        Ok((_, events)) => is_brief_back(&events),
-        Err(_) => false,
-    };
-    assert!(rt; told);
+    let events = traced_back(rt.alloc(), keys, true)?;
+    assert!(rt; is_brief_back(&events));
     Ok(())
 }
