@@ -22,4 +22,6 @@ mod runs;
 #[cfg(test)]
 mod scripts;
 #[cfg(test)]
+mod trail_events;
+#[cfg(test)]
 mod words;
