@@ -342,9 +342,9 @@ all_trees : (sites : List Site) (o : Outcome) → All (IsTree 6) (outcome_json s
 all_trees sites outcomes.Created = one_tree (created_json sites) (created_tree sites)
 all_trees sites (outcomes.Stepped done) = one_tree (effects_json sites done) (effects_tree sites done)
 all_trees sites (outcomes.Ran recalls) = each_tree (ran_json sites) (λ b. (refl, (tt, (tt, tt)))) recalls.items
-all_trees sites (outcomes.Reported r report ways) = one_tree (report_json sites r report ways) (report_tree sites r report ways)
-all_trees sites (outcomes.Traced trace ways) = one_tree (trace_json sites trace ways) (trace_tree sites trace ways)
-all_trees sites (outcomes.TracedBack trace ways) = one_tree (back_json sites trace ways) (back_tree sites trace ways)
+all_trees sites (outcomes.Reported r report ways events) = one_tree (report_json sites r report ways) (report_tree sites r report ways)
+all_trees sites (outcomes.Traced trace ways events) = one_tree (trace_json sites trace ways) (trace_tree sites trace ways)
+all_trees sites (outcomes.TracedBack trace ways events) = one_tree (back_json sites trace ways) (back_tree sites trace ways)
 all_trees sites (outcomes.Standing recalls coded) = each_tree (status_json sites) (status_tree sites) recalls.items
 all_trees sites (outcomes.Waiting detail coded) = one_tree (detail_json sites detail) (detail_tree sites detail)
 all_trees sites (outcomes.Known site known) = each_tree (known_json sites site) (λ k. (refl, (tt, (tt, (tt, tt))))) known.items

@@ -792,9 +792,9 @@ unfolding report_json trace_json back_json status_json detail_json
 kind_told sites outcomes.Created some = refl
 kind_told sites (outcomes.Stepped done) some = ap Some (effects_kind sites done)
 kind_told sites (outcomes.Ran recalls) some = listed_kind (ran_json sites) 2 (λ b. refl) recalls.items some
-kind_told sites (outcomes.Reported r report ways) some = refl
-kind_told sites (outcomes.Traced trace ways) some = refl
-kind_told sites (outcomes.TracedBack trace ways) some = refl
+kind_told sites (outcomes.Reported r report ways events) some = refl
+kind_told sites (outcomes.Traced trace ways events) some = refl
+kind_told sites (outcomes.TracedBack trace ways events) some = refl
 kind_told sites (outcomes.Standing recalls coded) some = listed_kind (status_json sites) 6 (λ b. refl) recalls.items some
 kind_told sites (outcomes.Waiting detail coded) some = refl
 kind_told sites (outcomes.Known site known) some = listed_kind (known_json sites site) 8 (λ k. refl) known.items some

@@ -8,5 +8,6 @@ pub mod Notes
 pub mod Printing
 pub mod Sentences
 pub mod Statuses
+pub mod Steps
 pub mod Telling
 pub mod Texts
