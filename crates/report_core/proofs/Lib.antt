@@ -5,13 +5,16 @@ pub mod EndedRecalls
 pub mod EndedTraces
 pub mod ItemsOfSites
 pub mod EventsInTurn
+pub mod FirstFound
 pub mod KnownItems
-pub mod MakersKept
 pub mod OriginsFound
 pub mod Outgoing
 pub mod Parting
+pub mod PlacesKept
+pub mod EventsRelating
 pub mod Results
 pub mod SourcesFound
+pub mod StepsRelated
 pub mod TrailLengths
 pub mod TrailsBack
 pub mod UnseenAdded

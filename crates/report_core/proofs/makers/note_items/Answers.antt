@@ -2,7 +2,7 @@ use Rattle.std.proofs.Common.{◌≡◌, ℕ, List}
 use Rattle.report_core.specs.Sources.{Keeps}
 use Rattle.report_core.specs.declared.makers.EventPlace.{EventPlace}
 use Rattle.report_core.proofs.Additions.{one_more, all_added}
-use Rattle.report_core.proofs.makers.note_outs.Goals as goal
+use Rattle.report_core.proofs.makers.note_items.Goals as goal
 
 pub loop-item-preserved : goal.loop-item-preserved
 loop-item-preserved c =

@@ -1,6 +1,6 @@
 use Rattle.std.proofs.Common.{◌≡◌, take}
 use Rattle.report_core.specs.Sources.{AddsTo, ByOne, Keeps}
-use Rattle.report_core.proofs.makers.note_outs.Given as goal
+use Rattle.report_core.proofs.makers.note_items.Given as goal
 
 -- under the items so far
 abbrev pub invariant-loop-item : goal.invariant-loop-item
