@@ -2,7 +2,7 @@
 use Rattle.std.specs.Prelude.{ℕ, List, [], ◌∷◌, Option, Some, None, drop, slice_get}
 use Rattle.std.specs.Global.{Global}
 use Rattle.std.specs.declared.vec.Vec.{Vec}
-use Rattle.report_core.specs.declared.evidence.StepEvents.{StepEvents}
+use Rattle.report_core.specs.declared.trail_events.StepEvents.{StepEvents}
 
 -- the events of the steps of each pair's trail; none where they weren't asked for
 abbrev pub told_events : Option (Vec (List StepEvents) Global) → List (List StepEvents)
