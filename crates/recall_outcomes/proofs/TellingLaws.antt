@@ -374,6 +374,10 @@ headed_tell (Some s) (Some t) ms ns hm hn e = (ap Some (all_by_tell s t (ap (amo
 headed_tell None (Some t) ms ns hm hn e = absurd (false≢true (sym hm ∙ ap begins_with_events e))
 headed_tell (Some s) None ms ns hm hn e = absurd (false≢true (sym hn ∙ ap begins_with_events (sym e)))
 
+-- what is beside the one, and the other
+abbrev beside_both : {X Z E : Type 0} → (X → Z) → X × Option E → Z × Option E
+beside_both beside x = (beside x.0, x.1)
+
 -- values with the events before the members that tell the pair and its trail
 module _ {X Z : Type 0} (sites : List Site) (IsOf : X → Type 0) (beside : X → Z) (members : Ways → Pair × X → Members) (of : Ways → Pair × (X × Option (List StepEvents)) → Data) (each : TellsEach sites IsOf beside (λ ways z. object (members ways z))) (others : (ways : Ways) (z : Pair × X) → begins_with_events (members ways z) ≡ false) (are : (ways : Ways) (p : Pair) (t : X) (o : Option (List StepEvents)) → of ways (p, (t, o)) ≡ object (headed o (members ways (p, t)))) where
   parts_tell : (ways other : Ways) (p q : Pair) (t u : X × Option (List StepEvents)) → of ways (p, t) ≡ of other (q, u)
@@ -382,7 +386,7 @@ module _ {X Z : Type 0} (sites : List Site) (IsOf : X → Type 0) (beside : X �
       headed_tell t.1 u.1 (members ways (p, t.0)) (members other (q, u.0)) (others ways (p, t.0)) (others other (q, u.0))
       (ap members_in (sym (are ways p t.0 t.1) ∙ e ∙ are other q u.0 u.1))
 
-  with_events_tell : TellsEach sites (λ (x : X × Option (List StepEvents)). IsOf x.0) (λ (x : X × Option (List StepEvents)). (beside x.0, x.1)) of
+  with_events_tell : TellsEach sites (λ (x : X × Option (List StepEvents)). IsOf x.0) (beside_both beside) of
   with_events_tell = record {
     whole = λ p q t u hp hq ht hu e.
         let told = parts_tell Trails Trails p q t u e in
@@ -412,14 +416,11 @@ module _ {X E : Type 0} where
       All-cons (λ (x : X × Option E). IsOf x.0) (t, slice_get es 0) (each_with ts (drop 1 es)) (All-head IsOf t ts ht) (all_with IsOf ts (drop 1 es) (All-tail IsOf t ts ht))
 
   module _ {Z : Type 0} (f : X → Z) where
-    abbrev both : X × Option E → Z × Option E
-    both x = (f x.0, x.1)
-
-    firsts_with : (ts : List X) (es : List E) → map (λ (z : Z × Option E). z.0) (map both (each_with ts es)) ≡ map f ts
+    firsts_with : (ts : List X) (es : List E) → map (λ (z : Z × Option E). z.0) (map (beside_both f) (each_with ts es)) ≡ map f ts
     firsts_with [] es = refl
     firsts_with (t ∷ ts) es = ap (λ l. f t ∷ l) (firsts_with ts (drop 1 es))
 
-    seconds_with : (ts : List X) (es : List E) → length es ≤ length ts → somes (map (λ (z : Z × Option E). z.1) (map both (each_with ts es))) ≡ es
+    seconds_with : (ts : List X) (es : List E) → length es ≤ length ts → somes (map (λ (z : Z × Option E). z.1) (map (beside_both f) (each_with ts es))) ≡ es
     seconds_with [] [] few = refl
     seconds_with [] (e ∷ es) few = absurd (let no : ⊥ = omega (arith, few) in no)
     seconds_with (t ∷ ts) [] few = seconds_with ts [] (omega arith)
@@ -434,9 +435,9 @@ module _ {X E : Type 0} where
 
   -- trails, each with what stands beside it, tell both
   both_tell : {Z : Type 0} (beside : X → Z) (ways other : Ways) (ts us : List X) (es fs : List E) → length es ≤ length ts → length fs ≤ length us
-      → TellsTrails (λ (x : X × Option E). (beside x.0, x.1)) ways other (each_with ts es) (each_with us fs) → TellsTrails beside ways other ts us × (es ≡ fs)
+      → TellsTrails (beside_both beside) ways other (each_with ts es) (each_with us fs) → TellsTrails beside ways other ts us × (es ≡ fs)
   both_tell beside Trails Trails ts us es fs few less e =
-      let same = ap (map (both (λ x. x))) e in (
+      let same = ap (map (beside_both (λ x. x))) e in (
         sym (map-id ts) ∙ sym (firsts_with (λ x. x) ts es) ∙ ap (map (λ (z : X × Option E). z.0)) same ∙ firsts_with (λ x. x) us fs ∙ map-id us,
         sym (seconds_with (λ x. x) ts es few) ∙ ap (λ l. somes (map (λ (z : X × Option E). z.1) l)) same ∙ seconds_with (λ x. x) us fs less,
       )
@@ -483,13 +484,13 @@ outsides_tell sites are = listed_tell (OutsideIsOf sites) (outside_json sites) (
 -- ---- reports and traces
 
 -- the pairs of two reports or traces, with their trails and events
-module _ {X Z : Type 0} (sites : List Site) (IsOf : X → Type 0) (beside : X → Z) (of : Ways → Pair × (X × Option (List StepEvents)) → Data) (each : TellsEach sites (λ (x : X × Option (List StepEvents)). IsOf x.0) (λ (x : X × Option (List StepEvents)). (beside x.0, x.1)) of) where
+module _ {X Z : Type 0} (sites : List Site) (IsOf : X → Type 0) (beside : X → Z) (of : Ways → Pair × (X × Option (List StepEvents)) → Data) (each : TellsEach sites (λ (x : X × Option (List StepEvents)). IsOf x.0) (beside_both beside) of) where
   told_pairs_tell : (ways other : Ways) (ps qs : List Pair) (ts us : List X) (es fs : List (List StepEvents)) → length ts ≡ length ps → length us ≡ length qs
       → length es ≤ length ps → length fs ≤ length qs → All (PairIsOf sites) ps → All (PairIsOf sites) qs → All IsOf ts → All IsOf us
       → list_of (of ways) (zip ps (each_with ts es)) ≡ list_of (of other) (zip qs (each_with us fs))
       → (ps ≡ qs) × (TellsTrails beside ways other ts us × (es ≡ fs))
   told_pairs_tell ways other ps qs ts us es fs one each_one few less hp hq ht hu e =
-      let told = trails_tell sites (λ (x : X × Option (List StepEvents)). IsOf x.0) (λ (x : X × Option (List StepEvents)). (beside x.0, x.1)) of each ways other ps qs (each_with ts es) (each_with us fs)
+      let told = trails_tell sites (λ (x : X × Option (List StepEvents)). IsOf x.0) (beside_both beside) of each ways other ps qs (each_with ts es) (each_with us fs)
       (length_with ts es ∙ one) (length_with us fs ∙ each_one) hp hq (all_with IsOf ts es ht) (all_with IsOf us fs hu)
       (lists_tell (of ways) (of other) (zip ps (each_with ts es)) (zip qs (each_with us fs)) e) in
       (told.0, both_tell beside ways other ts us es fs (omega (arith, few, one)) (omega (arith, less, each_one)) told.1)
