@@ -24,4 +24,6 @@ mod runs;
 #[cfg(test)]
 mod scripts;
 #[cfg(test)]
+mod trail_events;
+#[cfg(test)]
 mod words;

@@ -1,7 +1,6 @@
 -- The first events that relate two pairs, by the places that stand under their items.
-use Rattle.std.proofs.Common.{◌≡◌, ◌≢◌, ◌↔◌, inl, inr, ℕ, ◌<◌, ◌≤◌, Bool, true, false, List, length, slice_get, Option, Some, None, refl, sym, ap, ◌∙◌, subst, ⊎_elim, arith}
+use Rattle.std.proofs.Common.{◌≡◌, ◌≢◌, ◌↔◌, inl, inr, ℕ, ◌≤◌, Bool, List, length, slice_get, Option, Some, None, refl, sym, ap, ◌∙◌, subst, ⊎_elim, arith}
 use mathlib.Core.Bool.{false≢true}
-use mathlib.Core.Logic.{◌⊎◌}
 use Rattle.std.specs.BTreeMap.{get}
 use Rattle.std.specs.List.{Contains}
 use Rattle.std.specs.Option.{is_some}
@@ -15,7 +14,7 @@ use Rattle.trace_core.specs.Sites.{SiteEvents}
 use Rattle.trace_core.specs.declared.pairs.Pair.{Pair}
 use Rattle.trace_core.proofs.NumberLists.{some_is, none_is}
 use Rattle.site_core.specs.ItemSets.{item_cmp}
-use Rattle.report_core.specs.TrailEvents.{AnswersStep, AreOfOneMake, GivesOutWith, IsEventAt, IsFirst, IsFirstMake, IsFirstOrNone, IsFirstShipment, ShipsAt, StandsAt, TakesInAt}
+use Rattle.report_core.specs.TrailEvents.{AnswersStep, AreOfOneMake, GivesOutWith, IsFirstOrNone, IsFirstShipment, ShipsAt, StandsAt, TakesInAt}
 use Rattle.report_core.specs.FirstPlaces.{AnswersMake, AnswersShipment, Goes, IsJoinedWithOne, IsOneOf, TellsEvent}
 use Rattle.report_core.specs.Sources.{ArePlaces, Index, IsNotedAt, Notes, ShipsOff, or_no_places}
 use Rattle.report_core.specs.declared.trail_events.CapturedEvent.{CapturedEvent}
@@ -24,7 +23,6 @@ use Rattle.report_core.specs.declared.trail_events.StepEvents.TheVariants.{Shipp
 use Rattle.report_core.specs.declared.makers.EventPlace.{EventPlace}
 use Rattle.report_core.specs.declared.makers.Noting.{Noting}
 use Rattle.report_core.specs.declared.makers.Noting.TheVariants as notings
-use Rattle.report_core.specs.declared.trail_steps.TrailStep.{TrailStep}
 use Rattle.report_core.proofs.FirstFound.{first_alike}
 
 -- whether there is a first one of those that are joined
@@ -135,31 +133,31 @@ pub part_there : (events : List Content) (number n : ℕ) (taken given : List Ev
 part_there events number n taken given ((p, there, at, (here, (q, there', here', one))), least) none =
     none q.event (q, there', refl, (here', subst (λ k. AreOfOneMake events k q.event) at one))
 
-module _ (sites : List SiteEvents) (x : TrailStep) (s : SiteEvents) (stands : slice_get sites x.from.site ≡ Some s) where
+module _ (sites : List SiteEvents) (p q : Pair) (s : SiteEvents) (stands : slice_get sites p.site ≡ Some s) where
   -- a step inside the site
-  pub step_of_make : (found : Option StepEvents) → x.to.site ≡ s.me → AnswersMake s.events x.from.item x.to.item found → AnswersStep sites x found
+  pub step_of_make : (found : Option StepEvents) → q.site ≡ s.me → AnswersMake s.events p.item q.item found → AnswersStep sites p q found
   step_of_make None here none = λ (t, at, related).
       let one : t ≡ s = some_is t s (sym at ∙ stands) in
       ⊎_elim
       (λ (apart, item, sent). apart (here ∙ ap (λ (u : SiteEvents). u.me) (sym one)))
-      (λ (me, made). none (subst (λ (u : SiteEvents). IsMadeOf u.events x.from.item x.to.item) one made))
+      (λ (me, made). none (subst (λ (u : SiteEvents). IsMadeOf u.events p.item q.item) one made))
       related
   step_of_make (Some (Shipped y)) here answer = absurd answer
   step_of_make (Some (Made y z)) here answer = (s, stands, (here, answer))
 
   -- one to another site
-  pub step_of_shipment : (found : Option StepEvents) → x.to.site ≢ s.me → x.to.item ≡ x.from.item → AnswersShipment s.events x.to.item x.to.site found → AnswersStep sites x found
+  pub step_of_shipment : (found : Option StepEvents) → q.site ≢ s.me → q.item ≡ p.item → AnswersShipment s.events q.item q.site found → AnswersStep sites p q found
   step_of_shipment None apart same none = λ (t, at, related).
       let one : t ≡ s = some_is t s (sym at ∙ stands) in
       ⊎_elim
-      (λ (other, item, sent). none (subst (λ i. IsSentTo s.events i x.to.site) (sym same) (subst (λ (u : SiteEvents). IsSentTo u.events x.from.item x.to.site) one sent)))
+      (λ (other, item, sent). none (subst (λ i. IsSentTo s.events i q.site) (sym same) (subst (λ (u : SiteEvents). IsSentTo u.events p.item q.site) one sent)))
       (λ (me, made). apart (me ∙ ap (λ (u : SiteEvents). u.me) one))
       related
-  step_of_shipment (Some (Shipped y)) apart same answer = (s, stands, (apart, same, subst (λ i. IsFirstShipment s.events i x.to.site y) same answer))
+  step_of_shipment (Some (Shipped y)) apart same answer = (s, stands, (apart, same, subst (λ i. IsFirstShipment s.events i q.site y) same answer))
   step_of_shipment (Some (Made y z)) apart same answer = absurd answer
 
   -- none relates these
-  pub no_step : x.to.site ≢ s.me → x.to.item ≢ x.from.item → AnswersStep sites x None
+  pub no_step : q.site ≢ s.me → q.item ≢ p.item → AnswersStep sites p q None
   no_step apart other (t, at, related) =
       let one : t ≡ s = some_is t s (sym at ∙ stands) in
       ⊎_elim
@@ -168,5 +166,5 @@ module _ (sites : List SiteEvents) (x : TrailStep) (s : SiteEvents) (stands : sl
       related
 
 -- nor where there is no such site
-pub no_site : (sites : List SiteEvents) (x : TrailStep) → length sites ≤ x.from.site → AnswersStep sites x None
-no_site sites x past (s, at, related) = omega (arith, past, slice_get_within sites x.from.site s at)
+pub no_site : (sites : List SiteEvents) (p q : Pair) → length sites ≤ p.site → AnswersStep sites p q None
+no_site sites p q past (s, at, related) = omega (arith, past, slice_get_within sites p.site s at)

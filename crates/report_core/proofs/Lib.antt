@@ -14,7 +14,9 @@ pub mod PlacesKept
 pub mod EventsRelating
 pub mod Results
 pub mod SourcesFound
+pub mod StepsAlong
 pub mod StepsRelated
+pub mod TimesWritten
 pub mod TrailLengths
 pub mod TrailsBack
 pub mod UnseenAdded

@@ -8,7 +8,7 @@ use Rattle.event_json.specs.Checks.{instant_of}
 pub record IsTimeText (instant : ℤ) (text : List ℕ) : Type 0 where
   pub clock : DateTime
   pub shows : civil_nanos clock ≡ instant
-  pub text : text ≡ iso_datetime_text clock ++ codes "Z"
+  pub written : text ≡ iso_datetime_text clock ++ codes "Z"
   pub read : instant_of text ≡ Ok instant
 
 -- an instant's time; none outside of the years that a time can name

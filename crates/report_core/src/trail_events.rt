@@ -17,8 +17,8 @@ pub struct CapturedEvent {
     pub number: u64,
     /// Its eventID, where it has one.
     pub id: Option<PlainText>,
-    /// Its time in UTC, as `2024-05-01T13:20:00Z`, with as many decimals of the second as it has; `None` where its year
-    /// has more than four digits, which the time of no document has.
+    /// Its time in UTC, as `2024-05-01T13:20:00Z`, with as many decimals of the second as it has. `None` where no text
+    /// names it, which the time of no document is: those lie in the years from -9999 to 9999.
     pub time: Option<PlainText>,
 }
 
@@ -106,13 +106,7 @@ fn pairs_shown(trail: &[Pair], shown: ShownSteps) -> &[Pair]
 {
     match shown {
         ShownSteps::Each => trail,
-        ShownSteps::First => {
-            if trail.len() > 2 {
-                &trail[..2]
-            } else {
-                trail
-            }
-        }
+        ShownSteps::First => { if trail.len() > 2 { &trail[..2] } else { trail } }
         ShownSteps::Last => {
             if trail.len() > 2 {
                 &trail[trail.len() - 2..]

@@ -47,7 +47,11 @@ pub fn report_with_events(
 {
     match report(alloc, sites, recall) {
         Ok(report) => {
-            let shown = if brief { ShownSteps::Last } else { ShownSteps::Each };
+            let shown = if brief {
+                ShownSteps::Last
+            } else {
+                ShownSteps::Each
+            };
             let events = report_events(alloc, sites, report.trails.as_slice(), shown)?;
             Ok((report, events))
         }
@@ -75,7 +79,11 @@ pub fn trace_with_events(
 {
     match trace(alloc, sites, site, item) {
         Ok(trace) => {
-            let shown = if brief { ShownSteps::Last } else { ShownSteps::Each };
+            let shown = if brief {
+                ShownSteps::Last
+            } else {
+                ShownSteps::Each
+            };
             let events = trace_events(alloc, sites, trace.trails.as_slice(), shown)?;
             Ok((trace, events))
         }
@@ -104,7 +112,11 @@ pub fn trace_back_with_events(
 {
     match trace_back(alloc, sites, site, item) {
         Ok(trace) => {
-            let shown = if brief { ShownSteps::First } else { ShownSteps::Each };
+            let shown = if brief {
+                ShownSteps::First
+            } else {
+                ShownSteps::Each
+            };
             let events = trace_events(alloc, sites, trace.trails.as_slice(), shown)?;
             Ok((trace, events))
         }

@@ -12,7 +12,7 @@ returns-in_default c =
     let s = c.args.site.now in
     let number = c.args.number in
     let stands : slice_get own number ≡ Some s = subst (λ (sites : List SiteEvents). slice_get sites number ≡ Some s) (sym c.self.view_is) c.requires in
-    no_make own number s stands c.self.inside.taken c.self.inside.given c.self.invariant.ins c.self.invariant.outs c.args.step.now.from.item c.args.step.now.to.item c.slice_of-taken.result.now c.slice_of-given.result.now
+    no_make own number s stands c.self.inside.taken c.self.inside.given c.self.invariant.ins c.self.invariant.outs c.args.item.now c.args.made.now c.slice_of-taken.result.now c.slice_of-given.result.now
     (c.slice_of-taken.ensures ∙ ap or_no_places c.get.ensures.value) (c.slice_of-given.ensures ∙ ap or_no_places c.get-2.ensures.value)
     c.in_default.ensures
 
@@ -27,7 +27,7 @@ returns-in_default-2 c =
     let s = c.args.site.now in
     let number = c.args.number in
     let stands : slice_get own number ≡ Some s = subst (λ (sites : List SiteEvents). slice_get sites number ≡ Some s) (sym c.self.view_is) c.requires in
-    absurd (taking_there own number s stands c.self.inside.taken c.self.inside.given c.self.invariant.ins c.self.invariant.outs c.args.step.now.from.item c.args.step.now.to.item c.slice_of-taken.result.now c.slice_of-given.result.now
+    absurd (taking_there own number s stands c.self.inside.taken c.self.inside.given c.self.invariant.ins c.self.invariant.outs c.args.item.now c.args.made.now c.slice_of-taken.result.now c.slice_of-given.result.now
     (c.slice_of-taken.ensures ∙ ap or_no_places c.get.ensures.value) (c.slice_of-given.ensures ∙ ap or_no_places c.get-2.ensures.value)
     c.in-Some.first c.in-Some.ensures (subst (TellsEvent s.events c.in-Some.first) c.in_default-2.is c.in_ok-taken_in.ensures))
 
@@ -37,7 +37,7 @@ returns-in_default-3 c =
     let s = c.args.site.now in
     let number = c.args.number in
     let stands : slice_get own number ≡ Some s = subst (λ (sites : List SiteEvents). slice_get sites number ≡ Some s) (sym c.self.view_is) c.requires in
-    absurd (giving_there own number s stands c.self.inside.taken c.self.inside.given c.self.invariant.ins c.self.invariant.outs c.args.step.now.from.item c.args.step.now.to.item c.slice_of-taken.result.now c.slice_of-given.result.now
+    absurd (giving_there own number s stands c.self.inside.taken c.self.inside.given c.self.invariant.ins c.self.invariant.outs c.args.item.now c.args.made.now c.slice_of-taken.result.now c.slice_of-given.result.now
     (c.slice_of-taken.ensures ∙ ap or_no_places c.get.ensures.value) (c.slice_of-given.ensures ∙ ap or_no_places c.get-2.ensures.value)
     c.in-Some.first c.in-Some-first_where.part c.in-Some-first_where.ensures (subst (TellsEvent s.events c.in-Some-first_where.part) c.in_default-3.is c.in_ok-given_out.ensures))
 
@@ -47,7 +47,7 @@ returns c =
     let s = c.args.site.now in
     let number = c.args.number in
     let stands : slice_get own number ≡ Some s = subst (λ (sites : List SiteEvents). slice_get sites number ≡ Some s) (sym c.self.view_is) c.requires in
-    make_found own number s stands c.self.inside.taken c.self.inside.given c.self.invariant.ins c.self.invariant.outs c.args.step.now.from.item c.args.step.now.to.item c.slice_of-taken.result.now c.slice_of-given.result.now
+    make_found own number s stands c.self.inside.taken c.self.inside.given c.self.invariant.ins c.self.invariant.outs c.args.item.now c.args.made.now c.slice_of-taken.result.now c.slice_of-given.result.now
     (c.slice_of-taken.ensures ∙ ap or_no_places c.get.ensures.value) (c.slice_of-given.ensures ∙ ap or_no_places c.get-2.ensures.value)
     c.in-Some.first c.in-Some-first_where.part c.in-Some-2.taken_in c.in-Some-3.given_out c.in-Some.ensures c.in-Some-first_where.ensures
     (subst (TellsEvent s.events c.in-Some.first) c.in-Some-2.is c.in_ok-taken_in.ensures) (subst (TellsEvent s.events c.in-Some-first_where.part) c.in-Some-3.is c.in_ok-given_out.ensures)

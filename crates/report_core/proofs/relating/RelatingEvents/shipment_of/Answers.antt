@@ -12,7 +12,7 @@ returns-in_default c =
     let s = c.args.site.now in
     let number = c.args.number in
     let stands : slice_get own number ≡ Some s = subst (λ (sites : List SiteEvents). slice_get sites number ≡ Some s) (sym c.self.view_is) c.requires in
-    no_shipment own number s stands c.self.inside.shipped c.self.invariant.off c.args.step.now.to.item c.slice_of.result.now (c.slice_of.ensures ∙ ap or_no_places c.get.ensures.value) c.args.step.now.to.site
+    no_shipment own number s stands c.self.inside.shipped c.self.invariant.off c.args.to.now.item c.slice_of.result.now (c.slice_of.ensures ∙ ap or_no_places c.get.ensures.value) c.args.to.now.site
     c.in_default.ensures
 
 pub returns-in-Some-2 : goal.returns-in-Some-2
@@ -21,5 +21,5 @@ returns-in-Some-2 c =
     let s = c.args.site.now in
     let number = c.args.number in
     let stands : slice_get own number ≡ Some s = subst (λ (sites : List SiteEvents). slice_get sites number ≡ Some s) (sym c.self.view_is) c.requires in
-    shipment_found own number s stands c.self.inside.shipped c.self.invariant.off c.args.step.now.to.item c.slice_of.result.now (c.slice_of.ensures ∙ ap or_no_places c.get.ensures.value) c.args.step.now.to.site
+    shipment_found own number s stands c.self.inside.shipped c.self.invariant.off c.args.to.now.item c.slice_of.result.now (c.slice_of.ensures ∙ ap or_no_places c.get.ensures.value) c.args.to.now.site
     c.in-Some.first c.in-Some-2.event c.in-Some.ensures (subst (TellsEvent s.events c.in-Some.first) c.in-Some-2.is c.in_ok-event.ensures)
