@@ -1,5 +1,5 @@
 -- The events behind the steps of trails that are told beside a report or a trace.
-use Rattle.std.specs.Prelude.{⊤, Bool, true, false, if◌then◌else◌, List, Option, Some, None}
+use Rattle.std.specs.Prelude.{◌≡◌, Bool, true, false, if◌then◌else◌, List, Option, Some, None}
 use Rattle.std.specs.Global.{Global}
 use Rattle.std.specs.declared.vec.Vec.{Vec}
 use Rattle.report_core.specs.TrailEvents.{AreToldAlong}
@@ -27,6 +27,5 @@ steps_from ways = if is_brief ways then First else Each
 
 -- where it was asked for them, the events are told along each trail, by what the sites captured; else none are
 abbrev pub TellsEvents : List Record → Bool → ShownSteps → List (List Pair) → Option (Vec (List StepEvents) Global) → Type 0
-TellsEvents records false shown trails None = ⊤
-TellsEvents records true shown trails (Some told) = AreToldAlong (captured_of records) shown trails told.items
-TellsEvents records asked shown trails told = ⊥
+TellsEvents records asked shown trails None = asked ≡ false
+TellsEvents records asked shown trails (Some told) = (asked ≡ true) × AreToldAlong (captured_of records) shown trails told.items
