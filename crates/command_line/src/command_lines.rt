@@ -134,7 +134,7 @@ fn named<'a>(alloc: Global, matches: &ArgMatches<'a>) -> Option<Asked<'a>>
     if spelling_of(given).is_none() {
         return mistake(alloc, helps::TWO_SPELLINGS).ok();
     }
-    if asks_untold_events(given, form) {
+    if asks_untold_events(given) {
         return mistake(alloc, helps::UNTOLD_EVENTS).ok();
     }
     if name == "sim" {
@@ -288,14 +288,10 @@ fn form_of(given: &ArgMatches<'_>) -> Option<Form>
 }
 
 /// Whether events are asked for in a form that tells none.
-fn asks_untold_events(given: &ArgMatches<'_>, form: Form) -> bool
-    requires { GivesForm (rows_of (found_of given.now)) form }
+fn asks_untold_events(given: &ArgMatches<'_>) -> bool
     ensures { IsTrue result ↔ AsksUntoldEvents (rows_of (found_of given.now)) }
 {
-    match form {
-        Form::Text | Form::Json => false,
-        Form::Csv | Form::Dot => is_set(given, "events"),
-    }
+    is_set(given, "events") && (is_set(given, "csv") || is_set(given, "dot"))
 }
 
 /// The command of a name on the sites' files.
