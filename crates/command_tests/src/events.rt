@@ -16,7 +16,9 @@ fn events_are_lines(rt: HostRuntime) -> Result<(), Fail> {
     let keys = RandomState::new(&rt)?;
     let mut files = files(rt.alloc())?;
     files.write_new("parts", PARTS.as_bytes())?;
-    assert!(rt; first_other(rt.alloc(), keys, &mut files, Form::Text, STARTED.as_slice()).is_none());
+    assert!(rt;
+        first_other(rt.alloc(), keys, &mut files, Form::Text, STARTED.as_slice()).is_none()
+    );
     let table = [
         (
             Asked::ReportEvents("A#1"),
@@ -49,7 +51,9 @@ fn events_are_lines(rt: HostRuntime) -> Result<(), Fail> {
 fn events_are_json(rt: HostRuntime) -> Result<(), Fail> {
     let keys = RandomState::new(&rt)?;
     let mut files = files(rt.alloc())?;
-    assert!(rt; first_other(rt.alloc(), keys, &mut files, Form::Text, STARTED.as_slice()).is_none());
+    assert!(rt;
+        first_other(rt.alloc(), keys, &mut files, Form::Text, STARTED.as_slice()).is_none()
+    );
     let table = [
         (
             Asked::ReportEvents("A#1"),
