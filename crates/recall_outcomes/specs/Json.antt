@@ -152,13 +152,16 @@ abbrev pub outside_json : List Site → OutsideShipment → Data
 outside_json sites x =
     object (text_at (codes "destination") x.destination (text_at (codes "item") x.item (text_at (codes "site") (name_at sites x.site) no_members)))
 
+-- the members of a report
+abbrev pub reported_members : Bool → Data → Data → List ℕ → Data → Members
+reported_members ended outside pairs recall root =
+    flag_at (codes "ended") ended
+    (member (codes "outside") outside (member (codes "pairs") pairs (text_at (codes "recall") recall (member (codes "root") root no_members))))
+
 unfoldable pub report_json : List Site → Recall → RecallReport → Ways → List (List StepEvents) → Data
 report_json sites r report ways events =
-    object (flag_at (codes "ended") report.ended
-    (member (codes "outside") (list_of (outside_json sites) report.outside)
-    (member (codes "pairs") (list_of (quarantined_json sites ways) (zip report.pairs (each_with report.trails events)))
-    (text_at (codes "recall") (recall_text sites r)
-    (member (codes "root") (pair_json sites report.root) no_members)))))
+    object (reported_members report.ended (list_of (outside_json sites) report.outside)
+    (list_of (quarantined_json sites ways) (zip report.pairs (each_with report.trails events))) (recall_text sites r) (pair_json sites report.root))
 
 -- ---- a trace
 

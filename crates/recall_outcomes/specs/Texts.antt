@@ -145,12 +145,15 @@ trace_text sites trace ways events =
 abbrev pub origin_text : List Site → Pair → List ℕ
 origin_text sites p = codes "origin " ++ item_text sites p
 
+-- how many pairs lead to the item, and of how many of them nothing is known before
+abbrev pub origins_total_text : ℕ → ℕ → List ℕ
+origins_total_text pairs origins = codes "total " ++ decimal pairs ++ codes " origins " ++ decimal origins ++ 10 ∷ []
+
 -- where an item came from
 abbrev pub back_text : List Site → BackTrace → Ways → List (List StepEvents) → List ℕ
 back_text sites trace ways events =
     codes "trace back " ++ item_text sites trace.root ++ flat_map (leading_pair_text sites ways) (zip trace.pairs (each_with trace.trails events))
-    ++ flat_map (origin_text sites) trace.origins
-    ++ codes "total " ++ decimal (length trace.pairs) ++ codes " origins " ++ decimal (length trace.origins) ++ 10 ∷ []
+    ++ flat_map (origin_text sites) trace.origins ++ origins_total_text (length trace.pairs) (length trace.origins)
 
 -- ---- how recalls stand
 

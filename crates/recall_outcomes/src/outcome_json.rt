@@ -5,7 +5,7 @@ ghost use Rattle.std.specs.List.{zip};
 ghost use Rattle.serde_json.specs.Data.{array, member, no_members, object, string};
 ghost use Rattle.serde_json.specs.View.{items_of, view};
 ghost use Rattle.report_forms.specs.Steps.{before_last};
-ghost use Rattle.recall_outcomes.specs.Json.{audited_json, beside_json, blocked_members, captured_members, created_json, differs_json, doc_members, documents_json, effects_json, input_json, items_json, line_members, list_of, misfit_json, note_json, outside_json, pair_json, pair_members, quarantined_json, ran_json, refused, report_json, source_name, started_members, step_members, totals_json, traced_members, trail_json, why_json};
+ghost use Rattle.recall_outcomes.specs.Json.{audited_json, beside_json, blocked_members, captured_members, created_json, differs_json, doc_members, documents_json, effects_json, input_json, items_json, line_members, list_of, misfit_json, note_json, outside_json, pair_json, pair_members, quarantined_json, ran_json, refused, report_json, reported_members, source_name, started_members, step_members, totals_json, traced_members, trail_json, why_json};
 ghost use Rattle.recall_outcomes.specs.Steps.{each_with};
 
 use crate::batches::{InputOutcome, Task, Totals};
@@ -281,7 +281,21 @@ pub(crate) fn report_json(
     )?;
     let recall = recall_text(alloc, sites, recall)?;
     let root = pair_json(alloc, sites, &report.root)?;
-    json!(in alloc; {"ended": report.ended, "outside": outside, "pairs": pairs, "recall": recall.as_str(), "root": root})
+    reported_json(alloc, report.ended, outside, pairs, recall.as_str(), root)
+}
+
+/// A report of these parts.
+fn reported_json(
+    alloc: Global,
+    ended: bool,
+    outside: Value,
+    pairs: Value,
+    recall: &str,
+    root: Value,
+) -> Result<Value, AllocError>
+    ensures { IfOk result (λ v. view v ≡ object (reported_members ended (view outside) (view pairs) recall.now (view root))) }
+{
+    json!(in alloc; {"ended": ended, "outside": outside, "pairs": pairs, "recall": recall, "root": root})
 }
 
 /// Which condition fails, and the site that it is attributed to.

@@ -105,7 +105,10 @@ impl Outcome {
                 events,
             } => {
                 let events = told_events(events);
-                one_line(alloc, &report_json(alloc, sites, *recall, report, *ways, events)?)
+                one_line(
+                    alloc,
+                    &report_json(alloc, sites, *recall, report, *ways, events)?,
+                )
             }
             Outcome::Traced {
                 trace,

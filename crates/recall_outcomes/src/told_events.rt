@@ -19,7 +19,9 @@ pub(crate) fn told_events(events: &Option<Vec<Sequence<StepEvents>>>) -> &[Seque
 }
 
 /// The events of the next pair's steps, where they are told.
-pub(crate) fn next_steps<'a>(events: &mut Iter<'a, Sequence<StepEvents>>) -> Option<&'a [StepEvents]>
+pub(crate) fn next_steps<'a>(
+    events: &mut Iter<'a, Sequence<StepEvents>>,
+) -> Option<&'a [StepEvents]>
     ensures first { option_map (λ s. s.now) result ≡ slice_get (iter_rest events.old) 0 }
     ensures rest { iter_rest events.new ≡ drop 1 (iter_rest events.old) }
 {

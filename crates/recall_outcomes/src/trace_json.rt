@@ -4,7 +4,7 @@ ghost use Rattle.std.specs.Prelude.{◌≡◌, IfOk, codes, option_map};
 ghost use Rattle.std.specs.List.{zip};
 ghost use Rattle.serde_json.specs.Data.{member, no_members, object};
 ghost use Rattle.serde_json.specs.View.{view};
-ghost use Rattle.recall_outcomes.specs.Json.{back_json, beside_json, leading_json, led_json, list_of, pair_members, trace_json};
+ghost use Rattle.recall_outcomes.specs.Json.{back_json, beside_json, leading_json, leading_members, led_json, list_of, pair_members, trace_json};
 ghost use Rattle.recall_outcomes.specs.Steps.{each_with};
 
 use crate::outcome_json::{
@@ -119,15 +119,28 @@ fn leading_json(
 ) -> Result<Value, AllocError>
     ensures { IfOk result (λ v. view v ≡ leading_json sites.now ways (pair.now, (trail.now, option_map (λ s. s.now) steps.entry))) }
 {
-    let mut value = match ways {
-        Ways::Trails => traced_json(alloc, sites, pair, Some(trail))?,
-        Ways::Steps => to_json(alloc, sites, pair, trail.as_slice().get(1))?,
-    };
+    let mut value = led_from_json(alloc, sites, ways, pair, trail)?;
     let Some(members) = value.as_object_mut() else {
         unreachable!()
     };
     put_events(alloc, members, steps)?;
     Ok(value)
+}
+
+/// A pair, and how a trail leads from it to the root.
+fn led_from_json(
+    alloc: Global,
+    sites: &Sites,
+    ways: Ways,
+    pair: &Pair,
+    trail: &Sequence<Pair>,
+) -> Result<Value, AllocError>
+    ensures { IfOk result (λ v. view v ≡ object (leading_members sites.now ways pair.now trail.now)) }
+{
+    match ways {
+        Ways::Trails => traced_json(alloc, sites, pair, Some(trail)),
+        Ways::Steps => to_json(alloc, sites, pair, trail.as_slice().get(1)),
+    }
 }
 
 /// A pair, and the one after it on its trail, where there is one.

@@ -2,7 +2,7 @@
 
 ghost use Rattle.std.specs.Prelude.{◌≡◌, ◌++◌, IfOk, OnOk, string_bytes};
 ghost use Rattle.std.specs.List.{flat_map, zip};
-ghost use Rattle.recall_outcomes.specs.Texts.{back_text, item_text, leading_pair_text, leading_text, led_pair_text, origin_text, trace_text};
+ghost use Rattle.recall_outcomes.specs.Texts.{back_text, item_text, leading_pair_text, leading_text, led_pair_text, origin_text, origins_total_text, trace_text};
 ghost use Rattle.recall_outcomes.specs.Steps.{each_with};
 
 use crate::outcomes::Ways;
@@ -63,10 +63,21 @@ pub(crate) fn back_text(
         events,
     )?;
     push_origins(alloc, &mut text, sites, trace.origins.as_slice())?;
-    let (pairs, origins) = (trace.pairs.len(), trace.origins.len());
-    let total = format!(in alloc; "total {pairs} origins {origins}\n")?;
-    text.push_str(total.as_str())?;
+    push_origins_total(alloc, &mut text, trace.pairs.len(), trace.origins.len())?;
     Ok(text)
+}
+
+/// Adds how many pairs there are, and how many origins.
+fn push_origins_total(
+    alloc: Global,
+    text: &mut String,
+    pairs: usize,
+    origins: usize,
+) -> Result<(), AllocError>
+    ensures { OnOk result (string_bytes text.new ≡ string_bytes text.old ++ origins_total_text pairs origins) }
+{
+    let total = format!(in alloc; "total {pairs} origins {origins}\n")?;
+    text.push_str(total.as_str())
 }
 
 /// Adds an item at a site, to the end of a line.
