@@ -53,9 +53,9 @@ sim_is_no_command (Init folder list) rows is = let bad = is.0 in cc
 sim_is_no_command (Capture folder site file) rows is = let bad = is.0 in cc
 sim_is_no_command (Start folder site item dry) rows is = let bad = is.0 in cc
 sim_is_no_command (Run folder turns) rows is = let bad : ◌≡◌ {A = ℕ} 115 114 = ap (λ (text : List ℕ). get_or text 0 0) is.0 in absurd (omega arith)
-sim_is_no_command (Report folder recall ways) rows is = let bad = is.0 in cc
+sim_is_no_command (Report folder recall ways events) rows is = let bad = is.0 in cc
 sim_is_no_command (Audit folder) rows is = let bad = is.0 in cc
-sim_is_no_command (Trace folder site item back ways) rows is = let bad = is.0 in cc
+sim_is_no_command (Trace folder site item back ways events) rows is = let bad = is.0 in cc
 sim_is_no_command (Recalls folder coded) rows is = let bad = is.0 in cc
 sim_is_no_command (Recall folder recall coded) rows is = let bad = is.0 in cc
 sim_is_no_command (Items folder site text) rows is = let bad = is.0 in cc
@@ -71,7 +71,8 @@ no_forms (inr (inr both)) = nothing_set (codes "csv") both.0
 
 nothing_twice : AsksTwo [] → ⊥
 nothing_twice (inl forms) = no_forms forms
-nothing_twice (inr both) = nothing_set (codes "key") both.0
+nothing_twice (inr (inl both)) = nothing_set (codes "key") both.0
+nothing_twice (inr (inr untold)) = nothing_set (codes "events") untold.0
 
 -- `sim` has no options that contradict one another
 no_contradiction : Contradicts (codes "sim") [] → ⊥

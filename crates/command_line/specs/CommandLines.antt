@@ -120,8 +120,12 @@ run = with_rule (on_folder (codes "run")) turns
 abbrev pub with_forms : App → App
 with_forms a = with_rule (with_rule a (flag (codes "csv"))) (flag (codes "dot"))
 
+-- a command that can also be asked to tell less of each trail, or the events behind it
+abbrev pub with_ways : App → App
+with_ways a = with_rule (with_rule a (flag (codes "brief"))) (flag (codes "events"))
+
 abbrev pub report : App
-report = with_forms (with_rule (with_rule (on_folder (codes "report")) (required (codes "recall"))) (flag (codes "brief")))
+report = with_forms (with_ways (with_rule (on_folder (codes "report")) (required (codes "recall"))))
 
 abbrev pub audit : App
 audit = on_folder (codes "audit")
@@ -130,7 +134,7 @@ abbrev pub trace : App
 trace =
     with_spellings
     (with_forms
-    (with_rule (with_rule (with_rule (with_rule (on_folder (codes "trace")) (required (codes "site"))) (required (codes "epc"))) (flag (codes "back"))) (flag (codes "brief"))))
+    (with_ways (with_rule (with_rule (with_rule (on_folder (codes "trace")) (required (codes "site"))) (required (codes "epc"))) (flag (codes "back")))))
 
 -- the recall may be left out
 abbrev pub status : App
@@ -236,9 +240,13 @@ GivesSpelling rows spellings.Scan = IsUnset rows (codes "key") × IsSet rows (co
 abbrev pub AsksTwoSpellings : List Row → Type 0
 AsksTwoSpellings rows = IsSet rows (codes "key") × IsSet rows (codes "scan")
 
+-- events are asked for in a form that tells none
+abbrev pub AsksUntoldEvents : List Row → Type 0
+AsksUntoldEvents rows = IsSet rows (codes "events") × (IsSet rows (codes "csv") ⊎ IsSet rows (codes "dot"))
+
 -- options that exclude each other are there
 abbrev pub AsksTwo : List Row → Type 0
-AsksTwo rows = AsksTwoForms rows ⊎ AsksTwoSpellings rows
+AsksTwo rows = AsksTwoForms rows ⊎ AsksTwoSpellings rows ⊎ AsksUntoldEvents rows
 
 -- this item, by its text and its spelling
 abbrev pub GivesItem : List Row → Spelled → Type 0
@@ -267,12 +275,14 @@ IsCommand (Start folder site item dry) name rows =
     × (IsTrue dry ↔ IsSet rows (codes "dry-run"))
 IsCommand (Run folder turns) name rows =
     (name ≡ codes "run") × Gives rows (codes "dir") folder.now × GivesNumber rows (codes "turns") turns × (1 ≤ turns) × (turns ≤ 1000000)
-IsCommand (Report folder recall ways) name rows =
+IsCommand (Report folder recall ways events) name rows =
     (name ≡ codes "report") × Gives rows (codes "dir") folder.now × Gives rows (codes "recall") recall.now × GivesWays rows ways
+    × (IsTrue events ↔ IsSet rows (codes "events"))
 IsCommand (Audit folder) name rows = (name ≡ codes "audit") × Gives rows (codes "dir") folder.now
-IsCommand (Trace folder site item back ways) name rows =
+IsCommand (Trace folder site item back ways events) name rows =
     (name ≡ codes "trace") × Gives rows (codes "dir") folder.now × Gives rows (codes "site") site.now × GivesItem rows item
     × (IsTrue back ↔ IsSet rows (codes "back")) × GivesWays rows ways
+    × (IsTrue events ↔ IsSet rows (codes "events"))
 IsCommand (Recalls folder coded) name rows =
     (name ≡ codes "status") × Gives rows (codes "dir") folder.now × (first_of (codes "recall") rows ≡ None) × (IsTrue coded ↔ IsSet rows (codes "exit-code"))
 IsCommand (Recall folder recall coded) name rows =

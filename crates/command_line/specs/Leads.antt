@@ -24,9 +24,9 @@ module _ {K : Type 0} (knows : List ℕ → List ℕ → Type 0) (shown : K → 
   LeadsTo (Start folder site item false) output calls = StartsAt shown stored folder.now site.now item output calls
   LeadsTo (Start folder site item true) output calls = DryStartsAt shown stored folder.now site.now item output calls
   LeadsTo (Run folder turns) output calls = RunsAt knows shown failed stored folder.now turns output calls
-  LeadsTo (Report folder recall ways) output calls = ReportsAt shown stored folder.now recall.now ways output calls
+  LeadsTo (Report folder recall ways events) output calls = ReportsAt shown stored folder.now recall.now ways events output calls
   LeadsTo (Audit folder) output calls = AuditsAt shown stored folder.now output calls
-  LeadsTo (Trace folder site item back ways) output calls = TracesAt shown stored folder.now site.now item back ways output calls
+  LeadsTo (Trace folder site item back ways events) output calls = TracesAt shown stored folder.now site.now item back ways events output calls
   LeadsTo (Recalls folder coded) output calls = RecallsStandAt shown stored folder.now coded output calls
   LeadsTo (Recall folder recall coded) output calls = RecallStandsAt shown stored folder.now recall.now coded output calls
   LeadsTo (Items folder site text) output calls = ItemsAt shown stored folder.now site.now text.now output calls
@@ -39,9 +39,9 @@ module _ {K G : Type 0} (shown : K → Option Record) (failed : K → ℕ) (may 
   FailsBy (Start folder site item false) fault calls = StartFails shown may failed stored folder.now site.now item fault calls
   FailsBy (Start folder site item true) fault calls = DryStartFails shown stored folder.now site.now item fault calls
   FailsBy (Run folder turns) fault calls = RunFails shown failed may reopens gives_up stored folder.now turns fault calls
-  FailsBy (Report folder recall ways) fault calls = RecallFails shown stored folder.now recall.now fault calls
+  FailsBy (Report folder recall ways events) fault calls = RecallFails shown stored folder.now recall.now fault calls
   FailsBy (Audit folder) fault calls = AllFails shown stored folder.now fault calls
-  FailsBy (Trace folder site item back ways) fault calls = TraceFails shown stored folder.now site.now item fault calls
+  FailsBy (Trace folder site item back ways events) fault calls = TraceFails shown stored folder.now site.now item fault calls
   FailsBy (Recalls folder coded) fault calls = AllFails shown stored folder.now fault calls
   FailsBy (Recall folder recall coded) fault calls = RecallFails shown stored folder.now recall.now fault calls
   FailsBy (Items folder site text) fault calls = ItemsFail shown stored folder.now site.now fault calls

@@ -2,7 +2,7 @@
 
 ghost use Rattle.std.specs.Prelude.{◌≡◌, ◌↔◌, false, IfNone, IfOk, IfSome, IsTrue, codes, length};
 ghost use Rattle.clap.specs.Words.{found_of, kind_of, rows_of, subcommand_rows_of};
-ghost use Rattle.command_line.specs.CommandLines.{texts_of, AsksDryBatch, AsksFor, AsksNamed, AsksTwoForms, AsksTwoSpellings, Gives, GivesForm, GivesItem, GivesNumber, GivesOrNone, GivesSpelling, GivesWays, IsCapture, IsCommand, IsMistake, IsSet, IsStart, IsToldAs, documents_kind, epcs_kind};
+ghost use Rattle.command_line.specs.CommandLines.{texts_of, AsksDryBatch, AsksFor, AsksNamed, AsksTwoForms, AsksTwoSpellings, AsksUntoldEvents, Gives, GivesForm, GivesItem, GivesNumber, GivesOrNone, GivesSpelling, GivesWays, IsCapture, IsCommand, IsMistake, IsSet, IsStart, IsToldAs, documents_kind, epcs_kind};
 
 use crate::grammar::recall;
 use crate::helps;
@@ -75,6 +75,8 @@ pub(crate) enum FileCommand<'a> {
         folder: &'a str,
         recall: &'a str,
         ways: Ways,
+        /// Whether the events behind the steps are told.
+        events: bool,
     },
     /// An item at a site is traced to where it went, or back to where it came from.
     Trace {
@@ -83,6 +85,8 @@ pub(crate) enum FileCommand<'a> {
         item: Spelled<'a>,
         back: bool,
         ways: Ways,
+        /// Whether the events behind the steps are told.
+        events: bool,
     },
     /// It is asked how all recalls stand, and perhaps for a status that tells that one is open.
     Recalls {
@@ -129,6 +133,9 @@ fn named<'a>(alloc: Global, matches: &ArgMatches<'a>) -> Option<Asked<'a>>
     };
     if spelling_of(given).is_none() {
         return mistake(alloc, helps::TWO_SPELLINGS).ok();
+    }
+    if asks_untold_events(given) {
+        return mistake(alloc, helps::UNTOLD_EVENTS).ok();
     }
     if name == "sim" {
         Some(Asked::Sim)
@@ -280,6 +287,13 @@ fn form_of(given: &ArgMatches<'_>) -> Option<Form>
     }
 }
 
+/// Whether events are asked for in a form that tells none.
+fn asks_untold_events(given: &ArgMatches<'_>) -> bool
+    ensures { IsTrue result ↔ AsksUntoldEvents (rows_of (found_of given.now)) }
+{
+    is_set(given, "events") && (is_set(given, "csv") || is_set(given, "dot"))
+}
+
 /// The command of a name on the sites' files.
 fn file_command<'a>(name: &str, given: &ArgMatches<'a>) -> Option<FileCommand<'a>>
     ensures { IfSome result (λ c. IsCommand c name.now (rows_of (found_of given.now))) }
@@ -292,11 +306,12 @@ fn file_command<'a>(name: &str, given: &ArgMatches<'a>) -> Option<FileCommand<'a
         all_sites_command(folder, given)
     } else if name == "report" {
         let recall = argument(given, "recall")?;
-        let ways = ways_of(given);
+        let (ways, events) = (ways_of(given), is_set(given, "events"));
         Some(FileCommand::Report {
             folder,
             recall,
             ways,
+            events,
         })
     } else if name == "audit" {
         Some(FileCommand::Audit { folder })
@@ -329,12 +344,14 @@ fn site_command<'a>(name: &str, folder: &'a str, given: &ArgMatches<'a>) -> Opti
     if name == "trace" {
         let item = item_of(given)?;
         let (back, ways) = (is_set(given, "back"), ways_of(given));
+        let events = is_set(given, "events");
         Some(FileCommand::Trace {
             folder,
             site,
             item,
             back,
             ways,
+            events,
         })
     } else if name == "items" {
         let text = text_of(given);

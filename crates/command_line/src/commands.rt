@@ -173,7 +173,8 @@ fn on_files<
             folder,
             recall,
             ways,
-        } => report_recall(alloc, files, folder, recall, *ways),
+            events,
+        } => report_recall(alloc, files, folder, recall, *ways, *events),
         FileCommand::Audit { folder } => audit_sites(alloc, files, folder),
         FileCommand::Trace {
             folder,
@@ -181,7 +182,8 @@ fn on_files<
             item,
             back,
             ways,
-        } => trace_item(alloc, files, folder, site, item, *back, *ways),
+            events,
+        } => trace_item(alloc, files, folder, site, item, *back, *ways, *events),
         FileCommand::Recalls { folder, coded } => recalls_standing(alloc, files, folder, *coded),
         FileCommand::Recall {
             folder,

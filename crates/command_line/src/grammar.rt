@@ -120,6 +120,18 @@ fn brief<'a>(alloc: Global) -> Arg<'a>
     )
 }
 
+/// Whether the events behind the steps are told.
+fn events<'a>(alloc: Global) -> Arg<'a>
+    ensures rule { rule_of result ≡ flag (codes "events") }
+    ensures local { result.global ≡ false }
+{
+    flag(
+        alloc,
+        "events",
+        "Tell behind each step the events that relate its pairs",
+    )
+}
+
 /// Whether it is printed as rows.
 fn csv<'a>(alloc: Global) -> Arg<'a>
     ensures rule { rule_of result ≡ flag (codes "csv") }
@@ -271,6 +283,7 @@ fn report<'a>(alloc: Global) -> Result<Command<'a>, AllocError>
     on_folder(alloc, "report", helps::REPORT_ABOUT, helps::REPORT_EXAMPLE)?
         .arg(required(alloc, "recall", "The recall, as dairy#1"))?
         .arg(brief(alloc))?
+        .arg(events(alloc))?
         .arg(csv(alloc))?
         .arg(dot(alloc))
 }
@@ -289,6 +302,7 @@ fn trace<'a>(alloc: Global) -> Result<Command<'a>, AllocError>
         .arg(required(alloc, "epc", "The EPC of the item"))?
         .arg(flag(alloc, "back", "Trace where it came from, not where it went"))?
         .arg(brief(alloc))?
+        .arg(events(alloc))?
         .arg(csv(alloc))?
         .arg(dot(alloc))?
         .arg(key(alloc))?

@@ -155,9 +155,9 @@ module _ {K : Type 0} (shown : K → Option Record) (stored : K → Type 0) (fol
   DryStartsItem site (Ok item) outcome calls = TellsSite site (λ r o. AnswersDryStart r (Start item) o) outcome calls
   DryStartsItem site (Err fault) outcome calls = IsRefusal (refusal_of fault) outcome × (calls ≡ [])
 
-  abbrev pub TracesItem : ℕ → Result (List ℕ) SpellingFault → Bool → Ways → Outcome → List (FileCall K) → Type 0
-  TracesItem site (Ok item) back ways outcome calls = TellsAll (λ rs o. AnswersTrace rs site item back ways o) outcome calls
-  TracesItem site (Err fault) back ways outcome calls = IsRefusal (refusal_of fault) outcome × (calls ≡ [])
+  abbrev pub TracesItem : ℕ → Result (List ℕ) SpellingFault → Bool → Ways → Bool → Outcome → List (FileCall K) → Type 0
+  TracesItem site (Ok item) back ways events outcome calls = TellsAll (λ rs o. AnswersTrace rs site item back ways events o) outcome calls
+  TracesItem site (Err fault) back ways events outcome calls = IsRefusal (refusal_of fault) outcome × (calls ≡ [])
 
 -- at the site of a name; a name that isn't listed is refused without a further call
 abbrev pub AtSite : {K : Type 0} → List ℕ → Option ℕ → (ℕ → Outcome → List (FileCall K) → Type 0) → Outcome → List (FileCall K) → Type 0
@@ -180,16 +180,16 @@ module _ {K : Type 0} (shown : K → Option Record) (stored : K → Type 0) (fol
       × AtSite name (named sites name) (λ site. StartsItem shown stored folder sites site (item_reading item)) output.outcome rest) calls
 
   -- what names no recall is refused without a further call
-  abbrev pub ReportsBy : List Site → Option (List ℕ × ℕ) → Ways → Outcome → List (FileCall K) → Type 0
-  ReportsBy sites None ways outcome calls = IsRefusal BadRecall outcome × (calls ≡ [])
-  ReportsBy sites (Some (name, number)) ways outcome calls =
+  abbrev pub ReportsBy : List Site → Option (List ℕ × ℕ) → Ways → Bool → Outcome → List (FileCall K) → Type 0
+  ReportsBy sites None ways events outcome calls = IsRefusal BadRecall outcome × (calls ≡ [])
+  ReportsBy sites (Some (name, number)) ways events outcome calls =
       AtSite name (named sites name)
-      (λ site. TellsAll shown stored folder sites (λ rs o. AnswersReport rs (record { site = site; number = number }) ways o)) outcome calls
+      (λ site. TellsAll shown stored folder sites (λ rs o. AnswersReport rs (record { site = site; number = number }) ways events o)) outcome calls
 
   -- a recall is reported
-  abbrev pub ReportsAt : List ℕ → Ways → Output → List (FileCall K) → Type 0
-  ReportsAt recall ways output calls =
-      AfterList folder (λ sites rest. IsPlain sites output × ReportsBy sites (recall_of recall) ways output.outcome rest) calls
+  abbrev pub ReportsAt : List ℕ → Ways → Bool → Output → List (FileCall K) → Type 0
+  ReportsAt recall ways events output calls =
+      AfterList folder (λ sites rest. IsPlain sites output × ReportsBy sites (recall_of recall) ways events output.outcome rest) calls
 
   -- all sites are audited
   abbrev pub AuditsAt : Output → List (FileCall K) → Type 0
@@ -205,11 +205,11 @@ module _ {K : Type 0} (shown : K → Option Record) (stored : K → Type 0) (fol
       × AtSite name (named sites name) (λ site. DryStartsItem shown stored folder sites site (item_reading item)) output.outcome rest) calls
 
   -- an item is traced to where it went, or back
-  abbrev pub TracesAt : List ℕ → Spelled → Bool → Ways → Output → List (FileCall K) → Type 0
-  TracesAt name item back ways output calls =
+  abbrev pub TracesAt : List ℕ → Spelled → Bool → Ways → Bool → Output → List (FileCall K) → Type 0
+  TracesAt name item back ways events output calls =
       AfterList folder
       (λ sites rest. IsPlain sites output
-      × AtSite name (named sites name) (λ site. TracesItem shown stored folder sites site (item_reading item) back ways) output.outcome rest) calls
+      × AtSite name (named sites name) (λ site. TracesItem shown stored folder sites site (item_reading item) back ways events) output.outcome rest) calls
 
   -- it is asked how all recalls stand
   abbrev pub RecallsStandAt : Bool → Output → List (FileCall K) → Type 0

@@ -20,4 +20,5 @@ pub mod SiteItems
 pub mod Standings
 pub mod Steps
 pub mod Traces
+pub mod TrailEvents
 pub mod Untold

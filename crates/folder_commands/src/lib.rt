@@ -21,6 +21,7 @@ mod site_items;
 mod standings;
 mod steps;
 mod traces;
+mod trail_events;
 mod untold;
 
 pub use audits::{audit_of, audit_sites};

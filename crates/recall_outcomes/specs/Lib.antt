@@ -9,5 +9,6 @@ pub mod Places
 pub mod Printing
 pub mod Sentences
 pub mod Statuses
+pub mod Steps
 pub mod Telling
 pub mod Texts

@@ -19,7 +19,10 @@ mod query_json;
 mod query_texts;
 mod report_texts;
 mod sentences;
+mod step_json;
+mod step_texts;
 mod texts;
+mod told_events;
 mod trace_json;
 mod trace_texts;
 

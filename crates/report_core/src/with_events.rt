@@ -5,7 +5,7 @@ ghost use Rattle.site_recovery.specs.Checking.{records_at, world_at};
 ghost use Rattle.site_recovery.specs.FittingAt.{AreAllSites};
 ghost use Rattle.site_recovery.specs.Laws.{captured_of};
 ghost use Rattle.report_core.specs.Reports.{IsReport, TellsFault};
-ghost use Rattle.report_core.specs.Traces.{IsBackTrace, IsTrace, TellsTraceFault};
+ghost use Rattle.report_core.specs.Traces.{IsBackTrace, IsKnownAt, IsTrace, TellsTraceFault};
 ghost use Rattle.report_core.specs.TrailEvents.{AreToldAlong, IsRelatedStep, or_no_pairs};
 ghost use Rattle.report_core.specs.declared.trail_events.ShownSteps.TheVariants.{Each, First, Last};
 
@@ -72,6 +72,7 @@ pub fn trace_with_events(
 ) -> Result<(Trace, Vec<Sequence<StepEvents>>), TraceFault>
     requires all { AreAllSites (records_at sites.now) }
     ensures trace { IfOk result (λ told. IsTrace (records_at sites.now) site item.now told.0) }
+    ensures known { IfOk result (λ _. IsKnownAt (world_at sites.now) site item.now) }
     ensures events { IfOk result (λ told. AreToldAlong (captured_of (records_at sites.now))
         (if brief then Last else Each) told.0.trails told.1.items) }
     ensures fault { IfErr result (TellsTraceFault (world_at sites.now) site item.now) }
@@ -104,6 +105,7 @@ pub fn trace_back_with_events(
 ) -> Result<(BackTrace, Vec<Sequence<StepEvents>>), TraceFault>
     requires all { AreAllSites (records_at sites.now) }
     ensures trace { IfOk result (λ told. IsBackTrace (records_at sites.now) site item.now told.0) }
+    ensures known { IfOk result (λ _. IsKnownAt (world_at sites.now) site item.now) }
     ensures events { IfOk result (λ told. AreToldAlong (captured_of (records_at sites.now))
         (if brief then First else Each) told.0.trails told.1.items) }
     ensures fault { IfErr result (TellsTraceFault (world_at sites.now) site item.now) }
