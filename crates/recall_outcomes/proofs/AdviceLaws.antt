@@ -3,7 +3,7 @@ use Rattle.std.proofs.Common.{◌≡◌, ℕ, Bool, true, false, List, [], ◌�
 use Rattle.std.specs.List.{list_all, list_any}
 use Rattle.std.specs.Prelude.{nat_le}
 use Rattle.std.proofs.lemmas.Option.{same_Some}
-use Rattle.recall_outcomes.specs.Advice.{advice, audit_advice, blocked_advice, effects_advice, is_blocked, open_advice, report_advice, start_advice, would_advice}
+use Rattle.recall_outcomes.specs.Advice.{audit_advice, blocked_advice, effects_advice, is_blocked, open_advice, report_advice, start_advice}
 use Rattle.recall_outcomes.specs.Laws.{AdviceIsALine, IsNote}
 use Rattle.recall_outcomes.specs.Statuses.{is_open}
 use Rattle.recall_outcomes.specs.declared.outcomes.AuditedRecall.{AuditedRecall}

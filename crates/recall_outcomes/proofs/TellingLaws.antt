@@ -1,7 +1,7 @@
 -- What values tell of the outcomes that they are of.
 use Rattle.std.proofs.Common.{◌≡◌, ◌<◌, ◌≤◌, ◌^◌, ◌+◌, ◌*◌, ℕ, zero, suc, Bool, true, false, List, [], ◌∷◌, ◌++◌, All, Option, Some, None, drop, length, map, fold, refl, sym, ap, ap₂, ◌∙◌, subst, arith}
 use mathlib.Core.Bool.{false≢true, true≢false}
-use Rattle.std.specs.Prelude.{⊤, if◌then◌else◌, ◌==◌, ◌&&◌, ◌||◌, bytes_eq, codes, nat_le, option_and_then, slice_get, string_bytes}
+use Rattle.std.specs.Prelude.{⊤, if◌then◌else◌, ◌==◌, ◌&&◌, ◌||◌, bytes_eq, codes, nat_le, option_and_then, slice_get}
 use Rattle.std.specs.Fmt.{decimal}
 use Rattle.std.specs.List.{AllZip, list_all, list_any, slice_split, zip}
 use Rattle.std.proofs.lemmas.Bool.{and_parts, ne_eqb}
@@ -51,8 +51,8 @@ use Rattle.site_core.specs.declared.outcomes.Refusal.{Refusal}
 use Rattle.site_core.specs.declared.outcomes.Refusal.TheVariants as steps
 use Rattle.site_recovery.specs.declared.checking.Misfit.{Misfit}
 use Rattle.trace_core.specs.declared.pairs.Pair.{Pair}
-use Rattle.recall_outcomes.specs.Json.{audited_json, back_json, beside_json, detail_json, effects_json, engaged_json, event_json, known_json, leading_json, leading_members, led_json, line_members, list_of, misfit_json, outcome_json, outside_json, pair_json, quarantined_json, quarantined_members, ran_json, report_json, standing_json, status_json, step_json, step_members, text_or_null, trace_json, trail_json, verdict_json, waiting_json, why_json, would_json}
-use Rattle.recall_outcomes.specs.Telling.{AuditedIsOf, BackTraceIsOf, DetailIsOf, EffectsAreOf, MessageIsOf, OutsideIsOf, PairIsOf, RecallIsOf, ReportIsOf, SomeIsOf, StandingIsOf, StepIsOf, TellsBack, TellsReport, TellsTrace, TellsTrails, TellsWhy, TraceIsOf, ValuesTell, ValuesTellKinds, ValuesTellOutcomes, VerdictIsOf, WaitingIsOf, WhyIsOf, kind_of}
+use Rattle.recall_outcomes.specs.Json.{audited_json, back_json, beside_json, detail_json, effects_json, engaged_json, event_json, known_json, leading_json, leading_members, led_json, line_members, list_of, misfit_json, outcome_json, outside_json, pair_json, quarantined_json, quarantined_members, ran_json, report_json, standing_json, status_json, step_json, step_members, text_or_null, trace_json, trail_json, verdict_json, waiting_json, why_json}
+use Rattle.recall_outcomes.specs.Telling.{AuditedIsOf, BackTraceIsOf, DetailIsOf, EffectsAreOf, MessageIsOf, OutsideIsOf, PairIsOf, RecallIsOf, ReportIsOf, SomeIsOf, StandingIsOf, StepIsOf, TellsBack, TellsReport, TellsTrace, TellsTrails, TellsWhy, TraceIsOf, ValuesTellKinds, ValuesTellOutcomes, VerdictIsOf, WaitingIsOf, WhyIsOf, kind_of}
 use Rattle.recall_outcomes.specs.Steps.{each_with}
 use Rattle.report_forms.specs.Steps.{before_last}
 use Rattle.recall_outcomes.specs.declared.outcomes.AuditedRecall.{AuditedRecall}

@@ -1,5 +1,5 @@
 -- nothing is left of two lists side by side where one has come to its end, whatever stands beside the second one
-use Rattle.std.proofs.Common.{◌≡◌, List, [], ◌∷◌, Option, refl, inl, inr, ap, ◌∙◌}
+use Rattle.std.proofs.Common.{◌≡◌, List, [], ◌∷◌, refl, inl, inr, ap, ◌∙◌}
 use Rattle.std.specs.List.{zip}
 use mathlib.Core.Logic.{◌⊎◌}
 use Rattle.recall_outcomes.specs.Steps.{each_with}

@@ -1,5 +1,5 @@
 -- What the texts, the statuses and the sentences have to do with one another.
-use Rattle.std.specs.Prelude.{◌≡◌, ◌<◌, ◌^◌, ⊤, ℕ, List, [], ◌∷◌, ◌++◌, codes, All, Option, Some, bytes_eq, length, map, string_bytes}
+use Rattle.std.specs.Prelude.{◌≡◌, ◌<◌, ◌^◌, ⊤, ℕ, List, [], ◌∷◌, ◌++◌, codes, All, Some, bytes_eq, length, map, string_bytes}
 use Rattle.std.specs.List.{dedup, slice_split}
 use Rattle.std.specs.Str.Lines.{lines}
 use Rattle.event_json.specs.Sites.{Site}

@@ -1,5 +1,5 @@
 -- The events behind the steps of trails, as they stand beside the pairs of a report or a trace.
-use Rattle.std.specs.Prelude.{ℕ, List, [], ◌∷◌, Option, Some, None, drop, slice_get}
+use Rattle.std.specs.Prelude.{List, [], ◌∷◌, Option, Some, None, drop, slice_get}
 use Rattle.std.specs.Global.{Global}
 use Rattle.std.specs.declared.vec.Vec.{Vec}
 use Rattle.report_core.specs.declared.trail_events.StepEvents.{StepEvents}
