@@ -2,3 +2,4 @@ pub mod Findings
 pub mod Laws
 pub mod Lines
 pub mod NearMisses
+pub mod Splitting
