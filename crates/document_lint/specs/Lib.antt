@@ -3,3 +3,4 @@ pub mod Laws
 pub mod Lines
 pub mod NearMisses
 pub mod OtherPlaces
+pub mod Splitting

@@ -204,7 +204,7 @@ fn only_event(doc: Doc) -> Option<Event>
 }
 
 /// A document of this event alone.
-fn alone(alloc: Global, value: &Value) -> Result<Value, AllocError>
+pub(crate) fn alone(alloc: Global, value: &Value) -> Result<Value, AllocError>
     ensures { IfOk result (λ document. view document ≡ alone (view value.now)) }
 {
     let mut events = Vec::new(alloc);
