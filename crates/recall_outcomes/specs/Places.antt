@@ -43,6 +43,6 @@ sites_below sites outside (suc n) = sites_below sites outside n ++ addresses_bel
 
 -- of a report and of a trace to where an item went
 abbrev pub place_notes : List Site → Outcome → List ℕ
-place_notes sites (Reported recall report ways) = sites_below sites report.outside (length sites)
-place_notes sites (Traced trace ways) = sites_below sites trace.outside (length sites)
+place_notes sites (Reported recall report ways events) = sites_below sites report.outside (length sites)
+place_notes sites (Traced trace ways events) = sites_below sites trace.outside (length sites)
 place_notes sites other = []

@@ -27,8 +27,13 @@ impl Outcome {
                 recall: _,
                 report,
                 ways: _,
+                events: _,
             } => notes_of(alloc, sites, report.outside.as_slice()),
-            Outcome::Traced { trace, ways: _ } => notes_of(alloc, sites, trace.outside.as_slice()),
+            Outcome::Traced {
+                trace,
+                ways: _,
+                events: _,
+            } => notes_of(alloc, sites, trace.outside.as_slice()),
             _ => Ok(String::new(alloc)),
         }
     }
@@ -89,7 +94,9 @@ fn push_address(
 fn first_there<'a>(address: &str, outside: &'a [OutsideShipment]) -> Option<&'a OutsideShipment>
     ensures { option_map (λ s. s.now) result ≡ first_there address.now outside.now }
 {
-    outside.iter().find(|s| are_one_place(address, s.destination.as_str()))
+    outside
+        .iter()
+        .find(|s| are_one_place(address, s.destination.as_str()))
 }
 
 /// Adds the line of a place, a site and its address.
