@@ -24,7 +24,10 @@ pub enum PlaceMember {
 #[derive(Debug, Drop)]
 pub enum What {
     /// It can't be read: the first fault of the event, or a fault of the document itself.
-    Fault { field: DocField, kind: DocFaultKind },
+    Fault {
+        field: DocField,
+        kind: DocFaultKind,
+    },
     /// The event is skipped, being of a type that isn't traced.
     Skipped(SkippedType),
     /// An ObjectEvent of the business step shipping has no destination, so that nothing is traced past it.
@@ -35,7 +38,10 @@ pub enum What {
     NoEventId,
     /// The text of an item begins as that of an SGTIN or an SSCC does and breaks a rule of these, so that it is taken as any
     /// other text.
-    NearMiss { field: DocField, text: PlainText },
+    NearMiss {
+        field: DocField,
+        text: PlainText,
+    },
     /// The event happened at this address of another traced site than the one that is to capture it.
     OtherPlace {
         member: PlaceMember,

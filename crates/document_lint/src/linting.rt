@@ -27,11 +27,7 @@ use std::alloc::{AllocError, Global};
 /// # Errors
 /// Where memory runs out.
 #[tactic(auto, unfolding(crate::specs::Findings::text_lint))]
-pub fn lint_document(
-    alloc: Global,
-    bytes: &[u8],
-    listing: &Listing<'_>,
-) -> Result<Lint, AllocError>
+pub fn lint_document(alloc: Global, bytes: &[u8], listing: &Listing<'_>) -> Result<Lint, AllocError>
     ensures { IfOk result (IsLint listing.now.sites.now listing.now.here bytes.now) }
 {
     match Value::from_slice(alloc, bytes) {
@@ -73,11 +69,7 @@ fn fault_finding(fault: DocFault) -> Finding
 
 /// What is found in the document of a value.
 #[tactic(auto, unfolding(crate::specs::Findings::value_lint))]
-fn lint_value(
-    alloc: Global,
-    value: &Value,
-    listing: &Listing<'_>,
-) -> Result<Lint, AllocError>
+fn lint_value(alloc: Global, value: &Value, listing: &Listing<'_>) -> Result<Lint, AllocError>
     ensures { IfOk result (λ l. l ≡ value_lint listing.now.sites.now listing.now.here (view value.now)) }
 {
     let list = match event_list(value) {
@@ -160,11 +152,7 @@ fn push_at(findings: &mut Vec<Finding>, number: u64, found: Vec<What>) -> Result
 }
 
 /// The fault of an event, that it is skipped, or what is strange about it.
-fn found_of(
-    alloc: Global,
-    listing: &Listing<'_>,
-    value: &Value,
-) -> Result<Vec<What>, AllocError>
+fn found_of(alloc: Global, listing: &Listing<'_>, value: &Value) -> Result<Vec<What>, AllocError>
     ensures { IfOk result (λ found. found.items ≡ found_of listing.now.sites.now listing.now.here (view value.now) (numbered_event listing.now.sites.now 1 (view value.now))) }
 {
     let mut found = Vec::new(alloc);

@@ -27,7 +27,9 @@ fn is_uri_of_link(link: &[u8], uri: &[u8]) -> bool
 fn has_uri(gln: &[u8], extension: &[u8], uri: &[u8]) -> bool
     ensures { result ≡ has_uri gln.now extension.now uri.now }
 {
-    [6, 7, 8, 9, 10, 11, 12].iter().any(|n| is_place_uri(uri, gln, extension, *n))
+    [6, 7, 8, 9, 10, 11, 12]
+        .iter()
+        .any(|n| is_place_uri(uri, gln, extension, *n))
 }
 
 /// Whether a text is the EPC URI of a place whose company prefix has so many digits.
@@ -78,12 +80,20 @@ fn extension_of(rest: &[u8]) -> &[u8]
 fn first(text: &[u8], count: usize) -> &[u8]
     ensures { result.now ≡ take count text.now }
 {
-    if count < text.len() { &text[..count] } else { text }
+    if count < text.len() {
+        &text[..count]
+    } else {
+        text
+    }
 }
 
 /// A text without its first bytes.
 fn last(text: &[u8], count: usize) -> &[u8]
     ensures { result.now ≡ drop count text.now }
 {
-    if count < text.len() { &text[count..] } else { &text[text.len()..] }
+    if count < text.len() {
+        &text[count..]
+    } else {
+        &text[text.len()..]
+    }
 }

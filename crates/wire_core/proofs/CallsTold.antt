@@ -108,9 +108,9 @@ module _ (words : List ℕ) (homes : List (Option (Maybe Frame))) (a b : Log) (a
     );
     sent = (
       (λ s. let f = there (way a.site b.site a.sent) 0 (s a (Contains_at (a ∷ []) 0 a refl) refl) in
-      let p = in_way a.site b.site a.sent f.0 (Contains_at (way a.site b.site a.sent) 0 f.0 f.1) in (f.0, p.0, p.1, p.2)),
+          let p = in_way a.site b.site a.sent f.0 (Contains_at (way a.site b.site a.sent) 0 f.0 f.1) in (f.0, p.0, p.1, p.2)),
       (λ f x c same. subst (λ (z : Log). 0 < length (way a.site b.site z.sent)) (sym (one_in a x c)) (let at = at_Contains a.sent f.0 f.1 in some_passes (λ g. nat_eq (sender g) a.site && nat_eq (addressee g) b.site) a.sent at.0 f.0 at.1
-      (ap (λ (t : Bool). t && nat_eq (addressee f.0) b.site) (eq-eqb _ _ f.2) ∙ eq-eqb _ _ f.3))),
+          (ap (λ (t : Bool). t && nat_eq (addressee f.0) b.site) (eq-eqb _ _ f.2) ∙ eq-eqb _ _ f.3))),
     );
   }
 
