@@ -24,6 +24,4 @@ mod runs;
 #[cfg(test)]
 mod scripts;
 #[cfg(test)]
-mod trail_events;
-#[cfg(test)]
 mod words;
