@@ -354,8 +354,7 @@ fn capturing<'a>(alloc: Global) -> Arg<'a>
     ensures rule { rule_of result ≡ capturing }
     ensures local { result.global ≡ false }
 {
-    Arg::new(alloc, "site")
-        .long("site")
-        .value_name("name")
-        .help("Tell of events that happened at another traced site than this one")
+    Arg::new(alloc, "site").long("site").value_name("name").help(
+        "Tell of events that happened at another traced site than this one",
+    )
 }
