@@ -15,6 +15,7 @@ const STRANGE: &str =
 #[derive(Clone, Copy)]
 struct Row<'a> {
     list: &'a str,
+    site: Option<&'a str>,
     paths: &'a [&'a str],
     form: Form,
     status: u8,
@@ -24,7 +25,15 @@ struct Row<'a> {
 /// Whether a lint ends so.
 fn ends_so(alloc: Global, files: &mut MemoryFiles, row: Row<'_>) -> bool {
     let mut output = Vec::new(alloc);
-    match lint_documents(alloc, files, row.list, row.paths, row.form, &mut output) {
+    match lint_documents(
+        alloc,
+        files,
+        row.list,
+        row.site,
+        row.paths,
+        row.form,
+        &mut output,
+    ) {
         Ok(summary) => {
             summary.status == row.status && output.as_slice() == row.printed.as_bytes()
         }
@@ -49,6 +58,7 @@ fn documents_are_linted(rt: HostRuntime) -> Result<(), Fail> {
     let rows = [
         Row {
             list: "bad",
+            site: None,
             paths: &["made"],
             form: Form::Text,
             status: 1,
@@ -56,6 +66,7 @@ fn documents_are_linted(rt: HostRuntime) -> Result<(), Fail> {
         },
         Row {
             list: "list",
+            site: None,
             paths: &["made", "broken"],
             form: Form::Text,
             status: 1,
@@ -67,6 +78,7 @@ fn documents_are_linted(rt: HostRuntime) -> Result<(), Fail> {
         },
         Row {
             list: "list",
+            site: None,
             paths: &["strange"],
             form: Form::Json,
             status: 1,
@@ -80,6 +92,7 @@ fn documents_are_linted(rt: HostRuntime) -> Result<(), Fail> {
         },
         Row {
             list: "list",
+            site: None,
             paths: &[],
             form: Form::Text,
             status: 0,
