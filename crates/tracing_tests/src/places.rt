@@ -12,8 +12,8 @@ fn is_told(a: &str, b: &str, same: bool) -> bool {
 }
 
 #[test]
-fn two_spellings_of_a_place() {
-    assert!(are_told(
+fn two_spellings_of_a_place(rt: HostRuntime) {
+    assert!(rt; are_told(
         [
             (
                 "https://id.gs1.org/414/0614141123452/254/400",
