@@ -36,10 +36,14 @@ abbrev pub addresses_below : List Site → List OutsideShipment → ℕ → ℕ 
 addresses_below sites outside site zero = []
 addresses_below sites outside site (suc n) = addresses_below sites outside site n ++ address_note outside (name_at sites site) (address_at sites site n)
 
+-- those of all addresses of a site
+unfoldable pub site_notes : List Site → List OutsideShipment → ℕ → List ℕ
+site_notes sites outside site = addresses_below sites outside site MAX_ADDRESSES
+
 -- of the sites below a number
 abbrev pub sites_below : List Site → List OutsideShipment → ℕ → List ℕ
 sites_below sites outside zero = []
-sites_below sites outside (suc n) = sites_below sites outside n ++ addresses_below sites outside n MAX_ADDRESSES
+sites_below sites outside (suc n) = sites_below sites outside n ++ site_notes sites outside n
 
 -- of a report and of a trace to where an item went
 abbrev pub place_notes : List Site → Outcome → List ℕ

@@ -1,10 +1,9 @@
 //! Places that goods left for and that may be a traced site in another spelling, in lines of the error stream.
 
 ghost use Rattle.std.specs.Prelude.{◌≡◌, ◌≤◌, ◌++◌, IfOk, OnOk, find, length, option_map, string_bytes};
-ghost use Rattle.event_json.specs.declared.limits.TheConstants.{MAX_ADDRESSES};
 ghost use Rattle.item_spellings.specs.Places.{are_one_place};
 ghost use Rattle.recall_text.specs.Words.{name_at};
-ghost use Rattle.recall_outcomes.specs.Places.{address_at, address_note, addresses_below, first_there, note_of, place_note, place_notes, sites_below};
+ghost use Rattle.recall_outcomes.specs.Places.{address_at, address_note, first_there, note_of, place_note, place_notes, site_notes, sites_below};
 
 use crate::outcomes::Outcome;
 use event_json::{MAX_ADDRESSES, SiteNo, Sites};
@@ -54,6 +53,7 @@ fn notes_of(alloc: Global, sites: &Sites, outside: &[OutsideShipment]) -> Result
 }
 
 /// Adds those of the addresses of a site.
+#[tactic(auto, unfolding(crate::specs::Places::site_notes))]
 fn push_site(
     alloc: Global,
     text: &mut String,
@@ -61,7 +61,7 @@ fn push_site(
     outside: &[OutsideShipment],
     site: SiteNo,
 ) -> Result<(), AllocError>
-    ensures { OnOk result (string_bytes text.new ≡ string_bytes text.old ++ addresses_below sites.now outside.now site MAX_ADDRESSES) }
+    ensures { OnOk result (string_bytes text.new ≡ string_bytes text.old ++ site_notes sites.now outside.now site) }
 {
     let name = name_of(sites, site);
     for place in 0..MAX_ADDRESSES as u64 {
@@ -109,8 +109,8 @@ fn push_note(
 ) -> Result<(), AllocError>
     ensures { OnOk result (string_bytes text.new ≡ string_bytes text.old ++ place_note place.now name.now address.now) }
 {
-    let head = format!(in alloc; "note: the destination {place} may be {name}")?;
-    text.push_str(head.as_str())?;
-    let tail = format!(in alloc; ", whose address {address} names the same place\n")?;
-    text.push_str(tail.as_str())
+    let line = format!(in alloc;
+        "note: the destination {place} may be {name}, whose address {address} names the same place\n"
+    )?;
+    text.push_str(line.as_str())
 }
