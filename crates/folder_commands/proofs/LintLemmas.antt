@@ -171,10 +171,10 @@ one_are sites here path bytes read lint same lints = record {
 
 module _ {F K : Type 0} (does : F → FileCall K → F → Type 0) (form : Form) (list : List ℕ) (site : Option (List ℕ)) (paths : List (List ℕ)) where
   -- a list that isn't refused
-  pub list_lints : (old mid new : F) (text : List ℕ) (listed : SiteList) (whys : List CommandRefusal) (a b : Option (List ℕ)) (summary : LintSummary)
+  pub list_lints : (old mid new : F) (text : List ℕ) (listed : SiteList) (whys : List CommandRefusal) (here : Option ℕ) (a b : Option (List ℕ)) (summary : LintSummary)
       → does old (ReadFile list text) mid → IsSiteList text listed → AreReasons listed site whys → whys ≡ []
-      → Led does mid new (LintsAll form listed.sites (here_of listed.sites site) paths a b summary) → Led does old new (Lints form list site paths a b summary)
-  list_lints old mid new text listed whys a b summary read is are none all = record {
+      → here ≡ here_of listed.sites site → Led does mid new (LintsAll form listed.sites here paths a b summary) → Led does old new (Lints form list site paths a b summary)
+  list_lints old mid new text listed whys here a b summary read is are none same all = record {
     calls = ReadFile list text ∷ all.calls;
     are = record {
       text = text;
@@ -183,16 +183,18 @@ module _ {F K : Type 0} (does : F → FileCall K → F → Type 0) (form : Form)
       rest = all.calls;
       whys = whys;
       reasons = are;
-      done = subst (λ w. LintsWhere {K = K} form listed (here_of listed.sites site) w paths a b summary all.calls) (sym none) all.are;
+      done =
+          subst (λ h. LintsWhere {K = K} form listed h whys paths a b summary all.calls) same
+          (subst (λ w. LintsWhere {K = K} form listed here w paths a b summary all.calls) (sym none) all.are);
       calls_are = refl;
     };
     led = (mid, read, all.led);
   }
 
-  pub list_lints_some : (old mid : F) (text : List ℕ) (listed : SiteList) (whys : List CommandRefusal) (a b : Option (List ℕ))
+  pub list_lints_some : (old mid : F) (text : List ℕ) (listed : SiteList) (whys : List CommandRefusal) (here : Option ℕ) (a b : Option (List ℕ))
       → does old (ReadFile list text) mid → IsSiteList text listed → AreReasons listed site whys → whys ≡ []
-      → Began does mid (LintsSome form listed.sites (here_of listed.sites site) paths a b) → Began does old (LintEndsEarly form list site paths a b)
-  list_lints_some old mid text listed whys a b read is are none some = record {
+      → here ≡ here_of listed.sites site → Began does mid (LintsSome form listed.sites here paths a b) → Began does old (LintEndsEarly form list site paths a b)
+  list_lints_some old mid text listed whys here a b read is are none same some = record {
     mid = some.mid;
     begun = record {
       calls = ReadFile list text ∷ some.begun.calls;
@@ -203,7 +205,9 @@ module _ {F K : Type 0} (does : F → FileCall K → F → Type 0) (form : Form)
         rest = some.begun.calls;
         whys = whys;
         reasons = are;
-        done = subst (λ w. SomeWhere {K = K} form listed (here_of listed.sites site) w paths a b some.begun.calls) (sym none) some.begun.are;
+        done =
+            subst (λ h. SomeWhere {K = K} form listed h whys paths a b some.begun.calls) same
+            (subst (λ w. SomeWhere {K = K} form listed here w paths a b some.begun.calls) (sym none) some.begun.are);
         calls_are = refl;
       });
       led = (mid, read, some.begun.led);

@@ -99,11 +99,14 @@ fn push_unlisted(
     let Some(name) = site else {
         return Ok(());
     };
-    if sites.find(name).is_none() {
-        let name = String::from_str(alloc, name)?;
-        refusals.push(CommandRefusal::NoSite(name))?;
+    match sites.find(name) {
+        Some(_) => Ok(()),
+        None => {
+            let name = String::from_str(alloc, name)?;
+            refusals.push(CommandRefusal::NoSite(name))?;
+            Ok(())
+        }
     }
-    Ok(())
 }
 
 /// Writes why a list of sites is refused.
