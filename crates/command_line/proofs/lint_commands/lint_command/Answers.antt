@@ -1,4 +1,4 @@
-use Rattle.std.proofs.Common.{◌≡◌, codes, Some, sym, ap, ◌∙◌, map}
+use Rattle.std.proofs.Common.{rules, ◌≡◌, codes, Some, sym, ap, ◌∙◌, map}
 use Rattle.clap.specs.Words.{found_of}
 use Rattle.clap.proofs.WalkLemmas.{raw_values-rows}
 use Rattle.command_line.proofs.Words.{ok_there}
