@@ -1,6 +1,6 @@
-use Rattle.std.proofs.Common.{rules, ◌≡◌, codes, Some, sym, ap, ◌∙◌, map}
+use Rattle.std.proofs.Common.{◌≡◌, codes, Some, sym, ap, ◌∙◌, map}
 use Rattle.clap.specs.Words.{found_of}
-use Rattle.clap.proofs.WalkLemmas.{raw_values-rows}
+use Rattle.clap.proofs.WalkLemmas.{first_value-rows, raw_values-rows}
 use Rattle.command_line.proofs.Words.{ok_there}
 use Rattle.command_line.proofs.lint_commands.lint_command.Goals as goal
 
@@ -10,7 +10,7 @@ returns c =
     let copy = ok_there (λ v. v.items ≡ c.in_ok-paths.paths.now) c.copied.result c.in_ok-paths-2.paths c.in_ok-paths-2.ensures.value c.copied.ensures in
     record {
       list = c.in_ok-list.ensures;
-      site = search rules;
+      site = c.get_str-site.ensures ∙ first_value-rows (found_of c.args.given.now) (codes "site");
       files = paths ∙ ap (λ xs. Some (map (λ p. p.now) xs)) (sym copy);
       form = c.requires;
     }
