@@ -37,7 +37,7 @@ module _ {K G : Type 0} (shown : K → Option Record) (may : K → Record → Ty
 
   begun : (r : SiteRun K G) → IsReady shown may wire r → HasGone 0 r r
   begun r ready = record {
-    same = record { me = refl; start = refl; desk = refl; limit = refl; keeps = λ s. s };
+    same = record { me = refl; start = refl; first = refl; desk = refl; limit = refl; keeps = λ s. s };
     between = record {
       on = λ _. record {
         run = ready.run;
@@ -56,7 +56,7 @@ module _ {K G : Type 0} (shown : K → Option Record) (may : K → Record → Ty
 
   gone_on : (n : ℕ) (old mid new : SiteRun K G) → HasGone n old mid → IsSliced shown may stored reopens gives_up wire turns mid new → HasGone (n + 1) old new
   gone_on n old mid new gone more = record {
-    same = record { me = more.same.me ∙ gone.same.me; start = more.same.start ∙ gone.same.start; desk = more.same.desk ∙ gone.same.desk; limit = more.same.limit ∙ gone.same.limit; keeps = λ s. more.same.keeps (gone.same.keeps s) };
+    same = record { me = more.same.me ∙ gone.same.me; start = more.same.start ∙ gone.same.start; first = more.same.first ∙ gone.same.first; desk = more.same.desk ∙ gone.same.desk; limit = more.same.limit ∙ gone.same.limit; keeps = λ s. more.same.keeps (gone.same.keeps s) };
     between = more.between;
     turned = λ on. let t = more.turned on in let before = gone.turned t.0 in let after = t.1 in omega (arith, before, after);
   }

@@ -1,27 +1,33 @@
 -- What is said of the sites once their run has ended.
-use Rattle.std.specs.Prelude.{◌≡◌, ⊤, ◌⊎◌, ◌<◌, ◌≤◌, ℕ, ◌++◌, List, [], Option, Some, None, Result, Ok, Err, slice_get}
+use Rattle.std.specs.Prelude.{◌≡◌, ⊤, ◌⊎◌, ◌<◌, ◌≤◌, ℕ, ◌+◌, ◌++◌, List, [], ◌∷◌, All, Option, Some, None, Result, Ok, Err, slice_get}
 use Rattle.std.specs.List.{AllZip}
 use Rattle.crossbeam_channel.specs.Ends.{receives_on}
 use Rattle.frame_core.specs.declared.frames.Frame.{Frame}
 use Rattle.frame_core.specs.Numbers.{Recall}
+use Rattle.keeper_core.specs.Keeping.{MayBeOldOrNew}
 use Rattle.keeper_core.specs.declared.faults.Unopened.{Unopened}
 use Rattle.site_core.specs.Records.{Record}
 use Rattle.world_core.specs.Faults.{HindersKeepers, MakeAWorld}
 use Rattle.world_core.specs.Keepers.{AllShow, IsFirstClosed}
 use Rattle.world_core.specs.Recalls.{AreExactOnceEnded, quarantined}
+use Rattle.world_core.specs.KeptSteps.{Handed, handed_to}
 use Rattle.world_core.specs.Turns.{Runs}
 use Rattle.world_core.specs.declared.events.Answer.{Answer}
 use Rattle.world_core.specs.declared.events.WorldEvent.{WorldEvent}
-use Rattle.wire_core.specs.Rule.{Happened, world_up}
+use Rattle.site_core.specs.declared.inputs.SiteInput.{SiteInput}
+use Rattle.wire_core.specs.Rule.{AreAnswered, Happened, world_up}
 use Rattle.site_threads.specs.declared.desks.DeskOut.{DeskOut}
 use Rattle.site_threads.specs.declared.gathered.Gathered.{Gathered}
 use Rattle.site_threads.specs.declared.gather.GatherCause.{GatherCause}
 use Rattle.site_threads.specs.declared.gather.GatherCause.TheVariants.{NotAWorld, NoMemory, SiteLost, GaveUp}
 use Rattle.site_threads.specs.declared.gathered.GatherFault.{GatherFault}
 use Rattle.site_threads.specs.declared.lists.RunLog.{RunLog}
+use Rattle.site_threads.specs.declared.jobs.Entry.{Entry}
 use Rattle.site_threads.specs.declared.jobs.Receipt.{Receipt}
+use Rattle.site_threads.specs.declared.jobs.Reply.TheVariants.{Stopped}
 use Rattle.site_threads.specs.Ends.{takes, IsOut}
-use Rattle.site_threads.specs.Jobs.{IsEntered, jobs_in, option_items, Kept}
+use Rattle.site_threads.specs.Jobs.{IsEntered, jobs_in, option_items, Kept, KeptBy}
+use Rattle.site_threads.specs.Parting.{cause_of}
 use Rattle.site_threads.specs.Resting.{IsDone}
 
 -- the site is open in this record, or closed and may be opened in it
@@ -47,13 +53,46 @@ pub record LeadsTo (start last : List Record) : Type 0 where
   pub happened : AllZip Happened events answers
   pub runs : Runs (world_up start []) events answers (world_up last sent)
 
--- What the sites did is a run of the world: it leads from the records that the keepers showed to those that they show.
-pub record RanAsAWorld {K : Type 0} (shown : K → Option Record) (old new : List K) : Type 0 where
-  pub before : List Record
-  pub after : List Record
-  pub began : AllShow shown old before
-  pub ended : AllShow shown new after
-  pub leads : LeadsTo before after
+-- The keeper is closed since the last of these steps, in which the site stopped. The steps before it lead to a record, and
+-- the keeper may be opened in that one or in the one after the last step, and in no other.
+pub record LeadToAStop (may : Record → Type 0) (start : Record) (entries : List Entry) (changes : List SiteInput) (last : Record) : Type 0 where
+  pub earlier : List Entry
+  pub stop : Entry
+  pub all : entries ≡ earlier ++ stop ∷ []
+  pub reply : stop.reply ≡ Stopped
+  pub steps : KeptBy start earlier changes last
+  pub old_or_new : MayBeOldOrNew last stop.input may
+
+-- the steps lead to the record that the keeper shows, or to a stop
+abbrev pub Lead : Option Record → (Record → Type 0) → Record → List Entry → List SiteInput → Record → Type 0
+Lead (Some r) may start entries changes last = (r ≡ last) × KeptBy start entries changes last
+Lead None may start entries changes last = LeadToAStop may start entries changes last
+
+module _ {K : Type 0} (shown : K → Option Record) (may : K → Record → Type 0) where
+  -- What was handed to the site are the inputs of those steps of its list in which its record changed, in order.
+  pub record AreStepsOf (handed : List Handed) (k : K) (l : RunLog) (last : Record) : Type 0 where
+    pub changes : List SiteInput
+    pub lead : Lead (shown k) (may k) l.start.value l.entries.items changes last
+    pub answered : AreAnswered handed changes
+
+  -- so it is of each of the sites from this one on, with its list and with the record to which it leads
+  abbrev pub AreTheirSteps : (ℕ → List Handed) → ℕ → List K → List RunLog → List Record → Type 0
+  AreTheirSteps handed site [] [] [] = ⊤
+  AreTheirSteps handed site (k ∷ ks) (l ∷ ls) (r ∷ rs) = AreStepsOf (handed site) k l r × AreTheirSteps handed (site + 1) ks ls rs
+  AreTheirSteps handed site ks ls rs = ⊥
+
+  -- What the sites did is a run of the world, from these records to those to which their lists lead, and what the run
+  -- handed to each site are the steps of its list.
+  pub record RanFrom (before : List Record) (keepers : List K) (lists : List RunLog) : Type 0 where
+    pub after : List Record
+    pub leads : LeadsTo before after
+    pub steps : AreTheirSteps (λ site. handed_to site leads.sent leads.events leads.answers) 0 keepers lists after
+
+  -- it leads from the records that the keepers showed
+  pub record RanAsAWorld (old new : List K) (lists : List RunLog) : Type 0 where
+    pub before : List Record
+    pub began : AllShow shown old before
+    pub ran : RanFrom before new lists
 
 module _ {K : Type 0} (shown : K → Option Record) (may : K → Record → Type 0) where
   -- in whichever records the keepers are open, or may be opened, the sites stand together
@@ -85,6 +124,43 @@ Began shown k l = shown k ≡ Some l.start.value
 pub record HasEnd (d : DeskOut) (l : RunLog) : Type 0 where
   pub desk : receives_on l.out.from ≡ receives_on d.from
   pub limit : l.out.limit ≡ d.limit
+
+-- What a run leaves that has no answer.
+
+-- what the list of a site says, whether the site ended its run or not
+pub record IsLeft (turns : ℕ) (l : RunLog) : Type 0 where
+  pub jobs : HasJobsOfEnd l
+  pub asked : l.turns ≤ turns
+
+-- each site of these keepers and ends of desks has its list
+pub record HasLists {K : Type 0} (shown : K → Option Record) (may : K → Record → Type 0) (turns : ℕ) (keepers : List K) (desks : List DeskOut) (e : GatherFault K) : Type 0 where
+  pub began : AllZip (Began shown) keepers e.lists.items
+  pub ends : AllZip HasEnd desks e.lists.items
+  pub left : All (IsLeft turns) e.lists.items
+  pub run : RanAsAWorld shown may keepers e.keepers.items e.lists.items
+
+-- no site began a turn: there is no list, and the keepers are as they were; or each site has its list
+abbrev pub Leaves : {K : Type 0} → (K → Option Record) → (K → Record → Type 0) → ℕ → List K → List DeskOut → GatherFault K → Type 0
+Leaves shown may turns keepers desks e = ((e.lists.items ≡ []) × (e.keepers.items ≡ keepers)) ⊎ HasLists shown may turns keepers desks e
+
+-- no site before this one ended its run
+abbrev pub NoneEndedBefore : List RunLog → ℕ → Type 0
+NoneEndedBefore lists site = (s : ℕ) (l : RunLog) → s < site → slice_get lists s ≡ Some l → l.fault ≡ None
+
+-- the least site that ended its run did so for this cause
+pub record IsFirstCause (lists : List RunLog) (cause : GatherCause) : Type 0 where
+  pub site : ℕ
+  pub list : RunLog
+  pub there : slice_get lists site ≡ Some list
+  pub is : cause_of site list.fault ≡ Some cause
+  pub least : NoneEndedBefore lists site
+
+-- the cause is that of the least site that ended its run; or no site began a turn
+abbrev pub IsCauseOf : List RunLog → GatherCause → Type 0
+IsCauseOf lists (NotAWorld fault) = lists ≡ []
+IsCauseOf lists NoMemory = (lists ≡ []) ⊎ IsFirstCause lists NoMemory
+IsCauseOf lists (SiteLost site) = IsFirstCause lists (SiteLost site)
+IsCauseOf lists (GaveUp site) = IsFirstCause lists (GaveUp site)
 
 -- The keepers that are given back, and why the run has no answer.
 

@@ -1,5 +1,5 @@
 -- What is returned for a job, and what is said of a site's list of steps.
-use Rattle.std.specs.Prelude.{◌≡◌, ◌⊎◌, ℕ, Bool, true, false, IsTrue, IsFalse, if◌then◌else◌, not, List, [], ◌∷◌, All, map, flat_map, length, Contains, Option, Some, None, Result, Ok, Err}
+use Rattle.std.specs.Prelude.{◌≡◌, ◌≢◌, ◌⊎◌, ℕ, Bool, true, false, IsTrue, IsFalse, if◌then◌else◌, not, List, [], ◌∷◌, ◌++◌, All, map, flat_map, length, Contains, Option, Some, None, Result, Ok, Err}
 use Rattle.std.specs.List.{range_with_len, count_by}
 use Rattle.keeper_core.specs.declared.faults.KeepFault.{KeepFault}
 use Rattle.keeper_core.specs.declared.faults.KeepFault.TheVariants as faults
@@ -67,6 +67,16 @@ Keeps Stopped old input new = (new ≡ old) ⊎ IsAfter old input new
 abbrev pub Kept : Record → List Entry → Record → Type 0
 Kept old [] new = new ≡ old
 Kept old (x ∷ xs) new = (r : Record) × Keeps x.reply old x.input r × Kept r xs new
+
+-- the input of the step, where the record changed in it, and else none
+abbrev pub IsChange : Record → SiteInput → Record → List SiteInput → Type 0
+IsChange old input new changes = ((new ≡ old) × (changes ≡ [])) ⊎ ((new ≢ old) × (changes ≡ input ∷ []))
+
+-- so they lead there, and these are the inputs of those in which the record changed, in order
+abbrev pub KeptBy : Record → List Entry → List SiteInput → Record → Type 0
+KeptBy old [] changes new = (new ≡ old) × (changes ≡ [])
+KeptBy old (x ∷ xs) changes new =
+    (r : Record) × (here : List SiteInput) × (rest : List SiteInput) × Keeps x.reply old x.input r × IsChange old x.input r here × (changes ≡ here ++ rest) × KeptBy r xs rest new
 
 -- What a list of steps has.
 

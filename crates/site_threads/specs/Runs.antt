@@ -1,5 +1,5 @@
 -- What clauses say of the sites of a run.
-use Rattle.std.specs.Prelude.{◌≡◌, ◌⊎◌, ℕ, ◌+◌, ◌*◌, ◌<◌, ◌≤◌, ◌++◌, Bool, true, false, Option, None, Result, IsSome, IfSome}
+use Rattle.std.specs.Prelude.{◌≡◌, ◌⊎◌, ℕ, ◌+◌, ◌*◌, ◌<◌, ◌≤◌, ◌++◌, [], Bool, true, false, Option, None, Result, IsSome, IfSome}
 use Rattle.crossbeam_channel.specs.Ends.{receives_on}
 use Rattle.site_core.specs.Records.{Record}
 use Rattle.wire_core.specs.Seats.{Line, IsSeatOf}
@@ -10,7 +10,7 @@ use Rattle.site_threads.specs.Ends.{takes, IsOut}
 use Rattle.site_threads.specs.Jobs.{jobs_in, option_items}
 use Rattle.site_threads.specs.Keepers.{shown_in}
 use Rattle.site_threads.specs.Resting.{IsDone}
-use Rattle.site_threads.specs.Running.{marks_in}
+use Rattle.site_threads.specs.Running.{inputs_in, marks_in}
 use Rattle.site_threads.specs.Sites.{IsSite}
 use Rattle.site_threads.specs.Turns.{HindersTurn}
 use Rattle.site_threads.specs.declared.turns.TurnCause.{TurnCause}
@@ -28,6 +28,7 @@ module _ {K G : Type 0} (shown : K → Option Record) (may : K → Record → Ty
 pub record SameRun {K G : Type 0} (stored : K → Type 0) (old new : SiteRun K G) : Type 0 where
   pub me : new.turn.site.me ≡ old.turn.site.me
   pub start : new.turn.site.start.value ≡ old.turn.site.start.value
+  pub first : new.turn.site.first.value ≡ old.turn.site.first.value
   pub desk : receives_on new.out.from ≡ receives_on old.out.from
   pub limit : new.out.limit ≡ old.out.limit
   pub keeps : IfSome old.turn.site.keeper stored → IfSome new.turn.site.keeper stored
@@ -38,11 +39,16 @@ goes_on Changed = true
 goes_on Idle = true
 goes_on Ended = false
 
+-- no input was marked of the site before its first turn
+abbrev pub IsFresh : {K G : Type 0} → SiteRun K G → Type 0
+IsFresh r = inputs_in r.turn.site.first.value.logs ≡ []
+
 module _ {K G : Type 0} (shown : K → Option Record) (may : K → Record → Type 0) (wire : Line) where
   -- a run that has not begun
   pub record IsReady (r : SiteRun K G) : Type 0 where
     pub run : IsRun shown may wire r
     pub unmarked : marks_in r.turn.site.seat.logs ≡ 0
+    pub fresh : IsFresh r
     pub going : r.fault ≡ None
     pub unasked : r.turn.turns ≡ 0
     pub begins : r.ended ≡ false

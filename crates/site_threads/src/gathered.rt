@@ -23,11 +23,13 @@ pub struct Gathered<K: SiteKeeper> {
     pub shared: bool,
 }
 
-/// A run of all sites that has no answer, and the keepers, in the order of their sites.
+/// A run of all sites that has no answer, with what it leaves, in the order of the sites.
 #[derive(Debug, Drop, Error)]
 #[error("{cause}")]
 pub struct GatherFault<K> {
     pub keepers: Vec<K>,
+    /// The steps of each site, and its end of its desk; none where no site began a turn.
+    pub lists: Vec<RunLog>,
     /// Why; of several sites that ended their runs, the least is named.
     pub cause: GatherCause,
 }

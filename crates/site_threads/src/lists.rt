@@ -3,7 +3,9 @@ ghost use Rattle.site_threads.specs.Jobs.{AreNumbered};
 
 use crate::desks::DeskOut;
 use crate::jobs::{Entry, Job};
+use crate::turns::TurnCause;
 use site_core::SiteState;
+use std::fmt;
 use std::snapshot::Snapshot;
 
 /// What is left of a site's run beside its keeper.
@@ -19,5 +21,13 @@ pub struct RunLog {
     pub pending: Option<Job>,
     /// How many turns its gate was asked for.
     pub turns: u64,
+    /// Why the site ended its run before its time, where it did.
+    pub fault: Option<TurnCause>,
     ghost numbered: { AreNumbered entries.items },
+}
+
+impl fmt::Debug for RunLog {
+    fn fmt<W: fmt::Write>(&self, f: &mut fmt::Formatter<W>) -> fmt::Result {
+        write!(f, "{} steps in {} turns", self.entries.len(), self.turns)
+    }
 }

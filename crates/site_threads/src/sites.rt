@@ -40,6 +40,8 @@ pub struct Site<K: SiteKeeper> {
     pub entries: Vec<Entry>,
     /// The record that it began with, for proofs alone.
     pub start: Snapshot<SiteState>,
+    /// Its seat before its first turn, for proofs alone.
+    pub first: Snapshot<Seat>,
     /// By site, the message that was taken from it in this turn.
     pub owed: [Option<MsgId>; MAX_SITES],
     /// By site, how far its messages were posted.

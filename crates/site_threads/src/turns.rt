@@ -77,22 +77,24 @@ impl<K: SiteKeeper, G: Gate> SiteTurn<K, G> {
     pub fn new(alloc: Global, keeper: K, gate: G, seat: Seat, me: SiteNo) -> SiteTurn<K, G>
         requires start { (r : Record) × (K.shown keeper ≡ Some r) × IsLastMarked seat.logs me r }
         ensures site { IsSite K.shown K.may result.site }
-        ensures first { (result.site.me ≡ me) × (result.site.seat ≡ seat) × (result.site.entries.items ≡ []) × (Some result.site.start.value ≡ K.shown keeper) × (result.site.keeper ≡ Some keeper) }
+        ensures first { (result.site.me ≡ me) × (result.site.seat ≡ seat) × (result.site.entries.items ≡ []) × (Some result.site.start.value ≡ K.shown keeper) × (result.site.first.value ≡ seat) × (result.site.keeper ≡ Some keeper) }
         ensures turns { result.turns ≡ 0 }
     {
         let Some(state) = keeper.view() else {
             unreachable!()
         };
-        let first = stamp_of(state);
+        let stamp = stamp_of(state);
         let start = Snapshot::of(state);
+        let first = Snapshot::of(&seat);
         SiteTurn {
             site: Site {
                 keeper: Some(keeper),
                 seat,
                 me,
-                stamp: first,
+                stamp,
                 entries: Vec::new(alloc),
                 start,
+                first,
                 owed: [None; MAX_SITES],
                 rounds: [Round::new(); MAX_SITES],
             },

@@ -8,7 +8,7 @@ ghost use Rattle.world_core.specs.Keepers.{AllShow};
 ghost use Rattle.wire_core.specs.Rule.{logs_from};
 ghost use Rattle.wire_core.specs.Seats.{IsSeatOf};
 ghost use Rattle.site_threads.specs.Ends.{IsUnused};
-ghost use Rattle.site_threads.specs.Gathering.{Began, Explains, FitAfter, HasEnd, HasTurned, Hinders, IsKept, KeepersFit, RanAsAWorld, keepers_of};
+ghost use Rattle.site_threads.specs.Gathering.{Began, Explains, FitAfter, HasEnd, HasTurned, Hinders, IsCauseOf, IsFirstCause, IsKept, IsLeft, KeepersFit, Leaves, RanAsAWorld, keepers_of};
 ghost use Rattle.site_threads.specs.Parting.{IsRoomFor};
 ghost use Rattle.site_threads.specs.Runs.{IsReady, Ran};
 
@@ -124,15 +124,18 @@ fn run_in<K: SiteKeeper + Send, G: Gate + Send, R: Threads + Wait + Clock + Sync
     requires gates { length gates.items ≡ length keepers.items }
     requires turns { turns ≤ 1000000 }
     ensures kept { result.cause ≡ None → AllZip (IsKept K.shown) result.keepers.items result.lists.items }
+    ensures left { All (IsLeft turns) result.lists.items }
     ensures began { AllZip (Began K.shown) keepers.items result.lists.items }
     ensures ends { AllZip HasEnd desks.items result.lists.items }
     ensures turns { result.cause ≡ None → AllZip (HasTurned K.shown turns) result.keepers.items result.lists.items }
     ensures fit { KeepersFit K.shown K.may result.keepers.items }
-    ensures run { result.cause ≡ None → RanAsAWorld K.shown keepers.items result.keepers.items }
+    ensures run { RanAsAWorld K.shown K.may keepers.items result.keepers.items result.lists.items }
     ensures stored { All K.stored keepers.items → All K.stored result.keepers.items }
     ensures back { length result.keepers.items ≡ length keepers.items }
     ensures cause { IfSome result.cause (λ cause. Hinders K.shown result.keepers.items cause × FitAfter K.shown K.may keepers.items cause result.keepers.items) }
     ensures why { IfSome result.cause (Explains K.shown K.reopens G.gives_up turns result.keepers.items) }
+    ensures first { IfSome result.cause (IsFirstCause result.lists.items) }
+    ensures none { result.cause ≡ None → All (λ l. l.fault ≡ None) result.lists.items }
 {
     let Room {
         wire,
@@ -152,7 +155,7 @@ fn run_in<K: SiteKeeper + Send, G: Gate + Send, R: Threads + Wait + Clock + Sync
 /// What is reported of a run that has ended, in which sites shared threads or not.
 fn told<K: SiteKeeper>(ended: Ended<K>, shared: bool) -> Result<Gathered<K>, GatherFault<K>>
     ensures ok { IfOk result (λ g. (ended.cause ≡ None) × (g.keepers ≡ ended.keepers) × (g.lists ≡ ended.lists)) }
-    ensures err { IfErr result (λ e. (ended.cause ≡ Some e.cause) × (e.keepers ≡ ended.keepers)) }
+    ensures err { IfErr result (λ e. (ended.cause ≡ Some e.cause) × (e.keepers ≡ ended.keepers) × (e.lists ≡ ended.lists)) }
     ensures back { keepers_of result ≡ ended.keepers.items }
 {
     let Ended {
@@ -166,7 +169,11 @@ fn told<K: SiteKeeper>(ended: Ended<K>, shared: bool) -> Result<Gathered<K>, Gat
             lists,
             shared,
         }),
-        Some(cause) => Err(GatherFault { keepers, cause }),
+        Some(cause) => Err(GatherFault {
+            keepers,
+            lists,
+            cause,
+        }),
     }
 }
 
@@ -189,15 +196,19 @@ fn run_sites<K: SiteKeeper + Send, G: Gate + Send, R: Threads + Wait + Clock + S
     ensures ends { IfOk result (λ g. AllZip HasEnd desks.items g.lists.items) }
     ensures turns { IfOk result (λ g. AllZip (HasTurned K.shown turns) g.keepers.items g.lists.items) }
     ensures fit { IfOk result (λ g. KeepersFit K.shown K.may g.keepers.items) }
-    ensures run { IfOk result (λ g. RanAsAWorld K.shown keepers.items g.keepers.items) }
+    ensures run { IfOk result (λ g. RanAsAWorld K.shown K.may keepers.items g.keepers.items g.lists.items) }
     ensures stored { All K.stored keepers.items → All K.stored (keepers_of result) }
     ensures back { length (keepers_of result) ≡ length keepers.items }
     ensures err { IfErr result (λ e. Hinders K.shown e.keepers.items e.cause × FitAfter K.shown K.may keepers.items e.cause e.keepers.items) }
     ensures why { IfErr result (λ e. Explains K.shown K.reopens G.gives_up turns e.keepers.items e.cause) }
+    ensures named { IfErr result (λ e. IsCauseOf e.lists.items e.cause) }
+    ensures left { IfErr result (Leaves K.shown K.may turns keepers.items desks.items) }
+    ensures none { IfOk result (λ g. All (λ l. l.fault ≡ None) g.lists.items) }
 {
     let Ok(room) = room_for::<K, G>(alloc, &keepers) else {
         return Err(GatherFault {
             keepers,
+            lists: Vec::new(alloc),
             cause: GatherCause::NoMemory,
         });
     };
@@ -224,16 +235,21 @@ fn run_sites<K: SiteKeeper + Send, G: Gate + Send, R: Threads + Wait + Clock + S
 /// just these turns, or for fewer where the site is done: its end counts the desk as gone, no job is in hand, no
 /// message waits for a signal, and each recall that it began has ended. What the sites did together is a run of the
 /// world, as [`World::run`] makes them: steps that were done, and frames that were sent, lead one after another from
-/// the records that the keepers showed to those that they show. Whether the run has an answer or not, in whichever
-/// records the keepers are open, or may be opened, these make a world again, which [`World::new`] takes, and what is
-/// quarantined under each recall that has ended is just what its root reaches. What the keepers stored before, they
-/// store.
+/// the records that the keepers showed to those that they show; and what the run hands to a site are the steps of the
+/// site's list in which its record changed, in order. Whether the run has an answer or not, in whichever records the
+/// keepers are open, or may be opened, these make a world again, which [`World::new`] takes, and what is quarantined
+/// under each recall that has ended is just what its root reaches. What the keepers stored before, they store.
 ///
 /// # Errors
 /// All with the keepers. `NotAWorld`, with the keepers as they were. `NoMemory`: before the first turn, when nothing
 /// has changed, or where a keeper couldn't be opened at the end. `SiteLost` where a keeper is closed and an opening of
 /// it was refused, and `GaveUp` where a gate, asked for one of these turns, gave up: the other sites went on. Of
 /// several sites that ended their runs the least is named; the keepers before it are open.
+///
+/// Once a turn was begun, a fault has the list of each site, too: its steps lead to the record that its keeper shows,
+/// or, where it is closed, to the last one, in which the site stopped; and what the sites did is a run of the world in
+/// the same way. So a receipt is confirmed there as well, and the jobs that were taken are those of the list. Of each
+/// site that ended its run the list says why.
 pub fn run_world<K: SiteKeeper + Send, G: Gate + Send, R: Threads + Wait + Clock + Sync>(
     rt: &R,
     alloc: Global,
@@ -251,16 +267,20 @@ pub fn run_world<K: SiteKeeper + Send, G: Gate + Send, R: Threads + Wait + Clock
     ensures ends { IfOk result (λ g. AllZip HasEnd desks.items g.lists.items) }
     ensures turns { IfOk result (λ g. AllZip (HasTurned K.shown turns) g.keepers.items g.lists.items) }
     ensures fit { IfOk result (λ g. KeepersFit K.shown K.may g.keepers.items) }
-    ensures run { IfOk result (λ g. RanAsAWorld K.shown keepers.items g.keepers.items) }
+    ensures run { IfOk result (λ g. RanAsAWorld K.shown K.may keepers.items g.keepers.items g.lists.items) }
     ensures stored { All K.stored keepers.items → All K.stored (keepers_of result) }
     ensures back { length (keepers_of result) ≡ length keepers.items }
     ensures err { IfErr result (λ e. Hinders K.shown e.keepers.items e.cause × FitAfter K.shown K.may keepers.items e.cause e.keepers.items) }
     ensures why { IfErr result (λ e. Explains K.shown K.reopens G.gives_up turns e.keepers.items e.cause) }
+    ensures named { IfErr result (λ e. IsCauseOf e.lists.items e.cause) }
+    ensures left { IfErr result (Leaves K.shown K.may turns keepers.items desks.items) }
+    ensures none { IfOk result (λ g. All (λ l. l.fault ≡ None) g.lists.items) }
 {
     match World::new(alloc, keepers) {
         Ok(world) => run_sites(rt, alloc, world.into_keepers(), desks, gates, turns),
         Err(NotAWorld { keepers, fault }) => Err(GatherFault {
             keepers,
+            lists: Vec::new(alloc),
             cause: GatherCause::NotAWorld(fault),
         }),
     }

@@ -187,7 +187,7 @@ fn gave_up(alloc: Global, run: Result<Gathered<MemoryKeeper>, GatherFault<Memory
     match run {
         Ok(_) => false,
         Err(fault) => {
-            let GatherFault { keepers, cause } = fault;
+            let GatherFault { keepers, cause, .. } = fault;
             match cause {
                 GatherCause::GaveUp(site) => site.number() == 1 && fit(alloc, &keepers),
                 _ => false,

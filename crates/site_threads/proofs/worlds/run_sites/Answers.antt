@@ -1,6 +1,7 @@
 use Rattle.std.proofs.Common.{All, sym, subst}
 use Rattle.world_core.specs.Keepers.{AllShow}
 use Rattle.site_threads.proofs.Ending.{fit_before}
+use Rattle.site_threads.proofs.Leaving.{left_if_err, named_if_err}
 use Rattle.site_threads.proofs.worlds.run_sites.Goals as goal
 
 pub returns-in_default-clause-err : goal.returns-in_default-clause-err
@@ -14,3 +15,11 @@ run_in-ended-requires-clause-world g c κs within =
 
 pub returns-clause-stored : goal.returns-clause-stored
 returns-clause-stored g c all = subst (All g.K.SiteKeeper.stored) (sym c.told.ensures.back) (c.run_in-ended.ensures.stored all)
+
+pub returns-clause-named : goal.returns-clause-named
+returns-clause-named g c = named_if_err c.run_in-ended.result c.told.result c.told.ensures.err c.run_in-ended.ensures.first
+
+pub returns-clause-left : goal.returns-clause-left
+returns-clause-left g c =
+    let e = c.run_in-ended.ensures in
+    left_if_err c.run_in-ended.result g.K.SiteKeeper.shown g.K.SiteKeeper.may c.args.turns c.args.keepers.items c.args.desks.items c.told.result c.told.ensures.err e.began e.ends e.left e.run
