@@ -1,5 +1,5 @@
 -- What is known of each site after its run.
-use Rattle.std.proofs.Common.{◌≡◌, inl, inr, ℕ, zero, suc, ◌+◌, ◌<◌, ◌≤◌, Option, Some, None, IsSome, IfSome, true≢false, List, [], ◌∷◌, ◌++◌, All, map, drop, length, slice_get, get_or, Result, refl, sym, ap, ◌∙◌, subst, arith}
+use Rattle.std.proofs.Common.{◌≡◌, inl, inr, ℕ, zero, suc, ◌+◌, ◌≤◌, Option, Some, None, IsSome, IfSome, true≢false, List, [], ◌∷◌, ◌++◌, All, map, drop, length, slice_get, get_or, Result, refl, sym, ap, ◌∙◌, subst, arith}
 use Rattle.std.proofs.lemmas.Option.{same_Some}
 use Rattle.keeper_core.specs.declared.faults.Unopened.{Unopened}
 use Rattle.std.proofs.lemmas.List.Elements.{All-nil, All-cons, All-head, All-tail}
@@ -9,7 +9,6 @@ use Rattle.site_core.specs.Records.{Record}
 use Rattle.world_core.specs.Faults.{AreOneWorld, MakeAWorld}
 use Rattle.world_core.specs.Keepers.{IsFirstClosed}
 use Rattle.wire_core.specs.Seats.{Held, Line}
-use Rattle.crossbeam_channel.specs.Ends.{receives_on}
 use Rattle.site_threads.specs.declared.desks.DeskOut.{DeskOut}
 use Rattle.site_threads.specs.declared.gather.GatherCause.{GatherCause}
 use Rattle.site_threads.specs.declared.gather.GatherCause.TheVariants.{NotAWorld, NoMemory, SiteLost, GaveUp}
@@ -20,9 +19,9 @@ use Rattle.site_threads.specs.declared.runs.SiteRun.{SiteRun}
 use Rattle.site_threads.specs.declared.turns.TurnCause.{TurnCause}
 use Rattle.site_threads.specs.declared.turns.TurnCause.TheVariants as turns
 use Rattle.site_threads.specs.Beginning.{BeganIn, TookEnd}
-use Rattle.site_threads.specs.Ends.{takes, IsOut}
-use Rattle.site_threads.specs.Gathering.{Opens, KeepersFit, Began, HasEnd, HasJobsOfEnd, HasTurned, IsFirstCause, IsKept, IsLeft, AreOpenBefore, Explains, FitAfter, Hinders, NoneEndedBefore, WasRefused}
-use Rattle.site_threads.specs.Jobs.{Kept, jobs_in, option_items}
+use Rattle.site_threads.specs.Ends.{takes, HasTold, IsOut, SameOut}
+use Rattle.site_threads.specs.Gathering.{AreInOrder, Opens, KeepersFit, Began, FitsEnd, HasEnd, HasTurned, IsFirstCause, IsKept, IsLeft, AreOpenBefore, Explains, FitAfter, Hinders, NoneEndedBefore, WasRefused}
+use Rattle.site_threads.specs.Jobs.{Kept, jobs_in, option_items, receipts_in}
 use Rattle.site_threads.specs.Keepers.{shown_in, may_in}
 use Rattle.site_threads.specs.Parting.{HasKeeper, LeavesList, cause_of, first_cause}
 use Rattle.site_threads.specs.Running.{Holding, inputs_in}
@@ -30,7 +29,8 @@ use Rattle.site_threads.specs.Runs.{EndedBy, IsFresh, IsReady, Ran}
 use Rattle.site_threads.specs.Sites.{start_of}
 use Rattle.site_threads.proofs.Changing.{led_so}
 use Rattle.site_threads.proofs.Gathering.{exact_when_fit}
-use Rattle.site_threads.proofs.Zips.{all_carried, zip_through}
+use Rattle.site_threads.proofs.Slices.{out_through}
+use Rattle.site_threads.proofs.Zips.{all_carried, as_long, zip_through}
 
 shown_record : (o : Option Record) → IsSome o → (r : Record) × (o ≡ Some r)
 shown_record (Some r) h = (r, refl)
@@ -60,25 +60,6 @@ record IsFirstFrom (a p : ℕ) (ls : List RunLog) (cause : GatherCause) : Type 0
   is : cause_of (a + p) list.fault ≡ Some cause
   least : NoneEndedBefore ls p
 
--- what the first has, and each of the others before a place, each has before the next place
-each_before : {A : Type 0} (P : A → Type 0) (x : A) (xs : List A) (p : ℕ) → P x → ((s : ℕ) (y : A) → s < p → slice_get xs s ≡ Some y → P y) → (s : ℕ) (y : A) → s < suc p → slice_get (x ∷ xs) s ≡ Some y → P y
-each_before P x xs p here more zero y h at = subst P (same_Some x y at) here
-each_before P x xs p here more (suc s) y h at = more s y (omega arith) at
-
-fine_before : (l : RunLog) (ls : List RunLog) (p : ℕ) → l.fault ≡ None → NoneEndedBefore ls p → NoneEndedBefore (l ∷ ls) (suc p)
-fine_before l ls p here more = each_before (λ (y : RunLog). y.fault ≡ None) l ls p here more
-
-first_later : (a : ℕ) (l : RunLog) (ls : List RunLog) (cause : GatherCause) → l.fault ≡ None → (p : ℕ) × IsFirstFrom (a + 1) p ls cause → (p : ℕ) × IsFirstFrom a p (l ∷ ls) cause
-first_later a l ls cause fine more =
-    let rest = more.1 in
-    let later : a + suc more.0 ≡ a + 1 + more.0 = omega arith in
-    (suc more.0, record { list = rest.list; there = rest.there; is = ap (λ k. cause_of k rest.list.fault) later ∙ rest.is; least = fine_before l ls more.0 fine rest.least })
-
-first_here : (a site : ℕ) (l : RunLog) (ls : List RunLog) (why : TurnCause) (rest : Option GatherCause) (cause : GatherCause) → site ≡ a → l.fault ≡ Some why → option_or (cause_of site (Some why)) rest ≡ Some cause → (p : ℕ) × IsFirstFrom a p (l ∷ ls) cause
-first_here a site l ls why rest cause me fault h =
-    let here : a + 0 ≡ site = omega (arith, me) in
-    (0, record { list = l; there = refl; is = ap (cause_of (a + 0)) fault ∙ ap (λ k. cause_of k (Some why)) here ∙ sym (ended_so site why rest) ∙ h; least = λ s m before at. absurd (omega arith) })
-
 module _ {K G : Type 0} where
   first_from : (a : ℕ) (runs : List (SiteRun K G)) (ls : List RunLog) (cause : GatherCause) → AllZip LeavesList runs ls → map (λ (r : SiteRun K G). r.turn.site.me) runs ≡ range_with_len a (length runs) → first_cause runs ≡ Some cause
       → (p : ℕ) × IsFirstFrom a p ls cause
@@ -86,10 +67,32 @@ module _ {K G : Type 0} where
   first_from a (r ∷ rs) (l ∷ ls) cause z order is =
       let me : r.turn.site.me ≡ a = ap (λ (l : List ℕ). get_or l 0 0) order in
       elim r.fault as (λ f. r.fault ≡ f → option_or (cause_of r.turn.site.me f) (first_cause rs) ≡ Some cause → (p : ℕ) × IsFirstFrom a p (l ∷ ls) cause) [
-        | None ↦ λ f h. first_later a l ls cause (z.0.fault ∙ f) (first_from (a + 1) rs ls cause z.1 (ap (drop 1) order) h)
-        | Some why ↦ λ f h. first_here a r.turn.site.me l ls why (first_cause rs) cause me (z.0.fault ∙ f) h
+        | None ↦ λ f h.
+            let more = first_from (a + 1) rs ls cause z.1 (ap (drop 1) order) h in
+            let rest = more.1 in (
+              suc more.0,
+              record {
+                list = rest.list;
+                there = rest.there;
+                is = ap (λ k. cause_of k rest.list.fault) (let z : a + suc more.0 ≡ a + 1 + more.0 = omega arith in z) ∙ rest.is;
+                least = fine_before l ls more.0 (z.0.fault ∙ f) rest.least;
+              },
+            )
+        | Some why ↦ λ f h. (
+              0,
+              record {
+                list = l;
+                there = refl;
+                is = (λ i. cause_of ((let z : a + 0 ≡ a = omega arith in z) i) ((z.0.fault ∙ f) i)) ∙ ap (λ k. cause_of k (Some why)) (sym me) ∙ sym (ended_so r.turn.site.me why (first_cause rs)) ∙ h;
+                least = λ s m before at. absurd (omega arith);
+              },
+            )
       ]
       refl is
+    where
+      fine_before : (l : RunLog) (ls : List RunLog) (p : ℕ) → l.fault ≡ None → NoneEndedBefore ls p → NoneEndedBefore (l ∷ ls) (suc p)
+      fine_before l ls p here more zero m before at = let e : Some l ≡ Some m = at in let same : l ≡ m = cc in subst (λ (y : RunLog). y.fault ≡ None) same here
+      fine_before l ls p here more (suc s) m before at = more s m (omega arith) at
   first_from a [] (l ∷ ls) cause z order is = absurd z
   first_from a (r ∷ rs) [] cause z order is = absurd z
 
@@ -151,10 +154,11 @@ module _ {K G : Type 0} (shown : K → Option Record) (may : K → Record → Ty
   opened : (old run : SiteRun K G) (k : K) → Ran shown may stored reopens gives_up wire most old run → HasKeeper run k → run.fault ≡ None → (r : Record) × (shown k ≡ Some r)
   opened old run k ran is fine = shown_record (shown k) (subst (λ (o : Option K). IsSome (shown_in shown o)) is (ran.is_open fine))
 
-  jobs_one : (old run : SiteRun K G) (l : RunLog) → Ran shown may stored reopens gives_up wire most old run → LeavesList run l → HasJobsOfEnd l
+  jobs_one : (old run : SiteRun K G) (l : RunLog) → Ran shown may stored reopens gives_up wire most old run → LeavesList run l → FitsEnd l
   jobs_one old run l ran left = record {
     out = subst IsOut (sym left.out) ran.run.out;
     jobs = subst (λ (y : List Entry × (Option Job × List Job)). jobs_in y.0 ++ option_items y.1.0 ≡ y.1.1) (λ i. (ap (λ v. v.items) (sym left.entries) i, (sym left.pending i, ap takes (sym left.out) i))) ran.run.jobs;
+    told = subst (λ (y : DeskOut × (ℕ × List Entry)). HasTold y.0 (receipts_in y.1.0 y.1.1)) (λ i. (sym left.out i, (sym left.site i, ap (λ v. v.items) (sym left.entries) i))) ran.run.told;
   }
 
   kept_one : (old run : SiteRun K G) (k : K) (l : RunLog) → Ran shown may stored reopens gives_up wire most old run → HasKeeper run k → LeavesList run l → run.fault ≡ None → IsKept shown k l
@@ -327,10 +331,20 @@ module _ {K G : Type 0} (shown : K → Option Record) (may : K → Record → Ty
       zip_through StartedIn LeavesList (Began shown) ks runs ls (λ k r l b z. b ∙ ap Some (sym z.start))
       (zip_through (BeganIn {G = G} shown) (Ran shown may stored reopens gives_up wire most) StartedIn ks olds runs (λ k o r b z. b.start ∙ ap Some (sym z.same.start)) start ran) left
 
+  sites_are : (rs : List (SiteRun K G)) (more : List RunLog) → AllZip LeavesList rs more → map (λ (l : RunLog). l.site) more ≡ map (λ (r : SiteRun K G). r.turn.site.me) rs
+  sites_are [] [] z = refl
+  sites_are (r ∷ rs) (l ∷ more) z = λ i. z.0.site i ∷ sites_are rs more z.1 i
+  sites_are [] (l ∷ more) z = absurd z
+  sites_are (r ∷ rs) [] z = absurd z
+
+  -- the lists are in the order of the sites
+  pub ordered_all : map (λ (r : SiteRun K G). r.turn.site.me) runs ≡ range_with_len 0 (length runs) → AreInOrder ls
+  ordered_all order = sites_are runs ls left ∙ order ∙ ap (range_with_len 0) (sym (as_long LeavesList runs ls left))
+
   pub ends_all : (ds : List DeskOut) → AllZip (TookEnd {K = K} {G = G}) ds olds → AllZip HasEnd ds ls
   ends_all ds took =
-      zip_through (TookEnd {K = K} {G = G}) LeavesList HasEnd ds runs ls (λ d r l t z. record { desk = ap (λ (o : DeskOut). receives_on o.from) z.out ∙ t.desk; limit = ap (λ (o : DeskOut). o.limit) z.out ∙ t.limit })
-      (zip_through (TookEnd {K = K} {G = G}) (Ran shown may stored reopens gives_up wire most) TookEnd ds olds runs (λ d o r t z. record { desk = z.same.desk ∙ t.desk; limit = z.same.limit ∙ t.limit }) took ran) left
+      zip_through (TookEnd {K = K} {G = G}) LeavesList HasEnd ds runs ls (λ d r l t z. subst (SameOut d) (sym z.out) t)
+      (zip_through (TookEnd {K = K} {G = G}) (Ran shown may stored reopens gives_up wire most) TookEnd ds olds runs (λ d o r t z. out_through d o.out r.out t z.same.desk) took ran) left
 
 -- before the first turn, where all are open
 only_shown : {K : Type 0} (shown : K → Option Record) (may : K → Record → Type 0) (ks : List K) (rs qs : List Record) → AllZip (λ k r. shown k ≡ Some r) ks rs → AllZip (λ k r. Opens (shown k) (may k) r) ks qs → qs ≡ rs

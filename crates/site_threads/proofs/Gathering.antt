@@ -126,12 +126,6 @@ record IsEnd {K G : Type 0} (shown : K → Option Record) (may : K → Record �
 Stands : {K G : Type 0} → (K → Option Record) → (K → Record → Type 0) → SiteRun K G → Record → Type 0
 Stands shown may run r = Opens (shown_in shown run.turn.site.keeper) (may_in may run.turn.site.keeper) r
 
--- where the steps of a site lead, what was marked of it since the first turn are the inputs of those in which its record changed
-led : (o : Option Record) (m : Record → Type 0) (start : Start) (entries : List Entry) (log : Log) → Holding o m start entries log → (changes : List SiteInput) × (log.inputs ≡ start.marked ++ changes) × Lead o m start.stood entries changes log.last
-led (Some r) m start entries log h = (h.steps.changes, h.steps.marks, (h.marked, subst (KeptBy start.stood entries h.steps.changes) h.marked h.steps.steps))
-led None m start entries log h =
-    (h.steps.changes, h.steps.marks, record { earlier = h.earlier; stop = h.last; all = h.all; reply = h.reply; steps = h.steps.steps; old_or_new = h.old_or_new })
-
 module _ {K G : Type 0} (shown : K → Option Record) (may : K → Record → Type 0) where
   any_fit : (sent : List Frame) (done : List Record) (runs : List (SiteRun K G)) (ls : List Log) (rs : List Record) → SitesFit (done ++ records ls) sent → ((e : Log) (f : Frame) → Contains ls e → Contains e.noted f → Contains sent f)
       → AllZip (IsEnd shown may) runs ls → AllZip (Stands shown may) runs rs → SitesFit (done ++ rs) sent
@@ -183,6 +177,12 @@ module _ {K G : Type 0} (shown : K → Option Record) (may : K → Record → Ty
   runs_stand : (runs : List (SiteRun K G)) (keepers : List K) (rs : List Record) → AllZip HasKeeper runs keepers → AllZip (λ k r. Opens (shown k) (may k) r) keepers rs → AllZip (Stands shown may) runs rs
   unfolding Stands
   runs_stand runs keepers rs = zip_through HasKeeper (λ k r. Opens (shown k) (may k) r) (Stands shown may) runs keepers rs (λ run k r is o. subst (λ (x : Option K). Opens (shown_in shown x) (may_in may x) r) (sym is) o)
+
+  -- where the steps of a site lead, what was marked of it since the first turn are the inputs of those in which its record changed
+  led : (o : Option Record) (m : Record → Type 0) (start : Start) (entries : List Entry) (log : Log) → Holding o m start entries log → (changes : List SiteInput) × (log.inputs ≡ start.marked ++ changes) × Lead o m start.stood entries changes log.last
+  led (Some r) m start entries log h = (h.steps.changes, h.steps.marks, h.marked, subst (KeptBy start.stood entries h.steps.changes) h.marked h.steps.steps)
+  led None m start entries log h =
+      (h.steps.changes, h.steps.marks, record { earlier = h.earlier; stop = h.last; all = h.all; reply = h.reply; steps = h.steps.steps; old_or_new = h.old_or_new })
 
   steps_one : (handed : List Handed) (run : SiteRun K G) (log : Log) (k : K) (l : RunLog) → AreAnswered handed log.inputs → IsEnd shown may run log → HasKeeper run k → LeavesList run l → IsFresh run → AreStepsOf shown may handed k l log.last
   steps_one handed run log k l answered end is left fresh =

@@ -28,5 +28,6 @@ mod Starting
 mod Steps
 mod Stops
 mod Taking
+mod Telling
 mod Wired
 mod Zips

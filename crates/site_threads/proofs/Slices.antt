@@ -6,10 +6,16 @@ use Rattle.std.specs.List.{AllZip, list_all}
 use Rattle.keeper_core.specs.declared.faults.Unopened.{Unopened}
 use Rattle.site_core.specs.Records.{Record}
 use Rattle.wire_core.specs.Seats.{Line}
+use Rattle.site_threads.specs.declared.desks.DeskOut.{DeskOut}
 use Rattle.site_threads.specs.declared.runs.SiteRun.{SiteRun}
+use Rattle.site_threads.specs.Ends.{SameOut}
 use Rattle.site_threads.specs.Running.{marks_in}
 use Rattle.site_threads.specs.Runs.{IsBetween, IsOver, IsReady, IsRun, IsSliced, Ran, SameRun}
 use Rattle.site_threads.proofs.Zips.{zip_through}
+
+-- an end of a desk that stays the same
+pub out_through : (a b c : DeskOut) → SameOut a b → SameOut b c → SameOut a c
+out_through a b c x y = record { jobs = y.jobs ∙ x.jobs; receipts = y.receipts ∙ x.receipts; limit = y.limit ∙ x.limit }
 
 module _ {K G : Type 0} (shown : K → Option Record) (may : K → Record → Type 0) (stored : K → Type 0) (reopens : K → Result K (Unopened K) → Type 0) (gives_up : G → ℕ → ℕ → Type 0) (wire : Line) (turns : ℕ) where
   -- a slice after which a site goes on, and one after which it has ended its run
@@ -37,7 +43,7 @@ module _ {K G : Type 0} (shown : K → Option Record) (may : K → Record → Ty
 
   begun : (r : SiteRun K G) → IsReady shown may wire r → HasGone 0 r r
   begun r ready = record {
-    same = record { me = refl; start = refl; first = refl; desk = refl; limit = refl; keeps = λ s. s };
+    same = record { me = refl; start = refl; first = refl; desk = record { jobs = refl; receipts = refl; limit = refl }; keeps = λ s. s };
     between = record {
       on = λ _. record {
         run = ready.run;
@@ -56,7 +62,7 @@ module _ {K G : Type 0} (shown : K → Option Record) (may : K → Record → Ty
 
   gone_on : (n : ℕ) (old mid new : SiteRun K G) → HasGone n old mid → IsSliced shown may stored reopens gives_up wire turns mid new → HasGone (n + 1) old new
   gone_on n old mid new gone more = record {
-    same = record { me = more.same.me ∙ gone.same.me; start = more.same.start ∙ gone.same.start; first = more.same.first ∙ gone.same.first; desk = more.same.desk ∙ gone.same.desk; limit = more.same.limit ∙ gone.same.limit; keeps = λ s. more.same.keeps (gone.same.keeps s) };
+    same = record { me = more.same.me ∙ gone.same.me; start = more.same.start ∙ gone.same.start; first = more.same.first ∙ gone.same.first; desk = out_through old.out mid.out new.out gone.same.desk more.same.desk; keeps = λ s. more.same.keeps (gone.same.keeps s) };
     between = more.between;
     turned = λ on. let t = more.turned on in let before = gone.turned t.0 in let after = t.1 in omega (arith, before, after);
   }

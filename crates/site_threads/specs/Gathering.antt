@@ -1,7 +1,6 @@
 -- What is said of the sites once their run has ended.
-use Rattle.std.specs.Prelude.{◌≡◌, ⊤, ◌⊎◌, ◌<◌, ◌≤◌, ℕ, ◌+◌, ◌++◌, List, [], ◌∷◌, All, Option, Some, None, Result, Ok, Err, slice_get}
-use Rattle.std.specs.List.{AllZip}
-use Rattle.crossbeam_channel.specs.Ends.{receives_on}
+use Rattle.std.specs.Prelude.{◌≡◌, ⊤, ◌⊎◌, ◌<◌, ◌≤◌, ℕ, ◌+◌, ◌++◌, List, [], ◌∷◌, All, length, map, Option, Some, None, Result, Ok, Err, slice_get}
+use Rattle.std.specs.List.{AllZip, range_with_len}
 use Rattle.frame_core.specs.declared.frames.Frame.{Frame}
 use Rattle.frame_core.specs.Numbers.{Recall}
 use Rattle.keeper_core.specs.Keeping.{MayBeOldOrNew}
@@ -25,8 +24,8 @@ use Rattle.site_threads.specs.declared.lists.RunLog.{RunLog}
 use Rattle.site_threads.specs.declared.jobs.Entry.{Entry}
 use Rattle.site_threads.specs.declared.jobs.Receipt.{Receipt}
 use Rattle.site_threads.specs.declared.jobs.Reply.TheVariants.{Stopped}
-use Rattle.site_threads.specs.Ends.{takes, IsOut}
-use Rattle.site_threads.specs.Jobs.{IsEntered, jobs_in, option_items, Kept, KeptBy}
+use Rattle.site_threads.specs.Ends.{takes, HasTold, IsOut, SameOut}
+use Rattle.site_threads.specs.Jobs.{IsEntered, jobs_in, option_items, receipts_in, Kept, KeptBy}
 use Rattle.site_threads.specs.Parting.{cause_of}
 use Rattle.site_threads.specs.Resting.{IsDone}
 
@@ -99,17 +98,19 @@ module _ {K : Type 0} (shown : K → Option Record) (may : K → Record → Type
   abbrev pub KeepersFit : List K → Type 0
   KeepersFit keepers = (records : List Record) → AllZip (λ k r. Opens (shown k) (may k) r) keepers records → StandTogether records
 
--- the jobs of the list, and then the one that was taken and not done, are those that were taken from the desk, in order
-pub record HasJobsOfEnd (l : RunLog) : Type 0 where
+-- The jobs of the list, and then the one that was taken and not done, are those that were taken from the desk, in order;
+-- and the receipts of its jobs were sent.
+pub record FitsEnd (l : RunLog) : Type 0 where
   pub out : IsOut l.out
   pub jobs : jobs_in l.entries.items ++ option_items l.pending ≡ takes l.out
+  pub told : HasTold l.out (receipts_in l.site l.entries.items)
 
 -- the keeper is open in the record to which the list leads, step by step
 pub record IsKept {K : Type 0} (shown : K → Option Record) (k : K) (l : RunLog) : Type 0 where
   pub last : Record
   pub stands : shown k ≡ Some last
   pub steps : Kept l.start.value l.entries.items last
-  pub jobs : HasJobsOfEnd l
+  pub jobs : FitsEnd l
 
 -- The gate of the keeper's site was asked for all these turns; or for fewer, and the site is done.
 pub record HasTurned {K : Type 0} (shown : K → Option Record) (turns : ℕ) (k : K) (l : RunLog) : Type 0 where
@@ -120,16 +121,19 @@ pub record HasTurned {K : Type 0} (shown : K → Option Record) (turns : ℕ) (k
 abbrev pub Began : {K : Type 0} → (K → Option Record) → K → RunLog → Type 0
 Began shown k l = shown k ≡ Some l.start.value
 
--- the list has the desk's end, and takes no more jobs than that
-pub record HasEnd (d : DeskOut) (l : RunLog) : Type 0 where
-  pub desk : receives_on l.out.from ≡ receives_on d.from
-  pub limit : l.out.limit ≡ d.limit
+-- the list has the desk's end
+abbrev pub HasEnd : DeskOut → RunLog → Type 0
+HasEnd d l = SameOut d l.out
+
+-- the lists are those of all sites, in order
+abbrev pub AreInOrder : List RunLog → Type 0
+AreInOrder lists = map (λ l. l.site) lists ≡ range_with_len 0 (length lists)
 
 -- What a run leaves that has no answer.
 
 -- what the list of a site says, whether the site ended its run or not
 pub record IsLeft (turns : ℕ) (l : RunLog) : Type 0 where
-  pub jobs : HasJobsOfEnd l
+  pub jobs : FitsEnd l
   pub asked : l.turns ≤ turns
 
 -- each site of these keepers and ends of desks has its list
@@ -162,11 +166,15 @@ IsCauseOf lists NoMemory = (lists ≡ []) ⊎ IsFirstCause lists NoMemory
 IsCauseOf lists (SiteLost site) = IsFirstCause lists (SiteLost site)
 IsCauseOf lists (GaveUp site) = IsFirstCause lists (GaveUp site)
 
--- The keepers that are given back, and why the run has no answer.
+-- The keepers and the lists that are given back, and why the run has no answer.
 
 abbrev pub keepers_of : {K : Type 0} → Result (Gathered K) (GatherFault K) → List K
 keepers_of (Ok g) = g.keepers.items
 keepers_of (Err e) = e.keepers.items
+
+abbrev pub lists_of : {K : Type 0} → Result (Gathered K) (GatherFault K) → List RunLog
+lists_of (Ok g) = g.lists.items
+lists_of (Err e) = e.lists.items
 
 -- the keepers before this place are open
 abbrev pub AreOpenBefore : {K : Type 0} → (K → Option Record) → List K → ℕ → Type 0

@@ -93,6 +93,10 @@ job_of (inputs.Deliver frame) = []
 abbrev pub jobs_in : List Entry → List Job
 jobs_in entries = flat_map (λ x. job_of x.input) entries
 
+-- the receipts of the jobs of a site's list of steps, in order
+abbrev pub receipts_in : ℕ → List Entry → List Receipt
+receipts_in site entries = flat_map (λ x. map (λ job. record { site = site; number = x.number; job = job; reply = x.reply }) (job_of x.input)) entries
+
 -- A site that is open or not comes, by these steps, to be open or not: only an open site makes a step, and it is open
 -- afterwards unless it stopped in it.
 abbrev pub ComesTo : Bool → List Entry → Bool → Type 0

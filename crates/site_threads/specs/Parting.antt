@@ -17,6 +17,7 @@ module _ {K G : Type 0} where
   -- the list has the steps of the site, its end of its desk, the job in hand, how often the gate was asked, and why the
   -- site ended its run
   pub record LeavesList (run : SiteRun K G) (l : RunLog) : Type 0 where
+    pub site : l.site ≡ run.turn.site.me
     pub entries : l.entries ≡ run.turn.site.entries
     pub start : l.start.value ≡ run.turn.site.start.value
     pub out : l.out ≡ run.out

@@ -1,13 +1,12 @@
 -- What clauses say of the sites of a run.
 use Rattle.std.specs.Prelude.{◌≡◌, ◌⊎◌, ℕ, ◌+◌, ◌*◌, ◌<◌, ◌≤◌, ◌++◌, [], Bool, true, false, Option, None, Result, IsSome, IfSome}
-use Rattle.crossbeam_channel.specs.Ends.{receives_on}
 use Rattle.site_core.specs.Records.{Record}
 use Rattle.wire_core.specs.Seats.{Line, IsSeatOf}
 use Rattle.site_threads.specs.declared.runs.SiteRun.{SiteRun}
 use Rattle.site_threads.specs.declared.runs.Turned.{Turned}
 use Rattle.site_threads.specs.declared.runs.Turned.TheVariants.{Changed, Idle, Ended}
-use Rattle.site_threads.specs.Ends.{takes, IsOut}
-use Rattle.site_threads.specs.Jobs.{jobs_in, option_items}
+use Rattle.site_threads.specs.Ends.{takes, HasTold, IsOut, SameOut}
+use Rattle.site_threads.specs.Jobs.{jobs_in, option_items, receipts_in}
 use Rattle.site_threads.specs.Keepers.{shown_in}
 use Rattle.site_threads.specs.Resting.{IsDone}
 use Rattle.site_threads.specs.Running.{inputs_in, marks_in}
@@ -17,20 +16,20 @@ use Rattle.site_threads.specs.declared.turns.TurnCause.{TurnCause}
 use Rattle.keeper_core.specs.declared.faults.Unopened.{Unopened}
 
 module _ {K G : Type 0} (shown : K → Option Record) (may : K → Record → Type 0) where
-  -- the jobs of its list, and the one in hand, are those that it took from its desk, in order
+  -- the jobs of its list, and the one in hand, are those that it took from its desk, in order, and their receipts were sent
   pub record IsRun (wire : Line) (r : SiteRun K G) : Type 0 where
     pub seat : IsSeatOf wire r.turn.site.seat
     pub site : IsSite shown may r.turn.site
     pub out : IsOut r.out
     pub jobs : jobs_in r.turn.site.entries.items ++ option_items r.pending ≡ takes r.out
+    pub told : HasTold r.out (receipts_in r.turn.site.me r.turn.site.entries.items)
 
--- the same site of the same run, with the same desk, which takes no more jobs than before; what its keeper stores stays so
+-- the same site of the same run, with the same desk; what its keeper stores stays so
 pub record SameRun {K G : Type 0} (stored : K → Type 0) (old new : SiteRun K G) : Type 0 where
   pub me : new.turn.site.me ≡ old.turn.site.me
   pub start : new.turn.site.start.value ≡ old.turn.site.start.value
   pub first : new.turn.site.first.value ≡ old.turn.site.first.value
-  pub desk : receives_on new.out.from ≡ receives_on old.out.from
-  pub limit : new.out.limit ≡ old.out.limit
+  pub desk : SameOut old.out new.out
   pub keeps : IfSome old.turn.site.keeper stored → IfSome new.turn.site.keeper stored
 
 -- the site continues after the turn

@@ -1,5 +1,5 @@
 //! The seats of all sites joined again, and what is known then.
-ghost use Rattle.std.specs.Prelude.{◌≡◌, [], All, flat_map, length, map};
+ghost use Rattle.std.specs.Prelude.{◌≡◌, List, [], All, flat_map, length, map};
 ghost use Rattle.std.specs.List.{range_with_len, AllZip};
 ghost use Rattle.world_core.specs.Faults.{AreOneWorld};
 ghost use Rattle.wire_core.specs.Seats.{IsSeatOf};
@@ -105,6 +105,7 @@ fn part<K: SiteKeeper, G: Gate>(
         add(
             &mut lists,
             RunLog {
+                site: me,
                 entries,
                 start,
                 out,

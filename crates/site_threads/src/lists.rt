@@ -4,6 +4,7 @@ ghost use Rattle.site_threads.specs.Jobs.{AreNumbered};
 use crate::desks::DeskOut;
 use crate::jobs::{Entry, Job};
 use crate::turns::TurnCause;
+use event_json::SiteNo;
 use site_core::SiteState;
 use std::fmt;
 use std::snapshot::Snapshot;
@@ -11,6 +12,8 @@ use std::snapshot::Snapshot;
 /// What is left of a site's run beside its keeper.
 #[derive(Drop)]
 pub struct RunLog {
+    /// The site.
+    pub site: SiteNo,
     /// The steps of the run, in order.
     pub entries: Vec<Entry>,
     /// The record that the site began with, for proofs alone.

@@ -1,8 +1,7 @@
 //! The sites of a run, each in a thread of its own.
 ghost use Rattle.std.specs.Prelude.{◌≡◌, ◌↔◌, ◌+◌, ◌-◌, ◌++◌, ◌^◌, ◌<◌, ◌≤◌, ℕ, List, None, true, All, IfSome, IsSome, IsTrue, is_none, length, min, slice_index_or};
 ghost use Rattle.std.specs.List.{AllZip, list_all};
-ghost use Rattle.crossbeam_channel.specs.Ends.{receives_on};
-ghost use Rattle.site_threads.specs.Ends.{takes, IsOut};
+ghost use Rattle.site_threads.specs.Ends.{takes, tells, IsOut, SameOut};
 ghost use Rattle.site_threads.specs.Jobs.{option_items};
 ghost use Rattle.site_threads.specs.Keepers.{shown_in};
 ghost use Rattle.site_threads.specs.Resting.{HaveEnded, IsAtRest, IsDone};
@@ -48,7 +47,8 @@ pub struct SiteRun<K: SiteKeeper, G: Gate> {
 /// The job that was given back, or the next one.
 fn next_job<R: Wait>(rt: &R, pending: Option<Job>, out: &mut DeskOut) -> Option<Job>
     requires { IsOut out.old }
-    ensures out { IsOut out.new × (receives_on out.new.from ≡ receives_on out.old.from) × (out.new.limit ≡ out.old.limit) }
+    ensures out { IsOut out.new × SameOut out.old out.new }
+    ensures told { (tells out.new ≡ tells out.old) × (out.new.dropped ≡ out.old.dropped) }
     ensures job { (done : List Job) → done ++ option_items pending ≡ takes out.old → done ++ option_items result ≡ takes out.new }
 {
     match pending {

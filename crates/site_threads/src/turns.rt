@@ -3,7 +3,7 @@ ghost use Rattle.std.specs.Prelude.{◌≡◌, ◌≢◌, ◌+◌, ◌-◌, ◌+
 ghost use Rattle.site_core.specs.Records.{Record};
 ghost use Rattle.wire_core.specs.Seats.{IsSeatOf};
 ghost use Rattle.site_threads.specs.Answering.{Delivers, DoesJob, Opened};
-ghost use Rattle.site_threads.specs.Jobs.{entry_of, jobs_in, option_items};
+ghost use Rattle.site_threads.specs.Jobs.{entry_of, jobs_in, option_items, receipts_in};
 ghost use Rattle.site_threads.specs.Keepers.{shown_in};
 ghost use Rattle.site_threads.specs.Passing.{AnswersInTurn, PassNothing, PostsAfterTaking, TakesAfterJob, incoming};
 ghost use Rattle.site_threads.specs.Running.{marks_in};
@@ -134,6 +134,7 @@ impl<K: SiteKeeper, G: Gate> SiteTurn<K, G> {
         ensures sent { IfOk result (PostsAfterTaking K.shown wire.now.sites self.old.site self.new.site) }
         ensures answers { IfOk result (AnswersInTurn K.shown K.may K.applies K.reopens self.old.site self.new.site) }
         ensures jobs { IfOk result (λ report. jobs_in self.new.site.entries.items ≡ jobs_in self.old.site.entries.items ++ option_items job) }
+        ensures receipts { IfOk result (λ report. receipts_in self.old.site.me self.new.site.entries.items ≡ receipts_in self.old.site.me self.old.site.entries.items ++ option_items report.receipt) }
         ensures posted { IfOk result (λ report. report.posted + report.uncopied ≤ wire.now.sites) }
         ensures back { IfErr result (λ fault. (fault.job ≡ job) × (self.new.site.entries.items ≡ self.old.site.entries.items) × PassNothing self.old.site.seat.logs self.new.site.seat.logs) }
         ensures unchanged { IfErr result (λ fault. (r : Record) → shown_in K.shown self.old.site.keeper ≡ Some r → shown_in K.shown self.new.site.keeper ≡ Some r) }

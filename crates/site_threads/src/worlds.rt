@@ -8,7 +8,7 @@ ghost use Rattle.world_core.specs.Keepers.{AllShow};
 ghost use Rattle.wire_core.specs.Rule.{logs_from};
 ghost use Rattle.wire_core.specs.Seats.{IsSeatOf};
 ghost use Rattle.site_threads.specs.Ends.{IsUnused};
-ghost use Rattle.site_threads.specs.Gathering.{Began, Explains, FitAfter, HasEnd, HasTurned, Hinders, IsCauseOf, IsFirstCause, IsKept, IsLeft, KeepersFit, Leaves, RanAsAWorld, keepers_of};
+ghost use Rattle.site_threads.specs.Gathering.{AreInOrder, Began, Explains, FitAfter, HasEnd, HasTurned, Hinders, IsCauseOf, IsFirstCause, IsKept, IsLeft, KeepersFit, Leaves, RanAsAWorld, keepers_of, lists_of};
 ghost use Rattle.site_threads.specs.Parting.{IsRoomFor};
 ghost use Rattle.site_threads.specs.Runs.{IsReady, Ran};
 
@@ -128,6 +128,7 @@ fn run_in<K: SiteKeeper + Send, G: Gate + Send, R: Threads + Wait + Clock + Sync
     ensures began { AllZip (Began K.shown) keepers.items result.lists.items }
     ensures ends { AllZip HasEnd desks.items result.lists.items }
     ensures turns { result.cause ≡ None → AllZip (HasTurned K.shown turns) result.keepers.items result.lists.items }
+    ensures order { AreInOrder result.lists.items }
     ensures fit { KeepersFit K.shown K.may result.keepers.items }
     ensures run { RanAsAWorld K.shown K.may keepers.items result.keepers.items result.lists.items }
     ensures stored { All K.stored keepers.items → All K.stored result.keepers.items }
@@ -156,7 +157,7 @@ fn run_in<K: SiteKeeper + Send, G: Gate + Send, R: Threads + Wait + Clock + Sync
 fn told<K: SiteKeeper>(ended: Ended<K>, shared: bool) -> Result<Gathered<K>, GatherFault<K>>
     ensures ok { IfOk result (λ g. (ended.cause ≡ None) × (g.keepers ≡ ended.keepers) × (g.lists ≡ ended.lists)) }
     ensures err { IfErr result (λ e. (ended.cause ≡ Some e.cause) × (e.keepers ≡ ended.keepers) × (e.lists ≡ ended.lists)) }
-    ensures back { keepers_of result ≡ ended.keepers.items }
+    ensures back { (keepers_of result ≡ ended.keepers.items) × (lists_of result ≡ ended.lists.items) }
 {
     let Ended {
         keepers,
@@ -195,6 +196,7 @@ fn run_sites<K: SiteKeeper + Send, G: Gate + Send, R: Threads + Wait + Clock + S
     ensures began { IfOk result (λ g. AllZip (Began K.shown) keepers.items g.lists.items) }
     ensures ends { IfOk result (λ g. AllZip HasEnd desks.items g.lists.items) }
     ensures turns { IfOk result (λ g. AllZip (HasTurned K.shown turns) g.keepers.items g.lists.items) }
+    ensures order { AreInOrder (lists_of result) }
     ensures fit { IfOk result (λ g. KeepersFit K.shown K.may g.keepers.items) }
     ensures run { IfOk result (λ g. RanAsAWorld K.shown K.may keepers.items g.keepers.items g.lists.items) }
     ensures stored { All K.stored keepers.items → All K.stored (keepers_of result) }
@@ -266,6 +268,7 @@ pub fn run_world<K: SiteKeeper + Send, G: Gate + Send, R: Threads + Wait + Clock
     ensures began { IfOk result (λ g. AllZip (Began K.shown) keepers.items g.lists.items) }
     ensures ends { IfOk result (λ g. AllZip HasEnd desks.items g.lists.items) }
     ensures turns { IfOk result (λ g. AllZip (HasTurned K.shown turns) g.keepers.items g.lists.items) }
+    ensures order { AreInOrder (lists_of result) }
     ensures fit { IfOk result (λ g. KeepersFit K.shown K.may g.keepers.items) }
     ensures run { IfOk result (λ g. RanAsAWorld K.shown K.may keepers.items g.keepers.items g.lists.items) }
     ensures stored { All K.stored keepers.items → All K.stored (keepers_of result) }

@@ -6,7 +6,7 @@ use Rattle.site_threads.specs.Beginning.{BeganIn}
 use Rattle.site_threads.specs.Gathering.{RanFrom}
 use Rattle.site_threads.specs.Parting.{HasKeeper, IsRoomFor}
 use Rattle.site_threads.specs.Runs.{IsRun, Ran}
-use Rattle.site_threads.proofs.Ending.{kept_all, left_all, fresh_all, began_all, ends_all, turned_all, hinders_all, explains_all, first_named, none_named, starts_one, stored_all}
+use Rattle.site_threads.proofs.Ending.{kept_all, left_all, fresh_all, began_all, ends_all, turned_all, hinders_all, explains_all, first_named, none_named, ordered_all, starts_one, stored_all}
 use Rattle.site_threads.proofs.Starting.{none_apart}
 use Rattle.site_threads.proofs.Zips.{all_right, as_long, same_map}
 use Rattle.site_threads.proofs.worlds.run_in.Goals as goal
@@ -72,6 +72,18 @@ returns-clause-left g c =
 pub returns-clause-began : goal.returns-clause-began
 returns-clause-began g c =
     began_all g.K.SiteKeeper.shown g.K.SiteKeeper.may g.K.SiteKeeper.stored g.K.SiteKeeper.reopens g.G.Gate.gives_up c.args.room.wire c.args.turns c.begin_all-runs.result.items c.run_each.new.runs.items c.close_all.result.lists.items c.run_each.ensures c.close_all.ensures.lists c.args.keepers.items c.begin_all-runs.ensures.start
+
+pub returns-clause-order : goal.returns-clause-order
+returns-clause-order g c =
+    let shown = g.K.SiteKeeper.shown in
+    let may = g.K.SiteKeeper.may in
+    let me = λ (r : SiteRun g.row.K.Denot g.row.G.Denot). r.turn.site.me in
+    let ran = Ran {G = g.row.G.Denot} shown may g.K.SiteKeeper.stored g.K.SiteKeeper.reopens g.G.Gate.gives_up c.args.room.wire c.args.turns in
+    let same = same_map ran me c.begin_all-runs.result.items c.run_each.new.runs.items (λ x y r. r.same.me) c.run_each.ensures in
+    let long = as_long (BeganIn {G = g.row.G.Denot} shown) c.args.keepers.items c.begin_all-runs.result.items c.begin_all-runs.ensures.start in
+    let more = as_long ran c.begin_all-runs.result.items c.run_each.new.runs.items c.run_each.ensures in
+    ordered_all shown may g.K.SiteKeeper.stored g.K.SiteKeeper.reopens g.G.Gate.gives_up c.args.room.wire c.args.turns c.begin_all-runs.result.items c.run_each.new.runs.items c.close_all.result.lists.items c.run_each.ensures c.close_all.ensures.lists
+    (same ∙ c.begin_all-runs.ensures.order ∙ ap (range_with_len 0) (sym (more ∙ long)))
 
 pub returns-clause-ends : goal.returns-clause-ends
 returns-clause-ends g c =
