@@ -77,6 +77,12 @@ is_json out && is_json err || complain "no JSON: $(cat out err)"
 printf '{"type":"ObjectEvent","eventTime":"2024-05-01T08:00:00Z","eventTimeZoneOffset":"+00:00","action":"OBSERVE","epcList":["x"],"bizStep":"shipping"}' >aimless
 tells 0 '{"captured":1,"known":0,"skipped":0}' '{"note":"note: 1 event of bizStep shipping has no destination: nothing is traced past it"}
 {"note":"note: 1 event has no eventID: captured again, it counts again"}' capture made dairy aimless
+mkdir spelled
+printf 'site plant https://id.gs1.org/414/9521321000025\nsite shop-1 https://id.gs1.org/414/9521321000032\n' >list
+tells 0 '{"created":["plant","shop-1"]}' '' init spelled list
+printf '{"type":"ObjectEvent","eventID":"e","eventTime":"2024-05-01T08:00:00Z","eventTimeZoneOffset":"+00:00","action":"OBSERVE","epcList":["x"],"destinationList":[{"type":"location","destination":"urn:epc:id:sgln:9521321.00003.0"}]}' >spelling
+tells 0 '{"captured":1,"known":0,"skipped":0}' '{"note":"note: 1 destination is no traced site: what went there counts as outside"}' capture spelled plant spelling
+tells 0 '{"outside":[{"destination":"urn:epc:id:sgln:9521321.00003.0","item":"uri x","site":"plant"}],"pairs":[{"item":"uri x","site":"plant","trail":[{"item":"uri x","site":"plant"}]}],"root":{"item":"uri x","site":"plant"},"trace":"forward"}' '{"note":"note: the destination urn:epc:id:sgln:9521321.00003.0 may be shop-1, whose address https://id.gs1.org/414/9521321000032 names the same place"}' trace spelled plant x
 tells 1 '{"event":1,"fault":"Quantities","field":"quantityList","file":"quantities"}
 {"event":1,"field":"destinationList","file":"aimless","warning":"ShipsNowhere"}
 {"event":1,"file":"aimless","warning":"NoEventID"}
@@ -95,7 +101,7 @@ tells 1 '{"refused":"BadKey"}' '' start made plant 'a b' --key
 tells 1 '{"kind":"CheckDigit","refused":"BadScan"}' '' start made plant '(01)09521321000118(21)tank-7' --scan
 tells 1 '{"refused":"UnknownItem"}' '' start made shop-1 x
 tells 0 '{"messages":2,"new":4,"would":"recall"}' '{"note":"note: nothing was begun; this is of the site alone, and `recall trace` tells what a recall would find at all sites"}' start made plant "$tank" --dry-run
-for words in "" --brief --back "--back --brief"; do
+for words in "" --brief --back "--back --brief" --events "--back --brief --events"; do
     # shellcheck disable=SC2086
     "$recall" trace --json made plant "$tank" $words >out 2>err || complain "a trace: $(cat out err)"
     is_json out && is_json err || complain "no JSON: $(cat out err)"

@@ -93,6 +93,19 @@ ends 1 "{\"event\":2,\"field\":\"epcList\",\"file\":\"monday.json\",\"text\":\"$
 ends 1 "fault Syntax event 0 field document broken.json
 fault NotDocument event 0 field eventList empty.json
 total events 0 faults 2 warnings 0" "" lint "$chain/sites" broken.json empty.json
+{
+    printf '{"type":"EPCISDocument","epcisBody":{"eventList":['
+    event ObjectEvent "$seen,\"eventID\":\"a\",\"epcList\":[\"x\"],\"readPoint\":{\"id\":\"https://id.gs1.org/414/9521321000025\"}"
+    printf ,
+    event ObjectEvent "$seen,\"eventID\":\"b\",\"epcList\":[\"x\"],\"readPoint\":{\"id\":\"z\"},\"bizLocation\":{\"id\":\"https://id.gs1.org/414/9521321000018\"}"
+    printf ']}}'
+} >places.json
+ends 0 "total events 2 faults 0 warnings 0" "" lint "$chain/sites" places.json
+ends 0 "warn OtherPlace event 1 field readPoint https://id.gs1.org/414/9521321000025 places.json
+total events 2 faults 0 warnings 1" "" lint "$chain/sites" places.json --site dairy
+ends 0 "{\"address\":\"https://id.gs1.org/414/9521321000018\",\"event\":2,\"field\":\"bizLocation\",\"file\":\"places.json\",\"warning\":\"OtherPlace\"}
+{\"total\":{\"events\":2,\"faults\":0,\"warnings\":1}}" "" lint --json "$chain/sites" places.json --site plant
+ends 1 "refused NoSite Plant" "" lint "$chain/sites" places.json --site Plant
 for name in dairy plant shop-1 shop-2; do
     "$recall" lint "$chain/sites" "$chain/$name.json" >out 2>err </dev/null || complain "$name.json: $(cat out err)"
     grep -q '^fault' out && complain "$name.json has a fault: $(cat out)"

@@ -2,7 +2,8 @@
 # Asks the built program the questions that change nothing, and compares its answers with those of a second program in python,
 # which knows the events that were captured and nothing of how `recall` works:
 # - trace, forward and back, of each item at each site of small random chains with shipments, pallets and transformations in
-#   parts: the pairs, that each way is a shortest one, origins, what left the traced sites, and --brief;
+#   parts: the pairs, that each way is a shortest one, origins, what left the traced sites, --brief, and --events: the first
+#   events that relate the pairs of each step;
 # - items, of each site: which there are, how often they are named, and those that contain a text;
 # - status while a recall is open and once it has ended, with --exit-code; a report beside a trace of its root;
 # - start --dry-run, which tells what the start then does. No question changes a byte of a file.
@@ -90,9 +91,14 @@ def chain(number):
     return events
 
 
+def time_of(name):
+    """The time of an event, by its place in its document."""
+    return f"2024-05-01T08:{int(name.rsplit('-', 1)[1]):02}:00Z"
+
+
 def document(event, name):
     """An event as EPCIS has it."""
-    common = {"eventID": f"ni:///{name}", "eventTime": "2024-05-01T08:00:00Z", "eventTimeZoneOffset": "+00:00"}
+    common = {"eventID": f"ni:///{name}", "eventTime": time_of(name), "eventTimeZoneOffset": "+00:00"}
     if event["kind"] == "ship":
         to = [{"type": "location", "destination": f"at:{place}"} for place in event["to"]]
         return common | {"type": "ObjectEvent", "action": "OBSERVE", "epcList": event["items"], "destinationList": to}
@@ -208,6 +214,49 @@ def hold_json(what, text, ways, back):
     same(f"{what} --json: ways", [[(it["site"], it["item"]) for it in p["trail"]] for p in told["pairs"]], [[(s, key(i)) for s, i in way] for _, way, _ in ways])
 
 
+def relating(events, first, second):
+    """The first events that relate two pairs: their kind, and their places at the site of the first one."""
+    (site, item), (to, went) = first, second
+    own = events[site]
+    if to != site:
+        ships = lambda event: event["kind"] == "ship" and to in event["to"] and any(item in inside(own, it) for it in event["items"])
+        return "shipped", [next(n for n, event in enumerate(own) if ships(event))]
+    gives = lambda event, other: other["kind"] == "make" and went in other["outs"] and (other is event or (event["id"] and other["id"] == event["id"]))
+    takes = lambda event: event["kind"] == "make" and item in event["ins"] and any(gives(event, other) for other in own)
+    taken = next(n for n, event in enumerate(own) if takes(event))
+    return "made", [taken, next(n for n, other in enumerate(own) if gives(own[taken], other))]
+
+
+def hold_events(what, text, ways, events):
+    """With --events the first events that relate its pair to the one before stand behind each pair of a way."""
+    wanted = []
+    for found, way, _ in ways:
+        wanted.append(f"pair {found[0]} {key(found[1])}")
+        for place, it in enumerate(way):
+            wanted.append(f"  {place + 1} {it[0]} {key(it[1])}")
+            if place > 0:
+                kind, places = relating(events, way[place - 1], it)
+                for n in sorted(set(places), key=places.index):
+                    name = f"{way[place - 1][0]}-{n}"
+                    wanted.append(f"    by {n + 1} ni:///{name} {time_of(name)} {kind}")
+    same(f"{what} --events", text.splitlines()[1 : 1 + len(wanted)], wanted)
+
+
+def hold_events_json(what, text, ways, events):
+    """The same as JSON, of brief ways: of each pair the step beside it."""
+
+    def event(site, n):
+        return {"id": f"ni:///{site}-{n}", "number": n + 1, "time": time_of(f"{site}-{n}")}
+
+    def step(first, second):
+        kind, places = relating(events, first, second)
+        told = [event(first[0], n) for n in places]
+        return {"event": told[0], "kind": kind} if kind == "shipped" else {"input": told[0], "kind": kind, "output": told[1]}
+
+    wanted = [[step(way[-2], way[-1])] if len(way) > 1 else [] for _, way, _ in ways]
+    same(f"{what} --events --brief --json", [p["events"] for p in json.loads(text)["pairs"]], wanted)
+
+
 def trace(folder, events):
     related, out = relate(events)
     converse = collections.defaultdict(set)
@@ -239,6 +288,9 @@ def trace(folder, events):
                 hold_brief(f"{what} --back", ask("trace", "--back", "--brief", folder, site, item), ways_back, True)
                 hold_json(what, ask("trace", "--json", folder, site, item), ways, False)
                 hold_json(f"{what} --back", ask("trace", "--json", "--back", folder, site, item), ways_back, True)
+                hold_events(what, ask("trace", "--events", folder, site, item), ways, events)
+                hold_events(f"{what} --back", ask("trace", "--events", "--back", folder, site, item), ways_back, events)
+                hold_events_json(what, ask("trace", "--events", "--brief", "--json", folder, site, item), ways, events)
         same("an unknown item", ask("trace", folder, site, "x99", status=1), "refused UnknownItem\n")
         same("an unknown item", ask("trace", folder, site, "x99", "--back", status=1), "refused UnknownItem\n")
     same("a site that isn't listed", ask("trace", folder, "west", "x1", status=1), "refused NoSite west\n")

@@ -1,5 +1,5 @@
 -- How a command ends: with which status, and what it leaves on its streams.
-use Rattle.std.specs.Prelude.{◌≡◌, ◌⊎◌, ◌==◌, ℕ, List, [], ◌∷◌, Option, Some, None, Result, Ok, Err, IfErr, IfOk, IfSome, codes, map, string_bytes, if◌then◌else◌}
+use Rattle.std.specs.Prelude.{◌≡◌, ◌⊎◌, ◌==◌, ℕ, List, [], ◌∷◌, Option, Some, None, Result, Ok, Err, IfErr, IfOk, IfSome, codes, map, option_map, string_bytes, if◌then◌else◌}
 use Rattle.std.specs.Global.{Global}
 use Rattle.std.specs.declared.string.String.{String}
 use Rattle.std.specs.Io.KnownBytes.{Appends, Keeps}
@@ -8,6 +8,7 @@ use Rattle.script_core.specs.Runs.{IsDone, Leaves}
 use Rattle.recall_outcomes.specs.Faults.{fault_line}
 use Rattle.recall_outcomes.specs.Notes.{untraced_text}
 use Rattle.recall_outcomes.specs.Advice.{advice}
+use Rattle.recall_outcomes.specs.Places.{place_notes}
 use Rattle.recall_outcomes.specs.Printing.{bare_line, fault_lines, note_lines, outcome_lines}
 use Rattle.recall_outcomes.specs.Sentences.{outcome_sentences}
 use Rattle.recall_outcomes.specs.Statuses.{outcome_status}
@@ -106,7 +107,8 @@ abbrev pub Advises : Form → Option (List ℕ) → Option (List ℕ) → Option
 Advises form None errors errors_after = Keeps errors errors_after
 Advises form (Some text) errors errors_after = AppendsBeginning errors errors_after (note_lines form text)
 
--- the outcome was printed, then what a refusal means, then the notes, and then what is advised; the status is the outcome's
+-- the outcome was printed, then what a refusal means, then the notes, then what is advised, and then which places outside may be
+-- a site, as far as the error stream takes that and there is memory for it; the status is the outcome's
 pub record OutputTold (form : Form) (told : Output) (before after : Printed) (status : ℕ) : Type 0 where
   pub status_is : status ≡ outcome_status told.outcome
   pub printed : Appends before.output after.output (outcome_lines form told.sites told.outcome)
@@ -114,7 +116,9 @@ pub record OutputTold (form : Form) (told : Output) (before after : Printed) (st
   pub explained : Explains form told.outcome before.errors meant
   pub noted_there : Option (List ℕ)
   pub noted : TellsNotes form told.notes meant noted_there
-  pub advised : Advises form (advice told.outcome) noted_there after.errors
+  pub advised_there : Option (List ℕ)
+  pub advised : Advises form (advice told.outcome) noted_there advised_there
+  pub placed : AppendsBeginning advised_there after.errors (note_lines form (place_notes told.sites told.outcome))
 
 module _ {F : Type 0} (fails : F → Option Failure → Type 0) (form : Form) (files : F) where
   -- an output was printed; or printing failed, or memory ran out for it: status 3, and that fault
@@ -216,10 +220,10 @@ module _ {F K : Type 0} (does : F → FileCall K → F → Type 0) (fails : F �
   abbrev pub LintEnds : F → F → Printed → Printed → ℕ → Type 0
   LintEnds old new before after status =
       LintTold
-      (λ summary. Led does old new (Lints asked.form asked.list.now (map (λ path. path.now) asked.paths.items) before.output after.output summary))
+      (λ summary. Led does old new (Lints asked.form asked.list.now (option_map (λ t. t.now) asked.site) (map (λ path. path.now) asked.paths.items) before.output after.output summary))
       before.errors after.errors status
       ⊎ BreaksOff fails asked.form new
-      (Began does old (LintEndsEarly asked.form asked.list.now (map (λ path. path.now) asked.paths.items) before.output after.output))
+      (Began does old (LintEndsEarly asked.form asked.list.now (option_map (λ t. t.now) asked.site) (map (λ path. path.now) asked.paths.items) before.output after.output))
       before.errors after.errors status
 
 -- ---- the whole

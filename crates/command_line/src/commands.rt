@@ -4,6 +4,7 @@ ghost use Rattle.std.specs.Prelude.{◌≡◌, ◌==◌, if◌then◌else◌, If
 ghost use Rattle.recall_outcomes.specs.Advice.{advice};
 ghost use Rattle.recall_outcomes.specs.Faults.{fault_line};
 ghost use Rattle.recall_outcomes.specs.Notes.{untraced_text};
+ghost use Rattle.recall_outcomes.specs.Places.{place_notes};
 ghost use Rattle.recall_outcomes.specs.Printing.{note_lines};
 ghost use Rattle.recall_text.specs.Writing.{AppendsBeginning};
 ghost use Rattle.command_line.specs.CommandLines.{HasTurns};
@@ -12,12 +13,13 @@ ghost use Rattle.command_line.specs.Leads.{FailsBy, LeadsTo};
 ghost use Rattle.folder_commands.specs.FileCalls.{Led};
 
 use crate::command_lines::{self, Asked, Batch, FileCommand};
+use crate::item_commands::{dry_start_known, start_known, trace_known};
 use crate::lint_commands::lint_files;
 use crate::statuses;
 use event_json::Untraced;
 use folder_commands::{
-    Files, Output, audit_sites, capture, do_batch, dry_start, init, items_of_site, recall_standing,
-    recalls_standing, report_recall, run_sites, start, trace_item,
+    Files, Output, audit_sites, capture, do_batch, init, items_of_site, recall_standing,
+    recalls_standing, report_recall, run_sites,
 };
 use keeper_core::SiteKeeper;
 use recall_outcomes::{Fault, Form, Outcome, note_lines, untraced_text};
@@ -163,16 +165,17 @@ fn on_files<
             dry,
         } => {
             if *dry {
-                dry_start(alloc, files, folder, site, item)
+                dry_start_known(alloc, files, folder, site, item)
             } else {
-                start(alloc, files, folder, site, item)
+                start_known(alloc, files, folder, site, item)
             }
         }
         FileCommand::Report {
             folder,
             recall,
             ways,
-        } => report_recall(alloc, files, folder, recall, *ways),
+            events,
+        } => report_recall(alloc, files, folder, recall, *ways, *events),
         FileCommand::Audit { folder } => audit_sites(alloc, files, folder),
         FileCommand::Trace {
             folder,
@@ -180,7 +183,8 @@ fn on_files<
             item,
             back,
             ways,
-        } => trace_item(alloc, files, folder, site, item, *back, *ways),
+            events,
+        } => trace_known(alloc, files, folder, site, item, *back, *ways, *events),
         FileCommand::Recalls { folder, coded } => recalls_standing(alloc, files, folder, *coded),
         FileCommand::Recall {
             folder,
@@ -254,7 +258,8 @@ fn tell<K: SiteKeeper, F: Files<K>, W: Write, E: Write>(
     }
 }
 
-/// Prints an outcome, and behind it on the error stream what it means, its notes and what is advised.
+/// Prints an outcome, and behind it on the error stream what it means, its notes, what is advised, and which places outside
+/// may be a traced site.
 fn tell_output<K: SiteKeeper, F: Files<K>, W: Write, E: Write>(
     alloc: Global,
     form: Form,
@@ -275,6 +280,7 @@ fn tell_output<K: SiteKeeper, F: Files<K>, W: Write, E: Write>(
             explain(alloc, form, &told.outcome, errors);
             note_some(alloc, form, &told.notes, errors);
             advise(alloc, form, &told.outcome, errors);
+            note_places(alloc, form, told, errors);
             told.outcome.status()
         }
         Err(_) => fault(alloc, form, files, Fault::Write, errors),
@@ -310,6 +316,15 @@ fn advise<E: Write>(alloc: Global, form: Form, outcome: &Outcome, errors: &mut E
 {
     if let Some(text) = outcome.advice() {
         note(alloc, form, text, errors);
+    }
+}
+
+/// Tells which places outside may be a traced site, where there is memory for it.
+fn note_places<E: Write>(alloc: Global, form: Form, told: &Output, errors: &mut E)
+    ensures { AppendsBeginning (E.contents errors.old) (E.contents errors.new) (note_lines form (place_notes told.now.sites told.now.outcome)) }
+{
+    if let Ok(text) = told.outcome.place_notes(alloc, &told.sites) {
+        note(alloc, form, text.as_str(), errors);
     }
 }
 

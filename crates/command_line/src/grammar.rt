@@ -2,7 +2,7 @@
 
 ghost use Rattle.std.specs.Prelude.{◌≡◌, false, IfOk, codes};
 ghost use Rattle.clap.specs.Words.{app_of, new_rule, rule_of};
-ghost use Rattle.command_line.specs.CommandLines.{audit, capture, epcs, files, flag, folder, init, items, lint, on_folder, recall, report, required, run, sim, start, status, trace, turns, wait};
+ghost use Rattle.command_line.specs.CommandLines.{audit, capture, capturing, epcs, files, flag, folder, init, items, lint, on_folder, recall, report, required, run, sim, start, status, trace, turns, wait};
 
 use crate::helps;
 use clap::builder::ValueParser;
@@ -120,6 +120,18 @@ fn brief<'a>(alloc: Global) -> Arg<'a>
     )
 }
 
+/// Whether the events behind the steps are told.
+fn events<'a>(alloc: Global) -> Arg<'a>
+    ensures rule { rule_of result ≡ flag (codes "events") }
+    ensures local { result.global ≡ false }
+{
+    flag(
+        alloc,
+        "events",
+        "Tell behind each step the events that relate its pairs",
+    )
+}
+
 /// Whether it is printed as rows.
 fn csv<'a>(alloc: Global) -> Arg<'a>
     ensures rule { rule_of result ≡ flag (codes "csv") }
@@ -189,7 +201,8 @@ fn capture<'a>(alloc: Global) -> Result<Command<'a>, AllocError>
     )?
     .arg(required(alloc, "site", "The site that captures them"))?
     .arg(files(alloc))?
-    .arg(lines(alloc))
+    .arg(lines(alloc))?
+    .arg(each(alloc))
 }
 
 /// The files of the documents, one at least.
@@ -211,6 +224,14 @@ fn lines<'a>(alloc: Global) -> Arg<'a>
     ensures local { result.global ≡ false }
 {
     flag(alloc, "lines", "Each line of a file is a document")
+}
+
+/// Whether each event is captured on its own.
+fn each<'a>(alloc: Global) -> Arg<'a>
+    ensures rule { rule_of result ≡ flag (codes "each") }
+    ensures local { result.global ≡ false }
+{
+    flag(alloc, "each", "Capture each event of a document on its own")
 }
 
 fn start<'a>(alloc: Global) -> Result<Command<'a>, AllocError>
@@ -271,6 +292,7 @@ fn report<'a>(alloc: Global) -> Result<Command<'a>, AllocError>
     on_folder(alloc, "report", helps::REPORT_ABOUT, helps::REPORT_EXAMPLE)?
         .arg(required(alloc, "recall", "The recall, as dairy#1"))?
         .arg(brief(alloc))?
+        .arg(events(alloc))?
         .arg(csv(alloc))?
         .arg(dot(alloc))
 }
@@ -289,6 +311,7 @@ fn trace<'a>(alloc: Global) -> Result<Command<'a>, AllocError>
         .arg(required(alloc, "epc", "The EPC of the item"))?
         .arg(flag(alloc, "back", "Trace where it came from, not where it went"))?
         .arg(brief(alloc))?
+        .arg(events(alloc))?
         .arg(csv(alloc))?
         .arg(dot(alloc))?
         .arg(key(alloc))?
@@ -331,5 +354,16 @@ fn lint<'a>(alloc: Global) -> Result<Command<'a>, AllocError>
         .after_help(helps::LINT_EXAMPLE)
         .arg(required(alloc, "sites", "The file that lists the sites"))?
         .arg(files(alloc))?
-        .arg(json(alloc))
+        .arg(json(alloc))?
+        .arg(capturing(alloc))
+}
+
+/// The site that is to capture the documents.
+fn capturing<'a>(alloc: Global) -> Arg<'a>
+    ensures rule { rule_of result ≡ capturing }
+    ensures local { result.global ≡ false }
+{
+    Arg::new(alloc, "site").long("site").value_name("name").help(
+        "Tell of events that happened at another traced site than this one",
+    )
 }

@@ -14,6 +14,20 @@ error: only one of '--json', '--csv' and '--dot' can be given
 For more information, try '--help'.
 ";
 
+/// What is wrong where events are asked for in a form that tells none.
+pub(crate) const UNTOLD_EVENTS: &str = "\
+error: '--events' is for text and '--json', and not for '--csv' or '--dot'
+
+For more information, try '--help'.
+";
+
+/// What is wrong where both the lines and the events of a file are to be documents.
+pub(crate) const LINES_AND_EVENTS: &str = "\
+error: only one of '--lines' and '--each' can be given
+
+For more information, try '--help'.
+";
+
 /// What is wrong where a start of several recalls is to be dry.
 pub(crate) const ONE_DRY_START: &str = "\
 error: '--dry-run' takes one EPC, and no '--from'
@@ -102,10 +116,13 @@ many of its events are new, were captured before, or are of a type that isn't tr
 Of several files, or with `--lines`, the site's file is opened once. Each document is kept, and its line
 printed, before the next one is read; at the line's end stands the file, and with `--lines` the number of
 its line. A document that is refused doesn't stop the others. A last line has the totals.
+With `--each` each event of a document is captured as a document of its own, so that one which is refused
+keeps out no other; at the line's end stand the file and `event` with the event's number.
 
 Examples:
   recall capture chain dairy examples/dairy/dairy.json
   recall capture chain dairy monday/*.json
+  recall capture chain dairy late.json --each
   zcat events.ndjson.gz | recall capture chain dairy - --lines
 
 Status: 0 done, 1 refused, 3 a fault.";
@@ -153,7 +170,8 @@ pub(crate) const REPORT_ABOUT: &str =
 pub(crate) const REPORT_EXAMPLE: &str = "\
 A recall is named by its site and its number there, as dairy#1; `recall status` lists all recalls. Behind
 each quarantined item stand the steps that lead to it from the recalled one; with `--brief` it has the last
-step alone, in its own line.
+step alone, in its own line. With `--events` stand behind each step the events that relate its two items:
+`by <number> <eventID> <time> shipped`, or `made`, which are two where they are two parts of a transformation.
 
 With `--csv` each quarantined item and each shipment that left is a row of a table for a spreadsheet, with
 the step before it; with `--dot` the spread is a picture for Graphviz. A refusal is printed as text.
@@ -161,6 +179,7 @@ the step before it; with `--dot` the spread is a picture for Graphviz. A refusal
 Examples:
   recall report chain dairy#1
   recall report chain dairy#1 --brief
+  recall report chain dairy#1 --events
   recall report chain dairy#1 --csv > recall.csv
   recall report chain dairy#1 --dot | dot -Tsvg > recall.svg
 
@@ -186,7 +205,8 @@ pub(crate) const TRACE_EXAMPLE: &str = "\
 Prints `pair <site> <item>` for each item at a site that was made from the one asked for or shipped on, with
 the steps that lead to it, `outside` for each shipment of them that left the traced sites, and a total. With
 `--back`: each item at a site that went into the one asked for, the steps from it, and `origin` for those
-that come from nowhere among the traced sites. With `--brief` each has one step, in its own line. Nothing is
+that come from nowhere among the traced sites. With `--brief` each has one step, in its own line, and with
+`--events` stand behind each step the events that relate its two items, as in `recall report`. Nothing is
 recalled, and no file is changed.
 
 With `--csv` it is a table for a spreadsheet, with a row for each item at a site and one for each shipment
@@ -199,6 +219,7 @@ Examples:
   recall trace chain dairy --key 'sgtin 10614141123459 400'
   recall trace chain dairy --scan '(01)10614141123459(21)400'
   recall trace chain shop https://id.gs1.org/01/09521321000179/21/1 --back --brief
+  recall trace chain shop https://id.gs1.org/01/09521321000179/21/1 --back --events
   recall trace chain dairy urn:epc:id:sgtin:0614141.112345.400 --dot | dot -Tsvg > trace.svg
 
 Status: 0 done, 1 refused (UnknownItem: no event of the site names the item), 3 a fault.";
@@ -241,10 +262,13 @@ Needs the list of sites alone, and writes nothing. `fault <kind> event <number> 
 first fault of each event, in the words of a refused capture; a document without a fault is one that is read.
 `warn` for what is read and probably not meant: ShipsNowhere (shipping without a destination), Outside (a
 destination that is no traced site), Skipped (an event of a type that isn't traced), NoEventID (captured
-again it counts again), NearMiss (begins as an SGTIN or an SSCC and breaks its rules). Then a total.
+again it counts again), NearMiss (begins as an SGTIN or an SSCC and breaks its rules); and with `--site <name>`
+OtherPlace (its readPoint or bizLocation is an address of another site than the one that is to capture it).
+Then a total.
 
 Examples:
   recall lint examples/dairy/sites examples/dairy/dairy.json
+  recall lint examples/dairy/sites examples/dairy/dairy.json --site plant
   recall lint chain/sites monday/*.json --json
 
 Status: 0 no fault, 1 a fault, or the list is refused, 3 a fault of a file, named on the error stream.";

@@ -19,6 +19,8 @@ use std::io::Write;
 pub(crate) struct LintFiles<'a> {
     /// The file that lists the sites.
     pub(crate) list: &'a str,
+    /// The site that is to capture them, if it is named.
+    pub(crate) site: Option<&'a str>,
     pub(crate) paths: Vec<&'a str>,
     /// How it is printed.
     pub(crate) form: Form,
@@ -34,9 +36,15 @@ pub(crate) fn lint_command<'a>(
     ensures { IfSome result (IsLintCommand (rows_of (found_of given.now))) }
 {
     let list = argument(given, "sites")?;
+    let site = given.get_str("site");
     let paths = given.get_strs("file")?;
     let paths = copied(alloc, paths).ok()?;
-    Some(Asked::Lint(LintFiles { list, paths, form }))
+    Some(Asked::Lint(LintFiles {
+        list,
+        site,
+        paths,
+        form,
+    }))
 }
 
 /// Looks through documents, and returns the status to end with.
@@ -55,6 +63,7 @@ pub(crate) fn lint_files<K: SiteKeeper, F: Files<K>, W: Write, E: Write>(
         alloc,
         files,
         asked.list,
+        asked.site,
         asked.paths.as_slice(),
         asked.form,
         output,

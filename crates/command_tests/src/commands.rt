@@ -26,6 +26,8 @@ pub(crate) enum Asked {
     StartBy(Spelling, &'static str),
     DryStartBy(Spelling, &'static str),
     TraceBy(Spelling, &'static str),
+    ReportEvents(&'static str),
+    TraceEvents(&'static str, bool),
 }
 
 /// An item by its EPC.
@@ -47,11 +49,11 @@ pub(crate) fn answer(
         Asked::Init(folder, list) => init(alloc, keys, files, folder, list),
         Asked::Capture(site, file) => capture(alloc, files, "d", site, file),
         Asked::Start(site, item) => start(alloc, files, "d", site, &epc(item)),
-        Asked::Report(recall) => report_recall(alloc, files, "d", recall, Ways::Trails),
+        Asked::Report(recall) => report_recall(alloc, files, "d", recall, Ways::Trails, false),
         Asked::Audit(folder) => audit_sites(alloc, files, folder),
         Asked::DryStart(item) => dry_start(alloc, files, "d", "A", &epc(item)),
         Asked::Trace(item, back) => {
-            trace_item(alloc, files, "d", "A", &epc(item), back, Ways::Steps)
+            trace_item(alloc, files, "d", "A", &epc(item), back, Ways::Steps, false)
         }
         Asked::Status(recall) => recall_standing(alloc, files, "d", recall, true),
         Asked::Items(text) => items_of_site(alloc, files, "d", "A", text),
@@ -63,7 +65,13 @@ pub(crate) fn answer(
         }
         Asked::TraceBy(spelling, text) => {
             let item = Spelled { text, spelling };
-            trace_item(alloc, files, "d", "A", &item, false, Ways::Steps)
+            trace_item(alloc, files, "d", "A", &item, false, Ways::Steps, false)
+        }
+        Asked::ReportEvents(recall) => {
+            report_recall(alloc, files, "d", recall, Ways::Trails, true)
+        }
+        Asked::TraceEvents(item, back) => {
+            trace_item(alloc, files, "d", "A", &epc(item), back, Ways::Steps, true)
         }
     }
 }

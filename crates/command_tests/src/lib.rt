@@ -8,6 +8,8 @@ mod batches;
 #[cfg(test)]
 mod commands;
 #[cfg(test)]
+mod events;
+#[cfg(test)]
 mod forms;
 #[cfg(test)]
 mod lints;

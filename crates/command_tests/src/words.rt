@@ -190,6 +190,14 @@ fn a_bad_command_line_ends_with_2(rt: HostRuntime) -> Result<(), Fail> {
             "error: only one of",
         ),
         ("recall audit d --csv", "", 2, "", "error: unexpected"),
+        // Events in a form that tells none.
+        (
+            "recall trace d A x --events --dot",
+            "",
+            2,
+            "",
+            "error: '--events' is for text",
+        ),
         // An item that is said to be spelled in two ways, and a command without a spelling.
         (
             "recall start d A x --key --scan",
@@ -238,6 +246,7 @@ fn commands_on_files_are_told(rt: HostRuntime) -> Result<(), Fail> {
             "fault Read\na file is missing or wasn't read: look at its path\n",
         ),
         ("recall report d A#1 --csv", "", 3, "", "fault Read\n"),
+        ("recall report d A#1 --events", "", 3, "", "fault Read\n"),
         ("recall trace d A x --dot --back", "", 3, "", "fault Read\n"),
         ("recall trace d A x --scan", "", 3, "", "fault Read\n"),
         (
@@ -249,6 +258,14 @@ fn commands_on_files_are_told(rt: HostRuntime) -> Result<(), Fail> {
         ),
         ("recall capture d A a b", "", 3, "", "fault Read\n"),
         ("recall capture d A - --lines", "", 3, "", "fault Read\n"),
+        ("recall capture d A - --each", "", 3, "", "fault Read\n"),
+        (
+            "recall capture d A - --each --lines",
+            "",
+            2,
+            "",
+            "error: only one of '--lines' and '--each'",
+        ),
         (
             "recall lint none a b --json",
             "",

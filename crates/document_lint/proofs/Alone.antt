@@ -13,13 +13,13 @@ use Rattle.event_json.specs.declared.documents.Doc.{Doc}
 use Rattle.document_lint.specs.Findings.{alone, at_number, event_findings, found_of}
 
 -- what is found at an event doesn't depend on its number
-same_at : (d : Data) (n m : ℕ) (read : Result (Option Content) Flaw) → found_of d (at_event n read) ≡ found_of d (at_event m read)
-same_at d n m (Ok None) = refl
-same_at d n m (Ok (Some e)) = refl
-same_at d n m (Err flaw) = refl
+same_at : (sites : List Site) (here : Option ℕ) (d : Data) (n m : ℕ) (read : Result (Option Content) Flaw) → found_of sites here d (at_event n read) ≡ found_of sites here d (at_event m read)
+same_at sites here d n m (Ok None) = refl
+same_at sites here d n m (Ok (Some e)) = refl
+same_at sites here d n m (Err flaw) = refl
 
-pub at_any_number : (sites : List Site) (n : ℕ) (d : Data) → at_number n (found_of d (numbered_event sites 1 d)) ≡ event_findings sites (n, d)
-at_any_number sites n d = ap (at_number n) (same_at d 1 n (event_of sites d))
+pub at_any_number : (sites : List Site) (here : Option ℕ) (n : ℕ) (d : Data) → at_number n (found_of sites here d (numbered_event sites 1 d)) ≡ event_findings sites here (n, d)
+at_any_number sites here n d = ap (at_number n) (same_at sites here d 1 n (event_of sites d))
 
 abbrev events_in : Result Doc DocFault → List Content
 events_in (Ok doc) = doc.events

@@ -1,10 +1,11 @@
 -- the first fault that is found is the one that a document is refused for
-use Rattle.std.proofs.Common.{◌≡◌, ℕ, ◌+◌, Bool, true, false, List, [], ◌∷◌, ◌++◌, Option, Some, None, Result, Ok, Err, map, refl, sym, ap, ◌∙◌, append_assoc}
+use Rattle.std.proofs.Common.{◌≡◌, ℕ, ◌+◌, Bool, true, false, if◌then◌else◌, List, [], ◌∷◌, ◌++◌, Option, Some, None, Result, Ok, Err, map, refl, sym, ap, ◌∙◌, append_assoc}
 use Rattle.std.specs.Prelude.{⊤}
 use Rattle.std.specs.List.{enumerate_from, flat_map}
 use Rattle.std.proofs.lemmas.List.{map-append}
 use Rattle.serde_json.specs.Data.{Data, Items, no_items, item}
 use Rattle.serde_json.specs.Read.{read}
+use Rattle.epc_core.specs.Items.{is_plain}
 use Rattle.event_json.specs.Documents.{doc_of, document_of, event_list, events_of, few_events, numbered_event, text_document}
 use Rattle.event_json.specs.EventReading.{event_of}
 use Rattle.event_json.specs.Events.{Content}
@@ -21,9 +22,12 @@ use Rattle.event_json.specs.declared.doc_faults.Flaw.{Flaw}
 use Rattle.document_lint.specs.Findings.{aims, at_number, event_findings, found_in, found_of, length_findings, missed, names, near, nears, nears_of, parent_nears, strange, text_lint, value_lint}
 use Rattle.document_lint.specs.Laws.{FirstFaultRefuses, first_fault, refused_for}
 use Rattle.document_lint.specs.NearMisses.{near_text}
+use Rattle.document_lint.specs.OtherPlaces.{is_other, other_place, other_places, place_text}
 use Rattle.document_lint.specs.declared.findings.Finding.{Finding}
+use Rattle.document_lint.specs.declared.findings.PlaceMember.{PlaceMember}
+use Rattle.document_lint.specs.declared.findings.PlaceMember.TheVariants.{ReadPoint, BizLocation}
 use Rattle.document_lint.specs.declared.findings.What.{What}
-use Rattle.document_lint.specs.declared.findings.What.TheVariants.{ShipsNowhere, Outside, NoEventId, NearMiss}
+use Rattle.document_lint.specs.declared.findings.What.TheVariants.{ShipsNowhere, Outside, NoEventId, NearMiss, OtherPlace}
 
 -- none of this is a fault
 record NoFault (found : List What) : Type 0 where
@@ -72,10 +76,26 @@ bodies (Ship items sites outside) = misses fields.EpcList items
 bodies (Make id ins outs) = both (nears_of fields.InputEpcList ins) (nears_of fields.OutputEpcList outs) (misses fields.InputEpcList ins) (misses fields.OutputEpcList outs)
 bodies (Pack action parent children) = both (parent_nears parent) (nears_of fields.ChildEpcs children) (parents parent) (misses fields.ChildEpcs children)
 
-kept_event : (d : Data) (e : Content) → NoFault (strange d e)
-kept_event d e =
-    both (aims (is_aimless d)) (map Outside (outside_of e.body) ++ (names e.id ++ nears e.body)) (aimed (is_aimless d))
-    (both (map Outside (outside_of e.body)) (names e.id ++ nears e.body) (places (outside_of e.body)) (both (names e.id) (nears e.body) (named e.id) (bodies e.body)))
+other : (sites : List Site) (here : Option ℕ) (member : PlaceMember) (text : Option (List ℕ)) → NoFault (other_place sites here member text)
+other sites here member None = nothing
+other sites here member (Some text) = by (is_other sites here text) (is_plain text)
+  where
+    by : (t u : Bool) → NoFault (if t then (if u then OtherPlace member text ∷ [] else []) else [])
+    by true true = one_more (OtherPlace member text) [] (λ n rest. refl) nothing
+    by true false = nothing
+    by false u = nothing
+
+others : (sites : List Site) (here : Option ℕ) (d : Data) → NoFault (other_places sites here d)
+others sites here d =
+    both (other_place sites here ReadPoint (place_text ReadPoint d)) (other_place sites here BizLocation (place_text BizLocation d))
+    (other sites here ReadPoint (place_text ReadPoint d)) (other sites here BizLocation (place_text BizLocation d))
+
+kept_event : (sites : List Site) (here : Option ℕ) (d : Data) (e : Content) → NoFault (strange sites here d e)
+kept_event sites here d e =
+    let placed = other_places sites here d in
+    let ended = both (nears e.body) placed (bodies e.body) (others sites here d) in
+    both (aims (is_aimless d)) (map Outside (outside_of e.body) ++ (names e.id ++ (nears e.body ++ placed))) (aimed (is_aimless d))
+    (both (map Outside (outside_of e.body)) (names e.id ++ (nears e.body ++ placed)) (places (outside_of e.body)) (both (names e.id) (nears e.body ++ placed) (named e.id) ended))
 
 -- ---- the events of a list
 
@@ -87,42 +107,42 @@ behind_one : (first : Option Content) (rest : Result (List (Option Content)) Doc
 behind_one first (Ok others) = refl
 behind_one first (Err fault) = refl
 
-listed_faults : (sites : List Site) (n : ℕ) (items : Items)
-    → first_fault (flat_map (event_findings sites) (enumerate_from n (in_order items))) ≡ fault_in (each (numbered_event sites) n items)
-listed_faults sites n no_items = refl
-listed_faults sites n (item d ds) = by (event_of sites d) (listed_faults sites (n + 1) ds)
+listed_faults : (sites : List Site) (here : Option ℕ) (n : ℕ) (items : Items)
+    → first_fault (flat_map (event_findings sites here) (enumerate_from n (in_order items))) ≡ fault_in (each (numbered_event sites) n items)
+listed_faults sites here n no_items = refl
+listed_faults sites here n (item d ds) = by (event_of sites d) (listed_faults sites here (n + 1) ds)
   where
-    by : (read : Result (Option Content) Flaw) → first_fault (flat_map (event_findings sites) (enumerate_from (n + 1) (in_order ds))) ≡ fault_in (each (numbered_event sites) (n + 1) ds)
-        → first_fault (at_number n (found_of d (at_event n read)) ++ flat_map (event_findings sites) (enumerate_from (n + 1) (in_order ds)))
+    by : (read : Result (Option Content) Flaw) → first_fault (flat_map (event_findings sites here) (enumerate_from (n + 1) (in_order ds))) ≡ fault_in (each (numbered_event sites) (n + 1) ds)
+        → first_fault (at_number n (found_of sites here d (at_event n read)) ++ flat_map (event_findings sites here) (enumerate_from (n + 1) (in_order ds)))
         ≡ fault_in (at_event n read >>= λ first. each (numbered_event sites) (n + 1) ds >>= λ rest. Ok (first ∷ rest))
     by (Err flaw) rest = refl
     by (Ok None) rest = rest ∙ sym (behind_one None (each (numbered_event sites) (n + 1) ds))
     by (Ok (Some e)) rest =
-        (kept_event d e).passed n (flat_map (event_findings sites) (enumerate_from (n + 1) (in_order ds))) ∙ rest
+        (kept_event sites here d e).passed n (flat_map (event_findings sites here) (enumerate_from (n + 1) (in_order ds))) ∙ rest
         ∙ sym (behind_one (Some e) (each (numbered_event sites) (n + 1) ds))
 
 whole_fault : (read : Result (List (Option Content)) DocFault) → fault_in read ≡ refused_for (read >>= λ found. Ok (doc_of found))
 whole_fault (Ok found) = refl
 whole_fault (Err fault) = refl
 
-value_faults : (sites : List Site) (d : Data) → first_fault (value_lint sites d).findings ≡ refused_for (document_of sites d)
+value_faults : (sites : List Site) (here : Option ℕ) (d : Data) → first_fault (value_lint sites here d).findings ≡ refused_for (document_of sites d)
 unfolding value_lint document_of events_of
-value_faults sites d = by (event_list d)
+value_faults sites here d = by (event_list d)
   where
     by_length : (items : Items) (few : Result ⊤ DocFault)
-        → first_fault (length_findings few ++ flat_map (event_findings sites) (enumerate_from 1 (in_order items)))
+        → first_fault (length_findings few ++ flat_map (event_findings sites here) (enumerate_from 1 (in_order items)))
         ≡ refused_for (few >>= λ _. each (numbered_event sites) 1 items >>= λ found. Ok (doc_of found))
     by_length items (Err fault) = refl
-    by_length items (Ok passed) = listed_faults sites 1 items ∙ whole_fault (each (numbered_event sites) 1 items)
+    by_length items (Ok passed) = listed_faults sites here 1 items ∙ whole_fault (each (numbered_event sites) 1 items)
 
-    by : (list : Result Items DocFault) → first_fault (found_in sites list).findings ≡ refused_for (list >>= λ items. few_events items >>= λ _. events_of sites items)
+    by : (list : Result Items DocFault) → first_fault (found_in sites here list).findings ≡ refused_for (list >>= λ items. few_events items >>= λ _. events_of sites items)
     by (Err fault) = refl
     by (Ok items) = by_length items (few_events items)
 
-read_faults : (sites : List Site) (text : List ℕ) (value : Option Data) → read text ≡ value → first_fault (text_lint sites text).findings ≡ refused_for (text_document sites text)
+read_faults : (sites : List Site) (here : Option ℕ) (text : List ℕ) (value : Option Data) → read text ≡ value → first_fault (text_lint sites here text).findings ≡ refused_for (text_document sites text)
 unfolding text_lint text_document
-read_faults sites text None is = rw is refl
-read_faults sites text (Some d) is = rw is (value_faults sites d)
+read_faults sites here text None is = rw is refl
+read_faults sites here text (Some d) is = rw is (value_faults sites here d)
 
 pub first_is_told : FirstFaultRefuses
-first_is_told sites text = read_faults sites text (read text) refl
+first_is_told sites here text = read_faults sites here text (read text) refl

@@ -5,7 +5,7 @@ use Rattle.serde_json.specs.Written.{has_float}
 use Rattle.document_lint.specs.Lines.{finding_json, what_members}
 use Rattle.document_lint.specs.declared.findings.Finding.{Finding}
 use Rattle.document_lint.specs.declared.findings.What.{What}
-use Rattle.document_lint.specs.declared.findings.What.TheVariants.{Fault, Skipped, ShipsNowhere, Outside, NoEventId, NearMiss}
+use Rattle.document_lint.specs.declared.findings.What.TheVariants.{Fault, Skipped, ShipsNowhere, Outside, NoEventId, NearMiss, OtherPlace}
 
 what_free : (source : List ℕ) (event : ℕ) (what : What) → has_float (object (what_members source event what)) ≡ false
 what_free source event (Fault field kind) = refl
@@ -14,6 +14,7 @@ what_free source event ShipsNowhere = refl
 what_free source event (Outside place) = refl
 what_free source event NoEventId = refl
 what_free source event (NearMiss field text) = refl
+what_free source event (OtherPlace place address) = refl
 
 pub finding_free : (source : List ℕ) (found : Finding) → has_float (finding_json source found) ≡ false
 finding_free source found = what_free source found.event found.what

@@ -16,6 +16,7 @@ use Rattle.event_json.specs.declared.doc_faults.DocFaultKind.TheVariants as kind
 use Rattle.event_json.specs.declared.doc_faults.DocField.{DocField}
 use Rattle.event_json.specs.declared.doc_faults.DocField.TheVariants as fields
 use Rattle.document_lint.specs.NearMisses.{near_text}
+use Rattle.document_lint.specs.OtherPlaces.{other_places}
 use Rattle.document_lint.specs.declared.findings.Finding.{Finding}
 use Rattle.document_lint.specs.declared.findings.Lint.{Lint}
 use Rattle.document_lint.specs.declared.findings.SkippedType.{SkippedType}
@@ -59,24 +60,24 @@ nears (Ship items sites outside) = nears_of fields.EpcList items
 nears (Make id ins outs) = nears_of fields.InputEpcList ins ++ nears_of fields.OutputEpcList outs
 nears (Pack action parent children) = parent_nears parent ++ nears_of fields.ChildEpcs children
 
--- all of that
-abbrev pub strange : Data → Content → List What
-strange d e = aims (is_aimless d) ++ (map Outside (outside_of e.body) ++ (names e.id ++ nears e.body))
+-- all of that, and that it happened at another site than the one that captures it, where this is known
+abbrev pub strange : List Site → Option ℕ → Data → Content → List What
+strange sites here d e = aims (is_aimless d) ++ (map Outside (outside_of e.body) ++ (names e.id ++ (nears e.body ++ other_places sites here d)))
 
 -- ---- an event
 
 -- its fault, that it is skipped, or what is strange about it
-abbrev pub found_of : Data → Result (Option Content) DocFault → List What
-found_of d (Err fault) = Fault fault.field fault.kind ∷ []
-found_of d (Ok None) = Skipped (skipped_type d) ∷ []
-found_of d (Ok (Some e)) = strange d e
+abbrev pub found_of : List Site → Option ℕ → Data → Result (Option Content) DocFault → List What
+found_of sites here d (Err fault) = Fault fault.field fault.kind ∷ []
+found_of sites here d (Ok None) = Skipped (skipped_type d) ∷ []
+found_of sites here d (Ok (Some e)) = strange sites here d e
 
 -- at this number
 abbrev pub at_number : ℕ → List What → List Finding
 at_number n found = map (λ what. record { event = n; what = what }) found
 
-abbrev pub event_findings : List Site → ℕ × Data → List Finding
-event_findings sites (n, d) = at_number n (found_of d (numbered_event sites n d))
+abbrev pub event_findings : List Site → Option ℕ → ℕ × Data → List Finding
+event_findings sites here (n, d) = at_number n (found_of sites here d (numbered_event sites n d))
 
 -- ---- a document
 
@@ -95,32 +96,32 @@ length_findings (Ok _) = []
 length_findings (Err fault) = fault_finding fault ∷ []
 
 -- the events of a list
-abbrev pub list_findings : List Site → Items → List Finding
-list_findings sites items = length_findings (few_events items) ++ flat_map (event_findings sites) (enumerate_from 1 (in_order items))
+abbrev pub list_findings : List Site → Option ℕ → Items → List Finding
+list_findings sites here items = length_findings (few_events items) ++ flat_map (event_findings sites here) (enumerate_from 1 (in_order items))
 
 -- a document without a list of events has one fault
 abbrev pub without_list : DocFault → Lint
 without_list fault = record { events = 0; findings = fault_finding fault ∷ [] }
 
 -- what is found in a list of events, or that there is none
-abbrev pub found_in : List Site → Result Items DocFault → Lint
-found_in sites (Err fault) = without_list fault
-found_in sites (Ok items) = record { events = count_of items; findings = list_findings sites items }
+abbrev pub found_in : List Site → Option ℕ → Result Items DocFault → Lint
+found_in sites here (Err fault) = without_list fault
+found_in sites here (Ok items) = record { events = count_of items; findings = list_findings sites here items }
 
-unfoldable pub value_lint : List Site → Data → Lint
-value_lint sites d = found_in sites (event_list d)
+unfoldable pub value_lint : List Site → Option ℕ → Data → Lint
+value_lint sites here d = found_in sites here (event_list d)
 
 -- what is found in a value, or that there is none
-abbrev pub found_at : List Site → Option Data → Lint
-found_at sites None = without_list (whole fields.Document kinds.Syntax)
-found_at sites (Some d) = value_lint sites d
+abbrev pub found_at : List Site → Option ℕ → Option Data → Lint
+found_at sites here None = without_list (whole fields.Document kinds.Syntax)
+found_at sites here (Some d) = value_lint sites here d
 
 -- a document of these bytes, which are UTF-8
-unfoldable pub text_lint : List Site → List ℕ → Lint
-text_lint sites text = found_at sites (read text)
+unfoldable pub text_lint : List Site → Option ℕ → List ℕ → Lint
+text_lint sites here text = found_at sites here (read text)
 
--- a document of these bytes
-abbrev pub IsLint : List Site → List ℕ → Lint → Type 0
-IsLint sites bytes lint =
-    (IsUtf8 bytes → lint ≡ text_lint sites bytes)
+-- a document of these bytes, which the site of this number is to capture, if that is known
+abbrev pub IsLint : List Site → Option ℕ → List ℕ → Lint → Type 0
+IsLint sites here bytes lint =
+    (IsUtf8 bytes → lint ≡ text_lint sites here bytes)
     × ((IsUtf8 bytes → ⊥) → lint ≡ without_list (whole fields.Document kinds.Syntax))

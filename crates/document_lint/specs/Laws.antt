@@ -1,12 +1,15 @@
 -- What a linter finds, in the words of the one who captures documents.
-use Rattle.std.specs.Prelude.{◌≡◌, ◌&&◌, ℕ, List, [], ◌∷◌, Option, Some, None, Result, Ok, Err, IsSome, IsTrue, if◌then◌else◌, is_none}
+use Rattle.std.specs.Prelude.{◌≡◌, ◌&&◌, ℕ, List, [], ◌∷◌, Option, Some, None, Result, Ok, Err, IsSome, IsTrue, if◌then◌else◌, is_none, sum_by}
+use Rattle.std.specs.List.{AllZip, flat_map}
 use Rattle.epc_core.specs.Items.{key_of, number_key_of}
-use Rattle.event_json.specs.Documents.{text_document}
+use Rattle.serde_json.specs.Data.{Data, item, no_items}
+use Rattle.event_json.specs.Documents.{events_of, text_document}
 use Rattle.event_json.specs.Sites.{Site}
 use Rattle.event_json.specs.declared.doc_faults.DocFault.{DocFault}
 use Rattle.event_json.specs.declared.documents.Doc.{Doc}
 use Rattle.document_lint.specs.Findings.{text_lint}
 use Rattle.document_lint.specs.NearMisses.{is_number_like, near_text}
+use Rattle.document_lint.specs.Splitting.{AreEventsOf, IsAlone}
 use Rattle.document_lint.specs.declared.findings.Finding.{Finding}
 use Rattle.document_lint.specs.declared.findings.What.{What}
 use Rattle.document_lint.specs.declared.findings.What.TheVariants.{Fault}
@@ -28,7 +31,8 @@ refused_for (Err fault) = Some fault
 
 -- A document is refused for the first fault that is found in it, and read where none is found.
 abbrev pub FirstFaultRefuses : Type 0
-FirstFaultRefuses = (sites : List Site) (text : List ℕ) → first_fault (text_lint sites text).findings ≡ refused_for (text_document sites text)
+FirstFaultRefuses =
+    (sites : List Site) (here : Option ℕ) (text : List ℕ) → first_fault (text_lint sites here text).findings ≡ refused_for (text_document sites text)
 
 -- The item of a text is a near miss where the text begins as one of an SGTIN or an SSCC and spells none.
 abbrev pub NearMissesSpellNone : Type 0
@@ -38,3 +42,17 @@ NearMissesSpellNone =
 -- Each text that spells one begins so.
 abbrev pub SpellingsBeginSo : Type 0
 SpellingsBeginSo = (text : List ℕ) → IsSome (number_key_of text) → IsTrue (is_number_like text)
+
+-- A document of an event alone is read as the event is, or refused for its fault, as that of the first event.
+abbrev pub AloneIsRead : Type 0
+AloneIsRead = (sites : List Site) (event : Data) (bytes : List ℕ) → IsAlone event bytes → text_document sites bytes ≡ events_of sites (item event no_items)
+
+-- what these documents say, put together
+abbrev pub together : List Doc → Doc
+together docs = record { events = flat_map (λ doc. doc.events) docs; skipped = sum_by (λ doc. doc.skipped) docs }
+
+-- A document that is read says what the documents of its single events say, put together.
+abbrev pub EventsMakeTheDocument : Type 0
+EventsMakeTheDocument =
+    (sites : List Site) (bytes : List ℕ) (documents : List (List ℕ)) (doc : Doc) → AreEventsOf bytes documents → text_document sites bytes ≡ Ok doc
+    → (docs : List Doc) × AllZip (λ document found. text_document sites document ≡ Ok found) documents docs × (together docs ≡ doc)

@@ -8,12 +8,13 @@ use Rattle.serde_json.specs.Written.{compact_text}
 use Rattle.event_json.specs.Names.{field_name, kind_name}
 use Rattle.event_json.specs.declared.doc_faults.DocField.{DocField}
 use Rattle.event_json.specs.declared.doc_faults.DocField.TheVariants as fields
+use Rattle.document_lint.specs.OtherPlaces.{place_name}
 use Rattle.document_lint.specs.declared.findings.Finding.{Finding}
 use Rattle.document_lint.specs.declared.findings.Lint.{Lint}
 use Rattle.document_lint.specs.declared.findings.SkippedType.{SkippedType}
 use Rattle.document_lint.specs.declared.findings.SkippedType.TheVariants.{Transaction, Association}
 use Rattle.document_lint.specs.declared.findings.What.{What}
-use Rattle.document_lint.specs.declared.findings.What.TheVariants.{Fault, Skipped, ShipsNowhere, Outside, NoEventId, NearMiss}
+use Rattle.document_lint.specs.declared.findings.What.TheVariants.{Fault, Skipped, ShipsNowhere, Outside, NoEventId, NearMiss, OtherPlace}
 use Rattle.document_lint.specs.declared.totals.LintTotals.{LintTotals}
 
 -- the type of an event that is skipped
@@ -27,9 +28,12 @@ type_name Association = codes "AssociationEvent"
 abbrev pub named : List ℕ → List ℕ → ℕ → List ℕ
 named level name event = level ++ codes " " ++ name ++ codes " event " ++ decimal event
 
--- and the field
+-- and the member that is meant, by its name or its field
+abbrev pub named_in : List ℕ → List ℕ → ℕ → List ℕ → List ℕ
+named_in level name event field = named level name event ++ codes " field " ++ field
+
 abbrev pub named_at : List ℕ → List ℕ → ℕ → DocField → List ℕ
-named_at level name event field = named level name event ++ codes " field " ++ field_name field
+named_at level name event field = named_in level name event (field_name field)
 
 -- the words of a fault are those of the refusal of a document
 abbrev pub what_words : ℕ → What → List ℕ
@@ -39,6 +43,7 @@ what_words event ShipsNowhere = named_at (codes "warn") (codes "ShipsNowhere") e
 what_words event (Outside place) = named_at (codes "warn") (codes "Outside") event fields.DestinationList ++ codes " " ++ place
 what_words event NoEventId = named (codes "warn") (codes "NoEventID") event
 what_words event (NearMiss field text) = named_at (codes "warn") (codes "NearMiss") event field ++ codes " " ++ text
+what_words event (OtherPlace place address) = named_in (codes "warn") (codes "OtherPlace") event (place_name place) ++ codes " " ++ address
 
 -- a finding in a document of this source
 abbrev pub finding_text : List ℕ → Finding → List ℕ
@@ -86,6 +91,10 @@ near_members source event field text =
     count_at (codes "event") event
     (text_at (codes "field") field (file_at source (text_at (codes "text") text (warning (codes "NearMiss")))))
 
+abbrev pub other_members : List ℕ → ℕ → List ℕ → List ℕ → Members
+other_members source event field address =
+    text_at (codes "address") address (count_at (codes "event") event (text_at (codes "field") field (file_at source (warning (codes "OtherPlace")))))
+
 abbrev pub what_members : List ℕ → ℕ → What → Members
 what_members source event (Fault field kind) = fault_members source event (field_name field) (kind_name kind)
 what_members source event (Skipped its_type) = skipped_members source event (type_name its_type)
@@ -93,6 +102,7 @@ what_members source event ShipsNowhere = aimless_members source event
 what_members source event (Outside place) = outside_members source event place
 what_members source event NoEventId = unnamed_members source event
 what_members source event (NearMiss field text) = near_members source event (field_name field) text
+what_members source event (OtherPlace place address) = other_members source event (place_name place) address
 
 abbrev pub finding_json : List ℕ → Finding → Data
 finding_json source found = object (what_members source found.event found.what)

@@ -4,7 +4,7 @@ ghost use Rattle.std.specs.Prelude.{◌≡◌, ◌++◌, false, IfOk, OnOk, stri
 ghost use Rattle.serde_json.specs.Data.{object};
 ghost use Rattle.serde_json.specs.View.{view};
 ghost use Rattle.serde_json.specs.Written.{has_float};
-ghost use Rattle.document_lint.specs.Lines.{aimless_members, fault_members, finding_json, finding_line, json_line, lint_json, near_members, outside_members, skipped_members, unnamed_members};
+ghost use Rattle.document_lint.specs.Lines.{aimless_members, fault_members, finding_json, finding_line, json_line, lint_json, near_members, other_members, outside_members, skipped_members, unnamed_members};
 
 use crate::findings::{Finding, Lint, What};
 use serde_json::{Value, json};
@@ -65,6 +65,9 @@ fn finding_json(alloc: Global, source: &str, finding: &Finding) -> Result<Value,
         What::NearMiss { field, text } => {
             near_json(alloc, event, field.name(), source, text.as_str())
         }
+        What::OtherPlace { member, address } => {
+            other_json(alloc, address.as_str(), event, member.name(), source)
+        }
     }
 }
 
@@ -114,4 +117,16 @@ fn near_json(
     ensures { IfOk result (λ v. view v ≡ object (near_members source.now event field.now text.now)) }
 {
     json!(in alloc; {"event": event, "field": field, "file": source, "text": text, "warning": "NearMiss"})
+}
+
+fn other_json(
+    alloc: Global,
+    address: &str,
+    event: u64,
+    member: &str,
+    source: &str,
+) -> Result<Value, AllocError>
+    ensures { IfOk result (λ v. view v ≡ object (other_members source.now event member.now address.now)) }
+{
+    json!(in alloc; {"address": address, "event": event, "field": member, "file": source, "warning": "OtherPlace"})
 }

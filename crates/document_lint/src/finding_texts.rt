@@ -1,7 +1,7 @@
 //! What is found, in lines of words.
 
 ghost use Rattle.std.specs.Prelude.{◌≡◌, ◌++◌, IfOk, OnOk, codes, string_bytes};
-ghost use Rattle.document_lint.specs.Lines.{finding_text, lint_text, named, named_at, type_name, what_words};
+ghost use Rattle.document_lint.specs.Lines.{finding_text, lint_text, named, named_at, named_in, type_name, what_words};
 
 use crate::findings::{Finding, Lint, SkippedType, What};
 use event_json::DocField;
@@ -77,6 +77,10 @@ fn what_words(alloc: Global, event: u64, what: &What) -> Result<String, AllocErr
             let words = named_at(alloc, "warn", "NearMiss", event, *field)?;
             with_word(words, text.as_str())
         }
+        What::OtherPlace { member, address } => {
+            let words = named_in(alloc, "warn", "OtherPlace", event, member.name())?;
+            with_word(words, address.as_str())
+        }
     }
 }
 
@@ -110,8 +114,21 @@ fn named_at(
 ) -> Result<String, AllocError>
     ensures { IfOk result (λ t. string_bytes t ≡ named_at level.now name.now event field) }
 {
+    named_in(alloc, level, name, event, field.name())
+}
+
+/// And a member of this name.
+fn named_in(
+    alloc: Global,
+    level: &str,
+    name: &str,
+    event: u64,
+    member: &str,
+) -> Result<String, AllocError>
+    ensures { IfOk result (λ t. string_bytes t ≡ named_in level.now name.now event member.now) }
+{
     let mut words = named(alloc, level, name, event)?;
     words.push_str(" field ")?;
-    words.push_str(field.name())?;
+    words.push_str(member)?;
     Ok(words)
 }

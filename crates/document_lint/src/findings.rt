@@ -1,6 +1,6 @@
 //! What a linter finds in a document.
 
-use event_json::{DocFaultKind, DocField, PlainText, Sequence};
+use event_json::{DocFaultKind, DocField, PlainText, Sequence, SiteNo, Sites};
 
 /// An event type of the standard that isn't traced.
 #[derive(Clone, Copy, Debug, PartialEq, Eq)]
@@ -11,11 +11,23 @@ pub enum SkippedType {
     Association,
 }
 
+/// A member of an event that names a place where it happened.
+#[derive(Clone, Copy, Debug, PartialEq, Eq)]
+pub enum PlaceMember {
+    /// readPoint
+    ReadPoint,
+    /// bizLocation
+    BizLocation,
+}
+
 /// What is wrong with an event or a document, or strange about an event.
 #[derive(Debug, Drop)]
 pub enum What {
     /// It can't be read: the first fault of the event, or a fault of the document itself.
-    Fault { field: DocField, kind: DocFaultKind },
+    Fault {
+        field: DocField,
+        kind: DocFaultKind,
+    },
     /// The event is skipped, being of a type that isn't traced.
     Skipped(SkippedType),
     /// An ObjectEvent of the business step shipping has no destination, so that nothing is traced past it.
@@ -26,7 +38,15 @@ pub enum What {
     NoEventId,
     /// The text of an item begins as that of an SGTIN or an SSCC does and breaks a rule of these, so that it is taken as any
     /// other text.
-    NearMiss { field: DocField, text: PlainText },
+    NearMiss {
+        field: DocField,
+        text: PlainText,
+    },
+    /// The event happened at this address of another traced site than the one that is to capture it.
+    OtherPlace {
+        member: PlaceMember,
+        address: PlainText,
+    },
 }
 
 /// Something that is found at an event.
@@ -44,4 +64,13 @@ pub struct Lint {
     pub events: u64,
     /// What is found, of the document itself first and then event by event.
     pub findings: Sequence<Finding>,
+}
+
+/// By what documents are looked through.
+#[derive(Debug, Drop)]
+pub struct Listing<'a> {
+    /// The traced sites.
+    pub sites: &'a Sites,
+    /// The one that is to capture the documents, if that is named.
+    pub here: Option<SiteNo>,
 }

@@ -9,9 +9,12 @@ mod findings;
 pub mod laws;
 mod linting;
 mod near_misses;
+mod other_places;
+mod splitting;
 mod strange_events;
 mod totals;
 
-pub use findings::{Finding, Lint, SkippedType, What};
+pub use findings::{Finding, Lint, Listing, PlaceMember, SkippedType, What};
 pub use linting::lint_document;
+pub use splitting::{Split, split_document};
 pub use totals::LintTotals;

@@ -10,7 +10,7 @@ ghost use Rattle.event_json.specs.declared.doc_faults.DocFaultKind.TheVariants a
 ghost use Rattle.document_lint.specs.Findings.{IsLint, alone, at_number, event_findings, fault_finding, found_of, length_findings, text_lint, value_lint, without_list};
 
 use crate::event_lists::{event_list, whole};
-use crate::findings::{Finding, Lint, What};
+use crate::findings::{Finding, Lint, Listing, What};
 use crate::strange_events::{push_strange, skipped_type};
 use event_json::{
     Doc, DocFault, DocFaultKind, DocField, Event, MAX_EVENTS, ReadFault, Sequence, Sites,
@@ -21,16 +21,17 @@ use std::alloc::{AllocError, Global};
 
 /// What is wrong with a document in the JSON form of GS1 EPCIS 2.0, an EPCISDocument or one bare event, and what is
 /// strange about its events, with destinations looked up among the sites. Of each event that can't be read its first
-/// fault is told. A document without a fault is one that `read_document` of `event_json` reads.
+/// fault is told. A document without a fault is one that `read_document` of `event_json` reads. Where the site that is to
+/// capture it is named, it is told of events that happened at another one.
 ///
 /// # Errors
 /// Where memory runs out.
 #[tactic(auto, unfolding(crate::specs::Findings::text_lint))]
-pub fn lint_document(alloc: Global, bytes: &[u8], sites: &Sites) -> Result<Lint, AllocError>
-    ensures { IfOk result (IsLint sites.now bytes.now) }
+pub fn lint_document(alloc: Global, bytes: &[u8], listing: &Listing<'_>) -> Result<Lint, AllocError>
+    ensures { IfOk result (IsLint listing.now.sites.now listing.now.here bytes.now) }
 {
     match Value::from_slice(alloc, bytes) {
-        Ok(value) => lint_value(alloc, &value, sites),
+        Ok(value) => lint_value(alloc, &value, listing),
         Err(error) => {
             if error.is_memory() {
                 Err(AllocError)
@@ -68,8 +69,8 @@ fn fault_finding(fault: DocFault) -> Finding
 
 /// What is found in the document of a value.
 #[tactic(auto, unfolding(crate::specs::Findings::value_lint))]
-fn lint_value(alloc: Global, value: &Value, sites: &Sites) -> Result<Lint, AllocError>
-    ensures { IfOk result (λ l. l ≡ value_lint sites.now (view value.now)) }
+fn lint_value(alloc: Global, value: &Value, listing: &Listing<'_>) -> Result<Lint, AllocError>
+    ensures { IfOk result (λ l. l ≡ value_lint listing.now.sites.now listing.now.here (view value.now)) }
 {
     let list = match event_list(value) {
         Ok(list) => list,
@@ -77,7 +78,7 @@ fn lint_value(alloc: Global, value: &Value, sites: &Sites) -> Result<Lint, Alloc
     };
     let mut findings = Vec::new(alloc);
     push_length(&mut findings, list)?;
-    push_events(alloc, &mut findings, sites, list)?;
+    push_events(alloc, &mut findings, listing, list)?;
     Ok(Lint {
         events: list.len() as u64,
         findings: Sequence::from_vec(findings),
@@ -110,14 +111,14 @@ fn check_count(list: &[Value]) -> Result<(), DocFault>
 fn push_events(
     alloc: Global,
     findings: &mut Vec<Finding>,
-    sites: &Sites,
+    listing: &Listing<'_>,
     list: &[Value],
 ) -> Result<(), AllocError>
     ensures { OnOk result (findings.new.items ≡ findings.old.items
-        ++ flat_map (event_findings sites.now) (enumerate_from 1 (in_order (items_view list.now)))) }
+        ++ flat_map (event_findings listing.now.sites.now listing.now.here) (enumerate_from 1 (in_order (items_view list.now)))) }
 {
     for (place, value) in list.iter().enumerate() {
-        push_event(alloc, findings, sites, place as u64 + 1, value)?;
+        push_event(alloc, findings, listing, place as u64 + 1, value)?;
     }
     Ok(())
 }
@@ -127,13 +128,13 @@ fn push_events(
 fn push_event(
     alloc: Global,
     findings: &mut Vec<Finding>,
-    sites: &Sites,
+    listing: &Listing<'_>,
     number: u64,
     value: &Value,
 ) -> Result<(), AllocError>
-    ensures { OnOk result (findings.new.items ≡ findings.old.items ++ event_findings sites.now (number, view value.now)) }
+    ensures { OnOk result (findings.new.items ≡ findings.old.items ++ event_findings listing.now.sites.now listing.now.here (number, view value.now)) }
 {
-    let found = found_of(alloc, sites, value)?;
+    let found = found_of(alloc, listing, value)?;
     push_at(findings, number, found)
 }
 
@@ -151,17 +152,17 @@ fn push_at(findings: &mut Vec<Finding>, number: u64, found: Vec<What>) -> Result
 }
 
 /// The fault of an event, that it is skipped, or what is strange about it.
-fn found_of(alloc: Global, sites: &Sites, value: &Value) -> Result<Vec<What>, AllocError>
-    ensures { IfOk result (λ found. found.items ≡ found_of (view value.now) (numbered_event sites.now 1 (view value.now))) }
+fn found_of(alloc: Global, listing: &Listing<'_>, value: &Value) -> Result<Vec<What>, AllocError>
+    ensures { IfOk result (λ found. found.items ≡ found_of listing.now.sites.now listing.now.here (view value.now) (numbered_event listing.now.sites.now 1 (view value.now))) }
 {
     let mut found = Vec::new(alloc);
-    match read_alone(alloc, sites, value)? {
+    match read_alone(alloc, listing.sites, value)? {
         Err(fault) => found.push(What::Fault {
             field: fault.field,
             kind: fault.kind,
         })?,
         Ok(None) => found.push(What::Skipped(skipped_type(value)))?,
-        Ok(Some(event)) => push_strange(alloc, &mut found, value, &event)?,
+        Ok(Some(event)) => push_strange(alloc, &mut found, listing, value, &event)?,
     }
     Ok(found)
 }
@@ -191,7 +192,7 @@ fn only_event(doc: Doc) -> Option<Event>
 }
 
 /// A document of this event alone.
-fn alone(alloc: Global, value: &Value) -> Result<Value, AllocError>
+pub(crate) fn alone(alloc: Global, value: &Value) -> Result<Value, AllocError>
     ensures { IfOk result (λ document. view document ≡ alone (view value.now)) }
 {
     let mut events = Vec::new(alloc);

@@ -9,8 +9,9 @@ ghost use Rattle.document_lint.specs.Findings.{near, nears, nears_of, skipped_ty
 ghost use Rattle.document_lint.specs.declared.findings.What.TheVariants.{Outside};
 
 use crate::event_lists::{member_named, type_text};
-use crate::findings::{SkippedType, What};
+use crate::findings::{Listing, SkippedType, What};
 use crate::near_misses::near_text;
+use crate::other_places::push_other_places;
 use epc_core::Epc;
 use event_json::{Body, DocField, Event, PlainText};
 use serde_json::Value;
@@ -30,10 +31,11 @@ pub(crate) fn skipped_type(value: &Value) -> SkippedType
 pub(crate) fn push_strange(
     alloc: Global,
     found: &mut Vec<What>,
+    listing: &Listing<'_>,
     value: &Value,
     event: &Event,
 ) -> Result<(), AllocError>
-    ensures { OnOk result (found.new.items ≡ found.old.items ++ strange (view value.now) event.now) }
+    ensures { OnOk result (found.new.items ≡ found.old.items ++ strange listing.now.sites.now listing.now.here (view value.now) event.now) }
 {
     if is_aimless(value) {
         found.push(What::ShipsNowhere)?;
@@ -42,7 +44,8 @@ pub(crate) fn push_strange(
     if event.id().is_none() {
         found.push(What::NoEventId)?;
     }
-    push_nears(alloc, found, event.body())
+    push_nears(alloc, found, event.body())?;
+    push_other_places(alloc, found, listing, value)
 }
 
 /// Whether a business step is shipping.

@@ -28,9 +28,9 @@ module _ (old : Record) (input : SiteInput) (may : Record → Type 0) where
   refusal_told why (Some new) outcomes.Created refuses is = absurd is
   refusal_told why (Some new) (outcomes.Stepped effects) refuses is = absurd is
   refusal_told why (Some new) (outcomes.Ran recalls) refuses is = absurd is
-  refusal_told why (Some new) (outcomes.Reported r report ways) refuses is = absurd is
-  refusal_told why (Some new) (outcomes.Traced trace ways) refuses is = absurd is
-  refusal_told why (Some new) (outcomes.TracedBack trace ways) refuses is = absurd is
+  refusal_told why (Some new) (outcomes.Reported r report ways events) refuses is = absurd is
+  refusal_told why (Some new) (outcomes.Traced trace ways events) refuses is = absurd is
+  refusal_told why (Some new) (outcomes.TracedBack trace ways events) refuses is = absurd is
   refusal_told why (Some new) (outcomes.Standing recalls coded) refuses is = absurd is
   refusal_told why (Some new) (outcomes.Waiting detail coded) refuses is = absurd is
   refusal_told why (Some new) (outcomes.Known site items) refuses is = absurd is

@@ -83,9 +83,9 @@ untraced_told old (Some new) document (outcomes.Stepped effects) found notes doe
 untraced_told old (Some new) document (outcomes.Refused whys) found notes does finds tells = subst (λ n. TellsUntraced old.sites document (outcomes.Refused whys) n) (sym tells) tt
 untraced_told old (Some new) document outcomes.Created found notes does finds tells = absurd does
 untraced_told old (Some new) document (outcomes.Ran recalls) found notes does finds tells = absurd does
-untraced_told old (Some new) document (outcomes.Reported r report ways) found notes does finds tells = absurd does
-untraced_told old (Some new) document (outcomes.Traced trace ways) found notes does finds tells = absurd does
-untraced_told old (Some new) document (outcomes.TracedBack trace ways) found notes does finds tells = absurd does
+untraced_told old (Some new) document (outcomes.Reported r report ways events) found notes does finds tells = absurd does
+untraced_told old (Some new) document (outcomes.Traced trace ways events) found notes does finds tells = absurd does
+untraced_told old (Some new) document (outcomes.TracedBack trace ways events) found notes does finds tells = absurd does
 untraced_told old (Some new) document (outcomes.Standing recalls coded) found notes does finds tells = absurd does
 untraced_told old (Some new) document (outcomes.Waiting detail coded) found notes does finds tells = absurd does
 untraced_told old (Some new) document (outcomes.Known site items) found notes does finds tells = absurd does

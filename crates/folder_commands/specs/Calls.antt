@@ -21,6 +21,7 @@ use Rattle.folder_commands.specs.Audits.{AnswersAudit}
 use Rattle.folder_commands.specs.DryStarts.{AnswersDryStart}
 use Rattle.folder_commands.specs.FileCalls.{FileCall, ReadFile, OpenedSite, ClosedSite}
 use Rattle.folder_commands.specs.Folders.{file_path, list_path}
+use Rattle.folder_commands.specs.Knowers.{TellsKnowers}
 use Rattle.folder_commands.specs.Refusals.{IsNoSite, IsRefusal, refusal_of}
 use Rattle.folder_commands.specs.Reports.{AnswersReport}
 use Rattle.folder_commands.specs.SiteItems.{AnswersItems}
@@ -116,13 +117,13 @@ module _ {K : Type 0} (shown : K → Option Record) (stored : K → Type 0) (fol
     pub lasts : stored after
     pub calls_are : calls ≡ opens_site folder sites site keeper ∷ ClosedSite after ∷ []
 
-  -- the files of all sites were opened, the outcome is what their records say, and they were closed
-  pub record TellsAll (Tells : List Record → Outcome → Type 0) (outcome : Outcome) (calls : List (FileCall K)) : Type 0 where
+  -- the files of all sites were opened, the answer is what their records say, and they were closed
+  pub record TellsAll {A : Type 0} (Tells : List Record → A → Type 0) (answer : A) (calls : List (FileCall K)) : Type 0 where
     pub keepers : List K
     pub records : List Record
     pub opened : KeepFrom shown stored sites 0 keepers records
     pub number : length keepers ≡ length sites
-    pub told : Tells records outcome
+    pub told : Tells records answer
     pub calls_are : calls ≡ opens_from folder sites 0 keepers ++ closes_all keepers
 
   -- the file of the site was opened, the outcome is what its record says, and it was closed
@@ -155,9 +156,15 @@ module _ {K : Type 0} (shown : K → Option Record) (stored : K → Type 0) (fol
   DryStartsItem site (Ok item) outcome calls = TellsSite site (λ r o. AnswersDryStart r (Start item) o) outcome calls
   DryStartsItem site (Err fault) outcome calls = IsRefusal (refusal_of fault) outcome × (calls ≡ [])
 
-  abbrev pub TracesItem : ℕ → Result (List ℕ) SpellingFault → Bool → Ways → Outcome → List (FileCall K) → Type 0
-  TracesItem site (Ok item) back ways outcome calls = TellsAll (λ rs o. AnswersTrace rs site item back ways o) outcome calls
-  TracesItem site (Err fault) back ways outcome calls = IsRefusal (refusal_of fault) outcome × (calls ≡ [])
+  abbrev pub TracesItem : ℕ → Result (List ℕ) SpellingFault → Bool → Ways → Bool → Outcome → List (FileCall K) → Type 0
+  TracesItem site (Ok item) back ways events outcome calls = TellsAll (λ rs o. AnswersTrace rs site item back ways events o) outcome calls
+  TracesItem site (Err fault) back ways events outcome calls = IsRefusal (refusal_of fault) outcome × (calls ≡ [])
+
+  -- nothing is told of a name that isn't listed, or of a text that spells no item, and no call is made
+  abbrev pub KnowersNamed : List ℕ → Option ℕ → Result (List ℕ) SpellingFault → List ℕ → List (FileCall K) → Type 0
+  KnowersNamed text (Some site) (Ok item) told calls = TellsAll (λ rs lines. TellsKnowers sites site item text rs lines) told calls
+  KnowersNamed text (Some site) (Err fault) told calls = (told ≡ []) × (calls ≡ [])
+  KnowersNamed text None read told calls = (told ≡ []) × (calls ≡ [])
 
 -- at the site of a name; a name that isn't listed is refused without a further call
 abbrev pub AtSite : {K : Type 0} → List ℕ → Option ℕ → (ℕ → Outcome → List (FileCall K) → Type 0) → Outcome → List (FileCall K) → Type 0
@@ -180,16 +187,16 @@ module _ {K : Type 0} (shown : K → Option Record) (stored : K → Type 0) (fol
       × AtSite name (named sites name) (λ site. StartsItem shown stored folder sites site (item_reading item)) output.outcome rest) calls
 
   -- what names no recall is refused without a further call
-  abbrev pub ReportsBy : List Site → Option (List ℕ × ℕ) → Ways → Outcome → List (FileCall K) → Type 0
-  ReportsBy sites None ways outcome calls = IsRefusal BadRecall outcome × (calls ≡ [])
-  ReportsBy sites (Some (name, number)) ways outcome calls =
+  abbrev pub ReportsBy : List Site → Option (List ℕ × ℕ) → Ways → Bool → Outcome → List (FileCall K) → Type 0
+  ReportsBy sites None ways events outcome calls = IsRefusal BadRecall outcome × (calls ≡ [])
+  ReportsBy sites (Some (name, number)) ways events outcome calls =
       AtSite name (named sites name)
-      (λ site. TellsAll shown stored folder sites (λ rs o. AnswersReport rs (record { site = site; number = number }) ways o)) outcome calls
+      (λ site. TellsAll shown stored folder sites (λ rs o. AnswersReport rs (record { site = site; number = number }) ways events o)) outcome calls
 
   -- a recall is reported
-  abbrev pub ReportsAt : List ℕ → Ways → Output → List (FileCall K) → Type 0
-  ReportsAt recall ways output calls =
-      AfterList folder (λ sites rest. IsPlain sites output × ReportsBy sites (recall_of recall) ways output.outcome rest) calls
+  abbrev pub ReportsAt : List ℕ → Ways → Bool → Output → List (FileCall K) → Type 0
+  ReportsAt recall ways events output calls =
+      AfterList folder (λ sites rest. IsPlain sites output × ReportsBy sites (recall_of recall) ways events output.outcome rest) calls
 
   -- all sites are audited
   abbrev pub AuditsAt : Output → List (FileCall K) → Type 0
@@ -205,11 +212,11 @@ module _ {K : Type 0} (shown : K → Option Record) (stored : K → Type 0) (fol
       × AtSite name (named sites name) (λ site. DryStartsItem shown stored folder sites site (item_reading item)) output.outcome rest) calls
 
   -- an item is traced to where it went, or back
-  abbrev pub TracesAt : List ℕ → Spelled → Bool → Ways → Output → List (FileCall K) → Type 0
-  TracesAt name item back ways output calls =
+  abbrev pub TracesAt : List ℕ → Spelled → Bool → Ways → Bool → Output → List (FileCall K) → Type 0
+  TracesAt name item back ways events output calls =
       AfterList folder
       (λ sites rest. IsPlain sites output
-      × AtSite name (named sites name) (λ site. TracesItem shown stored folder sites site (item_reading item) back ways) output.outcome rest) calls
+      × AtSite name (named sites name) (λ site. TracesItem shown stored folder sites site (item_reading item) back ways events) output.outcome rest) calls
 
   -- it is asked how all recalls stand
   abbrev pub RecallsStandAt : Bool → Output → List (FileCall K) → Type 0
@@ -235,3 +242,9 @@ module _ {K : Type 0} (shown : K → Option Record) (stored : K → Type 0) (fol
       AfterList folder
       (λ sites rest. IsPlain sites output
       × AtSite name (named sites name) (λ site. TellsSite shown stored folder sites site (AnswersItems site text)) output.outcome rest) calls
+
+  -- it is told who knows an item that the site of a name doesn't know, and which of its items end in the item's text
+  abbrev pub KnowersAt : List ℕ → Spelled → List ℕ → List (FileCall K) → Type 0
+  KnowersAt name item told calls =
+      AfterList folder
+      (λ sites rest. KnowersNamed shown stored folder sites item.text.now (named sites name) (item_reading item) told rest) calls

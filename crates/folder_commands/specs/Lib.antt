@@ -9,6 +9,7 @@ pub mod FailingToRun
 pub mod Faults
 pub mod FileCalls
 pub mod Folders
+pub mod Knowers
 pub mod Lints
 pub mod Making
 pub mod NoteLaws
@@ -20,4 +21,5 @@ pub mod SiteItems
 pub mod Standings
 pub mod Steps
 pub mod Traces
+pub mod TrailEvents
 pub mod Untold

@@ -6,4 +6,5 @@ pub mod Keys
 pub mod Names
 pub mod Seen
 pub mod Named
+pub mod Places
 pub mod Laws

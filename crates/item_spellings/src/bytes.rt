@@ -103,18 +103,19 @@ pub(crate) fn is_checked(digits: &[u8], count: usize) -> bool
     requires { count ≤ 18 }
     ensures { result ≡ is_checked count digits.now }
 {
-    digits.len() == count && are_digits(digits) && weighted_sum(digits) % 10 == 0
+    digits.len() == count && are_digits(digits) && weighted_sum(digits, 3, 1) % 10 == 0
 }
 
-/// Three times the digits in odd places from the left, and the digits in even places, added up.
-fn weighted_sum(digits: &[u8]) -> u32
+/// The digits from the left times the one weight, the other one, the first one again and so on, added up.
+pub(crate) fn weighted_sum(digits: &[u8], first: u32, second: u32) -> u32
     requires digits { IsTrue (list_all is_digit digits.now) }
     requires few { length digits.now ≤ 18 }
-    ensures { result ≡ weighted 3 1 digits.now }
+    requires weights { (first ≤ 3) × (second ≤ 3) }
+    ensures { result ≡ weighted first second digits.now }
 {
     let mut sum = 0;
-    let mut weight = 3;
-    let mut next = 1;
+    let mut weight = first;
+    let mut next = second;
     for digit in digits {
         sum += weight * u32::from(*digit - b'0');
         mem::swap(&mut weight, &mut next);

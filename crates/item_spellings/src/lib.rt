@@ -12,10 +12,12 @@ mod forms;
 mod keys;
 pub mod laws;
 mod lookups;
+mod places;
 mod scans;
 mod spellings;
 
 pub use faults::{ScanFault, SpellingFault};
 pub use keys::read_key;
+pub use places::are_one_place;
 pub use scans::read_scan;
 pub use spellings::{Spelled, Spelling, read_item};

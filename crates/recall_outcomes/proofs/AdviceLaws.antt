@@ -56,9 +56,9 @@ pub advice_is_line : AdviceIsALine
 advice_is_line outcomes.Created = nothing
 advice_is_line (outcomes.Stepped effects) = effects_note effects
 advice_is_line (outcomes.Ran recalls) = nothing
-advice_is_line (outcomes.Reported r report ways) = report_note report.ended
-advice_is_line (outcomes.Traced trace ways) = nothing
-advice_is_line (outcomes.TracedBack trace ways) = nothing
+advice_is_line (outcomes.Reported r report ways events) = report_note report.ended
+advice_is_line (outcomes.Traced trace ways events) = nothing
+advice_is_line (outcomes.TracedBack trace ways events) = nothing
 advice_is_line (outcomes.Standing recalls coded) = open_note (list_any is_open recalls.items)
 advice_is_line (outcomes.Waiting detail coded) = open_note (is_open detail.status)
 advice_is_line (outcomes.Known site items) = nothing

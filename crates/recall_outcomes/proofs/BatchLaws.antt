@@ -19,9 +19,9 @@ have_their_words sites (inputs.Refused why) (outcomes.Refused whys) (refused, is
 have_their_words sites (inputs.Refused why) outcomes.Created (refused, is) = absurd refused
 have_their_words sites (inputs.Refused why) (outcomes.Stepped effects) (refused, is) = absurd refused
 have_their_words sites (inputs.Refused why) (outcomes.Ran recalls) (refused, is) = absurd refused
-have_their_words sites (inputs.Refused why) (outcomes.Reported r report ways) (refused, is) = absurd refused
-have_their_words sites (inputs.Refused why) (outcomes.Traced trace ways) (refused, is) = absurd refused
-have_their_words sites (inputs.Refused why) (outcomes.TracedBack trace ways) (refused, is) = absurd refused
+have_their_words sites (inputs.Refused why) (outcomes.Reported r report ways events) (refused, is) = absurd refused
+have_their_words sites (inputs.Refused why) (outcomes.Traced trace ways events) (refused, is) = absurd refused
+have_their_words sites (inputs.Refused why) (outcomes.TracedBack trace ways events) (refused, is) = absurd refused
 have_their_words sites (inputs.Refused why) (outcomes.Standing recalls coded) (refused, is) = absurd refused
 have_their_words sites (inputs.Refused why) (outcomes.Waiting detail coded) (refused, is) = absurd refused
 have_their_words sites (inputs.Refused why) (outcomes.Known site items) (refused, is) = absurd refused

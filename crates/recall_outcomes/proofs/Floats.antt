@@ -12,16 +12,20 @@ use Rattle.report_core.specs.declared.audits.Verdict.TheVariants.{Equal, Differs
 use Rattle.report_core.specs.declared.reports.RecallReport.{RecallReport}
 use Rattle.report_core.specs.declared.traces.BackTrace.{BackTrace}
 use Rattle.report_core.specs.declared.traces.Trace.{Trace}
+use Rattle.report_core.specs.declared.trail_events.CapturedEvent.{CapturedEvent}
+use Rattle.report_core.specs.declared.trail_events.StepEvents.{StepEvents}
+use Rattle.report_core.specs.declared.trail_events.StepEvents.TheVariants.{Shipped, Made}
 use Rattle.recall_text.specs.declared.site_lists.LineRefusal.{LineRefusal}
 use Rattle.recall_text.specs.declared.site_lists.LineRefusal.TheVariants.{BadLine, BadSite}
 use Rattle.serde_json.specs.Data.{Data, number, object, string}
 use Rattle.serde_json.specs.Find.{of_integer}
-use Rattle.serde_json.specs.Written.{has_float}
+use Rattle.serde_json.specs.Written.{has_float, members_have_float}
 use Rattle.site_core.specs.declared.outcomes.Effects.{Effects}
 use Rattle.site_core.specs.declared.outcomes.Effects.TheVariants as effects
 use Rattle.site_core.specs.declared.outcomes.Refusal.TheVariants as steps
 use Rattle.trace_core.specs.declared.pairs.Pair.{Pair}
-use Rattle.recall_outcomes.specs.Json.{audited_json, back_json, beside_json, caused_members, created_json, detail_json, effects_json, engaged_json, fault_json, leading_json, led_json, list_of, outside_json, pair_json, quarantined_json, report_json, standing_json, status_json, trace_json, traced_json, trail_json, verdict_json, waiting_json, why_json}
+use Rattle.recall_outcomes.specs.Json.{audited_json, back_json, beside_json, caused_members, created_json, detail_json, effects_json, engaged_json, event_json, fault_json, leading_json, leading_members, led_json, list_of, outside_json, pair_json, quarantined_json, quarantined_members, report_json, standing_json, status_json, step_json, text_or_null, trace_json, trail_json, verdict_json, waiting_json, why_json}
+use Rattle.recall_outcomes.specs.Steps.{each_with}
 use Rattle.recall_outcomes.specs.Faults.{fault_name}
 use Rattle.report_forms.specs.Steps.{before_last}
 use Rattle.recall_outcomes.specs.declared.causes.Cause.{Cause}
@@ -43,38 +47,56 @@ trail_free : (sites : List Site) (trail : Option (List Pair)) → has_float (tra
 trail_free sites None = refl
 trail_free sites (Some trail) = list_free (pair_json sites) (λ p. refl) trail
 
-traced_free : (sites : List Site) (t : Pair × Option (List Pair)) → has_float (traced_json sites t) ≡ false
-traced_free sites (p, trail) = ap (λ b. b || false) (trail_free sites trail)
-
 beside_free : (sites : List Site) (beside : Option Pair) → has_float (beside_json sites beside) ≡ false
 beside_free sites None = refl
 beside_free sites (Some p) = refl
 
-quarantined_free : (sites : List Site) (ways : Ways) (t : Pair × Option (List Pair)) → has_float (quarantined_json sites ways t) ≡ false
-quarantined_free sites Trails (p, trail) = traced_free sites (p, trail)
-quarantined_free sites Steps (p, trail) = ap (λ b. b || false) (beside_free sites (option_and_then before_last trail))
+text_free : (text : Option (List ℕ)) → has_float (text_or_null text) ≡ false
+text_free None = refl
+text_free (Some text) = refl
 
-pub report_free : (sites : List Site) (r : Recall) (report : RecallReport) (ways : Ways) → has_float (report_json sites r report ways) ≡ false
+event_free : (e : CapturedEvent) → has_float (event_json e) ≡ false
+event_free e = ap₂ (λ a b. a || (b || false)) (text_free e.id) (text_free e.time)
+
+by_free : (s : StepEvents) → has_float (step_json s) ≡ false
+by_free (Shipped e) = ap (λ b. b || false) (event_free e)
+by_free (Made taken given) = ap₂ (λ a b. a || (b || false)) (event_free taken) (event_free given)
+
+held_free : (sites : List Site) (ways : Ways) (p : Pair) (trail : Option (List Pair)) → members_have_float (quarantined_members sites ways p trail) ≡ false
+held_free sites Trails p trail = ap (λ b. b || false) (trail_free sites trail)
+held_free sites Steps p trail = ap (λ b. b || false) (beside_free sites (option_and_then before_last trail))
+
+quarantined_free : (sites : List Site) (ways : Ways) (t : Pair × (Option (List Pair) × Option (List StepEvents))) → has_float (quarantined_json sites ways t) ≡ false
+quarantined_free sites ways (p, (trail, None)) = held_free sites ways p trail
+quarantined_free sites Trails (p, (trail, Some steps)) = ap₂ (λ a b. a || b) (list_free step_json by_free steps) (held_free sites Trails p trail)
+quarantined_free sites Steps (p, (trail, Some steps)) = ap₂ (λ a b. a || b) (list_free step_json by_free steps) (held_free sites Steps p trail)
+
+pub report_free : (sites : List Site) (r : Recall) (report : RecallReport) (ways : Ways) (events : List (List StepEvents)) → has_float (report_json sites r report ways events) ≡ false
 unfolding report_json
-report_free sites r report ways =
+report_free sites r report ways events =
     ap₂ (λ a b. a || (b || false)) (list_free (outside_json sites) (λ x. refl) report.outside)
-    (list_free (quarantined_json sites ways) (quarantined_free sites ways) (zip report.pairs report.trails))
+    (list_free (quarantined_json sites ways) (quarantined_free sites ways) (zip report.pairs (each_with report.trails events)))
 
-pub trace_free : (sites : List Site) (trace : Trace) (ways : Ways) → has_float (trace_json sites trace ways) ≡ false
+pub trace_free : (sites : List Site) (trace : Trace) (ways : Ways) (events : List (List StepEvents)) → has_float (trace_json sites trace ways events) ≡ false
 unfolding trace_json
-trace_free sites trace ways =
+trace_free sites trace ways events =
     ap₂ (λ a b. a || (b || false)) (list_free (outside_json sites) (λ x. refl) trace.outside)
-    (list_free (led_json sites ways) (λ t. quarantined_free sites ways (t.0, Some t.1)) (zip trace.pairs trace.trails))
+    (list_free (led_json sites ways) (λ t. quarantined_free sites ways (t.0, (Some t.1.0, t.1.1))) (zip trace.pairs (each_with trace.trails events)))
 
-leading_free : (sites : List Site) (ways : Ways) (t : Pair × List Pair) → has_float (leading_json sites ways t) ≡ false
-leading_free sites Trails (p, trail) = traced_free sites (p, Some trail)
-leading_free sites Steps (p, trail) = ap (λ b. b || false) (beside_free sites (slice_get trail 1))
+held_leading_free : (sites : List Site) (ways : Ways) (p : Pair) (trail : List Pair) → members_have_float (leading_members sites ways p trail) ≡ false
+held_leading_free sites Trails p trail = ap (λ b. b || false) (trail_free sites (Some trail))
+held_leading_free sites Steps p trail = ap (λ b. b || false) (beside_free sites (slice_get trail 1))
 
-pub back_free : (sites : List Site) (trace : BackTrace) (ways : Ways) → has_float (back_json sites trace ways) ≡ false
+leading_free : (sites : List Site) (ways : Ways) (t : Pair × (List Pair × Option (List StepEvents))) → has_float (leading_json sites ways t) ≡ false
+leading_free sites ways (p, (trail, None)) = held_leading_free sites ways p trail
+leading_free sites Trails (p, (trail, Some steps)) = ap₂ (λ a b. a || b) (list_free step_json by_free steps) (held_leading_free sites Trails p trail)
+leading_free sites Steps (p, (trail, Some steps)) = ap₂ (λ a b. a || b) (list_free step_json by_free steps) (held_leading_free sites Steps p trail)
+
+pub back_free : (sites : List Site) (trace : BackTrace) (ways : Ways) (events : List (List StepEvents)) → has_float (back_json sites trace ways events) ≡ false
 unfolding back_json
-back_free sites trace ways =
+back_free sites trace ways events =
     ap₂ (λ a b. a || (b || false)) (list_free (pair_json sites) (λ p. refl) trace.origins)
-    (list_free (leading_json sites ways) (leading_free sites ways) (zip trace.pairs trace.trails))
+    (list_free (leading_json sites ways) (leading_free sites ways) (zip trace.pairs (each_with trace.trails events)))
 
 pub status_free : (sites : List Site) (s : RecallStatus) → has_float (status_json sites s) ≡ false
 unfolding status_json

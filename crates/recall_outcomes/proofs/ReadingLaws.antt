@@ -24,6 +24,9 @@ use Rattle.report_core.specs.declared.outside.OutsideShipment.{OutsideShipment}
 use Rattle.report_core.specs.declared.reports.RecallReport.{RecallReport}
 use Rattle.report_core.specs.declared.traces.BackTrace.{BackTrace}
 use Rattle.report_core.specs.declared.traces.Trace.{Trace}
+use Rattle.report_core.specs.declared.trail_events.CapturedEvent.{CapturedEvent}
+use Rattle.report_core.specs.declared.trail_events.StepEvents.{StepEvents}
+use Rattle.report_core.specs.declared.trail_events.StepEvents.TheVariants as behind
 use Rattle.serde_json.specs.Data.{Data, Num, unsigned, negative, float, null, boolean, number, string, array, object, Items, no_items, item, Members, no_members, member, put}
 use Rattle.serde_json.specs.Read.{max_depth, of_items, of_json, of_members, read}
 use Rattle.serde_json.specs.View.{items_of}
@@ -34,7 +37,8 @@ use Rattle.site_core.specs.declared.outcomes.Effects.TheVariants as effects
 use Rattle.site_core.specs.declared.outcomes.Refusal.{Refusal}
 use Rattle.site_core.specs.declared.outcomes.Refusal.TheVariants as steps
 use Rattle.trace_core.specs.declared.pairs.Pair.{Pair}
-use Rattle.recall_outcomes.specs.Json.{audited_json, back_json, beside_json, created_json, detail_json, effects_json, engaged_json, known_json, leading_json, led_json, line_members, list_of, misfit_json, outcome_json, outside_json, pair_json, quarantined_json, ran_json, report_json, root_json, standing_json, status_json, step_members, trace_json, traced_json, trail_json, verdict_json, waiting_json, why_json, would_json}
+use Rattle.recall_outcomes.specs.Json.{audited_json, back_json, beside_json, created_json, detail_json, effects_json, engaged_json, event_json, known_json, leading_json, leading_members, led_json, line_members, list_of, misfit_json, outcome_json, outside_json, pair_json, quarantined_json, quarantined_members, ran_json, report_json, root_json, standing_json, status_json, step_json, step_members, text_or_null, trace_json, trail_json, verdict_json, waiting_json, why_json, would_json}
+use Rattle.recall_outcomes.specs.Steps.{each_with, told_events}
 use Rattle.recall_outcomes.specs.Telling.{HasPlainNumber, HasPlainNumbers, ItemsHavePlainNumbers, MembersHavePlainNumbers, ValuesAreRead}
 use Rattle.report_forms.specs.Steps.{before_last}
 use Rattle.recall_outcomes.specs.declared.outcomes.CommandRefusal.{CommandRefusal}
@@ -188,16 +192,24 @@ beside_tree : (sites : List Site) (p : Option Pair) → IsTree 2 (beside_json si
 beside_tree sites None = tt
 beside_tree sites (Some p) = pair_tree 1 sites p
 
-traced_tree : (sites : List Site) (z : Pair × Option (List Pair)) → IsTree 3 (traced_json sites z)
-traced_tree sites (p, trail) = (refl, (tt, (tt, (trail_tree sites trail, tt))))
+quarantined_tree : (sites : List Site) (ways : Ways) (p : Pair) (trail : Option (List Pair)) → IsTree 3 (object (quarantined_members sites ways p trail))
+quarantined_tree sites Trails p trail = (refl, (tt, (tt, (trail_tree sites trail, tt))))
+quarantined_tree sites Steps p trail = (refl, (beside_tree sites (option_and_then before_last trail), (tt, (tt, tt))))
 
-quarantined_tree : (sites : List Site) (ways : Ways) (z : Pair × Option (List Pair)) → IsTree 3 (quarantined_json sites ways z)
-quarantined_tree sites Trails (p, trail) = traced_tree sites (p, trail)
-quarantined_tree sites Steps (p, trail) = (refl, (beside_tree sites (option_and_then before_last trail), (tt, (tt, tt))))
+leading_tree : (sites : List Site) (ways : Ways) (p : Pair) (trail : List Pair) → IsTree 3 (object (leading_members sites ways p trail))
+leading_tree sites Trails p trail = (refl, (tt, (tt, (trail_tree sites (Some trail), tt))))
+leading_tree sites Steps p trail = (refl, (tt, (tt, (beside_tree sites (slice_get trail 1), tt))))
 
-leading_tree : (sites : List Site) (ways : Ways) (z : Pair × List Pair) → IsTree 3 (leading_json sites ways z)
-leading_tree sites Trails (p, trail) = traced_tree sites (p, Some trail)
-leading_tree sites Steps (p, trail) = (refl, (tt, (tt, (beside_tree sites (slice_get trail 1), tt))))
+text_tree : (text : Option (List ℕ)) → IsTree 0 (text_or_null text)
+text_tree None = tt
+text_tree (Some text) = tt
+
+event_tree : (e : CapturedEvent) → IsTree 1 (event_json e)
+event_tree e = (refl, (text_tree e.id, (tt, (text_tree e.time, tt))))
+
+by_tree : (s : StepEvents) → IsTree 2 (step_json s)
+by_tree (behind.Shipped e) = (refl, (event_tree e, (tt, tt)))
+by_tree (behind.Made taken given) = (refl, (event_tree taken, (tt, (event_tree given, tt))))
 
 effects_tree : (sites : List Site) (done : Effects) → IsTree 6 (effects_json sites done)
 effects_tree sites (effects.Captured fresh known skipped) = (refl, (tt, (tt, (tt, tt))))
@@ -265,41 +277,59 @@ mutual
 outsides_tree : (sites : List Site) (xs : List OutsideShipment) → IsTree 5 (list_of (outside_json sites) xs)
 outsides_tree sites xs = list_tree 4 (outside_json sites) (λ x. (refl, (tt, (tt, (tt, tt))))) xs
 
-quarantined_deep : (sites : List Site) (ways : Ways) (z : Pair × Option (List Pair)) → IsTree 4 (quarantined_json sites ways z)
-quarantined_deep sites ways z = deeper 3 (quarantined_json sites ways z) (quarantined_tree sites ways z)
+quarantined_members_deep : (sites : List Site) (ways : Ways) (p : Pair) (trail : Option (List Pair)) → IsTree 4 (object (quarantined_members sites ways p trail))
+quarantined_members_deep sites ways p trail = deeper 3 (object (quarantined_members sites ways p trail)) (quarantined_tree sites ways p trail)
 
-led_deep : (sites : List Site) (ways : Ways) (z : Pair × List Pair) → IsTree 4 (led_json sites ways z)
-led_deep sites ways (p, trail) = quarantined_deep sites ways (p, Some trail)
+quarantined_deep : (sites : List Site) (ways : Ways) (z : Pair × (Option (List Pair) × Option (List StepEvents))) → IsTree 4 (quarantined_json sites ways z)
+quarantined_deep sites ways (p, (trail, None)) = quarantined_members_deep sites ways p trail
+quarantined_deep sites Trails (p, (trail, Some steps)) = (refl, (list_tree 2 step_json by_tree steps, (quarantined_members_deep sites Trails p trail).1))
+quarantined_deep sites Steps (p, (trail, Some steps)) = (refl, (list_tree 2 step_json by_tree steps, (quarantined_members_deep sites Steps p trail).1))
 
-report_tree : (sites : List Site) (r : Recall) (report : RecallReport) (ways : Ways) → IsTree 6 (report_json sites r report ways)
+led_deep : (sites : List Site) (ways : Ways) (z : Pair × (List Pair × Option (List StepEvents))) → IsTree 4 (led_json sites ways z)
+led_deep sites ways (p, (trail, steps)) = quarantined_deep sites ways (p, (Some trail, steps))
+
+leading_members_deep : (sites : List Site) (ways : Ways) (p : Pair) (trail : List Pair) → IsTree 4 (object (leading_members sites ways p trail))
+leading_members_deep sites ways p trail = deeper 3 (object (leading_members sites ways p trail)) (leading_tree sites ways p trail)
+
+leading_deep : (sites : List Site) (ways : Ways) (z : Pair × (List Pair × Option (List StepEvents))) → IsTree 4 (leading_json sites ways z)
+leading_deep sites ways (p, (trail, None)) = leading_members_deep sites ways p trail
+leading_deep sites Trails (p, (trail, Some steps)) = (refl, (list_tree 2 step_json by_tree steps, (leading_members_deep sites Trails p trail).1))
+leading_deep sites Steps (p, (trail, Some steps)) = (refl, (list_tree 2 step_json by_tree steps, (leading_members_deep sites Steps p trail).1))
+
+report_tree : (sites : List Site) (r : Recall) (report : RecallReport) (ways : Ways) (events : List (List StepEvents)) → IsTree 6 (report_json sites r report ways events)
 unfolding report_json
-report_tree sites r report ways = (
+report_tree sites r report ways events = (
   refl,
   (
     tt,
     (
       outsides_tree sites report.outside,
       (
-        list_tree 4 (quarantined_json sites ways) (quarantined_deep sites ways) (zip report.pairs report.trails),
+        list_tree 4 (quarantined_json sites ways) (quarantined_deep sites ways) (zip report.pairs (each_with report.trails events)),
         (tt, (pair_tree 4 sites report.root, tt)),
       ),
     ),
   ),
 )
 
-trace_tree : (sites : List Site) (trace : Trace) (ways : Ways) → IsTree 6 (trace_json sites trace ways)
+trace_tree : (sites : List Site) (trace : Trace) (ways : Ways) (events : List (List StepEvents)) → IsTree 6 (trace_json sites trace ways events)
 unfolding trace_json
-trace_tree sites trace ways =
-    (refl, (outsides_tree sites trace.outside, (list_tree 4 (led_json sites ways) (led_deep sites ways) (zip trace.pairs trace.trails), (pair_tree 4 sites trace.root, (tt, tt)))))
+trace_tree sites trace ways events = (
+  refl,
+  (
+    outsides_tree sites trace.outside,
+    (list_tree 4 (led_json sites ways) (led_deep sites ways) (zip trace.pairs (each_with trace.trails events)), (pair_tree 4 sites trace.root, (tt, tt))),
+  ),
+)
 
-back_tree : (sites : List Site) (trace : BackTrace) (ways : Ways) → IsTree 6 (back_json sites trace ways)
+back_tree : (sites : List Site) (trace : BackTrace) (ways : Ways) (events : List (List StepEvents)) → IsTree 6 (back_json sites trace ways events)
 unfolding back_json
-back_tree sites trace ways = (
+back_tree sites trace ways events = (
   refl,
   (
     list_tree 4 (pair_json sites) (pair_tree 3 sites) trace.origins,
     (
-      list_tree 4 (leading_json sites ways) (λ z. deeper 3 (leading_json sites ways z) (leading_tree sites ways z)) (zip trace.pairs trace.trails),
+      list_tree 4 (leading_json sites ways) (leading_deep sites ways) (zip trace.pairs (each_with trace.trails events)),
       (pair_tree 4 sites trace.root, (tt, tt)),
     ),
   ),
@@ -342,9 +372,9 @@ all_trees : (sites : List Site) (o : Outcome) → All (IsTree 6) (outcome_json s
 all_trees sites outcomes.Created = one_tree (created_json sites) (created_tree sites)
 all_trees sites (outcomes.Stepped done) = one_tree (effects_json sites done) (effects_tree sites done)
 all_trees sites (outcomes.Ran recalls) = each_tree (ran_json sites) (λ b. (refl, (tt, (tt, tt)))) recalls.items
-all_trees sites (outcomes.Reported r report ways) = one_tree (report_json sites r report ways) (report_tree sites r report ways)
-all_trees sites (outcomes.Traced trace ways) = one_tree (trace_json sites trace ways) (trace_tree sites trace ways)
-all_trees sites (outcomes.TracedBack trace ways) = one_tree (back_json sites trace ways) (back_tree sites trace ways)
+all_trees sites (outcomes.Reported r report ways events) = one_tree (report_json sites r report ways (told_events events)) (report_tree sites r report ways (told_events events))
+all_trees sites (outcomes.Traced trace ways events) = one_tree (trace_json sites trace ways (told_events events)) (trace_tree sites trace ways (told_events events))
+all_trees sites (outcomes.TracedBack trace ways events) = one_tree (back_json sites trace ways (told_events events)) (back_tree sites trace ways (told_events events))
 all_trees sites (outcomes.Standing recalls coded) = each_tree (status_json sites) (status_tree sites) recalls.items
 all_trees sites (outcomes.Waiting detail coded) = one_tree (detail_json sites detail) (detail_tree sites detail)
 all_trees sites (outcomes.Known site known) = each_tree (known_json sites site) (λ k. (refl, (tt, (tt, (tt, tt))))) known.items

@@ -29,9 +29,9 @@ pub one_is_refused : OneIsRefused
 one_is_refused sites outcomes.Created one = absurd (omega (arith, one))
 one_is_refused sites (outcomes.Stepped effects) one = absurd (omega (arith, one))
 one_is_refused sites (outcomes.Ran recalls) one = absurd (omega (arith, one))
-one_is_refused sites (outcomes.Reported r report ways) one = absurd (omega (arith, one))
-one_is_refused sites (outcomes.Traced trace ways) one = absurd (omega (arith, one))
-one_is_refused sites (outcomes.TracedBack trace ways) one = absurd (omega (arith, one))
+one_is_refused sites (outcomes.Reported r report ways events) one = absurd (omega (arith, one))
+one_is_refused sites (outcomes.Traced trace ways events) one = absurd (omega (arith, one))
+one_is_refused sites (outcomes.TracedBack trace ways events) one = absurd (omega (arith, one))
 one_is_refused sites (outcomes.Standing recalls coded) one = absurd (five_or_zero (coded && list_any is_open recalls.items) one)
 one_is_refused sites (outcomes.Waiting detail coded) one = absurd (five_or_zero (coded && is_open detail.status) one)
 one_is_refused sites (outcomes.Known site items) one = absurd (omega (arith, one))
@@ -56,9 +56,9 @@ pub each_is_line : EachReasonIsALine
 each_is_line sites outcomes.Created refused plain = absurd refused
 each_is_line sites (outcomes.Stepped effects) refused plain = absurd refused
 each_is_line sites (outcomes.Ran recalls) refused plain = absurd refused
-each_is_line sites (outcomes.Reported r report ways) refused plain = absurd refused
-each_is_line sites (outcomes.Traced trace ways) refused plain = absurd refused
-each_is_line sites (outcomes.TracedBack trace ways) refused plain = absurd refused
+each_is_line sites (outcomes.Reported r report ways events) refused plain = absurd refused
+each_is_line sites (outcomes.Traced trace ways events) refused plain = absurd refused
+each_is_line sites (outcomes.TracedBack trace ways events) refused plain = absurd refused
 each_is_line sites (outcomes.Standing recalls coded) refused plain = absurd refused
 each_is_line sites (outcomes.Waiting detail coded) refused plain = absurd refused
 each_is_line sites (outcomes.Known site items) refused plain = absurd refused

@@ -110,9 +110,9 @@ pub each_is_line : EachSentenceIsALine
 each_is_line outcomes.Created = refl
 each_is_line (outcomes.Stepped effects) = refl
 each_is_line (outcomes.Ran recalls) = refl
-each_is_line (outcomes.Reported r report ways) = refl
-each_is_line (outcomes.Traced trace ways) = refl
-each_is_line (outcomes.TracedBack trace ways) = refl
+each_is_line (outcomes.Reported r report ways events) = refl
+each_is_line (outcomes.Traced trace ways events) = refl
+each_is_line (outcomes.TracedBack trace ways events) = refl
 each_is_line (outcomes.Standing recalls coded) = refl
 each_is_line (outcomes.Waiting detail coded) = refl
 each_is_line (outcomes.Known site items) = refl

@@ -1,12 +1,12 @@
 -- What values tell of the outcomes that they are of.
-use Rattle.std.proofs.Common.{◌≡◌, ◌<◌, ◌^◌, ◌+◌, ◌*◌, ℕ, zero, suc, Bool, true, false, List, [], ◌∷◌, ◌++◌, All, Option, Some, None, length, map, fold, refl, sym, ap, ap₂, ◌∙◌, subst, arith}
-use mathlib.Core.Bool.{true≢false}
+use Rattle.std.proofs.Common.{◌≡◌, ◌<◌, ◌≤◌, ◌^◌, ◌+◌, ◌*◌, ℕ, zero, suc, Bool, true, false, List, [], ◌∷◌, ◌++◌, All, Option, Some, None, drop, length, map, fold, refl, sym, ap, ap₂, ◌∙◌, subst, arith}
+use mathlib.Core.Bool.{false≢true, true≢false}
 use Rattle.std.specs.Prelude.{⊤, if◌then◌else◌, ◌==◌, ◌&&◌, ◌||◌, bytes_eq, codes, nat_le, option_and_then, slice_get, string_bytes}
 use Rattle.std.specs.Fmt.{decimal}
 use Rattle.std.specs.List.{AllZip, list_all, list_any, slice_split, zip}
 use Rattle.std.proofs.lemmas.Bool.{and_parts, ne_eqb}
 use Rattle.std.proofs.lemmas.Fmt.{decimal_injective}
-use Rattle.std.proofs.lemmas.List.{append_cancel_left, map-id}
+use Rattle.std.proofs.lemmas.List.{append_cancel_left, map-id, nil_from_length}
 use Rattle.std.proofs.lemmas.List.Elements.{All-cons, All-head, All-nil, All-tail, All-weaker}
 use Rattle.std.proofs.lemmas.List.Splits.{slice_split_at}
 use Rattle.std.proofs.lemmas.List.Sums.{AllPass-from_list_all}
@@ -40,6 +40,9 @@ use Rattle.report_core.specs.declared.outside.OutsideShipment.{OutsideShipment}
 use Rattle.report_core.specs.declared.reports.RecallReport.{RecallReport}
 use Rattle.report_core.specs.declared.traces.BackTrace.{BackTrace}
 use Rattle.report_core.specs.declared.traces.Trace.{Trace}
+use Rattle.report_core.specs.declared.trail_events.CapturedEvent.{CapturedEvent}
+use Rattle.report_core.specs.declared.trail_events.StepEvents.{StepEvents}
+use Rattle.report_core.specs.declared.trail_events.StepEvents.TheVariants as behind
 use Rattle.serde_json.specs.Data.{Data, unsigned, null, boolean, number, string, array, object, Items, no_items, item, Members, member, no_members}
 use Rattle.serde_json.specs.View.{items_of}
 use Rattle.site_core.specs.declared.outcomes.Effects.{Effects}
@@ -48,8 +51,9 @@ use Rattle.site_core.specs.declared.outcomes.Refusal.{Refusal}
 use Rattle.site_core.specs.declared.outcomes.Refusal.TheVariants as steps
 use Rattle.site_recovery.specs.declared.checking.Misfit.{Misfit}
 use Rattle.trace_core.specs.declared.pairs.Pair.{Pair}
-use Rattle.recall_outcomes.specs.Json.{audited_json, back_json, beside_json, detail_json, effects_json, engaged_json, known_json, leading_json, led_json, line_members, list_of, misfit_json, outcome_json, outside_json, pair_json, quarantined_json, ran_json, report_json, standing_json, status_json, step_members, trace_json, traced_json, trail_json, verdict_json, waiting_json, why_json, would_json}
+use Rattle.recall_outcomes.specs.Json.{audited_json, back_json, beside_json, detail_json, effects_json, engaged_json, event_json, known_json, leading_json, leading_members, led_json, line_members, list_of, misfit_json, outcome_json, outside_json, pair_json, quarantined_json, quarantined_members, ran_json, report_json, standing_json, status_json, step_json, step_members, text_or_null, trace_json, trail_json, verdict_json, waiting_json, why_json, would_json}
 use Rattle.recall_outcomes.specs.Telling.{AuditedIsOf, BackTraceIsOf, DetailIsOf, EffectsAreOf, MessageIsOf, OutsideIsOf, PairIsOf, RecallIsOf, ReportIsOf, SomeIsOf, StandingIsOf, StepIsOf, TellsBack, TellsReport, TellsTrace, TellsTrails, TellsWhy, TraceIsOf, ValuesTell, ValuesTellKinds, ValuesTellOutcomes, VerdictIsOf, WaitingIsOf, WhyIsOf, kind_of}
+use Rattle.recall_outcomes.specs.Steps.{each_with}
 use Rattle.report_forms.specs.Steps.{before_last}
 use Rattle.recall_outcomes.specs.declared.outcomes.AuditedRecall.{AuditedRecall}
 use Rattle.recall_outcomes.specs.declared.outcomes.CommandRefusal.{CommandRefusal}
@@ -253,12 +257,12 @@ before_is_of sites None all = tt
 before_is_of sites (Some trail) all = before_is sites trail all
 
 -- Pairs with a trail each, and a value for each in one of two ways, which tells the pair, and the trail or what is beside it.
-record TellsEach {X : Type 0} (sites : List Site) (IsOf : X → Type 0) (beside : X → Option Pair) (of : Ways → Pair × X → Data) : Type 0 where
+record TellsEach {X Z : Type 0} (sites : List Site) (IsOf : X → Type 0) (beside : X → Z) (of : Ways → Pair × X → Data) : Type 0 where
   pub whole : (p q : Pair) (t u : X) → PairIsOf sites p → PairIsOf sites q → IsOf t → IsOf u → of Trails (p, t) ≡ of Trails (q, u) → (p ≡ q) × (t ≡ u)
   pub step : (p q : Pair) (t u : X) → PairIsOf sites p → PairIsOf sites q → IsOf t → IsOf u → of Steps (p, t) ≡ of Steps (q, u) → (p ≡ q) × (beside t ≡ beside u)
   pub apart : (p q : Pair) (t u : X) → of Trails (p, t) ≡ of Steps (q, u) → ⊥
 
-module _ {X : Type 0} (sites : List Site) (IsOf : X → Type 0) (beside : X → Option Pair) (of : Ways → Pair × X → Data) (each : TellsEach sites IsOf beside of) where
+module _ {X Z : Type 0} (sites : List Site) (IsOf : X → Type 0) (beside : X → Z) (of : Ways → Pair × X → Data) (each : TellsEach sites IsOf beside of) where
   abbrev BothAre : Pair × X → Type 0
   BothAre z = PairIsOf sites z.0 × IsOf z.1
 
@@ -326,7 +330,125 @@ module _ {X : Type 0} (sites : List Site) (IsOf : X → Type 0) (beside : X → 
   trails_tell Trails Steps ps qs ts us one other hp hq ht hu e = let told = none_tell ps qs ts us one other e in (told.0, (told.1, told.2))
   trails_tell Steps Trails ps qs ts us one other hp hq ht hu e = let told = none_tell qs ps us ts other one (sym e) in (sym told.0, (told.2, told.1))
 
-reported_tell : (sites : List Site) → AreSites sites → TellsEach sites (SomeIsOf (All (PairIsOf sites))) (option_and_then before_last) (quarantined_json sites)
+-- ---- the events behind the steps
+
+text_tells : (t u : Option (List ℕ)) → text_or_null t ≡ text_or_null u → t ≡ u
+text_tells None None e = refl
+text_tells (Some t) (Some u) e = ap Some (ap text_in e)
+text_tells t u e = cc
+
+event_tells : (e f : CapturedEvent) → event_json e ≡ event_json f → e ≡ f
+event_tells e f same =
+    let of : ℕ → Option (List ℕ) × Option (List ℕ) → CapturedEvent = λ n x. record { number = n; id = x.0; time = x.1 } in
+    ap₂ of (ap (count_at 1) same) (ap₂ (λ i t. (i, t)) (text_tells e.id f.id (ap (at 0) same)) (text_tells e.time f.time (ap (at 2) same)))
+
+by_tells : (s t : StepEvents) → step_json s ≡ step_json t → s ≡ t
+by_tells (behind.Shipped e) (behind.Shipped f) same = ap behind.Shipped (event_tells e f (ap (at 0) same))
+by_tells (behind.Made a b) (behind.Made c d) same = ap₂ behind.Made (event_tells a c (ap (at 0) same)) (event_tells b d (ap (at 2) same))
+by_tells s t same = absurd (let no : ⊥ = omega (arith, ap tag same) in no)
+
+-- all are something
+all_any : {X : Type 0} (xs : List X) → All (λ (x : X). ⊤) xs
+all_any [] = All-nil (λ x. ⊤)
+all_any (x ∷ xs) = All-cons (λ y. ⊤) x xs tt (all_any xs)
+
+all_by_tell : (ss ts : List StepEvents) → list_of step_json ss ≡ list_of step_json ts → ss ≡ ts
+all_by_tell ss ts e = listed_tell (λ s. ⊤) step_json (λ s t hs ht same. by_tells s t same) ss ts (all_any ss) (all_any ts) e
+
+-- the members with the events before all others
+abbrev headed : Option (List StepEvents) → Members → Members
+headed None members = members
+headed (Some steps) members = member (codes "events") (list_of step_json steps) members
+
+abbrev begins_with_events : Members → Bool
+begins_with_events no_members = false
+begins_with_events (member name d ms) = bytes_eq name (codes "events")
+
+abbrev others_of : Members → Members
+others_of no_members = no_members
+others_of (member name d ms) = ms
+
+headed_tell : (o u : Option (List StepEvents)) (ms ns : Members) → begins_with_events ms ≡ false → begins_with_events ns ≡ false → headed o ms ≡ headed u ns → (o ≡ u) × (ms ≡ ns)
+headed_tell None None ms ns hm hn e = (refl, e)
+headed_tell (Some s) (Some t) ms ns hm hn e = (ap Some (all_by_tell s t (ap (among 0) e)), ap others_of e)
+headed_tell None (Some t) ms ns hm hn e = absurd (false≢true (sym hm ∙ ap begins_with_events e))
+headed_tell (Some s) None ms ns hm hn e = absurd (false≢true (sym hn ∙ ap begins_with_events (sym e)))
+
+-- what is beside the one, and the other
+abbrev beside_both : {X Z E : Type 0} → (X → Z) → X × Option E → Z × Option E
+beside_both beside x = (beside x.0, x.1)
+
+-- values with the events before the members that tell the pair and its trail
+module _ {X Z : Type 0} (sites : List Site) (IsOf : X → Type 0) (beside : X → Z) (members : Ways → Pair × X → Members) (of : Ways → Pair × (X × Option (List StepEvents)) → Data) (each : TellsEach sites IsOf beside (λ ways z. object (members ways z))) (others : (ways : Ways) (z : Pair × X) → begins_with_events (members ways z) ≡ false) (are : (ways : Ways) (p : Pair) (t : X) (o : Option (List StepEvents)) → of ways (p, (t, o)) ≡ object (headed o (members ways (p, t)))) where
+  parts_tell : (ways other : Ways) (p q : Pair) (t u : X × Option (List StepEvents)) → of ways (p, t) ≡ of other (q, u)
+      → (t.1 ≡ u.1) × (members ways (p, t.0) ≡ members other (q, u.0))
+  parts_tell ways other p q t u e =
+      headed_tell t.1 u.1 (members ways (p, t.0)) (members other (q, u.0)) (others ways (p, t.0)) (others other (q, u.0))
+      (ap members_in (sym (are ways p t.0 t.1) ∙ e ∙ are other q u.0 u.1))
+
+  with_events_tell : TellsEach sites (λ (x : X × Option (List StepEvents)). IsOf x.0) (beside_both beside) of
+  with_events_tell = record {
+    whole = λ p q t u hp hq ht hu e.
+        let told = parts_tell Trails Trails p q t u e in
+        let base = each.whole p q t.0 u.0 hp hq ht hu (ap object told.1) in
+        (base.0, ap₂ (λ a b. (a, b)) base.1 told.0);
+    step = λ p q t u hp hq ht hu e.
+        let told = parts_tell Steps Steps p q t u e in
+        let base = each.step p q t.0 u.0 hp hq ht hu (ap object told.1) in
+        (base.0, ap₂ (λ a b. (a, b)) base.1 told.0);
+    apart = λ p q t u e. each.apart p q t.0 u.0 (ap object (parts_tell Trails Steps p q t u e).1);
+  }
+
+-- the lists of two lists side by side
+abbrev somes : {X : Type 0} → List (Option X) → List X
+somes [] = []
+somes (None ∷ os) = somes os
+somes (Some x ∷ os) = x ∷ somes os
+
+module _ {X E : Type 0} where
+  length_with : (ts : List X) (es : List E) → length (each_with ts es) ≡ length ts
+  length_with [] es = refl
+  length_with (t ∷ ts) es = ap suc (length_with ts (drop 1 es))
+
+  all_with : (IsOf : X → Type 0) (ts : List X) (es : List E) → All IsOf ts → All (λ (x : X × Option E). IsOf x.0) (each_with ts es)
+  all_with IsOf [] es ht = All-nil (λ (x : X × Option E). IsOf x.0)
+  all_with IsOf (t ∷ ts) es ht =
+      All-cons (λ (x : X × Option E). IsOf x.0) (t, slice_get es 0) (each_with ts (drop 1 es)) (All-head IsOf t ts ht) (all_with IsOf ts (drop 1 es) (All-tail IsOf t ts ht))
+
+  module _ {Z : Type 0} (f : X → Z) where
+    firsts_with : (ts : List X) (es : List E) → map (λ (z : Z × Option E). z.0) (map (beside_both f) (each_with ts es)) ≡ map f ts
+    firsts_with [] es = refl
+    firsts_with (t ∷ ts) es = ap (λ l. f t ∷ l) (firsts_with ts (drop 1 es))
+
+    seconds_with : (ts : List X) (es : List E) → length es ≤ length ts → somes (map (λ (z : Z × Option E). z.1) (map (beside_both f) (each_with ts es))) ≡ es
+    seconds_with [] [] few = refl
+    seconds_with [] (e ∷ es) few = absurd (let no : ⊥ = omega (arith, few) in no)
+    seconds_with (t ∷ ts) [] few = seconds_with ts [] (omega arith)
+    seconds_with (t ∷ ts) (e ∷ es) few = ap (λ l. e ∷ l) (seconds_with ts es (omega (arith, few)))
+
+  none_of_both : (ts us : List X) (es fs : List E) → length es ≤ length ts → length fs ≤ length us → length (each_with ts es) ≡ 0 → length (each_with us fs) ≡ 0
+      → ((length ts ≡ 0) × (length us ≡ 0)) × (es ≡ fs)
+  none_of_both ts us es fs few less none nothing =
+      let left : length ts ≡ 0 = sym (length_with ts es) ∙ none in
+      let right : length us ≡ 0 = sym (length_with us fs) ∙ nothing in
+      ((left, right), nil_from_length es (omega (arith, few, left)) ∙ sym (nil_from_length fs (omega (arith, less, right))))
+
+  -- trails, each with what stands beside it, tell both
+  both_tell : {Z : Type 0} (beside : X → Z) (ways other : Ways) (ts us : List X) (es fs : List E) → length es ≤ length ts → length fs ≤ length us
+      → TellsTrails (beside_both beside) ways other (each_with ts es) (each_with us fs) → TellsTrails beside ways other ts us × (es ≡ fs)
+  both_tell beside Trails Trails ts us es fs few less e =
+      let same = ap (map (beside_both (λ x. x))) e in (
+        sym (map-id ts) ∙ sym (firsts_with (λ x. x) ts es) ∙ ap (map (λ (z : X × Option E). z.0)) same ∙ firsts_with (λ x. x) us fs ∙ map-id us,
+        sym (seconds_with (λ x. x) ts es few) ∙ ap (λ l. somes (map (λ (z : X × Option E). z.1) l)) same ∙ seconds_with (λ x. x) us fs less,
+      )
+  both_tell {Z} beside Steps Steps ts us es fs few less e = (
+    sym (firsts_with beside ts es) ∙ ap (map (λ (z : Z × Option E). z.0)) e ∙ firsts_with beside us fs,
+    sym (seconds_with beside ts es few) ∙ ap (λ l. somes (map (λ (z : Z × Option E). z.1) l)) e ∙ seconds_with beside us fs less,
+  )
+  both_tell beside Trails Steps ts us es fs few less (none, nothing) = none_of_both ts us es fs few less none nothing
+  both_tell beside Steps Trails ts us es fs few less (none, nothing) = none_of_both ts us es fs few less none nothing
+
+reported_tell : (sites : List Site) → AreSites sites → TellsEach sites (SomeIsOf (All (PairIsOf sites))) (option_and_then before_last) (λ ways z. object (quarantined_members sites ways z.0 z.1))
 unfolding pair_by
 reported_tell sites are = record {
   whole = λ p q t u hp hq ht hu e.
@@ -337,6 +459,16 @@ reported_tell sites are = record {
   );
   apart = λ p q t u e. omega (arith, ap tag e);
 }
+
+held_without : (sites : List Site) (ways : Ways) (p : Pair) (t : Option (List Pair)) → begins_with_events (quarantined_members sites ways p t) ≡ false
+held_without sites Trails p t = refl
+held_without sites Steps p t = refl
+
+held_headed : (sites : List Site) (ways : Ways) (p : Pair) (t : Option (List Pair)) (o : Option (List StepEvents))
+    → quarantined_json sites ways (p, (t, o)) ≡ object (headed o (quarantined_members sites ways p t))
+held_headed sites ways p t None = refl
+held_headed sites Trails p t (Some steps) = refl
+held_headed sites Steps p t (Some steps) = refl
 
 -- ---- what left the traced sites
 
@@ -351,27 +483,42 @@ outsides_tell sites are = listed_tell (OutsideIsOf sites) (outside_json sites) (
 
 -- ---- reports and traces
 
-report_tells : (sites : List Site) → AreSites sites → (r s : Recall) (a b : RecallReport) (ways other : Ways) → RecallIsOf sites r → RecallIsOf sites s → ReportIsOf sites a → ReportIsOf sites b
-    → report_json sites r a ways ≡ report_json sites s b other → (r ≡ s) × TellsReport ways other a b
+-- the pairs of two reports or traces, with their trails and events
+module _ {X Z : Type 0} (sites : List Site) (IsOf : X → Type 0) (beside : X → Z) (of : Ways → Pair × (X × Option (List StepEvents)) → Data) (each : TellsEach sites (λ (x : X × Option (List StepEvents)). IsOf x.0) (beside_both beside) of) where
+  told_pairs_tell : (ways other : Ways) (ps qs : List Pair) (ts us : List X) (es fs : List (List StepEvents)) → length ts ≡ length ps → length us ≡ length qs
+      → length es ≤ length ps → length fs ≤ length qs → All (PairIsOf sites) ps → All (PairIsOf sites) qs → All IsOf ts → All IsOf us
+      → list_of (of ways) (zip ps (each_with ts es)) ≡ list_of (of other) (zip qs (each_with us fs))
+      → (ps ≡ qs) × (TellsTrails beside ways other ts us × (es ≡ fs))
+  told_pairs_tell ways other ps qs ts us es fs one each_one few less hp hq ht hu e =
+      let told = trails_tell sites (λ (x : X × Option (List StepEvents)). IsOf x.0) (beside_both beside) of each ways other ps qs (each_with ts es) (each_with us fs)
+      (length_with ts es ∙ one) (length_with us fs ∙ each_one) hp hq (all_with IsOf ts es ht) (all_with IsOf us fs hu)
+      (lists_tell (of ways) (of other) (zip ps (each_with ts es)) (zip qs (each_with us fs)) e) in
+      (told.0, both_tell beside ways other ts us es fs (omega (arith, few, one)) (omega (arith, less, each_one)) told.1)
+
+report_tells : (sites : List Site) → AreSites sites → (r s : Recall) (a b : RecallReport) (es fs : List (List StepEvents)) (ways other : Ways) → RecallIsOf sites r → RecallIsOf sites s
+    → ReportIsOf sites a → ReportIsOf sites b → length es ≤ length a.pairs → length fs ≤ length b.pairs
+    → report_json sites r a ways es ≡ report_json sites s b other fs → (r ≡ s) × TellsReport ways other a b × (es ≡ fs)
 unfolding report_json
-report_tells sites are r s a b ways other hr hs ha hb e =
-    let each = trails_tell sites (SomeIsOf (All (PairIsOf sites))) (option_and_then before_last) (quarantined_json sites) (reported_tell sites are) ways other a.pairs b.pairs a.trails b.trails
-    ha.one_each hb.one_each ha.pairs hb.pairs ha.trails hb.trails
-    (lists_tell (quarantined_json sites ways) (quarantined_json sites other) (zip a.pairs a.trails) (zip b.pairs b.trails) (ap (at 2) e)) in (
+report_tells sites are r s a b es fs ways other hr hs ha hb few less e =
+    let held = with_events_tell sites (SomeIsOf (All (PairIsOf sites))) (option_and_then before_last) (λ w z. quarantined_members sites w z.0 z.1) (quarantined_json sites) (reported_tell sites are)
+    (λ w z. held_without sites w z.0 z.1) (held_headed sites) in
+    let each = told_pairs_tell sites (SomeIsOf (All (PairIsOf sites))) (option_and_then before_last) (quarantined_json sites) held ways other a.pairs b.pairs a.trails b.trails es fs
+    ha.one_each hb.one_each few less ha.pairs hb.pairs ha.trails hb.trails (ap (at 2) e) in (
       recall_tells sites are r s hr hs (ap (text_at 3) e),
       record {
         root = pair_tells sites are a.root b.root ha.root hb.root (ap (at 4) e);
         ended = ap (flag_at 0) e;
         pairs = each.0;
-        trails = each.1;
+        trails = each.1.0;
         outside = outsides_tell sites are a.outside b.outside ha.outside hb.outside (ap (at 1) e);
       },
+      each.1.1,
     )
 
 some_same : {X : Type 0} (x y : X) → Some x ≡ Some y → x ≡ y
 some_same x y e = cc
 
-traced_tell : (sites : List Site) → AreSites sites → TellsEach sites (All (PairIsOf sites)) before_last (led_json sites)
+traced_tell : (sites : List Site) → AreSites sites → TellsEach sites (All (PairIsOf sites)) before_last (λ ways z. object (quarantined_members sites ways z.0 (Some z.1)))
 traced_tell sites are =
     let reported = reported_tell sites are in
     record {
@@ -380,21 +527,24 @@ traced_tell sites are =
       apart = λ p q t u e. reported.apart p q (Some t) (Some u) e;
     }
 
-trace_tells : (sites : List Site) → AreSites sites → (a b : Trace) (ways other : Ways) → TraceIsOf sites a → TraceIsOf sites b
-    → trace_json sites a ways ≡ trace_json sites b other → TellsTrace ways other a b
+trace_tells : (sites : List Site) → AreSites sites → (a b : Trace) (es fs : List (List StepEvents)) (ways other : Ways) → TraceIsOf sites a → TraceIsOf sites b
+    → length es ≤ length a.pairs → length fs ≤ length b.pairs → trace_json sites a ways es ≡ trace_json sites b other fs → TellsTrace ways other a b × (es ≡ fs)
 unfolding trace_json
-trace_tells sites are a b ways other ha hb e =
-    let each = trails_tell sites (All (PairIsOf sites)) before_last (led_json sites) (traced_tell sites are) ways other a.pairs b.pairs a.trails b.trails
-    ha.one_each hb.one_each ha.pairs hb.pairs ha.trails hb.trails
-    (lists_tell (led_json sites ways) (led_json sites other) (zip a.pairs a.trails) (zip b.pairs b.trails) (ap (at 1) e)) in
-    record {
-      root = pair_tells sites are a.root b.root ha.root hb.root (ap (at 2) e);
-      pairs = each.0;
-      trails = each.1;
-      outside = outsides_tell sites are a.outside b.outside ha.outside hb.outside (ap (at 0) e);
-    }
+trace_tells sites are a b es fs ways other ha hb few less e =
+    let held = with_events_tell sites (All (PairIsOf sites)) before_last (λ w z. quarantined_members sites w z.0 (Some z.1)) (led_json sites) (traced_tell sites are)
+    (λ w z. held_without sites w z.0 (Some z.1)) (λ w p t o. held_headed sites w p (Some t) o) in
+    let each = told_pairs_tell sites (All (PairIsOf sites)) before_last (led_json sites) held ways other a.pairs b.pairs a.trails b.trails es fs
+    ha.one_each hb.one_each few less ha.pairs hb.pairs ha.trails hb.trails (ap (at 1) e) in (
+      record {
+        root = pair_tells sites are a.root b.root ha.root hb.root (ap (at 2) e);
+        pairs = each.0;
+        trails = each.1.0;
+        outside = outsides_tell sites are a.outside b.outside ha.outside hb.outside (ap (at 0) e);
+      },
+      each.1.1,
+    )
 
-led_tell : (sites : List Site) → AreSites sites → TellsEach sites (All (PairIsOf sites)) (λ trail. slice_get trail 1) (leading_json sites)
+led_tell : (sites : List Site) → AreSites sites → TellsEach sites (All (PairIsOf sites)) (λ trail. slice_get trail 1) (λ ways z. object (leading_members sites ways z.0 z.1))
 unfolding pair_by
 led_tell sites are =
     record {
@@ -406,19 +556,32 @@ led_tell sites are =
       apart = λ p q t u e. omega (arith, ap tag e);
     }
 
-back_tells : (sites : List Site) → AreSites sites → (a b : BackTrace) (ways other : Ways) → BackTraceIsOf sites a → BackTraceIsOf sites b
-    → back_json sites a ways ≡ back_json sites b other → TellsBack ways other a b
+leading_without : (sites : List Site) (ways : Ways) (p : Pair) (t : List Pair) → begins_with_events (leading_members sites ways p t) ≡ false
+leading_without sites Trails p t = refl
+leading_without sites Steps p t = refl
+
+leading_headed : (sites : List Site) (ways : Ways) (p : Pair) (t : List Pair) (o : Option (List StepEvents))
+    → leading_json sites ways (p, (t, o)) ≡ object (headed o (leading_members sites ways p t))
+leading_headed sites ways p t None = refl
+leading_headed sites Trails p t (Some steps) = refl
+leading_headed sites Steps p t (Some steps) = refl
+
+back_tells : (sites : List Site) → AreSites sites → (a b : BackTrace) (es fs : List (List StepEvents)) (ways other : Ways) → BackTraceIsOf sites a → BackTraceIsOf sites b
+    → length es ≤ length a.pairs → length fs ≤ length b.pairs → back_json sites a ways es ≡ back_json sites b other fs → TellsBack ways other a b × (es ≡ fs)
 unfolding back_json
-back_tells sites are a b ways other ha hb e =
-    let each = trails_tell sites (All (PairIsOf sites)) (λ trail. slice_get trail 1) (leading_json sites) (led_tell sites are) ways other a.pairs b.pairs a.trails b.trails
-    ha.one_each hb.one_each ha.pairs hb.pairs ha.trails hb.trails
-    (lists_tell (leading_json sites ways) (leading_json sites other) (zip a.pairs a.trails) (zip b.pairs b.trails) (ap (at 1) e)) in
-    record {
-      root = pair_tells sites are a.root b.root ha.root hb.root (ap (at 2) e);
-      pairs = each.0;
-      trails = each.1;
-      origins = pairs_tell sites are a.origins b.origins ha.origins hb.origins (ap (at 0) e);
-    }
+back_tells sites are a b es fs ways other ha hb few less e =
+    let held = with_events_tell sites (All (PairIsOf sites)) (λ trail. slice_get trail 1) (λ w z. leading_members sites w z.0 z.1) (leading_json sites) (led_tell sites are)
+    (λ w z. leading_without sites w z.0 z.1) (leading_headed sites) in
+    let each = told_pairs_tell sites (All (PairIsOf sites)) (λ trail. slice_get trail 1) (leading_json sites) held ways other a.pairs b.pairs a.trails b.trails es fs
+    ha.one_each hb.one_each few less ha.pairs hb.pairs ha.trails hb.trails (ap (at 1) e) in (
+      record {
+        root = pair_tells sites are a.root b.root ha.root hb.root (ap (at 2) e);
+        pairs = each.0;
+        trails = each.1.0;
+        origins = pairs_tell sites are a.origins b.origins ha.origins hb.origins (ap (at 0) e);
+      },
+      each.1.1,
+    )
 
 -- ---- recalls
 
@@ -703,9 +866,9 @@ pub values_tell : ValuesTellOutcomes
 values_tell sites are = record {
   steps = effects_tell sites are;
   runs = λ r s hr hs e. mapped_tell (λ (b : StartedRecall). RecallIsOf sites b.recall) (ran_json sites) (run_tells sites are) r s hr hs e;
-  reports = λ r s a b ways other hr hs ha hb e. report_tells sites are r s a b ways other hr hs ha hb e;
-  traces = λ a b ways other ha hb e. trace_tells sites are a b ways other ha hb e;
-  back = λ a b ways other ha hb e. back_tells sites are a b ways other ha hb e;
+  reports = λ r s a b es fs ways other hr hs ha hb few less e. report_tells sites are r s a b es fs ways other hr hs ha hb few less e;
+  traces = λ a b es fs ways other ha hb few less e. trace_tells sites are a b es fs ways other ha hb few less e;
+  back = λ a b es fs ways other ha hb few less e. back_tells sites are a b es fs ways other ha hb few less e;
   standings = λ r s hr hs e. mapped_tell (λ (b : RecallStatus). RecallIsOf sites b.recall) (status_json sites) (status_tells sites are) r s hr hs e;
   waits = λ a b ha hb e. detail_tells sites are a b ha hb e;
   items = λ m n r s hm hn e. items_tell sites are m n r s hm hn e;
@@ -792,9 +955,9 @@ unfolding report_json trace_json back_json status_json detail_json
 kind_told sites outcomes.Created some = refl
 kind_told sites (outcomes.Stepped done) some = ap Some (effects_kind sites done)
 kind_told sites (outcomes.Ran recalls) some = listed_kind (ran_json sites) 2 (λ b. refl) recalls.items some
-kind_told sites (outcomes.Reported r report ways) some = refl
-kind_told sites (outcomes.Traced trace ways) some = refl
-kind_told sites (outcomes.TracedBack trace ways) some = refl
+kind_told sites (outcomes.Reported r report ways events) some = refl
+kind_told sites (outcomes.Traced trace ways events) some = refl
+kind_told sites (outcomes.TracedBack trace ways events) some = refl
 kind_told sites (outcomes.Standing recalls coded) some = listed_kind (status_json sites) 6 (λ b. refl) recalls.items some
 kind_told sites (outcomes.Waiting detail coded) some = refl
 kind_told sites (outcomes.Known site known) some = listed_kind (known_json sites site) 8 (λ k. refl) known.items some

@@ -49,9 +49,9 @@ abbrev pub advice : Outcome → Option (List ℕ)
 advice outcomes.Created = None
 advice (outcomes.Stepped effects) = effects_advice effects
 advice (outcomes.Ran recalls) = None
-advice (outcomes.Reported r report ways) = report_advice report.ended
-advice (outcomes.Traced trace ways) = None
-advice (outcomes.TracedBack trace ways) = None
+advice (outcomes.Reported r report ways events) = report_advice report.ended
+advice (outcomes.Traced trace ways events) = None
+advice (outcomes.TracedBack trace ways events) = None
 advice (outcomes.Standing recalls coded) = open_advice (list_any is_open recalls.items)
 advice (outcomes.Waiting detail coded) = open_advice (is_open detail.status)
 advice (outcomes.Known site items) = None

@@ -13,6 +13,9 @@ use Rattle.query_core.specs.declared.recalls.SiteStanding.{SiteStanding}
 use Rattle.query_core.specs.declared.recalls.WaitingMessage.{WaitingMessage}
 use Rattle.report_core.specs.declared.audits.Verdict.{Verdict}
 use Rattle.report_core.specs.declared.audits.Verdict.TheVariants.{Equal, Differs}
+use Rattle.report_core.specs.declared.trail_events.CapturedEvent.{CapturedEvent}
+use Rattle.report_core.specs.declared.trail_events.StepEvents.{StepEvents}
+use Rattle.report_core.specs.declared.trail_events.StepEvents.TheVariants.{Shipped, Made}
 use Rattle.report_core.specs.declared.outside.OutsideShipment.{OutsideShipment}
 use Rattle.report_core.specs.declared.reports.RecallReport.{RecallReport}
 use Rattle.report_core.specs.declared.traces.BackTrace.{BackTrace}
@@ -32,6 +35,7 @@ use Rattle.site_recovery.specs.declared.checking.Misfit.{Misfit}
 use Rattle.trace_core.specs.declared.pairs.Pair.{Pair}
 use Rattle.recall_outcomes.specs.Faults.{fault_name}
 use Rattle.report_forms.specs.Steps.{before_last}
+use Rattle.recall_outcomes.specs.Steps.{each_with, told_events}
 use Rattle.recall_outcomes.specs.declared.batches.InputOutcome.{InputOutcome}
 use Rattle.recall_outcomes.specs.declared.batches.InputOutcome.TheVariants.{Captured, Started, Refused}
 use Rattle.recall_outcomes.specs.declared.batches.Task.{Task}
@@ -91,6 +95,28 @@ effects_json sites (effects.Ended r) = object (text_at (codes "effect") (codes "
 abbrev pub ran_json : List Site → StartedRecall → Data
 ran_json sites b = object (flag_at (codes "ended") b.ended (text_at (codes "recall") (recall_text sites b.recall) no_members))
 
+-- ---- the events behind a step
+
+-- a text of an event, or null
+abbrev pub text_or_null : Option (List ℕ) → Data
+text_or_null None = null
+text_or_null (Some text) = string text
+
+abbrev pub event_json : CapturedEvent → Data
+event_json e =
+    object (member (codes "id") (text_or_null e.id) (count_at (codes "number") e.number (member (codes "time") (text_or_null e.time) no_members)))
+
+-- the events of a step
+abbrev pub step_json : StepEvents → Data
+step_json (Shipped e) = object (member (codes "event") (event_json e) (text_at (codes "kind") (codes "shipped") no_members))
+step_json (Made taken given) =
+    object (member (codes "input") (event_json taken) (text_at (codes "kind") (codes "made") (member (codes "output") (event_json given) no_members)))
+
+-- the members, with the events of the steps of a trail among them, where these were asked for
+abbrev pub with_events : Option (List StepEvents) → Members → Members
+with_events None members = members
+with_events (Some steps) members = put (codes "events") (list_of step_json steps) members
+
 -- ---- a report
 
 -- the item, as its key, and the site; what is named behind them stands behind
@@ -105,8 +131,8 @@ abbrev pub trail_json : List Site → Option (List Pair) → Data
 trail_json sites None = null
 trail_json sites (Some trail) = list_of (pair_json sites) trail
 
-abbrev pub traced_json : List Site → Pair × Option (List Pair) → Data
-traced_json sites (p, trail) = object (pair_members sites p (member (codes "trail") (trail_json sites trail) no_members))
+abbrev pub traced_members : List Site → Pair → Option (List Pair) → Members
+traced_members sites p trail = pair_members sites p (member (codes "trail") (trail_json sites trail) no_members)
 
 -- the pair beside another one on its trail, or null
 abbrev pub beside_json : List Site → Option Pair → Data
@@ -114,45 +140,55 @@ beside_json sites None = null
 beside_json sites (Some p) = pair_json sites p
 
 -- a quarantined pair, and how a trail from the root leads to it, where one does
-abbrev pub quarantined_json : List Site → Ways → Pair × Option (List Pair) → Data
-quarantined_json sites Trails (p, trail) = traced_json sites (p, trail)
-quarantined_json sites Steps (p, trail) = object (member (codes "from") (beside_json sites (option_and_then before_last trail)) (pair_members sites p no_members))
+abbrev pub quarantined_members : List Site → Ways → Pair → Option (List Pair) → Members
+quarantined_members sites Trails p trail = traced_members sites p trail
+quarantined_members sites Steps p trail = member (codes "from") (beside_json sites (option_and_then before_last trail)) (pair_members sites p no_members)
+
+-- and the events behind the steps that are told, where they were asked for
+abbrev pub quarantined_json : List Site → Ways → Pair × (Option (List Pair) × Option (List StepEvents)) → Data
+quarantined_json sites ways (p, (trail, steps)) = object (with_events steps (quarantined_members sites ways p trail))
 
 abbrev pub outside_json : List Site → OutsideShipment → Data
 outside_json sites x =
     object (text_at (codes "destination") x.destination (text_at (codes "item") x.item (text_at (codes "site") (name_at sites x.site) no_members)))
 
-unfoldable pub report_json : List Site → Recall → RecallReport → Ways → Data
-report_json sites r report ways =
-    object (flag_at (codes "ended") report.ended
-    (member (codes "outside") (list_of (outside_json sites) report.outside)
-    (member (codes "pairs") (list_of (quarantined_json sites ways) (zip report.pairs report.trails))
-    (text_at (codes "recall") (recall_text sites r)
-    (member (codes "root") (pair_json sites report.root) no_members)))))
+-- the members of a report
+abbrev pub reported_members : Bool → Data → Data → List ℕ → Data → Members
+reported_members ended outside pairs recall root =
+    flag_at (codes "ended") ended
+    (member (codes "outside") outside (member (codes "pairs") pairs (text_at (codes "recall") recall (member (codes "root") root no_members))))
+
+unfoldable pub report_json : List Site → Recall → RecallReport → Ways → List (List StepEvents) → Data
+report_json sites r report ways events =
+    object (reported_members report.ended (list_of (outside_json sites) report.outside)
+    (list_of (quarantined_json sites ways) (zip report.pairs (each_with report.trails events))) (recall_text sites r) (pair_json sites report.root))
 
 -- ---- a trace
 
-abbrev pub led_json : List Site → Ways → Pair × List Pair → Data
-led_json sites ways (p, trail) = quarantined_json sites ways (p, Some trail)
+abbrev pub led_json : List Site → Ways → Pair × (List Pair × Option (List StepEvents)) → Data
+led_json sites ways (p, (trail, steps)) = quarantined_json sites ways (p, (Some trail, steps))
 
 -- where an item went
-unfoldable pub trace_json : List Site → Trace → Ways → Data
-trace_json sites trace ways =
+unfoldable pub trace_json : List Site → Trace → Ways → List (List StepEvents) → Data
+trace_json sites trace ways events =
     object (member (codes "outside") (list_of (outside_json sites) trace.outside)
-    (member (codes "pairs") (list_of (led_json sites ways) (zip trace.pairs trace.trails))
+    (member (codes "pairs") (list_of (led_json sites ways) (zip trace.pairs (each_with trace.trails events)))
     (member (codes "root") (pair_json sites trace.root)
     (text_at (codes "trace") (codes "forward") no_members))))
 
 -- a pair that a trail to the root begins with
-abbrev pub leading_json : List Site → Ways → Pair × List Pair → Data
-leading_json sites Trails (p, trail) = traced_json sites (p, Some trail)
-leading_json sites Steps (p, trail) = object (pair_members sites p (member (codes "to") (beside_json sites (slice_get trail 1)) no_members))
+abbrev pub leading_members : List Site → Ways → Pair → List Pair → Members
+leading_members sites Trails p trail = traced_members sites p (Some trail)
+leading_members sites Steps p trail = pair_members sites p (member (codes "to") (beside_json sites (slice_get trail 1)) no_members)
+
+abbrev pub leading_json : List Site → Ways → Pair × (List Pair × Option (List StepEvents)) → Data
+leading_json sites ways (p, (trail, steps)) = object (with_events steps (leading_members sites ways p trail))
 
 -- where an item came from
-unfoldable pub back_json : List Site → BackTrace → Ways → Data
-back_json sites trace ways =
+unfoldable pub back_json : List Site → BackTrace → Ways → List (List StepEvents) → Data
+back_json sites trace ways events =
     object (member (codes "origins") (list_of (pair_json sites) trace.origins)
-    (member (codes "pairs") (list_of (leading_json sites ways) (zip trace.pairs trace.trails))
+    (member (codes "pairs") (list_of (leading_json sites ways) (zip trace.pairs (each_with trace.trails events)))
     (member (codes "root") (pair_json sites trace.root)
     (text_at (codes "trace") (codes "back") no_members))))
 
@@ -273,9 +309,9 @@ abbrev pub outcome_json : List Site → Outcome → List Data
 outcome_json sites outcomes.Created = created_json sites ∷ []
 outcome_json sites (outcomes.Stepped effects) = effects_json sites effects ∷ []
 outcome_json sites (outcomes.Ran recalls) = map (ran_json sites) recalls.items
-outcome_json sites (outcomes.Reported r report ways) = report_json sites r report ways ∷ []
-outcome_json sites (outcomes.Traced trace ways) = trace_json sites trace ways ∷ []
-outcome_json sites (outcomes.TracedBack trace ways) = back_json sites trace ways ∷ []
+outcome_json sites (outcomes.Reported r report ways events) = report_json sites r report ways (told_events events) ∷ []
+outcome_json sites (outcomes.Traced trace ways events) = trace_json sites trace ways (told_events events) ∷ []
+outcome_json sites (outcomes.TracedBack trace ways events) = back_json sites trace ways (told_events events) ∷ []
 outcome_json sites (outcomes.Standing recalls coded) = map (status_json sites) recalls.items
 outcome_json sites (outcomes.Waiting detail coded) = detail_json sites detail ∷ []
 outcome_json sites (outcomes.Known site items) = map (known_json sites site) items.items

@@ -20,16 +20,16 @@ use Rattle.report_forms.specs.Dot.{back_dot, report_dot, trace_dot}
 
 -- a report and a trace as rows of comma-separated fields, and any other outcome as text
 abbrev pub csv_text : List Site → Outcome → List ℕ
-csv_text sites (outcomes.Reported r report ways) = report_csv sites r report
-csv_text sites (outcomes.Traced trace ways) = trace_csv sites trace
-csv_text sites (outcomes.TracedBack trace ways) = back_csv sites trace
+csv_text sites (outcomes.Reported r report ways events) = report_csv sites r report
+csv_text sites (outcomes.Traced trace ways events) = trace_csv sites trace
+csv_text sites (outcomes.TracedBack trace ways events) = back_csv sites trace
 csv_text sites other = outcome_text sites other
 
 -- a report and a trace as a picture for Graphviz, and any other outcome as text
 abbrev pub dot_picture : List Site → Outcome → List ℕ
-dot_picture sites (outcomes.Reported r report ways) = report_dot sites r report
-dot_picture sites (outcomes.Traced trace ways) = trace_dot sites trace
-dot_picture sites (outcomes.TracedBack trace ways) = back_dot sites trace
+dot_picture sites (outcomes.Reported r report ways events) = report_dot sites r report
+dot_picture sites (outcomes.Traced trace ways events) = trace_dot sites trace
+dot_picture sites (outcomes.TracedBack trace ways events) = back_dot sites trace
 dot_picture sites other = outcome_text sites other
 
 -- what a command came to, on the standard output

@@ -26,9 +26,9 @@ abbrev pub outcome_status : Outcome → ℕ
 outcome_status outcomes.Created = 0
 outcome_status (outcomes.Stepped effects) = 0
 outcome_status (outcomes.Ran recalls) = 0
-outcome_status (outcomes.Reported r report ways) = 0
-outcome_status (outcomes.Traced trace ways) = 0
-outcome_status (outcomes.TracedBack trace ways) = 0
+outcome_status (outcomes.Reported r report ways events) = 0
+outcome_status (outcomes.Traced trace ways events) = 0
+outcome_status (outcomes.TracedBack trace ways events) = 0
 outcome_status (outcomes.Standing recalls coded) = if coded && list_any is_open recalls.items then 5 else 0
 outcome_status (outcomes.Waiting detail coded) = if coded && is_open detail.status then 5 else 0
 outcome_status (outcomes.Known site items) = 0

@@ -13,6 +13,7 @@ use Rattle.query_core.specs.declared.recalls.SiteStanding.{SiteStanding}
 use Rattle.query_core.specs.declared.recalls.WaitingMessage.{WaitingMessage}
 use Rattle.report_core.specs.declared.audits.Verdict.{Verdict}
 use Rattle.report_core.specs.declared.audits.Verdict.TheVariants.{Equal, Differs}
+use Rattle.report_core.specs.declared.trail_events.StepEvents.{StepEvents}
 use Rattle.report_core.specs.declared.outside.OutsideShipment.{OutsideShipment}
 use Rattle.report_core.specs.declared.reports.RecallReport.{RecallReport}
 use Rattle.report_core.specs.declared.traces.BackTrace.{BackTrace}
@@ -77,9 +78,9 @@ abbrev pub kind_of : Outcome → ℕ
 kind_of outcomes.Created = 0
 kind_of (outcomes.Stepped done) = 1
 kind_of (outcomes.Ran recalls) = 2
-kind_of (outcomes.Reported r report ways) = 3
-kind_of (outcomes.Traced trace ways) = 4
-kind_of (outcomes.TracedBack trace ways) = 5
+kind_of (outcomes.Reported r report ways events) = 3
+kind_of (outcomes.Traced trace ways events) = 4
+kind_of (outcomes.TracedBack trace ways events) = 5
 kind_of (outcomes.Standing recalls coded) = 6
 kind_of (outcomes.Waiting detail coded) = 7
 kind_of (outcomes.Known site items) = 8
@@ -167,7 +168,7 @@ pub record BackTraceIsOf (sites : List Site) (t : BackTrace) : Type 0 where
 -- ---- what is told
 
 -- the trails, whole or by the pair beside each one; where there is none, nothing tells which of the two it is
-abbrev pub TellsTrails : {X : Type 0} → (X → Option Pair) → Ways → Ways → List X → List X → Type 0
+abbrev pub TellsTrails : {X Y : Type 0} → (X → Y) → Ways → Ways → List X → List X → Type 0
 TellsTrails beside Trails Trails trails others = trails ≡ others
 TellsTrails beside Steps Steps trails others = map beside trails ≡ map beside others
 TellsTrails beside ways other trails others = (length trails ≡ 0) × (length others ≡ 0)
@@ -197,15 +198,21 @@ TellsWhy (refusals.Exists name) (refusals.Exists other) = string_bytes name ≡ 
 TellsWhy (refusals.NoSite name) (refusals.NoSite other) = string_bytes name ≡ string_bytes other
 TellsWhy why other = why ≡ other
 
--- Of each kind of outcome, two whose values are the same are the same.
+-- Of each kind of outcome, two whose values are the same are the same. The events beside a report or a trace are one sequence for each
+-- pair, or none.
 pub record ValuesTell (sites : List Site) : Type 0 where
   pub steps : (e f : Effects) → EffectsAreOf sites e → EffectsAreOf sites f → effects_json sites e ≡ effects_json sites f → e ≡ f
   pub runs : (r s : List StartedRecall) → All (λ (b : StartedRecall). RecallIsOf sites b.recall) r → All (λ (b : StartedRecall). RecallIsOf sites b.recall) s
       → map (ran_json sites) r ≡ map (ran_json sites) s → r ≡ s
-  pub reports : (r s : Recall) (a b : RecallReport) (ways other : Ways) → RecallIsOf sites r → RecallIsOf sites s → ReportIsOf sites a → ReportIsOf sites b
-      → report_json sites r a ways ≡ report_json sites s b other → (r ≡ s) × TellsReport ways other a b
-  pub traces : (a b : Trace) (ways other : Ways) → TraceIsOf sites a → TraceIsOf sites b → trace_json sites a ways ≡ trace_json sites b other → TellsTrace ways other a b
-  pub back : (a b : BackTrace) (ways other : Ways) → BackTraceIsOf sites a → BackTraceIsOf sites b → back_json sites a ways ≡ back_json sites b other → TellsBack ways other a b
+  pub reports : (r s : Recall) (a b : RecallReport) (es fs : List (List StepEvents)) (ways other : Ways) → RecallIsOf sites r → RecallIsOf sites s
+      → ReportIsOf sites a → ReportIsOf sites b → length es ≤ length a.pairs → length fs ≤ length b.pairs
+      → report_json sites r a ways es ≡ report_json sites s b other fs → (r ≡ s) × TellsReport ways other a b × (es ≡ fs)
+  pub traces : (a b : Trace) (es fs : List (List StepEvents)) (ways other : Ways) → TraceIsOf sites a → TraceIsOf sites b
+      → length es ≤ length a.pairs → length fs ≤ length b.pairs
+      → trace_json sites a ways es ≡ trace_json sites b other fs → TellsTrace ways other a b × (es ≡ fs)
+  pub back : (a b : BackTrace) (es fs : List (List StepEvents)) (ways other : Ways) → BackTraceIsOf sites a → BackTraceIsOf sites b
+      → length es ≤ length a.pairs → length fs ≤ length b.pairs
+      → back_json sites a ways es ≡ back_json sites b other fs → TellsBack ways other a b × (es ≡ fs)
   pub standings : (r s : List RecallStatus) → All (λ (b : RecallStatus). RecallIsOf sites b.recall) r → All (λ (b : RecallStatus). RecallIsOf sites b.recall) s
       → map (status_json sites) r ≡ map (status_json sites) s → r ≡ s
   pub waits : (a b : RecallDetail) → DetailIsOf sites a → DetailIsOf sites b → detail_json sites a ≡ detail_json sites b → a ≡ b

@@ -1,7 +1,8 @@
 -- What a command came to, in lines of words.
-use Rattle.std.specs.Prelude.{ℕ, Bool, true, false, List, [], ◌∷◌, ◌++◌, codes, Option, Some, None, length, slice_get, string_bytes}
+use Rattle.std.specs.Prelude.{ℕ, zero, suc, ◌+◌, ◌==◌, Bool, true, false, if◌then◌else◌, List, [], ◌∷◌, ◌++◌, codes, Option, Some, None, length, slice_get, string_bytes}
 use Rattle.std.specs.Fmt.{decimal}
 use Rattle.std.specs.List.{enumerate_from, flat_map, zip}
+use Rattle.std.specs.Option.{option_map_or, unwrap_or}
 use Rattle.event_json.specs.Sites.{Site}
 use Rattle.frame_core.specs.Numbers.{Recall, Message}
 use Rattle.item_spellings.specs.Names.{scan_fault_name}
@@ -12,6 +13,9 @@ use Rattle.query_core.specs.declared.recalls.SiteStanding.{SiteStanding}
 use Rattle.query_core.specs.declared.recalls.WaitingMessage.{WaitingMessage}
 use Rattle.report_core.specs.declared.audits.Verdict.{Verdict}
 use Rattle.report_core.specs.declared.audits.Verdict.TheVariants.{Equal, Differs}
+use Rattle.report_core.specs.declared.trail_events.CapturedEvent.{CapturedEvent}
+use Rattle.report_core.specs.declared.trail_events.StepEvents.{StepEvents}
+use Rattle.report_core.specs.declared.trail_events.StepEvents.TheVariants.{Shipped, Made}
 use Rattle.report_core.specs.declared.outside.OutsideShipment.{OutsideShipment}
 use Rattle.report_core.specs.declared.reports.RecallReport.{RecallReport}
 use Rattle.report_core.specs.declared.traces.BackTrace.{BackTrace}
@@ -21,6 +25,7 @@ use Rattle.recall_text.specs.Words.{name_at, recall_text, message_text, ended_wo
 use Rattle.report_forms.specs.Steps.{before_last}
 use Rattle.site_recovery.specs.declared.checking.Misfit.{Misfit}
 use Rattle.trace_core.specs.declared.pairs.Pair.{Pair}
+use Rattle.recall_outcomes.specs.Steps.{each_with, told_events}
 use Rattle.recall_outcomes.specs.declared.outcomes.AuditedRecall.{AuditedRecall}
 use Rattle.recall_outcomes.specs.declared.outcomes.CommandRefusal.{CommandRefusal}
 use Rattle.recall_outcomes.specs.declared.outcomes.CommandRefusal.TheVariants as refusals
@@ -36,6 +41,31 @@ use Rattle.recall_outcomes.specs.declared.outcomes.Ways.TheVariants.{Trails, Ste
 abbrev pub ran_text : List Site → StartedRecall → List ℕ
 ran_text sites b = recall_text sites b.recall ++ 32 ∷ (ended_word b.ended ++ 10 ∷ [])
 
+-- ---- the events behind a step
+
+-- a text of an event, or `-`
+abbrev pub or_dash : Option (List ℕ) → List ℕ
+or_dash None = codes "-"
+or_dash (Some text) = text
+
+-- an event, and what it did
+abbrev pub event_text : List ℕ → CapturedEvent → List ℕ
+event_text did e = codes "    by " ++ decimal e.number ++ 32 ∷ (or_dash e.id ++ 32 ∷ (or_dash e.time ++ 32 ∷ (did ++ 10 ∷ [])))
+
+-- one that takes the one item in and gives the other one out has one line
+abbrev pub made_text : CapturedEvent → CapturedEvent → List ℕ
+made_text taken given = event_text (codes "made") taken ++ (if taken.number == given.number then [] else event_text (codes "made") given)
+
+-- the events of a step
+abbrev pub by_text : StepEvents → List ℕ
+by_text (Shipped e) = event_text (codes "shipped") e
+by_text (Made taken given) = made_text taken given
+
+-- those of the step that leads to the pair at a place of a trail, from 0
+abbrev pub led_by_text : List StepEvents → ℕ → List ℕ
+led_by_text steps zero = []
+led_by_text steps (suc before) = option_map_or by_text (slice_get steps before) []
+
 -- ---- a report
 
 -- the recall, its root, and whether it has ended
@@ -46,36 +76,40 @@ head_text sites r root ended = codes "recall " ++ recall_text sites r ++ codes "
 abbrev pub item_text : List Site → Pair → List ℕ
 item_text sites p = name_at sites p.site ++ 32 ∷ (p.item ++ 10 ∷ [])
 
--- a pair on a trail, with its place there
+-- a pair on a trail, with its place there, from 1
 abbrev pub step_text : List Site → ℕ × Pair → List ℕ
 step_text sites (place, p) = codes "  " ++ decimal place ++ 32 ∷ (name_at sites p.site ++ 32 ∷ (p.item ++ 10 ∷ []))
 
--- a trail, with places from 1
-abbrev pub trail_text : List Site → List Pair → List ℕ
-trail_text sites trail = flat_map (step_text sites) (enumerate_from 1 trail)
+-- and the events of the step that leads to it; the place is from 0
+abbrev pub place_text : List Site → List StepEvents → ℕ × Pair → List ℕ
+place_text sites steps (place, p) = step_text sites (place + 1, p) ++ led_by_text steps place
+
+-- a trail, with the events of its steps
+abbrev pub trail_text : List Site → List StepEvents → List Pair → List ℕ
+trail_text sites steps trail = flat_map (place_text sites steps) (enumerate_from 0 trail)
 
 -- a pair, and behind a word the pair beside it on its trail, where there is one
 abbrev pub beside_text : List Site → List ℕ → Pair → Option Pair → List ℕ
 beside_text sites word p None = pair_text sites p
 beside_text sites word p (Some q) = codes "pair " ++ name_at sites p.site ++ 32 ∷ (p.item ++ word ++ name_at sites q.site ++ 32 ∷ (q.item ++ 10 ∷ []))
 
--- a pair that a trail from the root ends with
-abbrev pub led_text : List Site → Ways → Pair → List Pair → List ℕ
-led_text sites Trails p trail = pair_text sites p ++ trail_text sites trail
-led_text sites Steps p trail = beside_text sites (codes " from ") p (before_last trail)
+-- a pair that a trail from the root ends with, and the events of the steps that are told
+abbrev pub led_text : List Site → Ways → List StepEvents → Pair → List Pair → List ℕ
+led_text sites Trails steps p trail = pair_text sites p ++ trail_text sites steps trail
+led_text sites Steps steps p trail = beside_text sites (codes " from ") p (before_last trail) ++ flat_map by_text steps
 
--- a pair that a trail to the root begins with
-abbrev pub leading_text : List Site → Ways → Pair × List Pair → List ℕ
-leading_text sites Trails (p, trail) = pair_text sites p ++ trail_text sites trail
-leading_text sites Steps (p, trail) = beside_text sites (codes " to ") p (slice_get trail 1)
+-- so a pair that a trail to the root begins with
+abbrev pub leading_text : List Site → Ways → List StepEvents → Pair → List Pair → List ℕ
+leading_text sites Trails steps p trail = pair_text sites p ++ trail_text sites steps trail
+leading_text sites Steps steps p trail = beside_text sites (codes " to ") p (slice_get trail 1) ++ flat_map by_text steps
 
 -- a quarantined pair, and how a trail leads to it, where one does
-abbrev pub quarantined_text : List Site → Ways → Pair × Option (List Pair) → List ℕ
-quarantined_text sites ways (p, None) = pair_text sites p
-quarantined_text sites ways (p, Some trail) = led_text sites ways p trail
+abbrev pub quarantined_text : List Site → Ways → Pair × (Option (List Pair) × Option (List StepEvents)) → List ℕ
+quarantined_text sites ways (p, (None, steps)) = pair_text sites p
+quarantined_text sites ways (p, (Some trail, steps)) = led_text sites ways (unwrap_or steps []) p trail
 
-abbrev pub pairs_text : List Site → Ways → List Pair → List (Option (List Pair)) → List ℕ
-pairs_text sites ways pairs trails = flat_map (quarantined_text sites ways) (zip pairs trails)
+abbrev pub pairs_text : List Site → Ways → List Pair → List (Option (List Pair)) → List (List StepEvents) → List ℕ
+pairs_text sites ways pairs trails events = flat_map (quarantined_text sites ways) (zip pairs (each_with trails events))
 
 -- a shipment to a place that is no traced site
 abbrev pub outside_text : List Site → OutsideShipment → List ℕ
@@ -88,32 +122,38 @@ outsides_text sites out = flat_map (outside_text sites) out
 abbrev pub total_text : ℕ → ℕ → List ℕ
 total_text pairs outside = codes "total " ++ decimal pairs ++ codes " outside " ++ decimal outside ++ 10 ∷ []
 
-abbrev pub report_text : List Site → Recall → RecallReport → Ways → List ℕ
-report_text sites r report ways =
-    head_text sites r report.root report.ended ++ pairs_text sites ways report.pairs report.trails
+abbrev pub report_text : List Site → Recall → RecallReport → Ways → List (List StepEvents) → List ℕ
+report_text sites r report ways events =
+    head_text sites r report.root report.ended ++ pairs_text sites ways report.pairs report.trails events
     ++ outsides_text sites report.outside ++ total_text (length report.pairs) (length report.outside)
 
 -- ---- a trace
 
-abbrev pub led_pair_text : List Site → Ways → Pair × List Pair → List ℕ
-led_pair_text sites ways (p, trail) = led_text sites ways p trail
+abbrev pub led_pair_text : List Site → Ways → Pair × (List Pair × Option (List StepEvents)) → List ℕ
+led_pair_text sites ways (p, (trail, steps)) = led_text sites ways (unwrap_or steps []) p trail
+
+abbrev pub leading_pair_text : List Site → Ways → Pair × (List Pair × Option (List StepEvents)) → List ℕ
+leading_pair_text sites ways (p, (trail, steps)) = leading_text sites ways (unwrap_or steps []) p trail
 
 -- where an item went
-abbrev pub trace_text : List Site → Trace → Ways → List ℕ
-trace_text sites trace ways =
-    codes "trace forward " ++ item_text sites trace.root ++ flat_map (led_pair_text sites ways) (zip trace.pairs trace.trails)
+abbrev pub trace_text : List Site → Trace → Ways → List (List StepEvents) → List ℕ
+trace_text sites trace ways events =
+    codes "trace forward " ++ item_text sites trace.root ++ flat_map (led_pair_text sites ways) (zip trace.pairs (each_with trace.trails events))
     ++ outsides_text sites trace.outside ++ total_text (length trace.pairs) (length trace.outside)
 
 -- a pair that no pair is related to
 abbrev pub origin_text : List Site → Pair → List ℕ
 origin_text sites p = codes "origin " ++ item_text sites p
 
+-- how many pairs lead to the item, and of how many of them nothing is known before
+abbrev pub origins_total_text : ℕ → ℕ → List ℕ
+origins_total_text pairs origins = codes "total " ++ decimal pairs ++ codes " origins " ++ decimal origins ++ 10 ∷ []
+
 -- where an item came from
-abbrev pub back_text : List Site → BackTrace → Ways → List ℕ
-back_text sites trace ways =
-    codes "trace back " ++ item_text sites trace.root ++ flat_map (leading_text sites ways) (zip trace.pairs trace.trails)
-    ++ flat_map (origin_text sites) trace.origins
-    ++ codes "total " ++ decimal (length trace.pairs) ++ codes " origins " ++ decimal (length trace.origins) ++ 10 ∷ []
+abbrev pub back_text : List Site → BackTrace → Ways → List (List StepEvents) → List ℕ
+back_text sites trace ways events =
+    codes "trace back " ++ item_text sites trace.root ++ flat_map (leading_pair_text sites ways) (zip trace.pairs (each_with trace.trails events))
+    ++ flat_map (origin_text sites) trace.origins ++ origins_total_text (length trace.pairs) (length trace.origins)
 
 -- ---- how recalls stand
 
@@ -211,9 +251,9 @@ abbrev pub outcome_text : List Site → Outcome → List ℕ
 outcome_text sites outcomes.Created = []
 outcome_text sites (outcomes.Stepped effects) = effects_text sites [] effects
 outcome_text sites (outcomes.Ran recalls) = flat_map (ran_text sites) recalls.items
-outcome_text sites (outcomes.Reported r report ways) = report_text sites r report ways
-outcome_text sites (outcomes.Traced trace ways) = trace_text sites trace ways
-outcome_text sites (outcomes.TracedBack trace ways) = back_text sites trace ways
+outcome_text sites (outcomes.Reported r report ways events) = report_text sites r report ways (told_events events)
+outcome_text sites (outcomes.Traced trace ways events) = trace_text sites trace ways (told_events events)
+outcome_text sites (outcomes.TracedBack trace ways events) = back_text sites trace ways (told_events events)
 outcome_text sites (outcomes.Standing recalls coded) = flat_map (status_text sites) recalls.items
 outcome_text sites (outcomes.Waiting detail coded) = detail_text sites detail
 outcome_text sites (outcomes.Known site items) = items_text sites site items.items

@@ -13,12 +13,16 @@ pub mod laws;
 mod notes;
 mod outcome_json;
 mod outcomes;
+mod places;
 mod printing;
 mod query_json;
 mod query_texts;
 mod report_texts;
 mod sentences;
+mod step_json;
+mod step_texts;
 mod texts;
+mod told_events;
 mod trace_json;
 mod trace_texts;
 

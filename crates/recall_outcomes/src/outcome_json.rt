@@ -5,17 +5,20 @@ ghost use Rattle.std.specs.List.{zip};
 ghost use Rattle.serde_json.specs.Data.{array, member, no_members, object, string};
 ghost use Rattle.serde_json.specs.View.{items_of, view};
 ghost use Rattle.report_forms.specs.Steps.{before_last};
-ghost use Rattle.recall_outcomes.specs.Json.{audited_json, beside_json, blocked_members, captured_members, created_json, differs_json, doc_members, documents_json, effects_json, input_json, items_json, line_members, list_of, misfit_json, note_json, outside_json, pair_json, pair_members, quarantined_json, ran_json, refused, report_json, source_name, started_members, step_members, totals_json, traced_json, trail_json, why_json};
+ghost use Rattle.recall_outcomes.specs.Json.{audited_json, beside_json, blocked_members, captured_members, created_json, differs_json, doc_members, documents_json, effects_json, input_json, items_json, line_members, list_of, misfit_json, note_json, outside_json, pair_json, pair_members, quarantined_json, ran_json, refused, report_json, reported_members, source_name, started_members, step_members, totals_json, traced_members, trail_json, why_json};
+ghost use Rattle.recall_outcomes.specs.Steps.{each_with};
 
 use crate::batches::{InputOutcome, Task, Totals};
 use crate::outcomes::{AuditedRecall, CommandRefusal, StartedRecall, Ways};
+use crate::step_json::put_events;
+use crate::told_events::next_steps;
 use epc_core::Epc;
 use event_json::{DocFault, Sequence, SiteNo, Sites};
 use frame_core::RecallId;
 use recall_text::telling::{name_of, recall_text};
 use recall_text::texts::message_text;
 use recall_text::{LineRefusal, RefusedLine};
-use report_core::{OutsideShipment, RecallReport, Verdict};
+use report_core::{OutsideShipment, RecallReport, StepEvents, Verdict};
 use report_forms::before_last;
 use serde_json::{Value, json};
 use site_core::{Effects, Refusal};
@@ -137,7 +140,7 @@ pub(crate) fn traced_json(
     pair: &Pair,
     trail: Option<&Sequence<Pair>>,
 ) -> Result<Value, AllocError>
-    ensures { IfOk result (λ v. view v ≡ traced_json sites.now (pair.now, option_map (λ t. t.now) trail.entry)) }
+    ensures { IfOk result (λ v. view v ≡ object (traced_members sites.now pair.now (option_map (λ t. t.now) trail.entry))) }
 {
     let site = name_of(sites, pair.site);
     let item = pair.item.key(alloc)?;
@@ -145,20 +148,28 @@ pub(crate) fn traced_json(
     json!(in alloc; {"item": item.as_str(), "site": site, "trail": trail})
 }
 
-/// A quarantined pair, and how a trail from the root leads to it, where one does.
+/// A quarantined pair, and how a trail from the root leads to it, where one does, with the events behind its steps, where they
+/// are told.
 pub(crate) fn quarantined_json(
     alloc: Global,
     sites: &Sites,
     ways: Ways,
     pair: &Pair,
     trail: Option<&Sequence<Pair>>,
+    steps: Option<&[StepEvents]>,
 ) -> Result<Value, AllocError>
-    ensures { IfOk result (λ v. view v ≡ quarantined_json sites.now ways (pair.now, option_map (λ t. t.now) trail.entry)) }
+    ensures { IfOk result (λ v. view v ≡ quarantined_json sites.now ways
+        (pair.now, (option_map (λ t. t.now) trail.entry, option_map (λ s. s.now) steps.entry))) }
 {
-    match ways {
-        Ways::Trails => traced_json(alloc, sites, pair, trail),
-        Ways::Steps => from_json(alloc, sites, pair, before_some_last(trail)),
-    }
+    let mut value = match ways {
+        Ways::Trails => traced_json(alloc, sites, pair, trail)?,
+        Ways::Steps => from_json(alloc, sites, pair, before_some_last(trail))?,
+    };
+    let Some(members) = value.as_object_mut() else {
+        unreachable!()
+    };
+    put_events(alloc, members, steps)?;
+    Ok(value)
 }
 
 /// The pair before the last one of a trail, where there is one.
@@ -205,12 +216,16 @@ fn all_quarantined_json(
     ways: Ways,
     pairs: &[Pair],
     trails: &[Option<Sequence<Pair>>],
+    events: &[Sequence<StepEvents>],
 ) -> Result<Value, AllocError>
-    ensures { IfOk result (λ v. view v ≡ list_of (quarantined_json sites.now ways) (zip pairs.now trails.now)) }
+    ensures { IfOk result (λ v. view v ≡ list_of (quarantined_json sites.now ways)
+        (zip pairs.now (each_with trails.now events.now))) }
 {
     let mut list = Vec::new(alloc);
+    let mut events = events.iter();
     for (pair, trail) in pairs.iter().zip(trails) {
-        list.push(quarantined_json(alloc, sites, ways, pair, trail.as_ref())?)?;
+        let steps = next_steps(&mut events);
+        list.push(quarantined_json(alloc, sites, ways, pair, trail.as_ref(), steps)?)?;
     }
     Ok(list_value(list))
 }
@@ -251,8 +266,9 @@ pub(crate) fn report_json(
     recall: RecallId,
     report: &RecallReport,
     ways: Ways,
+    events: &[Sequence<StepEvents>],
 ) -> Result<Value, AllocError>
-    ensures { IfOk result (λ v. view v ≡ report_json sites.now recall report.now ways) }
+    ensures { IfOk result (λ v. view v ≡ report_json sites.now recall report.now ways events.now) }
 {
     let outside = outsides_json(alloc, sites, report.outside.as_slice())?;
     let pairs = all_quarantined_json(
@@ -261,10 +277,25 @@ pub(crate) fn report_json(
         ways,
         report.pairs.as_slice(),
         report.trails.as_slice(),
+        events,
     )?;
     let recall = recall_text(alloc, sites, recall)?;
     let root = pair_json(alloc, sites, &report.root)?;
-    json!(in alloc; {"ended": report.ended, "outside": outside, "pairs": pairs, "recall": recall.as_str(), "root": root})
+    reported_json(alloc, report.ended, outside, pairs, recall.as_str(), root)
+}
+
+/// A report of these parts.
+fn reported_json(
+    alloc: Global,
+    ended: bool,
+    outside: Value,
+    pairs: Value,
+    recall: &str,
+    root: Value,
+) -> Result<Value, AllocError>
+    ensures { IfOk result (λ v. view v ≡ object (reported_members ended (view outside) (view pairs) recall.now (view root))) }
+{
+    json!(in alloc; {"ended": ended, "outside": outside, "pairs": pairs, "recall": recall, "root": root})
 }
 
 /// Which condition fails, and the site that it is attributed to.

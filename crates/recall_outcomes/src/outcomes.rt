@@ -4,12 +4,12 @@ ghost use Rattle.std.specs.Prelude.{◌≡◌};
 ghost use Rattle.std.specs.List.{list_any};
 ghost use Rattle.recall_outcomes.specs.Statuses.{is_amiss, is_open, outcome_status};
 
-use event_json::SiteNo;
+use event_json::{Sequence, SiteNo};
 use frame_core::RecallId;
 use item_spellings::ScanFault;
 use query_core::{KnownItem, RecallDetail, RecallStatus};
 use recall_text::RefusedLine;
-use report_core::{BackTrace, RecallReport, Trace, Verdict};
+use report_core::{BackTrace, RecallReport, StepEvents, Trace, Verdict};
 use site_core::{Effects, Refusal};
 use site_recovery::Misfit;
 
@@ -65,16 +65,22 @@ pub enum Outcome {
         recall: RecallId,
         report: RecallReport,
         ways: Ways,
+        /// For each of its pairs the events of the steps that are told, in their order; `None` where they aren't told.
+        events: Option<Vec<Sequence<StepEvents>>>,
     },
     /// An item was traced to where it went.
     Traced {
         trace: Trace,
         ways: Ways,
+        /// For each of its pairs the events of the steps that are told, in their order; `None` where they aren't told.
+        events: Option<Vec<Sequence<StepEvents>>>,
     },
     /// An item was traced to where it came from.
     TracedBack {
         trace: BackTrace,
         ways: Ways,
+        /// For each of its pairs the events of the steps that are told, in their order; `None` where they aren't told.
+        events: Option<Vec<Sequence<StepEvents>>>,
     },
     /// How the recalls that sites have begun stand, by site and then by number.
     Standing {
@@ -145,9 +151,18 @@ impl Outcome {
                 recall: _,
                 report: _,
                 ways: _,
+                events: _,
             } => 0,
-            Outcome::Traced { trace: _, ways: _ } => 0,
-            Outcome::TracedBack { trace: _, ways: _ } => 0,
+            Outcome::Traced {
+                trace: _,
+                ways: _,
+                events: _,
+            } => 0,
+            Outcome::TracedBack {
+                trace: _,
+                ways: _,
+                events: _,
+            } => 0,
             Outcome::Standing { recalls, coded } => {
                 if *coded && some_open(recalls.as_slice()) {
                     5

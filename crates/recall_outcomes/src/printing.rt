@@ -18,6 +18,7 @@ use crate::outcome_json::{
 };
 use crate::outcomes::{AuditedRecall, CommandRefusal, Form, Outcome, StartedRecall};
 use crate::query_json::{detail_json, known_json, status_json, would_json};
+use crate::told_events::told_events;
 use crate::trace_json::{back_json, trace_json};
 use event_json::{SiteNo, Sites};
 use query_core::{KnownItem, RecallStatus};
@@ -38,7 +39,7 @@ impl Outcome {
         }
     }
 
-    /// A report or a trace as rows of comma-separated fields, and any other outcome as text.
+    /// A report or a trace as rows of comma-separated fields, without events, and any other outcome as text.
     fn csv(&self, alloc: Global, sites: &Sites) -> Result<String, AllocError>
         ensures { IfOk result (λ t. string_bytes t ≡ csv_text sites.now self.now) }
     {
@@ -47,14 +48,23 @@ impl Outcome {
                 recall,
                 report,
                 ways: _,
+                events: _,
             } => report_csv(alloc, sites, *recall, report),
-            Outcome::Traced { trace, ways: _ } => trace_csv(alloc, sites, trace),
-            Outcome::TracedBack { trace, ways: _ } => back_csv(alloc, sites, trace),
+            Outcome::Traced {
+                trace,
+                ways: _,
+                events: _,
+            } => trace_csv(alloc, sites, trace),
+            Outcome::TracedBack {
+                trace,
+                ways: _,
+                events: _,
+            } => back_csv(alloc, sites, trace),
             _ => self.text(alloc, sites),
         }
     }
 
-    /// A report or a trace as a picture for Graphviz, and any other outcome as text.
+    /// A report or a trace as a picture for Graphviz, without events, and any other outcome as text.
     fn dot(&self, alloc: Global, sites: &Sites) -> Result<String, AllocError>
         ensures { IfOk result (λ t. string_bytes t ≡ dot_picture sites.now self.now) }
     {
@@ -63,9 +73,18 @@ impl Outcome {
                 recall,
                 report,
                 ways: _,
+                events: _,
             } => report_dot(alloc, sites, *recall, report),
-            Outcome::Traced { trace, ways: _ } => trace_dot(alloc, sites, trace),
-            Outcome::TracedBack { trace, ways: _ } => back_dot(alloc, sites, trace),
+            Outcome::Traced {
+                trace,
+                ways: _,
+                events: _,
+            } => trace_dot(alloc, sites, trace),
+            Outcome::TracedBack {
+                trace,
+                ways: _,
+                events: _,
+            } => back_dot(alloc, sites, trace),
             _ => self.text(alloc, sites),
         }
     }
@@ -83,12 +102,29 @@ impl Outcome {
                 recall,
                 report,
                 ways,
-            } => one_line(alloc, &report_json(alloc, sites, *recall, report, *ways)?),
-            Outcome::Traced { trace, ways } => {
-                one_line(alloc, &trace_json(alloc, sites, trace, *ways)?)
+                events,
+            } => {
+                let events = told_events(events);
+                one_line(
+                    alloc,
+                    &report_json(alloc, sites, *recall, report, *ways, events)?,
+                )
             }
-            Outcome::TracedBack { trace, ways } => {
-                one_line(alloc, &back_json(alloc, sites, trace, *ways)?)
+            Outcome::Traced {
+                trace,
+                ways,
+                events,
+            } => {
+                let events = told_events(events);
+                one_line(alloc, &trace_json(alloc, sites, trace, *ways, events)?)
+            }
+            Outcome::TracedBack {
+                trace,
+                ways,
+                events,
+            } => {
+                let events = told_events(events);
+                one_line(alloc, &back_json(alloc, sites, trace, *ways, events)?)
             }
             Outcome::Standing { recalls, coded: _ } => {
                 status_lines(alloc, sites, recalls.as_slice())

@@ -2,14 +2,16 @@
 //! sites.
 
 ghost use Rattle.std.specs.Prelude.{◌≡◌, ◌++◌, IfOk, OnOk, option_map, string_bytes};
-ghost use Rattle.recall_outcomes.specs.Texts.{beside_text, head_text, led_text, outside_text, outsides_text, pairs_text, report_text, step_text, total_text, trail_text};
+ghost use Rattle.recall_outcomes.specs.Texts.{beside_text, head_text, led_text, outside_text, outsides_text, pairs_text, quarantined_text, report_text, step_text, total_text, trail_text};
 ghost use Rattle.recall_text.specs.Words.{pair_text};
 
 use crate::outcomes::Ways;
+use crate::step_texts::{push_all_by, push_led_by};
+use crate::told_events::next_steps;
 use event_json::{Sequence, Sites};
 use frame_core::RecallId;
 use recall_text::telling::{ended_word, name_of, push_pair, recall_text};
-use report_core::{OutsideShipment, RecallReport};
+use report_core::{OutsideShipment, RecallReport, StepEvents};
 use report_forms::before_last;
 use std::alloc::{AllocError, Global};
 use trace_core::Pair;
@@ -21,8 +23,9 @@ pub(crate) fn report_text(
     recall: RecallId,
     report: &RecallReport,
     ways: Ways,
+    events: &[Sequence<StepEvents>],
 ) -> Result<String, AllocError>
-    ensures { IfOk result (λ t. string_bytes t ≡ report_text sites.now recall report.now ways) }
+    ensures { IfOk result (λ t. string_bytes t ≡ report_text sites.now recall report.now ways events.now) }
 {
     let mut text = head_text(alloc, sites, recall, &report.root, report.ended)?;
     push_pairs(
@@ -32,6 +35,7 @@ pub(crate) fn report_text(
         ways,
         report.pairs.as_slice(),
         report.trails.as_slice(),
+        events,
     )?;
     push_outsides(alloc, &mut text, sites, report.outside.as_slice())?;
     push_total(alloc, &mut text, report.pairs.len(), report.outside.len())?;
@@ -80,16 +84,39 @@ fn push_pairs(
     ways: Ways,
     pairs: &[Pair],
     trails: &[Option<Sequence<Pair>>],
+    events: &[Sequence<StepEvents>],
 ) -> Result<(), AllocError>
-    ensures { OnOk result (string_bytes text.new ≡ string_bytes text.old ++ pairs_text sites.now ways pairs.now trails.now) }
+    ensures { OnOk result (string_bytes text.new ≡ string_bytes text.old
+        ++ pairs_text sites.now ways pairs.now trails.now events.now) }
 {
+    let mut events = events.iter();
     for (pair, trail) in pairs.iter().zip(trails) {
-        match trail {
-            None => push_pair(alloc, text, sites, pair)?,
-            Some(trail) => push_led(alloc, text, sites, ways, pair, trail.as_slice())?,
-        }
+        let steps = next_steps(&mut events);
+        push_quarantined(alloc, text, sites, ways, pair, trail.as_ref(), steps)?;
     }
     Ok(())
+}
+
+/// Adds a quarantined pair, and how a trail leads to it, where one does.
+fn push_quarantined(
+    alloc: Global,
+    text: &mut String,
+    sites: &Sites,
+    ways: Ways,
+    pair: &Pair,
+    trail: Option<&Sequence<Pair>>,
+    steps: Option<&[StepEvents]>,
+) -> Result<(), AllocError>
+    ensures { OnOk result (string_bytes text.new ≡ string_bytes text.old ++ quarantined_text sites.now ways
+        (pair.now, (option_map (λ t. t.now) trail.entry, option_map (λ s. s.now) steps.entry))) }
+{
+    match trail {
+        None => push_pair(alloc, text, sites, pair),
+        Some(trail) => {
+            let steps = steps.unwrap_or(&[]);
+            push_led(alloc, text, sites, ways, pair, trail.as_slice(), steps)
+        }
+    }
 }
 
 /// Adds a pair, and how a trail from the root leads to it.
@@ -100,12 +127,17 @@ pub(crate) fn push_led(
     ways: Ways,
     pair: &Pair,
     trail: &[Pair],
+    steps: &[StepEvents],
 ) -> Result<(), AllocError>
-    ensures { OnOk result (string_bytes text.new ≡ string_bytes text.old ++ led_text sites.now ways pair.now trail.now) }
+    ensures { OnOk result (string_bytes text.new ≡ string_bytes text.old
+        ++ led_text sites.now ways steps.now pair.now trail.now) }
 {
     match ways {
-        Ways::Trails => push_with_trail(alloc, text, sites, pair, trail),
-        Ways::Steps => push_beside(alloc, text, sites, " from ", pair, before_last(trail)),
+        Ways::Trails => push_with_trail(alloc, text, sites, pair, trail, steps),
+        Ways::Steps => {
+            push_beside(alloc, text, sites, " from ", pair, before_last(trail))?;
+            push_all_by(alloc, text, steps)
+        }
     }
 }
 
@@ -116,11 +148,13 @@ pub(crate) fn push_with_trail(
     sites: &Sites,
     pair: &Pair,
     trail: &[Pair],
+    steps: &[StepEvents],
 ) -> Result<(), AllocError>
-    ensures { OnOk result (string_bytes text.new ≡ string_bytes text.old ++ pair_text sites.now pair.now ++ trail_text sites.now trail.now) }
+    ensures { OnOk result (string_bytes text.new ≡ string_bytes text.old
+        ++ pair_text sites.now pair.now ++ trail_text sites.now steps.now trail.now) }
 {
     push_pair(alloc, text, sites, pair)?;
-    push_trail(alloc, text, sites, trail)
+    push_trail(alloc, text, sites, steps, trail)
 }
 
 /// Adds a pair, and behind a word the pair beside it on its trail, where there is one.
@@ -144,17 +178,19 @@ pub(crate) fn push_beside(
     text.push_str(line.as_str())
 }
 
-/// Adds a line for each pair of a trail, with its place on the trail, from 1.
+/// Adds a line for each pair of a trail, with its place on the trail, from 1, and the events of the step that leads to it.
 fn push_trail(
     alloc: Global,
     text: &mut String,
     sites: &Sites,
+    steps: &[StepEvents],
     trail: &[Pair],
 ) -> Result<(), AllocError>
-    ensures { OnOk result (string_bytes text.new ≡ string_bytes text.old ++ trail_text sites.now trail.now) }
+    ensures { OnOk result (string_bytes text.new ≡ string_bytes text.old ++ trail_text sites.now steps.now trail.now) }
 {
     for (place, pair) in trail.iter().enumerate() {
         push_step(alloc, text, sites, place + 1, pair)?;
+        push_led_by(alloc, text, steps, place)?;
     }
     Ok(())
 }

@@ -8,6 +8,7 @@ ghost use Rattle.recall_text.specs.SiteLists.{refused_line_words};
 use crate::outcomes::{AuditedRecall, CommandRefusal, Outcome, StartedRecall};
 use crate::query_texts::{detail_text, items_text, statuses_text, would_text};
 use crate::report_texts::report_text;
+use crate::told_events::told_events;
 use crate::trace_texts::{back_text, trace_text};
 use event_json::Sites;
 use frame_core::RecallId;
@@ -35,9 +36,18 @@ impl Outcome {
                 recall,
                 report,
                 ways,
-            } => report_text(alloc, sites, *recall, report, *ways),
-            Outcome::Traced { trace, ways } => trace_text(alloc, sites, trace, *ways),
-            Outcome::TracedBack { trace, ways } => back_text(alloc, sites, trace, *ways),
+                events,
+            } => report_text(alloc, sites, *recall, report, *ways, told_events(events)),
+            Outcome::Traced {
+                trace,
+                ways,
+                events,
+            } => trace_text(alloc, sites, trace, *ways, told_events(events)),
+            Outcome::TracedBack {
+                trace,
+                ways,
+                events,
+            } => back_text(alloc, sites, trace, *ways, told_events(events)),
             Outcome::Standing { recalls, coded: _ } => {
                 statuses_text(alloc, sites, recalls.as_slice())
             }

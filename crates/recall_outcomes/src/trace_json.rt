@@ -4,15 +4,18 @@ ghost use Rattle.std.specs.Prelude.{◌≡◌, IfOk, codes, option_map};
 ghost use Rattle.std.specs.List.{zip};
 ghost use Rattle.serde_json.specs.Data.{member, no_members, object};
 ghost use Rattle.serde_json.specs.View.{view};
-ghost use Rattle.recall_outcomes.specs.Json.{back_json, beside_json, leading_json, led_json, list_of, pair_members, trace_json};
+ghost use Rattle.recall_outcomes.specs.Json.{back_json, beside_json, leading_json, leading_members, led_json, list_of, pair_members, trace_json};
+ghost use Rattle.recall_outcomes.specs.Steps.{each_with};
 
 use crate::outcome_json::{
     beside_json, list_value, outsides_json, pair_json, pairs_json, quarantined_json, traced_json,
 };
 use crate::outcomes::Ways;
+use crate::step_json::put_events;
+use crate::told_events::next_steps;
 use event_json::{Sequence, Sites};
 use recall_text::telling::name_of;
-use report_core::{BackTrace, Trace};
+use report_core::{BackTrace, StepEvents, Trace};
 use serde_json::{Value, json};
 use std::alloc::{AllocError, Global};
 use trace_core::Pair;
@@ -24,8 +27,9 @@ pub(crate) fn trace_json(
     sites: &Sites,
     trace: &Trace,
     ways: Ways,
+    events: &[Sequence<StepEvents>],
 ) -> Result<Value, AllocError>
-    ensures { IfOk result (λ v. view v ≡ trace_json sites.now trace.now ways) }
+    ensures { IfOk result (λ v. view v ≡ trace_json sites.now trace.now ways events.now) }
 {
     let outside = outsides_json(alloc, sites, trace.outside.as_slice())?;
     let pairs = all_led_json(
@@ -34,6 +38,7 @@ pub(crate) fn trace_json(
         ways,
         trace.pairs.as_slice(),
         trace.trails.as_slice(),
+        events,
     )?;
     let root = pair_json(alloc, sites, &trace.root)?;
     json!(in alloc; {"outside": outside, "pairs": pairs, "root": root, "trace": "forward"})
@@ -46,12 +51,15 @@ fn all_led_json(
     ways: Ways,
     pairs: &[Pair],
     trails: &[Sequence<Pair>],
+    events: &[Sequence<StepEvents>],
 ) -> Result<Value, AllocError>
-    ensures { IfOk result (λ v. view v ≡ list_of (led_json sites.now ways) (zip pairs.now trails.now)) }
+    ensures { IfOk result (λ v. view v ≡ list_of (led_json sites.now ways) (zip pairs.now (each_with trails.now events.now))) }
 {
     let mut list = Vec::new(alloc);
+    let mut events = events.iter();
     for (pair, trail) in pairs.iter().zip(trails) {
-        list.push(quarantined_json(alloc, sites, ways, pair, Some(trail))?)?;
+        let steps = next_steps(&mut events);
+        list.push(quarantined_json(alloc, sites, ways, pair, Some(trail), steps)?)?;
     }
     Ok(list_value(list))
 }
@@ -63,8 +71,9 @@ pub(crate) fn back_json(
     sites: &Sites,
     trace: &BackTrace,
     ways: Ways,
+    events: &[Sequence<StepEvents>],
 ) -> Result<Value, AllocError>
-    ensures { IfOk result (λ v. view v ≡ back_json sites.now trace.now ways) }
+    ensures { IfOk result (λ v. view v ≡ back_json sites.now trace.now ways events.now) }
 {
     let origins = pairs_json(alloc, sites, trace.origins.as_slice())?;
     let pairs = all_leading_json(
@@ -73,6 +82,7 @@ pub(crate) fn back_json(
         ways,
         trace.pairs.as_slice(),
         trace.trails.as_slice(),
+        events,
     )?;
     let root = pair_json(alloc, sites, &trace.root)?;
     json!(in alloc; {"origins": origins, "pairs": pairs, "root": root, "trace": "back"})
@@ -85,25 +95,47 @@ fn all_leading_json(
     ways: Ways,
     pairs: &[Pair],
     trails: &[Sequence<Pair>],
+    events: &[Sequence<StepEvents>],
 ) -> Result<Value, AllocError>
-    ensures { IfOk result (λ v. view v ≡ list_of (leading_json sites.now ways) (zip pairs.now trails.now)) }
+    ensures { IfOk result (λ v. view v ≡ list_of (leading_json sites.now ways) (zip pairs.now (each_with trails.now events.now))) }
 {
     let mut list = Vec::new(alloc);
+    let mut events = events.iter();
     for (pair, trail) in pairs.iter().zip(trails) {
-        list.push(leading_json(alloc, sites, ways, pair, trail)?)?;
+        let steps = next_steps(&mut events);
+        list.push(leading_json(alloc, sites, ways, pair, trail, steps)?)?;
     }
     Ok(list_value(list))
 }
 
-/// A pair, and how a trail leads from it to the root.
+/// A pair, and how a trail leads from it to the root, with the events behind its steps, where they are told.
 fn leading_json(
     alloc: Global,
     sites: &Sites,
     ways: Ways,
     pair: &Pair,
     trail: &Sequence<Pair>,
+    steps: Option<&[StepEvents]>,
 ) -> Result<Value, AllocError>
-    ensures { IfOk result (λ v. view v ≡ leading_json sites.now ways (pair.now, trail.now)) }
+    ensures { IfOk result (λ v. view v ≡ leading_json sites.now ways (pair.now, (trail.now, option_map (λ s. s.now) steps.entry))) }
+{
+    let mut value = led_from_json(alloc, sites, ways, pair, trail)?;
+    let Some(members) = value.as_object_mut() else {
+        unreachable!()
+    };
+    put_events(alloc, members, steps)?;
+    Ok(value)
+}
+
+/// A pair, and how a trail leads from it to the root.
+fn led_from_json(
+    alloc: Global,
+    sites: &Sites,
+    ways: Ways,
+    pair: &Pair,
+    trail: &Sequence<Pair>,
+) -> Result<Value, AllocError>
+    ensures { IfOk result (λ v. view v ≡ object (leading_members sites.now ways pair.now trail.now)) }
 {
     match ways {
         Ways::Trails => traced_json(alloc, sites, pair, Some(trail)),

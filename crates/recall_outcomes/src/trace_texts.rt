@@ -2,13 +2,16 @@
 
 ghost use Rattle.std.specs.Prelude.{◌≡◌, ◌++◌, IfOk, OnOk, string_bytes};
 ghost use Rattle.std.specs.List.{flat_map, zip};
-ghost use Rattle.recall_outcomes.specs.Texts.{back_text, item_text, leading_text, led_pair_text, origin_text, trace_text};
+ghost use Rattle.recall_outcomes.specs.Texts.{back_text, item_text, leading_pair_text, leading_text, led_pair_text, origin_text, origins_total_text, trace_text};
+ghost use Rattle.recall_outcomes.specs.Steps.{each_with};
 
 use crate::outcomes::Ways;
 use crate::report_texts::{push_beside, push_led, push_outsides, push_total, push_with_trail};
+use crate::step_texts::push_all_by;
+use crate::told_events::next_steps;
 use event_json::{Sequence, Sites};
 use recall_text::telling::name_of;
-use report_core::{BackTrace, Trace};
+use report_core::{BackTrace, StepEvents, Trace};
 use std::alloc::{AllocError, Global};
 use trace_core::Pair;
 
@@ -18,8 +21,9 @@ pub(crate) fn trace_text(
     sites: &Sites,
     trace: &Trace,
     ways: Ways,
+    events: &[Sequence<StepEvents>],
 ) -> Result<String, AllocError>
-    ensures { IfOk result (λ t. string_bytes t ≡ trace_text sites.now trace.now ways) }
+    ensures { IfOk result (λ t. string_bytes t ≡ trace_text sites.now trace.now ways events.now) }
 {
     let mut text = String::from_str(alloc, "trace forward ")?;
     push_item(alloc, &mut text, sites, &trace.root)?;
@@ -30,6 +34,7 @@ pub(crate) fn trace_text(
         ways,
         trace.pairs.as_slice(),
         trace.trails.as_slice(),
+        events,
     )?;
     push_outsides(alloc, &mut text, sites, trace.outside.as_slice())?;
     push_total(alloc, &mut text, trace.pairs.len(), trace.outside.len())?;
@@ -42,8 +47,9 @@ pub(crate) fn back_text(
     sites: &Sites,
     trace: &BackTrace,
     ways: Ways,
+    events: &[Sequence<StepEvents>],
 ) -> Result<String, AllocError>
-    ensures { IfOk result (λ t. string_bytes t ≡ back_text sites.now trace.now ways) }
+    ensures { IfOk result (λ t. string_bytes t ≡ back_text sites.now trace.now ways events.now) }
 {
     let mut text = String::from_str(alloc, "trace back ")?;
     push_item(alloc, &mut text, sites, &trace.root)?;
@@ -54,12 +60,24 @@ pub(crate) fn back_text(
         ways,
         trace.pairs.as_slice(),
         trace.trails.as_slice(),
+        events,
     )?;
     push_origins(alloc, &mut text, sites, trace.origins.as_slice())?;
-    let (pairs, origins) = (trace.pairs.len(), trace.origins.len());
-    let total = format!(in alloc; "total {pairs} origins {origins}\n")?;
-    text.push_str(total.as_str())?;
+    push_origins_total(alloc, &mut text, trace.pairs.len(), trace.origins.len())?;
     Ok(text)
+}
+
+/// Adds how many pairs there are, and how many origins.
+fn push_origins_total(
+    alloc: Global,
+    text: &mut String,
+    pairs: usize,
+    origins: usize,
+) -> Result<(), AllocError>
+    ensures { OnOk result (string_bytes text.new ≡ string_bytes text.old ++ origins_total_text pairs origins) }
+{
+    let total = format!(in alloc; "total {pairs} origins {origins}\n")?;
+    text.push_str(total.as_str())
 }
 
 /// Adds an item at a site, to the end of a line.
@@ -80,12 +98,15 @@ fn push_all_led(
     ways: Ways,
     pairs: &[Pair],
     trails: &[Sequence<Pair>],
+    events: &[Sequence<StepEvents>],
 ) -> Result<(), AllocError>
     ensures { OnOk result (string_bytes text.new ≡ string_bytes text.old
-        ++ flat_map (led_pair_text sites.now ways) (zip pairs.now trails.now)) }
+        ++ flat_map (led_pair_text sites.now ways) (zip pairs.now (each_with trails.now events.now))) }
 {
+    let mut events = events.iter();
     for (pair, trail) in pairs.iter().zip(trails) {
-        push_led(alloc, text, sites, ways, pair, trail.as_slice())?;
+        let steps = next_steps(&mut events).unwrap_or(&[]);
+        push_led(alloc, text, sites, ways, pair, trail.as_slice(), steps)?;
     }
     Ok(())
 }
@@ -98,12 +119,15 @@ fn push_all_leading(
     ways: Ways,
     pairs: &[Pair],
     trails: &[Sequence<Pair>],
+    events: &[Sequence<StepEvents>],
 ) -> Result<(), AllocError>
     ensures { OnOk result (string_bytes text.new ≡ string_bytes text.old
-        ++ flat_map (leading_text sites.now ways) (zip pairs.now trails.now)) }
+        ++ flat_map (leading_pair_text sites.now ways) (zip pairs.now (each_with trails.now events.now))) }
 {
+    let mut events = events.iter();
     for (pair, trail) in pairs.iter().zip(trails) {
-        push_leading(alloc, text, sites, ways, pair, trail.as_slice())?;
+        let steps = next_steps(&mut events).unwrap_or(&[]);
+        push_leading(alloc, text, sites, ways, pair, trail.as_slice(), steps)?;
     }
     Ok(())
 }
@@ -116,12 +140,17 @@ fn push_leading(
     ways: Ways,
     pair: &Pair,
     trail: &[Pair],
+    steps: &[StepEvents],
 ) -> Result<(), AllocError>
-    ensures { OnOk result (string_bytes text.new ≡ string_bytes text.old ++ leading_text sites.now ways (pair.now, trail.now)) }
+    ensures { OnOk result (string_bytes text.new ≡ string_bytes text.old
+        ++ leading_text sites.now ways steps.now pair.now trail.now) }
 {
     match ways {
-        Ways::Trails => push_with_trail(alloc, text, sites, pair, trail),
-        Ways::Steps => push_beside(alloc, text, sites, " to ", pair, trail.get(1)),
+        Ways::Trails => push_with_trail(alloc, text, sites, pair, trail, steps),
+        Ways::Steps => {
+            push_beside(alloc, text, sites, " to ", pair, trail.get(1))?;
+            push_all_by(alloc, text, steps)
+        }
     }
 }
 

@@ -1,9 +1,12 @@
 pub mod Destinations
 pub mod Differences
+pub mod EventTimes
+pub mod FirstPlaces
 pub mod Gathering
 pub mod Laws
 pub mod Outside
 pub mod Reports
 pub mod Sources
 pub mod Traces
+pub mod TrailEvents
 pub mod Verdicts

@@ -3,13 +3,18 @@ use Rattle.std.specs.Prelude.{◌≡◌, ◌↔◌, ◌⊎◌, ℕ, List, [], Op
 use Rattle.std.specs.BTreeMap.{BTreeMap, get}
 use Rattle.std.specs.BTreeSet.{BTreeSet}
 use Rattle.event_json.specs.Events.{Content}
+use Rattle.event_json.specs.declared.bodies.Body.{Body}
+use Rattle.event_json.specs.declared.bodies.Body.TheVariants.{Note, Ship, Make, Pack}
 use Rattle.trace_core.specs.Groups.{IsSeen}
-use Rattle.trace_core.specs.Pairs.{TakesIn, GivesOut, AreOneMake, IsShipped}
+use Rattle.trace_core.specs.Pairs.{TakesIn, GivesOut, AreOneMake, Carries, IsShipped}
+use Rattle.trace_core.specs.Relations.{ReachedFrom}
 use Rattle.trace_core.specs.Sites.{SiteEvents}
 use Rattle.trace_core.specs.declared.groups.Group.{Group}
 use Rattle.trace_core.specs.declared.pairs.Pair.{Pair}
 use Rattle.site_core.specs.ItemSets.{item_cmp}
 use Rattle.report_core.specs.declared.makers.EventPlace.{EventPlace}
+use Rattle.report_core.specs.declared.makers.Noting.{Noting}
+use Rattle.report_core.specs.declared.makers.Noting.TheVariants.{TakenIn, GivenOut, Shipped}
 
 -- just those of P are added
 abbrev pub AddsTo : {X : Type 0} → (X → Type 0) → (X → Type 0) → (X → Type 0) → Type 0
@@ -36,21 +41,38 @@ or_no_places (Some places) = places
 abbrev pub Keeps : Index → List ℕ × EventPlace → Type 0
 Keeps index m = Contains (or_no_places (get item_cmp index m.0)) m.1
 
--- at the place stands a transformation that gives the item out
-abbrev pub IsGivenAt : List Content → List ℕ → ℕ → Type 0
-IsGivenAt events j place = (e : Content) × (slice_get events place ≡ Some e) × GivesOut j e.body
+-- a shipment of the item, or of what it lies in, to wherever
+abbrev pub ShipsOff : List Content → List ℕ → Body → Type 0
+ShipsOff events item (Note items) = ⊥
+ShipsOff events item (Ship items sites outside) = ReachedFrom (Carries events) items item
+ShipsOff events item (Make id ins outs) = ⊥
+ShipsOff events item (Pack action parent children) = ⊥
 
--- the site at this place among all has there a transformation that gives the item out
-abbrev pub SiteMakes : SiteEvents → ℕ → List ℕ × EventPlace → Type 0
-SiteMakes s number m = (number ≡ m.1.site) × IsGivenAt s.events m.0 m.1.event
+-- an event is noted under the item
+abbrev pub Notes : Noting → List Content → List ℕ → Body → Type 0
+Notes TakenIn events item body = TakesIn item body
+Notes GivenOut events item body = GivesOut item body
+Notes Shipped events item body = ShipsOff events item body
+
+-- at the place stands such an event
+abbrev pub IsNotedAt : Noting → List Content → List ℕ → ℕ → Type 0
+IsNotedAt noting events item place = (e : Content) × (slice_get events place ≡ Some e) × Notes noting events item e.body
+
+-- the site at this place among all has one there
+abbrev pub SiteNotes : Noting → SiteEvents → ℕ → List ℕ × EventPlace → Type 0
+SiteNotes noting s number m = (number ≡ m.1.site) × IsNotedAt noting s.events m.0 m.1.event
 
 -- one of the sites has
-abbrev pub SitesMake : List SiteEvents → List ℕ × EventPlace → Type 0
-SitesMake sites m = (s : SiteEvents) × (slice_get sites m.1.site ≡ Some s) × IsGivenAt s.events m.0 m.1.event
+abbrev pub SitesNote : Noting → List SiteEvents → List ℕ × EventPlace → Type 0
+SitesNote noting sites m = (s : SiteEvents) × (slice_get sites m.1.site ≡ Some s) × IsNotedAt noting s.events m.0 m.1.event
 
--- under each item stand the places of the transformations that give it out, no more and no fewer
+-- under each item stand the places of the events that are noted under it, no more and no fewer
+abbrev pub ArePlaces : Noting → Index → List SiteEvents → Type 0
+ArePlaces noting index sites = (m : List ℕ × EventPlace) → Keeps index m ↔ SitesNote noting sites m
+
+-- those of the transformations that give it out
 abbrev pub AreMakers : Index → List SiteEvents → Type 0
-AreMakers index sites = (m : List ℕ × EventPlace) → Keeps index m ↔ SitesMake sites m
+AreMakers index sites = ArePlaces GivenOut index sites
 
 -- the item of the pair is an input, at the pair's site, of the event at the place
 abbrev pub IsInputAt : SiteEvents → ℕ → Pair → Type 0

@@ -1,8 +1,8 @@
-//! In which transformations items were made.
+//! Under which items events are noted: in which transformations each was made or taken in, and by which shipments it left.
 ghost use Rattle.std.specs.Prelude.{◌≡◌, ◌++◌, ◌∷◌, [], ℕ, List, IfOk, OnOk};
 ghost use Rattle.trace_core.specs.Chains.{sites_at};
-ghost use Rattle.trace_core.specs.Pairs.{GivesOut};
-ghost use Rattle.report_core.specs.Sources.{AddsTo, AreMakers, ByOne, Keeps, SiteMakes};
+ghost use Rattle.trace_core.specs.Pairs.{GivesOut, TakesIn};
+ghost use Rattle.report_core.specs.Sources.{AddsTo, AreMakers, ArePlaces, ByOne, Keeps, Notes, ShipsOff, SiteNotes};
 
 use epc_core::Epc;
 use event_json::Body;
@@ -18,6 +18,17 @@ pub struct EventPlace {
     pub site: usize,
     /// The event's place among those that the site captured.
     pub event: usize,
+}
+
+/// Which events are noted under an item.
+#[derive(Clone, Copy, Debug, PartialEq, Eq)]
+pub enum Noting {
+    /// The transformations that take it in.
+    TakenIn,
+    /// The transformations that give it out.
+    GivenOut,
+    /// The shipments of it, or of what it lies in.
+    Shipped,
 }
 
 /// Places of events, in the order in which they were added.
@@ -68,21 +79,34 @@ pub fn makers_of(
 ) -> Result<BTreeMap<Epc, EventPlaces>, AllocError>
     ensures { IfOk result (λ index. AreMakers index (sites_at sites.now)) }
 {
+    places_of(alloc, sites, Noting::GivenOut)
+}
+
+/// For each item the places of the events that are noted under it. Goes over the events of all sites once, and over
+/// what lies in the items of each shipment where shipments are noted.
+pub fn places_of(
+    alloc: Global,
+    sites: &[&Captured],
+    noting: Noting,
+) -> Result<BTreeMap<Epc, EventPlaces>, AllocError>
+    ensures { IfOk result (λ index. ArePlaces noting index (sites_at sites.now)) }
+{
     let mut index = BTreeMap::new(alloc);
     for number in 0..sites.len() {
-        note_site(alloc, sites[number], number, &mut index)?;
+        note_site(alloc, sites[number], number, noting, &mut index)?;
     }
     Ok(index)
 }
 
-/// Notes the transformations of the site that stands at this place among all.
+/// Notes the events of the site that stands at this place among all.
 fn note_site(
     alloc: Global,
     site: &Captured,
     number: usize,
+    noting: Noting,
     index: &mut BTreeMap<Epc, EventPlaces>,
 ) -> Result<(), AllocError>
-    ensures { OnOk result (AddsTo (Keeps index.old) (Keeps index.new) (SiteMakes site.now number)) }
+    ensures { OnOk result (AddsTo (Keeps index.old) (Keeps index.new) (SiteNotes noting site.now number)) }
 {
     for place in 0..site.len() {
         if let Some(event) = site.event(place) {
@@ -90,14 +114,49 @@ fn note_site(
                 site: number,
                 event: place,
             };
-            note_body(alloc, event.body(), place, index)?;
+            note_body(alloc, site, event.body(), place, noting, index)?;
         }
     }
     Ok(())
 }
 
-/// Notes an event's place under each of its outputs.
+/// Notes an event's place.
 fn note_body(
+    alloc: Global,
+    site: &Captured,
+    body: &Body,
+    place: EventPlace,
+    noting: Noting,
+    index: &mut BTreeMap<Epc, EventPlaces>,
+) -> Result<(), AllocError>
+    ensures { OnOk result (AddsTo (Keeps index.old) (Keeps index.new)
+        (λ m. Notes noting site.now.events m.0 body.now × (place ≡ m.1))) }
+{
+    match noting {
+        Noting::TakenIn => note_taken(alloc, body, place, index),
+        Noting::GivenOut => note_given(alloc, body, place, index),
+        Noting::Shipped => note_shipped(alloc, site, body, place, index),
+    }
+}
+
+/// Notes an event's place under each of its inputs.
+fn note_taken(
+    alloc: Global,
+    body: &Body,
+    place: EventPlace,
+    index: &mut BTreeMap<Epc, EventPlaces>,
+) -> Result<(), AllocError>
+    ensures { OnOk result (AddsTo (Keeps index.old) (Keeps index.new)
+        (λ m. TakesIn m.0 body.now × (place ≡ m.1))) }
+{
+    match body {
+        Body::Make { ins, .. } => note_items(alloc, ins.as_slice(), place, index),
+        Body::Note { .. } | Body::Ship { .. } | Body::Pack { .. } => Ok(()),
+    }
+}
+
+/// Notes an event's place under each of its outputs.
+fn note_given(
     alloc: Global,
     body: &Body,
     place: EventPlace,
@@ -107,13 +166,33 @@ fn note_body(
         (λ m. GivesOut m.0 body.now × (place ≡ m.1))) }
 {
     match body {
-        Body::Make { outs, .. } => note_outs(alloc, outs.as_slice(), place, index),
+        Body::Make { outs, .. } => note_items(alloc, outs.as_slice(), place, index),
         Body::Note { .. } | Body::Ship { .. } | Body::Pack { .. } => Ok(()),
     }
 }
 
+/// Notes a shipment's place under each of its items, and under all that lies in them.
+fn note_shipped(
+    alloc: Global,
+    site: &Captured,
+    body: &Body,
+    place: EventPlace,
+    index: &mut BTreeMap<Epc, EventPlaces>,
+) -> Result<(), AllocError>
+    ensures { OnOk result (AddsTo (Keeps index.old) (Keeps index.new)
+        (λ m. ShipsOff site.now.events m.0 body.now × (place ≡ m.1))) }
+{
+    match body {
+        Body::Ship { items, .. } => {
+            let carried = site.carried_with(items.as_slice())?;
+            note_items(alloc, carried.as_slice(), place, index)
+        }
+        Body::Note { .. } | Body::Make { .. } | Body::Pack { .. } => Ok(()),
+    }
+}
+
 /// Notes a place under each of some items.
-fn note_outs(
+fn note_items(
     alloc: Global,
     items: &[Epc],
     place: EventPlace,

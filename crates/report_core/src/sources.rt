@@ -182,7 +182,7 @@ fn push_group(
 }
 
 /// The id of a transformation, if there is one.
-fn id_of(body: &Body) -> Option<&PlainText>
+pub(crate) fn id_of(body: &Body) -> Option<&PlainText>
     ensures { option_map (λ t. t.now) result ≡ make_id body.now }
 {
     match body {

@@ -7,6 +7,8 @@ mod documents;
 #[cfg(test)]
 mod epcs;
 #[cfg(test)]
+mod places;
+#[cfg(test)]
 mod scans;
 #[cfg(test)]
 mod tracing;

@@ -11,5 +11,6 @@ pub mod AtSeat
 pub mod Changes
 pub mod Closing
 pub mod Between
+pub mod CallsTold
 pub mod Standing
 pub mod Playing

@@ -1,5 +1,7 @@
 -- What a step of one site and a frame that is sent leave consistent, and what the rule comes to.
-use Rattle.std.specs.Prelude.{◌<◌, ℕ, List, [], ◌∷◌, ◌++◌, length, set, Contains, Option as Maybe}
+use Rattle.std.specs.Prelude.{◌≡◌, ◌≢◌, ◌↔◌, ◌<◌, ℕ, List, [], ◌∷◌, ◌++◌, length, set, Contains, Some, Option as Maybe}
+use mathlib.Core.Option.{Option, some}
+use lib.ListN.{get_elem?}
 use Rattle.atomic_table.specs.Table.{State}
 use Rattle.frame_core.specs.declared.frames.Frame.{Frame}
 use Rattle.site_core.specs.Emitting.{emittable}
@@ -7,11 +9,14 @@ use Rattle.site_core.specs.Records.{Record}
 use Rattle.site_core.specs.declared.inputs.SiteInput.{SiteInput}
 use Rattle.site_recovery.specs.Looks.{world_of}
 use Rattle.keeper_core.specs.Keeping.{IsAfter}
+use Rattle.world_core.specs.Turns.{addressee}
 use Rattle.wire_core.specs.declared.views.Log.{Log}
 use Rattle.wire_core.specs.declared.views.View.{View}
-use Rattle.wire_core.specs.Between.{HoldsBetween}
+use Rattle.wire_core.specs.Between.{HoldsBetween, IsKnown}
+use Rattle.wire_core.specs.Changes.{AllBut, Level, OneMore, Sent as WasSent}
 use Rattle.wire_core.specs.Fitting.{SitesFit}
-use Rattle.wire_core.specs.Frames.{DeliversOneOf}
+use Rattle.wire_core.specs.Frames.{DeliversOneOf, sender}
+use Rattle.wire_core.specs.Mailboxes.{slot_of, word_of}
 use Rattle.wire_core.specs.Rule.{IsRun, Ruled, Stands, frames, records}
 
 -- A mark: one step of one site, by an input that may deliver a frame that was sent.
@@ -43,3 +48,18 @@ RunsStand = (start : List Record) (logs : List Log) (e : Log) → IsRun start lo
 -- Between any two steps.
 abbrev pub RuleHoldsBetween : Type 0
 RuleHoldsBetween = (start : List Record) (s : State (Maybe Frame) View) → Ruled start s → HoldsBetween start s
+
+-- What a call says of two sites that seats know, in terms of the mailbox between them: all was noted just where the mailbox
+-- isn't full, one frame more was sent just where it is, all but this frame just where this one lies in it; and a frame was sent
+-- that way just where the one site sent one to the other.
+pub record TellTheMailbox (words : List ℕ) (homes : List (Option (Maybe Frame))) (a b : Log) : Type 0 where
+  pub level : Level a.site b.site (a ∷ b ∷ []) ↔ (get_elem? words (word_of a.site b.site) ≢ some 2)
+  pub more : OneMore a.site b.site (a ∷ b ∷ []) ↔ (get_elem? words (word_of a.site b.site) ≡ some 2)
+  pub last : (f : Frame) → AllBut a.site b.site f (a ∷ b ∷ [])
+      ↔ ((get_elem? words (word_of a.site b.site) ≡ some 2) × (get_elem? homes (slot_of a.site b.site) ≡ some (some (Some f))))
+  pub sent : WasSent a.site b.site (a ∷ []) ↔ ((f : Frame) × Contains a.sent f × (sender f ≡ a.site) × (addressee f ≡ b.site))
+
+abbrev pub CallsTellTheMailbox : Type 0
+CallsTellTheMailbox =
+    (start : List Record) (s : State (Maybe Frame) View) (a b : Log)
+    → Ruled start s → IsKnown s.views a → IsKnown s.views b → a.site ≢ b.site → TellTheMailbox s.words s.homes a b

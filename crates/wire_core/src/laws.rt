@@ -1,7 +1,7 @@
 //! Laws of the rule. Each is a function with an empty body whose contract is the law.
 
 ghost use Rattle.wire_core.specs.Standing.{OpeningRecordsStand, SplitsMarkNothing, JoinsMarkNothing, SentFramesMarkNothing, OfferedFramesMarkNothing, NotedFramesMarkNothing, AskedSitesMarkNothing, MarksPutTheRecord, MarksLeaveOtherSites};
-ghost use Rattle.wire_core.specs.Laws.{MarksKeepTheFit, PostsKeepTheFit, FewerFramesFit, RuleHoldsBetween, RunsFit, RunsStand};
+ghost use Rattle.wire_core.specs.Laws.{CallsTellTheMailbox, MarksKeepTheFit, PostsKeepTheFit, FewerFramesFit, RuleHoldsBetween, RunsFit, RunsStand};
 
 /// A step of one site, by whatever input, leaves all consistent, where a frame that it delivers was sent.
 pub fn a_mark_keeps_the_fit()
@@ -27,6 +27,11 @@ pub fn a_run_fits_and_stands()
 /// are consistent with all frames sent.
 pub fn the_rule_holds_between_steps()
     ensures { RuleHoldsBetween }
+{}
+
+/// What a call says of the frames between two sites says whether the mailbox between them is full, and of which frame.
+pub fn calls_tell_the_mailbox()
+    ensures { CallsTellTheMailbox }
 {}
 
 /// A record stands from the start until its site is marked, whatever is sent and noted, however seats are split and

@@ -9,4 +9,5 @@ returns c =
     let named = ap app_of_fields c.after_help.ensures ∙ ap app_of_fields c.about.ensures ∙ c.new.ensures.app in
     let list = adds_rule _ _ _ _ _ c.in_ok-arg.ensures c.required.ensures.local named c.required.ensures.rule in
     let paths = adds_rule _ _ _ _ _ c.in_ok-arg-2.ensures c.files.ensures.local list c.files.ensures.rule in
-    IfOk-weaker c.arg-3.result _ _ (λ command adds. adds_rule _ _ command _ _ adds c.json.ensures.local paths c.json.ensures.rule) c.arg-3.ensures
+    let json = adds_rule _ _ _ _ _ c.in_ok-arg-3.ensures c.json.ensures.local paths c.json.ensures.rule in
+    IfOk-weaker c.arg-4.result _ _ (λ command adds. adds_rule _ _ command _ _ adds c.capturing.ensures.local json c.capturing.ensures.rule) c.arg-4.ensures

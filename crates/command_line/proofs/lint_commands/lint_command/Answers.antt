@@ -10,6 +10,7 @@ returns c =
     let copy = ok_there (λ v. v.items ≡ c.in_ok-paths.paths.now) c.copied.result c.in_ok-paths-2.paths c.in_ok-paths-2.ensures.value c.copied.ensures in
     record {
       list = c.in_ok-list.ensures;
+      site = search rules;
       files = paths ∙ ap (λ xs. Some (map (λ p. p.now) xs)) (sym copy);
       form = c.requires;
     }

@@ -13,8 +13,8 @@ unfolding value_lint
 returns c =
     let list = c.in-Ok.list.now in
     let of_length = length_findings (few_events (items_view list)) in
-    let of_events = flat_map (event_findings c.args.sites.now) (enumerate_from 1 (in_order (items_view list))) in
-    let found : c.from_vec.result ≡ list_findings c.args.sites.now (items_view list) =
+    let of_events = flat_map (event_findings c.args.listing.now.sites.now c.args.listing.now.here) (enumerate_from 1 (in_order (items_view list))) in
+    let found : c.from_vec.result ≡ list_findings c.args.listing.now.sites.now c.args.listing.now.here (items_view list) =
     c.from_vec.ensures ∙ c.in_ok-push_events.ensures
     ∙ ap (λ (fs : List Finding). fs ++ of_events) (c.in_ok-push_length.ensures ∙ ap (λ (fs : List Finding). fs ++ of_length) c.new-findings.ensures.items) in
     rw c.in-Ok.ensures (λ i. record { events = sym (items_count list) i; findings = found i })

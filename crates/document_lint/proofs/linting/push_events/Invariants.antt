@@ -8,5 +8,5 @@ use Rattle.document_lint.proofs.linting.push_events.Given as goal
 -- what is found of the events so far and of the rest is all of it
 abbrev pub invariant-loop-place : goal.invariant-loop-place
 invariant-loop-place l =
-    l.findings.items ++ flat_map (event_findings l.sites) (enumerate_from (l.place + 1) (in_order (items_view (drop l.place l.list))))
-    ≡ l.fn.findings.items ++ flat_map (event_findings l.sites) (enumerate_from 1 (in_order (items_view l.list)))
+    l.findings.items ++ flat_map (event_findings l.listing.sites.now l.listing.here) (enumerate_from (l.place + 1) (in_order (items_view (drop l.place l.list))))
+    ≡ l.fn.findings.items ++ flat_map (event_findings l.listing.sites.now l.listing.here) (enumerate_from 1 (in_order (items_view l.list)))

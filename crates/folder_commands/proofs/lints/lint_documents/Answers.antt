@@ -1,4 +1,4 @@
-use Rattle.std.proofs.Common.{◌<◌, ◌≡◌, inl, length, map, eqb-true, false-eqb, arith, sym, subst, ◌∙◌}
+use Rattle.std.proofs.Common.{◌<◌, ◌≡◌, inl, length, map, option_map, eqb-true, false-eqb, arith, sym, subst, ◌∙◌}
 use Rattle.std.proofs.KnownBytes.{Appends-nil}
 use Rattle.std.proofs.lemmas.List.{nil_from_length}
 use Rattle.recall_text.specs.SiteLists.{IsSiteList}
@@ -23,7 +23,7 @@ returns-then-is_empty-clause-all g c =
     let none : length whys ≡ 0 = omega (arith, zero) in
     let listed = subst (λ t. IsSiteList t c.in_ok-list.list) c.as_slice.ensures.value c.in_ok-list.ensures in
     ok_so c.lint_all.result
-    (λ summary all. list_lints g.F.Files.does c.args.form c.args.list.now (map (λ p. p.now) c.args.paths.now) _ _ _ _ c.in_ok-list.list whys _ _ summary c.in_ok-text.ensures.read listed c.in_ok-refusals.ensures (nil_from_length whys none) all)
+    (λ summary all. list_lints g.F.Files.does c.args.form c.args.list.now (option_map (λ t. t.now) c.args.site) (map (λ p. p.now) c.args.paths.now) _ _ _ _ c.in_ok-list.list whys _ _ summary c.in_ok-text.ensures.read listed c.in_ok-refusals.ensures (nil_from_length whys none) all)
     c.lint_all.ensures.all
 
 pub returns-then-is_empty-clause-early : goal.returns-then-is_empty-clause-early
@@ -33,7 +33,7 @@ returns-then-is_empty-clause-early g c =
     let none : length whys ≡ 0 = omega (arith, zero) in
     let listed = subst (λ t. IsSiteList t c.in_ok-list.list) c.as_slice.ensures.value c.in_ok-list.ensures in
     on_err_so c.lint_all.result
-    (λ some. list_lints_some g.F.Files.does c.args.form c.args.list.now (map (λ p. p.now) c.args.paths.now) _ _ _ c.in_ok-list.list whys _ _ c.in_ok-text.ensures.read listed c.in_ok-refusals.ensures (nil_from_length whys none) some)
+    (λ some. list_lints_some g.F.Files.does c.args.form c.args.list.now (option_map (λ t. t.now) c.args.site) (map (λ p. p.now) c.args.paths.now) _ _ _ c.in_ok-list.list whys _ _ c.in_ok-text.ensures.read listed c.in_ok-refusals.ensures (nil_from_length whys none) some)
     c.lint_all.ensures.early
 
 pub returns-clause-all : goal.returns-clause-all
@@ -43,7 +43,7 @@ returns-clause-all g c =
     let some : 0 < length whys = omega (arith, isnt) in
     let listed = subst (λ t. IsSiteList t c.in_ok-list.list) c.as_slice.ensures.value c.in_ok-list.ensures in
     ok_so c.refuse.result
-    (λ summary refuses. list_refused g.F.Files.does c.args.form c.args.list.now (map (λ p. p.now) c.args.paths.now) _ _ _ c.in_ok-list.list whys _ _ summary c.in_ok-text.ensures.read listed c.in_ok-refusals.ensures some refuses)
+    (λ summary refuses. list_refused g.F.Files.does c.args.form c.args.list.now (option_map (λ t. t.now) c.args.site) (map (λ p. p.now) c.args.paths.now) _ _ _ c.in_ok-list.list whys _ _ summary c.in_ok-text.ensures.read listed c.in_ok-refusals.ensures some refuses)
     c.refuse.ensures.all
 
 pub returns-clause-early : goal.returns-clause-early
@@ -53,5 +53,5 @@ returns-clause-early g c =
     let some : 0 < length whys = omega (arith, isnt) in
     let listed = subst (λ t. IsSiteList t c.in_ok-list.list) c.as_slice.ensures.value c.in_ok-list.ensures in
     on_err_so c.refuse.result
-    (λ refuses. list_refused_some g.F.Files.does c.args.form c.args.list.now (map (λ p. p.now) c.args.paths.now) _ _ _ c.in_ok-list.list whys _ _ c.in_ok-text.ensures.read listed c.in_ok-refusals.ensures some refuses)
+    (λ refuses. list_refused_some g.F.Files.does c.args.form c.args.list.now (option_map (λ t. t.now) c.args.site) (map (λ p. p.now) c.args.paths.now) _ _ _ c.in_ok-list.list whys _ _ c.in_ok-text.ensures.read listed c.in_ok-refusals.ensures some refuses)
     c.refuse.ensures.early

@@ -28,7 +28,7 @@ returns-in_err-write_lines-clause-early g c =
         calls = ReadFile c.args.path.now c.in_ok-bytes.bytes.items ∷ [];
         are = inr (record {
           document = record { path = c.args.path.now; bytes = c.in_ok-bytes.bytes.items; lint = c.in_ok-found.found };
-          are = one_are c.args.sites.now c.args.path.now c.in_ok-bytes.bytes.items _ c.in_ok-found.found c.as_slice.ensures.value c.in_ok-found.ensures;
+          are = one_are c.args.listing.now.sites.now c.args.listing.now.here c.args.path.now c.in_ok-bytes.bytes.items _ c.in_ok-found.found c.as_slice.ensures.value c.in_ok-found.ensures;
           told = subst (λ text. AppendsBeginning before after text) (c.as_str.ensures.value ∙ c.in_ok-lines.ensures) c.in_err-write_lines.ensures.err;
         });
         led = (c.read.new.self, c.in_ok-bytes.ensures.read, refl);
@@ -43,7 +43,7 @@ returns-clause-all g c =
       calls = ReadFile c.args.path.now c.in_ok-bytes.bytes.items ∷ [];
       are = record {
         document = record { path = c.args.path.now; bytes = c.in_ok-bytes.bytes.items; lint = c.in_ok-found.found };
-        are = one_are c.args.sites.now c.args.path.now c.in_ok-bytes.bytes.items _ c.in_ok-found.found c.as_slice.ensures.value c.in_ok-found.ensures;
+        are = one_are c.args.listing.now.sites.now c.args.listing.now.here c.args.path.now c.in_ok-bytes.bytes.items _ c.in_ok-found.found c.as_slice.ensures.value c.in_ok-found.ensures;
         told = subst (λ text. Appends before after text) (c.as_str.ensures.value ∙ c.in_ok-lines.ensures) c.in_ok-write_lines.ensures.ok;
         counted = c.with.ensures;
       };

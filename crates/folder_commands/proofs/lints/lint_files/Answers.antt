@@ -10,7 +10,7 @@ loop-path-init g c =
     let before = g.W.Write.contents c.args.output.now in
     record {
       calls = [];
-      are = subst (λ t. LintsThose c.args.form c.args.sites.now [] before before t []) (sym c.new-totals.ensures) (those_none c.args.form c.args.sites.now before);
+      are = subst (λ t. LintsThose c.args.form c.args.listing.now.sites.now c.args.listing.now.here [] before before t []) (sym c.new-totals.ensures) (those_none c.args.form c.args.listing.now.sites.now c.args.listing.now.here before);
       led = refl;
     }
 
@@ -20,7 +20,7 @@ returns-in_err-totals-clause-early g c =
     let i = c.loop-path.path-index in
     let none : Bor (List ℕ) = record { ref_ptr = (0, 0); now = [] } in
     on_err c.from_residual.result
-    (those_early c.args.form c.args.sites.now g.F.Files.does c.args.files.now c.loop-path.files (map (λ p. p.now) (take i paths)) _
+    (those_early c.args.form c.args.listing.now.sites.now c.args.listing.now.here g.F.Files.does c.args.files.now c.loop-path.files (map (λ p. p.now) (take i paths)) _
     (map (λ p. p.now) (drop i paths)) (map (λ p. p.now) (drop (i + 1) paths)) (map (λ p. p.now) paths) _ _ _ c.loop-path.totals
     (parts_at (λ p. p.now) paths i)
     (parts_at (λ p. p.now) paths (i + 1) ∙ ap (λ (ps : List (List ℕ)). ps ++ map (λ p. p.now) (drop (i + 1) paths)) (map_more (λ p. p.now) paths i none c.loop-path-test.true))
@@ -30,7 +30,7 @@ pub loop-path-preserved : goal.loop-path-preserved
 loop-path-preserved g c =
     let none : Bor (List ℕ) = record { ref_ptr = (0, 0); now = [] } in
     rw (map_more (λ p. p.now) c.args.paths.now c.loop-path.path-index none c.loop-path-test.true)
-    (those_more c.args.form c.args.sites.now g.F.Files.does c.args.files.now c.loop-path.files c.lint_file.new.files
+    (those_more c.args.form c.args.listing.now.sites.now c.args.listing.now.here g.F.Files.does c.args.files.now c.loop-path.files c.lint_file.new.files
     (map (λ p. p.now) (take c.loop-path.path-index c.args.paths.now)) _ _ _ _ c.loop-path.totals _ c.loop-path.invariant c.in_ok-totals.ensures.all)
 
 pub returns-clause-all : goal.returns-clause-all

@@ -16,6 +16,7 @@ returns-clause-calls g c =
     let folder = c.args.folder.now in
     let sites = c.args.sites.now in
     let ways = c.args.ways in
+    let events = c.args.events in
     let name = c.in-Some.name.now in
     let number = c.in-Some.number in
     let asked : Some (name, number) ≡ recall_of c.args.recall.now = sym (ap (option_map (λ r. (r.0.now, r.1))) c.in-Some.is) ∙ c.recall_of.ensures in
@@ -24,8 +25,8 @@ returns-clause-calls g c =
     (λ o led. record {
       calls = led.calls;
       are =
-          subst (λ x. ReportsBy shown stored folder sites x ways o led.calls) asked
-          (subst (λ x. AtSite name x (λ s. TellsAll shown stored folder sites (λ rs y. AnswersReport rs (record { site = s; number = number }) ways y)) o led.calls) found led.are);
+          subst (λ x. ReportsBy shown stored folder sites x ways events o led.calls) asked
+          (subst (λ x. AtSite name x (λ s. TellsAll shown stored folder sites (λ rs y. AnswersReport rs (record { site = s; number = number }) ways events y)) o led.calls) found led.are);
       led = led.led;
     })
     c.ask_all.ensures.calls

@@ -22,5 +22,5 @@ returns-clause-calls g c =
     let stored = g.K.SiteKeeper.stored in
     let folder = c.args.folder.now in
     let outcome = c.in_ok-outcome.outcome in
-    behind_list g.F.Files.does folder (λ sites rest. IsPlain sites _ × AtSite c.args.site.now (named sites c.args.site.now) (λ site. TracesItem shown stored folder sites site (item_reading c.args.item.now) c.args.back c.args.ways) outcome rest) _ _ _ c.in_ok-sites.sites c.in_ok-sites.ensures.read
+    behind_list g.F.Files.does folder (λ sites rest. IsPlain sites _ × AtSite c.args.site.now (named sites c.args.site.now) (λ site. TracesItem shown stored folder sites site (item_reading c.args.item.now) c.args.back c.args.ways c.args.events) outcome rest) _ _ _ c.in_ok-sites.sites c.in_ok-sites.ensures.read
     (led_so g.F.Files.does _ _ (λ calls done. (record { same = refl; silent = refl }, done)) c.in_ok-outcome.ensures.calls)

@@ -9,4 +9,4 @@ pub returns : goal.returns
 returns c =
     let text = string_bytes c.loop-pair.text in
     let left = either_empty_from_Zip c.loop-pair.pair-iterator c.next.new.self _ refl c.in-None.ensures.steps in
-    sym (append-nil text) ∙ ap (λ xs. text ++ xs) (sym (ap (flat_map (quarantined_text c.args.sites.now c.args.ways)) (none_left _ _ left))) ∙ c.loop-pair.invariant
+    sym (append-nil text) ∙ ap (λ xs. text ++ xs) (sym (ap (flat_map (quarantined_text c.args.sites.now c.args.ways)) (none_left _ _ _ left))) ∙ c.loop-pair.invariant

@@ -11,4 +11,4 @@ returns c =
     let values = map view c.loop-pair.list.items in
     let left = either_empty_from_Zip c.loop-pair.pair-iterator c.next.new.self _ refl c.in-None.ensures.steps in
     c.list_value.ensures ∙ ap (λ (ds : List Data). array (items_of ds))
-    (sym (append-nil values) ∙ ap (λ ds. values ++ ds) (sym (ap (map (led_json c.args.sites.now c.args.ways)) (none_left _ _ left))) ∙ c.loop-pair.invariant)
+    (sym (append-nil values) ∙ ap (λ ds. values ++ ds) (sym (ap (map (led_json c.args.sites.now c.args.ways)) (none_left _ _ _ left))) ∙ c.loop-pair.invariant)

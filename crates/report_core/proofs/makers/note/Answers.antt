@@ -1,6 +1,6 @@
 use Rattle.std.proofs.Common.{rules, Some, sym}
 use Rattle.std.proofs.lemmas.Result.{on_ok_weaker}
-use Rattle.report_core.proofs.MakersKept.{place_noted, first_noted}
+use Rattle.report_core.proofs.PlacesKept.{place_noted, first_noted}
 use Rattle.report_core.proofs.makers.note.Goals as goal
 
 pub returns-in-Some : goal.returns-in-Some

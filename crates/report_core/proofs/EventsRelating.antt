@@ -1,0 +1,170 @@
+-- The first events that relate two pairs, by the places that stand under their items.
+use Rattle.std.proofs.Common.{◌≡◌, ◌≢◌, ◌↔◌, inl, inr, ℕ, ◌≤◌, Bool, List, length, slice_get, Option, Some, None, refl, sym, ap, ◌∙◌, subst, ⊎_elim, arith}
+use mathlib.Core.Bool.{false≢true}
+use Rattle.std.specs.BTreeMap.{get}
+use Rattle.std.specs.List.{Contains}
+use Rattle.std.specs.Option.{is_some}
+use Rattle.std.specs.Prelude.{IsTrue}
+use Rattle.std.proofs.lemmas.Option.{slice_get-get_or, slice_get_within}
+use Rattle.event_json.specs.Events.{Content}
+use Rattle.event_json.specs.declared.bodies.Body.{Body}
+use Rattle.event_json.specs.declared.bodies.Body.TheVariants.{Note, Ship, Make, Pack}
+use Rattle.trace_core.specs.Pairs.{GivesOut, IsCarriedWith, IsMadeOf, IsSentTo, Ships}
+use Rattle.trace_core.specs.Sites.{SiteEvents}
+use Rattle.trace_core.specs.declared.pairs.Pair.{Pair}
+use Rattle.trace_core.proofs.NumberLists.{some_is, none_is}
+use Rattle.site_core.specs.ItemSets.{item_cmp}
+use Rattle.report_core.specs.TrailEvents.{AnswersStep, AreOfOneMake, GivesOutWith, IsFirstOrNone, IsFirstShipment, ShipsAt, StandsAt, TakesInAt}
+use Rattle.report_core.specs.FirstPlaces.{AnswersMake, AnswersShipment, Goes, IsJoinedWithOne, IsOneOf, TellsEvent}
+use Rattle.report_core.specs.Sources.{ArePlaces, Index, IsNotedAt, Notes, ShipsOff, or_no_places}
+use Rattle.report_core.specs.declared.trail_events.CapturedEvent.{CapturedEvent}
+use Rattle.report_core.specs.declared.trail_events.StepEvents.{StepEvents}
+use Rattle.report_core.specs.declared.trail_events.StepEvents.TheVariants.{Shipped, Made}
+use Rattle.report_core.specs.declared.makers.EventPlace.{EventPlace}
+use Rattle.report_core.specs.declared.makers.Noting.{Noting}
+use Rattle.report_core.specs.declared.makers.Noting.TheVariants as notings
+use Rattle.report_core.proofs.FirstFound.{first_alike}
+
+-- whether there is a first one of those that are joined
+pub any_joined : (events : List Content) (number event : ℕ) (parts : List EventPlace) (first : Option ℕ) (b : Bool) → b ≡ is_some first
+    → IsFirstOrNone (IsOneOf (λ p. (number ≡ p.site) × AreOfOneMake events event p.event) parts) first → IsTrue b ↔ IsJoinedWithOne events number parts event
+any_joined events number event parts None b is none = (
+  λ yes. absurd (false≢true (sym is ∙ yes)),
+  λ (p, there, here, one). absurd (none p.event (p, there, refl, (here, one))),
+)
+any_joined events number event parts (Some n) b is ((p, there, at, (here, one)), least) = (λ yes. (p, there, here, one), λ joined. is)
+
+-- a shipment that goes to the site, and ships the item off
+goes_with : (events : List Content) (item : List ℕ) (site : ℕ) (b : Body) → (Goes site b × ShipsOff events item b) ↔ ((carrier : List ℕ) × Ships carrier site b × IsCarriedWith events carrier item)
+goes_with events item site (Note items) = (λ h. absurd h.0, λ (carrier, ships, carried). absurd ships)
+goes_with events item site (Make id ins outs) = (λ h. absurd h.0, λ (carrier, ships, carried). absurd ships)
+goes_with events item site (Pack action parent children) = (λ h. absurd h.0, λ (carrier, ships, carried). absurd ships)
+goes_with events item site (Ship items sites outside) = (
+  λ (goes, (carrier, there, carried)). (carrier, (there, goes), carried),
+  λ (carrier, (there, goes), carried). (goes, (carrier, there, carried)),
+)
+
+module _ (sites : List SiteEvents) (number : ℕ) (s : SiteEvents) (stands : slice_get sites number ≡ Some s) where
+  -- what stands under an item, of the site
+  listed : (noting : Noting) (index : Index) → ArePlaces noting index sites → (item : List ℕ) (places : List EventPlace) → places ≡ or_no_places (get item_cmp index item)
+      → (p : EventPlace) → number ≡ p.site → Contains places p ↔ StandsAt s.events (Notes noting s.events item) p.event
+  listed noting index are item places lent p here = (
+    λ h.
+        let (t, at, noted) = (are (item, p)).0 (subst (λ ps. Contains ps p) lent h) in
+        let one : t ≡ s = some_is t s (sym at ∙ ap (slice_get sites) (sym here) ∙ stands) in
+        subst (λ (u : SiteEvents). IsNotedAt noting u.events item p.event) one noted,
+    λ noted. subst (λ ps. Contains ps p) (sym lent) ((are (item, p)).1 (s, subst (λ n. slice_get sites n ≡ Some s) here stands, noted)),
+  )
+
+  module _ (index : Index) (are : ArePlaces notings.Shipped index sites) (item : List ℕ) (places : List EventPlace) (lent : places ≡ or_no_places (get item_cmp index item)) (to : ℕ) where
+    one_of_shipments : (n : ℕ) → IsOneOf (λ p. (number ≡ p.site) × StandsAt s.events (Goes to) p.event) places n ↔ ShipsAt s.events item to n
+    one_of_shipments n = (
+      λ (p, there, at, (here, (e, stands', goes))).
+          let (f, stands'', off) = (listed notings.Shipped index are item places lent p here).0 there in
+          let one : f ≡ e = some_is f e (sym stands'' ∙ stands') in
+          (e, subst (λ k. slice_get s.events k ≡ Some e) at stands', (goes_with s.events item to e.body).0 (goes, subst (λ (c : Content). ShipsOff s.events item c.body) one off)),
+      λ (e, stands', ships).
+          let (goes, off) = (goes_with s.events item to e.body).1 ships in
+          (record { site = number; event = n }, (listed notings.Shipped index are item places lent (record { site = number; event = n }) refl).1 (e, stands', off), refl, (refl, (e, stands', goes))),
+    )
+
+    sent_somewhere : IsSentTo s.events item to → (n : ℕ) × ShipsAt s.events item to n
+    sent_somewhere (carrier, (n, e, below, at, ships), carried) = (n, (e, slice_get-get_or s.events n e below ∙ ap Some at, (carrier, ships, carried)))
+
+    -- where none is found there is no shipment
+    pub no_shipment : IsFirstOrNone (IsOneOf (λ p. (number ≡ p.site) × StandsAt s.events (Goes to) p.event) places) None → AnswersShipment s.events item to None
+    no_shipment none sent = let (n, ships) = sent_somewhere sent in none n ((one_of_shipments n).1 ships)
+
+    -- the one that is found has an event
+    pub shipment_there : (n : ℕ) → IsFirstOrNone (IsOneOf (λ p. (number ≡ p.site) × StandsAt s.events (Goes to) p.event) places) (Some n) → TellsEvent s.events n None → ⊥
+    shipment_there n first none = let (e, stands', ships) = (one_of_shipments n).0 first.0 in none_is e (sym none ∙ stands')
+
+    pub shipment_found : (n : ℕ) (x : CapturedEvent) → IsFirstOrNone (IsOneOf (λ p. (number ≡ p.site) × StandsAt s.events (Goes to) p.event) places) (Some n) → TellsEvent s.events n (Some x) → AnswersShipment s.events item to (Some (Shipped x))
+    shipment_found n x first told = (n, first_alike (IsOneOf (λ p. (number ≡ p.site) × StandsAt s.events (Goes to) p.event) places) (ShipsAt s.events item to) one_of_shipments n first, told)
+
+  module _ (takers givers : Index) (ins : ArePlaces notings.TakenIn takers sites) (outs : ArePlaces notings.GivenOut givers sites) (i j : List ℕ) (taken given : List EventPlace)
+      (lent : taken ≡ or_no_places (get item_cmp takers i)) (lent' : given ≡ or_no_places (get item_cmp givers j)) where
+    one_of_parts : (n m : ℕ) → IsOneOf (λ p. (number ≡ p.site) × AreOfOneMake s.events n p.event) given m ↔ GivesOutWith s.events j n m
+    one_of_parts n m = (
+      λ (p, there, at, (here, one)). subst (λ k. GivesOutWith s.events j n k) at ((listed notings.GivenOut givers outs j given lent' p here).0 there, one),
+      λ (gives, one). (record { site = number; event = m }, (listed notings.GivenOut givers outs j given lent' (record { site = number; event = m }) refl).1 gives, refl, (refl, one)),
+    )
+
+    one_of_makes : (n : ℕ) → IsOneOf (λ p. (number ≡ p.site) × IsJoinedWithOne s.events number given p.event) taken n ↔ TakesInAt s.events i j n
+    one_of_makes n = (
+      λ (p, there, at, (here, (q, there', here', one))). subst (λ k. TakesInAt s.events i j k) at
+          ((listed notings.TakenIn takers ins i taken lent p here).0 there, (q.event, (one_of_parts p.event q.event).0 (q, there', refl, (here', one)))),
+      λ (takes, (m, gives)).
+          let (q, there', at', (here', one)) = (one_of_parts n m).1 gives in
+          (record { site = number; event = n }, (listed notings.TakenIn takers ins i taken lent (record { site = number; event = n }) refl).1 takes, refl, (refl, (q, there', here', one))),
+    )
+
+    made_somewhere : IsMadeOf s.events i j → (n : ℕ) × TakesInAt s.events i j n
+    made_somewhere (n, e, below, at, (takes, (m, f, below', at', (one, gives)))) =
+        let there : slice_get s.events n ≡ Some e = slice_get-get_or s.events n e below ∙ ap Some at in
+        let there' : slice_get s.events m ≡ Some f = slice_get-get_or s.events m f below' ∙ ap Some at' in
+        ⊎_elim
+        (λ same. (n, ((e, there, takes), (n, ((e, there, subst (λ (c : Content). GivesOut j c.body) (sym same) gives), inl refl)))))
+        (λ ids. (n, ((e, there, takes), (m, ((f, there', gives), inr (e, there, (f, there', ids)))))))
+        one
+
+    -- where no places are found nothing is made of it
+    pub no_make : IsFirstOrNone (IsOneOf (λ p. (number ≡ p.site) × IsJoinedWithOne s.events number given p.event) taken) None → AnswersMake s.events i j None
+    no_make none made = let (n, takes) = made_somewhere made in none n ((one_of_makes n).1 takes)
+
+    -- those that are found have events
+    pub taking_there : (n : ℕ) → IsFirstOrNone (IsOneOf (λ p. (number ≡ p.site) × IsJoinedWithOne s.events number given p.event) taken) (Some n) → TellsEvent s.events n None → ⊥
+    taking_there n first none = let ((e, there, takes), gives) = (one_of_makes n).0 first.0 in none_is e (sym none ∙ there)
+
+    pub giving_there : (n m : ℕ) → IsFirstOrNone (IsOneOf (λ p. (number ≡ p.site) × AreOfOneMake s.events n p.event) given) (Some m) → TellsEvent s.events m None → ⊥
+    giving_there n m part none = let ((f, there, gives), one) = (one_of_parts n m).0 part.0 in none_is f (sym none ∙ there)
+
+    pub make_found : (n m : ℕ) (x y : CapturedEvent) → IsFirstOrNone (IsOneOf (λ p. (number ≡ p.site) × IsJoinedWithOne s.events number given p.event) taken) (Some n) → IsFirstOrNone (IsOneOf (λ p. (number ≡ p.site) × AreOfOneMake s.events n p.event) given) (Some m) → TellsEvent s.events n (Some x) → TellsEvent s.events m (Some y) → AnswersMake s.events i j (Some (Made x y))
+    make_found n m x y first part told told' = (
+      n,
+      first_alike (IsOneOf (λ p. (number ≡ p.site) × IsJoinedWithOne s.events number given p.event) taken) (TakesInAt s.events i j) one_of_makes n first,
+      told,
+      (m, first_alike (IsOneOf (λ p. (number ≡ p.site) × AreOfOneMake s.events n p.event) given) (GivesOutWith s.events j n) (one_of_parts n) m part, told'),
+    )
+
+-- the first of those that are joined with one has one that it is joined with
+pub part_there : (events : List Content) (number n : ℕ) (taken given : List EventPlace) → IsFirstOrNone (IsOneOf (λ p. (number ≡ p.site) × IsJoinedWithOne events number given p.event) taken) (Some n)
+    → IsFirstOrNone (IsOneOf (λ p. (number ≡ p.site) × AreOfOneMake events n p.event) given) None → ⊥
+part_there events number n taken given ((p, there, at, (here, (q, there', here', one))), least) none =
+    none q.event (q, there', refl, (here', subst (λ k. AreOfOneMake events k q.event) at one))
+
+module _ (sites : List SiteEvents) (p q : Pair) (s : SiteEvents) (stands : slice_get sites p.site ≡ Some s) where
+  -- a step inside the site
+  pub step_of_make : (found : Option StepEvents) → q.site ≡ s.me → AnswersMake s.events p.item q.item found → AnswersStep sites p q found
+  step_of_make None here none = λ (t, at, related).
+      let one : t ≡ s = some_is t s (sym at ∙ stands) in
+      ⊎_elim
+      (λ (apart, item, sent). apart (here ∙ ap (λ (u : SiteEvents). u.me) (sym one)))
+      (λ (me, made). none (subst (λ (u : SiteEvents). IsMadeOf u.events p.item q.item) one made))
+      related
+  step_of_make (Some (Shipped y)) here answer = absurd answer
+  step_of_make (Some (Made y z)) here answer = (s, stands, (here, answer))
+
+  -- one to another site
+  pub step_of_shipment : (found : Option StepEvents) → q.site ≢ s.me → q.item ≡ p.item → AnswersShipment s.events q.item q.site found → AnswersStep sites p q found
+  step_of_shipment None apart same none = λ (t, at, related).
+      let one : t ≡ s = some_is t s (sym at ∙ stands) in
+      ⊎_elim
+      (λ (other, item, sent). none (subst (λ i. IsSentTo s.events i q.site) (sym same) (subst (λ (u : SiteEvents). IsSentTo u.events p.item q.site) one sent)))
+      (λ (me, made). apart (me ∙ ap (λ (u : SiteEvents). u.me) one))
+      related
+  step_of_shipment (Some (Shipped y)) apart same answer = (s, stands, (apart, same, subst (λ i. IsFirstShipment s.events i q.site y) same answer))
+  step_of_shipment (Some (Made y z)) apart same answer = absurd answer
+
+  -- none relates these
+  pub no_step : q.site ≢ s.me → q.item ≢ p.item → AnswersStep sites p q None
+  no_step apart other (t, at, related) =
+      let one : t ≡ s = some_is t s (sym at ∙ stands) in
+      ⊎_elim
+      (λ (away, item, sent). other item)
+      (λ (me, made). apart (me ∙ ap (λ (u : SiteEvents). u.me) one))
+      related
+
+-- nor where there is no such site
+pub no_site : (sites : List SiteEvents) (p q : Pair) → length sites ≤ p.site → AnswersStep sites p q None
+no_site sites p q past (s, at, related) = omega (arith, past, slice_get_within sites p.site s at)

@@ -1,0 +1,81 @@
+-- The steps of a trail, place by place, and those that are shown of it.
+use Rattle.std.proofs.Common.{◌≡◌, ℕ, zero, suc, ◌+◌, ◌-◌, ◌<◌, ◌≤◌, List, [], ◌∷◌, ◌++◌, Some, length, get_or, take, drop, slice_get, refl, sym, ap, ◌∙◌, subst, arith}
+use Rattle.std.specs.List.{AllZip}
+use Rattle.std.proofs.lemmas.List.{take_all}
+use Rattle.std.proofs.lemmas.Option.{slice_get-get_or}
+use Rattle.trace_core.specs.Relations.{IsChain}
+use Rattle.trace_core.specs.Sites.{SiteEvents}
+use Rattle.trace_core.specs.declared.pairs.Pair.{Pair}
+use Rattle.trace_core.proofs.NumberLists.{some_is, none_is}
+use Rattle.trace_core.proofs.Zips.{zip_more}
+use Rattle.report_core.specs.TrailEvents.{TellsStep, pairs_shown, steps_of}
+use Rattle.report_core.specs.declared.trail_events.ShownSteps.{ShownSteps}
+use Rattle.report_core.specs.declared.trail_events.ShownSteps.TheVariants.{Each, First, Last}
+use Rattle.report_core.specs.declared.trail_events.StepEvents.{StepEvents}
+
+-- one pair of a chain and the next
+pub chain_step : (R : Pair → Pair → Type 0) (trail : List Pair) (k : ℕ) (p q : Pair) → IsChain R trail → slice_get trail k ≡ Some p → slice_get trail (suc k) ≡ Some q → R p q
+chain_step R [] k p q chain at next = none_is p at
+chain_step R (x ∷ []) k p q chain at next = none_is q next
+chain_step R (x ∷ y ∷ rest) zero p q chain at next = subst (R p) (some_is y q next) (subst (λ z. R z y) (some_is x p at) chain.0)
+chain_step R (x ∷ y ∷ rest) (suc k) p q chain at next = chain_step R (y ∷ rest) k p q chain.1 at next
+
+-- a part of a chain is a chain
+chain_begins : (R : Pair → Pair → Type 0) (trail : List Pair) → IsChain R trail → IsChain R (take 2 trail)
+chain_begins R [] chain = tt
+chain_begins R (x ∷ []) chain = tt
+chain_begins R (x ∷ y ∷ rest) chain = (chain.0, tt)
+
+chain_ends : (R : Pair → Pair → Type 0) (n : ℕ) (trail : List Pair) → IsChain R trail → IsChain R (drop n trail)
+chain_ends R zero trail chain = chain
+chain_ends R (suc n) [] chain = tt
+chain_ends R (suc n) (x ∷ []) chain = chain_ends R n [] tt
+chain_ends R (suc n) (x ∷ y ∷ rest) chain = chain_ends R n (y ∷ rest) chain.1
+
+pub chain_shown : (R : Pair → Pair → Type 0) (shown : ShownSteps) (trail : List Pair) → IsChain R trail → IsChain R (pairs_shown shown trail)
+chain_shown R Each trail chain = chain
+chain_shown R First trail chain = chain_begins R trail chain
+chain_shown R Last trail chain = chain_ends R (length trail - 2) trail chain
+
+-- the step at a place
+step_at : (trail : List Pair) (k : ℕ) (p q : Pair) → slice_get trail k ≡ Some p → slice_get trail (suc k) ≡ Some q → (k < length (steps_of trail)) × ((p, q) ≡ get_or (steps_of trail) k (p, q))
+step_at [] k p q at next = none_is p at
+step_at (x ∷ []) k p q at next = none_is q next
+step_at (x ∷ y ∷ rest) zero p q at next = (omega arith, (λ i. (sym (some_is x p at) i, sym (some_is y q next) i)))
+step_at (x ∷ y ∷ rest) (suc k) p q at next =
+    let later = step_at (y ∷ rest) k p q at next in
+    (omega (arith, later.0), later.1)
+
+steps_long : (trail : List Pair) → length (steps_of trail) ≡ length trail - 1
+steps_long [] = refl
+steps_long (x ∷ []) = refl
+steps_long (x ∷ y ∷ rest) = omega (arith, steps_long (y ∷ rest))
+
+module _ (pairs : List Pair) (place : ℕ) (some : 0 < place) where
+  module _ (below : place < length pairs) (p q : Pair) (at : p ≡ get_or pairs (place - 1) p) (next : q ≡ get_or pairs place q) where
+    stands : slice_get pairs (place - 1) ≡ Some p
+    stands = slice_get-get_or pairs (place - 1) p (omega (arith, below)) ∙ ap Some (sym at)
+
+    after : slice_get pairs (suc (place - 1)) ≡ Some q
+    after =
+        let is : suc (place - 1) ≡ place = omega (arith, some) in
+        ap (slice_get pairs) is ∙ slice_get-get_or pairs place q below ∙ ap Some (sym next)
+
+    -- a pair of a chain is related to the one behind it
+    pub step_related : (R : Pair → Pair → Type 0) → IsChain R pairs → R p q
+    step_related R chain = chain_step R pairs (place - 1) p q chain stands after
+
+    -- one step more
+    pub one_told : (sites : List SiteEvents) (told : List StepEvents) (events : StepEvents) → AllZip (λ step. TellsStep sites step.0 step.1) (take (place - 1) (steps_of pairs)) told
+        → TellsStep sites p q events → AllZip (λ step. TellsStep sites step.0 step.1) (take (place + 1 - 1) (steps_of pairs)) (told ++ events ∷ [])
+    one_told sites told events before tells =
+        let one = step_at pairs (place - 1) p q stands after in
+        let is : place - 1 + 1 ≡ place + 1 - 1 = omega (arith, some) in
+        subst (λ n. AllZip (λ step. TellsStep sites step.0 step.1) (take n (steps_of pairs)) (told ++ events ∷ [])) is
+        (zip_more (λ step. TellsStep sites step.0 step.1) (steps_of pairs) told (place - 1) (p, q) events one.0 one.1 before tells)
+
+  -- all of them
+  pub all_told : (sites : List SiteEvents) (told : List StepEvents) → length pairs ≤ place → AllZip (λ step. TellsStep sites step.0 step.1) (take (place - 1) (steps_of pairs)) told
+      → AllZip (λ step. TellsStep sites step.0 step.1) (steps_of pairs) told
+  all_told sites told past before = subst (λ steps. AllZip (λ step. TellsStep sites step.0 step.1) steps told)
+      (take_all (place - 1) (steps_of pairs) (omega (arith, past, steps_long pairs))) before

@@ -1,7 +1,0 @@
-use Rattle.trace_core.specs.Chains.{sites_at}
-use Rattle.report_core.proofs.MakersKept.{AreMakersBefore}
-use Rattle.report_core.proofs.makers.makers_of.Given as goal
-
--- those of the sites so far
-abbrev pub invariant-loop-number : goal.invariant-loop-number
-invariant-loop-number l = AreMakersBefore (sites_at l.sites) l.number l.index

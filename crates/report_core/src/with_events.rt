@@ -1,0 +1,157 @@
+//! Reports and traces with the events behind the steps of their trails.
+ghost use Rattle.std.specs.Prelude.{All, IfErr, IfOk, map, if◌then◌else◌};
+ghost use Rattle.trace_core.specs.Relations.{IsChain};
+ghost use Rattle.site_recovery.specs.Checking.{records_at, world_at};
+ghost use Rattle.site_recovery.specs.FittingAt.{AreAllSites};
+ghost use Rattle.site_recovery.specs.Laws.{captured_of};
+ghost use Rattle.report_core.specs.Reports.{IsReport, TellsFault};
+ghost use Rattle.report_core.specs.Traces.{IsBackTrace, IsKnownAt, IsTrace, TellsTraceFault};
+ghost use Rattle.report_core.specs.TrailEvents.{AreToldAlong, IsRelatedStep, or_no_pairs};
+ghost use Rattle.report_core.specs.declared.trail_events.ShownSteps.TheVariants.{Each, First, Last};
+
+use crate::faults::{ReportFault, TraceFault};
+use crate::relating::RelatingEvents;
+use crate::reports::{RecallReport, report};
+use crate::traces::{BackTrace, Trace};
+use crate::tracing::trace;
+use crate::tracing_back::trace_back;
+use crate::trail_events::{ShownSteps, StepEvents, told_along, told_along_those};
+use epc_core::Epc;
+use event_json::{Sequence, SiteNo};
+use frame_core::RecallId;
+use site_core::SiteState;
+use site_recovery::captured;
+use std::alloc::{AllocError, Global};
+use trace_core::Pair;
+
+/// Reports a recall as `report` does, and tells along each trail the first captured events that relate the pairs of
+/// each of its steps, or in brief of its last step alone. Of a pair without a trail no events are told.
+///
+/// Goes over the events of all sites three times, and over what lies in the items of each shipment; for each step that is
+/// told at the events that take its first item in, each with those that give its second one out, or at those that ship
+/// it.
+///
+/// # Errors
+/// As `report`.
+pub fn report_with_events(
+    alloc: Global,
+    sites: &[&SiteState],
+    recall: RecallId,
+    brief: bool,
+) -> Result<(RecallReport, Vec<Sequence<StepEvents>>), ReportFault>
+    requires all { AreAllSites (records_at sites.now) }
+    ensures report { IfOk result (λ told. IsReport (records_at sites.now) recall told.0) }
+    ensures events { IfOk result (λ told. AreToldAlong (captured_of (records_at sites.now))
+        (if brief then Last else Each) (map or_no_pairs told.0.trails) told.1.items) }
+    ensures fault { IfErr result (TellsFault (world_at sites.now) recall) }
+{
+    match report(alloc, sites, recall) {
+        Ok(report) => {
+            let shown = if brief {
+                ShownSteps::Last
+            } else {
+                ShownSteps::Each
+            };
+            let events = report_events(alloc, sites, report.trails.as_slice(), shown)?;
+            Ok((report, events))
+        }
+        Err(fault) => Err(fault),
+    }
+}
+
+/// Traces an item as `trace` does, with the events as in a report.
+///
+/// # Errors
+/// As `trace`.
+pub fn trace_with_events(
+    alloc: Global,
+    sites: &[&SiteState],
+    site: SiteNo,
+    item: &Epc,
+    brief: bool,
+) -> Result<(Trace, Vec<Sequence<StepEvents>>), TraceFault>
+    requires all { AreAllSites (records_at sites.now) }
+    ensures trace { IfOk result (λ told. IsTrace (records_at sites.now) site item.now told.0) }
+    ensures known { IfOk result (λ _. IsKnownAt (world_at sites.now) site item.now) }
+    ensures events { IfOk result (λ told. AreToldAlong (captured_of (records_at sites.now))
+        (if brief then Last else Each) told.0.trails told.1.items) }
+    ensures fault { IfErr result (TellsTraceFault (world_at sites.now) site item.now) }
+{
+    match trace(alloc, sites, site, item) {
+        Ok(trace) => {
+            let shown = if brief {
+                ShownSteps::Last
+            } else {
+                ShownSteps::Each
+            };
+            let events = trace_events(alloc, sites, trace.trails.as_slice(), shown)?;
+            Ok((trace, events))
+        }
+        Err(fault) => Err(fault),
+    }
+}
+
+/// Traces an item back as `trace_back` does, with the events as in a report, but in brief those of the first step of
+/// each trail.
+///
+/// # Errors
+/// As `trace_back`.
+pub fn trace_back_with_events(
+    alloc: Global,
+    sites: &[&SiteState],
+    site: SiteNo,
+    item: &Epc,
+    brief: bool,
+) -> Result<(BackTrace, Vec<Sequence<StepEvents>>), TraceFault>
+    requires all { AreAllSites (records_at sites.now) }
+    ensures trace { IfOk result (λ told. IsBackTrace (records_at sites.now) site item.now told.0) }
+    ensures known { IfOk result (λ _. IsKnownAt (world_at sites.now) site item.now) }
+    ensures events { IfOk result (λ told. AreToldAlong (captured_of (records_at sites.now))
+        (if brief then First else Each) told.0.trails told.1.items) }
+    ensures fault { IfErr result (TellsTraceFault (world_at sites.now) site item.now) }
+{
+    match trace_back(alloc, sites, site, item) {
+        Ok(trace) => {
+            let shown = if brief {
+                ShownSteps::First
+            } else {
+                ShownSteps::Each
+            };
+            let events = trace_events(alloc, sites, trace.trails.as_slice(), shown)?;
+            Ok((trace, events))
+        }
+        Err(fault) => Err(fault),
+    }
+}
+
+/// The events of the steps that are shown of a report's trails.
+fn report_events(
+    alloc: Global,
+    sites: &[&SiteState],
+    trails: &[Option<Sequence<Pair>>],
+    shown: ShownSteps,
+) -> Result<Vec<Sequence<StepEvents>>, AllocError>
+    requires { All (IsChain (IsRelatedStep (captured_of (records_at sites.now)))) (map or_no_pairs trails.now) }
+    ensures { IfOk result (λ told.
+        AreToldAlong (captured_of (records_at sites.now)) shown (map or_no_pairs trails.now) told.items) }
+{
+    let captured = captured(alloc, sites)?;
+    let relating = RelatingEvents::of(alloc, captured.as_slice())?;
+    told_along_those(alloc, &relating, trails, shown)
+}
+
+/// So those of a trace's.
+fn trace_events(
+    alloc: Global,
+    sites: &[&SiteState],
+    trails: &[Sequence<Pair>],
+    shown: ShownSteps,
+) -> Result<Vec<Sequence<StepEvents>>, AllocError>
+    requires { All (IsChain (IsRelatedStep (captured_of (records_at sites.now)))) trails.now }
+    ensures { IfOk result (λ told.
+        AreToldAlong (captured_of (records_at sites.now)) shown trails.now told.items) }
+{
+    let captured = captured(alloc, sites)?;
+    let relating = RelatingEvents::of(alloc, captured.as_slice())?;
+    told_along(alloc, &relating, trails, shown)
+}
