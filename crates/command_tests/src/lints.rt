@@ -15,7 +15,6 @@ const STRANGE: &str =
 #[derive(Clone, Copy)]
 struct Row<'a> {
     list: &'a str,
-    site: Option<&'a str>,
     paths: &'a [&'a str],
     form: Form,
     status: u8,
@@ -29,7 +28,7 @@ fn ends_so(alloc: Global, files: &mut MemoryFiles, row: Row<'_>) -> bool {
         alloc,
         files,
         row.list,
-        row.site,
+        None,
         row.paths,
         row.form,
         &mut output,
@@ -58,7 +57,6 @@ fn documents_are_linted(rt: HostRuntime) -> Result<(), Fail> {
     let rows = [
         Row {
             list: "bad",
-            site: None,
             paths: &["made"],
             form: Form::Text,
             status: 1,
@@ -66,7 +64,6 @@ fn documents_are_linted(rt: HostRuntime) -> Result<(), Fail> {
         },
         Row {
             list: "list",
-            site: None,
             paths: &["made", "broken"],
             form: Form::Text,
             status: 1,
@@ -78,7 +75,6 @@ fn documents_are_linted(rt: HostRuntime) -> Result<(), Fail> {
         },
         Row {
             list: "list",
-            site: None,
             paths: &["strange"],
             form: Form::Json,
             status: 1,
@@ -92,7 +88,6 @@ fn documents_are_linted(rt: HostRuntime) -> Result<(), Fail> {
         },
         Row {
             list: "list",
-            site: None,
             paths: &[],
             form: Form::Text,
             status: 0,
