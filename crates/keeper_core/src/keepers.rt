@@ -54,9 +54,12 @@ pub trait SiteKeeper: Drop {
     /// record that it had. After `Device`, which comes only where [`SiteKeeper::failures`] rose, and after `Store`
     /// it is closed, to be opened in the record before the input or in the one after it.
     fn apply(&mut self, input: SiteInput) -> Result<Effects, KeepFault>
-        ensures open { (old : Record) → shown self.old ≡ Some old → Applies old input result (shown self.new) (may self.new) }
-        ensures memory { (old : Record) → shown self.old ≡ Some old → result ≡ Err KeepFault.NoMemory → CopiesRecord old input }
-        ensures closed { shown self.old ≡ None → (result ≡ Err KeepFault.Closed) × (self.new ≡ self.old) }
+        ensures open { (old : Record) → shown self.old ≡ Some old
+            → Applies old input result (shown self.new) (may self.new) }
+        ensures memory { (old : Record) → shown self.old ≡ Some old
+            → result ≡ Err KeepFault.NoMemory → CopiesRecord old input }
+        ensures closed { shown self.old ≡ None → (result ≡ Err KeepFault.Closed)
+            × (self.new ≡ self.old) }
         ensures cause { result ≡ Err KeepFault.Device → Rises (failed self.old) (failed self.new) }
         ensures count { failed self.old ≤ failed self.new }
         ensures stored { stored self.old → stored self.new }
@@ -68,7 +71,8 @@ pub trait SiteKeeper: Drop {
     /// # Errors
     /// Where memory runs out, and an open keeper stays open with the record that it had.
     fn stop(&mut self, input: SiteInput, keep: Keep) -> Result<(), AllocError>
-        ensures open { (old : Record) → shown self.old ≡ Some old → Stops old input keep (is_ok result) (shown self.new) (may self.new) }
+        ensures open { (old : Record) → shown self.old ≡ Some old
+            → Stops old input keep (is_ok result) (shown self.new) (may self.new) }
         ensures closed { shown self.old ≡ None → self.new ≡ self.old }
         ensures count { failed self.old ≤ failed self.new }
         ensures stored { stored self.old → stored self.new }
@@ -82,10 +86,14 @@ pub trait SiteKeeper: Drop {
     /// comes only where [`SiteKeeper::failures`] rose.
     fn reopen(self) -> Result<Self, Unopened<Self>>
         ensures open { (r : Record) → shown self ≡ Some r → result ≡ Ok self }
-        ensures opened { shown self ≡ None → IfOk result (λ keeper. (r : Record) × may self r × (shown keeper ≡ Some r)) }
-        ensures unopened { IfErr result (λ u. HindersOpening u.fault × StaysClosed (may self) (shown u.keeper) (may u.keeper)) }
-        ensures cause { IfErr result (λ u. u.fault ≡ KeepFault.Device → Rises (failed self) (failed u.keeper)) }
-        ensures count { MatchResult result (λ keeper. failed self ≤ failed keeper) (λ u. failed self ≤ failed u.keeper) }
+        ensures opened { shown self ≡ None → IfOk result (λ keeper. (r : Record) × may self r
+            × (shown keeper ≡ Some r)) }
+        ensures unopened { IfErr result (λ u. HindersOpening u.fault
+            × StaysClosed (may self) (shown u.keeper) (may u.keeper)) }
+        ensures cause { IfErr result (λ u. u.fault ≡ KeepFault.Device
+            → Rises (failed self) (failed u.keeper)) }
+        ensures count { MatchResult result (λ keeper. failed self ≤ failed keeper)
+            (λ u. failed self ≤ failed u.keeper) }
         ensures stored { stored self → MatchResult result stored (λ u. stored u.keeper) }
         ensures kind { reopens self result };
 

@@ -131,9 +131,12 @@ impl SiteKeeper for MemoryKeeper {
     }
 
     fn apply(&mut self, input: SiteInput) -> Result<Effects, KeepFault>
-        ensures open { (old : Record) → shown_in self.old ≡ Some old → Applies old input result (shown_in self.new) (MayIn self.new) }
-        ensures memory { (old : Record) → shown_in self.old ≡ Some old → result ≡ Err KeepFault.NoMemory → CopiesRecord old input }
-        ensures closed { shown_in self.old ≡ None → (result ≡ Err KeepFault.Closed) × (self.new ≡ self.old) }
+        ensures open { (old : Record) → shown_in self.old ≡ Some old
+            → Applies old input result (shown_in self.new) (MayIn self.new) }
+        ensures memory { (old : Record) → shown_in self.old ≡ Some old
+            → result ≡ Err KeepFault.NoMemory → CopiesRecord old input }
+        ensures closed { shown_in self.old ≡ None → (result ≡ Err KeepFault.Closed)
+            × (self.new ≡ self.old) }
         ensures cause { result ≡ Err KeepFault.Device → Rises self.old.failures self.new.failures }
         ensures count { self.old.failures ≤ self.new.failures }
         ensures stored { ⊤ → ⊤ }
@@ -149,7 +152,8 @@ impl SiteKeeper for MemoryKeeper {
     }
 
     fn stop(&mut self, input: SiteInput, keep: Keep) -> Result<(), AllocError>
-        ensures open { (old : Record) → shown_in self.old ≡ Some old → Stops old input keep (is_ok result) (shown_in self.new) (MayIn self.new) }
+        ensures open { (old : Record) → shown_in self.old ≡ Some old
+            → Stops old input keep (is_ok result) (shown_in self.new) (MayIn self.new) }
         ensures closed { shown_in self.old ≡ None → self.new ≡ self.old }
         ensures count { self.old.failures ≤ self.new.failures }
         ensures stored { ⊤ → ⊤ }
@@ -163,10 +167,14 @@ impl SiteKeeper for MemoryKeeper {
 
     fn reopen(self) -> Result<Self, Unopened<Self>>
         ensures open { (r : Record) → shown_in self ≡ Some r → result ≡ Ok self }
-        ensures opened { shown_in self ≡ None → IfOk result (λ keeper. (r : Record) × MayIn self r × (shown_in keeper ≡ Some r)) }
-        ensures unopened { IfErr result (λ u. HindersOpening u.fault × StaysClosed (MayIn self) (shown_in u.keeper) (MayIn u.keeper)) }
-        ensures cause { IfErr result (λ u. u.fault ≡ KeepFault.Device → Rises self.failures u.keeper.failures) }
-        ensures count { MatchResult result (λ keeper. self.failures ≤ keeper.failures) (λ u. self.failures ≤ u.keeper.failures) }
+        ensures opened { shown_in self ≡ None → IfOk result (λ keeper. (r : Record) × MayIn self r
+            × (shown_in keeper ≡ Some r)) }
+        ensures unopened { IfErr result (λ u. HindersOpening u.fault
+            × StaysClosed (MayIn self) (shown_in u.keeper) (MayIn u.keeper)) }
+        ensures cause { IfErr result (λ u. u.fault ≡ KeepFault.Device
+            → Rises self.failures u.keeper.failures) }
+        ensures count { MatchResult result (λ keeper. self.failures ≤ keeper.failures)
+            (λ u. self.failures ≤ u.keeper.failures) }
         ensures stored { ⊤ → MatchResult result (λ _. ⊤) (λ _. ⊤) }
         ensures kind { ReopensIn self result }
     {

@@ -47,8 +47,10 @@ fn check<C: Condition>(
     condition: &C,
 ) -> Result<(), CheckFault>
     requires all { AreAllSites (records_at sites.now) }
-    ensures ok { OnOk result ((s : ℕ) → s < length sites.now → C.holds condition.now (world_at sites.now) s) }
-    ensures fault { IfErr result (TellsUnmet number (length sites.now) (C.holds condition.now (world_at sites.now))) }
+    ensures ok { OnOk result ((s : ℕ) → s < length sites.now
+        → C.holds condition.now (world_at sites.now) s) }
+    ensures fault { IfErr result (TellsUnmet number (length sites.now)
+        (C.holds condition.now (world_at sites.now))) }
 {
     match least_unmet(alloc, sites, condition) {
         Ok(None) => Ok(()),
@@ -63,8 +65,10 @@ fn check<C: Condition>(
 /// Whether what is quarantined and announced has its reason, at each site.
 fn check_justified(alloc: Global, sites: &[&SiteState]) -> Result<(), CheckFault>
     requires all { AreAllSites (records_at sites.now) }
-    ensures ok { OnOk result ((s : ℕ) → s < length sites.now → IsJustifiedAt (world_at sites.now) s) }
-    ensures fault { IfErr result (TellsUnmet 3 (length sites.now) (IsJustifiedAt (world_at sites.now))) }
+    ensures ok { OnOk result ((s : ℕ) → s < length sites.now
+        → IsJustifiedAt (world_at sites.now) s) }
+    ensures fault { IfErr result (TellsUnmet 3 (length sites.now)
+        (IsJustifiedAt (world_at sites.now))) }
 {
     match all_reached(alloc, sites) {
         Ok(reached) => {

@@ -23,7 +23,7 @@ pub(crate) trait Condition {
     ) -> Result<bool, AllocError>
         requires all { AreAllSites (records_at sites.now) }
         requires here { state.now ≡ world_at sites.now site }
-        ensures { IfOk result (λ holds_here. IsTrue holds_here ↔ holds self.now (world_at sites.now) site) };
+        ensures { IfOk result (λ here. IsTrue here ↔ holds self.now (world_at sites.now) site) };
 }
 
 /// Two conditions together.
@@ -57,7 +57,8 @@ pub(crate) fn least_unmet<C: Condition>(
     condition: &C,
 ) -> Result<Option<SiteNo>, AllocError>
     requires all { AreAllSites (records_at sites.now) }
-    ensures { IfOk result (λ site. IsLeastUnmet (length sites.now) (C.holds condition.now (world_at sites.now)) site) }
+    ensures { IfOk result (λ site. IsLeastUnmet (length sites.now)
+        (C.holds condition.now (world_at sites.now)) site) }
 {
     for state in sites {
         let site = state.me();

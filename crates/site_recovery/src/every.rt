@@ -31,7 +31,8 @@ pub(crate) fn each_element<X, T: Test<X>>(
     elements: &[X],
     test: &T,
 ) -> Result<bool, AllocError>
-    ensures { IfOk result (λ all. IsTrue all ↔ ((x : _) → Contains elements.now x → T.holds test.now x)) }
+    ensures { IfOk result (λ all. IsTrue all
+        ↔ ((x : _) → Contains elements.now x → T.holds test.now x)) }
 {
     for element in elements {
         if !test.passes(alloc, element)? {
@@ -47,7 +48,8 @@ pub(crate) fn each_key<K: Ord, T: Test<K>>(
     set: &BTreeSet<K>,
     test: &T,
 ) -> Result<bool, AllocError>
-    ensures { IfOk result (λ all. IsTrue all ↔ ((k : _) → Contains set.now.keys k → T.holds test.now k)) }
+    ensures { IfOk result (λ all. IsTrue all
+        ↔ ((k : _) → Contains set.now.keys k → T.holds test.now k)) }
 {
     for key in set {
         if !test.passes(alloc, key)? {
@@ -63,7 +65,8 @@ pub(crate) fn each_entry<K: Key, V, T: EntryTest<K, V>>(
     map: &BTreeMap<K, V>,
     test: &T,
 ) -> Result<bool, AllocError>
-    ensures { IfOk result (λ all. IsTrue all ↔ ((k v : _) → Contains map.now.entries (k, v) → T.holds test.now k v)) }
+    ensures { IfOk result (λ all. IsTrue all
+        ↔ ((k v : _) → Contains map.now.entries (k, v) → T.holds test.now k v)) }
 {
     for (key, value) in map {
         if !test.passes(alloc, key, value)? {

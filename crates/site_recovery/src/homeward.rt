@@ -16,7 +16,9 @@ use std::alloc::{AllocError, Global};
 
 /// Whether the message has a row of the recall that goes to the site.
 fn has_row(sites: &[&SiteState], message: MsgId, site: SiteNo, recall: RecallId) -> bool
-    ensures { IsTrue result ↔ ((x : Row) × (row (world_at sites.now) message.site message.number ≡ Some x) × (x.dest ≡ site) × (x.recall ≡ recall)) }
+    ensures { IsTrue result ↔ ((x : Row)
+        × (row (world_at sites.now) message.site message.number ≡ Some x) × (x.dest ≡ site)
+        × (x.recall ≡ recall)) }
 {
     match row(sites, message.site, message.number) {
         Some(row) => row.dest == site && row.recall == recall,

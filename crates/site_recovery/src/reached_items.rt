@@ -21,7 +21,8 @@ use trace_core::{Captured, Pair, reach};
 
 /// No items at any of so many sites.
 fn nothing_held(alloc: Global, count: usize) -> Result<Vec<Quarantine>, AllocError>
-    ensures { IfOk result (λ reached. (length reached.items ≡ count) × ((r : Recall) (p : Pair) → HeldIn reached.items r p → ⊥)) }
+    ensures { IfOk result (λ reached. (length reached.items ≡ count)
+        × ((r : Recall) (p : Pair) → HeldIn reached.items r p → ⊥)) }
 {
     let mut reached = Vec::new(alloc);
     for _ in 0..count {
@@ -32,7 +33,8 @@ fn nothing_held(alloc: Global, count: usize) -> Result<Vec<Quarantine>, AllocErr
 
 /// Adds a pair under a recall, where its site is one of these.
 fn hold_pair(reached: &mut Vec<Quarantine>, recall: RecallId, pair: Pair) -> Result<(), AllocError>
-    ensures { OnOk result (Adds (λ r p. (r ≡ recall) × (p ≡ pair)) reached.old.items reached.new.items) }
+    ensures { OnOk result (Adds (λ r p. (r ≡ recall) × (p ≡ pair)) reached.old.items
+        reached.new.items) }
 {
     let place = pair.site.number() as usize;
     if place < reached.len() {
@@ -47,7 +49,8 @@ fn hold_pairs(
     recall: RecallId,
     pairs: Vec<Pair>,
 ) -> Result<(), AllocError>
-    ensures { OnOk result (Adds (λ r p. (r ≡ recall) × Contains pairs.items p) reached.old.items reached.new.items) }
+    ensures { OnOk result (Adds (λ r p. (r ≡ recall) × Contains pairs.items p) reached.old.items
+        reached.new.items) }
 {
     for pair in pairs {
         hold_pair(reached, recall, pair)?;
@@ -63,7 +66,8 @@ fn hold_reach(
     recall: RecallId,
     root: &Epc,
 ) -> Result<(), AllocError>
-    ensures { OnOk result (Adds (λ r p. (r ≡ recall) × Reaches (Related (sites_at captured.now)) (record { site = recall.site; item = root.now }) p) reached.old.items reached.new.items) }
+    ensures { OnOk result (Adds (λ r p. (r ≡ recall) × Reaches (Related (sites_at captured.now))
+        (record { site = recall.site; item = root.now }) p) reached.old.items reached.new.items) }
 {
     let root = Pair {
         site: recall.site,
@@ -81,7 +85,9 @@ fn hold_own(
     site: SiteNo,
     own: &BTreeMap<u64, Own>,
 ) -> Result<(), AllocError>
-    ensures { OnOk result (Adds (λ r p. (k : ℕ) × (o : Own) × Contains own.now.entries (k, o) × (r ≡ record { site = site; number = k }) × Reaches (Related (sites_at captured.now)) (record { site = site; item = o.root }) p) reached.old.items reached.new.items) }
+    ensures { OnOk result (Adds (λ r p. (k : ℕ) × (o : Own) × Contains own.now.entries (k, o)
+        × (r ≡ record { site = site; number = k }) × Reaches (Related (sites_at captured.now))
+        (record { site = site; item = o.root }) p) reached.old.items reached.new.items) }
 {
     for (number, own) in own {
         let recall = RecallId {
@@ -100,7 +106,8 @@ pub(crate) fn all_reached(
     sites: &[&SiteState],
 ) -> Result<Vec<Quarantine>, AllocError>
     requires all { AreAllSites (records_at sites.now) }
-    ensures { IfOk result (λ reached. (r : Recall) (p : Pair) → HeldIn reached.items r p ↔ (IsReachedBy (records_at sites.now) r p × (p.site < length sites.now))) }
+    ensures { IfOk result (λ reached. (r : Recall) (p : Pair) → HeldIn reached.items r p
+        ↔ (IsReachedBy (records_at sites.now) r p × (p.site < length sites.now))) }
 {
     let captured = captured(alloc, &*sites)?;
     let mut reached = nothing_held(alloc, sites.len())?;

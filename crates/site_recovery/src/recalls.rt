@@ -28,7 +28,8 @@ pub fn captured<'a>(
     alloc: Global,
     sites: &'a [&'a SiteState],
 ) -> Result<Vec<&'a Captured>, AllocError>
-    ensures { IfOk result (λ captured. sites_at captured.items ≡ captured_of (records_at sites.now)) }
+    ensures { IfOk result (λ captured. sites_at captured.items ≡ captured_of
+        (records_at sites.now)) }
 {
     let mut captured = Vec::new(alloc);
     for state in sites {
@@ -45,8 +46,11 @@ pub fn quarantined(
     recall: RecallId,
 ) -> Result<Vec<Pair>, AllocError>
     ensures list { IfOk result (λ pairs. pairs.items ≡ quarantined recall (records_at sites.now)) }
-    ensures ascending { AreInPlace (records_at sites.now) → IfOk result (λ pairs. IsStrictlyAscending pairs.items) }
-    ensures held { AreInPlace (records_at sites.now) → IfOk result (λ pairs. (p : Pair) → Contains pairs.items p ↔ Held (world_at sites.now) p.site recall p.item) }
+    ensures ascending { AreInPlace (records_at sites.now)
+        → IfOk result (λ pairs. IsStrictlyAscending pairs.items) }
+    ensures held { AreInPlace (records_at sites.now)
+        → IfOk result (λ pairs. (p : Pair) → Contains pairs.items p
+        ↔ Held (world_at sites.now) p.site recall p.item) }
 {
     let mut pairs = Vec::new(alloc);
     for state in sites {

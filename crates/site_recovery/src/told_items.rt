@@ -11,7 +11,8 @@ use std::alloc::{AllocError, Global};
 
 /// Adds the item of a row that goes to the site.
 fn hold_row(alloc: Global, told: &mut Quarantine, row: &Row, dest: SiteNo) -> Result<(), AllocError>
-    ensures { OnOk result ((r : Recall) (i : List ℕ) → IsTrue (held told.new r i) ↔ ((row.now ≡ record { dest = dest; recall = r; item = i }) ⊎ IsTrue (held told.old r i))) }
+    ensures { OnOk result ((r : Recall) (i : List ℕ) → IsTrue (held told.new r i)
+        ↔ ((row.now ≡ record { dest = dest; recall = r; item = i }) ⊎ IsTrue (held told.old r i))) }
 {
     if row.dest == dest {
         told.hold(row.recall, row.item.copy(alloc)?)?;
@@ -25,7 +26,8 @@ pub(crate) fn told_to(
     state: &SiteState,
     dest: SiteNo,
 ) -> Result<Quarantine, AllocError>
-    ensures { IfOk result (λ told. (r : Recall) (i : List ℕ) → IsTrue (held told r i) ↔ Tells state.now dest r i) }
+    ensures { IfOk result (λ told. (r : Recall) (i : List ℕ) → IsTrue (held told r i)
+        ↔ Tells state.now dest r i) }
 {
     let mut told = Quarantine::new(alloc);
     for (_, row) in state.outbox() {

@@ -21,10 +21,10 @@ use Rattle.world_core.specs.Worlds.{Up, WorldState, WorldFits}
 use Rattle.world_core.proofs.EndedRecalls.{ended_is_exact}
 use Rattle.wire_core.specs.declared.views.Log.{Log}
 use Rattle.wire_core.specs.Answers.{Holds}
-use Rattle.wire_core.specs.Fitting.{SitesFit}
+use Rattle.wire_core.specs.Fitting.{RecordsFit}
 use Rattle.wire_core.specs.Frames.{DeliversOneOf}
 use Rattle.wire_core.specs.Rule.{records, frames, world_up}
-use Rattle.wire_core.specs.Seats.{Line, HoldsAll, AreAllOf, Gathered}
+use Rattle.wire_core.specs.Seats.{Line, HoldsAll, AreAllLogs, Gathered}
 use Rattle.wire_core.proofs.Fitting.{one_step, fewer_fit}
 use Rattle.wire_core.proofs.Running.{run_fits}
 use Rattle.site_threads.specs.declared.jobs.Entry.{Entry}
@@ -56,10 +56,10 @@ put : (done rest : List Record) (x r : Record) → set (done ++ x ∷ rest) (len
 put [] rest x r = refl
 put (y ∷ ys) rest x r = ap (λ l. y ∷ l) (put ys rest x r)
 
-one_more : (done rest : List Record) (sent : List Frame) (log : Log) (r : Record) → SitesFit (done ++ log.last ∷ rest) sent → ((f : Frame) → Contains log.noted f → Contains sent f) → MayBe log r → SitesFit (done ++ r ∷ rest) sent
+one_more : (done rest : List Record) (sent : List Frame) (log : Log) (r : Record) → RecordsFit (done ++ log.last ∷ rest) sent → ((f : Frame) → Contains log.noted f → Contains sent f) → MayBe log r → RecordsFit (done ++ r ∷ rest) sent
 unfolding MayBe
-one_more done rest sent log r fit noted b = ⊎_elim (λ (e : r ≡ log.last). subst (λ x. SitesFit (done ++ x ∷ rest) sent) (sym e) fit)
-    (λ (s : (input : SiteInput) × IsAfter log.last input r × DeliversOneOf log.noted input). subst (λ l. SitesFit l sent) (put done rest log.last r)
+one_more done rest sent log r fit noted b = ⊎_elim (λ (e : r ≡ log.last). subst (λ x. RecordsFit (done ++ x ∷ rest) sent) (sym e) fit)
+    (λ (s : (input : SiteInput) × IsAfter log.last input r × DeliversOneOf log.noted input). subst (λ l. RecordsFit l sent) (put done rest log.last r)
     (one_step (done ++ log.last ∷ rest) sent (length done) log.last s.0 r fit (there done rest log.last) s.1 (λ f is. noted f (s.2 f is)))) b
 
 -- The logs of a seat that holds all sites, in order.
@@ -88,7 +88,7 @@ same_from a (suc n) (x ∷ xs) (y ∷ ys) is at known =
     ⊎_elim (λ (same : y ≡ e). let t = ap (λ (z : Log). z.site) same in absurd (omega (arith, h, sy, t))) (λ (d : Contains ys e). d) (contains_cases y e ys (known e (let i = c.1 in (suc c.0, omega arith, c.2))))) in
     λ i. sym first i ∷ rest i
 
-all_held : (count : ℕ) (held all : List Log) → map (λ (x : Log). x.site) held ≡ range_with_len 0 count → AreAllOf count held all → all ≡ held
+all_held : (count : ℕ) (held all : List Log) → map (λ (x : Log). x.site) held ≡ range_with_len 0 count → AreAllLogs count held all → all ≡ held
 all_held count held all at are = same_from 0 count all held are.sites at are.known
 
 holds_from : (k a n : ℕ) (ls : List Log) → map (λ (x : Log). x.site) ls ≡ range_with_len a n → k < n → Holds (a + k) ls
@@ -109,7 +109,7 @@ same_records : (rs : List Record) → world.records (record { sites = map (λ r.
 same_records [] = refl
 same_records (r ∷ rs) = ap (λ l. r ∷ l) (same_records rs)
 
-pub exact_when_fit : (rs : List Record) → SitesFit rs [] → EndsAreExact rs
+pub exact_when_fit : (rs : List Record) → RecordsFit rs [] → EndsAreExact rs
 exact_when_fit rs fit recall =
     let w : WorldState = record { sites = map (λ r. Up r) rs; sent = [] } in
     let same : world.records w ≡ rs = same_records rs in
@@ -125,15 +125,15 @@ Stands : {K G : Type 0} → (K → Option Record) → (K → Record → Type 0) 
 Stands shown may run r = Opens (shown_in shown run.turn.site.keeper) (may_in may run.turn.site.keeper) r
 
 module _ {K G : Type 0} (shown : K → Option Record) (may : K → Record → Type 0) where
-  any_fit : (sent : List Frame) (done : List Record) (runs : List (SiteRun K G)) (ls : List Log) (rs : List Record) → SitesFit (done ++ records ls) sent → ((e : Log) (f : Frame) → Contains ls e → Contains e.noted f → Contains sent f)
-      → AllZip (IsEnd shown may) runs ls → AllZip (Stands shown may) runs rs → SitesFit (done ++ rs) sent
+  any_fit : (sent : List Frame) (done : List Record) (runs : List (SiteRun K G)) (ls : List Log) (rs : List Record) → RecordsFit (done ++ records ls) sent → ((e : Log) (f : Frame) → Contains ls e → Contains e.noted f → Contains sent f)
+      → AllZip (IsEnd shown may) runs ls → AllZip (Stands shown may) runs rs → RecordsFit (done ++ rs) sent
   unfolding Stands
   any_fit sent done [] [] [] fit noted z s = fit
   any_fit sent done (e ∷ es) (log ∷ ls) (r ∷ rs) fit noted z s =
       let mine = may_be (shown_in shown e.turn.site.keeper) (may_in may e.turn.site.keeper) e.turn.site.start.value e.turn.site.entries.items log r z.0.holding s.0 in
       let next = one_more done (records ls) sent log r fit (λ f c. noted log f (0, omega arith, refl) c) mine in
-      let more = any_fit sent (done ++ r ∷ []) es ls rs (subst (λ l. SitesFit l sent) (sym (append_assoc done (r ∷ []) (records ls))) next) (λ x f c d. noted x f (let h = c.1 in (suc c.0, omega arith, c.2)) d) z.1 s.1 in
-      subst (λ l. SitesFit l sent) (append_assoc done (r ∷ []) rs) more
+      let more = any_fit sent (done ++ r ∷ []) es ls rs (subst (λ l. RecordsFit l sent) (sym (append_assoc done (r ∷ []) (records ls))) next) (λ x f c d. noted x f (let h = c.1 in (suc c.0, omega arith, c.2)) d) z.1 s.1 in
+      subst (λ l. RecordsFit l sent) (append_assoc done (r ∷ []) rs) more
   any_fit sent done [] (l ∷ ls) rs fit noted z s = absurd z
   any_fit sent done [] [] (r ∷ rs) fit noted z s = absurd s
   any_fit sent done (e ∷ es) [] rs fit noted z s = absurd z
@@ -153,7 +153,7 @@ module _ {K G : Type 0} (shown : K → Option Record) (may : K → Record → Ty
   all_same wire [] (r ∷ rs) all s = absurd s
   all_same wire (run ∷ runs) [] all s = absurd s
 
-  all_fit : (start : List Record) (runs : List (SiteRun K G)) (ls : List Log) (rs : List Record) → Gathered start ls → AllZip (IsEnd shown may) runs ls → AllZip (Stands shown may) runs rs → SitesFit rs []
+  all_fit : (start : List Record) (runs : List (SiteRun K G)) (ls : List Log) (rs : List Record) → Gathered start ls → AllZip (IsEnd shown may) runs ls → AllZip (Stands shown may) runs rs → RecordsFit rs []
   all_fit start runs ls rs all z s = fewer_fit rs (frames ls) [] (any_fit (frames ls) [] runs ls rs (run_fits start ls all.run) (λ e f c d. (all.noted e f c d).1) z s) (λ f c. let h = c.1 in absurd (omega arith))
 
   -- each site has one log
@@ -198,7 +198,7 @@ module _ {K G : Type 0} (shown : K → Option Record) (may : K → Record → Ty
     pub all_there : HoldsAll wire.sites logs
     all_there = holds_all wire.sites logs sites_are
 
-    pub keepers_fit : (everyone : List Log) → AreAllOf wire.sites logs everyone → Gathered wire.start everyone → AreOneWorld (map (λ (r : SiteRun K G). r.turn.site.start.value) runs) → (keepers : List K) → AllZip HasKeeper runs keepers → KeepersFit shown may keepers
+    pub keepers_fit : (everyone : List Log) → AreAllLogs wire.sites logs everyone → Gathered wire.start everyone → AreOneWorld (map (λ (r : SiteRun K G). r.turn.site.start.value) runs) → (keepers : List K) → AllZip HasKeeper runs keepers → KeepersFit shown may keepers
     keepers_fit everyone are gathered one keepers have rs stand =
         let e = ends_of wire runs all in
         let same = all_held wire.sites logs everyone sites_are are ∙ joined ∙ e.1 in
@@ -207,7 +207,7 @@ module _ {K G : Type 0} (shown : K → Option Record) (may : K → Record → Ty
         let again = one_again (map (λ (r : SiteRun K G). r.turn.site.start.value) runs) rs (all_same wire runs rs all stands) one in
         record { world = record { one = again; places = fit.places; fit = fit.fits }; exact = exact_when_fit rs fit }
 
-    pub keepers_lead : (everyone : List Log) → AreAllOf wire.sites logs everyone → Gathered wire.start everyone → (keepers : List K) → AllZip HasKeeper runs keepers → (rs : List Record) → AllShow shown keepers rs → LeadsTo wire.start rs
+    pub keepers_lead : (everyone : List Log) → AreAllLogs wire.sites logs everyone → Gathered wire.start everyone → (keepers : List K) → AllZip HasKeeper runs keepers → (rs : List Record) → AllShow shown keepers rs → LeadsTo wire.start rs
     keepers_lead everyone are gathered keepers have rs show =
         let e = ends_of wire runs all in
         let same = all_held wire.sites logs everyone sites_are are ∙ joined ∙ e.1 in

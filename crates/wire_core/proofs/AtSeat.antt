@@ -18,8 +18,8 @@ use Rattle.wire_core.specs.Changes.{Hands, Claimed, Published, Noted, Released, 
 use Rattle.wire_core.proofs.Boxes.{claims, notes_one, releases, publishes}
 use Rattle.wire_core.proofs.Marking.{marks_one, cuts}
 
-abbrev pub Held : List (ℕ × Maybe Frame) → Type 0
-Held l = List (ℕ × Maybe Frame)
+abbrev pub Words : List (ℕ × Maybe Frame) → Type 0
+Words l = List (ℕ × Maybe Frame)
 
 module _ {A : Type 0} (value : A → Record) (key : List A) (slots id word : ℕ) (me : Hands) where
   abbrev rs : List Record

@@ -10,7 +10,7 @@ use Rattle.site_core.specs.Records.{Record}
 use Rattle.frame_core.specs.declared.frames.Frame.{Frame}
 use Rattle.wire_core.specs.declared.views.Log.{Log}
 use Rattle.wire_core.specs.declared.views.View.{View}
-use Rattle.wire_core.specs.Fitting.{SitesFit}
+use Rattle.wire_core.specs.Fitting.{RecordsFit}
 use Rattle.wire_core.specs.Mailboxes.{empty, Mailbox, word_of, slot_of}
 use Rattle.wire_core.specs.Rule.{AreAnswered, Ruled, Knows, records, opening_log, logs_from, first_view, world_up}
 use Rattle.wire_core.proofs.Lists.{within, at_Contains, Contains_at}
@@ -41,7 +41,7 @@ count (r ∷ rs) site = ap suc (count rs (site + 1))
 abbrev pub vacant : ℕ → List (Maybe Frame)
 vacant slots = replicate slots None
 
-module _ (rs : List Record) (few : length rs ≤ MAX_SITES) (fit : SitesFit rs []) where
+module _ (rs : List Record) (few : length rs ≤ MAX_SITES) (fit : RecordsFit rs []) where
   abbrev logs : List Log
   logs = logs_from 0 rs
 
@@ -95,7 +95,7 @@ module _ (rs : List Record) (few : length rs ≤ MAX_SITES) (fit : SitesFit rs [
     )
 
 -- the key keeps the opening records as snapshots
-pub begins_as : {S R : Type 0} (value : S → Record) (key : List S) (given : List R) (now : R → Record) (words : List ℕ) → map value key ≡ map now given → length given ≤ MAX_SITES → SitesFit (map now given) [] → words ≡ replicate (16 + 16 * length given) 0
+pub begins_as : {S R : Type 0} (value : S → Record) (key : List S) (given : List R) (now : R → Record) (words : List ℕ) → map value key ≡ map now given → length given ≤ MAX_SITES → RecordsFit (map now given) [] → words ≡ replicate (16 + 16 * length given) 0
     → Ruled (map value key) (opening words (vacant (16 * length given)) (first_view (map value key)))
 begins_as value key given now words is few fit zeros =
     let n = length-map given now in

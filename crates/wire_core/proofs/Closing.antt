@@ -10,7 +10,7 @@ use Rattle.site_core.specs.Records.{Record}
 use Rattle.wire_core.specs.declared.views.Log.{Log}
 use Rattle.wire_core.specs.declared.views.View.{View}
 use Rattle.wire_core.specs.Rule.{Ruled}
-use Rattle.wire_core.specs.Seats.{HoldsAll, AreAllOf, Gathered}
+use Rattle.wire_core.specs.Seats.{HoldsAll, AreAllLogs, Gathered}
 use Rattle.wire_core.proofs.Lists.{there, within, one_there, at_Contains}
 use Rattle.wire_core.proofs.Boxes.{Table}
 
@@ -51,7 +51,7 @@ module _ (rs : List Record) (id : ℕ) (v : View) (s : Table) (h : Ruled rs s) (
       let k = (h.4.known id v at mine.0).0 mine.1 in
       subst (Contains v.sites) (one_there h.0 p.0 mine.0 e (ap (get_elem? h.0) (sym mine.2) ∙ k.1) p.1) mine.1
 
-  pub gathered : (logs : List Log) × AreAllOf (length rs) v.sites logs × Gathered rs logs
+  pub gathered : (logs : List Log) × AreAllLogs (length rs) v.sites logs × Gathered rs logs
   gathered = (
     h.0,
     record { sites = numbered 0 (length rs) h.0 h.2 (λ k e there. h.4.own k e there ∙ (let z : k ≡ 0 + k = omega arith in z)); known = known },
@@ -61,12 +61,12 @@ module _ (rs : List Record) (id : ℕ) (v : View) (s : Table) (h : Ruled rs s) (
     },
   )
 
-at_once : (rs : List Record) (id : ℕ) (v : View) (words : List ℕ) (slots : List _) → Final (Seen (Ruled rs) id v) words slots → HoldsAll (length rs) v.sites → (logs : List Log) × AreAllOf (length rs) v.sites logs × Gathered rs logs
+at_once : (rs : List Record) (id : ℕ) (v : View) (words : List ℕ) (slots : List _) → Final (Seen (Ruled rs) id v) words slots → HoldsAll (length rs) v.sites → (logs : List Log) × AreAllLogs (length rs) v.sites logs × Gathered rs logs
 at_once rs id v words slots last all = gathered rs id v last.0 last.1.0 last.1.1 all
 
 -- the key keeps the opening records as snapshots
 pub gathered_at : {S : Type 0} (value : S → Record) (key : List S) (id : ℕ) (v : View) (words : List ℕ) (slots : List _) → Final (Seen (Ruled (map value key)) id v) words slots → HoldsAll (length key) v.sites
-    → (logs : List Log) × AreAllOf (length key) v.sites logs × Gathered (map value key) logs
+    → (logs : List Log) × AreAllLogs (length key) v.sites logs × Gathered (map value key) logs
 gathered_at value key id v words slots last all =
     let n = length-map key value in
-    subst (λ n. (logs : List Log) × AreAllOf n v.sites logs × Gathered (map value key) logs) n (at_once (map value key) id v words slots last (subst (λ n. HoldsAll n v.sites) (sym n) all))
+    subst (λ n. (logs : List Log) × AreAllLogs n v.sites logs × Gathered (map value key) logs) n (at_once (map value key) id v words slots last (subst (λ n. HoldsAll n v.sites) (sym n) all))

@@ -14,9 +14,9 @@ use Rattle.world_core.specs.Turns.{addressee}
 use Rattle.wire_core.specs.declared.views.Log.{Log}
 use Rattle.wire_core.specs.Answers.{Holds, MayPost, MayTake, MayMark}
 use Rattle.wire_core.specs.Changes.{pick, on, asks, offers, sends, receives, marks, below, from}
-use Rattle.wire_core.specs.Playing.{MayPlay, PlaysAt, SameSites, MayBePosted, MayGoOn, IsNext, GoesOn, HasNoted, Leaves}
+use Rattle.wire_core.specs.Playing.{MayPlay, PlaysAt, SameSites, MayBePosted, MayGoOn, IsNext, PlaysOn, HasNoted, Leaves}
 use Rattle.wire_core.specs.Rule.{logs_from}
-use Rattle.wire_core.specs.Seats.{Line, Held, IsSeatOf, HoldsAll}
+use Rattle.wire_core.specs.Seats.{Line, SeatView, IsSeatOf, HoldsAll}
 use Rattle.wire_core.specs.Standing.{StandsAs}
 use Rattle.wire_core.proofs.Changes.{same_sites}
 use Rattle.wire_core.proofs.Lists.{there, Contains_at, Contains_map, map_Contains, index_is}
@@ -26,7 +26,7 @@ pub emitted_at : (r : Record) (place : ℕ) (f : Frame) → frame_at r.engagemen
 emitted_at r zero f e = let n : None ≡ Some f = e in cc
 emitted_at r (suc place) f e = (place, slice_get_within (emittable r.engagement) place f e, get_or_from_slice_get (emittable r.engagement) place f f e)
 
-pub may_post : (w : Line) (s : Held) (r : Record) (f : Frame) → MayPlay w s r → MayBePosted r f → MayPost w.sites f s.logs
+pub may_post : (w : Line) (s : SeatView) (r : Record) (f : Frame) → MayPlay w s r → MayBePosted r f → MayPost w.sites f s.logs
 may_post w s r f p b = record {
   log = p.stands.log;
   held = p.stands.held;
@@ -36,7 +36,7 @@ may_post w s r f p b = record {
   there = subst (λ k. addressee f < k) (sym p.two) b.there;
 }
 
-pub may_take : (w : Line) (s : Held) (r : Record) (other : ℕ) → MayPlay w s r → other ≢ r.engagement.me → other < 2 → MayTake w.sites r.engagement.me other s.logs
+pub may_take : (w : Line) (s : SeatView) (r : Record) (other : ℕ) → MayPlay w s r → other ≢ r.engagement.me → other < 2 → MayTake w.sites r.engagement.me other s.logs
 may_take w s r other p apart small = record { held = (p.stands.log, p.stands.held, p.stands.site); apart = apart; there = subst (λ k. other < k) (sym p.two) small }
 
 pub leaves_itself : (logs : List Log) → Leaves logs logs
@@ -57,7 +57,7 @@ left_by_asking logs new site other is = subst (Leaves logs) (sym is) record { si
 pub leaves_both : (old mid new : List Log) → Leaves old mid → Leaves mid new → Leaves old new
 leaves_both old mid new l m = record { sites = m.sites ∙ l.sites; stand = λ r n s. m.stand r n (l.stand r n s) }
 
-pub still_may : (w : Line) (s t : Held) (r : Record) → MayPlay w s r → IsSeatOf w t → Leaves s.logs t.logs → MayPlay w t r
+pub still_may : (w : Line) (s t : SeatView) (r : Record) → MayPlay w s r → IsSeatOf w t → Leaves s.logs t.logs → MayPlay w t r
 still_may w s t r p seat l = record { seat = seat; two = p.two; count = p.count; stands = l.stand r p.count p.stands; room = p.room }
 
 pub still_holds : (old new : List Log) (site : ℕ) → Leaves old new → Holds site old → Holds site new
@@ -78,7 +78,7 @@ has_noted logs new site other f is = subst (HasNoted site f) (sym is) (λ e c sa
         by_site true eq is = subst (λ (z : Log). Contains z.noted f) is (Contains-push x.noted f)
         by_site false eq is = absurd (true≢false (sym (eq-eqb x.site site (ap (λ (z : Log). z.site) is ∙ same)) ∙ eq))
 
-pub may_mark : (w : Line) (s : Held) (r next : Record) (input : SiteInput) → MayGoOn w s r input → IsNext r input next → MayMark input next s.logs
+pub may_mark : (w : Line) (s : SeatView) (r next : Record) (input : SiteInput) → MayGoOn w s r input → IsNext r input next → MayMark input next s.logs
 may_mark w s r next input may is = record {
   log = may.stands.log;
   held = may.stands.held;
@@ -93,11 +93,11 @@ pub counted : (logs : List Log) (r : Record) (n : ℕ) → StandsAs logs r n →
 counted logs r n s = record { log = s.log; held = s.held; site = s.site; last = s.last; marked = let m = s.marked in omega arith }
 
 -- a site that stays, that took a frame, and that was marked
-pub goes_nowhere : (logs : List Log) (r : Record) → GoesOn logs logs r r
+pub goes_nowhere : (logs : List Log) (r : Record) → PlaysOn logs logs r r
 goes_nowhere logs r = record { sites = refl; same = refl; stands = counted logs r; others = λ q n other s. s }
 
-pub goes_on : (old new : List Log) (r next : Record) (input : SiteInput) → next.engagement.me ≡ r.engagement.me → new ≡ on next.engagement.me (marks input next) old → GoesOn old new r next
-goes_on old new r next input same is = subst (λ l. GoesOn old l r next) (sym is) record {
+pub goes_on : (old new : List Log) (r next : Record) (input : SiteInput) → next.engagement.me ≡ r.engagement.me → new ≡ on next.engagement.me (marks input next) old → PlaysOn old new r next
+goes_on old new r next input same is = subst (λ l. PlaysOn old l r next) (sym is) record {
   sites = same_sites next.engagement.me (marks input next) (λ e. refl) old;
   same = same;
   stands = λ n s. marks_put_the_record old input next r n s (sym same);
@@ -105,48 +105,48 @@ goes_on old new r next input same is = subst (λ l. GoesOn old l r next) (sym is
 }
 
 -- the frame that was taken is noted
-pub may_go_on : (w : Line) (s t : Held) (r : Record) (f : Frame) → MayPlay w s r → IsSeatOf w t → Leaves s.logs t.logs → HasNoted r.engagement.me f t.logs → MayGoOn w t r (Deliver f)
+pub may_go_on : (w : Line) (s t : SeatView) (r : Record) (f : Frame) → MayPlay w s r → IsSeatOf w t → Leaves s.logs t.logs → HasNoted r.engagement.me f t.logs → MayGoOn w t r (Deliver f)
 may_go_on w s t r f p seat l noted =
     let stands = l.stand r p.count p.stands in
     record { seat = seat; count = p.count; stands = stands; noted = λ g same. let eq : f ≡ g = cc in subst (Contains stands.log.noted) eq (noted stands.log stands.held stands.site); room = p.room }
 
 -- and then the step is done
-pub took : (old mid new : List Log) (r next : Record) → Leaves old mid → GoesOn mid new r next → GoesOn old new r next
+pub took : (old mid new : List Log) (r next : Record) → Leaves old mid → PlaysOn mid new r next → PlaysOn old new r next
 took old mid new r next l g = record { sites = g.sites ∙ l.sites; same = g.same; stands = λ n s. g.stands n (l.stand r n s); others = λ q n other s. g.others q n other (l.stand q n s) }
 
-pub stays : (old new : List Log) (r : Record) → Leaves old new → GoesOn old new r r
+pub stays : (old new : List Log) (r : Record) → Leaves old new → PlaysOn old new r r
 stays old new r l = took old new new r r l (goes_nowhere new r)
 
 -- One site after another.
 
-pub may_play : (n : ℕ) (w : Line) (s : Held) (r : Record) → PlaysAt n w s r → n < 2 ^ 62 → MayPlay w s r
+pub may_play : (n : ℕ) (w : Line) (s : SeatView) (r : Record) → PlaysAt n w s r → n < 2 ^ 62 → MayPlay w s r
 may_play n w s r p small = record { seat = p.seat; two = p.two; count = n; stands = p.stands; room = small }
 
-pub still_plays : (n : ℕ) (w : Line) (s t : Held) (r : Record) → PlaysAt n w s r → IsSeatOf w t → Leaves s.logs t.logs → PlaysAt n w t r
+pub still_plays : (n : ℕ) (w : Line) (s t : SeatView) (r : Record) → PlaysAt n w s r → IsSeatOf w t → Leaves s.logs t.logs → PlaysAt n w t r
 still_plays n w s t r p seat l = record { seat = seat; two = p.two; stands = l.stand r n p.stands }
 
-pub plays_on : (n : ℕ) (w : Line) (s t : Held) (r next : Record) → PlaysAt n w s r → IsSeatOf w t → GoesOn s.logs t.logs r next → PlaysAt (n + 1) w t next
+pub plays_on : (n : ℕ) (w : Line) (s t : SeatView) (r next : Record) → PlaysAt n w s r → IsSeatOf w t → PlaysOn s.logs t.logs r next → PlaysAt (n + 1) w t next
 plays_on n w s t r next p seat g = record { seat = seat; two = p.two; stands = g.stands n p.stands }
 
-pub other_plays : (n : ℕ) (w : Line) (s t : Held) (r q next : Record) → PlaysAt n w s r → r.engagement.me ≢ q.engagement.me → IsSeatOf w t → GoesOn s.logs t.logs q next → PlaysAt n w t r
+pub other_plays : (n : ℕ) (w : Line) (s t : SeatView) (r q next : Record) → PlaysAt n w s r → r.engagement.me ≢ q.engagement.me → IsSeatOf w t → PlaysOn s.logs t.logs q next → PlaysAt n w t r
 other_plays n w s t r q next p apart seat g = record { seat = seat; two = p.two; stands = g.others r n apart p.stands }
 
 -- at the start
-pub first_plays : (w : Line) (s : Held) (a b : Record) → IsSeatOf w s → w.sites ≡ 2 → s.logs ≡ logs_from 0 (a ∷ b ∷ []) → a.engagement.me ≡ 0 → PlaysAt 0 w s a
+pub first_plays : (w : Line) (s : SeatView) (a b : Record) → IsSeatOf w s → w.sites ≡ 2 → s.logs ≡ logs_from 0 (a ∷ b ∷ []) → a.engagement.me ≡ 0 → PlaysAt 0 w s a
 first_plays w s a b seat two is me = record { seat = seat; two = two; stands = subst (λ l. StandsAs l a 0) (sym is) record { log = _; held = (0, omega arith, refl); site = sym me; last = refl; marked = omega arith } }
 
-pub second_plays : (w : Line) (s : Held) (a b : Record) → IsSeatOf w s → w.sites ≡ 2 → s.logs ≡ logs_from 0 (a ∷ b ∷ []) → b.engagement.me ≡ 1 → PlaysAt 0 w s b
+pub second_plays : (w : Line) (s : SeatView) (a b : Record) → IsSeatOf w s → w.sites ≡ 2 → s.logs ≡ logs_from 0 (a ∷ b ∷ []) → b.engagement.me ≡ 1 → PlaysAt 0 w s b
 second_plays w s a b seat two is me = record { seat = seat; two = two; stands = subst (λ l. StandsAs l b 0) (sym is) record { log = _; held = (1, omega arith, refl); site = sym me; last = refl; marked = omega arith } }
 
 -- once the seat is split between them
-pub first_alone : (w : Line) (t : Held) (a b : Record) (l : List Log) (cut : ℕ) → IsSeatOf w t → w.sites ≡ 2 → l ≡ logs_from 0 (a ∷ b ∷ []) → cut ≡ 1 → t.logs ≡ below cut l → a.engagement.me ≡ 0 → PlaysAt 0 w t a
+pub first_alone : (w : Line) (t : SeatView) (a b : Record) (l : List Log) (cut : ℕ) → IsSeatOf w t → w.sites ≡ 2 → l ≡ logs_from 0 (a ∷ b ∷ []) → cut ≡ 1 → t.logs ≡ below cut l → a.engagement.me ≡ 0 → PlaysAt 0 w t a
 first_alone w t a b l cut seat two all one is me = record {
   seat = seat;
   two = two;
   stands = subst (λ x. StandsAs x a 0) (sym (is ∙ (λ k. below (one k) (all k)))) record { log = _; held = (0, omega arith, refl); site = sym me; last = refl; marked = omega arith };
 }
 
-pub second_alone : (w : Line) (t : Held) (a b : Record) (l : List Log) (cut : ℕ) → IsSeatOf w t → w.sites ≡ 2 → l ≡ logs_from 0 (a ∷ b ∷ []) → cut ≡ 1 → t.logs ≡ from cut l → b.engagement.me ≡ 1 → PlaysAt 0 w t b
+pub second_alone : (w : Line) (t : SeatView) (a b : Record) (l : List Log) (cut : ℕ) → IsSeatOf w t → w.sites ≡ 2 → l ≡ logs_from 0 (a ∷ b ∷ []) → cut ≡ 1 → t.logs ≡ from cut l → b.engagement.me ≡ 1 → PlaysAt 0 w t b
 second_alone w t a b l cut seat two all one is me = record {
   seat = seat;
   two = two;

@@ -31,7 +31,7 @@ use Rattle.world_core.proofs.Fitting.{runs_keep_the_fit}
 use Rattle.world_core.proofs.KeptSteps.{frames_stay, sites_stand}
 use Rattle.world_core.proofs.Running.{run_more}
 use Rattle.wire_core.specs.declared.views.Log.{Log}
-use Rattle.wire_core.specs.Fitting.{SitesFit}
+use Rattle.wire_core.specs.Fitting.{RecordsFit}
 use Rattle.wire_core.specs.Frames.{sender}
 use Rattle.wire_core.specs.Laws.{RunsFit, RunsStand}
 use Rattle.wire_core.specs.Rule.{AreAnswered, Happened, IsRun, Stands, frames, records, sent_from, world_up}
@@ -49,10 +49,10 @@ up_records : (rs : List Record) → map record_of (map (λ (r : Record). Up r) r
 up_records [] = refl
 up_records (r ∷ rs) = ap (λ (l : List Record). r ∷ l) (up_records rs)
 
-pub up_fits : (rs : List Record) (sent : List Frame) → SitesFit rs sent → WorldFits (world_up rs sent)
+pub up_fits : (rs : List Record) (sent : List Frame) → RecordsFit rs sent → WorldFits (world_up rs sent)
 up_fits rs sent fit = record { places = subst AreInPlace (sym (up_records rs)) fit.places; fits = subst (λ (l : List Record). Fits (world_of l) sent) (sym (up_records rs)) fit.fits }
 
-fits_up : (rs : List Record) (sent : List Frame) → WorldFits (world_up rs sent) → SitesFit rs sent
+fits_up : (rs : List Record) (sent : List Frame) → WorldFits (world_up rs sent) → RecordsFit rs sent
 fits_up rs sent fit = record { places = subst AreInPlace (up_records rs) fit.places; fits = subst (λ (l : List Record). Fits (world_of l) sent) (up_records rs) fit.fits }
 
 -- What was handed.
@@ -161,7 +161,7 @@ module _ (start : List Record) (logs : List Log) (R : IsRun start logs) where
   run_world = runs_keep_the_fit (world_up start []) (world_up (records logs) R.sent) R.events R.answers (up_fits start [] R.begun) R.runs
 
   -- what was consistent at the start is consistent now
-  pub run_fits : SitesFit (records logs) (frames logs)
+  pub run_fits : RecordsFit (records logs) (frames logs)
   run_fits = fewer_fit (records logs) R.sent (frames logs) (fits_up (records logs) R.sent run_world) run_has
 
   -- each site stands as its inputs

@@ -7,6 +7,6 @@ use Rattle.site_recovery.specs.Laws.{AreInPlace}
 use Rattle.site_recovery.specs.Looks.{world_of}
 
 -- the records of all sites, each in its place, are consistent with all frames sent
-pub record SitesFit (records : List Record) (sent : List Frame) : Type 0 where
+pub record RecordsFit (records : List Record) (sent : List Frame) : Type 0 where
   pub places : AreInPlace records
   pub fits : Fits (world_of records) sent

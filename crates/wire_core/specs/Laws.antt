@@ -14,7 +14,7 @@ use Rattle.wire_core.specs.declared.views.Log.{Log}
 use Rattle.wire_core.specs.declared.views.View.{View}
 use Rattle.wire_core.specs.Between.{HoldsBetween, IsKnown}
 use Rattle.wire_core.specs.Changes.{AllBut, Level, OneMore, Sent as WasSent}
-use Rattle.wire_core.specs.Fitting.{SitesFit}
+use Rattle.wire_core.specs.Fitting.{RecordsFit}
 use Rattle.wire_core.specs.Frames.{DeliversOneOf, sender}
 use Rattle.wire_core.specs.Mailboxes.{slot_of, word_of}
 use Rattle.wire_core.specs.Rule.{IsRun, Ruled, Stands, frames, records}
@@ -23,23 +23,23 @@ use Rattle.wire_core.specs.Rule.{IsRun, Ruled, Stands, frames, records}
 abbrev pub MarksKeepTheFit : Type 0
 MarksKeepTheFit =
     (records : List Record) (sent : List Frame) (s : ℕ) (input : SiteInput) (next : Record)
-    → SitesFit records sent → s < length records → DeliversOneOf sent input → IsAfter (world_of records s) input next → SitesFit (set records s next) sent
+    → RecordsFit records sent → s < length records → DeliversOneOf sent input → IsAfter (world_of records s) input next → RecordsFit (set records s next) sent
 
 -- A post: a frame that a site's record makes emittable is sent.
 abbrev pub PostsKeepTheFit : Type 0
 PostsKeepTheFit =
     (records : List Record) (sent : List Frame) (s : ℕ) (f : Frame)
-    → SitesFit records sent → s < length records → Contains (emittable (world_of records s).engagement) f → SitesFit records (sent ++ f ∷ [])
+    → RecordsFit records sent → s < length records → Contains (emittable (world_of records s).engagement) f → RecordsFit records (sent ++ f ∷ [])
 
 -- Frames count as a set: in which order and how often they were sent is not said, and fewer fit too.
-abbrev pub FewerFramesFit : Type 0
-FewerFramesFit =
+abbrev pub FewerSentFit : Type 0
+FewerSentFit =
     (records : List Record) (sent fewer : List Frame)
-    → SitesFit records sent → ((f : Frame) → Contains fewer f → Contains sent f) → SitesFit records fewer
+    → RecordsFit records sent → ((f : Frame) → Contains fewer f → Contains sent f) → RecordsFit records fewer
 
 -- Where the logs are a run of the world, the records last marked are consistent with all frames sent.
 abbrev pub RunsFit : Type 0
-RunsFit = (start : List Record) (logs : List Log) → IsRun start logs → SitesFit (records logs) (frames logs)
+RunsFit = (start : List Record) (logs : List Log) → IsRun start logs → RecordsFit (records logs) (frames logs)
 
 -- There each record last marked stands as the steps marked.
 abbrev pub RunsStand : Type 0

@@ -8,11 +8,11 @@ use Rattle.keeper_core.specs.Keeping.{IsAfter}
 use Rattle.world_core.specs.Turns.{addressee}
 use Rattle.wire_core.specs.declared.views.Log.{Log}
 use Rattle.wire_core.specs.Frames.{sender, DeliversOneOf}
-use Rattle.wire_core.specs.Seats.{Line, Held, IsSeatOf}
+use Rattle.wire_core.specs.Seats.{Line, SeatView, IsSeatOf}
 use Rattle.wire_core.specs.Standing.{StandsAs}
 
 -- the seat is of the wire of two sites, and the record is the one last marked of a site that it holds
-pub record MayPlay (w : Line) (s : Held) (r : Record) : Type 0 where
+pub record MayPlay (w : Line) (s : SeatView) (r : Record) : Type 0 where
   pub seat : IsSeatOf w s
   pub two : w.sites ≡ 2
   pub count : ℕ
@@ -20,7 +20,7 @@ pub record MayPlay (w : Line) (s : Held) (r : Record) : Type 0 where
   pub room : count < 2 ^ 62
 
 -- the same, with the number of marks
-pub record PlaysAt (count : ℕ) (w : Line) (s : Held) (r : Record) : Type 0 where
+pub record PlaysAt (count : ℕ) (w : Line) (s : SeatView) (r : Record) : Type 0 where
   pub seat : IsSeatOf w s
   pub two : w.sites ≡ 2
   pub stands : StandsAs s.logs r count
@@ -50,7 +50,7 @@ pub record IsNext (r : Record) (input : SiteInput) (next : Record) : Type 0 wher
   pub same : next.engagement.me ≡ r.engagement.me
 
 -- the record is the one last marked of a site that the seat holds, and that has noted the frame which the input delivers
-pub record MayGoOn (w : Line) (s : Held) (r : Record) (input : SiteInput) : Type 0 where
+pub record MayGoOn (w : Line) (s : SeatView) (r : Record) (input : SiteInput) : Type 0 where
   pub seat : IsSeatOf w s
   pub count : ℕ
   pub stands : StandsAs s.logs r count
@@ -58,7 +58,7 @@ pub record MayGoOn (w : Line) (s : Held) (r : Record) (input : SiteInput) : Type
   pub room : count < 2 ^ 62
 
 -- a site continues from one record to the next: the same sites, and the other records stand
-pub record GoesOn (old new : List Log) (r next : Record) : Type 0 where
+pub record PlaysOn (old new : List Log) (r next : Record) : Type 0 where
   pub sites : SameSites old new
   pub same : next.engagement.me ≡ r.engagement.me
   pub stands : (n : ℕ) → StandsAs old r n → StandsAs new next (n + 1)

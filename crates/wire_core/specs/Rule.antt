@@ -19,7 +19,7 @@ use Rattle.world_core.specs.Worlds.{Up, WorldState}
 use Rattle.wire_core.specs.declared.views.Doing.TheVariants.{Nothing}
 use Rattle.wire_core.specs.declared.views.Log.{Log}
 use Rattle.wire_core.specs.declared.views.View.{View}
-use Rattle.wire_core.specs.Fitting.{SitesFit}
+use Rattle.wire_core.specs.Fitting.{RecordsFit}
 use Rattle.wire_core.specs.Frames.{sender}
 use Rattle.wire_core.specs.Mailboxes.{Mailbox}
 
@@ -69,7 +69,7 @@ AreAnswered handed inputs = ⊥
 -- the start, which are consistent, with no frame sent, to the records last marked. What the run handed to a site are the
 -- inputs marked of it, and the frames that the run sent from a site are those that it sent through the wire, in order.
 pub record IsRun (start : List Record) (logs : List Log) : Type 0 where
-  pub begun : SitesFit start []
+  pub begun : RecordsFit start []
   pub openings : map (λ e. e.opening) logs ≡ start
   pub events : List WorldEvent
   pub answers : List Answer

@@ -21,15 +21,15 @@ pub record Line : Type 0 where
   pub start : List Record
 
 -- a seat: the wire that it is of, and what is known of the sites that it holds
-pub record Held : Type 0 where
+pub record SeatView : Type 0 where
   pub table : TableId
   pub logs : List Log
 
 abbrev pub coded_line : Coded Line
 coded_line = code_by (TableId × (ℕ × List Record)) (coded× table_id_coded (coded× coded_ℕ (coded_list coded_record))) (λ w. (w.table, (w.sites, w.start))) (λ p. record { table = p.0; sites = p.1.0; start = p.1.1 }) (λ _. refl)
 
-abbrev pub coded_held : Coded Held
-coded_held = code_by (TableId × List Log) (coded× table_id_coded (coded_list coded_log)) (λ s. (s.table, s.logs)) (λ p. record { table = p.0; logs = p.1 }) (λ _. refl)
+abbrev pub coded_seat : Coded SeatView
+coded_seat = code_by (TableId × List Log) (coded× table_id_coded (coded_list coded_log)) (λ s. (s.table, s.logs)) (λ p. record { table = p.0; logs = p.1 }) (λ _. refl)
 
 -- there is a word and a slot for each mailbox, of 2 sites to the most that there can be
 pub record IsLaidOut (table : TableId) (sites : ℕ) : Type 0 where
@@ -45,7 +45,7 @@ pub record IsIdle (table : TableId) (me : Hands) : Type 0 where
   pub placed : All (λ e. MAX_SITES * e.site + MAX_SITES ≤ table.slots) me.0.sites
 
 -- the seat was made with the wire, or comes from one that was
-abbrev pub IsSeatOf : Line → Held → Type 0
+abbrev pub IsSeatOf : Line → SeatView → Type 0
 IsSeatOf w s = s.table ≡ w.table
 
 -- all of so many sites are among these
@@ -53,7 +53,7 @@ abbrev pub HoldsAll : ℕ → List Log → Type 0
 HoldsAll count held = (site : ℕ) → site < count → Holds site held
 
 -- these are the same, one of each of so many sites, in the order of their numbers
-pub record AreAllOf (count : ℕ) (held all : List Log) : Type 0 where
+pub record AreAllLogs (count : ℕ) (held all : List Log) : Type 0 where
   pub sites : map (λ e. e.site) all ≡ range_with_len 0 count
   pub known : (e : Log) → Contains all e → Contains held e
 

@@ -1,7 +1,7 @@
 //! Laws of the rule. Each is a function with an empty body whose contract is the law.
 
 ghost use Rattle.wire_core.specs.Standing.{OpeningRecordsStand, SplitsMarkNothing, JoinsMarkNothing, SentFramesMarkNothing, OfferedFramesMarkNothing, NotedFramesMarkNothing, AskedSitesMarkNothing, MarksPutTheRecord, MarksLeaveOtherSites};
-ghost use Rattle.wire_core.specs.Laws.{CallsTellTheMailbox, MarksKeepTheFit, PostsKeepTheFit, FewerFramesFit, RuleHoldsBetween, RunsFit, RunsStand};
+ghost use Rattle.wire_core.specs.Laws.{CallsTellTheMailbox, MarksKeepTheFit, PostsKeepTheFit, FewerSentFit, RuleHoldsBetween, RunsFit, RunsStand};
 
 /// A step of one site, by whatever input, leaves all consistent, where a frame that it delivers was sent.
 pub fn a_mark_keeps_the_fit()
@@ -11,7 +11,7 @@ pub fn a_mark_keeps_the_fit()
 /// So does a frame that its sender's record makes emittable. What was sent may be lost, repeated or late.
 pub fn a_post_keeps_the_fit()
     ensures posted { PostsKeepTheFit }
-    ensures fewer { FewerFramesFit }
+    ensures fewer { FewerSentFit }
 {}
 
 /// Where what the sites did is a run of the world, their records last marked are consistent with all frames sent, and

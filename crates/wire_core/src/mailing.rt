@@ -8,10 +8,10 @@ ghost use Rattle.world_core.specs.Turns.{addressee};
 ghost use Rattle.wire_core.specs.declared.views.Log.{Log};
 ghost use Rattle.wire_core.specs.Answers.{MatchPost, MayPost, MayTake, MayMark};
 ghost use Rattle.wire_core.specs.Changes.{on, asks, offers, sends, receives, marks, below, from, Level, AllBut, OneMore, Sent};
-ghost use Rattle.wire_core.specs.Fitting.{SitesFit};
+ghost use Rattle.wire_core.specs.Fitting.{RecordsFit};
 ghost use Rattle.wire_core.specs.Frames.{sender};
 ghost use Rattle.wire_core.specs.Rule.{logs_from};
-ghost use Rattle.wire_core.specs.Seats.{IsSeatOf, HoldsAll, AreAllOf, Gathered};
+ghost use Rattle.wire_core.specs.Seats.{IsSeatOf, HoldsAll, AreAllLogs, Gathered};
 
 use crate::calls::{Post, mark_on, post_on, split_on, take_on};
 use crate::rules::Opening;
@@ -31,9 +31,11 @@ impl Wire {
     /// # Errors
     /// Where there is no memory for it. No other call on a wire takes any.
     pub fn new(alloc: Global, records: &[&SiteState]) -> Result<(Wire, Seat), AllocError>
-        requires fit { SitesFit (records_at records.now) [] }
+        requires fit { RecordsFit (records_at records.now) [] }
         requires count { (2 ≤ length records.now) × (length records.now ≤ MAX_SITES) }
-        ensures { IfOk result (λ r. IsSeatOf r.0 r.1 × (r.0.sites ≡ length records.now) × (r.1.logs ≡ logs_from 0 (records_at records.now)) × (r.0.start ≡ records_at records.now)) }
+        ensures { IfOk result (λ r. IsSeatOf r.0 r.1 × (r.0.sites ≡ length records.now)
+            × (r.1.logs ≡ logs_from 0 (records_at records.now))
+            × (r.0.start ≡ records_at records.now)) }
     {
         let opening = snapshots(alloc, records)?;
         let slots = MAX_SITES * records.len();
@@ -58,8 +60,11 @@ impl Wire {
         requires may { MayPost self.now.sites frame seat.old.logs }
         ensures seat { IsSeatOf self.now seat.new }
         ensures answer { MatchPost result
-            ((seat.new.logs ≡ on (sender frame) (sends frame) seat.old.logs) × Level (sender frame) (addressee frame) seat.old.logs)
-            (λ f. (f ≡ frame) × (seat.new.logs ≡ on (sender frame) (offers frame) seat.old.logs) × Sent (sender frame) (addressee frame) seat.old.logs × OneMore (sender frame) (addressee frame) seat.old.logs) }
+            ((seat.new.logs ≡ on (sender frame) (sends frame) seat.old.logs)
+            × Level (sender frame) (addressee frame) seat.old.logs) (λ f. (f ≡ frame)
+            × (seat.new.logs ≡ on (sender frame) (offers frame) seat.old.logs)
+            × Sent (sender frame) (addressee frame) seat.old.logs
+            × OneMore (sender frame) (addressee frame) seat.old.logs) }
     {
         post_on(&self.table.shared, &mut seat.token, frame)
     }
@@ -70,9 +75,10 @@ impl Wire {
         requires seat { IsSeatOf self.now seat.old }
         requires may { MayTake self.now.sites me other seat.old.logs }
         ensures seat { IsSeatOf self.now seat.new }
-        ensures answer { MatchOption result
-            ((seat.new.logs ≡ on me (asks other) seat.old.logs) × Level other me seat.old.logs)
-            (λ f. (seat.new.logs ≡ on me (receives other f) seat.old.logs) × (sender f ≡ other) × (addressee f ≡ me) × AllBut other me f seat.old.logs) }
+        ensures answer { MatchOption result ((seat.new.logs ≡ on me (asks other) seat.old.logs)
+            × Level other me seat.old.logs)
+            (λ f. (seat.new.logs ≡ on me (receives other f) seat.old.logs) × (sender f ≡ other)
+            × (addressee f ≡ me) × AllBut other me f seat.old.logs) }
     {
         take_on(&self.table.shared, &mut seat.token, me, other)
     }
@@ -83,7 +89,8 @@ impl Wire {
         requires seat { IsSeatOf self.now seat.old }
         requires may { MayMark input.now.value new.now seat.old.logs }
         ensures seat { IsSeatOf self.now seat.new }
-        ensures marked { seat.new.logs ≡ on new.now.engagement.me (marks input.now.value new.now) seat.old.logs }
+        ensures marked { seat.new.logs ≡ on new.now.engagement.me (marks input.now.value new.now)
+            seat.old.logs }
     {
         mark_on(&self.table.shared, &mut seat.token, input, new);
     }
@@ -116,7 +123,7 @@ impl Wire {
     /// that were posted. What still lies in a mailbox is lost.
     pub fn close(self, seat: Seat)
         requires { IsSeatOf self seat × HoldsAll self.sites seat.logs }
-        ensures { (all : List Log) × AreAllOf self.sites seat.logs all × Gathered self.start all }
+        ensures { (all : List Log) × AreAllLogs self.sites seat.logs all × Gathered self.start all }
     {
         let Wire { table } = self;
         let Seat { token } = seat;

@@ -85,9 +85,11 @@ pub fn claim<N: Offering>(
 ) -> u64
     requires way { (N.from ≡ from) × (N.to ≡ to) × (N.offer ≡ offers frame.now) × (from ≢ to) }
     requires seat { (token.old.table_id ≡ hub.now.table_id) × (token.old.me.1 ≡ []) }
-    requires layout { (hub.now.table_id.words ≡ MAX_SITES + MAX_SITES * length hub.now.key.items) × (length hub.now.key.items ≤ MAX_SITES) }
+    requires layout { (hub.now.table_id.words ≡ MAX_SITES + MAX_SITES * length hub.now.key.items)
+        × (length hub.now.key.items ≤ MAX_SITES) }
     requires sites { (from < length hub.now.key.items) × (to < length hub.now.key.items) }
-    requires rests { (e : Log) × Contains token.old.me.0.sites e × (e.site ≡ from) × (e.doing ≡ Nothing) }
+    requires rests { (e : Log) × Contains token.old.me.0.sites e × (e.site ≡ from)
+        × (e.doing ≡ Nothing) }
     ensures seat { token.new.table_id ≡ token.old.table_id }
     ensures told { Claimed from to (offers frame.now) token.old.me result token.new.me }
 {
@@ -105,9 +107,13 @@ impl Play<Option<Frame>, View> for Publishes {
 /// The sender stores FULL: the frame in its hands is sent.
 pub fn publish(hub: &Hub, token: &mut Token, from: SiteNo, to: SiteNo)
     requires seat { token.old.table_id ≡ hub.now.table_id }
-    requires layout { (hub.now.table_id.words ≡ MAX_SITES + MAX_SITES * length hub.now.key.items) × (length hub.now.key.items ≤ MAX_SITES) }
-    requires sites { (from ≢ to) × (from < length hub.now.key.items) × (to < length hub.now.key.items) }
-    requires frame { (f : Frame) × (token.old.me.1 ≡ (slot_of from to, Some f) ∷ []) × (sender f ≡ from) × (addressee f ≡ to) × (e : Log) × Contains token.old.me.0.sites e × (e.site ≡ from) × (e.doing ≡ Writes to) × Contains (emittable e.last.engagement) f }
+    requires layout { (hub.now.table_id.words ≡ MAX_SITES + MAX_SITES * length hub.now.key.items)
+        × (length hub.now.key.items ≤ MAX_SITES) }
+    requires sites { (from ≢ to) × (from < length hub.now.key.items)
+        × (to < length hub.now.key.items) }
+    requires frame { (f : Frame) × (token.old.me.1 ≡ (slot_of from to, Some f) ∷ [])
+        × (sender f ≡ from) × (addressee f ≡ to) × (e : Log) × Contains token.old.me.0.sites e
+        × (e.site ≡ from) × (e.doing ≡ Writes to) × Contains (emittable e.last.engagement) f }
     ensures seat { token.new.table_id ≡ token.old.table_id }
     ensures told { Published token.old.me token.new.me }
 {
@@ -127,9 +133,11 @@ impl<N: Way> Play<Option<Frame>, View> for Notes<N> {
 pub fn note<N: Way>(hub: &Hub, token: &mut Token, from: SiteNo, to: SiteNo) -> u64
     requires way { (N.from ≡ from) × (N.to ≡ to) × (from ≢ to) }
     requires seat { (token.old.table_id ≡ hub.now.table_id) × (token.old.me.1 ≡ []) }
-    requires layout { (hub.now.table_id.words ≡ MAX_SITES + MAX_SITES * length hub.now.key.items) × (length hub.now.key.items ≤ MAX_SITES) }
+    requires layout { (hub.now.table_id.words ≡ MAX_SITES + MAX_SITES * length hub.now.key.items)
+        × (length hub.now.key.items ≤ MAX_SITES) }
     requires sites { (from < length hub.now.key.items) × (to < length hub.now.key.items) }
-    requires rests { (e : Log) × Contains token.old.me.0.sites e × (e.site ≡ to) × (e.doing ≡ Nothing) }
+    requires rests { (e : Log) × Contains token.old.me.0.sites e × (e.site ≡ to)
+        × (e.doing ≡ Nothing) }
     ensures seat { token.new.table_id ≡ token.old.table_id }
     ensures told { Noted from to token.old.me result token.new.me }
 {
@@ -148,10 +156,13 @@ impl<N: Way> Play<Option<Frame>, View> for Releases<N> {
 /// The receiver stores EMPTY.
 pub fn release<N: Way>(hub: &Hub, token: &mut Token, from: SiteNo, to: SiteNo)
     requires way { (N.to ≡ to) × (from ≢ to) }
-    requires seat { (token.old.table_id ≡ hub.now.table_id) × (token.old.me.1 ≡ (slot_of from to, None) ∷ []) }
-    requires layout { (hub.now.table_id.words ≡ MAX_SITES + MAX_SITES * length hub.now.key.items) × (length hub.now.key.items ≤ MAX_SITES) }
+    requires seat { (token.old.table_id ≡ hub.now.table_id)
+        × (token.old.me.1 ≡ (slot_of from to, None) ∷ []) }
+    requires layout { (hub.now.table_id.words ≡ MAX_SITES + MAX_SITES * length hub.now.key.items)
+        × (length hub.now.key.items ≤ MAX_SITES) }
     requires sites { (from < length hub.now.key.items) × (to < length hub.now.key.items) }
-    requires reads { (e : Log) × Contains token.old.me.0.sites e × (e.site ≡ to) × (e.doing ≡ Reads from) }
+    requires reads { (e : Log) × Contains token.old.me.0.sites e × (e.site ≡ to)
+        × (e.doing ≡ Reads from) }
     ensures seat { token.new.table_id ≡ token.old.table_id }
     ensures told { Released to token.old.me token.new.me }
 {
@@ -184,11 +195,14 @@ impl<N: Marking> Play<Option<Frame>, View> for Marks<N> {
 
 /// One more input of the site is marked, with the record after it.
 pub fn mark<N: Marking>(hub: &Hub, token: &mut Token, input: &Snapshot<SiteInput>, new: &SiteState)
-    requires marking { (N.site ≡ new.now.engagement.me) × (N.change ≡ marks input.now.value new.now) }
-    requires seat { (token.old.table_id ≡ hub.now.table_id) × (token.old.me.1 ≡ []) × (new.now.engagement.me < hub.now.table_id.words) }
+    requires marking { (N.site ≡ new.now.engagement.me)
+        × (N.change ≡ marks input.now.value new.now) }
+    requires seat { (token.old.table_id ≡ hub.now.table_id) × (token.old.me.1 ≡ [])
+        × (new.now.engagement.me < hub.now.table_id.words) }
     requires step { MayMark input.now.value new.now token.old.me.0.sites }
     ensures seat { token.new.table_id ≡ token.old.table_id }
-    ensures told { Marked new.now.engagement.me (marks input.now.value new.now) token.old.me token.new.me }
+    ensures told { Marked new.now.engagement.me (marks input.now.value new.now) token.old.me
+        token.new.me }
 {
     let _ = input;
     hub.fetch_add::<Marks<N>>(token, new.me().number() as usize, 1);
@@ -215,7 +229,8 @@ impl<N: Cutting> Play<Option<Frame>, View> for Cuts<N> {
 /// The seat notes where it is to be split: the first half of a split.
 pub fn cut<N: Cutting>(hub: &Hub, token: &mut Token, at: SiteNo)
     requires cutting { N.at ≡ at }
-    requires seat { (token.old.table_id ≡ hub.now.table_id) × (token.old.me.1 ≡ []) × (0 < hub.now.table_id.words) }
+    requires seat { (token.old.table_id ≡ hub.now.table_id) × (token.old.me.1 ≡ [])
+        × (0 < hub.now.table_id.words) }
     ensures seat { token.new.table_id ≡ token.old.table_id }
     ensures told { Cut at token.old.me token.new.me }
 {
@@ -245,16 +260,20 @@ impl Join<View> for Parts {
 /// The sites below the cut stay, and the others go to a new seat.
 pub fn split(hub: &Hub, token: &mut Token) -> Token
     requires { (token.old.table_id ≡ hub.now.table_id) × (0 < hub.now.table_id.words) }
-    ensures seat { (token.new.table_id ≡ token.old.table_id) × (result.table_id ≡ token.old.table_id) }
-    ensures parts { (token.new.me ≡ (left token.old.me.0, token.old.me.1)) × (result.me ≡ (right token.old.me.0, [])) }
+    ensures seat { (token.new.table_id ≡ token.old.table_id)
+        × (result.table_id ≡ token.old.table_id) }
+    ensures parts { (token.new.me ≡ (left token.old.me.0, token.old.me.1))
+        × (result.me ≡ (right token.old.me.0, [])) }
 {
     hub.split_seat::<Parts>(token)
 }
 
 /// The seat takes in the sites of another.
 pub fn join(hub: &Hub, token: &mut Token, other: Token)
-    requires { (token.old.table_id ≡ hub.now.table_id) × (other.table_id ≡ hub.now.table_id) × (other.me.1 ≡ []) × (0 < hub.now.table_id.words) }
-    ensures { (token.new.table_id ≡ token.old.table_id) × (token.new.me ≡ (both token.old.me.0 other.me.0, token.old.me.1)) }
+    requires { (token.old.table_id ≡ hub.now.table_id) × (other.table_id ≡ hub.now.table_id)
+        × (other.me.1 ≡ []) × (0 < hub.now.table_id.words) }
+    ensures { (token.new.table_id ≡ token.old.table_id)
+        × (token.new.me ≡ (both token.old.me.0 other.me.0, token.old.me.1)) }
 {
     hub.join_seat::<Parts>(token, other);
 }

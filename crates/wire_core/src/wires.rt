@@ -40,11 +40,11 @@ pub struct Seat {
 }
 
 impl Model for Seat {
-    ghost use Rattle.wire_core.specs.Seats.{Held, IsIdle, coded_held};
+    ghost use Rattle.wire_core.specs.Seats.{SeatView, IsIdle, coded_seat};
 
-    ghost Value = { Held };
+    ghost Value = { SeatView };
 
-    ghost coded = { coded_held };
+    ghost coded = { coded_seat };
 
     ghost view = { λ s. record { table = s.token.table_id; logs = s.token.me.0.sites } };
 

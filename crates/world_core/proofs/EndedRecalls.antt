@@ -12,7 +12,7 @@ use Rattle.trace_core.specs.Chains.{Related}
 use Rattle.trace_core.specs.Relations.{Reaches}
 use Rattle.trace_core.proofs.PairOrder.{one_ascending}
 use Rattle.world_core.specs.Faults.{AreOneWorld}
-use Rattle.world_core.specs.Laws.{ComesOut, EndsAreExact, EndedStays, QuarantinesAscend, RunsComeOut, RunsFromTheStartComeOut}
+use Rattle.world_core.specs.Laws.{ComesOut, WorldEndsAreExact, EndedStays, QuarantinesAscend, RunsComeOut, RunsFromTheStartComeOut}
 use Rattle.world_core.specs.Recalls.{HasEnded, quarantined}
 use Rattle.world_core.specs.Turns.{AtEachMoment, Runs}
 use Rattle.world_core.specs.Keepers.{ComesFrom}
@@ -32,7 +32,7 @@ begun_at recall root rs h = ap (λ (r : Record). get r.engagement.own recall.num
 pub quarantines_ascend : QuarantinesAscend
 quarantines_ascend world recall fits = pairs_ascend recall (records world) fits.places
 
-pub ended_is_exact : EndsAreExact
+pub ended_is_exact : WorldEndsAreExact
 ended_is_exact world recall fits root h p =
     let rs = records world in
     let held = pairs_held recall rs fits.places p in

@@ -12,7 +12,7 @@ use Rattle.event_json.proofs.ContentLaws.{lists_decide}
 use Rattle.site_core.specs.Records.{Record, IsSound, fresh}
 use Rattle.site_recovery.specs.FittingAt.{AreAllSites}
 use Rattle.site_recovery.specs.Looks.{world_of}
-use Rattle.world_core.specs.Faults.{IsInPlace, AreOneWorld, StandsRight, IsFirstOther}
+use Rattle.world_core.specs.Faults.{IsPlacedAmong, AreOneWorld, StandsRight, IsFirstOther}
 
 -- One place after another.
 
@@ -41,20 +41,20 @@ some_there (r ∷ rs) (suc p) below = some_there rs p (omega (arith, below))
 
 -- A record in its place.
 
-pub in_place : (sites lent : List Site) (place n me : ℕ) (r : Record) (eq : Bool) → lent ≡ r.sites → eq ≡ pointwise same_site lent sites → eq ≡ true → me ≡ r.engagement.me → n ≡ me → IsTrue (nat_eq n place) ↔ IsInPlace sites place r
+pub in_place : (sites lent : List Site) (place n me : ℕ) (r : Record) (eq : Bool) → lent ≡ r.sites → eq ≡ pointwise same_site lent sites → eq ≡ true → me ≡ r.engagement.me → n ≡ me → IsTrue (nat_eq n place) ↔ IsPlacedAmong sites place r
 in_place sites lent place n me r eq l e t m k =
     (λ h. (sym l ∙ (lists_decide lent sites).0 (sym e ∙ t), sym m ∙ sym k ∙ (Decides-eqb n place).0 h), λ h. (Decides-eqb n place).1 (k ∙ m ∙ h.1))
 
-pub of_other_sites : (sites lent : List Site) (place : ℕ) (r : Record) (eq : Bool) → lent ≡ r.sites → eq ≡ pointwise same_site lent sites → eq ≡ false → IsTrue eq ↔ IsInPlace sites place r
+pub of_other_sites : (sites lent : List Site) (place : ℕ) (r : Record) (eq : Bool) → lent ≡ r.sites → eq ≡ pointwise same_site lent sites → eq ≡ false → IsTrue eq ↔ IsPlacedAmong sites place r
 of_other_sites sites lent place r eq l e f = (λ h. absurd (false≢true (sym f ∙ h)), λ h. e ∙ (lists_decide lent sites).1 (l ∙ h.0))
 
-pub within_sites : (sites : List Site) (place : ℕ) (r : Record) → IsSound r → IsInPlace sites place r → place < length sites
+pub within_sites : (sites : List Site) (place : ℕ) (r : Record) → IsSound r → IsPlacedAmong sites place r → place < length sites
 within_sites sites place r sound h = subst (λ n. n < length sites) h.1 (subst (λ l. r.engagement.me < length l) h.0 sound.me)
 
 -- All records in their places.
 
 abbrev pub AreInPlaceTo : List Site → ℕ → List Record → Type 0
-AreInPlaceTo sites i rs = (p : ℕ) (r : Record) → p < i → slice_get rs p ≡ Some r → IsInPlace sites p r
+AreInPlaceTo sites i rs = (p : ℕ) (r : Record) → p < i → slice_get rs p ≡ Some r → IsPlacedAmong sites p r
 
 stands_right : (rs : List Record) (first : Record) (i : ℕ) → slice_get rs 0 ≡ Some first → i ≤ length rs → AreInPlaceTo first.sites i rs → (p : ℕ) → p < i → StandsRight rs p
 stands_right rs first i at le h p below =
@@ -68,13 +68,13 @@ none_first rs e = record {
   meant = λ first at. let n : None ≡ Some first = ap (λ l. slice_get l 0) (sym e) ∙ at in cc;
 }
 
-pub other_here : (rs : List Record) (first r : Record) (i : ℕ) → slice_get rs 0 ≡ Some first → slice_get rs i ≡ Some r → AreInPlaceTo first.sites i rs → (IsInPlace first.sites i r → ⊥) → IsFirstOther rs i
+pub other_here : (rs : List Record) (first r : Record) (i : ℕ) → slice_get rs 0 ≡ Some first → slice_get rs i ≡ Some r → AreInPlaceTo first.sites i rs → (IsPlacedAmong first.sites i r → ⊥) → IsFirstOther rs i
 other_here rs first r i at is h not_here = record {
   before = stands_right rs first i at (omega (arith, slice_get_within rs i r is)) h;
   here = λ s.
       let same : s.0 ≡ first = same_Some s.0 first (sym s.2 ∙ at) in
       let one : s.1 ≡ r = same_Some s.1 r (sym s.3 ∙ is) in
-      not_here (subst (λ x. IsInPlace first.sites i x) one (subst (λ x. IsInPlace x.sites i s.1) same s.4));
+      not_here (subst (λ x. IsPlacedAmong first.sites i x) one (subst (λ x. IsPlacedAmong x.sites i s.1) same s.4));
   meant = λ f e. inl (slice_get_within rs i r is);
 }
 
@@ -86,7 +86,7 @@ wanting rs first i at e h less = record {
 }
 
 all_of : (rs : List Record) (first : Record) → slice_get rs 0 ≡ Some first → length rs ≡ length first.sites → AreInPlaceTo first.sites (length rs) rs → AreOneWorld rs
-all_of rs first at number h = (first, at, record { number = number; each = all_places (IsInPlace first.sites) rs (length rs) (omega arith) h })
+all_of rs first at number h = (first, at, record { number = number; each = all_places (IsPlacedAmong first.sites) rs (length rs) (omega arith) h })
 
 -- the same of what references show
 pub one_world : {X : Type 0} (xs : List X) (f : X → Record) (first : X) (sites : List Site) → Some first ≡ slice_get xs 0 → sites ≡ (f first).sites → length (map f xs) ≡ length sites → AreInPlaceTo sites (length (map f xs)) (map f xs) → AreOneWorld (map f xs)

@@ -19,13 +19,13 @@ IfClosed NoMemory P = ⊤
 IfClosed (Closed site) P = P site
 
 -- the record is of these sites, and in its place
-abbrev pub IsInPlace : List Site → ℕ → Record → Type 0
-IsInPlace sites place r = (r.sites ≡ sites) × (r.engagement.me ≡ place)
+abbrev pub IsPlacedAmong : List Site → ℕ → Record → Type 0
+IsPlacedAmong sites place r = (r.sites ≡ sites) × (r.engagement.me ≡ place)
 
 -- the records are of all these sites, in the order of their numbers
 pub record AreAllOf (sites : List Site) (records : List Record) : Type 0 where
   pub number : length records ≡ length sites
-  pub each : (place : ℕ) (r : Record) → slice_get records place ≡ Some r → IsInPlace sites place r
+  pub each : (place : ℕ) (r : Record) → slice_get records place ≡ Some r → IsPlacedAmong sites place r
 
 -- they are of all sites that the first one lists
 abbrev pub AreOneWorld : List Record → Type 0
@@ -33,7 +33,7 @@ AreOneWorld records = (first : Record) × (slice_get records 0 ≡ Some first) �
 
 -- in this place stands a record of the sites that the first one lists
 abbrev pub StandsRight : List Record → ℕ → Type 0
-StandsRight records place = (first : Record) × (r : Record) × (slice_get records 0 ≡ Some first) × (slice_get records place ≡ Some r) × IsInPlace first.sites place r
+StandsRight records place = (first : Record) × (r : Record) × (slice_get records 0 ≡ Some first) × (slice_get records place ≡ Some r) × IsPlacedAmong first.sites place r
 
 -- the least place that holds another record, or none though the sites go on; 0 where there are no records
 pub record IsFirstOther (records : List Record) (place : ℕ) : Type 0 where

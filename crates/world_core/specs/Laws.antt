@@ -32,8 +32,8 @@ abbrev pub RunsKeepTheFit : Type 0
 RunsKeepTheFit = (old new : WorldState) (events : List WorldEvent) (answers : List Answer) → WorldFits old → Runs old events answers new → WorldFits new
 
 -- In sites that are consistent, what is quarantined under an ended recall is what its root reaches, neither more nor less.
-abbrev pub EndsAreExact : Type 0
-EndsAreExact = (world : WorldState) (recall : Recall) → WorldFits world → AreExactOnceEnded recall (records world) (quarantined recall (records world))
+abbrev pub WorldEndsAreExact : Type 0
+WorldEndsAreExact = (world : WorldState) (recall : Recall) → WorldFits world → AreExactOnceEnded recall (records world) (quarantined recall (records world))
 
 -- Each pair is listed once, by site and then by item.
 abbrev pub QuarantinesAscend : Type 0

@@ -3,7 +3,7 @@
 ghost use Rattle.std.specs.Prelude.{◌≡◌, ◌↔◌, ◌<◌, IsTrue, None, OnOk, IfErr, IfSome, List, length, map};
 ghost use Rattle.site_core.specs.Records.{IsSound, Record};
 ghost use Rattle.site_recovery.specs.FittingAt.{AreAllSites};
-ghost use Rattle.world_core.specs.Faults.{AreOneWorld, Hinders, HindersKeepers, IsFirstOther, IsInPlace, MakeAWorld};
+ghost use Rattle.world_core.specs.Faults.{AreOneWorld, Hinders, HindersKeepers, IsFirstOther, IsPlacedAmong, MakeAWorld};
 ghost use Rattle.world_core.specs.Keepers.{AllShow};
 
 use crate::faults::{ViewFault, WorldFault};
@@ -16,7 +16,8 @@ use std::alloc::Global;
 
 /// Whether the keepers are open, and their records make a world.
 pub fn together<K: SiteKeeper>(alloc: Global, keepers: &[K]) -> Result<(), WorldFault>
-    ensures ok { OnOk result ((records : List Record) × AllShow K.shown keepers.now records × MakeAWorld records) }
+    ensures ok { OnOk result ((records : List Record) × AllShow K.shown keepers.now records
+        × MakeAWorld records) }
     ensures err { IfErr result (λ fault. HindersKeepers K.shown keepers.now fault) }
 {
     match views(alloc, keepers) {
@@ -65,7 +66,7 @@ fn first_other(states: &[&SiteState]) -> Option<u64>
 
 /// Whether the record is of these sites, and has this number.
 fn is_in_place(state: &SiteState, sites: &Sites, place: u64) -> bool
-    ensures yes { IsTrue result ↔ IsInPlace sites.now place state.now }
+    ensures yes { IsTrue result ↔ IsPlacedAmong sites.now place state.now }
     ensures within { IsTrue result → place < length sites.now }
     ensures sound { IsTrue result → IsSound state.now }
 {

@@ -3,7 +3,7 @@
 ghost use Rattle.world_core.specs.Counting.{MessagesAreCounted};
 ghost use Rattle.world_core.specs.EndingLaws.{EveryRecallCanEnd, FramesFindTheirSite, FreshSitesAreGoing, RunsKeepGoing};
 ghost use Rattle.world_core.specs.FormingLaws.{FreshSitesMakeAWorld, OnlyMemoryHindersAWorld};
-ghost use Rattle.world_core.specs.Laws.{EndedStays, EndsAreExact, FramesStay, FreshSitesFit, QuarantinesAscend, RunsComeOut, RunsFromTheStartComeOut, RunsKeepTheFit, SitesStandAsKept, TurnsKeepTheFit};
+ghost use Rattle.world_core.specs.Laws.{EndedStays, WorldEndsAreExact, FramesStay, FreshSitesFit, QuarantinesAscend, RunsComeOut, RunsFromTheStartComeOut, RunsKeepTheFit, SitesStandAsKept, TurnsKeepTheFit};
 ghost use Rattle.world_core.specs.PinLaws.{AnsweredEndsStand, AnsweredStepsAreWhole, BrokenStepsAreEither, EndsAreTold, NothingElseEnds, OthersAreAbsent, RunsMakeAWorldAgain, StartsTellTheEnd};
 ghost use Rattle.world_core.specs.SendingLaws.{FramesWereEmittable};
 
@@ -39,7 +39,7 @@ pub fn runs_keep_the_fit()
 /// chains of made and shipped items lead to from its root: neither more nor less.
 pub fn an_end_is_exact()
     ensures ascending { QuarantinesAscend }
-    ensures exact { EndsAreExact }
+    ensures exact { WorldEndsAreExact }
 {}
 
 /// A recall that has ended stays so, with the same pairs.

@@ -13,7 +13,8 @@ use std::alloc::Global;
 
 /// The record of each keeper.
 pub fn views<K: SiteKeeper>(alloc: Global, keepers: &[K]) -> Result<Vec<&SiteState>, ViewFault>
-    ensures ok { IfOk result (λ states. AllShow K.shown keepers.now (map (λ s. s.now) states.items)) }
+    ensures ok { IfOk result (λ states. AllShow K.shown keepers.now
+        (map (λ s. s.now) states.items)) }
     ensures closed { IfErr result (λ fault. IfClosed fault (IsFirstClosed K.shown keepers.now)) }
 {
     let mut states = Vec::new(alloc);
@@ -28,7 +29,8 @@ pub fn views<K: SiteKeeper>(alloc: Global, keepers: &[K]) -> Result<Vec<&SiteSta
 
 /// Each keeper is open, or may be opened in some record.
 pub fn each_stands<K: SiteKeeper>(keepers: &[K])
-    ensures { (sites : List Standing) × AllZip (λ k standing. StandsAs (K.shown k) (K.may k) standing) keepers.now sites }
+    ensures { (sites : List Standing) × AllZip
+        (λ k standing. StandsAs (K.shown k) (K.may k) standing) keepers.now sites }
 {
     for keeper in keepers {
         keeper.may_be_opened();

@@ -7,7 +7,7 @@ ghost use Rattle.world_core.specs.Turns.{addressee};
 ghost use Rattle.wire_core.specs.declared.views.Log.{Log};
 ghost use Rattle.wire_core.specs.Answers.{MayTake};
 ghost use Rattle.wire_core.specs.Frames.{sender};
-ghost use Rattle.wire_core.specs.Playing.{MayPlay, MayBePosted, MayGoOn, IsNext, GoesOn, HasNoted, Leaves};
+ghost use Rattle.wire_core.specs.Playing.{MayPlay, MayBePosted, MayGoOn, IsNext, PlaysOn, HasNoted, Leaves};
 ghost use Rattle.wire_core.specs.Rule.{logs_from};
 ghost use Rattle.wire_core.specs.Seats.{IsSeatOf};
 ghost use Rattle.wire_core.specs.Standing.{StandsAs};
@@ -31,7 +31,8 @@ pub fn fit(alloc: Global, first: &SiteState, second: &SiteState) -> bool {
 
 /// The wire between two sites whose records are consistent, and a seat that holds both.
 pub fn between(alloc: Global, first: &SiteState, second: &SiteState) -> Result<(Wire, Seat), Fail>
-    ensures wire { IfOk result (λ r. IsSeatOf r.0 r.1 × (r.0.sites ≡ 2) × (r.1.logs ≡ logs_from 0 (first.now ∷ second.now ∷ []))) }
+    ensures wire { IfOk result (λ r. IsSeatOf r.0 r.1 × (r.0.sites ≡ 2)
+        × (r.1.logs ≡ logs_from 0 (first.now ∷ second.now ∷ []))) }
     ensures numbers { OnOk result ((first.now.engagement.me ≡ 0) × (second.now.engagement.me ≡ 1)) }
 {
     let states = [first, second];
@@ -153,7 +154,7 @@ fn go_on(
 ) -> (SiteState, Option<Effects>)
     requires seat { MayGoOn wire.now seat.old state input }
     ensures seat { IsSeatOf wire.now seat.new }
-    ensures on { GoesOn seat.old.logs seat.new.logs state result.0 }
+    ensures on { PlaysOn seat.old.logs seat.new.logs state result.0 }
 {
     let (next, effects) = next_of(alloc, &state, &input);
     let Some(next) = next else {
@@ -175,7 +176,7 @@ pub fn take_step(
     requires seat { MayPlay wire.now seat.old state }
     requires other { (other ≢ state.engagement.me) × (other < 2) }
     ensures seat { IsSeatOf wire.now seat.new }
-    ensures on { GoesOn seat.old.logs seat.new.logs state result.0 }
+    ensures on { PlaysOn seat.old.logs seat.new.logs state result.0 }
 {
     match take_asked(wire, seat, state.me(), other, times) {
         Some(frame) => go_on(alloc, wire, seat, state, SiteInput::Deliver(frame)),

@@ -3,7 +3,7 @@ use Rattle.std.proofs.lemmas.List.{length-map}
 use denote.Ref.{Bor}
 use Rattle.site_core.specs.Records.{Record}
 use Rattle.site_recovery.specs.Checking.{records_at}
-use Rattle.wire_core.specs.Fitting.{SitesFit}
+use Rattle.wire_core.specs.Fitting.{RecordsFit}
 use Rattle.wire_core.specs.Rule.{logs_from}
 use Rattle.world_core.proofs.Showing.{shown_once}
 use Rattle.site_threads.proofs.Starting.{all_open}
@@ -18,7 +18,7 @@ new-requires-clause-fit g c =
     let shown = g.K.SiteKeeper.shown in
     let w = c.requires.world in
     let same = shown_once shown g.K.SiteKeeper.may c.args.keepers.now w.0 (records_at c.in_ok-states.states.items) w.1 c.in_ok-states.ensures in
-    subst (λ l. SitesFit l []) (same ∙ sym (ap records_at c.deref.ensures.value)) record { places = w.2.places; fits = w.2.fit }
+    subst (λ l. RecordsFit l []) (same ∙ sym (ap records_at c.deref.ensures.value)) record { places = w.2.places; fits = w.2.fit }
 
 pub new-requires-clause-count : goal.new-requires-clause-count
 new-requires-clause-count g c =

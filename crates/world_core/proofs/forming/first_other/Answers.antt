@@ -1,7 +1,7 @@
 use Rattle.std.proofs.Common.{◌<◌, length, map, sym, ◌∙◌, subst, arith}
 use Rattle.std.proofs.lemmas.List.{length-map}
 use mathlib.Core.Bool.{false≢true}
-use Rattle.world_core.specs.Faults.{IsInPlace}
+use Rattle.world_core.specs.Faults.{IsPlacedAmong}
 use Rattle.site_core.specs.Records.{IsSound}
 use Rattle.world_core.proofs.InPlace.{AreInPlaceTo, all_places, all_sites, first_there, there, one_more, one_world, other_here, wanting}
 use Rattle.world_core.proofs.forming.first_other.Goals as goal
@@ -12,7 +12,7 @@ loop-place-preserved c =
     let i = c.loop-place.place in
     let at = there (λ s. s.now) states i c.index-states-place.result c.loop-place-test.true c.index-states-place.is in
     record {
-      right = one_more (IsInPlace c.sites-sites.result.now) (map (λ s. s.now) states) i c.index-states-place.result.now at c.loop-place.invariant.right (c.is_in_place.ensures.yes.0 c.if-not-is_in_place.false);
+      right = one_more (IsPlacedAmong c.sites-sites.result.now) (map (λ s. s.now) states) i c.index-states-place.result.now at c.loop-place.invariant.right (c.is_in_place.ensures.yes.0 c.if-not-is_in_place.false);
       sound = one_more (λ p r. IsSound r) (map (λ s. s.now) states) i c.index-states-place.result.now at c.loop-place.invariant.sound (c.is_in_place.ensures.sound c.if-not-is_in_place.false);
       within = omega (arith, c.is_in_place.ensures.within c.if-not-is_in_place.false);
     }
@@ -25,7 +25,7 @@ returns-then-not-is_in_place-clause-some c =
     let at = there (λ s. s.now) states i c.index-states-place.result c.loop-place-test.true c.index-states-place.is in
     let right = subst (λ l. AreInPlaceTo l i rs) c.sites-sites.ensures c.loop-place.invariant.right in
     other_here rs c.in-Some.first.now.now c.index-states-place.result.now i (first_there (λ s. s.now) states c.in-Some.first.now (c.in-Some.ensures.value)) at right
-    (λ h. false≢true (sym c.if-not-is_in_place.true ∙ c.is_in_place.ensures.yes.1 (subst (λ l. IsInPlace l i c.index-states-place.result.now) (sym c.sites-sites.ensures) h)))
+    (λ h. false≢true (sym c.if-not-is_in_place.true ∙ c.is_in_place.ensures.yes.1 (subst (λ l. IsPlacedAmong l i c.index-states-place.result.now) (sym c.sites-sites.ensures) h)))
 
 pub returns-then-number-len-clause-some : goal.returns-then-number-len-clause-some
 returns-then-number-len-clause-some c =
@@ -35,7 +35,7 @@ returns-then-number-len-clause-some c =
     let at = first_there (λ s. s.now) states first c.in-Some.ensures.value in
     let n = length-map states (λ s. s.now) in
     let to : AreInPlaceTo first.now.sites (length states) rs =
-    λ p r below e. subst (λ l. IsInPlace l p r) c.sites-sites.ensures (c.loop-place.invariant.right p r (omega (arith, below, c.loop-place-test.false)) e) in
+    λ p r below e. subst (λ l. IsPlacedAmong l p r) c.sites-sites.ensures (c.loop-place.invariant.right p r (omega (arith, below, c.loop-place-test.false)) e) in
     wanting rs first.now (length states) at (sym n) to (subst (λ l. length states < length l) c.sites-sites.ensures (omega (arith, c.if-number-len.true, c.len.ensures.count)))
 
 -- once all were seen, they are of one world
