@@ -90,6 +90,11 @@ wants 1 'refused BadScan NoElements' '' trace chain dairy --scan "$tank"
 wants 1 'refused UnknownItem' '' start chain dairy '(01)09521321000117(21)tank-7'
 grep -q -e '--scan' err || { echo "the sentence: $(cat err)" >&2; failed=1; }
 wants 1 'refused UnknownItem' '' start chain dairy x
+! grep -q '^note:' err || { echo "nobody knows it: $(cat err)" >&2; failed=1; }
+wants 1 'refused UnknownItem' '' start chain dairy tank-7 --dry-run
+[ "$(grep '^note:' err)" = 'note: dairy has sgtin 09521321000117 tank-7, which ends in `tank-7`' ] || { echo "what ends so: $(cat err)" >&2; failed=1; }
+wants 1 'refused UnknownItem' '' trace chain dairy https://id.gs1.org/01/09521321000179/21/1
+[ "$(grep '^note:' err)" = "$(printf 'note: %s knows sgtin 09521321000179 1\n' plant shop-1 shop-2)" ] || { echo "who knows it: $(cat err)" >&2; failed=1; }
 echo '{' >bad.json
 wants 1 'refused Doc Syntax event 0 field document' '' capture chain dairy bad.json
 printf 'site A a\nreach A x\n' >bad.sites
@@ -119,6 +124,12 @@ wants 1 "$(printf '%s\n' 'captured 0 known 2 skipped 0 lines:1' 'refused Doc Syn
 [ $? = 1 ] && [ "$(cat out)" = "$("$recall" capture chain shop-2 lines --lines 2>/dev/null | sed 's/ lines:/ -:/')" ] || { echo "a pipe: $(cat out err)" >&2; failed=1; }
 "$recall" capture chain shop-2 - <"$chain/shop-2.json" >out 2>err
 [ $? = 0 ] && [ "$(cat out)$(without_notes err)" = 'captured 0 known 2 skipped 0' ] || { echo "a document in a pipe: $(cat out err)" >&2; failed=1; }
+
+wants 1 "$(printf '%s\n' "captured 0 known 1 skipped 0 $chain/shop-2.json event 1" "captured 0 known 1 skipped 0 $chain/shop-2.json event 2" \
+    'refused Doc Syntax event 0 field document bad.json' 'documents 3 captured 0 known 2 skipped 0 refused 1')" '' \
+    capture chain shop-2 "$chain/shop-2.json" bad.json --each
+"$recall" capture chain shop-2 lines --lines --each >out 2>err
+[ $? = 2 ] && grep -q "'--lines' and '--each'" err || { echo "lines and events: $(cat out err)" >&2; failed=1; }
 
 echo "several items"
 cp -r chain starts

@@ -99,14 +99,14 @@ done
 tells 1 '{"refused":"BadEpc"}' '' start made plant 'a b'
 tells 1 '{"refused":"BadKey"}' '' start made plant 'a b' --key
 tells 1 '{"kind":"CheckDigit","refused":"BadScan"}' '' start made plant '(01)09521321000118(21)tank-7' --scan
-tells 1 '{"refused":"UnknownItem"}' '' start made shop-1 x
+tells 1 '{"refused":"UnknownItem"}' '{"note":"note: dairy knows uri x"}' start made shop-1 x
 tells 0 '{"messages":2,"new":4,"would":"recall"}' '{"note":"note: nothing was begun; this is of the site alone, and `recall trace` tells what a recall would find at all sites"}' start made plant "$tank" --dry-run
 for words in "" --brief --back "--back --brief" --events "--back --brief --events"; do
     # shellcheck disable=SC2086
     "$recall" trace --json made plant "$tank" $words >out 2>err || complain "a trace: $(cat out err)"
     is_json out && is_json err || complain "no JSON: $(cat out err)"
 done
-tells 1 '{"refused":"UnknownItem"}' '' trace made shop-1 x
+tells 1 '{"refused":"UnknownItem"}' '{"note":"note: dairy knows uri x"}' trace made shop-1 x
 tells 0 '{"events":2,"item":"sgtin 09521321000117 tank-7","site":"plant"}' '' items made plant tank
 tells 0 '' '' status made
 "$recall" start --json made plant "$tank" >out 2>err || complain "a start: $(cat out err)"

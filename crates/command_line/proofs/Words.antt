@@ -22,7 +22,7 @@ use Rattle.folder_commands.specs.declared.batches.WordKind.TheVariants as kinds
 use Rattle.command_line.specs.declared.command_lines.FileCommand.{FileCommand}
 use Rattle.command_line.specs.declared.lint_commands.LintFiles.{LintFiles}
 use Rattle.command_line.specs.declared.command_lines.FileCommand.TheVariants.{Init, Capture, Start, Run, Report, Audit, Trace, Recalls, Recall, Items}
-use Rattle.command_line.specs.CommandLines.{recall, faults_of, named, AsksBatch, AsksDryBatch, AsksSim, AsksFiles, AsksHelp, AsksLint, AsksNamed, AsksTwo, AsksTwoForms, Contradicts, GivesEpcs, GivesFiles, GivesSpelling, GivesWords, IsBad, IsBatch, IsCapture, IsCommand, IsContradiction, IsLintCommand, IsMistake, IsSet, IsShown, IsStart, AsksFor, IsToldAs, IsUnset, documents_kind, epcs_kind, has_lines, words_of}
+use Rattle.command_line.specs.CommandLines.{recall, faults_of, named, AsksBatch, AsksDryBatch, AsksSim, AsksFiles, AsksHelp, AsksLinesAndEvents, AsksLint, AsksNamed, AsksTwo, AsksTwoForms, Contradicts, GivesDocuments, GivesEpcs, GivesFiles, GivesSpelling, GivesWords, IsBad, IsBatch, IsCapture, IsCommand, IsContradiction, IsLintCommand, IsMistake, IsSet, IsShown, IsStart, AsksFor, IsToldAs, IsUnset, epcs_kind, has_many, words_of}
 use mathlib.Core.Logic.{◌⊎◌}
 
 -- `clap`'s contract says which errors the command gives
@@ -77,12 +77,14 @@ nothing_twice (inr (inr untold)) = nothing_set (codes "events") untold.0
 -- `sim` has no options that contradict one another
 no_contradiction : Contradicts (codes "sim") [] → ⊥
 no_contradiction (inl two) = nothing_twice two
-no_contradiction (inr (is, dry)) = nothing_set (codes "dry-run") dry.dry
+no_contradiction (inr (inl (is, both))) = nothing_set (codes "lines") both.0
+no_contradiction (inr (inr (is, dry))) = nothing_set (codes "dry-run") dry.dry
 
 -- and no inputs
 sim_has_no_words : (kind : WordKind) (rows : List Row) (words : List Text) → GivesWords (codes "sim") rows kind words → ⊥
 sim_has_no_words kinds.Document rows words is = let bad : ◌≡◌ {A = ℕ} 115 99 = ap (λ (text : List ℕ). get_or text 0 0) is.0 in absurd (omega arith)
 sim_has_no_words kinds.DocumentLines rows words is = let bad : ◌≡◌ {A = ℕ} 115 99 = ap (λ (text : List ℕ). get_or text 0 0) is.0 in absurd (omega arith)
+sim_has_no_words kinds.DocumentEvents rows words is = let bad : ◌≡◌ {A = ℕ} 115 99 = ap (λ (text : List ℕ). get_or text 0 0) is.0 in absurd (omega arith)
 sim_has_no_words (kinds.Epc spelling) rows words is = let bad = is.0 in cc
 sim_has_no_words (kinds.EpcLines spelling) rows words is = let bad = is.0 in cc
 
@@ -174,7 +176,7 @@ capture_named name rows (Some (asked.Files command form)) e is = (subst (λ (n :
 capture_named name rows (Some (asked.Batch batch)) e is = subst (λ (n : Text). IsBatch batch n rows) (sym e) is
 capture_named name rows (Some (asked.Lint files)) e is = absurd is
 capture_named name rows (Some (asked.Help text)) e is = absurd is
-capture_named name rows (Some (asked.Mistake text)) e is = absurd is
+capture_named name rows (Some (asked.Mistake text)) e is = inr (inl (e, is))
 
 -- and what `start` asks for, by its name
 pub start_named : (name : Text) (rows : List Row) (result : Option Asked) → name ≡ codes "start" → IfSome result (IsStart rows) → IfSome result (AsksNamed (Some (name, rows)))
@@ -184,7 +186,7 @@ start_named name rows (Some (asked.Files command form)) e is = (subst (λ (n : T
 start_named name rows (Some (asked.Batch batch)) e is = subst (λ (n : Text). IsBatch batch n rows) (sym e) is
 start_named name rows (Some (asked.Lint files)) e is = absurd is
 start_named name rows (Some (asked.Help text)) e is = absurd is
-start_named name rows (Some (asked.Mistake text)) e is = inr (e, is)
+start_named name rows (Some (asked.Mistake text)) e is = inr (inr (e, is))
 
 -- what `lint` asks for is asked for by that name
 pub lint_named : (name : Text) (rows : List Row) (result : Option Asked) → name ≡ codes "lint" → IfSome result (IsLintCommand rows) → IfSome result (AsksNamed (Some (name, rows)))
@@ -230,22 +232,29 @@ are_several one true n is other = inl refl
 are_several one false n is other = inr (λ n_is. false≢true (sym other ∙ is.1 (refl, n_is)))
 
 -- and so of a batch of this kind
-pub several_of : (kind : WordKind) (by_lines : Bool) (n m : ℕ) → has_lines kind ≡ by_lines → n ≡ m → (by_lines ≡ true) ⊎ (n ≢ 1) → (has_lines kind ≡ true) ⊎ (m ≢ 1)
-several_of kind by_lines n m lines same (inl t) = inl (lines ∙ t)
-several_of kind by_lines n m lines same (inr other) = inr (subst (λ (k : ℕ). k ≢ 1) same other)
+pub several_of : (kind : WordKind) (many : Bool) (n m : ℕ) → has_many kind ≡ many → n ≡ m → (many ≡ true) ⊎ (n ≢ 1) → (has_many kind ≡ true) ⊎ (m ≢ 1)
+several_of kind many n m of_kind same (inl t) = inl (of_kind ∙ t)
+several_of kind many n m of_kind same (inr other) = inr (subst (λ (k : ℕ). k ≢ 1) same other)
 
-pub documents_have_lines : (by_lines : Bool) → has_lines (documents_kind by_lines) ≡ by_lines
-documents_have_lines false = refl
-documents_have_lines true = refl
-
-pub epcs_have_lines : (by_lines : Bool) (spelling : Spelling) → has_lines (epcs_kind by_lines spelling) ≡ by_lines
+pub epcs_have_lines : (by_lines : Bool) (spelling : Spelling) → has_many (epcs_kind by_lines spelling) ≡ by_lines
 epcs_have_lines false spelling = refl
 epcs_have_lines true spelling = refl
 
+-- documents of which a word is one are whole files
+pub whole_files : (rows : List Row) (kind : WordKind) → has_many kind ≡ false → GivesDocuments rows kind → GivesDocuments rows kinds.Document
+whole_files rows kinds.Document one given = given
+whole_files rows kinds.DocumentLines one given = absurd (false≢true (sym one))
+whole_files rows kinds.DocumentEvents one given = absurd (false≢true (sym one))
+whole_files rows (kinds.Epc spelling) one given = absurd given
+whole_files rows (kinds.EpcLines spelling) one given = absurd given
+
 -- what the words are is given
-pub gives_documents : (rows : List Row) (words : List Text) (by_lines : Bool) → GivesFiles rows words by_lines → GivesWords (codes "capture") rows (documents_kind by_lines) words
-gives_documents rows words false given = (refl, given)
-gives_documents rows words true given = (refl, given)
+pub gives_documents : (rows : List Row) (words : List Text) (kind : WordKind) → GivesFiles rows words kind → GivesWords (codes "capture") rows kind words
+gives_documents rows words kinds.Document given = (refl, given)
+gives_documents rows words kinds.DocumentLines given = (refl, given)
+gives_documents rows words kinds.DocumentEvents given = (refl, given)
+gives_documents rows words (kinds.Epc spelling) given = absurd given.1
+gives_documents rows words (kinds.EpcLines spelling) given = absurd given.1
 
 pub gives_epcs : (rows : List Row) (words : List Text) (by_lines : Bool) (spelling : Spelling) → GivesEpcs rows words by_lines → IsUnset rows (codes "dry-run") → GivesSpelling rows spelling
     → GivesWords (codes "start") rows (epcs_kind by_lines spelling) words
@@ -267,6 +276,17 @@ mistake_there rows (Ok (asked.Batch batch)) told is mistakes dry = absurd mistak
 mistake_there rows (Ok (asked.Lint files)) told is mistakes dry = absurd mistakes
 mistake_there rows (Ok (asked.Help text)) told is mistakes dry = absurd mistakes
 mistake_there rows (Ok (asked.Mistake text)) told is mistakes dry = subst (λ o. IfSome o (IsStart rows)) (sym is) dry
+
+-- where the lines and the events are to be taken on their own, that is
+pub lines_and_events : (rows : List Row) (result : Result Asked AllocError) (told : Option Asked) → told ≡ result_ok result → IfOk result IsMistake → AsksLinesAndEvents rows
+    → IfSome told (IsCapture rows)
+lines_and_events rows (Err e) told is mistakes both = subst (λ o. IfSome o (IsCapture rows)) (sym is) tt
+lines_and_events rows (Ok asked.Sim) told is mistakes both = absurd mistakes
+lines_and_events rows (Ok (asked.Files command form)) told is mistakes both = absurd mistakes
+lines_and_events rows (Ok (asked.Batch batch)) told is mistakes both = absurd mistakes
+lines_and_events rows (Ok (asked.Lint files)) told is mistakes both = absurd mistakes
+lines_and_events rows (Ok (asked.Help text)) told is mistakes both = absurd mistakes
+lines_and_events rows (Ok (asked.Mistake text)) told is mistakes both = subst (λ o. IfSome o (IsCapture rows)) (sym is) both
 
 -- what is said of a result that is there
 pub ok_there : {V E : Type 0} (P : V → Type 0) (r : Result V E) (v : V) → Some v ≡ result_ok r → IfOk r P → P v

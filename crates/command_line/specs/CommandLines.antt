@@ -29,19 +29,15 @@ use Rattle.command_line.specs.declared.command_lines.FileCommand.TheVariants.{In
 abbrev pub words_of : Batch → List (List ℕ)
 words_of batch = map (λ word. word.now) batch.words.items
 
--- whether they are files whose lines are the inputs
-abbrev pub has_lines : WordKind → Bool
-has_lines kinds.Document = false
-has_lines kinds.DocumentLines = true
-has_lines (kinds.Epc spelling) = false
-has_lines (kinds.EpcLines spelling) = true
+-- whether one of them may be several inputs: it is a file, of which the lines or the events are the inputs
+abbrev pub has_many : WordKind → Bool
+has_many kinds.Document = false
+has_many kinds.DocumentLines = true
+has_many kinds.DocumentEvents = true
+has_many (kinds.Epc spelling) = false
+has_many (kinds.EpcLines spelling) = true
 
--- what words are of which the lines may be the inputs: files of documents
-abbrev pub documents_kind : Bool → WordKind
-documents_kind false = kinds.Document
-documents_kind true = kinds.DocumentLines
-
--- and EPCs, or files of these
+-- what words are that are EPCs, or files of these
 abbrev pub epcs_kind : Bool → Spelling → WordKind
 epcs_kind false spelling = kinds.Epc spelling
 epcs_kind true spelling = kinds.EpcLines spelling
@@ -88,7 +84,8 @@ abbrev pub files : Rule
 files = record (required (codes "file")) { action = Some Append }
 
 abbrev pub capture : App
-capture = with_rule (with_rule (with_rule (on_folder (codes "capture")) (required (codes "site"))) files) (flag (codes "lines"))
+capture =
+    with_rule (with_rule (with_rule (with_rule (on_folder (codes "capture")) (required (codes "site"))) files) (flag (codes "lines"))) (flag (codes "each"))
 
 -- one EPC or more
 abbrev pub epcs : Rule
@@ -252,23 +249,30 @@ AsksTwo rows = AsksTwoForms rows ⊎ AsksTwoSpellings rows ⊎ AsksUntoldEvents 
 abbrev pub GivesItem : List Row → Spelled → Type 0
 GivesItem rows item = Gives rows (codes "epc") item.text.now × GivesSpelling rows item.spelling
 
--- the words of this name, and whether their lines are the inputs, which this option says
-abbrev pub GivesInputs : List Row → Text → Text → List Text → Bool → Type 0
-GivesInputs rows name option words by_lines = (all_of name rows ≡ Some words) × (IsTrue by_lines ↔ IsSet rows option)
+-- the documents are files, or the lines of files, or the events of each are taken on their own
+abbrev pub GivesDocuments : List Row → WordKind → Type 0
+GivesDocuments rows kinds.Document = IsUnset rows (codes "lines") × IsUnset rows (codes "each")
+GivesDocuments rows kinds.DocumentLines = IsSet rows (codes "lines") × IsUnset rows (codes "each")
+GivesDocuments rows kinds.DocumentEvents = IsUnset rows (codes "lines") × IsSet rows (codes "each")
+GivesDocuments rows other = ⊥
 
--- of a capture
-abbrev pub GivesFiles : List Row → List Text → Bool → Type 0
-GivesFiles rows paths by_lines = GivesInputs rows (codes "file") (codes "lines") paths by_lines
+-- both the lines and the events are to be taken on their own
+abbrev pub AsksLinesAndEvents : List Row → Type 0
+AsksLinesAndEvents rows = IsSet rows (codes "lines") × IsSet rows (codes "each")
 
--- of a start
+-- the files of a capture, which are of this kind
+abbrev pub GivesFiles : List Row → List Text → WordKind → Type 0
+GivesFiles rows paths kind = (all_of (codes "file") rows ≡ Some paths) × GivesDocuments rows kind
+
+-- the EPCs of a start, or the files of which each line is one
 abbrev pub GivesEpcs : List Row → List Text → Bool → Type 0
-GivesEpcs rows epcs by_lines = GivesInputs rows (codes "epc") (codes "from") epcs by_lines
+GivesEpcs rows epcs by_lines = (all_of (codes "epc") rows ≡ Some epcs) × (IsTrue by_lines ↔ IsSet rows (codes "from"))
 
 -- the command has this name and these arguments
 abbrev pub IsCommand : FileCommand → Text → List Row → Type 0
 IsCommand (Init folder list) name rows = (name ≡ codes "init") × Gives rows (codes "dir") folder.now × Gives rows (codes "sites") list.now
 IsCommand (Capture folder site file) name rows =
-    (name ≡ codes "capture") × Gives rows (codes "dir") folder.now × Gives rows (codes "site") site.now × GivesFiles rows (file.now ∷ []) false
+    (name ≡ codes "capture") × Gives rows (codes "dir") folder.now × Gives rows (codes "site") site.now × GivesFiles rows (file.now ∷ []) kinds.Document
 IsCommand (Start folder site item dry) name rows =
     (name ≡ codes "start") × Gives rows (codes "dir") folder.now × Gives rows (codes "site") site.now × GivesEpcs rows (item.text.now ∷ []) false
     × GivesSpelling rows item.spelling
@@ -292,14 +296,15 @@ IsCommand (Items folder site text) name rows =
 
 -- documents are captured, or recalls started that aren't dry
 abbrev pub GivesWords : Text → List Row → WordKind → List Text → Type 0
-GivesWords name rows kinds.Document words = (name ≡ codes "capture") × GivesFiles rows words false
-GivesWords name rows kinds.DocumentLines words = (name ≡ codes "capture") × GivesFiles rows words true
+GivesWords name rows kinds.Document words = (name ≡ codes "capture") × GivesFiles rows words kinds.Document
+GivesWords name rows kinds.DocumentLines words = (name ≡ codes "capture") × GivesFiles rows words kinds.DocumentLines
+GivesWords name rows kinds.DocumentEvents words = (name ≡ codes "capture") × GivesFiles rows words kinds.DocumentEvents
 GivesWords name rows (kinds.Epc spelling) words = (name ≡ codes "start") × GivesEpcs rows words false × IsUnset rows (codes "dry-run") × GivesSpelling rows spelling
 GivesWords name rows (kinds.EpcLines spelling) words = (name ≡ codes "start") × GivesEpcs rows words true × IsUnset rows (codes "dry-run") × GivesSpelling rows spelling
 
--- There are several inputs: those of several words, or of the lines of files. One word that is one input is no batch.
+-- There are several inputs: those of several words, or of the lines or the events of files. One word that is one input is no batch.
 pub record IsBatch (batch : Batch) (name : Text) (rows : List Row) : Type 0 where
-  pub several : (has_lines batch.kind ≡ true) ⊎ (length (words_of batch) ≢ 1)
+  pub several : (has_many batch.kind ≡ true) ⊎ (length (words_of batch) ≢ 1)
   pub folder : Gives rows (codes "dir") batch.folder.now
   pub site : Gives rows (codes "site") batch.site.now
   pub words : GivesWords name rows batch.kind (words_of batch)
@@ -329,6 +334,7 @@ IsLintCommand rows other = ⊥
 abbrev pub IsCapture : List Row → Asked → Type 0
 IsCapture rows (asked.Files command form) = IsCommand command (codes "capture") rows × GivesForm rows form
 IsCapture rows (asked.Batch batch) = IsBatch batch (codes "capture") rows
+IsCapture rows (asked.Mistake text) = AsksLinesAndEvents rows
 IsCapture rows other = ⊥
 
 -- and what `start` with them asks for
@@ -350,7 +356,7 @@ HasTurns command = ⊤
 
 -- two options exclude each other, or a dry start of several recalls is asked for
 abbrev pub Contradicts : Text → List Row → Type 0
-Contradicts name rows = AsksTwo rows ⊎ ((name ≡ codes "start") × AsksDryBatch rows)
+Contradicts name rows = AsksTwo rows ⊎ (((name ≡ codes "capture") × AsksLinesAndEvents rows) ⊎ ((name ≡ codes "start") × AsksDryBatch rows))
 
 -- the named command is asked for
 abbrev pub AsksNamed : Option (Text × List Row) → Asked → Type 0

@@ -1,3 +1,4 @@
 pub mod CommandLines
 pub mod Ends
 pub mod Leads
+pub mod UnknownItems

@@ -2,7 +2,7 @@
 
 ghost use Rattle.std.specs.Prelude.{◌≡◌, ◌↔◌, false, IfNone, IfOk, IfSome, IsTrue, codes, length};
 ghost use Rattle.clap.specs.Words.{found_of, kind_of, rows_of, subcommand_rows_of};
-ghost use Rattle.command_line.specs.CommandLines.{texts_of, AsksDryBatch, AsksFor, AsksNamed, AsksTwoForms, AsksTwoSpellings, AsksUntoldEvents, Gives, GivesForm, GivesItem, GivesNumber, GivesOrNone, GivesSpelling, GivesWays, IsCapture, IsCommand, IsMistake, IsSet, IsStart, IsToldAs, documents_kind, epcs_kind};
+ghost use Rattle.command_line.specs.CommandLines.{texts_of, AsksDryBatch, AsksFor, AsksLinesAndEvents, AsksNamed, AsksTwoForms, AsksTwoSpellings, AsksUntoldEvents, Gives, GivesDocuments, GivesForm, GivesItem, GivesNumber, GivesOrNone, GivesSpelling, GivesWays, IsCapture, IsCommand, IsMistake, IsSet, IsStart, IsToldAs, epcs_kind, has_many};
 
 use crate::grammar::recall;
 use crate::helps;
@@ -32,7 +32,7 @@ pub(crate) enum Asked<'a> {
 }
 
 /// What a site of a folder does one after another: the documents that it captures, or the items whose recall it starts, of
-/// several words, or of the lines of files.
+/// several words, or of the lines or the events of files.
 #[derive(Debug, Drop)]
 pub(crate) struct Batch<'a> {
     pub(crate) folder: &'a str,
@@ -167,14 +167,15 @@ fn capture_command<'a>(alloc: Global, given: &ArgMatches<'a>, form: Form) -> Opt
     let folder = argument(given, "dir")?;
     let site = argument(given, "site")?;
     let paths = given.get_strs("file")?;
-    let by_lines = is_set(given, "lines");
-    if is_one_input(paths, by_lines) {
+    let Some(kind) = documents_kind(given) else {
+        return mistake(alloc, helps::LINES_AND_EVENTS).ok();
+    };
+    if is_one_input(paths, has_many(kind)) {
         let file = paths[0];
         let command = FileCommand::Capture { folder, site, file };
         return Some(Asked::Files(command, form));
     }
     let words = copied(alloc, paths).ok()?;
-    let kind = documents_kind(by_lines);
     Some(Asked::Batch(Batch {
         folder,
         site,
@@ -220,14 +221,32 @@ fn start_command<'a>(alloc: Global, given: &ArgMatches<'a>, form: Form) -> Optio
     }))
 }
 
-/// What words are that are files of documents, of which each line may be one.
-fn documents_kind(by_lines: bool) -> WordKind
-    ensures { result ≡ documents_kind by_lines }
+/// What words are that are files of documents. None where both the lines and the events of a file are to be taken on their
+/// own.
+fn documents_kind(given: &ArgMatches<'_>) -> Option<WordKind>
+    ensures one { IfSome result (GivesDocuments (rows_of (found_of given.now))) }
+    ensures two { IfNone result (AsksLinesAndEvents (rows_of (found_of given.now))) }
 {
-    if by_lines {
-        WordKind::DocumentLines
-    } else {
-        WordKind::Document
+    let by_lines = is_set(given, "lines");
+    let by_events = is_set(given, "each");
+    match (by_lines, by_events) {
+        (false, false) => Some(WordKind::Document),
+        (true, false) => Some(WordKind::DocumentLines),
+        (false, true) => Some(WordKind::DocumentEvents),
+        (true, true) => None,
+    }
+}
+
+/// Whether a word may be several inputs.
+fn has_many(kind: WordKind) -> bool
+    ensures { result ≡ has_many kind }
+{
+    match kind {
+        WordKind::Document => false,
+        WordKind::DocumentLines => true,
+        WordKind::DocumentEvents => true,
+        WordKind::Epc(_) => false,
+        WordKind::EpcLines(_) => true,
     }
 }
 
@@ -242,11 +261,11 @@ fn epcs_kind(by_lines: bool, spelling: Spelling) -> WordKind
     }
 }
 
-/// Whether the words are one that is one input.
-fn is_one_input(words: &[&str], by_lines: bool) -> bool
-    ensures { IsTrue result ↔ ((by_lines ≡ false) × (length words.now ≡ 1)) }
+/// Whether the words are one that is one input, where a word may be several or not.
+fn is_one_input(words: &[&str], has_many: bool) -> bool
+    ensures { IsTrue result ↔ ((has_many ≡ false) × (length words.now ≡ 1)) }
 {
-    !by_lines && words.len() == 1
+    !has_many && words.len() == 1
 }
 
 /// A list of the same texts.

@@ -13,12 +13,13 @@ ghost use Rattle.command_line.specs.Leads.{FailsBy, LeadsTo};
 ghost use Rattle.folder_commands.specs.FileCalls.{Led};
 
 use crate::command_lines::{self, Asked, Batch, FileCommand};
+use crate::item_commands::{dry_start_known, start_known, trace_known};
 use crate::lint_commands::lint_files;
 use crate::statuses;
 use event_json::Untraced;
 use folder_commands::{
-    Files, Output, audit_sites, capture, do_batch, dry_start, init, items_of_site, recall_standing,
-    recalls_standing, report_recall, run_sites, start, trace_item,
+    Files, Output, audit_sites, capture, do_batch, init, items_of_site, recall_standing,
+    recalls_standing, report_recall, run_sites,
 };
 use keeper_core::SiteKeeper;
 use recall_outcomes::{Fault, Form, Outcome, note_lines, untraced_text};
@@ -164,9 +165,9 @@ fn on_files<
             dry,
         } => {
             if *dry {
-                dry_start(alloc, files, folder, site, item)
+                dry_start_known(alloc, files, folder, site, item)
             } else {
-                start(alloc, files, folder, site, item)
+                start_known(alloc, files, folder, site, item)
             }
         }
         FileCommand::Report {
@@ -183,7 +184,7 @@ fn on_files<
             back,
             ways,
             events,
-        } => trace_item(alloc, files, folder, site, item, *back, *ways, *events),
+        } => trace_known(alloc, files, folder, site, item, *back, *ways, *events),
         FileCommand::Recalls { folder, coded } => recalls_standing(alloc, files, folder, *coded),
         FileCommand::Recall {
             folder,

@@ -201,7 +201,8 @@ fn capture<'a>(alloc: Global) -> Result<Command<'a>, AllocError>
     )?
     .arg(required(alloc, "site", "The site that captures them"))?
     .arg(files(alloc))?
-    .arg(lines(alloc))
+    .arg(lines(alloc))?
+    .arg(each(alloc))
 }
 
 /// The files of the documents, one at least.
@@ -223,6 +224,14 @@ fn lines<'a>(alloc: Global) -> Arg<'a>
     ensures local { result.global ≡ false }
 {
     flag(alloc, "lines", "Each line of a file is a document")
+}
+
+/// Whether each event is captured on its own.
+fn each<'a>(alloc: Global) -> Arg<'a>
+    ensures rule { rule_of result ≡ flag (codes "each") }
+    ensures local { result.global ≡ false }
+{
+    flag(alloc, "each", "Capture each event of a document on its own")
 }
 
 fn start<'a>(alloc: Global) -> Result<Command<'a>, AllocError>

@@ -4,8 +4,9 @@
 pub(crate) const ABOUT: &str =
     "Traces recalled products through a supply chain: sites capture GS1 EPCIS 2.0 events, and a recall of an item finds all that was made from it or shipped on.";
 
-/// The program's version, and that of the sites' files which it makes.
-pub(crate) const VERSION: &str = "0.1.0 (site files of version 2)";
+/// The program's version, that of the sites' files which it makes, and the toolchain and the logic that it is proved with.
+pub(crate) const VERSION: &str =
+    "0.1.0 (site files of version 2, proved with rattle-kit-13f logic dac8208d650f15bf)";
 
 /// What is wrong where two forms are asked for.
 pub(crate) const TWO_FORMS: &str = "\
@@ -17,6 +18,13 @@ For more information, try '--help'.
 /// What is wrong where events are asked for in a form that tells none.
 pub(crate) const UNTOLD_EVENTS: &str = "\
 error: '--events' is for text and '--json', and not for '--csv' or '--dot'
+
+For more information, try '--help'.
+";
+
+/// What is wrong where both the lines and the events of a file are to be documents.
+pub(crate) const LINES_AND_EVENTS: &str = "\
+error: only one of '--lines' and '--each' can be given
 
 For more information, try '--help'.
 ";
@@ -109,10 +117,13 @@ many of its events are new, were captured before, or are of a type that isn't tr
 Of several files, or with `--lines`, the site's file is opened once. Each document is kept, and its line
 printed, before the next one is read; at the line's end stands the file, and with `--lines` the number of
 its line. A document that is refused doesn't stop the others. A last line has the totals.
+With `--each` each event of a document is captured as a document of its own, so that one which is refused
+keeps out no other; at the line's end stand the file and `event` with the event's number.
 
 Examples:
   recall capture chain dairy examples/dairy/dairy.json
   recall capture chain dairy monday/*.json
+  recall capture chain dairy late.json --each
   zcat events.ndjson.gz | recall capture chain dairy - --lines
 
 Status: 0 done, 1 refused, 3 a fault.";

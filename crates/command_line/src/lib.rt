@@ -5,6 +5,7 @@ mod command_lines;
 mod commands;
 mod grammar;
 mod helps;
+mod item_commands;
 mod lint_commands;
 mod statuses;
 mod waits;

@@ -3,8 +3,8 @@ ghost use Rattle.std.specs.Prelude.{◌≤◌};
 
 use crate::commands::{Asked, first_other};
 use crate::memory_files::{MemoryFiles, files};
-use folder_commands::{Batch, WordKind, do_batch};
-use item_spellings::Spelling;
+use folder_commands::{Batch, WordKind, do_batch, who_knows};
+use item_spellings::{Spelled, Spelling};
 use recall_outcomes::Form;
 use std::alloc::Global;
 use std::hash::RandomState;
@@ -87,6 +87,24 @@ fn documents_are_answered_one_by_one(rt: HostRuntime) -> Result<(), Fail> {
             1
         )
     );
+    let events = Batch {
+        words: &["made", "broken"],
+        kind: WordKind::DocumentEvents,
+    };
+    assert!(rt;
+        takes(
+            rt.alloc(),
+            &mut files,
+            Form::Text,
+            &events,
+            1,
+            "captured 1 known 0 skipped 0 made event 1\n\
+             captured 1 known 0 skipped 0 made event 2\n\
+             refused Doc Syntax event 0 field document broken\n\
+             documents 3 captured 2 known 0 skipped 0 refused 1\n",
+            1
+        )
+    );
     Ok(())
 }
 
@@ -130,5 +148,36 @@ fn recalls_are_started_one_by_one(rt: HostRuntime) -> Result<(), Fail> {
             0
         )
     );
+    Ok(())
+}
+
+/// Whether this is told of an item that the site of a name is asked for.
+fn tells_who(alloc: Global, files: &mut MemoryFiles, site: &str, text: &str, told: &str) -> bool {
+    let item = Spelled {
+        text,
+        spelling: Spelling::Epc,
+    };
+    match who_knows(alloc, files, "d", site, &item) {
+        Ok(lines) => lines.as_str() == told,
+        Err(_) => false,
+    }
+}
+
+#[test]
+fn it_is_told_who_knows_an_item(rt: HostRuntime) -> Result<(), Fail> {
+    let keys = RandomState::new(&rt)?;
+    let mut files = files(rt.alloc())?;
+    assert!(rt; first_other(rt.alloc(), keys, &mut files, Form::Text, MADE.as_slice()).is_none());
+    assert!(rt; tells_who(rt.alloc(), &mut files, "B", "x", "note: A knows uri x\n"));
+    assert!(rt;
+        tells_who(
+            rt.alloc(),
+            &mut files,
+            "A",
+            "y",
+            "note: A has uri y, which ends in `y`\n"
+        )
+    );
+    assert!(rt; tells_who(rt.alloc(), &mut files, "A", "z", ""));
     Ok(())
 }

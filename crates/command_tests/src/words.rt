@@ -258,6 +258,14 @@ fn commands_on_files_are_told(rt: HostRuntime) -> Result<(), Fail> {
         ),
         ("recall capture d A a b", "", 3, "", "fault Read\n"),
         ("recall capture d A - --lines", "", 3, "", "fault Read\n"),
+        ("recall capture d A - --each", "", 3, "", "fault Read\n"),
+        (
+            "recall capture d A - --each --lines",
+            "",
+            2,
+            "",
+            "error: only one of '--lines' and '--each'",
+        ),
         (
             "recall lint none a b --json",
             "",

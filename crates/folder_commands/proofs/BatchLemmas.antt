@@ -1,5 +1,5 @@
 -- Inputs that are read and taken one after another.
-use Rattle.std.proofs.Common.{◌≡◌, ◌+◌, ◌-◌, ℕ, Bool, Bor, true, false, List, [], ◌∷◌, ◌++◌, Option, Some, None, Result, Ok, Err, length, take, inl, inr, refl, sym, ap, ◌∙◌, subst, arith, append_assoc, append-nil, if◌then◌else◌}
+use Rattle.std.proofs.Common.{◌≡◌, ◌<◌, ◌+◌, ◌-◌, ℕ, Bool, Bor, true, false, List, [], ◌∷◌, ◌++◌, Option, Some, None, Result, Ok, Err, length, take, inl, inr, refl, sym, ap, ◌∙◌, subst, arith, append_assoc, append-nil, length-append, if◌then◌else◌}
 use Rattle.std.specs.Fmt.{decimal}
 use Rattle.std.specs.Char.{is_ascii_whitespace}
 use Rattle.std.specs.List.{suffix_len}
@@ -33,7 +33,7 @@ use Rattle.recall_outcomes.specs.declared.outcomes.Form.{Form}
 use Rattle.folder_commands.proofs.CallsInTurn.{calls_then, list_then}
 use Rattle.folder_commands.specs.Calls.{KeepsSite, ListsSites, opens_site}
 use Rattle.folder_commands.specs.Folders.{list_path}
-use Rattle.folder_commands.specs.Batches.{CaptureComesTo, ComesTo, EndsEarly, EndsWhere, Input, ReadsAs, ReadsWord, ReadsWords, StartComesTo, Standing, Takes, TakesOne, TakesSome, TakesThose, came_of, done_as, is_blank, line_bytes, no_counts, of_line, of_lines, standing}
+use Rattle.folder_commands.specs.Batches.{AreByEvent, CaptureComesTo, ComesTo, EndsEarly, EndsWhere, Input, ReadsAs, ReadsWord, ReadsWords, StartComesTo, Standing, Takes, TakesOne, TakesSome, TakesThose, came_of, done_as, is_blank, line_bytes, no_counts, of_event, of_events, of_file, of_line, of_lines, standing}
 use Rattle.folder_commands.specs.declared.inputs.Doing.{Doing}
 use Rattle.folder_commands.specs.declared.inputs.Doing.TheVariants as doings
 use Rattle.folder_commands.specs.declared.batches.WordKind.{WordKind}
@@ -236,13 +236,60 @@ takes_more form sites old mid first after taken some = record {
 }
 
 -- a file's document was taken
-pub takes_document : {F K : Type 0} (does : F → FileCall K → F → Type 0) (old new : F) (path source bytes : List ℕ) (form : Form) (sites : List Site) (a b : Standing)
-    → source ≡ path → does old (ReadFile path bytes) new → TakesOne form sites a (record { doing = doings.Capture; source = source; bytes = bytes }) b
-    → TakesThose (λ inputs. Led does old new (ReadsWord kinds.Document path inputs)) form sites a b
-takes_document does old new path source bytes form sites a b e read one = record {
-  inputs = record { doing = doings.Capture; source = path; bytes = bytes } ∷ [];
+pub takes_document : {F K : Type 0} (does : F → FileCall K → F → Type 0) (old new : F) (path bytes : List ℕ) (form : Form) (sites : List Site) (a b : Standing)
+    → does old (ReadFile path bytes) new → TakesOne form sites a (of_file path bytes) b → TakesThose (λ inputs. Led does old new (ReadsWord kinds.Document path inputs)) form sites a b
+takes_document does old new path bytes form sites a b read one = record {
+  inputs = of_file path bytes ∷ [];
   are = record { calls = ReadFile path bytes ∷ []; are = (bytes, refl, refl); led = (new, read, refl) };
-  taken = (b, subst (λ s. TakesOne form sites a (record { doing = doings.Capture; source = s; bytes = bytes }) b) e one, refl);
+  taken = (b, one, refl);
+}
+
+-- an input that is told of by another text for its source
+pub takes_named : (doing : Doing) (form : Form) (sites : List Site) (a b : Standing) (source named bytes : List ℕ) → source ≡ named
+    → TakesOne form sites a (record { doing = doing; source = source; bytes = bytes }) b → TakesOne form sites a (record { doing = doing; source = named; bytes = bytes }) b
+takes_named doing form sites a b source named bytes e one = subst (λ s. TakesOne form sites a (record { doing = doing; source = s; bytes = bytes }) b) e one
+
+-- Of a list so many were taken, and one is next.
+module _ {A : Type 0} (all taken rest after : List A) (x : A) (left : all ≡ taken ++ rest) (next : rest ≡ x ∷ after) where
+  whole : all ≡ taken ++ x ∷ after
+  whole = left ∙ ap (λ l. taken ++ l) next
+
+  pub left_more : all ≡ (taken ++ x ∷ []) ++ after
+  left_more = whole ∙ sym (append_assoc taken (x ∷ []) after)
+
+  pub fewer : length taken < length all
+  fewer = let n : length all ≡ length taken + length (x ∷ after) = ap length whole ∙ length-append taken (x ∷ after) in omega arith
+
+-- one was taken, and that is some
+pub takes_single : (form : Form) (sites : List Site) (a b : Standing) (input : Input) → TakesOne form sites a input b → Takes form sites a (input ∷ []) b
+takes_single form sites a b input one = (b, one, refl)
+
+-- the documents of a file's events, and one more
+events_more : (path : List ℕ) (number : ℕ) (documents : List (List ℕ)) (document : List ℕ)
+    → of_events path number (documents ++ document ∷ []) ≡ of_events path number documents ++ of_event path (number + length documents) document ∷ []
+events_more path number [] document =
+    let here : number ≡ number + 0 = omega arith in
+    ap (λ (n : ℕ). of_event path n document ∷ []) here
+events_more path number (d ∷ documents) document =
+    let later : (number + 1) + length documents ≡ number + length (d ∷ documents) = omega arith in
+    ap (λ es. of_event path number d ∷ es)
+    (events_more path (number + 1) documents document ∙ ap (λ (n : ℕ). of_events path (number + 1) documents ++ of_event path n document ∷ []) later)
+
+pub takes_events : (form : Form) (sites : List Site) (a b c : Standing) (path document : List ℕ) (documents : List (List ℕ)) (number : ℕ) → number ≡ 1 + length documents
+    → Takes form sites a (of_events path 1 documents) b → TakesOne form sites b (of_event path number document) c → Takes form sites a (of_events path 1 (documents ++ document ∷ [])) c
+takes_events form sites a b c path document documents number count some one =
+    subst (λ ds. Takes form sites a ds c) (sym (events_more path 1 documents document))
+    (takes_one form sites a b c (of_events path 1 documents) (of_event path (1 + length documents) document) some
+    (subst (λ (n : ℕ). TakesOne form sites b (of_event path n document) c) count one))
+
+-- the events of a file were taken, or the file where it has no list of them
+pub takes_by_event : {F K : Type 0} (does : F → FileCall K → F → Type 0) (old new : F) (path bytes : List ℕ) (inputs : List Input) (form : Form) (sites : List Site) (a b : Standing)
+    → does old (ReadFile path bytes) new → AreByEvent path bytes inputs → Takes form sites a inputs b
+    → TakesThose (λ inputs. Led does old new (ReadsWord kinds.DocumentEvents path inputs)) form sites a b
+takes_by_event does old new path bytes inputs form sites a b read are taken = record {
+  inputs = inputs;
+  are = record { calls = ReadFile path bytes ∷ []; are = (bytes, are, refl); led = (new, read, refl) };
+  taken = taken;
 }
 
 -- a word was taken as an EPC

@@ -9,3 +9,4 @@ pub mod RunLemmas
 pub mod StepLemmas
 pub mod UntoldLemmas
 pub mod DryStartLemmas
+pub mod KnowerLemmas

@@ -1,9 +1,10 @@
 -- What several inputs of one site come to, documents or EPCs: its file is opened once, and each input is a step of its own.
-use Rattle.std.specs.Prelude.{◌≡◌, ◌+◌, ◌-◌, ◌==◌, ◌||◌, ◌⊎◌, ℕ, Bool, List, [], ◌∷◌, ◌++◌, if◌then◌else◌, length, map, take, Option, Some, None, Result, Ok, Err, IsUtf8, string_bytes}
+use Rattle.std.specs.Prelude.{◌≡◌, ◌+◌, ◌-◌, ◌==◌, ◌||◌, ◌⊎◌, ℕ, Bool, List, [], ◌∷◌, ◌++◌, if◌then◌else◌, codes, length, map, take, Option, Some, None, Result, Ok, Err, IsUtf8, string_bytes}
 use Rattle.std.specs.Char.{is_ascii_whitespace}
 use Rattle.std.specs.Fmt.{decimal}
 use Rattle.std.specs.List.{list_all, suffix_len}
 use Rattle.std.specs.Io.KnownBytes.{Appends}
+use Rattle.document_lint.specs.Splitting.{AreEventsOf, IsUnlisted}
 use Rattle.event_json.specs.Sites.{Site, named}
 use Rattle.item_spellings.specs.Keys.{reading_by}
 use Rattle.item_spellings.specs.declared.faults.ScanFault.TheVariants.{NoElements}
@@ -149,6 +150,7 @@ pub record TakesSome (form : Form) (sites : List Site) (old : Standing) (after :
 abbrev pub task_of : WordKind → Task
 task_of kinds.Document = tasks.Capture
 task_of kinds.DocumentLines = tasks.Capture
+task_of kinds.DocumentEvents = tasks.Capture
 task_of (kinds.Epc spelling) = tasks.Start
 task_of (kinds.EpcLines spelling) = tasks.Start
 
@@ -180,11 +182,32 @@ ReadsLines doing path inputs calls =
     (texts : List (List ℕ)) × (inputs ≡ of_lines doing path 1 texts)
     × (calls ≡ map (λ text. ReadLine path (Some text)) texts ++ ReadLine path None ∷ [])
 
--- the inputs of a word: a file is one document, or has one, or an EPC, in each line; or the word is an EPC itself
+-- the document of the event of this number of a file
+abbrev pub of_event : List ℕ → ℕ → List ℕ → Input
+of_event path number document = record { doing = doings.Capture; source = path ++ (codes " event " ++ decimal number); bytes = document }
+
+-- the documents of a file's events from this one on, of which the first has this number
+abbrev pub of_events : List ℕ → ℕ → List (List ℕ) → List Input
+of_events path number [] = []
+of_events path number (document ∷ documents) = of_event path number document ∷ of_events path (number + 1) documents
+
+-- a file as one document
+abbrev pub of_file : List ℕ → List ℕ → Input
+of_file path bytes = record { doing = doings.Capture; source = path; bytes = bytes }
+
+-- the inputs of a file's events, each of which is a document of its own; a file without a list of events is one document
+abbrev pub AreByEvent : List ℕ → List ℕ → List Input → Type 0
+AreByEvent path bytes inputs =
+    ((documents : List (List ℕ)) × AreEventsOf bytes documents × (inputs ≡ of_events path 1 documents))
+    ⊎ (IsUnlisted bytes × (inputs ≡ of_file path bytes ∷ []))
+
+-- the inputs of a word: a file is one document, or has one in each line or in each event, or an EPC in each line; or the word is
+-- an EPC itself
 abbrev pub ReadsWord : {K : Type 0} → WordKind → List ℕ → List Input → List (FileCall K) → Type 0
 ReadsWord kinds.Document path inputs calls =
-    (bytes : List ℕ) × (inputs ≡ record { doing = doings.Capture; source = path; bytes = bytes } ∷ []) × (calls ≡ ReadFile path bytes ∷ [])
+    (bytes : List ℕ) × (inputs ≡ of_file path bytes ∷ []) × (calls ≡ ReadFile path bytes ∷ [])
 ReadsWord kinds.DocumentLines path inputs calls = ReadsLines doings.Capture path inputs calls
+ReadsWord kinds.DocumentEvents path inputs calls = (bytes : List ℕ) × AreByEvent path bytes inputs × (calls ≡ ReadFile path bytes ∷ [])
 ReadsWord (kinds.Epc spelling) text inputs calls = (inputs ≡ record { doing = doings.Start spelling; source = text; bytes = text } ∷ []) × (calls ≡ [])
 ReadsWord (kinds.EpcLines spelling) path inputs calls = ReadsLines (doings.Start spelling) path inputs calls
 

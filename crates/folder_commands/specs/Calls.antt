@@ -21,6 +21,7 @@ use Rattle.folder_commands.specs.Audits.{AnswersAudit}
 use Rattle.folder_commands.specs.DryStarts.{AnswersDryStart}
 use Rattle.folder_commands.specs.FileCalls.{FileCall, ReadFile, OpenedSite, ClosedSite}
 use Rattle.folder_commands.specs.Folders.{file_path, list_path}
+use Rattle.folder_commands.specs.Knowers.{TellsKnowers}
 use Rattle.folder_commands.specs.Refusals.{IsNoSite, IsRefusal, refusal_of}
 use Rattle.folder_commands.specs.Reports.{AnswersReport}
 use Rattle.folder_commands.specs.SiteItems.{AnswersItems}
@@ -116,13 +117,13 @@ module _ {K : Type 0} (shown : K → Option Record) (stored : K → Type 0) (fol
     pub lasts : stored after
     pub calls_are : calls ≡ opens_site folder sites site keeper ∷ ClosedSite after ∷ []
 
-  -- the files of all sites were opened, the outcome is what their records say, and they were closed
-  pub record TellsAll (Tells : List Record → Outcome → Type 0) (outcome : Outcome) (calls : List (FileCall K)) : Type 0 where
+  -- the files of all sites were opened, the answer is what their records say, and they were closed
+  pub record TellsAll {A : Type 0} (Tells : List Record → A → Type 0) (answer : A) (calls : List (FileCall K)) : Type 0 where
     pub keepers : List K
     pub records : List Record
     pub opened : KeepFrom shown stored sites 0 keepers records
     pub number : length keepers ≡ length sites
-    pub told : Tells records outcome
+    pub told : Tells records answer
     pub calls_are : calls ≡ opens_from folder sites 0 keepers ++ closes_all keepers
 
   -- the file of the site was opened, the outcome is what its record says, and it was closed
@@ -158,6 +159,12 @@ module _ {K : Type 0} (shown : K → Option Record) (stored : K → Type 0) (fol
   abbrev pub TracesItem : ℕ → Result (List ℕ) SpellingFault → Bool → Ways → Bool → Outcome → List (FileCall K) → Type 0
   TracesItem site (Ok item) back ways events outcome calls = TellsAll (λ rs o. AnswersTrace rs site item back ways events o) outcome calls
   TracesItem site (Err fault) back ways events outcome calls = IsRefusal (refusal_of fault) outcome × (calls ≡ [])
+
+  -- nothing is told of a name that isn't listed, or of a text that spells no item, and no call is made
+  abbrev pub KnowersNamed : List ℕ → Option ℕ → Result (List ℕ) SpellingFault → List ℕ → List (FileCall K) → Type 0
+  KnowersNamed text (Some site) (Ok item) told calls = TellsAll (λ rs lines. TellsKnowers sites site item text rs lines) told calls
+  KnowersNamed text (Some site) (Err fault) told calls = (told ≡ []) × (calls ≡ [])
+  KnowersNamed text None read told calls = (told ≡ []) × (calls ≡ [])
 
 -- at the site of a name; a name that isn't listed is refused without a further call
 abbrev pub AtSite : {K : Type 0} → List ℕ → Option ℕ → (ℕ → Outcome → List (FileCall K) → Type 0) → Outcome → List (FileCall K) → Type 0
@@ -235,3 +242,9 @@ module _ {K : Type 0} (shown : K → Option Record) (stored : K → Type 0) (fol
       AfterList folder
       (λ sites rest. IsPlain sites output
       × AtSite name (named sites name) (λ site. TellsSite shown stored folder sites site (AnswersItems site text)) output.outcome rest) calls
+
+  -- it is told who knows an item that the site of a name doesn't know, and which of its items end in the item's text
+  abbrev pub KnowersAt : List ℕ → Spelled → List ℕ → List (FileCall K) → Type 0
+  KnowersAt name item told calls =
+      AfterList folder
+      (λ sites rest. KnowersNamed shown stored folder sites item.text.now (named sites name) (item_reading item) told rest) calls

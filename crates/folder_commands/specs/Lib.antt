@@ -9,6 +9,7 @@ pub mod FailingToRun
 pub mod Faults
 pub mod FileCalls
 pub mod Folders
+pub mod Knowers
 pub mod Lints
 pub mod Making
 pub mod NoteLaws

@@ -50,6 +50,8 @@ struct AuditOfAll {}
 impl Question for AuditOfAll {
     ghost use Rattle.folder_commands.specs.Audits.{AnswersAudit};
 
+    type Answer = Outcome;
+
     ghost answers = { λ q rs o. AnswersAudit rs o };
 
     fn answer(&self, alloc: Global, records: &[&SiteState]) -> Result<Outcome, Fault> {

@@ -5,10 +5,11 @@ ghost use Rattle.std.specs.Prelude.{◌≡◌, ◌∷◌, [], List, Some, IfOk, 
 ghost use Rattle.std.specs.Io.KnownBytes.{Appends};
 ghost use Rattle.recall_text.specs.Writing.{AppendsBeginning};
 ghost use Rattle.site_core.specs.Records.{Record};
-ghost use Rattle.folder_commands.specs.Batches.{DoesAll, EndsEarly, ReadsLines, ReadsWord, ReadsWords, Takes, TakesOne, TakesSome, TakesThose, input_of, is_blank, line_bytes, no_counts, of_lines, standing, task_of};
+ghost use Rattle.folder_commands.specs.Batches.{DoesAll, EndsEarly, ReadsLines, ReadsWord, ReadsWords, Takes, TakesOne, TakesSome, TakesThose, input_of, is_blank, line_bytes, no_counts, of_file, of_lines, standing, task_of};
 ghost use Rattle.folder_commands.specs.FileCalls.{Began, Led};
 ghost use Rattle.folder_commands.specs.declared.batches.WordKind.TheVariants as kinds;
 
+use crate::batch_events::take_by_event;
 use crate::folders::{Files, open_site, sites_of};
 use crate::inputs::{Doing, done_as, done_with};
 use crate::outputs::no_site;
@@ -28,6 +29,8 @@ pub enum WordKind {
     Document,
     /// The path of a file of which each line is a document, but for blank ones.
     DocumentLines,
+    /// The path of a file that is one document, of which each event is taken on its own.
+    DocumentEvents,
     /// An EPC, in this spelling.
     Epc(Spelling),
     /// The path of a file of which each line is an EPC in this spelling, but for blank ones. Spaces at its end are no part
@@ -55,17 +58,17 @@ pub struct BatchSummary {
 
 /// An input: what is done with it, and what its line names.
 #[derive(Debug, Drop)]
-struct Given {
-    doing: Doing,
-    source: String,
-    bytes: Vec<u8>,
+pub(crate) struct Given {
+    pub(crate) doing: Doing,
+    pub(crate) source: String,
+    pub(crate) bytes: Vec<u8>,
 }
 
 /// What the inputs so far came to, and what was passed over.
 #[derive(Clone, Copy, Debug)]
-struct Counts {
-    totals: Totals,
-    untraced: Untraced,
+pub(crate) struct Counts {
+    pub(crate) totals: Totals,
+    pub(crate) untraced: Untraced,
 }
 
 /// Captures documents, or starts recalls of items, at a site of a folder, whose file is opened once. Each input is a step of
@@ -177,6 +180,9 @@ fn take_word<K: SiteKeeper, F: Files<K>, W: Write>(
                 alloc, files, sites, keeper, doing, word, counts, form, output,
             )
         }
+        WordKind::DocumentEvents => {
+            take_by_event(alloc, files, sites, keeper, word, counts, form, output)
+        }
         WordKind::Epc(spelling) => take_epc(
             alloc, files, sites, keeper, spelling, word, counts, form, output,
         ),
@@ -209,6 +215,28 @@ fn take_document<K: SiteKeeper, F: Files<K>, W: Write>(
     ensures stored { K.stored keeper.old → K.stored keeper.new }
 {
     let bytes = files.read(alloc, path)?;
+    take_file(alloc, sites, keeper, path, bytes, counts, form, output)
+}
+
+/// Takes the document that a file of these bytes is.
+pub(crate) fn take_file<K: SiteKeeper, W: Write>(
+    alloc: Global,
+    sites: &Sites,
+    keeper: &mut K,
+    path: &str,
+    bytes: Vec<u8>,
+    counts: Counts,
+    form: Form,
+    output: &mut W,
+) -> Result<Counts, Fault>
+    ensures taken { (old : Record) → K.shown keeper.old ≡ Some old
+        → IfOk result (λ after. (new : Record) × (K.shown keeper.new ≡ Some new)
+        × TakesOne form sites.now
+        (standing old (W.contents output.old) counts) (of_file path.now bytes.items) (standing new (W.contents output.new) after)) }
+    ensures early { (old : Record) → K.shown keeper.old ≡ Some old
+        → OnErr result (TakesSome form sites.now (standing old (W.contents output.old) counts) (W.contents output.new)) }
+    ensures stored { K.stored keeper.old → K.stored keeper.new }
+{
     let source = String::from_str(alloc, path)?;
     let given = Given {
         doing: Doing::Capture,
@@ -346,13 +374,14 @@ fn task_of(kind: WordKind) -> Task
     match kind {
         WordKind::Document => Task::Capture,
         WordKind::DocumentLines => Task::Capture,
+        WordKind::DocumentEvents => Task::Capture,
         WordKind::Epc(_) => Task::Start,
         WordKind::EpcLines(_) => Task::Start,
     }
 }
 
 /// Takes an input, writes its line, and counts it.
-fn take<K: SiteKeeper, W: Write>(
+pub(crate) fn take<K: SiteKeeper, W: Write>(
     alloc: Global,
     sites: &Sites,
     keeper: &mut K,

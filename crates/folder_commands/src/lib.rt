@@ -5,10 +5,12 @@
 #![tactic(auto)]
 
 mod audits;
+mod batch_events;
 mod batches;
 mod dry_starts;
 mod folders;
 mod inputs;
+mod knowers;
 pub mod laws;
 mod lints;
 mod making;
@@ -28,6 +30,7 @@ pub use audits::{audit_of, audit_sites};
 pub use batches::{Batch, BatchSummary, WordKind, do_batch};
 pub use dry_starts::dry_start;
 pub use folders::Files;
+pub use knowers::who_knows;
 pub use lints::{LintSummary, lint_documents};
 pub use making::init;
 pub use notes::{RunNotes, Stop, StopCause};

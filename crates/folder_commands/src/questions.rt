@@ -24,11 +24,14 @@ pub(crate) trait Question {
     ghost use Rattle.site_recovery.specs.Checking.{records_at};
     ghost use Rattle.site_recovery.specs.FittingAt.{AreAllSites};
 
+    /// What is answered.
+    type Answer;
+
     /// What these records answer.
-    ghost answers: { Self → List Record → Outcome → Type 0 };
+    ghost answers: { Self → List Record → Self.Answer → Type 0 };
 
     /// The answer of the records of all sites, in the order of their numbers, for which memory alone may run out.
-    fn answer(&self, alloc: Global, records: &[&SiteState]) -> Result<Outcome, Fault>
+    fn answer(&self, alloc: Global, records: &[&SiteState]) -> Result<Self::Answer, Fault>
         requires all { AreAllSites (records_at records.now) }
         ensures answered { IfOk result (answers self.now (records_at records.now)) }
         ensures failed { IfErr result (λ fault. fault ≡ Fault.NoMemory) };
@@ -41,16 +44,16 @@ pub(crate) fn ask_all<K: SiteKeeper, F: Files<K>, Q: Question>(
     folder: &str,
     sites: &Sites,
     question: &Q,
-) -> Result<Outcome, Fault>
-    ensures calls { IfOk result (λ outcome. Led F.does files.old files.new
-        (TellsAll K.shown K.stored folder.now sites.now (Q.answers question.now) outcome)) }
+) -> Result<Q::Answer, Fault>
+    ensures calls { IfOk result (λ answer. Led F.does files.old files.new
+        (TellsAll K.shown K.stored folder.now sites.now (Q.answers question.now) answer)) }
     ensures failed { IfErr result (λ fault. Led F.does files.old files.new
         (AskAllFails K.shown K.stored folder.now sites.now fault)) }
 {
     let keepers = open_all(alloc, files, folder, sites)?;
-    let outcome = ask_keepers(alloc, keepers.as_slice(), question);
+    let answer = ask_keepers(alloc, keepers.as_slice(), question);
     close_all(files, keepers);
-    outcome
+    answer
 }
 
 /// Asks the records that keepers show.
@@ -58,7 +61,7 @@ fn ask_keepers<K: SiteKeeper, Q: Question>(
     alloc: Global,
     keepers: &[K],
     question: &Q,
-) -> Result<Outcome, Fault>
+) -> Result<Q::Answer, Fault>
     requires { (rs : List Record) × AreShown K.shown keepers.now rs × AreAllSites rs }
     ensures answered { (rs : List Record) → AreShown K.shown keepers.now rs → IfOk result (Q.answers question.now rs) }
     ensures failed { IfErr result (λ fault. fault ≡ Fault.NoMemory) }

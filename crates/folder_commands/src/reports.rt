@@ -95,6 +95,8 @@ struct ReportOf {
 impl Question for ReportOf {
     ghost use Rattle.folder_commands.specs.Reports.{AnswersReport};
 
+    type Answer = Outcome;
+
     ghost answers = { λ q rs o. AnswersReport rs q.recall q.ways q.events o };
 
     fn answer(&self, alloc: Global, records: &[&SiteState]) -> Result<Outcome, Fault> {

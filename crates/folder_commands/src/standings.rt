@@ -103,6 +103,8 @@ struct AllRecalls {
 impl Question for AllRecalls {
     ghost use Rattle.folder_commands.specs.Standings.{AnswersRecalls};
 
+    type Answer = Outcome;
+
     ghost answers = { λ q rs o. AnswersRecalls rs q.coded o };
 
     fn answer(&self, alloc: Global, records: &[&SiteState]) -> Result<Outcome, Fault> {
@@ -122,6 +124,8 @@ struct OneRecall {
 
 impl Question for OneRecall {
     ghost use Rattle.folder_commands.specs.Standings.{AnswersRecall};
+
+    type Answer = Outcome;
 
     ghost answers = { λ q rs o. AnswersRecall rs q.recall q.coded o };
 

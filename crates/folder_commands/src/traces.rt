@@ -112,6 +112,8 @@ struct TraceOf {
 impl Question for TraceOf {
     ghost use Rattle.folder_commands.specs.Traces.{AnswersTrace};
 
+    type Answer = Outcome;
+
     ghost answers = { λ q rs o. AnswersTrace rs q.site q.item q.back q.ways q.events o };
 
     fn answer(&self, alloc: Global, records: &[&SiteState]) -> Result<Outcome, Fault> {

@@ -49,7 +49,7 @@ audit_note [] = note (codes "the records of the sites are consistent, and no rec
 audit_note (r ∷ recalls) = nothing
 
 blocked_note : (blocked : Bool) → AllNotes (blocked_advice blocked)
-blocked_note true = note (codes "nothing of the document was kept: if the goods have left, capture what the site that took them wrote, and start a recall of the item there") refl
+blocked_note true = note (codes "nothing of the document was kept, and `recall capture --each` keeps its other events: if the goods have left, capture what the site that took them wrote, and start a recall of the item there") refl
 blocked_note false = nothing
 
 pub advice_is_line : AdviceIsALine

@@ -42,7 +42,7 @@ is_blocked (refusals.Step (steps.Blocked r item event)) = true
 is_blocked other = false
 
 abbrev pub blocked_advice : Bool → Option (List ℕ)
-blocked_advice true = Some (codes "note: nothing of the document was kept: if the goods have left, capture what the site that took them wrote, and start a recall of the item there\n")
+blocked_advice true = Some (codes "note: nothing of the document was kept, and `recall capture --each` keeps its other events: if the goods have left, capture what the site that took them wrote, and start a recall of the item there\n")
 blocked_advice false = None
 
 abbrev pub advice : Outcome → Option (List ℕ)

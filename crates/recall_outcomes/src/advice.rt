@@ -117,7 +117,7 @@ fn blocked_advice(is_blocked: bool) -> Option<&'static str>
 {
     if is_blocked {
         Some(
-            "note: nothing of the document was kept: if the goods have left, capture what the site that took them wrote, and start a recall of the item there\n",
+            "note: nothing of the document was kept, and `recall capture --each` keeps its other events: if the goods have left, capture what the site that took them wrote, and start a recall of the item there\n",
         )
     } else {
         None

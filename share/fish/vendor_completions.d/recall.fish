@@ -9,6 +9,7 @@ complete -c recall -n __fish_use_subcommand -f -a capture -d 'Captures EPCIS doc
 complete -c recall -n '__fish_seen_subcommand_from capture' -l json -d 'Print JSON, an object a line'
 complete -c recall -n '__fish_seen_subcommand_from capture' -l wait -x -d 'Wait so long for a site\'s file that another program has open, 0 to 86400 [default: 0]'
 complete -c recall -n '__fish_seen_subcommand_from capture' -l lines -d 'Each line of a file is a document'
+complete -c recall -n '__fish_seen_subcommand_from capture' -l each -d 'Capture each event of a document on its own'
 complete -c recall -n '__fish_seen_subcommand_from capture' -l help -d 'Print help'
 complete -c recall -n __fish_use_subcommand -f -a start -d 'Starts a recall of an item at a site that has it'
 complete -c recall -n '__fish_seen_subcommand_from start' -l json -d 'Print JSON, an object a line'

@@ -5,7 +5,7 @@ use Rattle.std.proofs.lemmas.List.{length-map}
 use Rattle.clap.specs.Words.{found_of, rows_of}
 use Rattle.clap.proofs.WalkLemmas.{raw_values-rows}
 use Rattle.folder_commands.specs.declared.batches.WordKind.{WordKind}
-use Rattle.command_line.specs.CommandLines.{GivesWords, has_lines}
+use Rattle.command_line.specs.CommandLines.{GivesWords, has_many}
 use Rattle.command_line.proofs.Words.{are_several, epcs_have_lines, gives_epcs, mistake_there, not_set, ok_there, one_text_alone, several_of}
 use Rattle.command_line.proofs.command_lines.start_command.Goals as goal
 
@@ -47,7 +47,7 @@ returns c =
     let kind = c.epcs_kind-kind.ensures in
     record {
       several =
-          several_of c.epcs_kind-kind.result c.is_set-by_lines.result _ _ (ap has_lines kind ∙ epcs_have_lines c.is_set-by_lines.result c.in_ok-spelling.spelling) same
+          several_of c.epcs_kind-kind.result c.is_set-by_lines.result _ _ (ap has_many kind ∙ epcs_have_lines c.is_set-by_lines.result c.in_ok-spelling.spelling) same
           (are_several c.is_one_input.result c.is_set-by_lines.result (length c.in_ok-epcs.epcs.now) c.is_one_input.ensures c.if-is_one_input.false);
       folder = c.in_ok-folder.ensures;
       site = c.in_ok-site.ensures;

@@ -13,7 +13,7 @@ pub returns-in-Audit-clause-failed : goal.returns-in-Audit-clause-failed
 returns-in-Audit-clause-failed g c = rw c.in-Audit.is c.audit_sites.ensures.failed
 
 pub returns-in-Trace-clause-failed : goal.returns-in-Trace-clause-failed
-returns-in-Trace-clause-failed g c = rw c.in-Trace.is c.trace_item.ensures.failed
+returns-in-Trace-clause-failed g c = rw c.in-Trace.is c.trace_known.ensures.failed
 
 pub returns-in-Recalls-clause-failed : goal.returns-in-Recalls-clause-failed
 returns-in-Recalls-clause-failed g c = rw c.in-Recalls.is c.recalls_standing.ensures.failed
@@ -25,7 +25,7 @@ pub returns-in-Items-clause-failed : goal.returns-in-Items-clause-failed
 returns-in-Items-clause-failed g c = rw c.in-Items.is c.items_of_site.ensures.failed
 
 pub returns-then-dry-clause-failed : goal.returns-then-dry-clause-failed
-returns-then-dry-clause-failed g c = rw (c.in-Start.is, c.if-dry.true) c.dry_start.ensures.failed
+returns-then-dry-clause-failed g c = rw (c.in-Start.is, c.if-dry.true) c.dry_start_known.ensures.failed
 
 pub returns-else-dry-clause-failed : goal.returns-else-dry-clause-failed
-returns-else-dry-clause-failed g c = rw (c.in-Start.is, c.if-dry.false) c.start.ensures.failed
+returns-else-dry-clause-failed g c = rw (c.in-Start.is, c.if-dry.false) c.start_known.ensures.failed

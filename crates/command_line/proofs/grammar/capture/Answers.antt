@@ -6,4 +6,5 @@ pub returns : goal.returns
 returns c =
     let site = adds_rule _ _ _ _ _ c.in_ok-arg.ensures c.required.ensures.local c.in_ok-on_folder.ensures c.required.ensures.rule in
     let files = adds_rule _ _ _ _ _ c.in_ok-arg-2.ensures c.files.ensures.local site c.files.ensures.rule in
-    IfOk-weaker c.arg-3.result _ _ (λ command adds. adds_rule _ _ command _ _ adds c.lines.ensures.local files c.lines.ensures.rule) c.arg-3.ensures
+    let lines = adds_rule _ _ _ _ _ c.in_ok-arg-3.ensures c.lines.ensures.local files c.lines.ensures.rule in
+    IfOk-weaker c.arg-4.result _ _ (λ command adds. adds_rule _ _ command _ _ adds c.each.ensures.local lines c.each.ensures.rule) c.arg-4.ensures

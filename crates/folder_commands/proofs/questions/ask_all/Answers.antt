@@ -8,8 +8,8 @@ pub returns-in_err-keepers-clause-failed : goal.returns-in_err-keepers-clause-fa
 returns-in_err-keepers-clause-failed g c =
     handed_on c.from_residual.result _ _ c.from_residual.ensures.1 (led_so g.F.Files.does _ _ (λ calls fails. inl fails) c.in_err-keepers.ensures.failed)
 
-pub ask_keepers-outcome-requires : goal.ask_keepers-outcome-requires
-ask_keepers-outcome-requires g c =
+pub ask_keepers-answer-requires : goal.ask_keepers-answer-requires
+ask_keepers-answer-requires g c =
     let shown = g.K.SiteKeeper.shown in
     let stored = g.K.SiteKeeper.stored in
     let sites = c.args.sites.now in
@@ -28,7 +28,7 @@ returns-clause-calls g c =
     let keepers = c.in_ok-keepers.keepers.items in
     let (records, keep) = c.in_ok-keepers.ensures.keep in
     let shows = subst (λ ks. AreShown shown ks records) (sym c.as_slice.ensures.value) (kept_shown shown g.K.SiteKeeper.stored sites 0 keepers records keep) in
-    ok_so c.ask_keepers-outcome.result
+    ok_so c.ask_keepers-answer.result
     (λ o told. record {
       calls = opens_from folder sites 0 keepers ++ closes_all keepers;
       are = record { keepers = keepers; records = records; opened = keep; number = c.in_ok-keepers.ensures.number; told = told; calls_are = refl };
@@ -36,11 +36,11 @@ returns-clause-calls g c =
           calls_then g.F.Files.does c.args.files.now c.open_all.new.files c.close_all.new.files (opens_from folder sites 0 keepers) (closes_all keepers) c.in_ok-keepers.ensures.opened
           c.close_all.ensures;
     })
-    (c.ask_keepers-outcome.ensures.answered records shows)
+    (c.ask_keepers-answer.ensures.answered records shows)
 
 pub returns-clause-failed : goal.returns-clause-failed
 returns-clause-failed g c =
     let (records, keep) = c.in_ok-keepers.ensures.keep in
-    err_so c.ask_keepers-outcome.result
+    err_so c.ask_keepers-answer.result
     (λ f out. asked_in_vain g.F.Files.does c.args.folder.now g.K.SiteKeeper.shown g.K.SiteKeeper.stored c.args.sites.now _ _ _ c.in_ok-keepers.keepers.items records f c.in_ok-keepers.ensures.opened keep c.in_ok-keepers.ensures.number out c.close_all.ensures)
-    c.ask_keepers-outcome.ensures.failed
+    c.ask_keepers-answer.ensures.failed
