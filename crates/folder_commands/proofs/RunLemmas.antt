@@ -7,7 +7,7 @@ use Rattle.recall_outcomes.specs.declared.outcomes.Outcome.{Outcome}
 use Rattle.recall_outcomes.specs.declared.outcomes.StartedRecall.{StartedRecall}
 use Rattle.site_core.specs.Records.{Record}
 use Rattle.site_threads.proofs.NoJobs.{all_of_frames}
-use Rattle.site_threads.specs.Gathering.{Began, FitAfter, HasEnd, HasTurned, Hinders, IsKept, KeepersFit, Opens, StandTogether}
+use Rattle.site_threads.specs.Gathering.{Began, FitAfter, HasEnd, HasTurned, HindersRun, IsKept, KeepersFit, MayStandIn, StandTogether}
 use Rattle.site_threads.specs.declared.desks.DeskOut.{DeskOut}
 use Rattle.site_threads.specs.declared.gather.GatherCause.{GatherCause}
 use Rattle.site_threads.specs.declared.gather.GatherCause.TheVariants.{NotAWorld, NoMemory, SiteLost, GaveUp}
@@ -57,9 +57,9 @@ module _ {K : Type 0} (shown : K → Option Record) where
   }
 
   module _ (may : K → Record → Type 0) where
-    all_open_in : (keepers : List K) (rs : List Record) → AllShow shown keepers rs → AllZip (λ k r. Opens (shown k) (may k) r) keepers rs
+    all_open_in : (keepers : List K) (rs : List Record) → AllShow shown keepers rs → AllZip (λ k r. MayStandIn (shown k) (may k) r) keepers rs
     all_open_in [] [] all = tt
-    all_open_in (k ∷ keepers) (r ∷ rs) all = (subst (λ o. Opens o (may k) r) (sym all.0) refl, all_open_in keepers rs all.1)
+    all_open_in (k ∷ keepers) (r ∷ rs) all = (subst (λ o. MayStandIn o (may k) r) (sym all.0) refl, all_open_in keepers rs all.1)
     all_open_in [] (r ∷ rs) all = absurd all
     all_open_in (k ∷ keepers) [] all = absurd all
 
@@ -68,7 +68,7 @@ module _ {K : Type 0} (shown : K → Option Record) where
     shown_stand keepers rs fit all = fit rs (all_open_in keepers rs all)
 
     -- inconsistent records are the outcome, and nothing else that prevents a run
-    pub misfit_told : (failed : K → ℕ) (turns : ℕ) (old new : List K) (cause : GatherCause) (outcome : Outcome) (notes : Option RunNotes) → Hinders shown new cause → FitAfter shown may old cause new → TellsCause cause outcome → notes ≡ None
+    pub misfit_told : (failed : K → ℕ) (turns : ℕ) (old new : List K) (cause : GatherCause) (outcome : Outcome) (notes : Option RunNotes) → HindersRun shown new cause → FitAfter shown may old cause new → TellsCause cause outcome → notes ≡ None
         → AnswersRun shown failed turns old new outcome notes
     misfit_told failed turns old new (NotAWorld (worlds.Misfit misfit)) outcome notes (records, shows, dont) fit told none =
         subst (λ o. AnswersRun shown failed turns old new o notes) (sym told) (

@@ -12,7 +12,7 @@ use Rattle.site_core.specs.Records.{Record}
 use Rattle.site_recovery.specs.Looks.{world_of}
 use Rattle.site_recovery.specs.Misfits.{IsMisfit}
 use Rattle.site_recovery.specs.declared.checking.Misfit.{Misfit}
-use Rattle.site_threads.specs.Gathering.{Began, Explains, FitAfter, HasTurned, Hinders, IsKept, StandTogether}
+use Rattle.site_threads.specs.Gathering.{Began, Explains, FitAfter, HasTurned, HindersRun, IsKept, StandTogether}
 use Rattle.site_threads.specs.Jobs.{AreOfFrames}
 use Rattle.site_threads.specs.declared.gather.GatherCause.{GatherCause}
 use Rattle.site_threads.specs.declared.gather.GatherCause.TheVariants.{NotAWorld}
@@ -74,7 +74,7 @@ TellsCause cause outcome = ⊥
 -- whichever records they are open, or may be opened.
 pub record FailsRun {K G : Type 0} (shown : K → Option Record) (may : K → Record → Type 0) (reopens : K → Result K (Unopened K) → Type 0) (gives_up : G → ℕ → ℕ → Type 0) (turns : ℕ) (old new : List K) (fault : Fault) : Type 0 where
   pub cause : GatherCause
-  pub hinders : Hinders shown new cause
+  pub hinders : HindersRun shown new cause
   pub fit : FitAfter shown may old cause new
   pub explained : Explains shown reopens gives_up turns new cause
   pub fault_is : gather_fault cause ≡ Some fault

@@ -122,7 +122,7 @@ pub fn run_of<K: SiteKeeper + Send, G: Gate + Copy + Send, R: Threads + Wait + C
             let Gathered { keepers, .. } = run;
             (keepers, ran)
         }
-        Err(GatherFault { keepers, cause }) => (keepers, tell_cause(cause)),
+        Err(GatherFault { keepers, cause, .. }) => (keepers, tell_cause(cause)),
     }
 }
 

@@ -7,7 +7,7 @@ use Rattle.site_core.specs.Records.{Record}
 use Rattle.site_core.specs.declared.inputs.SiteInput.{SiteInput}
 use Rattle.site_core.specs.declared.outcomes.Effects.{Effects}
 use Rattle.site_core.specs.declared.outcomes.Effects.TheVariants as effects
-use Rattle.site_threads.specs.Answering.{Told}
+use Rattle.site_threads.specs.Answering.{AnsweredStep}
 use Rattle.site_threads.specs.Inputs.{is_delivery}
 use Rattle.site_threads.specs.Jobs.{is_stop, reply_to, told}
 use Rattle.site_threads.specs.Keepers.{shown_in, may_in}
@@ -47,7 +47,7 @@ module _ {K : Type 0} (shown : K → Option Record) (may : K → Record → Type
   there (Some k) up = (k, refl)
 
   pub told_so : (old new : Option K) (input : SiteInput) (a : Answer) (f : Bool) (p : Reply) → IsSome (shown_in shown old) → ((k : K) → old ≡ Some k → (l : K) × (new ≡ Some l) × applies k input a l)
-      → ((r : Record) → shown_in shown old ≡ Some r → Applies r input a (shown_in shown new) (may_in may new)) → f ≡ is_delivery input → Some p ≡ reply_to f a → Told shown may applies old input p new
+      → ((r : Record) → shown_in shown old ≡ Some r → Applies r input a (shown_in shown new) (may_in may new)) → f ≡ is_delivery input → Some p ≡ reply_to f a → AnsweredStep shown may applies old input p new
   told_so old new input a f p up asked step frame e =
       let k = there old up in
       let l = asked k.0 k.1 in

@@ -1,5 +1,5 @@
 -- Frames that are delivered, one after another.
-use Rattle.std.proofs.Common.{◌≡◌, ℕ, ◌⊎◌, inl, inr, Bool, true, false, true≢false, Option, Some, None, Result, Ok, Err, List, [], ◌∷◌, ◌++◌, map, refl, sym, ap, ◌∙◌, subst, append_assoc, append-nil}
+use Rattle.std.proofs.Common.{◌≡◌, ℕ, inl, inr, Bool, true, false, true≢false, Option, Some, None, Result, Ok, Err, List, [], ◌∷◌, ◌++◌, map, refl, sym, ap, ◌∙◌, subst, append_assoc, append-nil}
 use Rattle.std.specs.Prelude.{IfOk, IfErr, IsSome}
 use Rattle.frame_core.specs.declared.frames.Frame.{Frame}
 use Rattle.keeper_core.specs.declared.faults.KeepFault.{KeepFault}
@@ -10,7 +10,7 @@ use Rattle.site_core.specs.Steps.{CopiesRecord}
 use Rattle.site_core.specs.declared.inputs.SiteInput.{SiteInput}
 use Rattle.site_core.specs.declared.inputs.SiteInput.TheVariants.{Deliver}
 use Rattle.site_core.specs.declared.outcomes.Effects.{Effects}
-use Rattle.site_threads.specs.Answering.{Deliveries, Delivers, DoesJob, IsShort, Opened, Told}
+use Rattle.site_threads.specs.Answering.{Deliveries, Delivers, DoesJob, IsShort, Opened, AnsweredStep}
 use Rattle.site_threads.specs.Jobs.{entry_of, option_items, reply_to}
 use Rattle.site_threads.specs.Keepers.{shown_in}
 use Rattle.site_threads.specs.declared.jobs.Entry.{Entry}
@@ -67,7 +67,7 @@ module _ {K : Type 0} (shown : K → Option Record) (may : K → Record → Type
 
   -- one came
   module _ {E L : Type 0} (items : L → List Entry) (n : ℕ) (f : Frame) (old new : Option K) (noted noted' : List Frame) (steps steps' : L) (is : noted' ≡ noted ++ f ∷ []) where
-    pub delivers_one : (r : Result Reply E) → IfOk r (λ p. items steps' ≡ items steps ++ (record { number = n; input = Deliver f; reply = p }) ∷ []) → IfOk r (λ p. Told shown may applies old (Deliver f) p new) → IfErr r (λ e. steps' ≡ steps) → IfErr r (λ e. IsShort shown may applies old (Deliver f) new)
+    pub delivers_one : (r : Result Reply E) → IfOk r (λ p. items steps' ≡ items steps ++ (record { number = n; input = Deliver f; reply = p }) ∷ []) → IfOk r (λ p. AnsweredStep shown may applies old (Deliver f) p new) → IfErr r (λ e. steps' ≡ steps) → IfErr r (λ e. IsShort shown may applies old (Deliver f) new)
         → Delivers shown may applies old new noted noted' (items steps) (items steps')
     delivers_one (Ok p) entered told back short =
         let x : Entry = record { number = n; input = Deliver f; reply = p } in

@@ -1,15 +1,14 @@
 -- What is known of each site after its run.
-use Rattle.std.proofs.Common.{◌≡◌, inl, inr, ℕ, zero, suc, ◌+◌, ◌≤◌, Option, Some, None, IsSome, IfSome, true≢false, List, [], ◌∷◌, ◌++◌, All, map, drop, length, slice_get, get_or, Result, refl, sym, ap, ◌∙◌, subst, arith}
+use Rattle.std.proofs.Common.{◌≡◌, inl, inr, ℕ, zero, suc, ◌+◌, ◌<◌, ◌≤◌, Option, Some, None, IsSome, IfSome, true≢false, List, [], ◌∷◌, ◌++◌, All, map, drop, length, slice_get, get_or, Result, refl, sym, ap, ◌∙◌, subst, arith}
 use Rattle.std.proofs.lemmas.Option.{same_Some}
 use Rattle.keeper_core.specs.declared.faults.Unopened.{Unopened}
-use Rattle.std.proofs.lemmas.List.Elements.{All-head, All-tail}
+use Rattle.std.proofs.lemmas.List.Elements.{All-nil, All-cons, All-head, All-tail}
 use Rattle.std.specs.List.{AllZip, range_with_len}
 use Rattle.std.specs.Option.{option_or}
 use Rattle.site_core.specs.Records.{Record}
 use Rattle.world_core.specs.Faults.{AreOneWorld, MakeAWorld}
 use Rattle.world_core.specs.Keepers.{IsFirstClosed}
-use Rattle.wire_core.specs.Seats.{Line}
-use Rattle.crossbeam_channel.specs.Ends.{receives_on}
+use Rattle.wire_core.specs.Seats.{SeatView, Line}
 use Rattle.site_threads.specs.declared.desks.DeskOut.{DeskOut}
 use Rattle.site_threads.specs.declared.gather.GatherCause.{GatherCause}
 use Rattle.site_threads.specs.declared.gather.GatherCause.TheVariants.{NotAWorld, NoMemory, SiteLost, GaveUp}
@@ -20,15 +19,18 @@ use Rattle.site_threads.specs.declared.runs.SiteRun.{SiteRun}
 use Rattle.site_threads.specs.declared.turns.TurnCause.{TurnCause}
 use Rattle.site_threads.specs.declared.turns.TurnCause.TheVariants as turns
 use Rattle.site_threads.specs.Beginning.{BeganIn, TookEnd}
-use Rattle.site_threads.specs.Ends.{takes, IsOut}
-use Rattle.site_threads.specs.Gathering.{Opens, KeepersFit, Began, HasEnd, HasTurned, IsKept, AreOpenBefore, Explains, FitAfter, Hinders, WasRefused}
-use Rattle.site_threads.specs.Jobs.{Kept, jobs_in, option_items}
+use Rattle.site_threads.specs.Ends.{takes, HasTold, IsOut, SameOut}
+use Rattle.site_threads.specs.Gathering.{AreInOrder, MayStandIn, KeepersFit, Began, FitsEnd, HasEnd, HasTurned, IsFirstCause, IsKept, IsLeft, AreOpenBefore, Explains, FitAfter, HindersRun, NoneEndedBefore, WasRefused}
+use Rattle.site_threads.specs.Jobs.{Kept, jobs_in, option_items, receipts_in}
 use Rattle.site_threads.specs.Keepers.{shown_in, may_in}
 use Rattle.site_threads.specs.Parting.{HasKeeper, LeavesList, cause_of, first_cause}
-use Rattle.site_threads.specs.Running.{Holding}
-use Rattle.site_threads.specs.Runs.{EndedBy, IsReady, Ran}
+use Rattle.site_threads.specs.Running.{Holding, inputs_in}
+use Rattle.site_threads.specs.Runs.{EndedBy, IsFresh, IsReady, Ran}
+use Rattle.site_threads.specs.Sites.{start_of}
+use Rattle.site_threads.proofs.Changing.{led_so}
 use Rattle.site_threads.proofs.Gathering.{exact_when_fit}
-use Rattle.site_threads.proofs.Zips.{all_carried, zip_through}
+use Rattle.site_threads.proofs.Slices.{out_through}
+use Rattle.site_threads.proofs.Zips.{all_carried, as_long, zip_through}
 
 shown_record : (o : Option Record) → IsSome o → (r : Record) × (o ≡ Some r)
 shown_record (Some r) h = (r, refl)
@@ -43,6 +45,69 @@ no_fault site None h = refl
 no_fault site (Some turns.NoMemory) h = let n : Some NoMemory ≡ None = h in cc
 no_fault site (Some turns.GaveUp) h = let n : Some (GaveUp site) ≡ None = h in cc
 no_fault site (Some (turns.Lost f)) h = let n : Some (SiteLost site) ≡ None = h in cc
+
+-- The least site that ended its run.
+
+ended_so : (site : ℕ) (why : TurnCause) (rest : Option GatherCause) → option_or (cause_of site (Some why)) rest ≡ cause_of site (Some why)
+ended_so site turns.NoMemory rest = refl
+ended_so site turns.GaveUp rest = refl
+ended_so site (turns.Lost fault) rest = refl
+
+-- it is at the place p, from the site a on
+record IsFirstFrom (a p : ℕ) (ls : List RunLog) (cause : GatherCause) : Type 0 where
+  list : RunLog
+  there : slice_get ls p ≡ Some list
+  is : cause_of (a + p) list.fault ≡ Some cause
+  least : NoneEndedBefore ls p
+
+-- what the first has, and each of the others before a place, each has before the next place
+each_before : {A : Type 0} (P : A → Type 0) (x : A) (xs : List A) (p : ℕ) → P x → ((s : ℕ) (y : A) → s < p → slice_get xs s ≡ Some y → P y) → (s : ℕ) (y : A) → s < suc p → slice_get (x ∷ xs) s ≡ Some y → P y
+each_before P x xs p here more zero y h at = subst P (same_Some x y at) here
+each_before P x xs p here more (suc s) y h at = more s y (omega arith) at
+
+fine_before : (l : RunLog) (ls : List RunLog) (p : ℕ) → l.fault ≡ None → NoneEndedBefore ls p → NoneEndedBefore (l ∷ ls) (suc p)
+fine_before l ls p here more = each_before (λ (y : RunLog). y.fault ≡ None) l ls p here more
+
+first_later : (a : ℕ) (l : RunLog) (ls : List RunLog) (cause : GatherCause) → l.fault ≡ None → (p : ℕ) × IsFirstFrom (a + 1) p ls cause → (p : ℕ) × IsFirstFrom a p (l ∷ ls) cause
+first_later a l ls cause fine more =
+    let rest = more.1 in
+    let later : a + suc more.0 ≡ a + 1 + more.0 = omega arith in
+    (suc more.0, record { list = rest.list; there = rest.there; is = ap (λ k. cause_of k rest.list.fault) later ∙ rest.is; least = fine_before l ls more.0 fine rest.least })
+
+first_here : (a site : ℕ) (l : RunLog) (ls : List RunLog) (why : TurnCause) (rest : Option GatherCause) (cause : GatherCause) → site ≡ a → l.fault ≡ Some why → option_or (cause_of site (Some why)) rest ≡ Some cause → (p : ℕ) × IsFirstFrom a p (l ∷ ls) cause
+first_here a site l ls why rest cause me fault h =
+    let here : a + 0 ≡ site = omega (arith, me) in
+    (0, record { list = l; there = refl; is = ap (cause_of (a + 0)) fault ∙ ap (λ k. cause_of k (Some why)) here ∙ sym (ended_so site why rest) ∙ h; least = λ s m before at. absurd (omega arith) })
+
+module _ {K G : Type 0} where
+  first_from : (a : ℕ) (runs : List (SiteRun K G)) (ls : List RunLog) (cause : GatherCause) → AllZip LeavesList runs ls → map (λ (r : SiteRun K G). r.turn.site.me) runs ≡ range_with_len a (length runs) → first_cause runs ≡ Some cause
+      → (p : ℕ) × IsFirstFrom a p ls cause
+  first_from a [] [] cause z order is = let n : None ≡ Some cause = is in cc
+  first_from a (r ∷ rs) (l ∷ ls) cause z order is =
+      let me : r.turn.site.me ≡ a = ap (λ (l : List ℕ). get_or l 0 0) order in
+      elim r.fault as (λ f. r.fault ≡ f → option_or (cause_of r.turn.site.me f) (first_cause rs) ≡ Some cause → (p : ℕ) × IsFirstFrom a p (l ∷ ls) cause) [
+        | None ↦ λ f h. first_later a l ls cause (z.0.fault ∙ f) (first_from (a + 1) rs ls cause z.1 (ap (drop 1) order) h)
+        | Some why ↦ λ f h. first_here a r.turn.site.me l ls why (first_cause rs) cause me (z.0.fault ∙ f) h
+      ]
+      refl is
+  first_from a [] (l ∷ ls) cause z order is = absurd z
+  first_from a (r ∷ rs) [] cause z order is = absurd z
+
+  pub first_named : (runs : List (SiteRun K G)) (ls : List RunLog) (cause : Option GatherCause) → AllZip LeavesList runs ls → map (λ (r : SiteRun K G). r.turn.site.me) runs ≡ range_with_len 0 (length runs) → cause ≡ first_cause runs → IfSome cause (IsFirstCause ls)
+  first_named runs ls None z order is = tt
+  first_named runs ls (Some cause) z order is =
+      let first = first_from 0 runs ls cause z order (sym is) in
+      let at = first.1 in
+      record { site = first.0; list = at.list; there = at.there; is = ap (λ k. cause_of k at.list.fault) (let z : first.0 ≡ 0 + first.0 = omega arith in z) ∙ at.is; least = at.least }
+
+  -- where there is none, no site has a fault
+  pub none_named : (runs : List (SiteRun K G)) (ls : List RunLog) → AllZip LeavesList runs ls → first_cause runs ≡ None → All (λ (l : RunLog). l.fault ≡ None) ls
+  none_named [] [] z none = All-nil (λ (l : RunLog). l.fault ≡ None)
+  none_named (r ∷ rs) (l ∷ ls) z none =
+      let n = neither (cause_of r.turn.site.me r.fault) (first_cause rs) none in
+      All-cons (λ (l : RunLog). l.fault ≡ None) l ls (z.0.fault ∙ no_fault r.turn.site.me r.fault n.0) (none_named rs ls z.1 n.1)
+  none_named [] (l ∷ ls) z none = absurd z
+  none_named (r ∷ rs) [] z none = absurd z
 
 module _ {K : Type 0} (shown : K → Option Record) where
   -- the site that is named is at the place p, from the site a on, and the keepers before it are open
@@ -66,7 +131,7 @@ module _ {K : Type 0} (shown : K → Option Record) where
   none_before : (ks : List K) → AreOpenBefore shown ks 0
   none_before ks s k h at = absurd (omega arith)
 
-  named_hinders : (ks : List K) (p : ℕ) (cause : GatherCause) → Names ks 0 p cause → Hinders shown ks cause
+  named_hinders : (ks : List K) (p : ℕ) (cause : GatherCause) → Names ks 0 p cause → HindersRun shown ks cause
   unfolding Names
   named_hinders ks p (NotAWorld fault) n = absurd n
   named_hinders ks p NoMemory n = tt
@@ -86,18 +151,22 @@ module _ {K G : Type 0} (shown : K → Option Record) (may : K → Record → Ty
   opened : (old run : SiteRun K G) (k : K) → Ran shown may stored reopens gives_up wire most old run → HasKeeper run k → run.fault ≡ None → (r : Record) × (shown k ≡ Some r)
   opened old run k ran is fine = shown_record (shown k) (subst (λ (o : Option K). IsSome (shown_in shown o)) is (ran.is_open fine))
 
+  jobs_one : (old run : SiteRun K G) (l : RunLog) → Ran shown may stored reopens gives_up wire most old run → LeavesList run l → FitsEnd l
+  jobs_one old run l ran left = record {
+    out = subst IsOut (sym left.out) ran.run.out;
+    jobs = subst (λ (y : List Entry × (Option Job × List Job)). jobs_in y.0 ++ option_items y.1.0 ≡ y.1.1) (λ i. (ap (λ v. v.items) (sym left.entries) i, (sym left.pending i, ap takes (sym left.out) i))) ran.run.jobs;
+    told = subst (λ (y : DeskOut × (ℕ × List Entry)). HasTold y.0 (receipts_in y.1.0 y.1.1)) (λ i. (sym left.out i, (sym left.site i, ap (λ v. v.items) (sym left.entries) i))) ran.run.told;
+  }
+
   kept_one : (old run : SiteRun K G) (k : K) (l : RunLog) → Ran shown may stored reopens gives_up wire most old run → HasKeeper run k → LeavesList run l → run.fault ≡ None → IsKept shown k l
   kept_one old run k l ran is left fine =
       let o = opened old run k ran is fine in
-      let h = subst (λ (x : Option Record). Holding x (may_in may run.turn.site.keeper) run.turn.site.start.value run.turn.site.entries.items ran.run.site.runs.log) (ap (shown_in shown) is ∙ o.1) ran.run.site.runs.holding in
+      let h = subst (λ (x : Option Record). Holding x (may_in may run.turn.site.keeper) (start_of run.turn.site) run.turn.site.entries.items ran.run.site.runs.log) (ap (shown_in shown) is ∙ o.1) ran.run.site.runs.holding in
       record {
         last = o.0;
         stands = o.1;
-        steps = subst (λ (y : Record × List Entry). Kept y.0 y.1 o.0) (λ i. (sym left.start i, ap (λ v. v.items) (sym left.entries) i)) h.steps;
-        jobs = record {
-          out = subst IsOut (sym left.out) ran.run.out;
-          jobs = subst (λ (y : List Entry × (Option Job × List Job)). jobs_in y.0 ++ option_items y.1.0 ≡ y.1.1) (λ i. (ap (λ v. v.items) (sym left.entries) i, (sym left.pending i, ap takes (sym left.out) i))) ran.run.jobs;
-        };
+        steps = subst (λ (y : Record × List Entry). Kept y.0 y.1 o.0) (λ i. (sym left.start i, ap (λ v. v.items) (sym left.entries) i)) (led_so (start_of run.turn.site) run.turn.site.entries.items ran.run.site.runs.log.inputs o.0 h.steps);
+        jobs = jobs_one old run l ran left;
       }
 
   pub kept_all : (olds runs : List (SiteRun K G)) (ks : List K) (ls : List RunLog) → AllZip (Ran shown may stored reopens gives_up wire most) olds runs → AllZip HasKeeper runs ks → AllZip LeavesList runs ls → first_cause runs ≡ None → AllZip (IsKept shown) ks ls
@@ -140,6 +209,28 @@ module _ {K G : Type 0} (shown : K → Option Record) (may : K → Record → Ty
   turned_all [] [] [] (l ∷ ls) ready a b c none = absurd c
   turned_all (o ∷ os) (r ∷ rs) [] ls ready a b c none = absurd b
   turned_all (o ∷ os) (r ∷ rs) (k ∷ ks) [] ready a b c none = absurd c
+
+  -- Whether one did or not.
+
+  left_one : (old run : SiteRun K G) (l : RunLog) → IsReady shown may wire old → Ran shown may stored reopens gives_up wire most old run → LeavesList run l → IsLeft most l
+  left_one old run l ready ran left = record {
+    jobs = jobs_one old run l ran left;
+    asked = let few : run.turn.turns ≤ most = let none = ready.unasked in let more = ran.asked in omega (arith, none, more) in subst (λ (n : ℕ). n ≤ most) (sym left.turns) few;
+  }
+
+  pub left_all : (olds runs : List (SiteRun K G)) (ls : List RunLog) → All (IsReady shown may wire) olds → AllZip (Ran shown may stored reopens gives_up wire most) olds runs → AllZip LeavesList runs ls → All (IsLeft most) ls
+  left_all [] [] [] ready a c = All-nil (IsLeft most)
+  left_all (o ∷ os) (r ∷ rs) (l ∷ ls) ready a c =
+      All-cons (IsLeft most) l ls (left_one o r l (All-head (IsReady shown may wire) o os ready) a.0 c.0) (left_all os rs ls (All-tail (IsReady shown may wire) o os ready) a.1 c.1)
+  left_all [] (r ∷ rs) ls ready a c = absurd a
+  left_all (o ∷ os) [] ls ready a c = absurd a
+  left_all [] [] (l ∷ ls) ready a c = absurd c
+  left_all (o ∷ os) (r ∷ rs) [] ready a c = absurd c
+
+  -- no input was marked of them before
+  pub fresh_all : (olds runs : List (SiteRun K G)) → All (IsReady shown may wire) olds → AllZip (Ran shown may stored reopens gives_up wire most) olds runs → All IsFresh runs
+  fresh_all olds runs ready ran =
+      all_carried (Ran shown may stored reopens gives_up wire most) (IsReady shown may wire) IsFresh olds runs (λ o r is z. ap (λ (s : SeatView). inputs_in s.logs) z.same.first ∙ is.fresh) ready ran
 
   -- Where one did.
 
@@ -221,7 +312,7 @@ module _ {K G : Type 0} (shown : K → Option Record) (may : K → Record → Ty
   explains_all olds runs ks (Some cause) ready x y order is = explains ks cause (explained 0 olds runs ks cause ready x y order (sym is))
 
   pub hinders_all : (firsts : List K) (olds runs : List (SiteRun K G)) (ks : List K) (cause : Option GatherCause) → AllZip (Ran shown may stored reopens gives_up wire most) olds runs → AllZip HasKeeper runs ks → map (λ (r : SiteRun K G). r.turn.site.me) runs ≡ range_with_len 0 (length runs)
-      → cause ≡ first_cause runs → KeepersFit shown may ks → IfSome cause (λ c. Hinders shown ks c × FitAfter shown may firsts c ks)
+      → cause ≡ first_cause runs → KeepersFit shown may ks → IfSome cause (λ c. HindersRun shown ks c × FitAfter shown may firsts c ks)
   hinders_all firsts olds runs ks None x y order is fit = tt
   hinders_all firsts olds runs ks (Some cause) x y order is fit = let n = first_hinders 0 olds runs ks cause x y order (sym is) in (named_hinders shown ks n.0 cause n.1, named_fits shown may firsts ks n.0 cause n.1 fit)
 
@@ -237,15 +328,25 @@ module _ {K G : Type 0} (shown : K → Option Record) (may : K → Record → Ty
       zip_through StartedIn LeavesList (Began shown) ks runs ls (λ k r l b z. b ∙ ap Some (sym z.start))
       (zip_through (BeganIn {G = G} shown) (Ran shown may stored reopens gives_up wire most) StartedIn ks olds runs (λ k o r b z. b.start ∙ ap Some (sym z.same.start)) start ran) left
 
+  sites_are : (rs : List (SiteRun K G)) (more : List RunLog) → AllZip LeavesList rs more → map (λ (l : RunLog). l.site) more ≡ map (λ (r : SiteRun K G). r.turn.site.me) rs
+  sites_are [] [] z = refl
+  sites_are (r ∷ rs) (l ∷ more) z = λ i. z.0.site i ∷ sites_are rs more z.1 i
+  sites_are [] (l ∷ more) z = absurd z
+  sites_are (r ∷ rs) [] z = absurd z
+
+  -- the lists are in the order of the sites
+  pub ordered_all : map (λ (r : SiteRun K G). r.turn.site.me) runs ≡ range_with_len 0 (length runs) → AreInOrder ls
+  ordered_all order = sites_are runs ls left ∙ order ∙ ap (range_with_len 0) (sym (as_long LeavesList runs ls left))
+
   pub ends_all : (ds : List DeskOut) → AllZip (TookEnd {K = K} {G = G}) ds olds → AllZip HasEnd ds ls
   ends_all ds took =
-      zip_through (TookEnd {K = K} {G = G}) LeavesList HasEnd ds runs ls (λ d r l t z. record { desk = ap (λ (o : DeskOut). receives_on o.from) z.out ∙ t.desk; limit = ap (λ (o : DeskOut). o.limit) z.out ∙ t.limit })
-      (zip_through (TookEnd {K = K} {G = G}) (Ran shown may stored reopens gives_up wire most) TookEnd ds olds runs (λ d o r t z. record { desk = z.same.desk ∙ t.desk; limit = z.same.limit ∙ t.limit }) took ran) left
+      zip_through (TookEnd {K = K} {G = G}) LeavesList HasEnd ds runs ls (λ d r l t z. subst (SameOut d) (sym z.out) t)
+      (zip_through (TookEnd {K = K} {G = G}) (Ran shown may stored reopens gives_up wire most) TookEnd ds olds runs (λ d o r t z. out_through d o.out r.out t z.same.desk) took ran) left
 
 -- before the first turn, where all are open
-only_shown : {K : Type 0} (shown : K → Option Record) (may : K → Record → Type 0) (ks : List K) (rs qs : List Record) → AllZip (λ k r. shown k ≡ Some r) ks rs → AllZip (λ k r. Opens (shown k) (may k) r) ks qs → qs ≡ rs
+only_shown : {K : Type 0} (shown : K → Option Record) (may : K → Record → Type 0) (ks : List K) (rs qs : List Record) → AllZip (λ k r. shown k ≡ Some r) ks rs → AllZip (λ k r. MayStandIn (shown k) (may k) r) ks qs → qs ≡ rs
 only_shown shown may [] [] [] a b = refl
-only_shown shown may (k ∷ ks) (r ∷ rs) (q ∷ qs) a b = λ i. (subst (λ o. Opens o (may k) q) a.0 b.0) i ∷ only_shown shown may ks rs qs a.1 b.1 i
+only_shown shown may (k ∷ ks) (r ∷ rs) (q ∷ qs) a b = λ i. (subst (λ o. MayStandIn o (may k) q) a.0 b.0) i ∷ only_shown shown may ks rs qs a.1 b.1 i
 only_shown shown may [] (r ∷ rs) qs a b = absurd a
 only_shown shown may (k ∷ ks) [] qs a b = absurd a
 only_shown shown may [] [] (q ∷ qs) a b = absurd b

@@ -13,9 +13,8 @@ use Rattle.site_recovery.specs.Fit.{Fits}
 use Rattle.site_recovery.specs.Laws.{AreInPlace}
 use Rattle.site_recovery.specs.Looks.{world_of}
 use Rattle.world_core.specs.Faults.{AreOneWorld}
-use Rattle.world_core.specs.Keepers.{AllShow}
+use Rattle.world_core.specs.KeptSteps.{Handed, handed_to}
 use Rattle.world_core.specs.Recalls.{AreExactOnceEnded, quarantined}
-use Rattle.world_core.specs.Turns.{Runs}
 use Rattle.world_core.specs.Worlds as world
 use Rattle.world_core.specs.Worlds.{Up, WorldState, WorldFits}
 use Rattle.world_core.proofs.EndedRecalls.{ended_is_exact}
@@ -23,27 +22,29 @@ use Rattle.wire_core.specs.declared.views.Log.{Log}
 use Rattle.wire_core.specs.Answers.{Holds}
 use Rattle.wire_core.specs.Fitting.{RecordsFit}
 use Rattle.wire_core.specs.Frames.{DeliversOneOf}
-use Rattle.wire_core.specs.Rule.{records, frames, world_up}
+use Rattle.wire_core.specs.Rule.{AreAnswered, records, frames}
 use Rattle.wire_core.specs.Seats.{Line, HoldsAll, AreAllLogs, Gathered}
 use Rattle.wire_core.proofs.Fitting.{one_step, fewer_fit}
 use Rattle.wire_core.proofs.Running.{run_fits}
 use Rattle.site_threads.specs.declared.jobs.Entry.{Entry}
 use Rattle.site_threads.specs.declared.lists.RunLog.{RunLog}
 use Rattle.site_threads.specs.declared.runs.SiteRun.{SiteRun}
-use Rattle.site_threads.specs.Gathering.{Opens, EndsAreExact, IsKept, KeepersFit, LeadsTo}
+use Rattle.site_threads.specs.Gathering.{AreStepsOf, AreTheirSteps, MayStandIn, EndedAreExact, KeepersFit, Lead, RanFrom}
 use Rattle.site_threads.specs.Keepers.{shown_in, may_in}
-use Rattle.site_threads.specs.Parting.{HasKeeper}
-use Rattle.site_threads.specs.Runs.{IsRun}
-use Rattle.site_threads.specs.Running.{Holding}
+use Rattle.site_threads.specs.Parting.{HasKeeper, LeavesList}
+use Rattle.site_threads.specs.Runs.{IsFresh, IsSiteRun}
+use Rattle.site_threads.specs.Jobs.{KeptBy}
+use Rattle.site_threads.specs.Running.{Holding, Start}
+use Rattle.site_threads.specs.Sites.{start_of}
 use Rattle.site_threads.proofs.OneList.{IsSameSite, holding_same, one_again}
 use Rattle.site_threads.proofs.Zips.{zip_through}
 
 -- the record last marked, or the one after a step that may be marked
-MayBe : Log → Record → Type 0
-MayBe log r = (r ≡ log.last) ⊎ ((input : SiteInput) × IsAfter log.last input r × DeliversOneOf log.noted input)
+IsLastOrNext : Log → Record → Type 0
+IsLastOrNext log r = (r ≡ log.last) ⊎ ((input : SiteInput) × IsAfter log.last input r × DeliversOneOf log.noted input)
 
-may_be : (shown : Option Record) (may : Record → Type 0) (start : Record) (entries : List Entry) (log : Log) (r : Record) → Holding shown may start entries log → Opens shown may r → MayBe log r
-unfolding MayBe
+may_be : (shown : Option Record) (may : Record → Type 0) (start : Start) (entries : List Entry) (log : Log) (r : Record) → Holding shown may start entries log → MayStandIn shown may r → IsLastOrNext log r
+unfolding IsLastOrNext
 may_be (Some x) may start entries log r h o = inl (o ∙ h.marked)
 may_be None may start entries log r h o = ⊎_elim (λ (e : r ≡ log.last). inl e) (λ (a : IsAfter log.last h.last.input r). inr (h.last.input, a, h.noted)) (h.old_or_new r o)
 
@@ -56,8 +57,8 @@ put : (done rest : List Record) (x r : Record) → set (done ++ x ∷ rest) (len
 put [] rest x r = refl
 put (y ∷ ys) rest x r = ap (λ l. y ∷ l) (put ys rest x r)
 
-one_more : (done rest : List Record) (sent : List Frame) (log : Log) (r : Record) → RecordsFit (done ++ log.last ∷ rest) sent → ((f : Frame) → Contains log.noted f → Contains sent f) → MayBe log r → RecordsFit (done ++ r ∷ rest) sent
-unfolding MayBe
+one_more : (done rest : List Record) (sent : List Frame) (log : Log) (r : Record) → RecordsFit (done ++ log.last ∷ rest) sent → ((f : Frame) → Contains log.noted f → Contains sent f) → IsLastOrNext log r → RecordsFit (done ++ r ∷ rest) sent
+unfolding IsLastOrNext
 one_more done rest sent log r fit noted b = ⊎_elim (λ (e : r ≡ log.last). subst (λ x. RecordsFit (done ++ x ∷ rest) sent) (sym e) fit)
     (λ (s : (input : SiteInput) × IsAfter log.last input r × DeliversOneOf log.noted input). subst (λ l. RecordsFit l sent) (put done rest log.last r)
     (one_step (done ++ log.last ∷ rest) sent (length done) log.last s.0 r fit (there done rest log.last) s.1 (λ f is. noted f (s.2 f is)))) b
@@ -109,7 +110,7 @@ same_records : (rs : List Record) → world.records (record { sites = map (λ r.
 same_records [] = refl
 same_records (r ∷ rs) = ap (λ l. r ∷ l) (same_records rs)
 
-pub exact_when_fit : (rs : List Record) → RecordsFit rs [] → EndsAreExact rs
+pub exact_when_fit : (rs : List Record) → RecordsFit rs [] → EndedAreExact rs
 exact_when_fit rs fit recall =
     let w : WorldState = record { sites = map (λ r. Up r) rs; sent = [] } in
     let same : world.records w ≡ rs = same_records rs in
@@ -119,18 +120,24 @@ exact_when_fit rs fit recall =
 -- what is known of a site at the end, beside its log
 record IsEnd {K G : Type 0} (shown : K → Option Record) (may : K → Record → Type 0) (run : SiteRun K G) (log : Log) : Type 0 where
   mine : log.site ≡ run.turn.site.me
-  holding : Holding (shown_in shown run.turn.site.keeper) (may_in may run.turn.site.keeper) run.turn.site.start.value run.turn.site.entries.items log
+  holding : Holding (shown_in shown run.turn.site.keeper) (may_in may run.turn.site.keeper) (start_of run.turn.site) run.turn.site.entries.items log
 
-Stands : {K G : Type 0} → (K → Option Record) → (K → Record → Type 0) → SiteRun K G → Record → Type 0
-Stands shown may run r = Opens (shown_in shown run.turn.site.keeper) (may_in may run.turn.site.keeper) r
+RunStandsIn : {K G : Type 0} → (K → Option Record) → (K → Record → Type 0) → SiteRun K G → Record → Type 0
+RunStandsIn shown may run r = MayStandIn (shown_in shown run.turn.site.keeper) (may_in may run.turn.site.keeper) r
+
+-- where the steps of a site lead, what was marked of it since the first turn are the inputs of those in which its record changed
+led : (o : Option Record) (m : Record → Type 0) (start : Start) (entries : List Entry) (log : Log) → Holding o m start entries log → (changes : List SiteInput) × (log.inputs ≡ start.marked ++ changes) × Lead o m start.stood entries changes log.last
+led (Some r) m start entries log h = (h.steps.changes, h.steps.marks, (h.marked, subst (KeptBy start.stood entries h.steps.changes) h.marked h.steps.steps))
+led None m start entries log h =
+    (h.steps.changes, h.steps.marks, record { earlier = h.earlier; stop = h.last; all = h.all; reply = h.reply; steps = h.steps.steps; old_or_new = h.old_or_new })
 
 module _ {K G : Type 0} (shown : K → Option Record) (may : K → Record → Type 0) where
   any_fit : (sent : List Frame) (done : List Record) (runs : List (SiteRun K G)) (ls : List Log) (rs : List Record) → RecordsFit (done ++ records ls) sent → ((e : Log) (f : Frame) → Contains ls e → Contains e.noted f → Contains sent f)
-      → AllZip (IsEnd shown may) runs ls → AllZip (Stands shown may) runs rs → RecordsFit (done ++ rs) sent
-  unfolding Stands
+      → AllZip (IsEnd shown may) runs ls → AllZip (RunStandsIn shown may) runs rs → RecordsFit (done ++ rs) sent
+  unfolding RunStandsIn
   any_fit sent done [] [] [] fit noted z s = fit
   any_fit sent done (e ∷ es) (log ∷ ls) (r ∷ rs) fit noted z s =
-      let mine = may_be (shown_in shown e.turn.site.keeper) (may_in may e.turn.site.keeper) e.turn.site.start.value e.turn.site.entries.items log r z.0.holding s.0 in
+      let mine = may_be (shown_in shown e.turn.site.keeper) (may_in may e.turn.site.keeper) (start_of e.turn.site) e.turn.site.entries.items log r z.0.holding s.0 in
       let next = one_more done (records ls) sent log r fit (λ f c. noted log f (0, omega arith, refl) c) mine in
       let more = any_fit sent (done ++ r ∷ []) es ls rs (subst (λ l. RecordsFit l sent) (sym (append_assoc done (r ∷ []) (records ls))) next) (λ x f c d. noted x f (let h = c.1 in (suc c.0, omega arith, c.2)) d) z.1 s.1 in
       subst (λ l. RecordsFit l sent) (append_assoc done (r ∷ []) rs) more
@@ -140,28 +147,28 @@ module _ {K G : Type 0} (shown : K → Option Record) (may : K → Record → Ty
   any_fit sent done (e ∷ es) (l ∷ ls) [] fit noted z s = absurd s
 
   -- a site that ends in a record is the one that began
-  end_same : (wire : Line) (run : SiteRun K G) (r : Record) → IsRun shown may wire run → Stands shown may run r → IsSameSite run.turn.site.start.value r
-  unfolding Stands
+  end_same : (wire : Line) (run : SiteRun K G) (r : Record) → IsSiteRun shown may wire run → RunStandsIn shown may run r → IsSameSite run.turn.site.start.value r
+  unfolding RunStandsIn
   end_same wire run r is stands =
       let h = is.site.runs in
-      holding_same (shown_in shown run.turn.site.keeper) (may_in may run.turn.site.keeper) run.turn.site.start.value run.turn.site.entries.items h.log r h.holding stands
+      holding_same (shown_in shown run.turn.site.keeper) (may_in may run.turn.site.keeper) (start_of run.turn.site) run.turn.site.entries.items h.log r h.holding stands
 
-  all_same : (wire : Line) (runs : List (SiteRun K G)) (rs : List Record) → All (IsRun shown may wire) runs → AllZip (Stands shown may) runs rs → AllZip IsSameSite (map (λ (r : SiteRun K G). r.turn.site.start.value) runs) rs
+  all_same : (wire : Line) (runs : List (SiteRun K G)) (rs : List Record) → All (IsSiteRun shown may wire) runs → AllZip (RunStandsIn shown may) runs rs → AllZip IsSameSite (map (λ (r : SiteRun K G). r.turn.site.start.value) runs) rs
   all_same wire [] [] all s = tt
   all_same wire (run ∷ runs) (r ∷ rs) all s =
-      (end_same wire run r (All-head (IsRun shown may wire) run runs all) s.0, all_same wire runs rs (All-tail (IsRun shown may wire) run runs all) s.1)
+      (end_same wire run r (All-head (IsSiteRun shown may wire) run runs all) s.0, all_same wire runs rs (All-tail (IsSiteRun shown may wire) run runs all) s.1)
   all_same wire [] (r ∷ rs) all s = absurd s
   all_same wire (run ∷ runs) [] all s = absurd s
 
-  all_fit : (start : List Record) (runs : List (SiteRun K G)) (ls : List Log) (rs : List Record) → Gathered start ls → AllZip (IsEnd shown may) runs ls → AllZip (Stands shown may) runs rs → RecordsFit rs []
+  all_fit : (start : List Record) (runs : List (SiteRun K G)) (ls : List Log) (rs : List Record) → Gathered start ls → AllZip (IsEnd shown may) runs ls → AllZip (RunStandsIn shown may) runs rs → RecordsFit rs []
   all_fit start runs ls rs all z s = fewer_fit rs (frames ls) [] (any_fit (frames ls) [] runs ls rs (run_fits start ls all.run) (λ e f c d. (all.noted e f c d).1) z s) (λ f c. let h = c.1 in absurd (omega arith))
 
   -- each site has one log
-  ends_of : (wire : Line) (runs : List (SiteRun K G)) → All (IsRun shown may wire) runs → (ls : List Log) × (flat_map (λ (r : SiteRun K G). r.turn.site.seat.logs) runs ≡ ls) × AllZip (IsEnd shown may) runs ls
+  ends_of : (wire : Line) (runs : List (SiteRun K G)) → All (IsSiteRun shown may wire) runs → (ls : List Log) × (flat_map (λ (r : SiteRun K G). r.turn.site.seat.logs) runs ≡ ls) × AllZip (IsEnd shown may) runs ls
   ends_of wire [] all = ([], refl, tt)
   ends_of wire (r ∷ rs) all =
-      let one = (All-head (IsRun shown may wire) r rs all).site.runs in
-      let more = ends_of wire rs (All-tail (IsRun shown may wire) r rs all) in
+      let one = (All-head (IsSiteRun shown may wire) r rs all).site.runs in
+      let more = ends_of wire rs (All-tail (IsSiteRun shown may wire) r rs all) in
       (one.log ∷ more.0, (λ i. one.alone i ++ more.1 i), (record { mine = one.own.site; holding = one.holding }, more.2))
 
   -- the joined seat holds the sites of the run, in order
@@ -172,25 +179,35 @@ module _ {K G : Type 0} (shown : K → Option Record) (may : K → Record → Ty
   in_order (r ∷ rs) [] z = absurd z
 
   -- as the keepers stand, so do their runs
-  runs_stand : (runs : List (SiteRun K G)) (keepers : List K) (rs : List Record) → AllZip HasKeeper runs keepers → AllZip (λ k r. Opens (shown k) (may k) r) keepers rs → AllZip (Stands shown may) runs rs
-  unfolding Stands
-  runs_stand runs keepers rs = zip_through HasKeeper (λ k r. Opens (shown k) (may k) r) (Stands shown may) runs keepers rs (λ run k r is o. subst (λ (x : Option K). Opens (shown_in shown x) (may_in may x) r) (sym is) o)
+  runs_stand : (runs : List (SiteRun K G)) (keepers : List K) (rs : List Record) → AllZip HasKeeper runs keepers → AllZip (λ k r. MayStandIn (shown k) (may k) r) keepers rs → AllZip (RunStandsIn shown may) runs rs
+  unfolding RunStandsIn
+  runs_stand runs keepers rs = zip_through HasKeeper (λ k r. MayStandIn (shown k) (may k) r) (RunStandsIn shown may) runs keepers rs (λ run k r is o. subst (λ (x : Option K). MayStandIn (shown_in shown x) (may_in may x) r) (sym is) o)
 
-  -- an open keeper shows the record last marked of its site
-  lasts : (runs : List (SiteRun K G)) (ls : List Log) (keepers : List K) (rs : List Record) → AllZip (IsEnd shown may) runs ls → AllZip HasKeeper runs keepers → AllShow shown keepers rs → records ls ≡ rs
-  lasts [] [] [] [] z have show = refl
-  lasts (run ∷ runs) (log ∷ ls) (k ∷ keepers) (r ∷ rs) z have show =
-      let s : shown_in shown run.turn.site.keeper ≡ Some r = ap (shown_in shown) have.0 ∙ show.0 in
-      let held = subst (λ (o : Option Record). Holding o (may_in may run.turn.site.keeper) run.turn.site.start.value run.turn.site.entries.items log) s z.0.holding in
-      λ i. sym held.marked i ∷ lasts runs ls keepers rs z.1 have.1 show.1 i
-  lasts [] (l ∷ ls) keepers rs z have show = absurd z
-  lasts (run ∷ runs) [] keepers rs z have show = absurd z
-  lasts [] [] (k ∷ keepers) rs z have show = absurd have
-  lasts (run ∷ runs) (l ∷ ls) [] rs z have show = absurd have
-  lasts [] [] [] (r ∷ rs) z have show = absurd show
-  lasts (run ∷ runs) (l ∷ ls) (k ∷ keepers) [] z have show = absurd show
+  steps_one : (handed : List Handed) (run : SiteRun K G) (log : Log) (k : K) (l : RunLog) → AreAnswered handed log.inputs → IsEnd shown may run log → HasKeeper run k → LeavesList run l → IsFresh run → AreStepsOf shown may handed k l log.last
+  steps_one handed run log k l answered end is left fresh =
+      let d = led (shown_in shown run.turn.site.keeper) (may_in may run.turn.site.keeper) (start_of run.turn.site) run.turn.site.entries.items log end.holding in
+      let here = subst (λ (x : Option K). Lead (shown_in shown x) (may_in may x) run.turn.site.start.value run.turn.site.entries.items d.0 log.last) is d.2 in
+      record {
+        changes = d.0;
+        lead = subst (λ (y : Record × List Entry). Lead (shown k) (may k) y.0 y.1 d.0 log.last) (λ i. (sym left.start i, ap (λ v. v.items) (sym left.entries) i)) here;
+        answered = subst (AreAnswered handed) (d.1 ∙ ap (λ m. m ++ d.0) fresh) answered;
+      }
 
-  module _ (wire : Line) (runs : List (SiteRun K G)) (logs : List Log) (all : All (IsRun shown may wire) runs) (joined : logs ≡ flat_map (λ (r : SiteRun K G). r.turn.site.seat.logs) runs)
+  steps_from : (handed : ℕ → List Handed) (a : ℕ) (runs : List (SiteRun K G)) (ls : List Log) (ks : List K) (lists : List RunLog) → ((i : ℕ) (e : Log) → get_elem? ls i ≡ some e → AreAnswered (handed (a + i)) e.inputs) → AllZip (IsEnd shown may) runs ls → AllZip HasKeeper runs ks
+      → AllZip LeavesList runs lists → All IsFresh runs → AreTheirSteps shown may handed a ks lists (records ls)
+  steps_from handed a [] [] [] [] f z has left fresh = tt
+  steps_from handed a (run ∷ runs) (log ∷ ls) (k ∷ ks) (l ∷ lists) f z has left fresh = (
+    steps_one (handed a) run log k l (subst (λ n. AreAnswered (handed n) log.inputs) (let z : a + 0 ≡ a = omega arith in z) (f 0 log refl)) z.0 has.0 left.0 (All-head IsFresh run runs fresh),
+    steps_from handed (a + 1) runs ls ks lists (λ i e at. subst (λ n. AreAnswered (handed n) e.inputs) (let z : a + suc i ≡ a + 1 + i = omega arith in z) (f (suc i) e at)) z.1 has.1 left.1 (All-tail IsFresh run runs fresh),
+  )
+  steps_from handed a [] (e ∷ ls) ks lists f z has left fresh = absurd z
+  steps_from handed a (run ∷ runs) [] ks lists f z has left fresh = absurd z
+  steps_from handed a [] [] (k ∷ ks) lists f z has left fresh = absurd has
+  steps_from handed a (run ∷ runs) (log ∷ ls) [] lists f z has left fresh = absurd has
+  steps_from handed a [] [] [] (l ∷ lists) f z has left fresh = absurd left
+  steps_from handed a (run ∷ runs) (log ∷ ls) (k ∷ ks) [] f z has left fresh = absurd left
+
+  module _ (wire : Line) (runs : List (SiteRun K G)) (logs : List Log) (all : All (IsSiteRun shown may wire) runs) (joined : logs ≡ flat_map (λ (r : SiteRun K G). r.turn.site.seat.logs) runs)
       (order : map (λ (r : SiteRun K G). r.turn.site.me) runs ≡ range_with_len 0 wire.sites) where
     sites_are : map (λ (e : Log). e.site) logs ≡ range_with_len 0 wire.sites
     sites_are = let e = ends_of wire runs all in ap (map (λ (x : Log). x.site)) (joined ∙ e.1) ∙ in_order runs e.0 e.2 ∙ order
@@ -207,17 +224,13 @@ module _ {K G : Type 0} (shown : K → Option Record) (may : K → Record → Ty
         let again = one_again (map (λ (r : SiteRun K G). r.turn.site.start.value) runs) rs (all_same wire runs rs all stands) one in
         record { world = record { one = again; places = fit.places; fit = fit.fits }; exact = exact_when_fit rs fit }
 
-    pub keepers_lead : (everyone : List Log) → AreAllLogs wire.sites logs everyone → Gathered wire.start everyone → (keepers : List K) → AllZip HasKeeper runs keepers → (rs : List Record) → AllShow shown keepers rs → LeadsTo wire.start rs
-    keepers_lead everyone are gathered keepers have rs show =
+    pub keepers_ran : (everyone : List Log) → AreAllLogs wire.sites logs everyone → Gathered wire.start everyone → All IsFresh runs → (keepers : List K) (lists : List RunLog) → AllZip HasKeeper runs keepers → AllZip LeavesList runs lists → RanFrom shown may wire.start keepers lists
+    keepers_ran everyone are gathered fresh keepers lists have left =
         let e = ends_of wire runs all in
         let same = all_held wire.sites logs everyone sites_are are ∙ joined ∙ e.1 in
-        let last = ap records same ∙ lasts runs e.0 keepers rs e.2 have show in
-        let run = gathered.run in
-        record { events = run.events; answers = run.answers; sent = run.sent; happened = run.happened; runs = subst (λ (l : List Record). Runs (world_up wire.start []) run.events run.answers (world_up l run.sent)) last run.runs }
-
--- keepers that are kept as their lists are open
-pub kept_show : {K : Type 0} (shown : K → Option Record) (keepers : List K) (lists : List RunLog) → AllZip (IsKept shown) keepers lists → (rs : List Record) × AllShow shown keepers rs
-kept_show shown [] [] z = ([], tt)
-kept_show shown (k ∷ keepers) (l ∷ lists) z = let more = kept_show shown keepers lists z.1 in (z.0.last ∷ more.0, (z.0.stands, more.1))
-kept_show shown [] (l ∷ lists) z = absurd z
-kept_show shown (k ∷ keepers) [] z = absurd z
+        let run = (subst (Gathered wire.start) same gathered).run in
+        record {
+          after = records e.0;
+          leads = record { events = run.events; answers = run.answers; sent = run.sent; happened = run.happened; runs = run.runs };
+          steps = steps_from (λ site. handed_to site run.sent run.events run.answers) 0 runs e.0 keepers lists (λ i x at. subst (λ n. AreAnswered (handed_to n run.sent run.events run.answers) x.inputs) (let z : i ≡ 0 + i = omega arith in z) (run.handed i x at)) e.2 have left fresh;
+        }

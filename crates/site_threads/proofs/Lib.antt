@@ -1,10 +1,12 @@
 mod Answered
 mod Beginning
+mod Changing
 mod Confirming
 mod Delivering
 mod Ending
 mod Gathering
 mod Handing
+mod Leaving
 mod Looping
 pub mod NoJobs
 mod Numbers
@@ -26,5 +28,6 @@ mod Starting
 mod Steps
 mod Stops
 mod Taking
+mod Telling
 mod Wired
 mod Zips

@@ -12,7 +12,7 @@ use Rattle.site_threads.specs.declared.jobs.Entry.{Entry}
 use Rattle.site_threads.specs.declared.jobs.Job.TheVariants as jobs
 use Rattle.site_threads.specs.declared.lists.RunLog.{RunLog}
 use Rattle.site_threads.specs.Ends.{takes}
-use Rattle.site_threads.specs.Gathering.{HasEnd, HasJobsOfEnd, IsKept}
+use Rattle.site_threads.specs.Gathering.{FitsEnd, HasEnd, IsKept}
 use Rattle.site_threads.specs.Inputs.{is_delivery}
 use Rattle.site_threads.specs.Jobs.{AreOfFrames, job_of, jobs_in, option_items}
 use Rattle.site_threads.proofs.Zips.{all_carried, all_right}
@@ -26,7 +26,7 @@ nothing_there None none = refl
 nothing_there (Some x) none = absurd (let e : x ∷ [] ≡ [] = none in cc)
 
 -- neither the list nor the hand has a job
-pub none_taken : (l : RunLog) → HasJobsOfEnd l → l.out.limit ≡ 0 → (jobs_in l.entries.items ≡ []) × (l.pending ≡ None)
+pub none_taken : (l : RunLog) → FitsEnd l → l.out.limit ≡ 0 → (jobs_in l.entries.items ≡ []) × (l.pending ≡ None)
 none_taken l has spent =
     let within = has.out.within in
     let count = has.out.count in
@@ -46,16 +46,16 @@ frames_alone (x ∷ xs) none =
     let both = neither_has (job_of x.input) (jobs_in xs) none in
     All-cons (λ (y : Entry). IsTrue (is_delivery y.input)) x xs (delivers x.input both.0) (frames_alone xs both.1)
 
-each_of_frames : (ls : List RunLog) → All (λ (l : RunLog). l.out.limit ≡ 0) ls → All HasJobsOfEnd ls → All (λ (l : RunLog). AreOfFrames l.entries.items) ls
+each_of_frames : (ls : List RunLog) → All (λ (l : RunLog). l.out.limit ≡ 0) ls → All FitsEnd ls → All (λ (l : RunLog). AreOfFrames l.entries.items) ls
 each_of_frames [] none has = All-nil (λ (l : RunLog). AreOfFrames l.entries.items)
 each_of_frames (l ∷ ls) none has =
-    let here = none_taken l (All-head HasJobsOfEnd l ls has) (All-head (λ (m : RunLog). m.out.limit ≡ 0) l ls none) in
+    let here = none_taken l (All-head FitsEnd l ls has) (All-head (λ (m : RunLog). m.out.limit ≡ 0) l ls none) in
     All-cons (λ (m : RunLog). AreOfFrames m.entries.items) l ls (frames_alone l.entries.items here.0)
-    (each_of_frames ls (All-tail (λ (m : RunLog). m.out.limit ≡ 0) l ls none) (All-tail HasJobsOfEnd l ls has))
+    (each_of_frames ls (All-tail (λ (m : RunLog). m.out.limit ≡ 0) l ls none) (All-tail FitsEnd l ls has))
 
 -- so it is of all sites of a run
 pub all_of_frames : {K : Type 0} (shown : K → Option Record) (ds : List DeskOut) (ks : List K) (ls : List RunLog) → All (λ (d : DeskOut). d.limit ≡ 0) ds → AllZip HasEnd ds ls → AllZip (IsKept shown) ks ls
     → All (λ (l : RunLog). AreOfFrames l.entries.items) ls
 all_of_frames shown ds ks ls none ends kept =
     each_of_frames ls (all_carried HasEnd (λ (d : DeskOut). d.limit ≡ 0) (λ (l : RunLog). l.out.limit ≡ 0) ds ls (λ d l spent h. h.limit ∙ spent) none ends)
-    (all_right (IsKept shown) HasJobsOfEnd ks ls (λ k l h. h.jobs) kept)
+    (all_right (IsKept shown) FitsEnd ks ls (λ k l h. h.jobs) kept)

@@ -17,7 +17,7 @@ use Rattle.site_threads.specs.Inputs.{input_of, is_delivery}
 use Rattle.site_threads.specs.Jobs.{entry_of, job_of, jobs_in, open_after, option_items}
 use Rattle.site_threads.specs.Offers.{IsFor}
 use Rattle.site_threads.specs.Passing.{EntersFrames, Incoming, TakesFrames}
-use Rattle.site_threads.specs.Running.{Holding, StandsOpen, Runs, MayDeliver}
+use Rattle.site_threads.specs.Running.{Holding, StandsOpen, Start as Origin, IsRunning, MayDeliver}
 use Rattle.site_threads.specs.declared.jobs.Entry.{Entry}
 use Rattle.site_threads.specs.declared.jobs.Job.{Job}
 use Rattle.site_threads.specs.declared.jobs.Job.TheVariants as jobs
@@ -33,11 +33,11 @@ last_has : {A : Type 0} (xs : List A) (x : A) → Contains (xs ++ x ∷ []) x
 last_has xs x = Contains-append_right xs (x ∷ []) x (0, omega arith, refl)
 
 -- what is held stays with a site that was asked and a frame that was noted, and with one that was offered or sent
-held_asked : (shown : Option Record) (may : Record → Type 0) (start : Record) (entries : List Entry) (log : Log) (other : ℕ) → Holding shown may start entries log → Holding shown may start entries (asks other log)
+held_asked : (shown : Option Record) (may : Record → Type 0) (start : Origin) (entries : List Entry) (log : Log) (other : ℕ) → Holding shown may start entries log → Holding shown may start entries (asks other log)
 held_asked (Some r) may start entries log other h = record { marked = h.marked; steps = h.steps }
 held_asked None may start entries log other h = record { earlier = h.earlier; last = h.last; all = h.all; reply = h.reply; steps = h.steps; old_or_new = h.old_or_new; noted = h.noted }
 
-held_noted : (shown : Option Record) (may : Record → Type 0) (start : Record) (entries : List Entry) (log : Log) (other : ℕ) (f : Frame) → Holding shown may start entries log → Holding shown may start entries (receives other f log)
+held_noted : (shown : Option Record) (may : Record → Type 0) (start : Origin) (entries : List Entry) (log : Log) (other : ℕ) (f : Frame) → Holding shown may start entries log → Holding shown may start entries (receives other f log)
 held_noted (Some r) may start entries log other f h = record { marked = h.marked; steps = h.steps }
 held_noted None may start entries log other f h = record {
   earlier = h.earlier;
@@ -49,11 +49,11 @@ held_noted None may start entries log other f h = record {
   noted = λ g is. Contains-append_left log.noted (f ∷ []) g (h.noted g is);
 }
 
-held_offered : (shown : Option Record) (may : Record → Type 0) (start : Record) (entries : List Entry) (log : Log) (f : Frame) → Holding shown may start entries log → Holding shown may start entries (offers f log)
+held_offered : (shown : Option Record) (may : Record → Type 0) (start : Origin) (entries : List Entry) (log : Log) (f : Frame) → Holding shown may start entries log → Holding shown may start entries (offers f log)
 held_offered (Some r) may start entries log f h = record { marked = h.marked; steps = h.steps }
 held_offered None may start entries log f h = record { earlier = h.earlier; last = h.last; all = h.all; reply = h.reply; steps = h.steps; old_or_new = h.old_or_new; noted = h.noted }
 
-held_sent : (shown : Option Record) (may : Record → Type 0) (start : Record) (entries : List Entry) (log : Log) (f : Frame) → Holding shown may start entries log → Holding shown may start entries (sends f log)
+held_sent : (shown : Option Record) (may : Record → Type 0) (start : Origin) (entries : List Entry) (log : Log) (f : Frame) → Holding shown may start entries log → Holding shown may start entries (sends f log)
 held_sent (Some r) may start entries log f h = record { marked = h.marked; steps = h.steps }
 held_sent None may start entries log f h = record { earlier = h.earlier; last = h.last; all = h.all; reply = h.reply; steps = h.steps; old_or_new = h.old_or_new; noted = h.noted }
 
@@ -62,21 +62,21 @@ delivered (Deliver f) g = f
 delivered (Capture bytes) g = g
 delivered (Start item) g = g
 
-module _ (shown : Option Record) (may : Record → Type 0) (logs : List Log) (me : ℕ) (kept : Stamp) (entries : List Entry) (start : Record) (h : Runs shown may logs me kept entries start) where
+module _ (shown : Option Record) (may : Record → Type 0) (logs : List Log) (me : ℕ) (kept : Stamp) (entries : List Entry) (start : Origin) (h : IsRunning shown may logs me kept entries start) where
   pub may_take : (count other : ℕ) → other ≢ me → other < count → MayTake count me other logs
   may_take count other apart there = record { held = (h.log, subst (λ l. Contains l h.log) (sym h.alone) (alone_has h.log), h.own.site); apart = apart; there = there }
 
-  pub other_entries : (more : List Entry) → more ≡ entries → Runs shown may logs me kept more start
-  other_entries more is = subst (λ l. Runs shown may logs me kept l start) (sym is) h
+  pub other_entries : (more : List Entry) → more ≡ entries → IsRunning shown may logs me kept more start
+  other_entries more is = subst (λ l. IsRunning shown may logs me kept l start) (sym is) h
 
-  pub same_runs : (new : List Log) → new ≡ logs → Runs shown may new me kept entries start
-  same_runs new is = subst (λ l. Runs shown may l me kept entries start) (sym is) h
+  pub same_runs : (new : List Log) → new ≡ logs → IsRunning shown may new me kept entries start
+  same_runs new is = subst (λ l. IsRunning shown may l me kept entries start) (sym is) h
 
   -- the one log is changed
   now_log : (g : Log → Log) (site : ℕ) (new : List Log) → site ≡ me → new ≡ on site g logs → new ≡ g h.log ∷ []
   now_log g site new mine is = is ∙ ap (on site g) h.alone ∙ on_one h.log g site (h.own.site ∙ sym mine)
 
-  pub asked_runs : (other : ℕ) (new : List Log) → new ≡ on me (asks other) logs → Runs shown may new me kept entries start
+  pub asked_runs : (other : ℕ) (new : List Log) → new ≡ on me (asks other) logs → IsRunning shown may new me kept entries start
   asked_runs other new is = record {
     log = asks other h.log;
     alone = now_log (asks other) me new refl is;
@@ -86,7 +86,7 @@ module _ (shown : Option Record) (may : Record → Type 0) (logs : List Log) (me
     holding = held_asked shown may start entries h.log other h.holding;
   }
 
-  pub noted_runs : (other : ℕ) (f : Frame) (new : List Log) → new ≡ on me (receives other f) logs → Runs shown may new me kept entries start
+  pub noted_runs : (other : ℕ) (f : Frame) (new : List Log) → new ≡ on me (receives other f) logs → IsRunning shown may new me kept entries start
   noted_runs other f new is = record {
     log = receives other f h.log;
     alone = now_log (receives other f) me new refl is;
@@ -103,7 +103,7 @@ module _ (shown : Option Record) (may : Record → Type 0) (logs : List Log) (me
       subst (λ (x : Log). Contains x.noted g) (only (receives other f h.log) e (sym (now_log (receives other f) me new refl is) ∙ alone))
       (subst (Contains (h.log.noted ++ f ∷ [])) (ap (λ i. delivered i f) same) (last_has h.log.noted f))
 
-  pub sent_runs : (f : Frame) (site : ℕ) (new : List Log) → site ≡ me → new ≡ on site (sends f) logs → Runs shown may new me kept entries start
+  pub sent_runs : (f : Frame) (site : ℕ) (new : List Log) → site ≡ me → new ≡ on site (sends f) logs → IsRunning shown may new me kept entries start
   sent_runs f site new mine is = record {
     log = sends f h.log;
     alone = now_log (sends f) site new mine is;
@@ -113,7 +113,7 @@ module _ (shown : Option Record) (may : Record → Type 0) (logs : List Log) (me
     holding = held_sent shown may start entries h.log f h.holding;
   }
 
-  pub offered_runs : (f : Frame) (site : ℕ) (new : List Log) → site ≡ me → new ≡ on site (offers f) logs → Runs shown may new me kept entries start
+  pub offered_runs : (f : Frame) (site : ℕ) (new : List Log) → site ≡ me → new ≡ on site (offers f) logs → IsRunning shown may new me kept entries start
   offered_runs f site new mine is = record {
     log = offers f h.log;
     alone = now_log (offers f) site new mine is;
@@ -124,7 +124,7 @@ module _ (shown : Option Record) (may : Record → Type 0) (logs : List Log) (me
   }
 
   -- whether it was posted or not
-  pub posted_runs : (f : Frame) (site : ℕ) (new : List Log) → site ≡ me → (A B C : Type 0) (p : Post) → MatchPost p ((new ≡ on site (sends f) logs) × A) (λ g. (g ≡ f) × (new ≡ on site (offers f) logs) × B × C) → Runs shown may new me kept entries start
+  pub posted_runs : (f : Frame) (site : ℕ) (new : List Log) → site ≡ me → (A B C : Type 0) (p : Post) → MatchPost p ((new ≡ on site (sends f) logs) × A) (λ g. (g ≡ f) × (new ≡ on site (offers f) logs) × B × C) → IsRunning shown may new me kept entries start
   posted_runs f site new mine A B C Posted answer = sent_runs f site new mine answer.0
   posted_runs f site new mine A B C (Full g) answer = offered_runs f site new mine answer.1
 

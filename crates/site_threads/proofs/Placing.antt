@@ -1,9 +1,8 @@
 -- The next message for a site: what is found of the messages that wait, and how the place stays with the record.
-use Rattle.std.proofs.Common.{◌≡◌, ℕ, zero, suc, ◌+◌, ◌≤◌, ◌⊎◌, inl, inr, ⊎_elim, Bool, true, false, not, cond, is_le, is_some, min, max, nat_cmp, nat_lt, nat_le, ◌==◌, Option, Some, None, List, [], ◌∷◌, filter, fold, map, refl, sym, ap, ◌∙◌, subst, arith, true≢false, eq-eqb, ne_eqb}
-use Rattle.std.proofs.lemmas.Bool.{eqb-true}
+use Rattle.std.proofs.Common.{◌≡◌, ℕ, zero, suc, ◌≤◌, ◌⊎◌, inl, inr, ⊎_elim, Bool, true, false, not, cond, is_some, min, max, nat_cmp, nat_le, ◌==◌, Option, Some, None, List, [], ◌∷◌, filter, fold, map, refl, sym, ap, ◌∙◌, subst, arith, true≢false}
 use Rattle.std.specs.Prelude.{T, Contains, unwrap_or}
 use Rattle.std.specs.Cmp.{nat_cmp_total}
-use Rattle.std.specs.FinMap.{entries, entries_sorted, get, is_sorted, nat_cmp-IsAntisymmetric}
+use Rattle.std.specs.FinMap.{entries, get, is_sorted, nat_cmp-IsAntisymmetric}
 use Rattle.std.specs.FinMap.Entries.{below_all}
 use Rattle.std.specs.List.{AllByRecursion}
 use Rattle.std.specs.Option.{option_or}
@@ -242,24 +241,24 @@ first_round e to = record { behind = omega arith; next = λ n at up. omega arith
 -- A step.
 
 -- the messages that wait after it waited before it, or have the number that was next or one past it
-record Adds (old new : Engagement) : Type 0 where
+record AddsMessages (old new : Engagement) : Type 0 where
   pub later : old.next_message ≤ new.next_message
   pub origin : (n : ℕ) (row : Row) → get new.outbox n ≡ Some row → (get old.outbox n ≡ Some row) ⊎ (old.next_message ≤ n)
 
-same_adds : (old new : Engagement) → new ≡ old → Adds old new
-same_adds old new is = subst (Adds old) (sym is) (record { later = omega arith; origin = λ n row at. inl at })
+same_adds : (old new : Engagement) → new ≡ old → AddsMessages old new
+same_adds old new is = subst (AddsMessages old) (sym is) (record { later = omega arith; origin = λ n row at. inl at })
 
 grown : (k : ℕ) (old new : Record) → GrowsBy old k new → new.engagement ≡ old.engagement
 grown zero old new is = ap (λ z. z.engagement) (sym is)
 grown (suc k) old new (u, first', last) = last.engagement ∙ grown k old u first'
 
-quarantined : (old new : Record) (r : _) (i : List ℕ) → Quarantines old new r i → Adds old.engagement new.engagement
+quarantined : (old new : Record) (r : _) (i : List ℕ) → Quarantines old new r i → AddsMessages old.engagement new.engagement
 quarantined old new r i q = record { later = q.next_message; origin = λ n row at. ⊎_elim (λ before. inl before) (λ m. inr m.low) (q.row_origin n row at) }
 
-cleared : (old new : Record) (m : Message) (by : ℕ) (answer : Signalled) → ClearsFor old new m by answer → Adds old.engagement new.engagement
+cleared : (old new : Record) (m : Message) (by : ℕ) (answer : Signalled) → ClearsFor old new m by answer → AddsMessages old.engagement new.engagement
 cleared old new m by answer c = let next = c.clears.clears.next_message in record { later = omega (arith, next); origin = λ n row at. inl (c.clears.clears.row_origin n row at) }
 
-adds : (old new : Record) (input : SiteInput) (e : Effects) → Does old input e new → Adds old.engagement new.engagement
+adds : (old new : Record) (input : SiteInput) (e : Effects) → Does old input e new → AddsMessages old.engagement new.engagement
 adds old new (Capture bytes) (effects.Captured fresh known skipped) does = same_adds old.engagement new.engagement (grown fresh old new (captures_grow old new bytes fresh known skipped does))
 adds old new (Start root) (effects.Started recall quarantined' numbered ended) does = quarantined old new _ root (starts_open old new root recall quarantined' numbered ended does).0.quarantines
 adds old new (Deliver (frames.Recall m dest r i)) (effects.Received quarantined' numbered owed) does = quarantined old new r i (messages_are_taken old new m dest r i quarantined' numbered owed does).1.quarantines
@@ -270,7 +269,7 @@ adds old new (Deliver (frames.Signal m by)) (effects.ParentDue parent) does = cl
 adds old new (Deliver (frames.Signal m by)) (effects.Ended recall) does = cleared old new m by (signals.Ended recall) ((signals_clear old new m by).2 recall does)
 adds old new input other does = absurd does
 
-stays : (old new : Engagement) (to : ℕ) (round : Round) → Adds old new → IsRound old to round → IsRound new to round
+stays : (old new : Engagement) (to : ℕ) (round : Round) → AddsMessages old new → IsRound old to round → IsRound new to round
 stays old new to round a h =
     let later = a.later in
     let next_low = h.next_low in

@@ -1,6 +1,6 @@
 -- What a site offers and posts, one site after another.
 use Rattle.std.proofs.lemmas.Bool.{eqb-true}
-use Rattle.std.proofs.Common.{◌≡◌, ◌≢◌, true≢false, ℕ, zero, suc, ◌+◌, ◌-◌, ◌<◌, ◌≤◌, Bool, true, false, cond, not, nat_eq, filter, fold, min, Option, Some, None, List, [], ◌∷◌, ◌++◌, All, length, get_or, set, refl, sym, ap, ◌∙◌, subst, arith, append_assoc, append-nil, eq-eqb, ne_eqb}
+use Rattle.std.proofs.Common.{◌≡◌, ◌≢◌, true≢false, ℕ, zero, suc, ◌+◌, ◌-◌, ◌<◌, ◌≤◌, Bool, true, false, cond, not, nat_eq, filter, fold, min, Option, Some, None, List, [], ◌∷◌, ◌++◌, length, set, refl, sym, ap, ◌∙◌, subst, arith, append_assoc, append-nil, eq-eqb, ne_eqb}
 use Rattle.std.proofs.lemmas.List.{length-append, get_or-set_same, get_or-set_other, length-set}
 use Rattle.std.proofs.lemmas.List.Elements.{All-nil, All-cons, All-append}
 use Rattle.std.specs.Prelude.{flat_map, option_map, slice_index_or, IfOk, IsSome, Result, Ok, Err}
@@ -18,13 +18,13 @@ use Rattle.wire_core.specs.declared.calls.Post.TheVariants.{Posted, Full}
 use Rattle.wire_core.specs.declared.views.Log.{Log}
 use Rattle.site_threads.specs.Jobs.{option_items}
 use Rattle.site_threads.specs.Offers.{IsFor, behind, message_of, moved, owed_by, round_at, wish}
-use Rattle.site_threads.specs.Passing.{Incoming, Outgoing, IsSentBy, PostsFrames, Rise, incoming, others, outgoing, went_of, wishes}
-use Rattle.site_threads.specs.Running.{Runs}
+use Rattle.site_threads.specs.Passing.{Outgoing, IsSentBy, PostsFrames, Rise, incoming, others, outgoing, went_of, wishes}
+use Rattle.site_threads.specs.Running.{IsRunning, Start}
 use Rattle.site_threads.specs.declared.rounds.Round.{Round}
 use Rattle.site_threads.specs.declared.stamps.Stamp.{Stamp}
 use Rattle.site_threads.specs.declared.jobs.Entry.{Entry}
 use Rattle.site_threads.specs.declared.turns.TurnReport.{TurnReport}
-use Rattle.site_threads.proofs.Wired.{others_more, others_one, others_none, others_itself, offered_one, rise_more, rise_one, sent_one}
+use Rattle.site_threads.proofs.Wired.{others_more, others_one, offered_one, rise_more, rise_one, sent_one}
 
 -- What a record has for several sites.
 
@@ -235,7 +235,7 @@ module _ (rounds : List Round) (to : ℕ) (there : to < length rounds) (found : 
   pub place_full : (number : Option ℕ) (k : ℕ) → (round_at (set (set rounds to found) to (moved found 0 number)) k).place ≡ (round_at rounds k).place
   place_full number k = place_set found k (round_at rounds k).place (λ e. same ∙ ap (λ j. (round_at rounds j).place) (sym e)) (λ apart. refl)
 
-module _ (shown : Option Record) (may : Record → Type 0) (logs : List Log) (me : ℕ) (kept : Stamp) (entries : List Entry) (start : Record) (h : Runs shown may logs me kept entries start) (r : Record) (is : shown ≡ Some r) (to : ℕ) (f : Frame) (fits : IsFor r.engagement to f) (from : sender f ≡ me) (apart : to ≢ me) (new : List Log) (owed : ℕ → Option Message) (place : ℕ → ℕ) (one : wishes me to (to + 1) shown owed place ≡ f ∷ []) where
+module _ (shown : Option Record) (may : Record → Type 0) (logs : List Log) (me : ℕ) (kept : Stamp) (entries : List Entry) (start : Start) (h : IsRunning shown may logs me kept entries start) (r : Record) (is : shown ≡ Some r) (to : ℕ) (f : Frame) (fits : IsFor r.engagement to f) (from : sender f ≡ me) (apart : to ≢ me) (new : List Log) (owed : ℕ → Option Message) (place : ℕ → ℕ) (one : wishes me to (to + 1) shown owed place ≡ f ∷ []) where
   -- by what became of it
   pub posted : (A B C : Type 0) (places : ℕ → ℕ → ℕ) (n : ℕ) (p : Post) → ((k : ℕ) → places 1 k ≡ behind k (place k) f) → ((k : ℕ) → places 0 k ≡ place k)
       → MatchPost p ((new ≡ on (sender f) (sends f) logs) × A) (λ g. (g ≡ f) × (new ≡ on (sender f) (offers f) logs) × B × C) → MatchPost p (n ≡ 1) (λ g. n ≡ 0)

@@ -11,6 +11,7 @@ use Rattle.frame_core.specs.contracts.identifiers.MsgId as MsgId
 use Rattle.frame_core.proofs.identifiers.MsgId.TheSendSync.{the_send as message_send}
 use Rattle.site_core.specs.contracts.inputs.SiteInput as SiteInput
 use Rattle.site_core.specs.contracts.states.SiteState as SiteState
+use Rattle.wire_core.specs.contracts.wires.Seat as Seat
 use Rattle.wire_core.proofs.wires.Seat.TheSendSync.{the_send as seat_send}
 use Rattle.site_threads.specs.contracts.asked.Asked as Asked
 use Rattle.site_threads.specs.contracts.asked.Asked.TheInside as Inside
@@ -32,6 +33,9 @@ option_send R s = search sendable depth 12
 start_send : IsSend (Snapshot.the_row SiteState.the_row)
 start_send = search (crosses, sendable) depth 12
 
+first_send : IsSend (Snapshot.the_row Seat.the_row)
+first_send = search (crosses, sendable) depth 12
+
 input_send : IsSend (Snapshot.the_row SiteInput.the_row)
 input_send = search (crosses, sendable) depth 12
 
@@ -47,7 +51,7 @@ heap_send = search sendable depth 20
 running_send : (K : RattleType) → IsSend K → IsSend (Site.the_row K)
 running_send K s =
     let owed = option_send MsgId.the_row message_send in
-    declared_send (Site.the_type K) (option_send K s, (seat_send, (site_send, (stamp_send, (Vec-send Entry.the_row entry_send, (start_send, (search sendable depth 12, (search sendable depth 12, tt))))))))
+    declared_send (Site.the_type K) (option_send K s, (seat_send, (site_send, (stamp_send, (Vec-send Entry.the_row entry_send, (start_send, (first_send, (search sendable depth 12, (search sendable depth 12, tt)))))))))
 
 turn_send : (K G : RattleType) → IsSend K → IsSend G → IsSend (SiteTurn.the_row K G)
 turn_send K G s t = declared_send (SiteTurn.the_type K G) (running_send K s, (search sendable depth 12, (search sendable depth 12, (heap_send, tt))))

@@ -1,20 +1,26 @@
 -- Slices of their turns lead sites that have not begun to sites that have run.
-use Rattle.std.proofs.Common.{◌≡◌, ◌∙◌, ℕ, ◌+◌, ◌*◌, ◌<◌, ◌≤◌, Bool, true, false, true≢false, Option, None, Result, List, [], ◌∷◌, All, sym, refl, arith}
+use Rattle.std.proofs.Common.{◌≡◌, ◌∙◌, ℕ, ◌+◌, ◌*◌, ◌<◌, ◌≤◌, true, false, true≢false, Option, None, Result, List, [], ◌∷◌, All, sym, refl, arith}
 use Rattle.std.proofs.lemmas.List.Elements.{All-head, All-tail}
 use Rattle.std.proofs.lemmas.List.Sums.{AllPass-from_list_all}
 use Rattle.std.specs.List.{AllZip, list_all}
 use Rattle.keeper_core.specs.declared.faults.Unopened.{Unopened}
 use Rattle.site_core.specs.Records.{Record}
 use Rattle.wire_core.specs.Seats.{Line}
+use Rattle.site_threads.specs.declared.desks.DeskOut.{DeskOut}
 use Rattle.site_threads.specs.declared.runs.SiteRun.{SiteRun}
+use Rattle.site_threads.specs.Ends.{SameOut}
 use Rattle.site_threads.specs.Running.{marks_in}
-use Rattle.site_threads.specs.Runs.{IsBetween, IsOver, IsReady, IsRun, IsSliced, Ran, SameRun}
+use Rattle.site_threads.specs.Runs.{IsBetween, HasFinished, IsReady, IsSiteRun, IsSliced, Ran, SameRun}
 use Rattle.site_threads.proofs.Zips.{zip_through}
+
+-- an end of a desk that stays the same
+pub out_through : (a b c : DeskOut) → SameOut a b → SameOut b c → SameOut a c
+out_through a b c x y = record { jobs = y.jobs ∙ x.jobs; receipts = y.receipts ∙ x.receipts; limit = y.limit ∙ x.limit }
 
 module _ {K G : Type 0} (shown : K → Option Record) (may : K → Record → Type 0) (stored : K → Type 0) (reopens : K → Result K (Unopened K) → Type 0) (gives_up : G → ℕ → ℕ → Type 0) (wire : Line) (turns : ℕ) where
   -- a slice after which a site goes on, and one after which it has ended its run
 
-  pub went_on : (old new : SiteRun K G) → SameRun stored old new → IsRun shown may wire new → marks_in new.turn.site.seat.logs ≤ 18 * new.turn.turns → new.fault ≡ None → new.turn.turns ≤ turns
+  pub went_on : (old new : SiteRun K G) → SameRun stored old new → IsSiteRun shown may wire new → marks_in new.turn.site.seat.logs ≤ 18 * new.turn.turns → new.fault ≡ None → new.turn.turns ≤ turns
       → new.ended ≡ false → old.ended ≡ false → old.turn.turns < new.turn.turns → IsSliced shown may stored reopens gives_up wire turns old new
   went_on old new same run marks fine asked on before more = record {
     same = same;
@@ -22,7 +28,7 @@ module _ {K G : Type 0} (shown : K → Option Record) (may : K → Record → Ty
     turned = λ _. (before, more);
   }
 
-  pub went_over : (old new : SiteRun K G) → SameRun stored old new → IsOver shown may stored reopens gives_up wire turns new → new.ended ≡ true → IsSliced shown may stored reopens gives_up wire turns old new
+  pub went_over : (old new : SiteRun K G) → SameRun stored old new → HasFinished shown may stored reopens gives_up wire turns new → new.ended ≡ true → IsSliced shown may stored reopens gives_up wire turns old new
   went_over old new same over ended = record {
     same = same;
     between = record { on = λ e. absurd (true≢false (sym ended ∙ e)); over = λ _. over };
@@ -37,7 +43,7 @@ module _ {K G : Type 0} (shown : K → Option Record) (may : K → Record → Ty
 
   begun : (r : SiteRun K G) → IsReady shown may wire r → HasGone 0 r r
   begun r ready = record {
-    same = record { me = refl; start = refl; desk = refl; limit = refl; keeps = λ s. s };
+    same = record { me = refl; start = refl; first = refl; desk = record { jobs = refl; receipts = refl; limit = refl }; keeps = λ s. s };
     between = record {
       on = λ _. record {
         run = ready.run;
@@ -56,7 +62,7 @@ module _ {K G : Type 0} (shown : K → Option Record) (may : K → Record → Ty
 
   gone_on : (n : ℕ) (old mid new : SiteRun K G) → HasGone n old mid → IsSliced shown may stored reopens gives_up wire turns mid new → HasGone (n + 1) old new
   gone_on n old mid new gone more = record {
-    same = record { me = more.same.me ∙ gone.same.me; start = more.same.start ∙ gone.same.start; desk = more.same.desk ∙ gone.same.desk; limit = more.same.limit ∙ gone.same.limit; keeps = λ s. more.same.keeps (gone.same.keeps s) };
+    same = record { me = more.same.me ∙ gone.same.me; start = more.same.start ∙ gone.same.start; first = more.same.first ∙ gone.same.first; desk = out_through old.out mid.out new.out gone.same.desk more.same.desk; keeps = λ s. more.same.keeps (gone.same.keeps s) };
     between = more.between;
     turned = λ on. let t = more.turned on in let before = gone.turned t.0 in let after = t.1 in omega (arith, before, after);
   }

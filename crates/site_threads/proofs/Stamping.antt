@@ -29,7 +29,7 @@ use Rattle.site_core.proofs.Takings.{messages_are_taken}
 use Rattle.site_threads.specs.Stamps.{stamp}
 
 -- what a step leaves of the site's number, and of the record where it leaves the stamp
-record Tells (old new : Record) : Type 0 where
+record StampTells (old new : Record) : Type 0 where
   pub me : new.engagement.me ≡ old.engagement.me
   pub same : stamp new ≡ stamp old → new ≡ old
 
@@ -104,7 +104,7 @@ same_waiting s t e = len-entries t.engagement.outbox ∙ ap (λ z. z.waiting) e 
 same_seen : (s t : Record) → stamp t ≡ stamp s → len t.engagement.seen ≡ len s.engagement.seen
 same_seen s t e = len-entries t.engagement.seen ∙ ap (λ z. z.seen) e ∙ sym (len-entries s.engagement.seen)
 
-cleared : (old new : Record) (m : Message) (by : ℕ) (answer : Signalled) → ClearsFor old new m by answer → Clears old m by answer new → Tells old new
+cleared : (old new : Record) (m : Message) (by : ℕ) (answer : Signalled) → ClearsFor old new m by answer → Clears old m by answer new → StampTells old new
 cleared old new m by answer c clears = record {
   me = c.clears.clears.me;
   same = λ e. absurd (one_more (len new.engagement.outbox) (sym (cleared_waiting old new m by answer clears) ∙ sym (same_waiting old new e)));
@@ -112,7 +112,7 @@ cleared old new m by answer c clears = record {
 
 -- Any step.
 
-tells : (old new : Record) (input : SiteInput) (e : Effects) → Does old input e new → Tells old new
+tells : (old new : Record) (input : SiteInput) (e : Effects) → Does old input e new → StampTells old new
 tells old new (Capture bytes) (effects.Captured fresh known skipped) does =
     let grows = captures_grow old new bytes fresh known skipped does in
     record { me = grown_me fresh old new grows; same = λ e. grown_same fresh old new grows (ap (λ z. z.events) e) }

@@ -1,5 +1,5 @@
 -- What opening a closed keeper again leaves known of a running site.
-use Rattle.std.proofs.Common.{◌≡◌, ℕ, ◌-◌, ◌^◌, ◌<◌, ◌⊎◌, ⊎_elim, Option, Some, None, List, [], ◌∷◌, ◌++◌, length, slice_get, refl, sym, ap, ◌∙◌, subst, arith}
+use Rattle.std.proofs.Common.{◌≡◌, ℕ, ◌-◌, ◌^◌, ◌<◌, ◌⊎◌, ⊎_elim, Option, Some, None, List, [], ◌∷◌, ◌++◌, length, slice_get, sym, ap, ◌∙◌, subst, arith}
 use Rattle.std.proofs.lemmas.Option.{get_or_from_slice_get}
 use Rattle.std.proofs.lemmas.List.{get_or_push, length-append}
 use Rattle.std.specs.Prelude.{get_or}
@@ -11,14 +11,11 @@ use Rattle.wire_core.specs.Frames.{DeliversOneOf}
 use Rattle.site_threads.specs.declared.jobs.Entry.{Entry}
 use Rattle.site_threads.specs.declared.jobs.Reply.{Reply}
 use Rattle.site_threads.specs.declared.stamps.Stamp.{Stamp}
-use Rattle.site_threads.specs.Jobs.{Keeps, Kept}
-use Rattle.site_threads.specs.Running.{Holding, StandsClosed, Runs, MayFollow, Follows, marks_in}
+use Rattle.site_threads.specs.Jobs.{Keeps}
+use Rattle.site_threads.specs.Running.{Holding, Led, Start, StandsClosed, IsRunning, MarksChange, MayFollow, Follows, marks_in}
 use Rattle.site_threads.specs.Stamps.{stamp}
+use Rattle.site_threads.proofs.Changing.{led_push}
 use Rattle.site_threads.proofs.Stamping.{same_me}
-
-pub Kept_push : (old : Record) (xs : List Entry) (x : Entry) (r new : Record) → Kept old xs r → Keeps x.reply r x.input new → Kept old (xs ++ x ∷ []) new
-Kept_push old [] x r new k s = (new, subst (λ o. Keeps x.reply o x.input new) k s, refl)
-Kept_push old (y ∷ ys) x r new k s = (k.0, k.1, Kept_push k.0 ys x r new k.2 s)
 
 last_is : (xs : List Entry) (x y : Entry) (all : List Entry) → all ≡ xs ++ x ∷ [] → Some y ≡ slice_get all (length all - 1) → y ≡ x
 last_is xs x y all is at =
@@ -29,7 +26,7 @@ last_is xs x y all is at =
 pub next_me : (old new : Record) (input : SiteInput) → (new ≡ old) ⊎ IsAfter old input new → new.engagement.me ≡ old.engagement.me
 next_me old new input next = ⊎_elim (λ (k : new ≡ old). ap (λ z. z.engagement.me) k) (λ (a : IsAfter old input new). same_me old new input a) next
 
-module _ (shown : Option Record) (may : Record → Type 0) (logs : List Log) (me : ℕ) (kept : Stamp) (entries : List Entry) (start : Record) (h : Runs shown may logs me kept entries start) where
+module _ (shown : Option Record) (may : Record → Type 0) (logs : List Log) (me : ℕ) (kept : Stamp) (entries : List Entry) (start : Start) (h : IsRunning shown may logs me kept entries start) where
   pub few_in : marks_in logs < 2 ^ 62 → length h.log.inputs < 2 ^ 62
   few_in few = let e = ap marks_in h.alone in omega arith
 
@@ -56,11 +53,13 @@ module _ (shown : Option Record) (may : Record → Type 0) (logs : List Log) (me
       }
 
   -- and then it stands as the steps of the list
-  pub opened_runs : (now : Option Record) (may' : Record → Type 0) (r : Record) (new : List Log) (kept' : Stamp) → shown ≡ None → now ≡ Some r → may r → Follows logs r new → kept' ≡ stamp r → Runs now may' new me kept' entries start
-  opened_runs now may' r new kept' is shows m follows stamped =
+  pub opened_runs : (now : Option Record) (may' : Record → Type 0) (y : Entry) (r : Record) (new : List Log) (kept' : Stamp) → shown ≡ None → now ≡ Some r → Some y ≡ slice_get entries (length entries - 1) → may r → Follows logs r new → MarksChange logs y.input r new → kept' ≡ stamp r → IsRunning now may' new me kept' entries start
+  opened_runs now may' y r new kept' is shows at m follows marks stamped =
       let c = closed is in
       let f = follows h.log h.alone in
-      let steps : Kept start entries r = subst (λ l. Kept start l r) (sym c.all) (Kept_push start c.earlier c.last h.log.last r c.steps (subst (λ (p : Reply). Keeps p h.log.last c.last.input r) (sym c.reply) (c.old_or_new r m))) in
+      let more = subst (λ (z : Entry). MarksChange logs z.input r new) (last_is c.earlier c.last y entries c.all at) marks h.log f.0 h.alone f.1 in
+      let keeps = subst (λ (p : Reply). Keeps p h.log.last c.last.input r) (sym c.reply) (c.old_or_new r m) in
+      let steps : Led start entries f.0.inputs r = subst (λ l. Led start l f.0.inputs r) (sym c.all) (led_push start c.earlier h.log.inputs c.last h.log.last r more.0 f.0.inputs c.steps keeps more.1 more.2) in
       record {
         log = f.0;
         alone = f.1;
@@ -71,7 +70,7 @@ module _ (shown : Option Record) (may : Record → Type 0) (logs : List Log) (me
       }
 
   -- one that stays closed
-  pub unopened_runs : (now : Option Record) (may' : Record → Type 0) → shown ≡ None → StaysClosed may now may' → Runs now may' logs me kept entries start
+  pub unopened_runs : (now : Option Record) (may' : Record → Type 0) → shown ≡ None → StaysClosed may now may' → IsRunning now may' logs me kept entries start
   unopened_runs now may' is stays =
       let c = closed is in
       record {

@@ -16,11 +16,12 @@ use Rattle.site_threads.specs.declared.jobs.Reply.{Reply}
 use Rattle.site_threads.specs.declared.jobs.Reply.TheVariants.{Stopped}
 use Rattle.site_threads.specs.declared.stamps.Stamp.{Stamp}
 use Rattle.site_threads.specs.Inputs.{is_delivery}
-use Rattle.site_threads.specs.Jobs.{Keeps, Kept, AreNumbered, reply_to, told}
-use Rattle.site_threads.specs.Running.{Holding, StandsOpen, Runs, MayFollow, MayDeliver, Follows, marks_in}
+use Rattle.site_threads.specs.Jobs.{Keeps, AreNumbered, reply_to, told}
+use Rattle.site_threads.specs.Running.{Holding, Led, Start, StandsOpen, IsRunning, MarksChange, MayFollow, MayDeliver, Follows, marks_in}
 use Rattle.site_threads.specs.Stamps.{stamp}
 use Rattle.site_threads.proofs.Numbers.{numbered_push}
-use Rattle.site_threads.proofs.Steps.{Kept_push, few_in, log_own, next_me}
+use Rattle.site_threads.proofs.Changing.{led_push}
+use Rattle.site_threads.proofs.Steps.{few_in, log_own, next_me}
 
 abbrev pub Answer : Type 0
 Answer = Result Effects KeepFault
@@ -83,18 +84,18 @@ pub shown_up : (shown : Option Record) → IsSome shown → (r : Record) × (sho
 shown_up None up = absurd (true≢false (sym up))
 shown_up (Some r) up = (r, refl)
 
-module _ (shown : Option Record) (may : Record → Type 0) (logs : List Log) (me : ℕ) (kept : Stamp) (entries : List Entry) (start : Record) (h : Runs shown may logs me kept entries start) (is_open : IsSome shown) where
+module _ (shown : Option Record) (may : Record → Type 0) (logs : List Log) (me : ℕ) (kept : Stamp) (entries : List Entry) (start : Start) (h : IsRunning shown may logs me kept entries start) (is_open : IsSome shown) where
   up : (r : Record) × (shown ≡ Some r)
   up = shown_up shown is_open
 
   held : StandsOpen up.0 start entries h.log
   held = subst (λ (s : Option Record). Holding s may start entries h.log) up.1 h.holding
 
-  steps : Kept start entries h.log.last
-  steps = subst (λ (r : Record). Kept start entries r) held.marked held.steps
+  steps : Led start entries h.log.inputs h.log.last
+  steps = subst (λ (r : Record). Led start entries h.log.inputs r) held.marked held.steps
 
   -- the keeper stays open in its record
-  runs_on : (now : Option Record) (may' : Record → Type 0) → now ≡ Some up.0 → Runs now may' logs me kept entries start
+  runs_on : (now : Option Record) (may' : Record → Type 0) → now ≡ Some up.0 → IsRunning now may' logs me kept entries start
   runs_on now may' is = record {
     log = h.log;
     alone = h.alone;
@@ -108,7 +109,7 @@ module _ (shown : Option Record) (may : Record → Type 0) (logs : List Log) (me
     applied : Applies h.log.last input a now may'
     applied = subst (λ (o : Record). Applies o input a now may') held.marked (applies up.0 up.1)
 
-    pub no_memory : None ≡ reply_to f a → Runs now may' logs me kept entries start × (now ≡ shown)
+    pub no_memory : None ≡ reply_to f a → IsRunning now may' logs me kept entries start × (now ≡ shown)
     no_memory e = let is = same_of a f up.0 input now may' e (applies up.0 up.1) in (runs_on now may' is, is ∙ sym up.1)
 
     pub may_follow : marks_in logs < 2 ^ 62 → MayDeliver input logs → IfSome now (MayFollow logs kept input)
@@ -126,9 +127,9 @@ module _ (shown : Option Record) (may : Record → Type 0) (logs : List Log) (me
           noted = noted h.log h.alone;
         }
 
-    pub took_in : (p : Reply) (new : List Log) (kept' : Stamp) (number : ℕ) (all : List Entry) → f ≡ is_delivery input → Some p ≡ reply_to f a → MayDeliver input logs → MatchOption now ((kept' ≡ kept) × (new ≡ logs)) (λ r. (kept' ≡ stamp r) × Follows logs r new)
-        → number ≡ 1 + length entries → all ≡ entries ++ (record { number = number; input = input; reply = p }) ∷ [] → Runs now may' new me kept' all start
-    took_in p new kept' number all frame e noted follows place is = by_shown now applied follows
+    pub took_in : (p : Reply) (new : List Log) (kept' : Stamp) (number : ℕ) (all : List Entry) → f ≡ is_delivery input → Some p ≡ reply_to f a → MayDeliver input logs → MatchOption now ((kept' ≡ kept) × (new ≡ logs)) (λ r. (kept' ≡ stamp r) × Follows logs r new) → IfSome now (λ r. MarksChange logs input r new)
+        → number ≡ 1 + length entries → all ≡ entries ++ (record { number = number; input = input; reply = p }) ∷ [] → IsRunning now may' new me kept' all start
+    took_in p new kept' number all frame e noted follows marks place is = by_shown now applied follows marks
       where
         x : Entry
         x = record { number = number; input = input; reply = p }
@@ -136,8 +137,8 @@ module _ (shown : Option Record) (may : Record → Type 0) (logs : List Log) (me
         numbers : AreNumbered all
         numbers = numbered_push (λ (y : Entry). y.number) 1 entries all x h.numbered place is
 
-        by_shown : (n : Option Record) → Applies h.log.last input a n may' → MatchOption n ((kept' ≡ kept) × (new ≡ logs)) (λ r. (kept' ≡ stamp r) × Follows logs r new) → Runs n may' new me kept' all start
-        by_shown None s m = let t = stopped_of a f p h.log.last input may' e s in record {
+        by_shown : (n : Option Record) → Applies h.log.last input a n may' → MatchOption n ((kept' ≡ kept) × (new ≡ logs)) (λ r. (kept' ≡ stamp r) × Follows logs r new) → IfSome n (λ r. MarksChange logs input r new) → IsRunning n may' new me kept' all start
+        by_shown None s m w = let t = stopped_of a f p h.log.last input may' e s in record {
           log = h.log;
           alone = m.1 ∙ h.alone;
           own = h.own;
@@ -145,11 +146,14 @@ module _ (shown : Option Record) (may : Record → Type 0) (logs : List Log) (me
           numbered = numbers;
           holding = record { earlier = entries; last = x; all = is; reply = t.0; steps = steps; old_or_new = t.1; noted = noted h.log h.alone };
         }
-        by_shown (Some r) s m = let g = m.1 h.log h.alone in record {
+        by_shown (Some r) s m w = let g = m.1 h.log h.alone in let more = w h.log g.0 h.alone g.1 in record {
           log = g.0;
           alone = g.1;
           own = record { site = g.2.site ∙ h.own.site; last = ap (λ z. z.engagement.me) g.2.last ∙ next_me h.log.last r input (next_of a h.log.last input r may' s) ∙ h.own.last };
           stamped = m.0 ∙ ap stamp (sym g.2.last);
           numbered = numbers;
-          holding = record { marked = sym g.2.last; steps = subst (λ (l : List Entry). Kept start l r) (sym is) (Kept_push start entries x h.log.last r steps (keeps_of a f p h.log.last input r may' frame e s)) };
+          holding = record {
+            marked = sym g.2.last;
+            steps = subst (λ (l : List Entry). Led start l g.0.inputs r) (sym is) (led_push start entries h.log.inputs x h.log.last r more.0 g.0.inputs steps (keeps_of a f p h.log.last input r may' frame e s) more.1 more.2);
+          };
         }

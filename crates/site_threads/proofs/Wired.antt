@@ -1,5 +1,5 @@
 -- What a site noted from the wire and sent over it, one call after another.
-use Rattle.std.proofs.Common.{length, ◌≡◌, ◌≢◌, ℕ, zero, suc, ◌+◌, ◌-◌, ◌≤◌, inl, inr, Bool, true, false, true≢false, not, nat_eq, is_some, cond, filter, map, Option, Some, None, Result, Ok, Err, List, [], ◌∷◌, ◌++◌, refl, sym, ap, ◌∙◌, subst, arith, append_assoc, append-nil, eq-eqb, ne_eqb}
+use Rattle.std.proofs.Common.{length, ◌≡◌, ◌≢◌, ℕ, zero, suc, ◌+◌, ◌-◌, ◌≤◌, Bool, true, false, true≢false, not, nat_eq, is_some, cond, filter, map, Option, Some, None, Result, Ok, Err, List, [], ◌∷◌, ◌++◌, refl, sym, ap, ◌∙◌, subst, arith, append_assoc, append-nil, eq-eqb, ne_eqb}
 use Rattle.std.specs.Prelude.{IfOk, IfErr, IsTrue, MatchOption, is_ok}
 use Rattle.std.proofs.lemmas.List.{length-append}
 use Rattle.std.proofs.lemmas.List.Elements.{All-nil, All-cons, All-append, filter-append}
@@ -7,18 +7,14 @@ use Rattle.std.specs.List.{range_with_len}
 use Rattle.frame_core.specs.declared.frames.Frame.{Frame}
 use Rattle.site_core.specs.Records.{Record}
 use Rattle.site_core.specs.declared.inputs.SiteInput.TheVariants as inputs
-use Rattle.wire_core.specs.Answers.{MatchPost}
 use Rattle.wire_core.specs.Changes.{on, asks, offers, sends, receives}
 use Rattle.wire_core.specs.Frames.{sender}
-use Rattle.wire_core.specs.declared.calls.Post.{Post}
-use Rattle.wire_core.specs.declared.calls.Post.TheVariants.{Posted, Full}
 use Rattle.wire_core.specs.declared.views.Log.{Log}
 use Rattle.world_core.specs.Turns.{addressee}
 use Rattle.site_threads.specs.Inputs.{is_delivery}
 use Rattle.site_threads.specs.Jobs.{ComesTo, entry_of, is_stop, open_after, option_items}
-use Rattle.site_threads.specs.Offers.{IsFor}
-use Rattle.site_threads.specs.Passing.{AsksEach, Incoming, Outgoing, PassNothing, Rise, Notes, EntersFrames, TakesFrames, IsSentBy, PostsFrames, incoming, others, outgoing, went_of}
-use Rattle.site_threads.specs.Running.{Follows, Runs}
+use Rattle.site_threads.specs.Passing.{AsksEach, Incoming, PassNothing, Rise, Notes, EntersFrames, TakesFrames, incoming, others, outgoing}
+use Rattle.site_threads.specs.Running.{Follows}
 use Rattle.site_threads.specs.Stamps.{stamp}
 use Rattle.site_threads.specs.declared.jobs.Entry.{Entry}
 use Rattle.site_threads.specs.declared.jobs.Reply.{Reply}

@@ -31,7 +31,7 @@ Opened shown reopens old new = (IsSome (shown_in shown old) × (new ≡ old)) �
 
 module _ {K : Type 0} (shown : K → Option Record) (may : K → Record → Type 0) (applies : K → SiteInput → Result Effects KeepFault → K → Type 0) where
   -- the keeper was asked for the step, answered as its kind promises, and the reply is what is reported of that answer
-  pub record Told (old : Option K) (input : SiteInput) (reply : Reply) (new : Option K) : Type 0 where
+  pub record AnsweredStep (old : Option K) (input : SiteInput) (reply : Reply) (new : Option K) : Type 0 where
     pub was : K
     pub left : K
     pub answer : Result Effects KeepFault
@@ -54,7 +54,7 @@ module _ {K : Type 0} (shown : K → Option Record) (may : K → Record → Type
   -- for its step, which was entered with the reply; or memory ran out in it, and the frame was lost.
   abbrev pub Deliveries : Option K → List Frame → List Entry → Option K → Type 0
   Deliveries old [] steps new = (steps ≡ []) × (new ≡ old)
-  Deliveries old (f ∷ fs) steps new = (mid : Option K) × ((IsShort old (inputs.Deliver f) mid × Deliveries mid fs steps new) ⊎ ((x : Entry) × (rest : List Entry) × (steps ≡ x ∷ rest) × (x.input ≡ inputs.Deliver f) × Told old (inputs.Deliver f) x.reply mid × Deliveries mid fs rest new))
+  Deliveries old (f ∷ fs) steps new = (mid : Option K) × ((IsShort old (inputs.Deliver f) mid × Deliveries mid fs steps new) ⊎ ((x : Entry) × (rest : List Entry) × (steps ≡ x ∷ rest) × (x.input ≡ inputs.Deliver f) × AnsweredStep old (inputs.Deliver f) x.reply mid × Deliveries mid fs rest new))
 
   -- So the frames that were noted were delivered: one after another, the keeper was asked for the step of each, and the
   -- list of steps has just those in which memory didn't run out.
@@ -68,4 +68,4 @@ module _ {K : Type 0} (shown : K → Option Record) (may : K → Record → Type
   -- the keeper did the receipt's job, if there is one
   abbrev pub DoesJob : Option K → Option Receipt → Option K → Type 0
   DoesJob old None new = new ≡ old
-  DoesJob old (Some x) new = Told old (input_of x.job) x.reply new
+  DoesJob old (Some x) new = AnsweredStep old (input_of x.job) x.reply new

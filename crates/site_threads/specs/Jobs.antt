@@ -1,5 +1,5 @@
 -- What is returned for a job, and what is said of a site's list of steps.
-use Rattle.std.specs.Prelude.{◌≡◌, ◌⊎◌, ℕ, Bool, true, false, IsTrue, IsFalse, if◌then◌else◌, not, List, [], ◌∷◌, All, map, flat_map, length, Contains, Option, Some, None, Result, Ok, Err}
+use Rattle.std.specs.Prelude.{◌≡◌, ◌≢◌, ◌⊎◌, ℕ, Bool, true, false, IsTrue, IsFalse, if◌then◌else◌, not, List, [], ◌∷◌, ◌++◌, All, map, flat_map, length, Contains, Option, Some, None, Result, Ok, Err}
 use Rattle.std.specs.List.{range_with_len, count_by}
 use Rattle.keeper_core.specs.declared.faults.KeepFault.{KeepFault}
 use Rattle.keeper_core.specs.declared.faults.KeepFault.TheVariants as faults
@@ -68,6 +68,16 @@ abbrev pub Kept : Record → List Entry → Record → Type 0
 Kept old [] new = new ≡ old
 Kept old (x ∷ xs) new = (r : Record) × Keeps x.reply old x.input r × Kept r xs new
 
+-- the input of the step, where the record changed in it, and else none
+abbrev pub IsChange : Record → SiteInput → Record → List SiteInput → Type 0
+IsChange old input new changes = ((new ≡ old) × (changes ≡ [])) ⊎ ((new ≢ old) × (changes ≡ input ∷ []))
+
+-- so they lead there, and these are the inputs of those in which the record changed, in order
+abbrev pub KeptBy : Record → List Entry → List SiteInput → Record → Type 0
+KeptBy old [] changes new = (new ≡ old) × (changes ≡ [])
+KeptBy old (x ∷ xs) changes new =
+    (r : Record) × (here : List SiteInput) × (rest : List SiteInput) × Keeps x.reply old x.input r × IsChange old x.input r here × (changes ≡ here ++ rest) × KeptBy r xs rest new
+
 -- What a list of steps has.
 
 -- the steps are numbered from 1
@@ -82,6 +92,14 @@ job_of (inputs.Deliver frame) = []
 
 abbrev pub jobs_in : List Entry → List Job
 jobs_in entries = flat_map (λ x. job_of x.input) entries
+
+-- the receipt of a step of a site, where a job was done in it
+abbrev pub receipts_of : ℕ → Entry → List Receipt
+receipts_of site x = map (λ job. record { site = site; number = x.number; job = job; reply = x.reply }) (job_of x.input)
+
+-- the receipts of a site's list of steps, in order
+abbrev pub receipts_in : ℕ → List Entry → List Receipt
+receipts_in site entries = flat_map (λ x. receipts_of site x) entries
 
 -- A site that is open or not comes, by these steps, to be open or not: only an open site makes a step, and it is open
 -- afterwards unless it stopped in it.

@@ -2,7 +2,7 @@
 -- record makes that signal emittable; else the next of the messages that wait for a signal of it. The next one has the
 -- least number from a place on, which is behind the message that was posted last; where there is none, it has the least
 -- number of all.
-use Rattle.std.specs.Prelude.{◌≡◌, ◌≤◌, ℕ, zero, suc, ◌+◌, ◌-◌, ◌^◌, ◌==◌, nat_le, min, max, if◌then◌else◌, List, Contains, filter, fold, map, Option, Some, None, option_and_then, slice_index_or}
+use Rattle.std.specs.Prelude.{◌≡◌, ◌≤◌, ℕ, zero, suc, ◌+◌, ◌-◌, ◌^◌, ◌==◌, nat_le, min, max, if◌then◌else◌, List, Contains, filter, map, Option, Some, None, option_and_then, slice_index_or}
 use Rattle.std.specs.FinMap.{entries}
 use Rattle.std.specs.List.{reduce, last_or}
 use Rattle.std.specs.Option.{option_or}

@@ -14,13 +14,16 @@ module _ {K G : Type 0} where
   abbrev pub HasKeeper : SiteRun K G → K → Type 0
   HasKeeper run k = run.turn.site.keeper ≡ Some k
 
-  -- the list has the steps of the site, its end of its desk, the job in hand, and how often the gate was asked
+  -- the list has the steps of the site, its end of its desk, the job in hand, how often the gate was asked, and why the
+  -- site ended its run
   pub record LeavesList (run : SiteRun K G) (l : RunLog) : Type 0 where
+    pub site : l.site ≡ run.turn.site.me
     pub entries : l.entries ≡ run.turn.site.entries
     pub start : l.start.value ≡ run.turn.site.start.value
     pub out : l.out ≡ run.out
     pub pending : l.pending ≡ run.pending
     pub turns : l.turns ≡ run.turn.turns
+    pub fault : l.fault ≡ run.fault
 
 -- nothing stands there yet, and there is room for so many sites
 pub record IsRoomFor {K : Type 0} (count : ℕ) (room : Ended K) : Type 0 where

@@ -1,5 +1,5 @@
 -- The frames that a site takes from the wire and posts to it, and what those add to its list of steps.
-use Rattle.std.specs.Prelude.{◌≡◌, ◌≢◌, ◌⊎◌, ⊤, ℕ, ◌+◌, ◌-◌, ◌≤◌, nat_eq, fold, slice_index_or, Bool, true, false, not, if◌then◌else◌, List, [], ◌∷◌, ◌++◌, All, Contains, filter, flat_map, length, map, is_some, Option, Some, None, Result}
+use Rattle.std.specs.Prelude.{◌≡◌, ◌≢◌, ℕ, ◌+◌, ◌-◌, ◌≤◌, nat_eq, fold, slice_index_or, Bool, true, false, not, if◌then◌else◌, List, [], ◌∷◌, ◌++◌, All, Contains, filter, flat_map, length, map, is_some, Option, Some, None, Result}
 use Rattle.std.specs.List.{range_with_len}
 use Rattle.frame_core.specs.Numbers.{Message}
 use Rattle.frame_core.specs.declared.frames.Frame.{Frame}

@@ -1,33 +1,44 @@
 -- What is known of a running site, between any two of its calls.
-use Rattle.std.specs.Prelude.{◌≡◌, ◌⊎◌, ℕ, ◌+◌, ◌<◌, ◌≤◌, ◌^◌, List, [], ◌∷◌, ◌++◌, length, Option, Some, None}
+use Rattle.std.specs.Prelude.{◌≡◌, ◌⊎◌, ℕ, ◌+◌, ◌<◌, ◌≤◌, ◌^◌, List, [], ◌∷◌, ◌++◌, flat_map, length, Option, Some, None}
 use Rattle.keeper_core.specs.Keeping.{IsAfter, MayBeOldOrNew}
 use Rattle.site_core.specs.Records.{Record}
 use Rattle.site_core.specs.declared.inputs.SiteInput.{SiteInput}
 use Rattle.wire_core.specs.declared.views.Log.{Log}
 use Rattle.wire_core.specs.Frames.{DeliversOneOf}
-use Rattle.site_threads.specs.Jobs.{Kept, AreNumbered}
+use Rattle.site_threads.specs.Jobs.{AreNumbered, IsChange, KeptBy}
 use Rattle.site_threads.specs.Stamps.{stamp}
 use Rattle.site_threads.specs.declared.jobs.Entry.{Entry}
 use Rattle.site_threads.specs.declared.jobs.Reply.TheVariants.{Stopped}
 use Rattle.site_threads.specs.declared.stamps.Stamp.{Stamp}
 
+-- before a site's first turn: its record, and the inputs that were marked of it
+pub record Start : Type 0 where
+  pub stood : Record
+  pub marked : List SiteInput
+
+-- The steps lead from there to this record, and what was marked since are the inputs of those in which the record changed.
+pub record Led (start : Start) (entries : List Entry) (marked : List SiteInput) (last : Record) : Type 0 where
+  pub changes : List SiteInput
+  pub marks : marked ≡ start.marked ++ changes
+  pub steps : KeptBy start.stood entries changes last
+
 -- The record last marked is the one that the keeper shows, and the steps lead to it.
-pub record StandsOpen (r start : Record) (entries : List Entry) (log : Log) : Type 0 where
+pub record StandsOpen (r : Record) (start : Start) (entries : List Entry) (log : Log) : Type 0 where
   pub marked : r ≡ log.last
-  pub steps : Kept start entries r
+  pub steps : Led start entries log.inputs r
 
 -- The keeper is closed since the last step of the list, and the steps before it lead to the record last marked. It may
 -- be opened in that record, or in the one after the last step.
-pub record StandsClosed (may : Record → Type 0) (start : Record) (entries : List Entry) (log : Log) : Type 0 where
+pub record StandsClosed (may : Record → Type 0) (start : Start) (entries : List Entry) (log : Log) : Type 0 where
   pub earlier : List Entry
   pub last : Entry
   pub all : entries ≡ earlier ++ last ∷ []
   pub reply : last.reply ≡ Stopped
-  pub steps : Kept start earlier log.last
+  pub steps : Led start earlier log.inputs log.last
   pub old_or_new : MayBeOldOrNew log.last last.input may
   pub noted : DeliversOneOf log.noted last.input
 
-abbrev pub Holding : Option Record → (Record → Type 0) → Record → List Entry → Log → Type 0
+abbrev pub Holding : Option Record → (Record → Type 0) → Start → List Entry → Log → Type 0
 Holding (Some r) may start entries log = StandsOpen r start entries log
 Holding None may start entries log = StandsClosed may start entries log
 
@@ -37,7 +48,7 @@ pub record IsOwn (log : Log) (me : ℕ) : Type 0 where
   pub last : log.last.engagement.me ≡ me
 
 -- the seat holds this site alone
-pub record Runs (shown : Option Record) (may : Record → Type 0) (logs : List Log) (me : ℕ) (kept : Stamp) (entries : List Entry) (start : Record) : Type 0 where
+pub record IsRunning (shown : Option Record) (may : Record → Type 0) (logs : List Log) (me : ℕ) (kept : Stamp) (entries : List Entry) (start : Start) : Type 0 where
   pub log : Log
   pub alone : logs ≡ log ∷ []
   pub own : IsOwn log me
@@ -49,6 +60,10 @@ pub record Runs (shown : Option Record) (may : Record → Type 0) (logs : List L
 abbrev pub marks_in : List Log → ℕ
 marks_in [] = 0
 marks_in (e ∷ es) = length e.inputs + marks_in es
+
+-- the inputs that were marked of them
+abbrev pub inputs_in : List Log → List SiteInput
+inputs_in logs = flat_map (λ e. e.inputs) logs
 
 -- the one site of the seat stands in this record, which is the one last marked or the one after the input
 pub record MayFollow (logs : List Log) (kept : Stamp) (input : SiteInput) (r : Record) : Type 0 where
@@ -72,6 +87,10 @@ pub record Followed (e f : Log) (r : Record) : Type 0 where
 
 abbrev pub Follows : List Log → Record → List Log → Type 0
 Follows old r new = (e : Log) → old ≡ e ∷ [] → (f : Log) × (new ≡ f ∷ []) × Followed e f r
+
+-- the input was marked where the record changed, and else none
+abbrev pub MarksChange : List Log → SiteInput → Record → List Log → Type 0
+MarksChange old input r new = (e f : Log) → old ≡ e ∷ [] → new ≡ f ∷ [] → (more : List SiteInput) × IsChange e.last input r more × (f.inputs ≡ e.inputs ++ more)
 
 -- a frame that the input delivers was noted
 abbrev pub MayDeliver : SiteInput → List Log → Type 0

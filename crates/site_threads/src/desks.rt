@@ -4,10 +4,10 @@ ghost use Rattle.crossbeam_channel.specs.Claims.{view, IsSeatAt};
 ghost use Rattle.crossbeam_channel.specs.Ends.{sends_on, receives_on};
 ghost use Rattle.site_threads.specs.Desks.{is_spent, fault_job};
 ghost use Rattle.site_threads.specs.Jobs.{option_items};
-ghost use Rattle.site_threads.specs.Ends.{puts, takes, IsDesk, IsOut, IsUnused, AreEnds};
+ghost use Rattle.site_threads.specs.Ends.{puts, takes, hears, tells, IsDesk, IsOut, IsUnused, AreEnds, AreFirst, SameDesk, SameOut, SendsReceipt};
 
 use crate::jobs::{Job, Receipt};
-use crossbeam_channel::protocol::{Free, Join, Lesson, Outcome, Protocol, Split};
+use crossbeam_channel::protocol::{Join, Lesson, Outcome, Protocol, Split};
 use crossbeam_channel::{Pass, RuledReceiver, RuledSender, TryRecvError, bounded_with};
 use std::alloc::{AllocError, Global};
 use std::collections::LinkedList;
@@ -15,21 +15,21 @@ use std::sync::Wait;
 use thiserror::Error;
 
 /// What a pass may do, put and take, and what it has put and taken. No value of it is made.
-pub struct Hand {
+pub struct Hand<T> {
     pub puts: bool,
     pub takes: bool,
-    pub put: LinkedList<Job>,
-    pub taken: LinkedList<Job>,
+    pub put: LinkedList<T>,
+    pub taken: LinkedList<T>,
 }
 
 /// What was put is what was taken, and then what is still to be taken.
 pub struct InOrder;
 
-impl Protocol<Job, Hand> for InOrder {
+impl<T> Protocol<T, Hand<T>> for InOrder {
     ghost use Rattle.std.specs.Prelude.{true, []};
-    ghost use Rattle.site_threads.specs.Desks.{hand, Handed};
+    ghost use Rattle.site_threads.specs.Desks.{hand, WasHandedOn};
 
-    ghost holds = { Handed };
+    ghost holds = { WasHandedOn };
 
     ghost first = { hand true true [] [] };
 }
@@ -37,7 +37,7 @@ impl Protocol<Job, Hand> for InOrder {
 /// Parts a pass into one that may put and one that may take, and joins them.
 pub struct Roles;
 
-impl Split<Hand> for Roles {
+impl<T> Split<Hand<T>> for Roles {
     ghost use Rattle.std.specs.Prelude.{true, false, []};
     ghost use Rattle.site_threads.specs.Desks.{hand};
 
@@ -46,7 +46,7 @@ impl Split<Hand> for Roles {
     ghost right = { λ v. hand false true [] v.taken };
 }
 
-impl Join<Hand> for Roles {
+impl<T> Join<Hand<T>> for Roles {
     ghost use Rattle.std.specs.Prelude.{true, false, []};
     ghost use Rattle.site_threads.specs.Desks.{hand};
 
@@ -55,31 +55,31 @@ impl Join<Hand> for Roles {
     ghost spent = { hand false false [] [] };
 }
 
-/// One job more was put.
+/// One more was put.
 pub struct Puts;
 
-impl Outcome<Job, Hand> for Puts {
+impl<T> Outcome<T, Hand<T>> for Puts {
     ghost use Rattle.site_threads.specs.Desks.{hand};
 
     ghost then = { λ v x w. w ≡ hand v.puts v.takes (v.put ++ x ∷ []) v.taken };
 }
 
-impl Lesson<Job, Hand> for Puts {
+impl<T> Lesson<T, Hand<T>> for Puts {
     ghost use Rattle.std.specs.Prelude.{⊤};
 
     ghost fact = { λ v items. ⊤ };
 }
 
-/// One job more was taken.
+/// One more was taken.
 pub struct Takes;
 
-impl Outcome<Job, Hand> for Takes {
+impl<T> Outcome<T, Hand<T>> for Takes {
     ghost use Rattle.site_threads.specs.Desks.{hand};
 
     ghost then = { λ v x w. w ≡ hand v.puts v.takes v.put (v.taken ++ x ∷ []) };
 }
 
-impl Lesson<Job, Hand> for Takes {
+impl<T> Lesson<T, Hand<T>> for Takes {
     ghost use Rattle.std.specs.Prelude.{⊤};
 
     ghost fact = { λ v items. ⊤ };
@@ -88,17 +88,8 @@ impl Lesson<Job, Hand> for Takes {
 /// A pass that may do both knows what is still to be taken.
 pub struct Total;
 
-impl Lesson<Job, Hand> for Total {
+impl<T> Lesson<T, Hand<T>> for Total {
     ghost fact = { λ v items. v.put ≡ v.taken ++ items };
-}
-
-/// A pass of which nothing is said.
-pub struct Nothing;
-
-impl Split<()> for Nothing {
-    ghost left = { λ v. v };
-
-    ghost right = { λ v. v };
 }
 
 /// Why a job wasn't put. It comes back.
@@ -115,10 +106,10 @@ pub enum DeskFault {
 /// The end of a desk that puts jobs for a site, and gets their receipts.
 #[derive(Drop)]
 pub struct Desk {
-    pub to: RuledSender<Job, Hand, InOrder>,
-    pub pass: Pass<Job, Hand>,
-    pub receipts: RuledReceiver<Receipt, (), Free>,
-    pub listener: Pass<Receipt, ()>,
+    pub to: RuledSender<Job, Hand<Job>, InOrder>,
+    pub pass: Pass<Job, Hand<Job>>,
+    pub receipts: RuledReceiver<Receipt, Hand<Receipt>, InOrder>,
+    pub listener: Pass<Receipt, Hand<Receipt>>,
     /// How many jobs were put.
     pub count: u64,
     /// How many it takes in its life.
@@ -128,10 +119,10 @@ pub struct Desk {
 /// The site's end of a desk.
 #[derive(Drop)]
 pub struct DeskOut {
-    pub from: RuledReceiver<Job, Hand, InOrder>,
-    pub pass: Pass<Job, Hand>,
-    pub receipts: RuledSender<Receipt, (), Free>,
-    pub teller: Pass<Receipt, ()>,
+    pub from: RuledReceiver<Job, Hand<Job>, InOrder>,
+    pub pass: Pass<Job, Hand<Job>>,
+    pub receipts: RuledSender<Receipt, Hand<Receipt>, InOrder>,
+    pub teller: Pass<Receipt, Hand<Receipt>>,
     /// How many jobs were taken.
     pub count: u64,
     /// How many there can be.
@@ -139,6 +130,8 @@ pub struct DeskOut {
     /// Whether this end counts the desk as gone, so that no job comes from it any more: as many were taken as there can
     /// be, or the channel reported that the other end was dropped, and that no job is left.
     pub gone: bool,
+    /// Whether the channel reported, as a receipt was to be sent, that the other end was dropped: none is sent any more.
+    pub dropped: bool,
 }
 
 impl Desk {
@@ -149,14 +142,17 @@ impl Desk {
     pub fn new(alloc: Global, limit: u64) -> Result<(Desk, DeskOut), AllocError>
         requires { (1 ≤ limit) × (limit ≤ 1000) }
         ensures ends { IfOk result (λ r. IsDesk r.0 × IsOut r.1 × AreEnds r.0 r.1) }
-        ensures start { IfOk result (λ r. (puts r.0 ≡ []) × (takes r.1 ≡ []) × (r.0.limit ≡ limit)) }
-        ensures held { IfOk result (λ r. r.1.gone ≡ false) }
+        ensures start { IfOk result (λ r. (puts r.0 ≡ []) × (hears r.0 ≡ []) × IsUnused r.1
+            × (r.0.limit ≡ limit)) }
+        ensures held { IfOk result (λ r. (r.1.gone ≡ false) × (r.1.dropped ≡ false)) }
     {
         let room = limit as usize;
-        let (to, from, mut pass) = bounded_with::<Job, Hand, InOrder, Global>(alloc, room)?;
+        let (to, from, mut pass) = bounded_with::<Job, Hand<Job>, InOrder, Global>(alloc, room)?;
         let taker = to.another::<Roles>(&mut pass);
-        let (tells, receipts, mut teller) = bounded_with::<Receipt, (), Free, Global>(alloc, room)?;
-        let listener = tells.another::<Nothing>(&mut teller);
+        let (tells, receipts, mut teller) = bounded_with::<Receipt, Hand<Receipt>, InOrder, Global>(
+            alloc, room,
+        )?;
+        let listener = tells.another::<Roles>(&mut teller);
         Ok((
             Desk {
                 to,
@@ -174,6 +170,7 @@ impl Desk {
                 count: 0,
                 limit,
                 gone: false,
+                dropped: false,
             },
         ))
     }
@@ -184,10 +181,12 @@ impl Desk {
     /// `Spent` exactly after as many jobs as the desk takes, and `Gone`; both with the job, and nothing changed.
     pub fn put<R: Wait>(&mut self, rt: &R, job: Job) -> Result<u64, DeskFault>
         requires { IsDesk self.old }
-        ensures desk { IsDesk self.new × (self.new.limit ≡ self.old.limit) × (sends_on self.new.to ≡ sends_on self.old.to) }
-        ensures put { MatchResult result
-            (λ place. (puts self.new ≡ puts self.old ++ job ∷ []) × (place ≡ length (puts self.new)) × (length (puts self.old) < self.old.limit))
-            (λ fault. (fault_job fault ≡ job) × (puts self.new ≡ puts self.old) × (IsTrue (is_spent fault) ↔ (length (puts self.old) ≡ self.old.limit))) }
+        ensures desk { IsDesk self.new × SameDesk self.old self.new }
+        ensures heard { hears self.new ≡ hears self.old }
+        ensures put { MatchResult result (λ place. (puts self.new ≡ puts self.old ++ job ∷ [])
+            × (place ≡ length (puts self.new)) × (length (puts self.old) < self.old.limit))
+            (λ fault. (fault_job fault ≡ job) × (puts self.new ≡ puts self.old)
+            × (IsTrue (is_spent fault) ↔ (length (puts self.old) ≡ self.old.limit))) }
     {
         if self.count == self.limit {
             return Err(DeskFault::Spent(job));
@@ -202,12 +201,16 @@ impl Desk {
     }
 
     /// The next receipt, waited for. `None` where the channel reported that the other end was dropped.
+    ///
+    /// Once the run has ended, [`RunLog::settle`](crate::RunLog::settle) says which receipts these were.
     pub fn receipt<R: Wait>(&mut self, rt: &R) -> Option<Receipt>
         requires { IsDesk self.old }
-        ensures desk { IsDesk self.new × (self.new.limit ≡ self.old.limit) × (sends_on self.new.to ≡ sends_on self.old.to) × (puts self.new ≡ puts self.old) }
+        ensures desk { IsDesk self.new × SameDesk self.old self.new
+            × (puts self.new ≡ puts self.old) }
+        ensures heard { hears self.new ≡ hears self.old ++ option_items result }
     {
         self.receipts
-            .recv_as::<Free, R>(rt, &mut self.listener)
+            .recv_as::<Takes, R>(rt, &mut self.listener)
             .ok()
     }
 }
@@ -220,8 +223,10 @@ impl DeskOut {
     pub fn none(alloc: Global) -> Result<DeskOut, AllocError>
         ensures { IfOk result (λ o. IsUnused o × (o.limit ≡ 0) × (o.gone ≡ true)) }
     {
-        let (_, from, pass) = bounded_with::<Job, Hand, InOrder, Global>(alloc, 1)?;
-        let (receipts, _, teller) = bounded_with::<Receipt, (), Free, Global>(alloc, 1)?;
+        let (_, from, pass) = bounded_with::<Job, Hand<Job>, InOrder, Global>(alloc, 1)?;
+        let (receipts, _, teller) = bounded_with::<Receipt, Hand<Receipt>, InOrder, Global>(
+            alloc, 1,
+        )?;
         Ok(DeskOut {
             from,
             pass,
@@ -230,6 +235,7 @@ impl DeskOut {
             count: 0,
             limit: 0,
             gone: true,
+            dropped: false,
         })
     }
 
@@ -237,10 +243,11 @@ impl DeskOut {
     /// it may count as gone from then on.
     pub fn next<R: Wait>(&mut self, rt: &R) -> Option<Job>
         requires { IsOut self.old }
-        ensures out { IsOut self.new × (receives_on self.new.from ≡ receives_on self.old.from) }
-        ensures limit { self.new.limit ≡ self.old.limit }
+        ensures out { IsOut self.new × SameOut self.old self.new }
         ensures taken { takes self.new ≡ takes self.old ++ option_items result }
-        ensures held { IfSome result (λ _. length (takes self.new) < self.new.limit → self.new.gone ≡ self.old.gone) }
+        ensures told { (tells self.new ≡ tells self.old) × (self.new.dropped ≡ self.old.dropped) }
+        ensures held { IfSome result (λ _. length (takes self.new) < self.new.limit
+            → self.new.gone ≡ self.old.gone) }
         ensures gone { IsTrue self.old.gone → IsTrue self.new.gone }
         ensures spent { length (takes self.new) ≡ self.new.limit → IsTrue self.new.gone }
     {
@@ -260,30 +267,50 @@ impl DeskOut {
         }
     }
 
-    /// Sends a receipt back.
+    /// Sends a receipt back, unless the channel reports that the other end was dropped, or did so before. There is room
+    /// for a receipt of each job, so that this doesn't wait.
     pub fn tell<R: Wait>(&mut self, rt: &R, receipt: Receipt)
         requires { IsOut self.old }
-        ensures out { IsOut self.new × (receives_on self.new.from ≡ receives_on self.old.from) × (self.new.limit ≡ self.old.limit) }
+        ensures out { IsOut self.new × SameOut self.old self.new }
         ensures taken { (takes self.new ≡ takes self.old) × (self.new.gone ≡ self.old.gone) }
+        ensures told { SendsReceipt self.old receipt self.new }
     {
-        let _ = self
+        if self.dropped {
+            return;
+        }
+        match self
             .receipts
-            .try_send_as::<Free, R>(rt, &mut self.teller, receipt);
+            .send_as::<Puts, R>(rt, &mut self.teller, receipt)
+        {
+            Ok(()) => {}
+            Err(_) => self.dropped = true,
+        }
     }
 }
 
-/// How many jobs were taken from a desk: the first ones that were put.
+/// How many jobs were taken from a desk: the first ones that were put. The receipts that came from it are the first ones
+/// that were sent.
 pub fn taken_of(desk: Desk, out: DeskOut) -> u64
     requires { IsDesk desk × IsOut out × AreEnds desk out }
-    ensures { (result ≡ length (takes out)) × (takes out ≡ take result (puts desk)) }
+    ensures taken { (result ≡ length (takes out)) × (takes out ≡ take result (puts desk)) }
+    ensures heard { AreFirst (hears desk) (tells out) }
 {
-    let Desk { to, mut pass, .. } = desk;
+    let Desk {
+        to,
+        mut pass,
+        listener,
+        ..
+    } = desk;
     let DeskOut {
         pass: other,
+        receipts,
+        mut teller,
         count,
         ..
     } = out;
     to.absorb::<Roles>(&mut pass, other);
     to.learn_as::<Total>(&mut pass);
+    receipts.absorb::<Roles>(&mut teller, listener);
+    receipts.learn_as::<Total>(&mut teller);
     count
 }

@@ -2,7 +2,7 @@
 ghost use Rattle.std.specs.Prelude.{◌≡◌, ◌↔◌, IsTrue, IfSome, MatchOption, option_map};
 ghost use Rattle.wire_core.specs.Seats.{IsSeatOf};
 ghost use Rattle.site_threads.specs.Keepers.{shown_in};
-ghost use Rattle.site_threads.specs.Running.{MayFollow, Follows};
+ghost use Rattle.site_threads.specs.Running.{MarksChange, MayFollow, Follows};
 ghost use Rattle.site_threads.specs.Stamps.{stamp};
 
 use crate::stamps::{Stamp, stamp_of};
@@ -24,6 +24,7 @@ pub fn follow(
     ensures seat { IsSeatOf wire.now seat.new }
     ensures stamped { result ≡ stamp state.now }
     ensures follows { Follows seat.old.logs state.now seat.new.logs }
+    ensures marks { MarksChange seat.old.logs input.now.value state.now seat.new.logs }
 {
     let now = stamp_of(state);
     if !are_same(now, kept) {
@@ -41,11 +42,14 @@ pub fn follow_shown<K: SiteKeeper>(
     input: &Snapshot<SiteInput>,
 ) -> Stamp
     requires seat { IsSeatOf wire.now seat.old }
-    requires may { IfSome (shown_in K.shown keeper.now) (MayFollow seat.old.logs kept input.now.value) }
+    requires may { IfSome (shown_in K.shown keeper.now)
+        (MayFollow seat.old.logs kept input.now.value) }
     ensures seat { IsSeatOf wire.now seat.new }
     ensures follows { MatchOption (shown_in K.shown keeper.now)
         ((result ≡ kept) × (seat.new.logs ≡ seat.old.logs))
         (λ r. (result ≡ stamp r) × Follows seat.old.logs r seat.new.logs) }
+    ensures marks { IfSome (shown_in K.shown keeper.now)
+        (λ r. MarksChange seat.old.logs input.now.value r seat.new.logs) }
 {
     match view_of(keeper) {
         None => kept,

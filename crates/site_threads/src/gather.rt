@@ -1,13 +1,11 @@
 //! The seats of all sites joined again, and what is known then.
-ghost use Rattle.std.specs.Prelude.{◌≡◌, List, [], All, flat_map, length, map};
+ghost use Rattle.std.specs.Prelude.{◌≡◌, [], All, flat_map, length, map};
 ghost use Rattle.std.specs.List.{range_with_len, AllZip};
-ghost use Rattle.site_core.specs.Records.{Record};
 ghost use Rattle.world_core.specs.Faults.{AreOneWorld};
-ghost use Rattle.world_core.specs.Keepers.{AllShow};
 ghost use Rattle.wire_core.specs.Seats.{IsSeatOf};
-ghost use Rattle.site_threads.specs.Gathering.{KeepersFit, LeadsTo};
+ghost use Rattle.site_threads.specs.Gathering.{KeepersFit, RanFrom};
 ghost use Rattle.site_threads.specs.Parting.{HasKeeper, LeavesList, IsRoomFor, cause_of, first_cause};
-ghost use Rattle.site_threads.specs.Runs.{IsRun};
+ghost use Rattle.site_threads.specs.Runs.{IsFresh, IsSiteRun};
 
 use crate::gates::Gate;
 use crate::lists::RunLog;
@@ -50,8 +48,8 @@ pub struct Ended<K: SiteKeeper> {
 }
 
 /// Why a run has no answer, where the site ended it.
-fn cause_of(site: SiteNo, fault: Option<TurnCause>) -> Option<GatherCause>
-    ensures { result ≡ cause_of site fault }
+fn cause_of(site: SiteNo, fault: &Option<TurnCause>) -> Option<GatherCause>
+    ensures { result ≡ cause_of site fault.now }
 {
     match fault {
         None => None,
@@ -69,7 +67,7 @@ fn part<K: SiteKeeper, G: Gate>(
     room: Ended<K>,
 ) -> (Seat, Ended<K>)
     requires root { IsSeatOf wire.now root × (root.logs ≡ []) }
-    requires runs { All (IsRun K.shown K.may wire.now) runs.items }
+    requires runs { All (IsSiteRun K.shown K.may wire.now) runs.items }
     requires room { IsRoomFor (length runs.items) room }
     ensures seat { IsSeatOf wire.now result.0 }
     ensures logs { result.0.logs ≡ flat_map (λ r. r.turn.site.seat.logs) runs.items }
@@ -102,18 +100,20 @@ fn part<K: SiteKeeper, G: Gate>(
         } = site;
         let Some(keeper) = keeper else { unreachable!() };
         seat = wire.join(seat, mine);
+        cause = cause.or(cause_of(me, &fault));
         add(&mut keepers, keeper);
         add(
             &mut lists,
             RunLog {
+                site: me,
                 entries,
                 start,
                 out,
                 pending,
                 turns,
+                fault,
             },
         );
-        cause = cause.or(cause_of(me, fault));
     }
     (
         seat,
@@ -125,8 +125,8 @@ fn part<K: SiteKeeper, G: Gate>(
     )
 }
 
-/// Ends a run: whichever records the sites stand in, they are consistent; and where all keepers are open, what the
-/// sites did is a run of the world, from the records that the wire was made with.
+/// Ends a run: whichever records the sites stand in, they are consistent; and what the sites did by their lists of steps
+/// is a run of the world, from the records that the wire was made with.
 pub fn close_all<K: SiteKeeper, G: Gate>(
     wire: Wire,
     root: Seat,
@@ -134,12 +134,13 @@ pub fn close_all<K: SiteKeeper, G: Gate>(
     room: Ended<K>,
 ) -> Ended<K>
     requires root { IsSeatOf wire root × (root.logs ≡ []) }
-    requires runs { All (IsRun K.shown K.may wire) runs.items }
+    requires runs { All (IsSiteRun K.shown K.may wire) runs.items }
     requires all { map (λ r. r.turn.site.me) runs.items ≡ range_with_len 0 wire.sites }
+    requires fresh { All IsFresh runs.items }
     requires one { AreOneWorld (map (λ r. r.turn.site.start.value) runs.items) }
     requires room { IsRoomFor (length runs.items) room }
     ensures fit { KeepersFit K.shown K.may result.keepers.items }
-    ensures run { (rs : List Record) → AllShow K.shown result.keepers.items rs → LeadsTo wire.start rs }
+    ensures run { RanFrom K.shown K.may wire.start result.keepers.items result.lists.items }
     ensures keepers { AllZip HasKeeper runs.items result.keepers.items }
     ensures lists { AllZip LeavesList runs.items result.lists.items }
     ensures cause { result.cause ≡ first_cause runs.items }

@@ -1,9 +1,9 @@
 //! What a run of all sites gives back: receipts are confirmed, and desks settled, by the lists of steps.
-ghost use Rattle.std.specs.Prelude.{◌≡◌, ◌↔◌, ◌≤◌, IsTrue, cond, is_ok, length, take};
-ghost use Rattle.site_threads.specs.Ends.{puts, IsDesk, AreEnds};
-ghost use Rattle.site_threads.specs.Gathering.{IsConfirmed, HasJobsOfEnd};
+ghost use Rattle.std.specs.Prelude.{◌≡◌, ◌↔◌, ◌≤◌, All, IsTrue, cond, is_ok, length, take};
+ghost use Rattle.site_threads.specs.Ends.{hears, puts, IsDesk, AreEnds, AreFirst};
+ghost use Rattle.site_threads.specs.Gathering.{IsConfirmed, FitsEnd};
 ghost use Rattle.site_threads.specs.Inputs.{input_of};
-ghost use Rattle.site_threads.specs.Jobs.{IsEntered, entry_of, is_stop, jobs_in, stops_in};
+ghost use Rattle.site_threads.specs.Jobs.{IsEntered, entry_of, is_stop, jobs_in, receipts_in, stops_in};
 
 use crate::desks::{Desk, taken_of};
 use crate::gather::GatherCause;
@@ -23,11 +23,13 @@ pub struct Gathered<K: SiteKeeper> {
     pub shared: bool,
 }
 
-/// A run of all sites that has no answer, and the keepers, in the order of their sites.
+/// A run of all sites that has no answer, with what it leaves, in the order of the sites.
 #[derive(Debug, Drop, Error)]
 #[error("{cause}")]
 pub struct GatherFault<K> {
     pub keepers: Vec<K>,
+    /// The steps of each site, and its end of its desk; none where no site began a turn.
+    pub lists: Vec<RunLog>,
     /// Why; of several sites that ended their runs, the least is named.
     pub cause: GatherCause,
 }
@@ -86,11 +88,15 @@ impl RunLog {
         stops_among(self.entries.as_slice())
     }
 
-    /// How many jobs of a desk stand in the list: the first ones that were put.
+    /// How many jobs of a desk stand in the list: the first ones that were put. The receipts that came from the desk are
+    /// the first of those of the list's jobs, so that each of them is confirmed.
     pub fn settle(self, desk: Desk) -> u64
         requires desk { IsDesk desk × AreEnds desk self.out }
-        requires jobs { HasJobsOfEnd self }
-        ensures { (result ≡ length (jobs_in self.entries.items)) × (jobs_in self.entries.items ≡ take result (puts desk)) }
+        requires jobs { FitsEnd self }
+        ensures jobs { (result ≡ length (jobs_in self.entries.items))
+            × (jobs_in self.entries.items ≡ take result (puts desk)) }
+        ensures heard { AreFirst (hears desk) (receipts_in self.site self.entries.items) }
+        ensures confirmed { All (IsEntered self.entries.items) (hears desk) }
     {
         let RunLog { out, pending, .. } = self;
         let taken = taken_of(desk, out);

@@ -46,7 +46,8 @@ fn message_to(state: &SiteState, number: u64, to: SiteNo) -> Option<FrameView<'_
 
 /// The signal of the message, where it is one of the site's and the record makes the signal emittable.
 fn owed_signal(state: &SiteState, owed: Option<MsgId>, to: SiteNo) -> Option<FrameView<'_>>
-    ensures frame { option_map frame_of result ≡ option_and_then (signal_of state.now.engagement to) owed }
+    ensures frame { option_map frame_of result ≡ option_and_then (signal_of state.now.engagement to)
+        owed }
     ensures fits { IfSome result (λ f. IsFor state.now.engagement to (frame_of f)) }
 {
     match owed {

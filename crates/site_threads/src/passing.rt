@@ -67,12 +67,17 @@ impl<K: SiteKeeper> Site<K> {
         requires room { vec_len self.old.entries < vec_capacity self.old.entries }
         ensures site { IsSite K.shown K.may self.new }
         ensures same { Continues K.stored 1 wire.now self.old self.new }
-        ensures frames { TakesOfEach K.shown other (other + 1) self.old self.new result.entered result.lost }
+        ensures frames { TakesOfEach K.shown other (other + 1) self.old self.new result.entered
+            result.lost }
         ensures sent { outgoing self.new.seat.logs ≡ outgoing self.old.seat.logs }
-        ensures delivered { Delivers K.shown K.may K.applies self.old.keeper self.new.keeper (incoming self.old.seat.logs).noted (incoming self.new.seat.logs).noted self.old.entries.items self.new.entries.items }
+        ensures delivered { Delivers K.shown K.may K.applies self.old.keeper self.new.keeper
+            (incoming self.old.seat.logs).noted (incoming self.new.seat.logs).noted
+            self.old.entries.items self.new.entries.items }
         ensures rounds { self.new.rounds ≡ self.old.rounds }
-        ensures owed { OwesFor (incoming self.old.seat.logs).noted (incoming self.new.seat.logs).noted self.old.owed self.new.owed }
-        ensures room { (vec_capacity self.old.entries ≤ vec_capacity self.new.entries) × (vec_len self.new.entries ≤ vec_len self.old.entries + 1) }
+        ensures owed { OwesFor (incoming self.old.seat.logs).noted
+            (incoming self.new.seat.logs).noted self.old.owed self.new.owed }
+        ensures room { (vec_capacity self.old.entries ≤ vec_capacity self.new.entries)
+            × (vec_len self.new.entries ≤ vec_len self.old.entries + 1) }
         ensures count { result.entered + result.lost ≤ 1 }
     {
         if view_of(&self.keeper).is_none() {
@@ -102,11 +107,16 @@ impl<K: SiteKeeper> Site<K> {
         ensures site { IsSite K.shown K.may self.new }
         ensures same { Continues K.stored 1 wire.now self.old self.new }
         ensures owed { self.new.owed ≡ self.old.owed }
-        ensures frames { EntersFrames (is_some (shown_in K.shown self.old.keeper)) (is_some (shown_in K.shown self.new.keeper)) (frame ∷ []) self.old.entries.items self.new.entries.items result.entered result.lost }
+        ensures frames { EntersFrames (is_some (shown_in K.shown self.old.keeper))
+            (is_some (shown_in K.shown self.new.keeper)) (frame ∷ []) self.old.entries.items
+            self.new.entries.items result.entered result.lost }
         ensures passes { PassNothing self.old.seat.logs self.new.seat.logs }
-        ensures delivered { (noted : List Frame) (came : List Frame) → came ≡ noted ++ frame ∷ [] → Delivers K.shown K.may K.applies self.old.keeper self.new.keeper noted came self.old.entries.items self.new.entries.items }
+        ensures delivered { (noted : List Frame) (came : List Frame) → came ≡ noted ++ frame ∷ []
+            → Delivers K.shown K.may K.applies self.old.keeper self.new.keeper noted came
+            self.old.entries.items self.new.entries.items }
         ensures rounds { self.new.rounds ≡ self.old.rounds }
-        ensures room { (vec_capacity self.old.entries ≤ vec_capacity self.new.entries) × (vec_len self.new.entries ≤ vec_len self.old.entries + 1) }
+        ensures room { (vec_capacity self.old.entries ≤ vec_capacity self.new.entries)
+            × (vec_len self.new.entries ≤ vec_len self.old.entries + 1) }
         ensures count { result.entered + result.lost ≤ 1 }
     {
         let input = SiteInput::Deliver(frame);
@@ -123,8 +133,10 @@ impl<K: SiteKeeper> Site<K> {
         requires other { (to ≢ self.old.me) × (to < wire.now.sites) }
         ensures site { IsSite K.shown K.may self.new }
         ensures same { Continues K.stored 0 wire.now self.old self.new }
-        ensures entries { (self.new.entries ≡ self.old.entries) × (self.new.keeper ≡ self.old.keeper) × (self.new.owed ≡ self.old.owed) }
-        ensures posted { PostsToEach K.shown to (to + 1) (owed_in self.old) self.old self.new result.posted result.uncopied }
+        ensures entries { (self.new.entries ≡ self.old.entries)
+            × (self.new.keeper ≡ self.old.keeper) × (self.new.owed ≡ self.old.owed) }
+        ensures posted { PostsToEach K.shown to (to + 1) (owed_in self.old) self.old self.new
+            result.posted result.uncopied }
         ensures noted { incoming self.new.seat.logs ≡ incoming self.old.seat.logs }
         ensures count { result.posted + result.uncopied ≤ 1 }
     {
@@ -161,12 +173,17 @@ impl<K: SiteKeeper> Site<K> {
         requires room { vec_len self.old.entries < vec_capacity self.old.entries }
         ensures site { IsSite K.shown K.may self.new }
         ensures same { Continues K.stored 1 wire.now self.old self.new }
-        ensures frames { TakesOfEach K.shown number (number + 1) self.old self.new result.entered result.lost }
+        ensures frames { TakesOfEach K.shown number (number + 1) self.old self.new result.entered
+            result.lost }
         ensures sent { outgoing self.new.seat.logs ≡ outgoing self.old.seat.logs }
-        ensures delivered { Delivers K.shown K.may K.applies self.old.keeper self.new.keeper (incoming self.old.seat.logs).noted (incoming self.new.seat.logs).noted self.old.entries.items self.new.entries.items }
+        ensures delivered { Delivers K.shown K.may K.applies self.old.keeper self.new.keeper
+            (incoming self.old.seat.logs).noted (incoming self.new.seat.logs).noted
+            self.old.entries.items self.new.entries.items }
         ensures rounds { self.new.rounds ≡ self.old.rounds }
-        ensures owed { OwesFor (incoming self.old.seat.logs).noted (incoming self.new.seat.logs).noted self.old.owed self.new.owed }
-        ensures room { (vec_capacity self.old.entries ≤ vec_capacity self.new.entries) × (vec_len self.new.entries ≤ vec_len self.old.entries + 1) }
+        ensures owed { OwesFor (incoming self.old.seat.logs).noted
+            (incoming self.new.seat.logs).noted self.old.owed self.new.owed }
+        ensures room { (vec_capacity self.old.entries ≤ vec_capacity self.new.entries)
+            × (vec_len self.new.entries ≤ vec_len self.old.entries + 1) }
         ensures count { result.entered + result.lost ≤ 1 }
     {
         let Some(other) = SiteNo::of(number) else {
@@ -188,8 +205,10 @@ impl<K: SiteKeeper> Site<K> {
         requires there { (number < wire.now.sites) × (number < MAX_SITES) }
         ensures site { IsSite K.shown K.may self.new }
         ensures same { Continues K.stored 0 wire.now self.old self.new }
-        ensures entries { (self.new.entries ≡ self.old.entries) × (self.new.keeper ≡ self.old.keeper) × (self.new.owed ≡ self.old.owed) }
-        ensures posted { PostsToEach K.shown number (number + 1) (owed_in self.old) self.old self.new result.posted result.uncopied }
+        ensures entries { (self.new.entries ≡ self.old.entries)
+            × (self.new.keeper ≡ self.old.keeper) × (self.new.owed ≡ self.old.owed) }
+        ensures posted { PostsToEach K.shown number (number + 1) (owed_in self.old) self.old
+            self.new result.posted result.uncopied }
         ensures noted { incoming self.new.seat.logs ≡ incoming self.old.seat.logs }
         ensures count { result.posted + result.uncopied ≤ 1 }
     {
@@ -211,11 +230,15 @@ impl<K: SiteKeeper> Site<K> {
         requires room { vec_len self.old.entries + wire.now.sites ≤ vec_capacity self.old.entries }
         ensures site { IsSite K.shown K.may self.new }
         ensures same { Continues K.stored MAX_SITES wire.now self.old self.new }
-        ensures frames { TakesOfEach K.shown 0 wire.now.sites self.old self.new result.entered result.lost }
+        ensures frames { TakesOfEach K.shown 0 wire.now.sites self.old self.new result.entered
+            result.lost }
         ensures sent { outgoing self.new.seat.logs ≡ outgoing self.old.seat.logs }
-        ensures delivered { Delivers K.shown K.may K.applies self.old.keeper self.new.keeper (incoming self.old.seat.logs).noted (incoming self.new.seat.logs).noted self.old.entries.items self.new.entries.items }
+        ensures delivered { Delivers K.shown K.may K.applies self.old.keeper self.new.keeper
+            (incoming self.old.seat.logs).noted (incoming self.new.seat.logs).noted
+            self.old.entries.items self.new.entries.items }
         ensures rounds { self.new.rounds ≡ self.old.rounds }
-        ensures owed { (took : List Frame) → (incoming self.new.seat.logs).noted ≡ (incoming self.old.seat.logs).noted ++ took
+        ensures owed { (took : List Frame)
+            → (incoming self.new.seat.logs).noted ≡ (incoming self.old.seat.logs).noted ++ took
             → (to : ℕ) → owed_in self.new to ≡ owed_by took to }
     {
         self.owed = nothing_owed();
@@ -235,8 +258,10 @@ impl<K: SiteKeeper> Site<K> {
         requires site { IsSite K.shown K.may self.old }
         ensures site { IsSite K.shown K.may self.new }
         ensures same { Continues K.stored 0 wire.now self.old self.new }
-        ensures entries { (self.new.entries ≡ self.old.entries) × (self.new.keeper ≡ self.old.keeper) }
-        ensures posted { PostsToEach K.shown 0 wire.now.sites (owed_in self.old) self.old self.new result.posted result.uncopied }
+        ensures entries { (self.new.entries ≡ self.old.entries)
+            × (self.new.keeper ≡ self.old.keeper) }
+        ensures posted { PostsToEach K.shown 0 wire.now.sites (owed_in self.old) self.old self.new
+            result.posted result.uncopied }
         ensures noted { incoming self.new.seat.logs ≡ incoming self.old.seat.logs }
         ensures count { result.posted + result.uncopied ≤ wire.now.sites }
     {
@@ -254,8 +279,10 @@ impl<K: SiteKeeper> Site<K> {
 /// The number of the next message for a site of the record that is shown.
 fn next_message<K: SiteKeeper>(keeper: &Option<K>, round: &mut Round, to: SiteNo) -> Option<u64>
     requires round { IfSome (shown_in K.shown keeper.now) (λ r. IsRound r.engagement to round.old) }
-    ensures next { result ≡ option_and_then (λ r. next_to r.engagement to round.old.place) (shown_in K.shown keeper.now) }
-    ensures round { (e : Engagement) → IfSome (shown_in K.shown keeper.now) (λ r. r.engagement ≡ e) → IsRound e to round.old → IsRound e to round.new }
+    ensures next { result ≡ option_and_then (λ r. next_to r.engagement to round.old.place)
+        (shown_in K.shown keeper.now) }
+    ensures round { (e : Engagement) → IfSome (shown_in K.shown keeper.now) (λ r. r.engagement ≡ e)
+        → IsRound e to round.old → IsRound e to round.new }
     ensures place { round.new.place ≡ round.old.place }
 {
     match view_of(keeper) {

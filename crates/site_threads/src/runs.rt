@@ -1,12 +1,11 @@
 //! The sites of a run, each in a thread of its own.
 ghost use Rattle.std.specs.Prelude.{◌≡◌, ◌↔◌, ◌+◌, ◌-◌, ◌++◌, ◌^◌, ◌<◌, ◌≤◌, ℕ, List, None, true, All, IfSome, IsSome, IsTrue, is_none, length, min, slice_index_or};
 ghost use Rattle.std.specs.List.{AllZip, list_all};
-ghost use Rattle.crossbeam_channel.specs.Ends.{receives_on};
-ghost use Rattle.site_threads.specs.Ends.{takes, IsOut};
+ghost use Rattle.site_threads.specs.Ends.{takes, tells, IsOut, SameOut};
 ghost use Rattle.site_threads.specs.Jobs.{option_items};
 ghost use Rattle.site_threads.specs.Keepers.{shown_in};
 ghost use Rattle.site_threads.specs.Resting.{HaveEnded, IsAtRest, IsDone};
-ghost use Rattle.site_threads.specs.Runs.{IsRun, IsReady, SameRun, EndedBy, IsBetween, IsSliced, Ran, goes_on};
+ghost use Rattle.site_threads.specs.Runs.{IsSiteRun, IsReady, SameRun, EndedBy, IsBetween, IsSliced, Ran, goes_on};
 ghost use Rattle.site_threads.specs.Running.{marks_in};
 ghost use Rattle.site_threads.specs.declared.jobs.Job.{Job};
 ghost use Rattle.site_threads.specs.declared.runs.SiteRun.{SiteRun};
@@ -48,8 +47,10 @@ pub struct SiteRun<K: SiteKeeper, G: Gate> {
 /// The job that was given back, or the next one.
 fn next_job<R: Wait>(rt: &R, pending: Option<Job>, out: &mut DeskOut) -> Option<Job>
     requires { IsOut out.old }
-    ensures out { IsOut out.new × (receives_on out.new.from ≡ receives_on out.old.from) × (out.new.limit ≡ out.old.limit) }
-    ensures job { (done : List Job) → done ++ option_items pending ≡ takes out.old → done ++ option_items result ≡ takes out.new }
+    ensures out { IsOut out.new × SameOut out.old out.new }
+    ensures told { (tells out.new ≡ tells out.old) × (out.new.dropped ≡ out.old.dropped) }
+    ensures job { (done : List Job) → done ++ option_items pending ≡ takes out.old
+        → done ++ option_items result ≡ takes out.new }
 {
     match pending {
         Some(job) => Some(job),
@@ -131,12 +132,13 @@ fn without_job(before: Stamp, after: Stamp) -> Turned
 impl<K: SiteKeeper, G: Gate> SiteRun<K, G> {
     /// One turn.
     fn one_turn<R: Wait>(&mut self, rt: &R, wire: &Wire) -> Turned
-        requires run { IsRun K.shown K.may wire.now self.old }
+        requires run { IsSiteRun K.shown K.may wire.now self.old }
         requires few { marks_in self.old.turn.site.seat.logs < 2 ^ 61 }
         requires going { self.old.fault ≡ None }
-        ensures run { IsRun K.shown K.may wire.now self.new }
+        ensures run { IsSiteRun K.shown K.may wire.now self.new }
         ensures same { SameRun K.stored self.old self.new }
-        ensures marks { marks_in self.new.turn.site.seat.logs ≤ marks_in self.old.turn.site.seat.logs + 18 }
+        ensures marks { marks_in self.new.turn.site.seat.logs ≤ marks_in
+            self.old.turn.site.seat.logs + 18 }
         ensures turns { self.new.turn.turns ≡ min (self.old.turn.turns + 1) (2 ^ 64 - 1) }
         ensures going { goes_on result ≡ is_none self.new.fault }
         ensures on { self.new.ended ≡ self.old.ended }
@@ -176,7 +178,8 @@ impl<K: SiteKeeper, G: Gate> SiteRun<K, G> {
     /// Whether no recall of the site's own is open, and none is to begin: its end counts the desk as gone, no job is in
     /// hand, no message waits for a signal, and each recall that it began has ended.
     fn is_done(&self) -> bool
-        ensures { IsTrue result → IsDone K.shown self.now.turn.site.keeper self.now.out self.now.pending }
+        ensures { IsTrue result → IsDone K.shown self.now.turn.site.keeper self.now.out
+            self.now.pending }
     {
         if !self.out.gone || self.pending.is_some() {
             return false;
@@ -189,10 +192,10 @@ impl<K: SiteKeeper, G: Gate> SiteRun<K, G> {
 
     /// Ends the run of the site, with a last opening of a keeper that is closed.
     fn end(&mut self, wire: &Wire)
-        requires run { IsRun K.shown K.may wire.now self.old }
+        requires run { IsSiteRun K.shown K.may wire.now self.old }
         requires few { marks_in self.old.turn.site.seat.logs < 2 ^ 61 }
         requires fine { self.old.fault ≡ None }
-        ensures run { IsRun K.shown K.may wire.now self.new }
+        ensures run { IsSiteRun K.shown K.may wire.now self.new }
         ensures same { SameRun K.stored self.old self.new }
         ensures ended { self.new.ended ≡ true }
         ensures turns { self.new.turn.turns ≡ self.old.turn.turns }
@@ -214,9 +217,11 @@ impl<K: SiteKeeper, G: Gate> SiteRun<K, G> {
     /// A site takes itself off the open ones once it is done; where none is left, a site that is done makes no further
     /// turn.
     pub fn go<R: Wait + Clock>(&mut self, rt: &R, wire: &Wire, counts: &RunCounts, turns: u64)
-        requires between { IsBetween K.shown K.may K.stored K.reopens G.gives_up wire.now turns self.old }
+        requires between { IsBetween K.shown K.may K.stored K.reopens G.gives_up wire.now turns
+            self.old }
         requires turns { turns ≤ 1000000 }
-        ensures sliced { IsSliced K.shown K.may K.stored K.reopens G.gives_up wire.now turns self.old self.new }
+        ensures sliced { IsSliced K.shown K.may K.stored K.reopens G.gives_up wire.now turns
+            self.old self.new }
     {
         if self.ended {
             return;
@@ -256,11 +261,13 @@ fn run_slices<K: SiteKeeper + Send, G: Gate + Send, R: Threads + Wait + Clock + 
     turns: u64,
 )
     requires count { 0 < length runs.old }
-    requires between { All (IsBetween K.shown K.may K.stored K.reopens G.gives_up wire.now turns) runs.old }
+    requires between { All (IsBetween K.shown K.may K.stored K.reopens G.gives_up wire.now turns)
+        runs.old }
     requires turns { turns ≤ 1000000 }
     ensures count { length runs.new ≡ length runs.old }
     ensures each { (i : ℕ) (d : SiteRun K G) → i < length runs.old
-        → IsSliced K.shown K.may K.stored K.reopens G.gives_up wire.now turns (slice_index_or runs.old i d) (slice_index_or runs.new i d) }
+        → IsSliced K.shown K.may K.stored K.reopens G.gives_up wire.now turns
+        (slice_index_or runs.old i d) (slice_index_or runs.new i d) }
 {
     let threads = runs.len();
     thread::for_each_mut(
@@ -268,8 +275,10 @@ fn run_slices<K: SiteKeeper + Send, G: Gate + Send, R: Threads + Wait + Clock + 
         runs,
         threads,
         &|_, run: &mut SiteRun<K, G>|
-            requires { IsBetween K.shown K.may K.stored K.reopens G.gives_up wire.now turns run.now × (turns ≤ 1000000) }
-            ensures { IsSliced K.shown K.may K.stored K.reopens G.gives_up wire.entry.now turns run.entry.now run.exit.now }
+            requires { IsBetween K.shown K.may K.stored K.reopens G.gives_up wire.now turns run.now
+                × (turns ≤ 1000000) }
+            ensures { IsSliced K.shown K.may K.stored K.reopens G.gives_up wire.entry.now turns
+                run.entry.now run.exit.now }
         { run.go(rt, wire, counts, turns) },
     );
 }
@@ -293,7 +302,8 @@ pub fn run_all<K: SiteKeeper + Send, G: Gate + Send, R: Threads + Wait + Clock +
     requires count { 0 < length runs.old }
     requires ready { All (IsReady K.shown K.may wire.now) runs.old }
     requires turns { turns ≤ 1000000 }
-    ensures { AllZip (Ran K.shown K.may K.stored K.reopens G.gives_up wire.now turns) runs.old runs.new }
+    ensures { AllZip (Ran K.shown K.may K.stored K.reopens G.gives_up wire.now turns) runs.old
+        runs.new }
 {
     // A site that goes on made a turn in each slice.
     for _ in 0..turns + 1 {

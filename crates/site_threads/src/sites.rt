@@ -4,7 +4,7 @@ ghost use Rattle.keeper_core.specs.Keeping.{Applies, HindersOpening};
 ghost use Rattle.site_core.specs.Records.{Record};
 ghost use Rattle.site_core.specs.Steps.{CopiesRecord};
 ghost use Rattle.wire_core.specs.Seats.{IsSeatOf};
-ghost use Rattle.site_threads.specs.Answering.{DoesJob, IsShort, Opened, Told};
+ghost use Rattle.site_threads.specs.Answering.{DoesJob, IsShort, Opened, AnsweredStep};
 ghost use Rattle.site_threads.specs.Inputs.{input_of};
 ghost use Rattle.site_threads.specs.Jobs.{entry_of, is_stop, open_after, option_items};
 ghost use Rattle.site_threads.specs.Keepers.{shown_in, may_in};
@@ -40,6 +40,8 @@ pub struct Site<K: SiteKeeper> {
     pub entries: Vec<Entry>,
     /// The record that it began with, for proofs alone.
     pub start: Snapshot<SiteState>,
+    /// Its seat before its first turn, for proofs alone.
+    pub first: Snapshot<Seat>,
     /// By site, the message that was taken from it in this turn.
     pub owed: [Option<MsgId>; MAX_SITES],
     /// By site, how far its messages were posted.
@@ -61,9 +63,12 @@ impl<K: SiteKeeper> Site<K> {
         ensures passes { PassNothing self.old.seat.logs self.new.seat.logs }
         ensures rounds { self.new.rounds ≡ self.old.rounds }
         ensures open { IfOk result (λ _. IsSome (shown_in K.shown self.new.keeper)) }
-        ensures opened { IfOk result (λ _. Opened K.shown K.reopens self.old.keeper self.new.keeper) }
-        ensures stays { (r : Record) → shown_in K.shown self.old.keeper ≡ Some r → shown_in K.shown self.new.keeper ≡ Some r }
-        ensures closed { IfErr result (λ fault. HindersOpening fault × IsRefused K.shown K.reopens fault self.old.keeper self.new.keeper) }
+        ensures opened { IfOk result (λ _. Opened K.shown K.reopens self.old.keeper
+            self.new.keeper) }
+        ensures stays { (r : Record) → shown_in K.shown self.old.keeper ≡ Some r
+            → shown_in K.shown self.new.keeper ≡ Some r }
+        ensures closed { IfErr result (λ fault. HindersOpening fault
+            × IsRefused K.shown K.reopens fault self.old.keeper self.new.keeper) }
     {
         if view_of(&self.keeper).is_some() {
             return Ok(());
@@ -110,15 +115,21 @@ impl<K: SiteKeeper> Site<K> {
         requires room { vec_len self.old.entries < vec_capacity self.old.entries }
         ensures site { IsSite K.shown K.may self.new }
         ensures same { Continues K.stored 1 wire.now self.old self.new }
-        ensures entered { IfOk result (λ reply. self.new.entries.items ≡ self.old.entries.items ++ (record { number = vec_len self.old.entries + 1; input = asked; reply = reply }) ∷ []) }
-        ensures told { IfOk result (λ reply. Told K.shown K.may K.applies self.old.keeper input reply self.new.keeper) }
-        ensures stopped { IfOk result (λ reply. is_some (shown_in K.shown self.new.keeper) ≡ not (is_stop reply)) }
+        ensures entered { IfOk result (λ reply. self.new.entries.items ≡ self.old.entries.items ++
+            (record { number = vec_len self.old.entries + 1; input = asked; reply = reply }) ∷ []) }
+        ensures told { IfOk result (λ reply. AnsweredStep K.shown K.may K.applies self.old.keeper
+            input reply self.new.keeper) }
+        ensures stopped { IfOk result (λ reply. is_some (shown_in K.shown self.new.keeper) ≡ not
+            (is_stop reply)) }
         ensures passes { PassNothing self.old.seat.logs self.new.seat.logs }
         ensures rounds { self.new.rounds ≡ self.old.rounds }
         ensures owed { self.new.owed ≡ self.old.owed }
-        ensures room { (vec_capacity self.old.entries ≤ vec_capacity self.new.entries) × (vec_len self.new.entries ≤ vec_len self.old.entries + 1) }
-        ensures back { IfErr result (λ back. (back ≡ asked) × (self.new.entries ≡ self.old.entries) × (shown_in K.shown self.new.keeper ≡ shown_in K.shown self.old.keeper)) }
-        ensures short { IfErr result (λ _. IsShort K.shown K.may K.applies self.old.keeper input self.new.keeper) }
+        ensures room { (vec_capacity self.old.entries ≤ vec_capacity self.new.entries)
+            × (vec_len self.new.entries ≤ vec_len self.old.entries + 1) }
+        ensures back { IfErr result (λ back. (back ≡ asked) × (self.new.entries ≡ self.old.entries)
+            × (shown_in K.shown self.new.keeper ≡ shown_in K.shown self.old.keeper)) }
+        ensures short { IfErr result (λ _. IsShort K.shown K.may K.applies self.old.keeper input
+            self.new.keeper) }
     {
         let frame = is_delivery(&input);
         let Some(reply) = answered(apply_to(&mut self.keeper, input), frame) else {
@@ -154,14 +165,22 @@ impl<K: SiteKeeper> Site<K> {
         requires room { vec_len self.old.entries < vec_capacity self.old.entries }
         ensures site { IsSite K.shown K.may self.new }
         ensures same { Continues K.stored 1 wire.now self.old self.new }
-        ensures job { IfOk result (λ receipt. (option_map (λ x. x.job) receipt ≡ option_map (λ x. x.job) ready) × IfSome receipt (λ x. x.site ≡ self.old.me)) }
-        ensures entered { IfOk result (λ receipt. self.new.entries.items ≡ self.old.entries.items ++ map entry_of (option_items receipt)) }
-        ensures told { IfOk result (λ receipt. DoesJob K.shown K.may K.applies self.old.keeper receipt self.new.keeper) }
-        ensures stopped { IfOk result (λ receipt. is_some (shown_in K.shown self.new.keeper) ≡ open_after receipt) }
+        ensures job { IfOk result (λ receipt.
+            (option_map (λ x. x.job) receipt ≡ option_map (λ x. x.job) ready)
+            × IfSome receipt (λ x. x.site ≡ self.old.me)) }
+        ensures entered { IfOk result (λ receipt. self.new.entries.items ≡ self.old.entries.items ++
+            map entry_of (option_items receipt)) }
+        ensures told { IfOk result (λ receipt. DoesJob K.shown K.may K.applies self.old.keeper
+            receipt self.new.keeper) }
+        ensures stopped { IfOk result (λ receipt. is_some
+            (shown_in K.shown self.new.keeper) ≡ open_after receipt) }
         ensures passes { PassNothing self.old.seat.logs self.new.seat.logs }
         ensures rounds { self.new.rounds ≡ self.old.rounds }
-        ensures room { (vec_capacity self.old.entries ≤ vec_capacity self.new.entries) × (vec_len self.new.entries ≤ vec_len self.old.entries + 1) }
-        ensures back { IfErr result (λ job. (Some job ≡ option_map (λ x. x.job) ready) × (self.new.entries ≡ self.old.entries) × (shown_in K.shown self.new.keeper ≡ shown_in K.shown self.old.keeper)) }
+        ensures room { (vec_capacity self.old.entries ≤ vec_capacity self.new.entries)
+            × (vec_len self.new.entries ≤ vec_len self.old.entries + 1) }
+        ensures back { IfErr result (λ job. (Some job ≡ option_map (λ x. x.job) ready)
+            × (self.new.entries ≡ self.old.entries)
+            × (shown_in K.shown self.new.keeper ≡ shown_in K.shown self.old.keeper)) }
     {
         match ready {
             None => Ok(None),
@@ -181,14 +200,21 @@ impl<K: SiteKeeper> Site<K> {
         requires room { vec_len self.old.entries < vec_capacity self.old.entries }
         ensures site { IsSite K.shown K.may self.new }
         ensures same { Continues K.stored 1 wire.now self.old self.new }
-        ensures job { IfOk result (λ receipt. (receipt.job ≡ ready.job) × (receipt.site ≡ self.old.me)) }
-        ensures entered { IfOk result (λ receipt. self.new.entries.items ≡ self.old.entries.items ++ entry_of receipt ∷ []) }
-        ensures told { IfOk result (λ receipt. Told K.shown K.may K.applies self.old.keeper (input_of receipt.job) receipt.reply self.new.keeper) }
-        ensures stopped { IfOk result (λ receipt. is_some (shown_in K.shown self.new.keeper) ≡ not (is_stop receipt.reply)) }
+        ensures job { IfOk result (λ receipt. (receipt.job ≡ ready.job)
+            × (receipt.site ≡ self.old.me)) }
+        ensures entered { IfOk result (λ receipt. self.new.entries.items ≡ self.old.entries.items ++
+            entry_of receipt ∷ []) }
+        ensures told { IfOk result (λ receipt. AnsweredStep K.shown K.may K.applies self.old.keeper
+            (input_of receipt.job) receipt.reply self.new.keeper) }
+        ensures stopped { IfOk result (λ receipt. is_some (shown_in K.shown self.new.keeper) ≡ not
+            (is_stop receipt.reply)) }
         ensures passes { PassNothing self.old.seat.logs self.new.seat.logs }
         ensures rounds { self.new.rounds ≡ self.old.rounds }
-        ensures room { (vec_capacity self.old.entries ≤ vec_capacity self.new.entries) × (vec_len self.new.entries ≤ vec_len self.old.entries + 1) }
-        ensures back { IfErr result (λ job. (job ≡ ready.job) × (self.new.entries ≡ self.old.entries) × (shown_in K.shown self.new.keeper ≡ shown_in K.shown self.old.keeper)) }
+        ensures room { (vec_capacity self.old.entries ≤ vec_capacity self.new.entries)
+            × (vec_len self.new.entries ≤ vec_len self.old.entries + 1) }
+        ensures back { IfErr result (λ job. (job ≡ ready.job)
+            × (self.new.entries ≡ self.old.entries)
+            × (shown_in K.shown self.new.keeper ≡ shown_in K.shown self.old.keeper)) }
     {
         let Ready {
             job,
@@ -217,9 +243,12 @@ impl<K: SiteKeeper> Site<K> {
 /// A step of an open keeper.
 fn apply_to<K: SiteKeeper>(keeper: &mut Option<K>, input: SiteInput) -> Result<Effects, KeepFault>
     requires { IsSome (shown_in K.shown keeper.old) }
-    ensures step { (old : Record) → shown_in K.shown keeper.old ≡ Some old → Applies old input result (shown_in K.shown keeper.new) (may_in K.may keeper.new) }
-    ensures asked { (k : K) → keeper.old ≡ Some k → (left : K) × (keeper.new ≡ Some left) × K.applies k input result left }
-    ensures memory { (r : Record) → shown_in K.shown keeper.old ≡ Some r → result ≡ Err KeepFault.NoMemory → CopiesRecord r input }
+    ensures step { (old : Record) → shown_in K.shown keeper.old ≡ Some old
+        → Applies old input result (shown_in K.shown keeper.new) (may_in K.may keeper.new) }
+    ensures asked { (k : K) → keeper.old ≡ Some k → (left : K) × (keeper.new ≡ Some left)
+        × K.applies k input result left }
+    ensures memory { (r : Record) → shown_in K.shown keeper.old ≡ Some r
+        → result ≡ Err KeepFault.NoMemory → CopiesRecord r input }
     ensures there { IsSome keeper.new }
     ensures stored { IfSome keeper.old K.stored → IfSome keeper.new K.stored }
 {

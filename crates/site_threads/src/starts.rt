@@ -32,7 +32,8 @@ fn begin<K: SiteKeeper, G: Gate>(
     me: SiteNo,
 ) -> SiteRun<K, G>
     requires seat { IsSeatOf wire.now seat }
-    requires start { (r : Record) × (K.shown keeper ≡ Some r) × (seat.logs ≡ opening_log me r ∷ []) × (r.engagement.me ≡ me) }
+    requires start { (r : Record) × (K.shown keeper ≡ Some r) × (seat.logs ≡ opening_log me r ∷ [])
+        × (r.engagement.me ≡ me) }
     requires desk { IsUnused out }
     ensures ready { IsReady K.shown K.may wire.now result }
     ensures me { result.turn.site.me ≡ me }
@@ -54,7 +55,9 @@ fn begin<K: SiteKeeper, G: Gate>(
 fn first_apart(wire: &Wire, seat: Seat, me: SiteNo) -> (Seat, Seat)
     requires { IsSeatOf wire.now seat }
     ensures seats { IsSeatOf wire.now result.0 × IsSeatOf wire.now result.1 }
-    ensures parts { (r : Record) (rs : List Record) → seat.logs ≡ logs_from me (r ∷ rs) → me + length (r ∷ rs) ≤ MAX_SITES → (result.0.logs ≡ opening_log me r ∷ []) × (result.1.logs ≡ logs_from (me + 1) rs) }
+    ensures parts { (r : Record) (rs : List Record) → seat.logs ≡ logs_from me (r ∷ rs)
+        → me + length (r ∷ rs) ≤ MAX_SITES → (result.0.logs ≡ opening_log me r ∷ [])
+        × (result.1.logs ≡ logs_from (me + 1) rs) }
 {
     match SiteNo::of(me.number() + 1) {
         Some(next) => wire.split(seat, next),
@@ -77,12 +80,16 @@ pub fn begin_all<K: SiteKeeper, G: Gate>(
     room: Vec<SiteRun<K, G>>,
 ) -> Vec<SiteRun<K, G>>
     requires seat { IsSeatOf wire.now seat }
-    requires sites { (rs : List Record) × (seat.logs ≡ logs_from 0 rs) × AllShow K.shown keepers.items rs × AreInPlace rs }
-    requires count { (length keepers.items ≤ MAX_SITES) × (length desks.items ≡ length keepers.items) × (length gates.items ≡ length keepers.items) }
+    requires sites { (rs : List Record) × (seat.logs ≡ logs_from 0 rs)
+        × AllShow K.shown keepers.items rs × AreInPlace rs }
+    requires count { (length keepers.items ≤ MAX_SITES)
+        × (length desks.items ≡ length keepers.items)
+        × (length gates.items ≡ length keepers.items) }
     requires desks { All IsUnused desks.items }
     requires room { (room.items ≡ []) × (length keepers.items ≤ vec_capacity room) }
     ensures ready { All (IsReady K.shown K.may wire.now) result.items }
-    ensures order { map (λ r. r.turn.site.me) result.items ≡ range_with_len 0 (length keepers.items) }
+    ensures order { map (λ r. r.turn.site.me) result.items ≡ range_with_len 0
+        (length keepers.items) }
     ensures start { AllZip (BeganIn K.shown) keepers.items result.items }
     ensures desks { AllZip TookEnd desks.items result.items }
 {

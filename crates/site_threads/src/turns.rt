@@ -3,7 +3,7 @@ ghost use Rattle.std.specs.Prelude.{◌≡◌, ◌≢◌, ◌+◌, ◌-◌, ◌+
 ghost use Rattle.site_core.specs.Records.{Record};
 ghost use Rattle.wire_core.specs.Seats.{IsSeatOf};
 ghost use Rattle.site_threads.specs.Answering.{Delivers, DoesJob, Opened};
-ghost use Rattle.site_threads.specs.Jobs.{entry_of, jobs_in, option_items};
+ghost use Rattle.site_threads.specs.Jobs.{entry_of, jobs_in, option_items, receipts_in};
 ghost use Rattle.site_threads.specs.Keepers.{shown_in};
 ghost use Rattle.site_threads.specs.Passing.{AnswersInTurn, PassNothing, PostsAfterTaking, TakesAfterJob, incoming};
 ghost use Rattle.site_threads.specs.Running.{marks_in};
@@ -77,22 +77,26 @@ impl<K: SiteKeeper, G: Gate> SiteTurn<K, G> {
     pub fn new(alloc: Global, keeper: K, gate: G, seat: Seat, me: SiteNo) -> SiteTurn<K, G>
         requires start { (r : Record) × (K.shown keeper ≡ Some r) × IsLastMarked seat.logs me r }
         ensures site { IsSite K.shown K.may result.site }
-        ensures first { (result.site.me ≡ me) × (result.site.seat ≡ seat) × (result.site.entries.items ≡ []) × (Some result.site.start.value ≡ K.shown keeper) × (result.site.keeper ≡ Some keeper) }
+        ensures first { (result.site.me ≡ me) × (result.site.seat ≡ seat)
+            × (result.site.entries.items ≡ []) × (Some result.site.start.value ≡ K.shown keeper)
+            × (result.site.first.value ≡ seat) × (result.site.keeper ≡ Some keeper) }
         ensures turns { result.turns ≡ 0 }
     {
         let Some(state) = keeper.view() else {
             unreachable!()
         };
-        let first = stamp_of(state);
+        let stamp = stamp_of(state);
         let start = Snapshot::of(state);
+        let first = Snapshot::of(&seat);
         SiteTurn {
             site: Site {
                 keeper: Some(keeper),
                 seat,
                 me,
-                stamp: first,
+                stamp,
                 entries: Vec::new(alloc),
                 start,
+                first,
                 owed: [None; MAX_SITES],
                 rounds: [Round::new(); MAX_SITES],
             },
@@ -127,15 +131,29 @@ impl<K: SiteKeeper, G: Gate> SiteTurn<K, G> {
         ensures site { IsSite K.shown K.may self.new.site }
         ensures same { Continues K.stored 18 wire.now self.old.site self.new.site }
         ensures turns { self.new.turns ≡ min (self.old.turns + 1) (2 ^ 64 - 1) }
-        ensures job { IfOk result (λ report. (option_map (λ x. x.job) report.receipt ≡ job) × IfSome report.receipt (λ x. x.site ≡ self.old.site.me)) }
-        ensures entered { IfOk result (TakesAfterJob K.shown wire.now.sites self.old.site self.new.site) }
-        ensures sent { IfOk result (PostsAfterTaking K.shown wire.now.sites self.old.site self.new.site) }
-        ensures answers { IfOk result (AnswersInTurn K.shown K.may K.applies K.reopens self.old.site self.new.site) }
-        ensures jobs { IfOk result (λ report. jobs_in self.new.site.entries.items ≡ jobs_in self.old.site.entries.items ++ option_items job) }
+        ensures job { IfOk result (λ report. (option_map (λ x. x.job) report.receipt ≡ job)
+            × IfSome report.receipt (λ x. x.site ≡ self.old.site.me)) }
+        ensures entered { IfOk result (TakesAfterJob K.shown wire.now.sites self.old.site
+            self.new.site) }
+        ensures sent { IfOk result (PostsAfterTaking K.shown wire.now.sites self.old.site
+            self.new.site) }
+        ensures answers { IfOk result (AnswersInTurn K.shown K.may K.applies K.reopens self.old.site
+            self.new.site) }
+        ensures jobs { IfOk result (λ report. jobs_in self.new.site.entries.items ≡ jobs_in
+            self.old.site.entries.items ++ option_items job) }
+        ensures receipts { IfOk result (λ report. receipts_in self.old.site.me
+            self.new.site.entries.items ≡ receipts_in self.old.site.me self.old.site.entries.items
+            ++ option_items report.receipt) }
         ensures posted { IfOk result (λ report. report.posted + report.uncopied ≤ wire.now.sites) }
-        ensures back { IfErr result (λ fault. (fault.job ≡ job) × (self.new.site.entries.items ≡ self.old.site.entries.items) × PassNothing self.old.site.seat.logs self.new.site.seat.logs) }
-        ensures unchanged { IfErr result (λ fault. (r : Record) → shown_in K.shown self.old.site.keeper ≡ Some r → shown_in K.shown self.new.site.keeper ≡ Some r) }
-        ensures why { IfErr result (λ fault. HindersTurn K.shown K.reopens G.gives_up fault.cause self.old.gate self.new.site.me self.new.turns self.old.site.keeper self.new.site.keeper) }
+        ensures back { IfErr result (λ fault. (fault.job ≡ job)
+            × (self.new.site.entries.items ≡ self.old.site.entries.items)
+            × PassNothing self.old.site.seat.logs self.new.site.seat.logs) }
+        ensures unchanged { IfErr result (λ fault. (r : Record)
+            → shown_in K.shown self.old.site.keeper ≡ Some r
+            → shown_in K.shown self.new.site.keeper ≡ Some r) }
+        ensures why { IfErr result (λ fault. HindersTurn K.shown K.reopens G.gives_up fault.cause
+            self.old.gate self.new.site.me self.new.turns self.old.site.keeper
+            self.new.site.keeper) }
     {
         if let Err(cause) = self.begin(wire) {
             return Err(TurnFault { cause, job });
@@ -168,9 +186,13 @@ impl<K: SiteKeeper, G: Gate> SiteTurn<K, G> {
         ensures passes { PassNothing self.old.site.seat.logs self.new.site.seat.logs }
         ensures rounds { self.new.site.rounds ≡ self.old.site.rounds }
         ensures open { IfOk result (λ _. IsSome (shown_in K.shown self.new.site.keeper)) }
-        ensures opened { IfOk result (λ _. Opened K.shown K.reopens self.old.site.keeper self.new.site.keeper) }
-        ensures stays { (r : Record) → shown_in K.shown self.old.site.keeper ≡ Some r → shown_in K.shown self.new.site.keeper ≡ Some r }
-        ensures why { IfErr result (λ cause. HindersTurn K.shown K.reopens G.gives_up cause self.old.gate self.new.site.me self.new.turns self.old.site.keeper self.new.site.keeper) }
+        ensures opened { IfOk result (λ _. Opened K.shown K.reopens self.old.site.keeper
+            self.new.site.keeper) }
+        ensures stays { (r : Record) → shown_in K.shown self.old.site.keeper ≡ Some r
+            → shown_in K.shown self.new.site.keeper ≡ Some r }
+        ensures why { IfErr result (λ cause. HindersTurn K.shown K.reopens G.gives_up cause
+            self.old.gate self.new.site.me self.new.turns self.old.site.keeper
+            self.new.site.keeper) }
     {
         self.turns = self.turns.saturating_add(1);
         match self.gate.enter(self.site.me, self.turns) {
@@ -188,17 +210,29 @@ impl<K: SiteKeeper, G: Gate> SiteTurn<K, G> {
         requires site { IsSite K.shown K.may self.old.site }
         requires few { marks_in self.old.site.seat.logs < 2 ^ 61 + 1 }
         requires open { IsSome (shown_in K.shown self.old.site.keeper) }
-        requires room { vec_len self.old.site.entries + (wire.now.sites + 1) ≤ vec_capacity self.old.site.entries }
+        requires room { vec_len self.old.site.entries + (wire.now.sites + 1) ≤ vec_capacity
+            self.old.site.entries }
         ensures site { IsSite K.shown K.may self.new.site }
         ensures same { Continues K.stored 17 wire.now self.old.site self.new.site }
         ensures turns { self.new.turns ≡ self.old.turns }
-        ensures job { IfOk result (λ report. (option_map (λ x. x.job) report.receipt ≡ option_map (λ x. x.job) ready) × IfSome report.receipt (λ x. x.site ≡ self.old.site.me)) }
-        ensures entered { IfOk result (TakesAfterJob K.shown wire.now.sites self.old.site self.new.site) }
-        ensures sent { IfOk result (PostsAfterTaking K.shown wire.now.sites self.old.site self.new.site) }
-        ensures answers { IfOk result (λ report. (left : Option K) × DoesJob K.shown K.may K.applies self.old.site.keeper report.receipt left
-            × Delivers K.shown K.may K.applies left self.new.site.keeper (incoming self.old.site.seat.logs).noted (incoming self.new.site.seat.logs).noted (self.old.site.entries.items ++ map entry_of (option_items report.receipt)) self.new.site.entries.items) }
+        ensures job { IfOk result (λ report. (option_map (λ x. x.job) report.receipt ≡ option_map
+            (λ x. x.job) ready) × IfSome report.receipt (λ x. x.site ≡ self.old.site.me)) }
+        ensures entered { IfOk result (TakesAfterJob K.shown wire.now.sites self.old.site
+            self.new.site) }
+        ensures sent { IfOk result (PostsAfterTaking K.shown wire.now.sites self.old.site
+            self.new.site) }
+        ensures answers { IfOk result (λ report. (left : Option K)
+            × DoesJob K.shown K.may K.applies self.old.site.keeper report.receipt left
+            × Delivers K.shown K.may K.applies left self.new.site.keeper
+            (incoming self.old.site.seat.logs).noted (incoming self.new.site.seat.logs).noted
+            (self.old.site.entries.items ++ map entry_of (option_items report.receipt))
+            self.new.site.entries.items) }
         ensures posted { IfOk result (λ report. report.posted + report.uncopied ≤ wire.now.sites) }
-        ensures back { IfErr result (λ fault. (fault.job ≡ option_map (λ x. x.job) ready) × (self.new.site.entries ≡ self.old.site.entries) × PassNothing self.old.site.seat.logs self.new.site.seat.logs × (fault.cause ≡ TurnCause.NoMemory) × (shown_in K.shown self.new.site.keeper ≡ shown_in K.shown self.old.site.keeper)) }
+        ensures back { IfErr result (λ fault. (fault.job ≡ option_map (λ x. x.job) ready)
+            × (self.new.site.entries ≡ self.old.site.entries)
+            × PassNothing self.old.site.seat.logs self.new.site.seat.logs
+            × (fault.cause ≡ TurnCause.NoMemory)
+            × (shown_in K.shown self.new.site.keeper ≡ shown_in K.shown self.old.site.keeper)) }
     {
         match self.site.do_job(wire, ready) {
             Err(job) => Err(TurnFault {
@@ -221,7 +255,8 @@ impl<K: SiteKeeper, G: Gate> SiteTurn<K, G> {
 
     /// The keeper, the seat and the list of steps.
     pub fn finish(self) -> (Option<K>, Seat, Vec<Entry>)
-        ensures { (result.0 ≡ self.site.keeper) × (result.1 ≡ self.site.seat) × (result.2 ≡ self.site.entries) }
+        ensures { (result.0 ≡ self.site.keeper) × (result.1 ≡ self.site.seat)
+            × (result.2 ≡ self.site.entries) }
     {
         let SiteTurn { site, .. } = self;
         let Site {

@@ -8,7 +8,7 @@ ghost use Rattle.world_core.specs.Keepers.{AllShow};
 ghost use Rattle.wire_core.specs.Rule.{logs_from};
 ghost use Rattle.wire_core.specs.Seats.{IsSeatOf};
 ghost use Rattle.site_threads.specs.Ends.{IsUnused};
-ghost use Rattle.site_threads.specs.Gathering.{Began, Explains, FitAfter, HasEnd, HasTurned, Hinders, IsKept, KeepersFit, RanAsAWorld, keepers_of};
+ghost use Rattle.site_threads.specs.Gathering.{AreInOrder, Began, Explains, FitAfter, HasEnd, HasTurned, HaveRun, HindersRun, IsFirstCause, IsKept, IsLeft, KeepersFit, RanAsAWorld, WereHindered, keepers_of};
 ghost use Rattle.site_threads.specs.Parting.{IsRoomFor};
 ghost use Rattle.site_threads.specs.Runs.{IsReady, Ran};
 
@@ -49,8 +49,10 @@ fn wire_between<K: SiteKeeper>(alloc: Global, keepers: &[K]) -> Result<(Wire, Se
     requires world { (rs : List Record) × AllShow K.shown keepers.now rs × MakeAWorld rs }
     requires count { (2 ≤ length keepers.now) × (length keepers.now ≤ MAX_SITES) }
     ensures wire { IfOk result (λ r. IsSeatOf r.0 r.1 × (r.0.sites ≡ length keepers.now)) }
-    ensures seat { (rs : List Record) → AllShow K.shown keepers.now rs → IfOk result (λ r. r.1.logs ≡ logs_from 0 rs) }
-    ensures start { (rs : List Record) → AllShow K.shown keepers.now rs → IfOk result (λ r. r.0.start ≡ rs) }
+    ensures seat { (rs : List Record) → AllShow K.shown keepers.now rs
+        → IfOk result (λ r. r.1.logs ≡ logs_from 0 rs) }
+    ensures start { (rs : List Record) → AllShow K.shown keepers.now rs
+        → IfOk result (λ r. r.0.start ≡ rs) }
 {
     let states = records_of(alloc, keepers)?;
     Ok(Wire::new(alloc, &states)?)
@@ -69,9 +71,12 @@ fn room_for<K: SiteKeeper, G: Gate>(alloc: Global, keepers: &[K]) -> Result<Room
     requires world { (rs : List Record) × AllShow K.shown keepers.now rs × MakeAWorld rs }
     requires count { (2 ≤ length keepers.now) × (length keepers.now ≤ MAX_SITES) }
     ensures wire { IfOk result (λ r. IsSeatOf r.wire r.seat × (r.wire.sites ≡ length keepers.now)) }
-    ensures seat { (rs : List Record) → AllShow K.shown keepers.now rs → IfOk result (λ r. r.seat.logs ≡ logs_from 0 rs) }
-    ensures start { (rs : List Record) → AllShow K.shown keepers.now rs → IfOk result (λ r. r.wire.start ≡ rs) }
-    ensures runs { IfOk result (λ r. (r.runs.items ≡ []) × (length keepers.now ≤ vec_capacity r.runs)) }
+    ensures seat { (rs : List Record) → AllShow K.shown keepers.now rs
+        → IfOk result (λ r. r.seat.logs ≡ logs_from 0 rs) }
+    ensures start { (rs : List Record) → AllShow K.shown keepers.now rs
+        → IfOk result (λ r. r.wire.start ≡ rs) }
+    ensures runs { IfOk result (λ r. (r.runs.items ≡ [])
+        × (length keepers.now ≤ vec_capacity r.runs)) }
     ensures ended { IfOk result (λ r. IsRoomFor (length keepers.now) r.ended) }
 {
     let (wire, seat) = wire_between(alloc, keepers)?;
@@ -99,7 +104,8 @@ fn run_each<K: SiteKeeper + Send, G: Gate + Send, R: Threads + Wait + Clock + Sy
     requires count { 0 < length runs.old.items }
     requires ready { All (IsReady K.shown K.may wire.now) runs.old.items }
     requires turns { turns ≤ 1000000 }
-    ensures { AllZip (Ran K.shown K.may K.stored K.reopens G.gives_up wire.now turns) runs.old.items runs.new.items }
+    ensures { AllZip (Ran K.shown K.may K.stored K.reopens G.gives_up wire.now turns) runs.old.items
+        runs.new.items }
 {
     run_all(rt, wire, counts, runs.as_mut_slice(), turns);
 }
@@ -115,7 +121,8 @@ fn run_in<K: SiteKeeper + Send, G: Gate + Send, R: Threads + Wait + Clock + Sync
     gates: Vec<G>,
     turns: u64,
 ) -> Ended<K>
-    requires world { (rs : List Record) × AllShow K.shown keepers.items rs × MakeAWorld rs × (room.seat.logs ≡ logs_from 0 rs) × (room.wire.start ≡ rs) }
+    requires world { (rs : List Record) × AllShow K.shown keepers.items rs × MakeAWorld rs
+        × (room.seat.logs ≡ logs_from 0 rs) × (room.wire.start ≡ rs) }
     requires count { (2 ≤ length keepers.items) × (length keepers.items ≤ MAX_SITES) }
     requires wire { IsSeatOf room.wire room.seat × (room.wire.sites ≡ length keepers.items) }
     requires runs { (room.runs.items ≡ []) × (length keepers.items ≤ vec_capacity room.runs) }
@@ -123,16 +130,24 @@ fn run_in<K: SiteKeeper + Send, G: Gate + Send, R: Threads + Wait + Clock + Sync
     requires desks { (length desks.items ≡ length keepers.items) × All IsUnused desks.items }
     requires gates { length gates.items ≡ length keepers.items }
     requires turns { turns ≤ 1000000 }
-    ensures kept { result.cause ≡ None → AllZip (IsKept K.shown) result.keepers.items result.lists.items }
+    ensures kept { result.cause ≡ None → AllZip (IsKept K.shown) result.keepers.items
+        result.lists.items }
+    ensures left { All (IsLeft turns) result.lists.items }
     ensures began { AllZip (Began K.shown) keepers.items result.lists.items }
     ensures ends { AllZip HasEnd desks.items result.lists.items }
-    ensures turns { result.cause ≡ None → AllZip (HasTurned K.shown turns) result.keepers.items result.lists.items }
+    ensures turns { result.cause ≡ None → AllZip (HasTurned K.shown turns) result.keepers.items
+        result.lists.items }
+    ensures order { AreInOrder result.lists.items }
     ensures fit { KeepersFit K.shown K.may result.keepers.items }
-    ensures run { result.cause ≡ None → RanAsAWorld K.shown keepers.items result.keepers.items }
+    ensures run { RanAsAWorld K.shown K.may keepers.items result.keepers.items result.lists.items }
     ensures stored { All K.stored keepers.items → All K.stored result.keepers.items }
     ensures back { length result.keepers.items ≡ length keepers.items }
-    ensures cause { IfSome result.cause (λ cause. Hinders K.shown result.keepers.items cause × FitAfter K.shown K.may keepers.items cause result.keepers.items) }
-    ensures why { IfSome result.cause (Explains K.shown K.reopens G.gives_up turns result.keepers.items) }
+    ensures cause { IfSome result.cause (λ cause. HindersRun K.shown result.keepers.items cause
+        × FitAfter K.shown K.may keepers.items cause result.keepers.items) }
+    ensures why { IfSome result.cause (Explains K.shown K.reopens G.gives_up turns
+        result.keepers.items) }
+    ensures first { IfSome result.cause (IsFirstCause result.lists.items) }
+    ensures none { result.cause ≡ None → All (λ l. l.fault ≡ None) result.lists.items }
 {
     let Room {
         wire,
@@ -151,8 +166,10 @@ fn run_in<K: SiteKeeper + Send, G: Gate + Send, R: Threads + Wait + Clock + Sync
 
 /// What is reported of a run that has ended, in which sites shared threads or not.
 fn told<K: SiteKeeper>(ended: Ended<K>, shared: bool) -> Result<Gathered<K>, GatherFault<K>>
-    ensures ok { IfOk result (λ g. (ended.cause ≡ None) × (g.keepers ≡ ended.keepers) × (g.lists ≡ ended.lists)) }
-    ensures err { IfErr result (λ e. (ended.cause ≡ Some e.cause) × (e.keepers ≡ ended.keepers)) }
+    ensures ok { IfOk result (λ g. (ended.cause ≡ None) × (g.keepers ≡ ended.keepers)
+        × (g.lists ≡ ended.lists)) }
+    ensures err { IfErr result (λ e. (ended.cause ≡ Some e.cause) × (e.keepers ≡ ended.keepers)
+        × (e.lists ≡ ended.lists)) }
     ensures back { keepers_of result ≡ ended.keepers.items }
 {
     let Ended {
@@ -166,7 +183,11 @@ fn told<K: SiteKeeper>(ended: Ended<K>, shared: bool) -> Result<Gathered<K>, Gat
             lists,
             shared,
         }),
-        Some(cause) => Err(GatherFault { keepers, cause }),
+        Some(cause) => Err(GatherFault {
+            keepers,
+            lists,
+            cause,
+        }),
     }
 }
 
@@ -184,20 +205,16 @@ fn run_sites<K: SiteKeeper + Send, G: Gate + Send, R: Threads + Wait + Clock + S
     requires desks { (length desks.items ≡ length keepers.items) × All IsUnused desks.items }
     requires gates { length gates.items ≡ length keepers.items }
     requires turns { turns ≤ 1000000 }
-    ensures kept { IfOk result (λ g. AllZip (IsKept K.shown) g.keepers.items g.lists.items) }
-    ensures began { IfOk result (λ g. AllZip (Began K.shown) keepers.items g.lists.items) }
-    ensures ends { IfOk result (λ g. AllZip HasEnd desks.items g.lists.items) }
-    ensures turns { IfOk result (λ g. AllZip (HasTurned K.shown turns) g.keepers.items g.lists.items) }
-    ensures fit { IfOk result (λ g. KeepersFit K.shown K.may g.keepers.items) }
-    ensures run { IfOk result (λ g. RanAsAWorld K.shown keepers.items g.keepers.items) }
+    ensures ran { IfOk result (HaveRun K.shown K.may turns keepers.items desks.items) }
+    ensures fault { IfErr result (WereHindered K.shown K.may K.reopens G.gives_up turns
+        keepers.items desks.items) }
     ensures stored { All K.stored keepers.items → All K.stored (keepers_of result) }
     ensures back { length (keepers_of result) ≡ length keepers.items }
-    ensures err { IfErr result (λ e. Hinders K.shown e.keepers.items e.cause × FitAfter K.shown K.may keepers.items e.cause e.keepers.items) }
-    ensures why { IfErr result (λ e. Explains K.shown K.reopens G.gives_up turns e.keepers.items e.cause) }
 {
     let Ok(room) = room_for::<K, G>(alloc, &keepers) else {
         return Err(GatherFault {
             keepers,
+            lists: Vec::new(alloc),
             cause: GatherCause::NoMemory,
         });
     };
@@ -224,16 +241,21 @@ fn run_sites<K: SiteKeeper + Send, G: Gate + Send, R: Threads + Wait + Clock + S
 /// just these turns, or for fewer where the site is done: its end counts the desk as gone, no job is in hand, no
 /// message waits for a signal, and each recall that it began has ended. What the sites did together is a run of the
 /// world, as [`World::run`] makes them: steps that were done, and frames that were sent, lead one after another from
-/// the records that the keepers showed to those that they show. Whether the run has an answer or not, in whichever
-/// records the keepers are open, or may be opened, these make a world again, which [`World::new`] takes, and what is
-/// quarantined under each recall that has ended is just what its root reaches. What the keepers stored before, they
-/// store.
+/// the records that the keepers showed to those that they show; and what the run hands to a site are the steps of the
+/// site's list in which its record changed, in order. Whether the run has an answer or not, in whichever records the
+/// keepers are open, or may be opened, these make a world again, which [`World::new`] takes, and what is quarantined
+/// under each recall that has ended is just what its root reaches. What the keepers stored before, they store.
 ///
 /// # Errors
 /// All with the keepers. `NotAWorld`, with the keepers as they were. `NoMemory`: before the first turn, when nothing
 /// has changed, or where a keeper couldn't be opened at the end. `SiteLost` where a keeper is closed and an opening of
 /// it was refused, and `GaveUp` where a gate, asked for one of these turns, gave up: the other sites went on. Of
 /// several sites that ended their runs the least is named; the keepers before it are open.
+///
+/// Once a turn was begun, a fault has the list of each site, too: its steps lead to the record that its keeper shows,
+/// or, where it is closed, to the last one, in which the site stopped; and what the sites did is a run of the world in
+/// the same way. So a receipt is confirmed there as well, and the jobs that were taken are those of the list. Of each
+/// site that ended its run the list says why.
 pub fn run_world<K: SiteKeeper + Send, G: Gate + Send, R: Threads + Wait + Clock + Sync>(
     rt: &R,
     alloc: Global,
@@ -246,21 +268,17 @@ pub fn run_world<K: SiteKeeper + Send, G: Gate + Send, R: Threads + Wait + Clock
     requires desks { (length desks.items ≡ length keepers.items) × All IsUnused desks.items }
     requires gates { length gates.items ≡ length keepers.items }
     requires turns { turns ≤ 1000000 }
-    ensures kept { IfOk result (λ g. AllZip (IsKept K.shown) g.keepers.items g.lists.items) }
-    ensures began { IfOk result (λ g. AllZip (Began K.shown) keepers.items g.lists.items) }
-    ensures ends { IfOk result (λ g. AllZip HasEnd desks.items g.lists.items) }
-    ensures turns { IfOk result (λ g. AllZip (HasTurned K.shown turns) g.keepers.items g.lists.items) }
-    ensures fit { IfOk result (λ g. KeepersFit K.shown K.may g.keepers.items) }
-    ensures run { IfOk result (λ g. RanAsAWorld K.shown keepers.items g.keepers.items) }
+    ensures ran { IfOk result (HaveRun K.shown K.may turns keepers.items desks.items) }
+    ensures fault { IfErr result (WereHindered K.shown K.may K.reopens G.gives_up turns
+        keepers.items desks.items) }
     ensures stored { All K.stored keepers.items → All K.stored (keepers_of result) }
     ensures back { length (keepers_of result) ≡ length keepers.items }
-    ensures err { IfErr result (λ e. Hinders K.shown e.keepers.items e.cause × FitAfter K.shown K.may keepers.items e.cause e.keepers.items) }
-    ensures why { IfErr result (λ e. Explains K.shown K.reopens G.gives_up turns e.keepers.items e.cause) }
 {
     match World::new(alloc, keepers) {
         Ok(world) => run_sites(rt, alloc, world.into_keepers(), desks, gates, turns),
         Err(NotAWorld { keepers, fault }) => Err(GatherFault {
             keepers,
+            lists: Vec::new(alloc),
             cause: GatherCause::NotAWorld(fault),
         }),
     }

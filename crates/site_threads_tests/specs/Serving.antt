@@ -3,7 +3,7 @@ use Rattle.site_threads.specs.declared.desks.Desk.{Desk}
 use Rattle.site_threads.specs.declared.desks.DeskOut.{DeskOut}
 use Rattle.site_threads.specs.declared.lists.RunLog.{RunLog}
 use Rattle.site_threads.specs.Ends.{IsDesk, AreEnds}
-use Rattle.site_threads.specs.Gathering.{HasJobsOfEnd}
+use Rattle.site_threads.specs.Gathering.{FitsEnd}
 
 -- a desk and its other end
 pub record Serves (d : Desk) (o : DeskOut) : Type 0 where
@@ -14,4 +14,4 @@ pub record Serves (d : Desk) (o : DeskOut) : Type 0 where
 pub record Settles (d : Desk) (l : RunLog) : Type 0 where
   pub desk : IsDesk d
   pub ends : AreEnds d l.out
-  pub jobs : HasJobsOfEnd l
+  pub jobs : FitsEnd l

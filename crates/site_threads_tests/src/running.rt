@@ -2,20 +2,23 @@
 mod fixtures;
 mod gates;
 
-ghost use Rattle.std.specs.Prelude.{◌≤◌, List, IfOk};
+ghost use Rattle.std.specs.Prelude.{◌≤◌, All, List, IfOk};
 ghost use Rattle.std.specs.List.{AllZip};
+ghost use Rattle.site_threads.specs.Ends.{IsDesk};
 ghost use Rattle.site_threads.specs.declared.lists.RunLog.{RunLog};
 ghost use Rattle.site_threads_tests.specs.Serving.{Settles};
 
 use crate::running::fixtures::{desks, keepers};
-use crate::running::gates::{in_lockstep, without_b};
+use crate::running::gates::{in_lockstep, without_b, without_b_and_d};
 use event_json::SiteNo;
 use frame_core::RecallId;
 use keeper_core::{MemoryKeeper, SiteKeeper};
 use report_core::{Verdict, audit};
 use site_core::SiteState;
 use site_recovery::{are_all_sites, check_world};
-use site_threads::{Desk, Gate, GatherCause, GatherFault, Gathered, Receipt, RunLog, run_world};
+use site_threads::{
+    Desk, Gate, GatherCause, GatherFault, Gathered, Receipt, RunLog, TurnCause, run_world,
+};
 use std::alloc::{AllocError, Global};
 use std::hash::RandomState;
 use std::sync::Wait;
@@ -71,7 +74,8 @@ fn fit(alloc: Global, keepers: &[MemoryKeeper]) -> bool {
 /// The first receipt of B's desk.
 fn receipt_of_b(rt: &impl Wait, desks: &mut Vec<Desk>) -> Option<Receipt>
     requires desks { (lists : List RunLog) × AllZip Settles desks.old.items lists }
-    ensures desks { (lists : List RunLog) → AllZip Settles desks.old.items lists → AllZip Settles desks.new.items lists }
+    ensures desks { (lists : List RunLog) → AllZip Settles desks.old.items lists
+        → AllZip Settles desks.new.items lists }
 {
     if desks.len() < 2 {
         return None;
@@ -153,7 +157,9 @@ fn ran<G: Gate + Send, R: Threads + Wait + Clock + Sync>(
     Fail,
 >
     requires turns { turns ≤ 1000000 }
-    ensures { IfOk result (λ r. IfOk r.0 (λ gathered. AllZip Settles r.1.items gathered.lists.items)) }
+    ensures settles { IfOk result (λ r. IfOk r.0
+        (λ gathered. AllZip Settles r.1.items gathered.lists.items)) }
+    ensures desks { IfOk result (λ r. All IsDesk r.1.items) }
 {
     let keepers = keepers(alloc, keys)?;
     let (desks, outs) = desks(rt, alloc)?;
@@ -187,7 +193,7 @@ fn gave_up(alloc: Global, run: Result<Gathered<MemoryKeeper>, GatherFault<Memory
     match run {
         Ok(_) => false,
         Err(fault) => {
-            let GatherFault { keepers, cause } = fault;
+            let GatherFault { keepers, cause, .. } = fault;
             match cause {
                 GatherCause::GaveUp(site) => site.number() == 1 && fit(alloc, &keepers),
                 _ => false,
@@ -201,5 +207,56 @@ fn a_gate_that_gives_up_leaves_sites_that_fit(rt: HostRuntime) -> Result<(), Fai
     let keys = RandomState::new(&rt)?;
     let (run, _desks) = ran(&rt, rt.alloc(), keys, without_b(rt.alloc())?, 20)?;
     assert!(rt; gave_up(rt.alloc(), run));
+    Ok(())
+}
+
+/// The first receipt of B's desk, once the run has ended.
+fn first_of_b(rt: &impl Wait, desks: Vec<Desk>) -> Option<Receipt>
+    requires { All IsDesk desks.items }
+{
+    let mut desks = desks;
+    if desks.len() < 2 {
+        return None;
+    }
+    desks[1].receipt(rt)
+}
+
+/// Whether the list is of a site whose gate gave up in this turn.
+fn gave_up_in(list: Option<&RunLog>, turn: u64) -> bool {
+    match list {
+        Some(list) => list.turns == turn && matches!(list.fault, Some(TurnCause::GaveUp)),
+        None => false,
+    }
+}
+
+/// Whether B is named, and the gates of B and D gave up, in their fourth and second turns.
+fn names_b(fault: &GatherFault<MemoryKeeper>) -> bool {
+    let lists = fault.lists.as_slice();
+    let named = match fault.cause {
+        GatherCause::GaveUp(site) => site.number() == 1,
+        _ => false,
+    };
+    named && lists.len() == 4 && gave_up_in(lists.get(1), 4) && gave_up_in(lists.get(3), 2)
+}
+
+/// Whether the list of its site has the receipt's step.
+fn is_listed(lists: &[RunLog], receipt: &Receipt) -> bool {
+    match lists.get(receipt.site.number() as usize) {
+        Some(list) => list.has(receipt),
+        None => false,
+    }
+}
+
+#[test]
+fn of_two_gates_that_give_up_the_least_site_is_named(rt: HostRuntime) -> Result<(), Fail> {
+    let keys = RandomState::new(&rt)?;
+    let (run, desks) = ran(&rt, rt.alloc(), keys, without_b_and_d(rt.alloc())?, 20)?;
+    let right = match (run, first_of_b(&rt, desks)) {
+        (Err(fault), Some(receipt)) => {
+            names_b(&fault) && is_listed(fault.lists.as_slice(), &receipt)
+        }
+        _ => false,
+    };
+    assert!(rt; right);
     Ok(())
 }

@@ -22,7 +22,8 @@ use wire_core::{Seat, Wire};
 
 /// The wire between two sites whose records are consistent, and a seat that holds both.
 fn between(alloc: Global, first: &SiteState, second: &SiteState) -> Result<(Wire, Seat), Fail>
-    ensures wire { IfOk result (λ r. IsSeatOf r.0 r.1 × (r.0.sites ≡ 2) × (r.1.logs ≡ logs_from 0 (first.now ∷ second.now ∷ []))) }
+    ensures wire { IfOk result (λ r. IsSeatOf r.0 r.1 × (r.0.sites ≡ 2)
+        × (r.1.logs ≡ logs_from 0 (first.now ∷ second.now ∷ []))) }
     ensures numbers { OnOk result ((first.now.engagement.me ≡ 0) × (second.now.engagement.me ≡ 1)) }
 {
     let states = [first, second];
@@ -106,7 +107,8 @@ fn exchange(
 ) -> bool
     requires seats { IsSeatOf wire.now mine × IsSeatOf wire.now theirs }
     requires first { IsLastMarked mine.logs first.engagement.me first × (marks_in mine.logs ≡ 0) }
-    requires second { IsLastMarked theirs.logs second.engagement.me second × (marks_in theirs.logs ≡ 0) }
+    requires second { IsLastMarked theirs.logs second.engagement.me second
+        × (marks_in theirs.logs ≡ 0) }
 {
     let (a, b) = (first.me(), second.me());
     let mut one = SiteTurn::new(alloc, MemoryKeeper::new(first), FreeGate, mine, a);
@@ -133,10 +135,14 @@ fn both_turn<K: SiteKeeper, G: Gate>(
     came: (u64, u64),
     went: (u64, u64),
 ) -> bool
-    requires ready { MayTurn K.shown K.may wire.now one.old × MayTurn K.shown K.may wire.now two.old }
-    requires few { (marks_in one.old.site.seat.logs ≤ 900) × (marks_in two.old.site.seat.logs ≤ 900) }
-    ensures ready { MayTurn K.shown K.may wire.now one.new × MayTurn K.shown K.may wire.now two.new }
-    ensures few { (marks_in one.new.site.seat.logs ≤ marks_in one.old.site.seat.logs + 18) × (marks_in two.new.site.seat.logs ≤ marks_in two.old.site.seat.logs + 18) }
+    requires ready { MayTurn K.shown K.may wire.now one.old
+        × MayTurn K.shown K.may wire.now two.old }
+    requires few { (marks_in one.old.site.seat.logs ≤ 900)
+        × (marks_in two.old.site.seat.logs ≤ 900) }
+    ensures ready { MayTurn K.shown K.may wire.now one.new
+        × MayTurn K.shown K.may wire.now two.new }
+    ensures few { (marks_in one.new.site.seat.logs ≤ marks_in one.old.site.seat.logs + 18)
+        × (marks_in two.new.site.seat.logs ≤ marks_in two.old.site.seat.logs + 18) }
 {
     let first = turn_once(wire, one, job);
     let second = turn_once(wire, two, None);
@@ -170,7 +176,8 @@ fn take_rounds(
 ) -> bool
     requires seats { IsSeatOf wire.now mine × IsSeatOf wire.now theirs }
     requires first { IsLastMarked mine.logs first.engagement.me first × (marks_in mine.logs ≡ 0) }
-    requires second { IsLastMarked theirs.logs second.engagement.me second × (marks_in theirs.logs ≡ 0) }
+    requires second { IsLastMarked theirs.logs second.engagement.me second
+        × (marks_in theirs.logs ≡ 0) }
 {
     let (a, b) = (first.me(), second.me());
     let mut one = SiteTurn::new(alloc, MemoryKeeper::new(first), FreeGate, mine, a);

@@ -1,8 +1,7 @@
 //! Four sites, A to D, and what lies at their desks.
 ghost use Rattle.std.specs.Prelude.{◌≡◌, ◌<◌, ◌≤◌, [], ◌∷◌, ◌++◌, All, IfOk, IfSome, vec_len, vec_capacity};
 ghost use Rattle.std.specs.List.{AllZip};
-ghost use Rattle.crossbeam_channel.specs.Ends.{sends_on};
-ghost use Rattle.site_threads.specs.Ends.{IsDesk, IsUnused};
+ghost use Rattle.site_threads.specs.Ends.{IsDesk, IsUnused, SameDesk};
 ghost use Rattle.site_threads_tests.specs.Serving.{Serves};
 
 use epc_core::Epc;
@@ -60,7 +59,7 @@ fn jobs_of(place: usize) -> (&'static str, Option<&'static str>) {
 /// Puts the jobs of a site at its desk. Whether all were put.
 fn put_jobs(rt: &impl Wait, alloc: Global, desk: &mut Desk, place: usize) -> bool
     requires { IsDesk desk.old }
-    ensures { IsDesk desk.new × (sends_on desk.new.to ≡ sends_on desk.old.to) }
+    ensures { IsDesk desk.new × SameDesk desk.old desk.new }
 {
     let (document, item) = jobs_of(place);
     let Ok(bytes) = document.as_bytes().to_vec(alloc) else {

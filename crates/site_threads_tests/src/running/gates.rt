@@ -70,6 +70,15 @@ impl Gate for First {
     }
 }
 
+/// Gates that let each turn begin, but for B's at its fourth and D's at its second.
+pub fn without_b_and_d(alloc: Global) -> Result<Vec<First>, Fail> {
+    let first = |turns| First { turns };
+    Ok(Vec::from_array(
+        alloc,
+        [first(u64::MAX), first(3), first(u64::MAX), first(1)],
+    )?)
+}
+
 /// Gates that let each turn begin, but for B's at its fourth.
 pub fn without_b(alloc: Global) -> Result<Vec<First>, Fail> {
     let every = || First { turns: u64::MAX };

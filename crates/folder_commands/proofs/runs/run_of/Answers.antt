@@ -10,21 +10,21 @@ pub returns-in_default-clause-failed : goal.returns-in_default-clause-failed
 returns-in_default-clause-failed g c = record { cause = NotAWorld worlds.NoMemory; hinders = tt; fit = refl; explained = tt; fault_is = refl }
 
 pub tell_run-requires-clause-open : goal.tell_run-requires-clause-open
-tell_run-requires-clause-open g c = all_kept_open g.K.SiteKeeper.shown c.in-Ok-run_world.run'.keepers.items c.in-Ok-run_world.run'.lists.items c.in-Ok-run_world.ensures.kept
+tell_run-requires-clause-open g c = all_kept_open g.K.SiteKeeper.shown c.in-Ok-run_world.run'.keepers.items c.in-Ok-run_world.run'.lists.items c.in-Ok-run_world.ensures.ran.kept
 
 pub tell_run-requires-clause-all : goal.tell_run-requires-clause-all
 tell_run-requires-clause-all g c =
     let run = c.in-Ok-run_world.run' in
     let failed = g.K.SiteKeeper.failed in
     let counts = c.as_slice-in-Ok-run_world.ensures.value ∙ (c.in-Ok.ensures.failures ∙ ap (map failed) c.as_slice.ensures.value) in
-    of_sites g.K.SiteKeeper.shown failed c.args.keepers.items run.keepers.items run.lists.items _ c.in-Ok-run_world.ensures.kept c.in-Ok-run_world.ensures.back c.requires.count.1 counts
+    of_sites g.K.SiteKeeper.shown failed c.args.keepers.items run.keepers.items run.lists.items _ c.in-Ok-run_world.ensures.ran.kept c.in-Ok-run_world.ensures.back c.requires.count.1 counts
 
 pub returns-in-Ok-run_world-clause-answered : goal.returns-in-Ok-run_world-clause-answered
 returns-in-Ok-run_world-clause-answered g c =
     let shown = g.K.SiteKeeper.shown in
     let failed = g.K.SiteKeeper.failed in
     let run = c.in-Ok-run_world.run' in
-    let ran = c.in-Ok-run_world.ensures in
+    let ran = c.in-Ok-run_world.ensures.ran in
     let counts = c.as_slice-in-Ok-run_world.ensures.value ∙ (c.in-Ok.ensures.failures ∙ ap (map failed) c.as_slice.ensures.value) in
     elim c.match-tell_run.branch [
       | in-Ok-tell_run w ↦ rw w.ran-is (came_to_its_end shown failed c.args.turns c.args.keepers.items run.keepers.items c.in-Ok.desks.items run.lists.items _ _ _ ran.began ran.kept c.in-Ok.ensures.limits ran.ends ran.turns counts w.in-Ok-tell_run.ensures.told w.in-Ok-tell_run.ensures.noted)
@@ -34,7 +34,7 @@ returns-in-Ok-run_world-clause-answered g c =
 pub returns-clause-answered : goal.returns-clause-answered
 returns-clause-answered g c =
     let left = c.in-Err.field-0 in
-    let why = c.in-Err.ensures.err in
+    let why = c.in-Err.ensures.fault.err in
     ok_so c.tell_cause.result
     (λ r told. misfit_told g.K.SiteKeeper.shown g.K.SiteKeeper.may g.K.SiteKeeper.failed c.args.turns c.args.keepers.items left.keepers.items left.cause r.outcome r.notes why.0 why.1 told.0 told.1)
     c.tell_cause.ensures.answered

@@ -1,4 +1,4 @@
-use Rattle.site_threads.proofs.Gathering.{all_there, keepers_fit, keepers_lead}
+use Rattle.site_threads.proofs.Gathering.{all_there, keepers_fit, keepers_ran}
 use Rattle.site_threads.proofs.gather.close_all.Goals as goal
 
 pub close-requires : goal.close-requires
@@ -16,4 +16,4 @@ pub returns-clause-run : goal.returns-clause-run
 returns-clause-run g c =
     let p = c.part-seat.ensures in
     let all = c.close.ensures in
-    keepers_lead g.K.SiteKeeper.shown g.K.SiteKeeper.may c.args.wire c.args.runs.items c.part-seat.result.0.logs c.requires.runs p.logs c.requires.all all.0 all.1 all.2 c.part-seat.result.1.keepers.items p.keepers
+    keepers_ran g.K.SiteKeeper.shown g.K.SiteKeeper.may c.args.wire c.args.runs.items c.part-seat.result.0.logs c.requires.runs p.logs c.requires.all all.0 all.1 all.2 c.requires.fresh c.part-seat.result.1.keepers.items c.part-seat.result.1.lists.items p.keepers p.lists

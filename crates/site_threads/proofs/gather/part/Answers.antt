@@ -6,7 +6,7 @@ use Rattle.std.proofs.lemmas.List.{nil_from_length, append-nil}
 use Rattle.std.proofs.lemmas.List.Concat.{flat_map-append}
 use Rattle.site_threads.specs.declared.runs.SiteRun.{SiteRun}
 use Rattle.site_threads.specs.Parting.{HasKeeper, LeavesList, first_cause}
-use Rattle.site_threads.specs.Runs.{IsRun}
+use Rattle.site_threads.specs.Runs.{IsSiteRun}
 use Rattle.site_threads.proofs.Looping.{left_more, less, one_of}
 use Rattle.site_threads.proofs.Parting.{cause_more}
 use Rattle.site_threads.proofs.Zips.{as_long, zipped_more}
@@ -24,7 +24,7 @@ add-requires g c =
 pub invariant_of-add : goal.invariant_of-add
 invariant_of-add g c =
     let i = c.loop-run.invariant in
-    record { numbered = (one_of c.args.runs.items c.loop-run.yielded (into_iter_items c.loop-run.run-iterator) _ c.in-Some.run' i.left c.in-Some.ensures.steps.0 (IsRun g.K.SiteKeeper.shown g.K.SiteKeeper.may c.args.wire.now) c.requires.runs).site.runs.numbered }
+    record { numbered = (one_of c.args.runs.items c.loop-run.yielded (into_iter_items c.loop-run.run-iterator) _ c.in-Some.run' i.left c.in-Some.ensures.steps.0 (IsSiteRun g.K.SiteKeeper.shown g.K.SiteKeeper.may c.args.wire.now) c.requires.runs).site.runs.numbered }
 
 pub add-requires-in-loop-run : goal.add-requires-in-loop-run
 add-requires-in-loop-run g c =
@@ -45,7 +45,7 @@ loop-run-preserved g c =
       logs = c.join-seat.ensures.sites ∙ ap (λ l. l ++ r.turn.site.seat.logs) i.logs ∙ sym (flat_map-append logs c.loop-run.yielded (r ∷ []) ∙ ap (λ l. flat_map logs c.loop-run.yielded ++ l) (append-nil r.turn.site.seat.logs));
       left = left_more c.args.runs.items c.loop-run.yielded (into_iter_items c.loop-run.run-iterator) _ r i.left c.in-Some.ensures.steps.0;
       keepers = zipped_more HasKeeper c.loop-run.yielded c.loop-run.keepers.items r c.in-Some-keeper.keeper c.add.new.items.items i.keepers c.in-Some-keeper.is c.add.ensures.items;
-      lists = zipped_more LeavesList c.loop-run.yielded c.loop-run.lists.items r _ c.add-in-loop-run.new.items.items i.lists record { entries = refl; start = refl; out = refl; pending = refl; turns = refl } c.add-in-loop-run.ensures.items;
+      lists = zipped_more LeavesList c.loop-run.yielded c.loop-run.lists.items r _ c.add-in-loop-run.new.items.items i.lists record { site = refl; entries = refl; start = refl; out = refl; pending = refl; turns = refl; fault = refl } c.add-in-loop-run.ensures.items;
       cause = c.or-cause.ensures ∙ (λ j. option_or (i.cause j) (c.cause_of.ensures j)) ∙ cause_more c.loop-run.yielded r;
       room_keepers = omega (arith, i.room_keepers, c.add.ensures.room);
       room_lists = omega (arith, i.room_lists, c.add-in-loop-run.ensures.room);

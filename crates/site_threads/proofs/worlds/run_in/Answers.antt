@@ -3,11 +3,10 @@ use Rattle.std.specs.List.{range_with_len}
 use Rattle.wire_core.specs.Changes.{below, from}
 use Rattle.site_threads.specs.declared.runs.SiteRun.{SiteRun}
 use Rattle.site_threads.specs.Beginning.{BeganIn}
-use Rattle.site_threads.specs.Gathering.{LeadsTo}
+use Rattle.site_threads.specs.Gathering.{RanFrom}
 use Rattle.site_threads.specs.Parting.{HasKeeper, IsRoomFor}
-use Rattle.site_threads.specs.Runs.{IsRun, Ran}
-use Rattle.site_threads.proofs.Ending.{kept_all, began_all, ends_all, turned_all, hinders_all, explains_all, starts_one, stored_all}
-use Rattle.site_threads.proofs.Gathering.{kept_show}
+use Rattle.site_threads.specs.Runs.{IsSiteRun, Ran}
+use Rattle.site_threads.proofs.Ending.{kept_all, left_all, fresh_all, began_all, ends_all, turned_all, hinders_all, explains_all, first_named, none_named, ordered_all, starts_one, stored_all}
 use Rattle.site_threads.proofs.Starting.{none_apart}
 use Rattle.site_threads.proofs.Zips.{all_right, as_long, same_map}
 use Rattle.site_threads.proofs.worlds.run_in.Goals as goal
@@ -34,7 +33,7 @@ pub close_all-requires-clause-runs : goal.close_all-requires-clause-runs
 close_all-requires-clause-runs g c =
     let shown = g.K.SiteKeeper.shown in
     let may = g.K.SiteKeeper.may in
-    all_right (Ran {G = g.row.G.Denot} shown may g.K.SiteKeeper.stored g.K.SiteKeeper.reopens g.G.Gate.gives_up c.args.room.wire c.args.turns) (IsRun {G = g.row.G.Denot} shown may c.args.room.wire) c.begin_all-runs.result.items c.run_each.new.runs.items (λ x y r. r.run) c.run_each.ensures
+    all_right (Ran {G = g.row.G.Denot} shown may g.K.SiteKeeper.stored g.K.SiteKeeper.reopens g.G.Gate.gives_up c.args.room.wire c.args.turns) (IsSiteRun {G = g.row.G.Denot} shown may c.args.room.wire) c.begin_all-runs.result.items c.run_each.new.runs.items (λ x y r. r.run) c.run_each.ensures
 
 pub close_all-requires-clause-all : goal.close_all-requires-clause-all
 close_all-requires-clause-all g c =
@@ -49,6 +48,10 @@ close_all-requires-clause-one g c =
     let w = c.requires.world in
     starts_one g.K.SiteKeeper.shown g.K.SiteKeeper.may g.K.SiteKeeper.stored g.K.SiteKeeper.reopens g.G.Gate.gives_up c.args.room.wire c.args.turns c.args.keepers.items c.begin_all-runs.result.items c.run_each.new.runs.items w.0 c.begin_all-runs.ensures.start c.run_each.ensures w.1 w.2.one
 
+pub close_all-requires-clause-fresh : goal.close_all-requires-clause-fresh
+close_all-requires-clause-fresh g c =
+    fresh_all g.K.SiteKeeper.shown g.K.SiteKeeper.may g.K.SiteKeeper.stored g.K.SiteKeeper.reopens g.G.Gate.gives_up c.args.room.wire c.args.turns c.begin_all-runs.result.items c.run_each.new.runs.items c.begin_all-runs.ensures.ready c.run_each.ensures
+
 pub close_all-requires-clause-room : goal.close_all-requires-clause-room
 close_all-requires-clause-room g c =
     let shown = g.K.SiteKeeper.shown in
@@ -62,9 +65,25 @@ returns-clause-kept g c none =
     let e = c.close_all.ensures in
     kept_all g.K.SiteKeeper.shown g.K.SiteKeeper.may g.K.SiteKeeper.stored g.K.SiteKeeper.reopens g.G.Gate.gives_up c.args.room.wire c.args.turns c.begin_all-runs.result.items c.run_each.new.runs.items c.close_all.result.keepers.items c.close_all.result.lists.items c.run_each.ensures e.keepers e.lists (sym e.cause ∙ none)
 
+pub returns-clause-left : goal.returns-clause-left
+returns-clause-left g c =
+    left_all g.K.SiteKeeper.shown g.K.SiteKeeper.may g.K.SiteKeeper.stored g.K.SiteKeeper.reopens g.G.Gate.gives_up c.args.room.wire c.args.turns c.begin_all-runs.result.items c.run_each.new.runs.items c.close_all.result.lists.items c.begin_all-runs.ensures.ready c.run_each.ensures c.close_all.ensures.lists
+
 pub returns-clause-began : goal.returns-clause-began
 returns-clause-began g c =
     began_all g.K.SiteKeeper.shown g.K.SiteKeeper.may g.K.SiteKeeper.stored g.K.SiteKeeper.reopens g.G.Gate.gives_up c.args.room.wire c.args.turns c.begin_all-runs.result.items c.run_each.new.runs.items c.close_all.result.lists.items c.run_each.ensures c.close_all.ensures.lists c.args.keepers.items c.begin_all-runs.ensures.start
+
+pub returns-clause-order : goal.returns-clause-order
+returns-clause-order g c =
+    let shown = g.K.SiteKeeper.shown in
+    let may = g.K.SiteKeeper.may in
+    let me = λ (r : SiteRun g.row.K.Denot g.row.G.Denot). r.turn.site.me in
+    let ran = Ran {G = g.row.G.Denot} shown may g.K.SiteKeeper.stored g.K.SiteKeeper.reopens g.G.Gate.gives_up c.args.room.wire c.args.turns in
+    let same = same_map ran me c.begin_all-runs.result.items c.run_each.new.runs.items (λ x y r. r.same.me) c.run_each.ensures in
+    let long = as_long (BeganIn {G = g.row.G.Denot} shown) c.args.keepers.items c.begin_all-runs.result.items c.begin_all-runs.ensures.start in
+    let more = as_long ran c.begin_all-runs.result.items c.run_each.new.runs.items c.run_each.ensures in
+    ordered_all shown may g.K.SiteKeeper.stored g.K.SiteKeeper.reopens g.G.Gate.gives_up c.args.room.wire c.args.turns c.begin_all-runs.result.items c.run_each.new.runs.items c.close_all.result.lists.items c.run_each.ensures c.close_all.ensures.lists
+    (same ∙ c.begin_all-runs.ensures.order ∙ ap (range_with_len 0) (sym (more ∙ long)))
 
 pub returns-clause-ends : goal.returns-clause-ends
 returns-clause-ends g c =
@@ -113,10 +132,22 @@ returns-clause-why g c =
     explains_all shown may g.K.SiteKeeper.stored g.K.SiteKeeper.reopens g.G.Gate.gives_up c.args.room.wire c.args.turns c.begin_all-runs.result.items c.run_each.new.runs.items c.close_all.result.keepers.items c.close_all.result.cause c.begin_all-runs.ensures.ready c.run_each.ensures e.keepers
     (same ∙ c.begin_all-runs.ensures.order ∙ ap (range_with_len 0) (sym (more ∙ long))) e.cause
 
-pub returns-clause-run : goal.returns-clause-run
-returns-clause-run g c none =
-    let w = c.requires.world in
+pub returns-clause-first : goal.returns-clause-first
+returns-clause-first g c =
+    let shown = g.K.SiteKeeper.shown in
+    let may = g.K.SiteKeeper.may in
     let e = c.close_all.ensures in
-    let kept = kept_all g.K.SiteKeeper.shown g.K.SiteKeeper.may g.K.SiteKeeper.stored g.K.SiteKeeper.reopens g.G.Gate.gives_up c.args.room.wire c.args.turns c.begin_all-runs.result.items c.run_each.new.runs.items c.close_all.result.keepers.items c.close_all.result.lists.items c.run_each.ensures e.keepers e.lists (sym e.cause ∙ none) in
-    let show = kept_show g.K.SiteKeeper.shown c.close_all.result.keepers.items c.close_all.result.lists.items kept in
-    record { before = w.0; after = show.0; began = w.1; ended = show.1; leads = subst (λ rs. LeadsTo rs show.0) w.4 (e.run show.0 show.1) }
+    let me = λ (r : SiteRun g.row.K.Denot g.row.G.Denot). r.turn.site.me in
+    let ran = Ran {G = g.row.G.Denot} shown may g.K.SiteKeeper.stored g.K.SiteKeeper.reopens g.G.Gate.gives_up c.args.room.wire c.args.turns in
+    let same = same_map ran me c.begin_all-runs.result.items c.run_each.new.runs.items (λ x y r. r.same.me) c.run_each.ensures in
+    let long = as_long (BeganIn {G = g.row.G.Denot} shown) c.args.keepers.items c.begin_all-runs.result.items c.begin_all-runs.ensures.start in
+    let more = as_long ran c.begin_all-runs.result.items c.run_each.new.runs.items c.run_each.ensures in
+    first_named c.run_each.new.runs.items c.close_all.result.lists.items c.close_all.result.cause e.lists (same ∙ c.begin_all-runs.ensures.order ∙ ap (range_with_len 0) (sym (more ∙ long))) e.cause
+
+pub returns-clause-none : goal.returns-clause-none
+returns-clause-none g c none = let e = c.close_all.ensures in none_named c.run_each.new.runs.items c.close_all.result.lists.items e.lists (sym e.cause ∙ none)
+
+pub returns-clause-run : goal.returns-clause-run
+returns-clause-run g c =
+    let w = c.requires.world in
+    record { before = w.0; began = w.1; ran = subst (λ rs. RanFrom g.K.SiteKeeper.shown g.K.SiteKeeper.may rs c.close_all.result.keepers.items c.close_all.result.lists.items) w.4 c.close_all.ensures.run }

@@ -8,5 +8,5 @@ receipt-requires g c =
 
 pub returns : goal.returns
 returns g c = record {
-  desks = λ lists z. still_settles c.args.desks.now.items lists 1 c.index_mut.result.now c.receipt.new.self (omega (arith, c.len.ensures, c.args.desks.now.ok.0)) c.index_mut.ensures.value c.receipt.ensures.desk.0 c.receipt.ensures.desk.2 z;
+  desks = λ lists z. still_settles c.args.desks.now.items lists 1 c.index_mut.result.now c.receipt.new.self (omega (arith, c.len.ensures, c.args.desks.now.ok.0)) c.index_mut.ensures.value c.receipt.ensures.desk.0 c.receipt.ensures.desk.1 z;
 }

@@ -1,4 +1,4 @@
-use Rattle.std.proofs.Common.{◌≡◌, ◌∙◌, sym, ap, max, min}
+use Rattle.std.proofs.Common.{◌∙◌, sym, ap, max, min}
 use Rattle.std.specs.Prelude.{unwrap_or}
 use Rattle.site_threads.proofs.Placing.{found_least, found_next, searched, searched_least}
 use Rattle.site_threads.proofs.rounds.Round.find.Goals as goal

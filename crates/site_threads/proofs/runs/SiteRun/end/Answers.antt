@@ -1,11 +1,12 @@
-use Rattle.std.proofs.Common.{◌≡◌, ◌∙◌, ◌++◌, Option, Some, None, ap, arith}
+use Rattle.std.proofs.Common.{◌≡◌, ◌∙◌, ◌++◌, Option, Some, ap, refl, arith}
 use Rattle.site_core.specs.Records.{Record}
 use Rattle.site_threads.specs.declared.desks.DeskOut.{DeskOut}
 use Rattle.site_threads.specs.declared.jobs.Job.{Job}
-use Rattle.site_threads.specs.Jobs.{jobs_in, option_items}
+use Rattle.site_threads.specs.Jobs.{jobs_in, option_items, receipts_in}
 use Rattle.site_threads.specs.Keepers.{shown_in}
 use Rattle.site_threads.specs.Resting.{IsDone}
 use Rattle.site_threads.proofs.Refusing.{lost_hinders}
+use Rattle.site_threads.proofs.Telling.{told_on}
 use Rattle.site_threads.proofs.runs.SiteRun.end.Goals as goal
 
 -- a site that is done stays so while its keeper shows the same record
@@ -18,6 +19,7 @@ returns-in_default-clause-run g c = record {
   site = c.open_again.ensures.site;
   out = c.requires.run.out;
   jobs = ap (λ es. jobs_in es.items ++ option_items c.args.self.now.pending) c.open_again.ensures.entries ∙ c.requires.run.jobs;
+  told = told_on _ _ _ _ refl refl (λ i. receipts_in (c.open_again.ensures.same.me i) (c.open_again.ensures.entries i).items) c.requires.run.told;
 }
 
 pub returns-in_default-clause-done : goal.returns-in_default-clause-done
@@ -29,6 +31,7 @@ returns-in-Err-clause-run g c = record {
   site = c.open_again.ensures.site;
   out = c.requires.run.out;
   jobs = ap (λ es. jobs_in es.items ++ option_items c.args.self.now.pending) c.open_again.ensures.entries ∙ c.requires.run.jobs;
+  told = told_on _ _ _ _ refl refl (λ i. receipts_in (c.open_again.ensures.same.me i) (c.open_again.ensures.entries i).items) c.requires.run.told;
 }
 
 pub returns-in-Err-clause-done : goal.returns-in-Err-clause-done

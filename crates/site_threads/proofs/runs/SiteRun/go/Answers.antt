@@ -1,5 +1,5 @@
 use Rattle.std.proofs.Common.{◌∙◌, refl, rules, arith}
-use Rattle.site_threads.proofs.Slices.{went_on}
+use Rattle.site_threads.proofs.Slices.{out_through, went_on}
 use Rattle.site_threads.proofs.runs.SiteRun.go.Goals as goal
 
 pub loop-init : goal.loop-init
@@ -7,7 +7,7 @@ loop-init g c =
     let on = c.requires.between.on c.if-self.false in
     record {
       run = on.run;
-      same = record { me = refl; start = refl; desk = refl; limit = refl; keeps = λ s. s };
+      same = record { me = refl; start = refl; first = refl; desk = record { jobs = refl; receipts = refl; limit = refl }; keeps = λ s. s };
       few = on.marks;
       going = on.fine;
       asked = refl;
@@ -27,7 +27,7 @@ returns-then-self-until g c =
     let since = i.since in
     record {
       sliced = went_on g.K.SiteKeeper.shown g.K.SiteKeeper.may g.K.SiteKeeper.stored g.K.SiteKeeper.reopens g.G.Gate.gives_up c.args.wire.now c.args.turns c.args.self.now _
-          (record { me = t.same.me ∙ i.same.me; start = t.same.start ∙ i.same.start; desk = t.same.desk ∙ i.same.desk; limit = t.same.limit ∙ i.same.limit; keeps = λ s. t.same.keeps (i.same.keeps s) })
-          (record { seat = t.run.seat; site = t.run.site; out = t.run.out; jobs = t.run.jobs })
+          (record { me = t.same.me ∙ i.same.me; start = t.same.start ∙ i.same.start; first = t.same.first ∙ i.same.first; desk = out_through _ _ _ i.same.desk t.same.desk; keeps = λ s. t.same.keeps (i.same.keeps s) })
+          (record { seat = t.run.seat; site = t.run.site; out = t.run.out; jobs = t.run.jobs; told = t.run.told })
           (omega (arith, marks, few, turns, asked)) (search rules) (omega (arith, turns, asked)) (t.on ∙ i.on) c.if-self.false (omega (arith, turns, asked, since));
     }

@@ -2,7 +2,9 @@ use Rattle.std.proofs.Common.{◌≡◌, ◌-◌, length, Some, None, refl, sym,
 use Rattle.std.specs.Prelude.{slice_get}
 use Rattle.keeper_core.specs.Keeping.{StaysClosed}
 use Rattle.site_threads.specs.Keepers.{shown_in, may_in}
-use Rattle.site_threads.specs.Running.{Follows, MayFollow}
+use Rattle.site_core.specs.Records.{Record}
+use Rattle.site_core.specs.declared.inputs.SiteInput.{SiteInput}
+use Rattle.site_threads.specs.Running.{Follows, MarksChange, MayFollow}
 use Rattle.site_threads.specs.Stamps.{stamp}
 use Rattle.site_threads.proofs.Rounding.{followed_rounds}
 use Rattle.site_threads.proofs.Wired.{follows_pass}
@@ -45,7 +47,8 @@ returns-in-Some-last-clause-site g c =
     let at : Some entry ≡ slice_get s.entries.items (length s.entries.items - 1) = search rules in
     record {
       there = refl;
-      runs = opened_runs _ _ _ _ _ _ _ c.requires.site.runs _ _ m.0 _ _ closed m.2 kept (subst (λ r. Follows s.seat.logs r c.follow-self.new.seat.logs) same f.follows) (f.stamped ∙ ap stamp same);
+      runs = opened_runs _ _ _ _ _ _ _ c.requires.site.runs _ _ entry m.0 _ _ closed m.2 at kept (subst (λ r. Follows s.seat.logs r c.follow-self.new.seat.logs) same f.follows)
+          (subst (λ (y : SiteInput × Record). MarksChange s.seat.logs y.0 y.1 c.follow-self.new.seat.logs) (λ i. (c.input.ensures i, same i)) f.marks) (f.stamped ∙ ap stamp same);
       rounds = followed_rounds s.seat.logs c.follow-self.new.seat.logs s.stamp entry.input c.in-Some-view.record.now s.rounds
           (opened_follows _ _ _ _ _ _ _ c.requires.site.runs entry c.in-Some-view.record.now closed c.requires.few at (subst (may_in g.K.SiteKeeper.may s.keeper) (sym same) kept))
           f.follows c.requires.site.rounds;

@@ -9,7 +9,7 @@ loop-number-init g c =
     let room = c.requires.room in
     record {
       site = record { there = c.requires.site.there; runs = c.requires.site.runs; rounds = c.requires.site.rounds };
-      same = record { seat = c.requires.seat; me = refl; start = refl; marks = omega arith; keeps = λ s. s };
+      same = record { seat = c.requires.seat; me = refl; start = refl; first = refl; marks = omega arith; keeps = λ s. s };
       frames = takes_at_none _ 0 _ _ _;
       sent = refl;
       rounds = refl;
@@ -31,7 +31,7 @@ loop-number-preserved g c =
     let sum = i.count in
     record {
       site = t.site;
-      same = record { seat = t.same.seat; me = t.same.me ∙ i.same.me; start = t.same.start ∙ i.same.start; marks = omega (arith, marks, marked); keeps = λ s. t.same.keeps (i.same.keeps s) };
+      same = record { seat = t.same.seat; me = t.same.me ∙ i.same.me; start = t.same.start ∙ i.same.start; first = t.same.first ∙ i.same.first; marks = omega (arith, marks, marked); keeps = λ s. t.same.keeps (i.same.keeps s) };
       frames = takes_more _ _ _ _ _ _ _ _ _ _ _ _ _ _ _ _ _ i.frames (takes_as _ _ _ _ _ _ _ _ _ _ _ _ _ _ _ _ _ _ i.same.me refl refl refl refl refl refl t.frames);
       sent = t.sent ∙ i.sent;
       rounds = t.rounds ∙ i.rounds;

@@ -1,9 +1,9 @@
-use Rattle.std.proofs.Common.{◌≡◌, ◌+◌, ◌<◌, length, Some, None, Option, get_or, set, refl, sym, ap, ◌∙◌, subst, arith, rules}
+use Rattle.std.proofs.Common.{◌≡◌, ◌+◌, ◌<◌, length, Some, None, Option, get_or, set, sym, ap, ◌∙◌, subst, arith, rules}
 use Rattle.std.proofs.lemmas.List.{get_or-set_same, get_or_default}
-use Rattle.std.specs.Prelude.{IfSome, option_map, slice_index_or}
+use Rattle.std.specs.Prelude.{IfSome, option_map}
 use Rattle.frame_core.specs.declared.frames.Frame.{Frame}
 use Rattle.site_threads.specs.Keepers.{shown_in}
-use Rattle.site_threads.specs.Offers.{IsFor, IsRound, message_of, moved, round_at, wish}
+use Rattle.site_threads.specs.Offers.{IsFor, IsRound, message_of, moved, round_at}
 use Rattle.site_threads.specs.Passing.{PostsFrames, outgoing, owed_in, place_of}
 use Rattle.site_threads.specs.declared.passing.Given.{Given}
 use Rattle.site_threads.specs.declared.rounds.Round.{Round}

@@ -7,7 +7,7 @@ use Rattle.site_threads.proofs.sites.Site.send_all.Goals as goal
 pub loop-number-init : goal.loop-number-init
 loop-number-init g c = record {
   site = record { there = c.requires.site.there; runs = c.requires.site.runs; rounds = c.requires.site.rounds };
-  same = record { seat = c.requires.seat; me = refl; start = refl; marks = omega arith; keeps = λ s. s };
+  same = record { seat = c.requires.seat; me = refl; start = refl; first = refl; marks = omega arith; keeps = λ s. s };
   entries = refl;
   keeper = refl;
   owed = refl;
@@ -26,7 +26,7 @@ loop-number-preserved g c =
     let sum = i.count in
     record {
       site = t.site;
-      same = record { seat = t.same.seat; me = t.same.me ∙ i.same.me; start = t.same.start ∙ i.same.start; marks = omega (arith, marks, marked); keeps = λ s. t.same.keeps (i.same.keeps s) };
+      same = record { seat = t.same.seat; me = t.same.me ∙ i.same.me; start = t.same.start ∙ i.same.start; first = t.same.first ∙ i.same.first; marks = omega (arith, marks, marked); keeps = λ s. t.same.keeps (i.same.keeps s) };
       entries = t.entries.0 ∙ i.entries;
       keeper = t.entries.1 ∙ i.keeper;
       owed = t.entries.2 ∙ i.owed;

@@ -4,7 +4,7 @@ use Rattle.keeper_core.specs.Keeping.{Applies}
 use Rattle.site_threads.specs.Inputs.{is_delivery}
 use Rattle.site_threads.specs.Jobs.{reply_to}
 use Rattle.site_threads.specs.Keepers.{shown_in, may_in}
-use Rattle.site_threads.specs.Running.{MayDeliver, MayFollow}
+use Rattle.site_threads.specs.Running.{MarksChange, MayDeliver, MayFollow}
 use Rattle.site_threads.proofs.Answered.{told_so, stays_open}
 use Rattle.site_threads.proofs.Delivering.{is_short}
 use Rattle.site_threads.proofs.Rounding.{may_follow_rounds}
@@ -41,7 +41,9 @@ returns-clause-site g c =
       there = c.apply_to.ensures.there;
       runs = took_in _ _ _ _ _ _ _ c.requires.site.runs c.requires.open c.args.asked c.apply_to.result c.is_delivery-frame.result _ (may_in g.K.SiteKeeper.may c.apply_to.new.keeper)
           (λ old is. subst (λ i. Applies old i c.apply_to.result (shown_in g.K.SiteKeeper.shown c.apply_to.new.keeper) (may_in g.K.SiteKeeper.may c.apply_to.new.keeper)) same (c.apply_to.ensures.step old is))
-          p _ _ _ _ (c.is_delivery-frame.ensures ∙ ap is_delivery same) e (subst (λ i. MayDeliver i c.args.self.now.seat.logs) same c.requires.noted) c.follow_shown-self.ensures.follows (let l = c.args.self.now.entries.ok.0 in omega arith) items;
+          p _ _ _ _ (c.is_delivery-frame.ensures ∙ ap is_delivery same) e (subst (λ i. MayDeliver i c.args.self.now.seat.logs) same c.requires.noted) c.follow_shown-self.ensures.follows
+          (subst (λ i. IfSome (shown_in g.K.SiteKeeper.shown c.apply_to.new.keeper) (λ r. MarksChange c.args.self.now.seat.logs i r c.follow_shown-self.new.seat.logs)) c.input.ensures c.follow_shown-self.ensures.marks)
+          (let l = c.args.self.now.entries.ok.0 in omega arith) items;
       rounds = may_follow_rounds _ c.args.self.now.seat.logs c.follow_shown-self.new.seat.logs _ _ c.args.asked c.args.self.now.rounds
           (may_follow _ _ _ _ _ _ _ c.requires.site.runs c.requires.open c.args.asked c.apply_to.result c.is_delivery-frame.result _ (may_in g.K.SiteKeeper.may c.apply_to.new.keeper)
           (λ old is. subst (λ i. Applies old i c.apply_to.result (shown_in g.K.SiteKeeper.shown c.apply_to.new.keeper) (may_in g.K.SiteKeeper.may c.apply_to.new.keeper)) same (c.apply_to.ensures.step old is)) c.requires.few

@@ -1,5 +1,7 @@
 use Rattle.std.proofs.Common.{refl, sym, ap, ◌∙◌}
 use Rattle.std.specs.Prelude.{Some}
+use Rattle.wire_core.specs.Seats.{SeatView}
+use Rattle.site_threads.specs.Running.{inputs_in}
 use Rattle.site_threads.specs.Stamps.{stamp}
 use Rattle.site_threads.proofs.Beginning.{begins}
 use Rattle.site_threads.proofs.Rounding.{fresh_rounds}
@@ -9,8 +11,9 @@ pub returns-clause-site : goal.returns-clause-site
 returns-clause-site g c =
     let s = c.requires.start in
     let first = c.of-start.ensures in
+    let before = ap (λ (s : SeatView). inputs_in s.logs) c.of-first.ensures in
     record {
       there = refl;
-      runs = begins _ (g.K.SiteKeeper.may c.args.keeper) c.args.seat.logs c.args.me c.stamp_of-first.result c.of-start.result.value s.0 s.1 s.2 (c.stamp_of-first.ensures ∙ ap stamp (sym first)) (ap (λ r. Some r) first ∙ c.in-Some.ensures) c.new.result.items c.new.ensures.items;
+      runs = begins _ (g.K.SiteKeeper.may c.args.keeper) c.args.seat.logs c.args.me c.stamp_of-stamp.result (record { stood = c.of-start.result.value; marked = inputs_in c.of-first.result.value.logs }) s.0 s.1 s.2 (c.stamp_of-stamp.ensures ∙ ap stamp (sym first)) (ap (λ r. Some r) first ∙ c.in-Some.ensures) before c.new.result.items c.new.ensures.items;
       rounds = fresh_rounds _ c.new-2.result c.new-2.ensures;
     }

@@ -4,6 +4,7 @@ use Rattle.site_threads.proofs.Passed.{other_entries, jobs_done}
 use Rattle.site_threads.proofs.Wired.{turn_takes}
 use Rattle.site_threads.proofs.Delivering.{turn_answers}
 use Rattle.site_threads.proofs.Posting.{same_places, turn_posts}
+use Rattle.site_threads.proofs.Telling.{receipts_done}
 use Rattle.site_threads.proofs.turns.SiteTurn.turn.Goals as goal
 
 pub returns-then-is_err-clause-site : goal.returns-then-is_err-clause-site
@@ -17,6 +18,9 @@ returns-in-Err-of-clause-site g c = record { there = c.begin.ensures.site.there;
 
 pub returns-in-Ok-clause-jobs : goal.returns-in-Ok-clause-jobs
 returns-in-Ok-clause-jobs g c = jobs_done _ _ _ _ _ _ _ c.go_on.result _ _ _ _ _ (c.reserve.ensures.items ∙ ap (λ v. v.items) c.begin.ensures.entries) c.in-Ok.ensures.ok c.go_on.ensures.job c.go_on.ensures.entered
+
+pub returns-in-Ok-clause-receipts : goal.returns-in-Ok-clause-receipts
+returns-in-Ok-clause-receipts g c = receipts_done _ _ _ _ _ _ _ _ c.go_on.result _ _ _ (c.reserve.ensures.items ∙ ap (λ v. v.items) c.begin.ensures.entries) c.begin.ensures.same.me c.go_on.ensures.job c.go_on.ensures.entered
 
 pub returns-in-Ok-clause-entered : goal.returns-in-Ok-clause-entered
 returns-in-Ok-clause-entered g c =
