@@ -66,13 +66,13 @@ module _ {K : Type 0} (shown : K → Option Record) (may : K → Record → Type
   }
 
   -- one came
-  module _ {E L : Type 0} (items : L → List Entry) (n : ℕ) (f : Frame) (old new : Option K) (noted noted' : List Frame) (steps steps' : L) (is : noted' ≡ noted ++ f ∷ []) where
-    pub delivers_one : (r : Result Reply E) → IfOk r (λ p. items steps' ≡ items steps ++ (record { number = n; input = Deliver f; reply = p }) ∷ []) → IfOk r (λ p. AnsweredStep shown may applies old (Deliver f) p new) → IfErr r (λ e. steps' ≡ steps) → IfErr r (λ e. IsShort shown may applies old (Deliver f) new)
-        → Delivers shown may applies old new noted noted' (items steps) (items steps')
+  module _ {E : Type 0} (n : ℕ) (f : Frame) (old new : Option K) (noted noted' : List Frame) (steps steps' : List Entry) (is : noted' ≡ noted ++ f ∷ []) where
+    pub delivers_one : (r : Result Reply E) → IfOk r (λ p. steps' ≡ steps ++ (record { number = n; input = Deliver f; reply = p }) ∷ []) → IfOk r (λ p. AnsweredStep shown may applies old (Deliver f) p new) → IfErr r (λ e. steps' ≡ steps) → IfErr r (λ e. IsShort shown may applies old (Deliver f) new)
+        → Delivers shown may applies old new noted noted' steps steps'
     delivers_one (Ok p) entered told back short =
         let x : Entry = record { number = n; input = Deliver f; reply = p } in
         record { took = f ∷ []; frames = x ∷ []; noted = is; entered = entered; deliveries = (new, inr (x, [], refl, refl, told, (refl, refl))) }
-    delivers_one (Err e) entered told back short = record { took = f ∷ []; frames = []; noted = is; entered = ap items back ∙ sym (append-nil (items steps)); deliveries = (new, inl (short, (refl, refl))) }
+    delivers_one (Err e) entered told back short = record { took = f ∷ []; frames = []; noted = is; entered = back ∙ sym (append-nil steps); deliveries = (new, inl (short, (refl, refl))) }
 
   -- of other names of the same values
   pub delivers_as : (old old' new new' : Option K) (noted between noted' after : List Frame) (steps further steps' ended : List Entry) → old ≡ old' → new ≡ new' → noted ≡ between → noted' ≡ after → steps ≡ further → steps' ≡ ended

@@ -28,14 +28,13 @@ use Rattle.wire_core.proofs.Fitting.{one_step, fewer_fit}
 use Rattle.wire_core.proofs.Running.{run_fits}
 use Rattle.site_threads.specs.declared.jobs.Entry.{Entry}
 use Rattle.site_threads.specs.declared.lists.RunLog.{RunLog}
-use Rattle.site_threads.specs.declared.runs.SiteRun.{SiteRun}
 use Rattle.site_threads.specs.Gathering.{AreStepsOf, AreTheirSteps, MayStandIn, EndedAreExact, KeepersFit, Lead, RanFrom}
 use Rattle.site_threads.specs.Keepers.{shown_in, may_in}
 use Rattle.site_threads.specs.Parting.{HasKeeper, LeavesList}
-use Rattle.site_threads.specs.Runs.{IsFresh, IsSiteRun}
+use Rattle.site_threads.specs.Runs.{IsFresh}
 use Rattle.site_threads.specs.Jobs.{KeptBy}
 use Rattle.site_threads.specs.Running.{Holding, Start}
-use Rattle.site_threads.specs.Sites.{start_of}
+use Rattle.site_threads.specs.Sites.{IsSite, Running, start_of}
 use Rattle.site_threads.proofs.OneList.{IsSameSite, holding_same, one_again}
 use Rattle.site_threads.proofs.Zips.{zip_through}
 
@@ -118,12 +117,12 @@ exact_when_fit rs fit recall =
     subst (λ l. AreExactOnceEnded recall l (quarantined recall l)) same (ended_is_exact w recall fits)
 
 -- what is known of a site at the end, beside its log
-record IsEnd {K G : Type 0} (shown : K → Option Record) (may : K → Record → Type 0) (run : SiteRun K G) (log : Log) : Type 0 where
-  mine : log.site ≡ run.turn.site.me
-  holding : Holding (shown_in shown run.turn.site.keeper) (may_in may run.turn.site.keeper) (start_of run.turn.site) run.turn.site.entries.items log
+record IsEnd {K G : Type 0} (shown : K → Option Record) (may : K → Record → Type 0) (run : Running K G) (log : Log) : Type 0 where
+  mine : log.site ≡ run.me
+  holding : Holding (shown_in shown run.keeper) (may_in may run.keeper) (start_of run) run.entries log
 
-RunStandsIn : {K G : Type 0} → (K → Option Record) → (K → Record → Type 0) → SiteRun K G → Record → Type 0
-RunStandsIn shown may run r = MayStandIn (shown_in shown run.turn.site.keeper) (may_in may run.turn.site.keeper) r
+RunStandsIn : {K G : Type 0} → (K → Option Record) → (K → Record → Type 0) → Running K G → Record → Type 0
+RunStandsIn shown may run r = MayStandIn (shown_in shown run.keeper) (may_in may run.keeper) r
 
 -- where the steps of a site lead, what was marked of it since the first turn are the inputs of those in which its record changed
 led : (o : Option Record) (m : Record → Type 0) (start : Start) (entries : List Entry) (log : Log) → Holding o m start entries log → (changes : List SiteInput) × (log.inputs ≡ start.marked ++ changes) × Lead o m start.stood entries changes log.last
@@ -132,12 +131,12 @@ led None m start entries log h =
     (h.steps.changes, h.steps.marks, record { earlier = h.earlier; stop = h.last; all = h.all; reply = h.reply; steps = h.steps.steps; old_or_new = h.old_or_new })
 
 module _ {K G : Type 0} (shown : K → Option Record) (may : K → Record → Type 0) where
-  any_fit : (sent : List Frame) (done : List Record) (runs : List (SiteRun K G)) (ls : List Log) (rs : List Record) → RecordsFit (done ++ records ls) sent → ((e : Log) (f : Frame) → Contains ls e → Contains e.noted f → Contains sent f)
+  any_fit : (sent : List Frame) (done : List Record) (runs : List (Running K G)) (ls : List Log) (rs : List Record) → RecordsFit (done ++ records ls) sent → ((e : Log) (f : Frame) → Contains ls e → Contains e.noted f → Contains sent f)
       → AllZip (IsEnd shown may) runs ls → AllZip (RunStandsIn shown may) runs rs → RecordsFit (done ++ rs) sent
   unfolding RunStandsIn
   any_fit sent done [] [] [] fit noted z s = fit
   any_fit sent done (e ∷ es) (log ∷ ls) (r ∷ rs) fit noted z s =
-      let mine = may_be (shown_in shown e.turn.site.keeper) (may_in may e.turn.site.keeper) (start_of e.turn.site) e.turn.site.entries.items log r z.0.holding s.0 in
+      let mine = may_be (shown_in shown e.keeper) (may_in may e.keeper) (start_of e) e.entries log r z.0.holding s.0 in
       let next = one_more done (records ls) sent log r fit (λ f c. noted log f (0, omega arith, refl) c) mine in
       let more = any_fit sent (done ++ r ∷ []) es ls rs (subst (λ l. RecordsFit l sent) (sym (append_assoc done (r ∷ []) (records ls))) next) (λ x f c d. noted x f (let h = c.1 in (suc c.0, omega arith, c.2)) d) z.1 s.1 in
       subst (λ l. RecordsFit l sent) (append_assoc done (r ∷ []) rs) more
@@ -147,53 +146,53 @@ module _ {K G : Type 0} (shown : K → Option Record) (may : K → Record → Ty
   any_fit sent done (e ∷ es) (l ∷ ls) [] fit noted z s = absurd s
 
   -- a site that ends in a record is the one that began
-  end_same : (wire : Line) (run : SiteRun K G) (r : Record) → IsSiteRun shown may wire run → RunStandsIn shown may run r → IsSameSite run.turn.site.start.value r
+  end_same : (run : Running K G) (r : Record) → IsSite shown may run → RunStandsIn shown may run r → IsSameSite run.start r
   unfolding RunStandsIn
-  end_same wire run r is stands =
-      let h = is.site.runs in
-      holding_same (shown_in shown run.turn.site.keeper) (may_in may run.turn.site.keeper) (start_of run.turn.site) run.turn.site.entries.items h.log r h.holding stands
+  end_same run r is stands =
+      let h = is.runs in
+      holding_same (shown_in shown run.keeper) (may_in may run.keeper) (start_of run) run.entries h.log r h.holding stands
 
-  all_same : (wire : Line) (runs : List (SiteRun K G)) (rs : List Record) → All (IsSiteRun shown may wire) runs → AllZip (RunStandsIn shown may) runs rs → AllZip IsSameSite (map (λ (r : SiteRun K G). r.turn.site.start.value) runs) rs
-  all_same wire [] [] all s = tt
-  all_same wire (run ∷ runs) (r ∷ rs) all s =
-      (end_same wire run r (All-head (IsSiteRun shown may wire) run runs all) s.0, all_same wire runs rs (All-tail (IsSiteRun shown may wire) run runs all) s.1)
-  all_same wire [] (r ∷ rs) all s = absurd s
-  all_same wire (run ∷ runs) [] all s = absurd s
+  all_same : (runs : List (Running K G)) (rs : List Record) → All (IsSite shown may) runs → AllZip (RunStandsIn shown may) runs rs → AllZip IsSameSite (map (λ (r : Running K G). r.start) runs) rs
+  all_same [] [] all s = tt
+  all_same (run ∷ runs) (r ∷ rs) all s =
+      (end_same run r (All-head (IsSite shown may) run runs all) s.0, all_same runs rs (All-tail (IsSite shown may) run runs all) s.1)
+  all_same [] (r ∷ rs) all s = absurd s
+  all_same (run ∷ runs) [] all s = absurd s
 
-  all_fit : (start : List Record) (runs : List (SiteRun K G)) (ls : List Log) (rs : List Record) → Gathered start ls → AllZip (IsEnd shown may) runs ls → AllZip (RunStandsIn shown may) runs rs → RecordsFit rs []
+  all_fit : (start : List Record) (runs : List (Running K G)) (ls : List Log) (rs : List Record) → Gathered start ls → AllZip (IsEnd shown may) runs ls → AllZip (RunStandsIn shown may) runs rs → RecordsFit rs []
   all_fit start runs ls rs all z s = fewer_fit rs (frames ls) [] (any_fit (frames ls) [] runs ls rs (run_fits start ls all.run) (λ e f c d. (all.noted e f c d).1) z s) (λ f c. let h = c.1 in absurd (omega arith))
 
   -- each site has one log
-  ends_of : (wire : Line) (runs : List (SiteRun K G)) → All (IsSiteRun shown may wire) runs → (ls : List Log) × (flat_map (λ (r : SiteRun K G). r.turn.site.seat.logs) runs ≡ ls) × AllZip (IsEnd shown may) runs ls
-  ends_of wire [] all = ([], refl, tt)
-  ends_of wire (r ∷ rs) all =
-      let one = (All-head (IsSiteRun shown may wire) r rs all).site.runs in
-      let more = ends_of wire rs (All-tail (IsSiteRun shown may wire) r rs all) in
+  ends_of : (runs : List (Running K G)) → All (IsSite shown may) runs → (ls : List Log) × (flat_map (λ (r : Running K G). r.seat.logs) runs ≡ ls) × AllZip (IsEnd shown may) runs ls
+  ends_of [] all = ([], refl, tt)
+  ends_of (r ∷ rs) all =
+      let one = (All-head (IsSite shown may) r rs all).runs in
+      let more = ends_of rs (All-tail (IsSite shown may) r rs all) in
       (one.log ∷ more.0, (λ i. one.alone i ++ more.1 i), (record { mine = one.own.site; holding = one.holding }, more.2))
 
   -- the joined seat holds the sites of the run, in order
-  in_order : (runs : List (SiteRun K G)) (ls : List Log) → AllZip (IsEnd shown may) runs ls → map (λ (e : Log). e.site) ls ≡ map (λ (r : SiteRun K G). r.turn.site.me) runs
+  in_order : (runs : List (Running K G)) (ls : List Log) → AllZip (IsEnd shown may) runs ls → map (λ (e : Log). e.site) ls ≡ map (λ (r : Running K G). r.me) runs
   in_order [] [] z = refl
   in_order (r ∷ rs) (l ∷ ls) z = λ i. z.0.mine i ∷ in_order rs ls z.1 i
   in_order [] (l ∷ ls) z = absurd z
   in_order (r ∷ rs) [] z = absurd z
 
   -- as the keepers stand, so do their runs
-  runs_stand : (runs : List (SiteRun K G)) (keepers : List K) (rs : List Record) → AllZip HasKeeper runs keepers → AllZip (λ k r. MayStandIn (shown k) (may k) r) keepers rs → AllZip (RunStandsIn shown may) runs rs
+  runs_stand : (runs : List (Running K G)) (keepers : List K) (rs : List Record) → AllZip HasKeeper runs keepers → AllZip (λ k r. MayStandIn (shown k) (may k) r) keepers rs → AllZip (RunStandsIn shown may) runs rs
   unfolding RunStandsIn
   runs_stand runs keepers rs = zip_through HasKeeper (λ k r. MayStandIn (shown k) (may k) r) (RunStandsIn shown may) runs keepers rs (λ run k r is o. subst (λ (x : Option K). MayStandIn (shown_in shown x) (may_in may x) r) (sym is) o)
 
-  steps_one : (handed : List Handed) (run : SiteRun K G) (log : Log) (k : K) (l : RunLog) → AreAnswered handed log.inputs → IsEnd shown may run log → HasKeeper run k → LeavesList run l → IsFresh run → AreStepsOf shown may handed k l log.last
+  steps_one : (handed : List Handed) (run : Running K G) (log : Log) (k : K) (l : RunLog) → AreAnswered handed log.inputs → IsEnd shown may run log → HasKeeper run k → LeavesList run l → IsFresh run → AreStepsOf shown may handed k l log.last
   steps_one handed run log k l answered end is left fresh =
-      let d = led (shown_in shown run.turn.site.keeper) (may_in may run.turn.site.keeper) (start_of run.turn.site) run.turn.site.entries.items log end.holding in
-      let here = subst (λ (x : Option K). Lead (shown_in shown x) (may_in may x) run.turn.site.start.value run.turn.site.entries.items d.0 log.last) is d.2 in
+      let d = led (shown_in shown run.keeper) (may_in may run.keeper) (start_of run) run.entries log end.holding in
+      let here = subst (λ (x : Option K). Lead (shown_in shown x) (may_in may x) run.start run.entries d.0 log.last) is d.2 in
       record {
         changes = d.0;
-        lead = subst (λ (y : Record × List Entry). Lead (shown k) (may k) y.0 y.1 d.0 log.last) (λ i. (sym left.start i, ap (λ v. v.items) (sym left.entries) i)) here;
+        lead = subst (λ (y : Record × List Entry). Lead (shown k) (may k) y.0 y.1 d.0 log.last) (λ i. (sym left.start i, sym left.entries i)) here;
         answered = subst (AreAnswered handed) (d.1 ∙ ap (λ m. m ++ d.0) fresh) answered;
       }
 
-  steps_from : (handed : ℕ → List Handed) (a : ℕ) (runs : List (SiteRun K G)) (ls : List Log) (ks : List K) (lists : List RunLog) → ((i : ℕ) (e : Log) → get_elem? ls i ≡ some e → AreAnswered (handed (a + i)) e.inputs) → AllZip (IsEnd shown may) runs ls → AllZip HasKeeper runs ks
+  steps_from : (handed : ℕ → List Handed) (a : ℕ) (runs : List (Running K G)) (ls : List Log) (ks : List K) (lists : List RunLog) → ((i : ℕ) (e : Log) → get_elem? ls i ≡ some e → AreAnswered (handed (a + i)) e.inputs) → AllZip (IsEnd shown may) runs ls → AllZip HasKeeper runs ks
       → AllZip LeavesList runs lists → All IsFresh runs → AreTheirSteps shown may handed a ks lists (records ls)
   steps_from handed a [] [] [] [] f z has left fresh = tt
   steps_from handed a (run ∷ runs) (log ∷ ls) (k ∷ ks) (l ∷ lists) f z has left fresh = (
@@ -207,26 +206,26 @@ module _ {K G : Type 0} (shown : K → Option Record) (may : K → Record → Ty
   steps_from handed a [] [] [] (l ∷ lists) f z has left fresh = absurd left
   steps_from handed a (run ∷ runs) (log ∷ ls) (k ∷ ks) [] f z has left fresh = absurd left
 
-  module _ (wire : Line) (runs : List (SiteRun K G)) (logs : List Log) (all : All (IsSiteRun shown may wire) runs) (joined : logs ≡ flat_map (λ (r : SiteRun K G). r.turn.site.seat.logs) runs)
-      (order : map (λ (r : SiteRun K G). r.turn.site.me) runs ≡ range_with_len 0 wire.sites) where
+  module _ (wire : Line) (runs : List (Running K G)) (logs : List Log) (all : All (IsSite shown may) runs) (joined : logs ≡ flat_map (λ (r : Running K G). r.seat.logs) runs)
+      (order : map (λ (r : Running K G). r.me) runs ≡ range_with_len 0 wire.sites) where
     sites_are : map (λ (e : Log). e.site) logs ≡ range_with_len 0 wire.sites
-    sites_are = let e = ends_of wire runs all in ap (map (λ (x : Log). x.site)) (joined ∙ e.1) ∙ in_order runs e.0 e.2 ∙ order
+    sites_are = let e = ends_of runs all in ap (map (λ (x : Log). x.site)) (joined ∙ e.1) ∙ in_order runs e.0 e.2 ∙ order
 
     pub all_there : HoldsAll wire.sites logs
     all_there = holds_all wire.sites logs sites_are
 
-    pub keepers_fit : (everyone : List Log) → AreAllLogs wire.sites logs everyone → Gathered wire.start everyone → AreOneWorld (map (λ (r : SiteRun K G). r.turn.site.start.value) runs) → (keepers : List K) → AllZip HasKeeper runs keepers → KeepersFit shown may keepers
+    pub keepers_fit : (everyone : List Log) → AreAllLogs wire.sites logs everyone → Gathered wire.start everyone → AreOneWorld (map (λ (r : Running K G). r.start) runs) → (keepers : List K) → AllZip HasKeeper runs keepers → KeepersFit shown may keepers
     keepers_fit everyone are gathered one keepers have rs stand =
-        let e = ends_of wire runs all in
+        let e = ends_of runs all in
         let same = all_held wire.sites logs everyone sites_are are ∙ joined ∙ e.1 in
         let stands = runs_stand runs keepers rs have stand in
         let fit = all_fit wire.start runs e.0 rs (subst (Gathered wire.start) same gathered) e.2 stands in
-        let again = one_again (map (λ (r : SiteRun K G). r.turn.site.start.value) runs) rs (all_same wire runs rs all stands) one in
+        let again = one_again (map (λ (r : Running K G). r.start) runs) rs (all_same runs rs all stands) one in
         record { world = record { one = again; places = fit.places; fit = fit.fits }; exact = exact_when_fit rs fit }
 
     pub keepers_ran : (everyone : List Log) → AreAllLogs wire.sites logs everyone → Gathered wire.start everyone → All IsFresh runs → (keepers : List K) (lists : List RunLog) → AllZip HasKeeper runs keepers → AllZip LeavesList runs lists → RanFrom shown may wire.start keepers lists
     keepers_ran everyone are gathered fresh keepers lists have left =
-        let e = ends_of wire runs all in
+        let e = ends_of runs all in
         let same = all_held wire.sites logs everyone sites_are are ∙ joined ∙ e.1 in
         let run = (subst (Gathered wire.start) same gathered).run in
         record {

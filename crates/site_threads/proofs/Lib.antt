@@ -2,6 +2,7 @@ mod Answered
 mod Beginning
 mod Changing
 mod Confirming
+mod Continuing
 mod Delivering
 mod Ending
 mod Gathering

@@ -1,5 +1,6 @@
 -- Which types of a run may go to another thread, each from those of its fields.
 use denote.RattleType.{RattleType}
+use denote.Ref.{NamedLft}
 use denote.Param.Send.{IsSend, sendable, view_send}
 use denote.Param.SendFields.{declared_send}
 use Rattle.std.specs.contracts.option.Option as Option
@@ -12,15 +13,17 @@ use Rattle.frame_core.proofs.identifiers.MsgId.TheSendSync.{the_send as message_
 use Rattle.site_core.specs.contracts.inputs.SiteInput as SiteInput
 use Rattle.site_core.specs.contracts.states.SiteState as SiteState
 use Rattle.wire_core.specs.contracts.wires.Seat as Seat
+use Rattle.keeper_core.specs.declared.keepers.SiteKeeper as SiteKeeper
 use Rattle.wire_core.proofs.wires.Seat.TheSendSync.{the_send as seat_send}
+use Rattle.wire_core.proofs.wires.Wire.TheSendSync.{the_sync as wire_sync}
 use Rattle.site_threads.specs.contracts.asked.Asked as Asked
 use Rattle.site_threads.specs.contracts.asked.Asked.TheInside as Inside
 use Rattle.site_threads.specs.contracts.jobs.Entry as Entry
 use Rattle.site_threads.specs.contracts.jobs.Job as Job
-use Rattle.site_threads.specs.contracts.runs.SiteRun as SiteRun
-use Rattle.site_threads.specs.contracts.sites.Site as Site
-use Rattle.site_threads.specs.contracts.turns.SiteTurn as SiteTurn
+use Rattle.site_threads.specs.contracts.sites.RunningSite as RunningSite
+use Rattle.site_threads.specs.contracts.sites.RunningSite.TheInside as SiteInside
 use Rattle.site_threads.specs.contracts.turns.TurnCause as TurnCause
+use Rattle.site_threads.specs.declared.gates.Gate as Gate
 use Rattle.site_threads.proofs.desks.DeskOut.TheSendSync.{the_send as out_send}
 use Rattle.site_threads.proofs.jobs.Job.TheSendSync.{the_send as job_send}
 use Rattle.site_threads.proofs.jobs.Reply.TheSendSync.{the_send as reply_send}
@@ -48,13 +51,40 @@ entry_send = declared_send Entry.the_type (search sendable depth 12, (asked_send
 heap_send : IsSend Heap.the_row
 heap_send = search sendable depth 20
 
-running_send : (K : RattleType) → IsSend K → IsSend (Site.the_row K)
-running_send K s =
+pub running_send : (a : NamedLft) (K G : RattleType) (k : SiteKeeper.Ghosts K.Denot) (g : Gate.Ghosts G.Denot) → IsSend K → IsSend G → IsSend (RunningSite.the_row a K G k g)
+running_send a K G k g s t =
     let owed = option_send MsgId.the_row message_send in
-    declared_send (Site.the_type K) (option_send K s, (seat_send, (site_send, (stamp_send, (Vec-send Entry.the_row entry_send, (start_send, (first_send, (search sendable depth 12, (search sendable depth 12, tt)))))))))
-
-turn_send : (K G : RattleType) → IsSend K → IsSend G → IsSend (SiteTurn.the_row K G)
-turn_send K G s t = declared_send (SiteTurn.the_type K G) (running_send K s, (search sendable depth 12, (search sendable depth 12, (heap_send, tt))))
-
-pub run_send : (K G : RattleType) → IsSend K → IsSend G → IsSend (SiteRun.the_row K G)
-run_send K G s t = declared_send (SiteRun.the_type K G) (turn_send K G s t, (out_send, (option_send Job.the_row job_send, (option_send TurnCause.the_row cause_send, (search sendable depth 12, (search sendable depth 12, tt))))))
+    let jobs = option_send Job.the_row job_send in
+    let causes = option_send TurnCause.the_row cause_send in
+    view_send (SiteInside.the_row a K G k g) _ _ _ _
+    (declared_send (SiteInside.the_type a K G k g) (
+      search (wire_sync, sendable) depth 12,
+      (
+        seat_send,
+        (
+          site_send,
+          (
+            option_send K s,
+            (
+              stamp_send,
+              (
+                Vec-send Entry.the_row entry_send,
+                (
+                  start_send,
+                  (
+                    first_send,
+                    (
+                      search sendable depth 12,
+                      (
+                        search sendable depth 12,
+                        (search sendable depth 12, (search sendable depth 12, (out_send, (jobs, (causes, (search sendable depth 12, (search sendable depth 12, (heap_send, tt)))))))),
+                      ),
+                    ),
+                  ),
+                ),
+              ),
+            ),
+          ),
+        ),
+      ),
+    ))

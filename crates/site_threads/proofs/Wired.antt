@@ -13,7 +13,7 @@ use Rattle.wire_core.specs.declared.views.Log.{Log}
 use Rattle.world_core.specs.Turns.{addressee}
 use Rattle.site_threads.specs.Inputs.{is_delivery}
 use Rattle.site_threads.specs.Jobs.{ComesTo, entry_of, is_stop, open_after, option_items}
-use Rattle.site_threads.specs.Passing.{AsksEach, Incoming, PassNothing, Rise, Notes, EntersFrames, TakesFrames, incoming, others, outgoing}
+use Rattle.site_threads.specs.Passing.{AsksEach, Incoming, Rise, Notes, EntersFrames, TakesFrames, incoming, others, outgoing}
 use Rattle.site_threads.specs.Running.{Follows}
 use Rattle.site_threads.specs.Stamps.{stamp}
 use Rattle.site_threads.specs.declared.jobs.Entry.{Entry}
@@ -24,14 +24,14 @@ use Rattle.site_threads.proofs.OneLog.{on_one}
 
 -- A mark passes nothing.
 
-pub follows_pass : (e : Log) (logs new : List Log) (r : Record) → logs ≡ e ∷ [] → Follows logs r new → PassNothing logs new
+pub follows_pass : (e : Log) (logs new : List Log) (r : Record) → logs ≡ e ∷ [] → Follows logs r new → (incoming new ≡ incoming logs) × (outgoing new ≡ outgoing logs)
 follows_pass e logs new r alone follows =
     let f = follows e alone in (
       ap incoming f.1 ∙ (λ k. record { noted = f.2.noted k ++ []; asked = f.2.asked k ++ [] }) ∙ sym (ap incoming alone),
       ap outgoing f.1 ∙ (λ k. record { sent = f.2.sent k ++ []; offered = f.2.offered k ++ [] }) ∙ sym (ap outgoing alone),
     )
 
-pub may_follow_pass : (shown : Option Record) (e : Log) (logs new : List Log) (kept kept' : Stamp) → logs ≡ e ∷ [] → MatchOption shown ((kept' ≡ kept) × (new ≡ logs)) (λ r. (kept' ≡ stamp r) × Follows logs r new) → PassNothing logs new
+pub may_follow_pass : (shown : Option Record) (e : Log) (logs new : List Log) (kept kept' : Stamp) → logs ≡ e ∷ [] → MatchOption shown ((kept' ≡ kept) × (new ≡ logs)) (λ r. (kept' ≡ stamp r) × Follows logs r new) → (incoming new ≡ incoming logs) × (outgoing new ≡ outgoing logs)
 may_follow_pass None e logs new kept kept' alone m = (ap incoming m.1, ap outgoing m.1)
 may_follow_pass (Some r) e logs new kept kept' alone m = follows_pass e logs new r alone m.1
 
@@ -245,14 +245,14 @@ enters_more before between after fs gs xs ys zs n m l k s t = record {
   comes = comes_more before between after s.frames t.frames s.comes t.comes;
 }
 
-module _ {E L : Type 0} (items : L → List Entry) (old new : L) (before after : Bool) (up : before ≡ true) (n : ℕ) (f : Frame) where
-  pub enters_one : (r : Result Reply E) → IfOk r (λ p. items new ≡ items old ++ (record { number = n; input = inputs.Deliver f; reply = p }) ∷ []) → IfOk r (λ p. after ≡ not (is_stop p)) → IfErr r (λ e. (new ≡ old) × (after ≡ before))
-      → EntersFrames before after (f ∷ []) (items old) (items new) (cond (is_ok r) 1 0) (cond (is_ok r) 0 1)
+module _ {E : Type 0} (old new : List Entry) (before after : Bool) (up : before ≡ true) (n : ℕ) (f : Frame) where
+  pub enters_one : (r : Result Reply E) → IfOk r (λ p. new ≡ old ++ (record { number = n; input = inputs.Deliver f; reply = p }) ∷ []) → IfOk r (λ p. after ≡ not (is_stop p)) → IfErr r (λ e. (new ≡ old) × (after ≡ before))
+      → EntersFrames before after (f ∷ []) old new (cond (is_ok r) 1 0) (cond (is_ok r) 0 1)
   enters_one (Ok p) h stays back =
       let x : Entry = record { number = n; input = inputs.Deliver f; reply = p } in
       record { frames = x ∷ []; all = h; each = All-cons IsOfFrame x [] refl (All-nil IsOfFrame); many = refl; counts = refl; comes = (up, stays) }
   enters_one (Err e) h stays back =
-      subst (λ (b : Bool). EntersFrames before b (f ∷ []) (items old) (items new) 0 1) (sym back.1) (subst (λ l. EntersFrames before before (f ∷ []) (items old) (items l) 0 1) (sym back.0) (enters_none before (f ∷ []) (items old)))
+      subst (λ (b : Bool). EntersFrames before b (f ∷ []) old new 0 1) (sym back.1) (subst (λ l. EntersFrames before before (f ∷ []) old l 0 1) (sym back.0) (enters_none before (f ∷ []) old))
 
 pub kept_back : {A E L : Type 0} (B : E → Type 0) (new old : L) (now was : Option Record) (r : Result A E) → IfErr r (λ e. B e × (new ≡ old) × (now ≡ was)) → IfErr r (λ e. (new ≡ old) × (is_some now ≡ is_some was))
 kept_back B new old now was (Ok a) h = tt

@@ -16,3 +16,4 @@ pub mod Sites
 pub mod Stamps
 pub mod Starting
 pub mod Turns
+pub mod Views

@@ -5,24 +5,24 @@ use Rattle.site_threads.specs.declared.gather.GatherCause.{GatherCause}
 use Rattle.site_threads.specs.declared.gather.GatherCause.TheVariants.{NoMemory, SiteLost, GaveUp}
 use Rattle.site_threads.specs.declared.gather.Ended.{Ended}
 use Rattle.site_threads.specs.declared.lists.RunLog.{RunLog}
-use Rattle.site_threads.specs.declared.runs.SiteRun.{SiteRun}
+use Rattle.site_threads.specs.Sites.{Running}
 use Rattle.site_threads.specs.declared.turns.TurnCause.{TurnCause}
 use Rattle.site_threads.specs.declared.turns.TurnCause.TheVariants as turns
 
 module _ {K G : Type 0} where
-  -- this is the keeper of the run's site
-  abbrev pub HasKeeper : SiteRun K G → K → Type 0
-  HasKeeper run k = run.turn.site.keeper ≡ Some k
+  -- this is the keeper of the site
+  abbrev pub HasKeeper : Running K G → K → Type 0
+  HasKeeper run k = run.keeper ≡ Some k
 
   -- the list has the steps of the site, its end of its desk, the job in hand, how often the gate was asked, and why the
   -- site ended its run
-  pub record LeavesList (run : SiteRun K G) (l : RunLog) : Type 0 where
-    pub site : l.site ≡ run.turn.site.me
-    pub entries : l.entries ≡ run.turn.site.entries
-    pub start : l.start.value ≡ run.turn.site.start.value
+  pub record LeavesList (run : Running K G) (l : RunLog) : Type 0 where
+    pub site : l.site ≡ run.me
+    pub entries : l.entries.items ≡ run.entries
+    pub start : l.start.value ≡ run.start
     pub out : l.out ≡ run.out
     pub pending : l.pending ≡ run.pending
-    pub turns : l.turns ≡ run.turn.turns
+    pub turns : l.turns ≡ run.turns
     pub fault : l.fault ≡ run.fault
 
 -- nothing stands there yet, and there is room for so many sites
@@ -41,6 +41,6 @@ cause_of site (Some turns.GaveUp) = Some (GaveUp site)
 cause_of site (Some (turns.Lost fault)) = Some (SiteLost site)
 
 -- the one of the first site that has one
-abbrev pub first_cause : {K G : Type 0} → List (SiteRun K G) → Option GatherCause
+abbrev pub first_cause : {K G : Type 0} → List (Running K G) → Option GatherCause
 first_cause [] = None
-first_cause (run ∷ runs) = option_or (cause_of run.turn.site.me run.fault) (first_cause runs)
+first_cause (run ∷ runs) = option_or (cause_of run.me run.fault) (first_cause runs)

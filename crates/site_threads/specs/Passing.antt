@@ -17,7 +17,7 @@ use Rattle.site_threads.specs.Jobs.{AreOfFrames, ComesTo, entry_of, open_after, 
 use Rattle.site_threads.specs.Keepers.{shown_in}
 use Rattle.site_threads.specs.Offers.{behind, owed_by, owes, round_at, wish}
 use Rattle.site_threads.specs.declared.jobs.Entry.{Entry}
-use Rattle.site_threads.specs.declared.sites.Site.{Site}
+use Rattle.site_threads.specs.Sites.{Running}
 use Rattle.site_threads.specs.declared.turns.TurnReport.{TurnReport}
 
 -- what the sites of a seat have from the wire: the frames that they noted, and the sites that they asked for one
@@ -37,9 +37,18 @@ pub record Outgoing : Type 0 where
 abbrev pub outgoing : List Log → Outgoing
 outgoing logs = record { sent = flat_map (λ e. e.sent) logs; offered = flat_map (λ e. e.offered) logs }
 
--- nothing went over the wire, and nobody was asked
-abbrev pub PassNothing : List Log → List Log → Type 0
-PassNothing old new = (incoming new ≡ incoming old) × (outgoing new ≡ outgoing old)
+module _ {K G : Type 0} where
+  -- nothing was offered, and the places stay
+  abbrev pub PostsNothing : Running K G → Running K G → Type 0
+  PostsNothing old new = (outgoing new.seat.logs ≡ outgoing old.seat.logs) × (new.rounds ≡ old.rounds)
+
+  -- and nobody was asked, and no frame noted
+  abbrev pub PassNothing : Running K G → Running K G → Type 0
+  PassNothing old new = (incoming new.seat.logs ≡ incoming old.seat.logs) × PostsNothing old new
+
+  -- nobody was asked, no frame noted, and no step made
+  abbrev pub TakesNothing : Running K G → Running K G → Type 0
+  TakesNothing old new = (incoming new.seat.logs ≡ incoming old.seat.logs) × (new.entries ≡ old.entries) × (new.keeper ≡ old.keeper) × (new.owed ≡ old.owed)
 
 -- the numbers that the frames have, of sites, rise from low and stay below high: so no two frames have the same
 abbrev pub Rise : (Frame → ℕ) → ℕ → List Frame → ℕ → Type 0
@@ -122,10 +131,10 @@ pub record PostsFrames (me low high : ℕ) (shown : Option Record) (owed : ℕ �
   pub places : (to : ℕ) → place' to ≡ fold (behind to) (place to) (went_of went offers)
 
 -- by site, the place of its messages, and the message that was taken from it in this turn
-abbrev pub place_of : {K : Type 0} → Site K → ℕ → ℕ
+abbrev pub place_of : {K G : Type 0} → Running K G → ℕ → ℕ
 place_of s to = (round_at s.rounds to).place
 
-abbrev pub owed_in : {K : Type 0} → Site K → ℕ → Option Message
+abbrev pub owed_in : {K G : Type 0} → Running K G → ℕ → Option Message
 owed_in s to = slice_index_or s.owed to None
 
 -- what is owed to each site, once the frames noted since were taken
@@ -134,28 +143,36 @@ OwesFor old new owed owed' =
     (took : List Frame) → new ≡ old ++ took → (to : ℕ) → slice_index_or owed' to None ≡ fold (owes to) (slice_index_or owed to None) took
 
 -- The frames of a running site, and of its turn.
-module _ {K : Type 0} (shown : K → Option Record) where
-  abbrev pub TakesOfEach : ℕ → ℕ → Site K → Site K → ℕ → ℕ → Type 0
-  TakesOfEach low high old new count lost =
-      TakesFrames old.me low high (incoming old.seat.logs) (incoming new.seat.logs) (is_some (shown_in shown old.keeper)) (is_some (shown_in shown new.keeper)) old.entries.items new.entries.items count lost
 
-  abbrev pub PostsToEach : ℕ → ℕ → (ℕ → Option Message) → Site K → Site K → ℕ → ℕ → Type 0
+abbrev pub OwesNoted : {K G : Type 0} → Running K G → Running K G → Type 0
+OwesNoted old new = OwesFor (incoming old.seat.logs).noted (incoming new.seat.logs).noted old.owed new.owed
+
+module _ {K G : Type 0} (shown : K → Option Record) where
+  -- the frames noted since were delivered
+  abbrev pub DeliversNoted : (K → Record → Type 0) → (K → SiteInput → Result Effects KeepFault → K → Type 0) → Running K G → Running K G → Type 0
+  DeliversNoted may applies old new = Delivers shown may applies old.keeper new.keeper (incoming old.seat.logs).noted (incoming new.seat.logs).noted old.entries new.entries
+
+  abbrev pub TakesOfEach : ℕ → ℕ → Running K G → Running K G → ℕ → ℕ → Type 0
+  TakesOfEach low high old new count lost =
+      TakesFrames old.me low high (incoming old.seat.logs) (incoming new.seat.logs) (is_some (shown_in shown old.keeper)) (is_some (shown_in shown new.keeper)) old.entries new.entries count lost
+
+  abbrev pub PostsToEach : ℕ → ℕ → (ℕ → Option Message) → Running K G → Running K G → ℕ → ℕ → Type 0
   PostsToEach low high owed old new count uncopied =
       PostsFrames old.me low high (shown_in shown new.keeper) owed (outgoing old.seat.logs) (outgoing new.seat.logs) (place_of old) (place_of new) count uncopied
 
   -- after the step of its job, if it was given one, a site takes frames in its turn
-  abbrev pub TakesAfterJob : ℕ → Site K → Site K → TurnReport → Type 0
-  TakesAfterJob sites old new report =
-      TakesFrames old.me 0 sites (incoming old.seat.logs) (incoming new.seat.logs) (open_after report.receipt) (is_some (shown_in shown new.keeper)) (old.entries.items ++ map entry_of (option_items report.receipt)) new.entries.items report.applied report.lost
+  abbrev pub TakesAfterJob : Running K G → Running K G → TurnReport → Type 0
+  TakesAfterJob old new report =
+      TakesFrames old.me 0 old.wire.sites (incoming old.seat.logs) (incoming new.seat.logs) (open_after report.receipt) (is_some (shown_in shown new.keeper)) (old.entries ++ map entry_of (option_items report.receipt)) new.entries report.applied report.lost
 
   -- the keeper is open, or is opened again; it does the job, if the site was given one; and then the frames are delivered
-  abbrev pub AnswersInTurn : (K → Record → Type 0) → (K → SiteInput → Result Effects KeepFault → K → Type 0) → (K → Result K (Unopened K) → Type 0) → Site K → Site K → TurnReport → Type 0
+  abbrev pub AnswersInTurn : (K → Record → Type 0) → (K → SiteInput → Result Effects KeepFault → K → Type 0) → (K → Result K (Unopened K) → Type 0) → Running K G → Running K G → TurnReport → Type 0
   AnswersInTurn may applies reopens old new report =
       (begun : Option K) × (left : Option K) × Opened shown reopens old.keeper begun × DoesJob shown may applies begun report.receipt left
-      × Delivers shown may applies left new.keeper (incoming old.seat.logs).noted (incoming new.seat.logs).noted (old.entries.items ++ map entry_of (option_items report.receipt)) new.entries.items
+      × Delivers shown may applies left new.keeper (incoming old.seat.logs).noted (incoming new.seat.logs).noted (old.entries ++ map entry_of (option_items report.receipt)) new.entries
 
   -- and then it posts frames, by those that it took
-  abbrev pub PostsAfterTaking : ℕ → Site K → Site K → TurnReport → Type 0
-  PostsAfterTaking sites old new report =
+  abbrev pub PostsAfterTaking : Running K G → Running K G → TurnReport → Type 0
+  PostsAfterTaking old new report =
       (took : List Frame) → (incoming new.seat.logs).noted ≡ (incoming old.seat.logs).noted ++ took
-      → PostsToEach 0 sites (owed_by took) old new report.posted report.uncopied
+      → PostsToEach 0 old.wire.sites (owed_by took) old new report.posted report.uncopied

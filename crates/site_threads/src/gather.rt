@@ -1,18 +1,15 @@
-//! The seats of all sites joined again, and what is known then.
-ghost use Rattle.std.specs.Prelude.{◌≡◌, [], All, flat_map, length, map};
-ghost use Rattle.std.specs.List.{range_with_len, AllZip};
-ghost use Rattle.world_core.specs.Faults.{AreOneWorld};
+//! Sites taken apart, and their seats joined again.
+ghost use Rattle.std.specs.Prelude.{◌≡◌, [], All, flat_map, length};
+ghost use Rattle.std.specs.List.{AllZip};
 ghost use Rattle.wire_core.specs.Seats.{IsSeatOf};
-ghost use Rattle.site_threads.specs.Gathering.{KeepersFit, RanFrom};
 ghost use Rattle.site_threads.specs.Parting.{HasKeeper, LeavesList, IsRoomFor, cause_of, first_cause};
-ghost use Rattle.site_threads.specs.Runs.{IsFresh, IsSiteRun};
+ghost use Rattle.site_threads.specs.Sites.{IsSite};
 
 use crate::gates::Gate;
 use crate::lists::RunLog;
 use crate::room::add;
-use crate::runs::SiteRun;
-use crate::sites::Site;
-use crate::turns::{SiteTurn, TurnCause};
+use crate::sites::RunningSite;
+use crate::turns::TurnCause;
 use event_json::SiteNo;
 use keeper_core::SiteKeeper;
 use thiserror::Error;
@@ -59,21 +56,22 @@ fn cause_of(site: SiteNo, fault: &Option<TurnCause>) -> Option<GatherCause>
     }
 }
 
-/// Takes the runs apart, and their seats together, in order. There is room for the keepers and the lists.
-fn part<K: SiteKeeper, G: Gate>(
+/// Takes the sites apart, and their seats together, in order. There is room for the keepers and the lists.
+pub fn part<K: SiteKeeper, G: Gate>(
     wire: &Wire,
     root: Seat,
-    runs: Vec<SiteRun<K, G>>,
+    runs: Vec<RunningSite<'_, K, G>>,
     room: Ended<K>,
 ) -> (Seat, Ended<K>)
     requires root { IsSeatOf wire.now root × (root.logs ≡ []) }
-    requires runs { All (IsSiteRun K.shown K.may wire.now) runs.items }
+    requires wire { All (λ r. r.wire ≡ wire.now) runs.items }
     requires room { IsRoomFor (length runs.items) room }
+    ensures sites { All (IsSite K.shown K.may) runs.entry.items }
     ensures seat { IsSeatOf wire.now result.0 }
-    ensures logs { result.0.logs ≡ flat_map (λ r. r.turn.site.seat.logs) runs.items }
-    ensures keepers { AllZip HasKeeper runs.items result.1.keepers.items }
-    ensures lists { AllZip LeavesList runs.items result.1.lists.items }
-    ensures cause { result.1.cause ≡ first_cause runs.items }
+    ensures logs { result.0.logs ≡ flat_map (λ r. r.seat.logs) runs.entry.items }
+    ensures keepers { AllZip HasKeeper runs.entry.items result.1.keepers.items }
+    ensures lists { AllZip LeavesList runs.entry.items result.1.lists.items }
+    ensures cause { result.1.cause ≡ first_cause runs.entry.items }
 {
     let Ended {
         mut keepers,
@@ -82,38 +80,12 @@ fn part<K: SiteKeeper, G: Gate>(
     } = room;
     let mut seat = root;
     for run in runs {
-        let SiteRun {
-            turn,
-            out,
-            pending,
-            fault,
-            ..
-        } = run;
-        let SiteTurn { site, turns, .. } = turn;
-        let Site {
-            keeper,
-            seat: mine,
-            me,
-            entries,
-            start,
-            ..
-        } = site;
-        let Some(keeper) = keeper else { unreachable!() };
+        let me = run.me;
+        let (keeper, mine, list) = run.finish();
         seat = wire.join(seat, mine);
-        cause = cause.or(cause_of(me, &fault));
+        cause = cause.or(cause_of(me, &list.fault));
         add(&mut keepers, keeper);
-        add(
-            &mut lists,
-            RunLog {
-                site: me,
-                entries,
-                start,
-                out,
-                pending,
-                turns,
-                fault,
-            },
-        );
+        add(&mut lists, list);
     }
     (
         seat,
@@ -123,29 +95,4 @@ fn part<K: SiteKeeper, G: Gate>(
             cause,
         },
     )
-}
-
-/// Ends a run: whichever records the sites stand in, they are consistent; and what the sites did by their lists of steps
-/// is a run of the world, from the records that the wire was made with.
-pub fn close_all<K: SiteKeeper, G: Gate>(
-    wire: Wire,
-    root: Seat,
-    runs: Vec<SiteRun<K, G>>,
-    room: Ended<K>,
-) -> Ended<K>
-    requires root { IsSeatOf wire root × (root.logs ≡ []) }
-    requires runs { All (IsSiteRun K.shown K.may wire) runs.items }
-    requires all { map (λ r. r.turn.site.me) runs.items ≡ range_with_len 0 wire.sites }
-    requires fresh { All IsFresh runs.items }
-    requires one { AreOneWorld (map (λ r. r.turn.site.start.value) runs.items) }
-    requires room { IsRoomFor (length runs.items) room }
-    ensures fit { KeepersFit K.shown K.may result.keepers.items }
-    ensures run { RanFrom K.shown K.may wire.start result.keepers.items result.lists.items }
-    ensures keepers { AllZip HasKeeper runs.items result.keepers.items }
-    ensures lists { AllZip LeavesList runs.items result.lists.items }
-    ensures cause { result.cause ≡ first_cause runs.items }
-{
-    let (seat, ended) = part(&wire, root, runs, room);
-    wire.close(seat);
-    ended
 }

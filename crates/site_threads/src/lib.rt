@@ -31,6 +31,6 @@ pub use gather::GatherCause;
 pub use gathered::{GatherFault, Gathered, Stranger};
 pub use jobs::{Entry, Job, Receipt, Reply};
 pub use lists::RunLog;
-pub use sites::Site;
-pub use turns::{SiteTurn, TurnCause, TurnFault, TurnReport};
+pub use sites::RunningSite;
+pub use turns::{TurnCause, TurnFault, TurnReport};
 pub use worlds::run_world;

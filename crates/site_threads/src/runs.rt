@@ -5,18 +5,19 @@ ghost use Rattle.site_threads.specs.Ends.{takes, tells, IsOut, SameOut};
 ghost use Rattle.site_threads.specs.Jobs.{option_items};
 ghost use Rattle.site_threads.specs.Keepers.{shown_in};
 ghost use Rattle.site_threads.specs.Resting.{HaveEnded, IsAtRest, IsDone};
-ghost use Rattle.site_threads.specs.Runs.{IsSiteRun, IsReady, SameRun, EndedBy, IsBetween, IsSliced, Ran, goes_on};
+ghost use Rattle.site_threads.specs.Runs.{IsReady, SameRun, EndedBy, IsBetween, IsSliced, Ran, goes_on};
 ghost use Rattle.site_threads.specs.Running.{marks_in};
+ghost use Rattle.site_threads.specs.Sites.{Running};
 ghost use Rattle.site_threads.specs.declared.jobs.Job.{Job};
-ghost use Rattle.site_threads.specs.declared.runs.SiteRun.{SiteRun};
 
 use crate::counts::RunCounts;
 use crate::desks::DeskOut;
 use crate::following::{are_same, view_of};
 use crate::gates::Gate;
 use crate::jobs::Job;
+use crate::sites::RunningSite;
 use crate::stamps::Stamp;
-use crate::turns::{SiteTurn, TurnCause, TurnFault, TurnReport, lost};
+use crate::turns::{TurnCause, TurnFault, TurnReport, lost};
 use event_json::SiteNo;
 use keeper_core::SiteKeeper;
 use site_core::SiteState;
@@ -24,25 +25,9 @@ use std::sync::Wait;
 use std::thread;
 use std::thread::Threads;
 use std::time::{Clock, Duration};
-use wire_core::Wire;
 
 /// How many turns a site makes at most before it leaves its thread to the next site, where sites share threads.
 const SLICE: u64 = 50;
-
-/// A site with the desk that it takes its jobs from.
-#[derive(Drop)]
-pub struct SiteRun<K: SiteKeeper, G: Gate> {
-    pub turn: SiteTurn<K, G>,
-    pub out: DeskOut,
-    /// A job that a turn gave back.
-    pub pending: Option<Job>,
-    /// Why the site ended its run before its time.
-    pub fault: Option<TurnCause>,
-    /// Whether it counts among the sites that may have an open recall of their own, or begin one.
-    pub counted: bool,
-    /// Whether it has ended its run, and makes no further turn.
-    pub ended: bool,
-}
 
 /// The job that was given back, or the next one.
 fn next_job<R: Wait>(rt: &R, pending: Option<Job>, out: &mut DeskOut) -> Option<Job>
@@ -129,33 +114,26 @@ fn without_job(before: Stamp, after: Stamp) -> Turned
     }
 }
 
-impl<K: SiteKeeper, G: Gate> SiteRun<K, G> {
+impl<K: SiteKeeper, G: Gate> RunningSite<'_, K, G> {
     /// One turn.
-    fn one_turn<R: Wait>(&mut self, rt: &R, wire: &Wire) -> Turned
-        requires run { IsSiteRun K.shown K.may wire.now self.old }
-        requires few { marks_in self.old.turn.site.seat.logs < 2 ^ 61 }
+    fn one_turn<R: Wait>(&mut self, rt: &R) -> Turned
+        requires few { marks_in self.old.seat.logs < 2 ^ 61 }
         requires going { self.old.fault ≡ None }
-        ensures run { IsSiteRun K.shown K.may wire.now self.new }
         ensures same { SameRun K.stored self.old self.new }
-        ensures marks { marks_in self.new.turn.site.seat.logs ≤ marks_in
-            self.old.turn.site.seat.logs + 18 }
-        ensures turns { self.new.turn.turns ≡ min (self.old.turn.turns + 1) (2 ^ 64 - 1) }
+        ensures marks { marks_in self.new.seat.logs ≤ marks_in self.old.seat.logs + 18 }
+        ensures turns { self.new.turns ≡ min (self.old.turns + 1) (2 ^ 64 - 1) }
         ensures going { goes_on result ≡ is_none self.new.fault }
         ensures on { self.new.ended ≡ self.old.ended }
         ensures why { IfSome self.new.fault (EndedBy K.shown K.reopens G.gives_up self.new) }
     {
-        tell_open(
-            &mut self.turn.gate,
-            &self.turn.site.keeper,
-            self.turn.site.me,
-        );
-        let before = self.turn.site.stamp;
+        tell_open(&mut self.gate, &self.keeper, self.me);
+        let before = self.stamp;
         let job = next_job(rt, self.pending.take(), &mut self.out);
-        match self.turn.turn(wire, job) {
+        match self.turn(job) {
             Ok(report) => {
                 let TurnReport { receipt, .. } = report;
                 match receipt {
-                    None => without_job(before, self.turn.site.stamp),
+                    None => without_job(before, self.stamp),
                     Some(receipt) => {
                         self.out.tell(rt, receipt);
                         Turned::Changed
@@ -169,7 +147,7 @@ impl<K: SiteKeeper, G: Gate> SiteRun<K, G> {
                 if self.fault.is_some() {
                     Turned::Ended
                 } else {
-                    without_job(before, self.turn.site.stamp)
+                    without_job(before, self.stamp)
                 }
             }
         }
@@ -178,35 +156,32 @@ impl<K: SiteKeeper, G: Gate> SiteRun<K, G> {
     /// Whether no recall of the site's own is open, and none is to begin: its end counts the desk as gone, no job is in
     /// hand, no message waits for a signal, and each recall that it began has ended.
     fn is_done(&self) -> bool
-        ensures { IsTrue result → IsDone K.shown self.now.turn.site.keeper self.now.out
-            self.now.pending }
+        ensures { IsTrue result → IsDone K.shown self.now.keeper self.now.out self.now.pending }
     {
         if !self.out.gone || self.pending.is_some() {
             return false;
         }
-        match view_of(&self.turn.site.keeper) {
+        match view_of(&self.keeper) {
             Some(state) => is_at_rest(state),
             None => false,
         }
     }
 
     /// Ends the run of the site, with a last opening of a keeper that is closed.
-    fn end(&mut self, wire: &Wire)
-        requires run { IsSiteRun K.shown K.may wire.now self.old }
-        requires few { marks_in self.old.turn.site.seat.logs < 2 ^ 61 }
+    fn end(&mut self)
+        requires few { marks_in self.old.seat.logs < 2 ^ 61 }
         requires fine { self.old.fault ≡ None }
-        ensures run { IsSiteRun K.shown K.may wire.now self.new }
         ensures same { SameRun K.stored self.old self.new }
         ensures ended { self.new.ended ≡ true }
-        ensures turns { self.new.turn.turns ≡ self.old.turn.turns }
-        ensures done { IsDone K.shown self.old.turn.site.keeper self.old.out self.old.pending
-            → IsDone K.shown self.new.turn.site.keeper self.new.out self.new.pending }
-        ensures open { self.new.fault ≡ None → IsSome (shown_in K.shown self.new.turn.site.keeper) }
+        ensures turns { self.new.turns ≡ self.old.turns }
+        ensures done { IsDone K.shown self.old.keeper self.old.out self.old.pending
+            → IsDone K.shown self.new.keeper self.new.out self.new.pending }
+        ensures open { self.new.fault ≡ None → IsSome (shown_in K.shown self.new.keeper) }
         ensures why { IfSome self.new.fault (EndedBy K.shown K.reopens G.gives_up self.new) }
     {
         self.ended = true;
-        if let Err(fault) = self.turn.site.open_again(wire) {
-            self.fault = Some(lost(fault));
+        if let Err(fault) = self.open_again() {
+            drop(self.fault.replace(lost(fault)));
         }
     }
 
@@ -216,25 +191,23 @@ impl<K: SiteKeeper, G: Gate> SiteRun<K, G> {
     ///
     /// A site takes itself off the open ones once it is done; where none is left, a site that is done makes no further
     /// turn.
-    pub fn go<R: Wait + Clock>(&mut self, rt: &R, wire: &Wire, counts: &RunCounts, turns: u64)
-        requires between { IsBetween K.shown K.may K.stored K.reopens G.gives_up wire.now turns
-            self.old }
+    pub(crate) fn go<R: Wait + Clock>(&mut self, rt: &R, counts: &RunCounts, turns: u64)
+        requires between { IsBetween K.shown K.reopens G.gives_up turns self.old }
         requires turns { turns ≤ 1000000 }
-        ensures sliced { IsSliced K.shown K.may K.stored K.reopens G.gives_up wire.now turns
-            self.old self.new }
+        ensures sliced { IsSliced K.shown K.reopens G.gives_up turns K.stored self.old self.new }
     {
         if self.ended {
             return;
         }
         counts.begin(rt);
-        let until = self.turn.turns.saturating_add(SLICE);
+        let until = self.turns.saturating_add(SLICE);
         let mut micros = 0;
-        for _ in self.turn.turns..turns {
+        for _ in self.turns..turns {
             pause(rt, micros);
             if counts.none_open() && self.is_done() {
                 break;
             }
-            match self.one_turn(rt, wire) {
+            match self.one_turn(rt) {
                 Turned::Ended => {
                     self.ended = true;
                     return;
@@ -244,47 +217,44 @@ impl<K: SiteKeeper, G: Gate> SiteRun<K, G> {
             }
             let done = self.counted && self.is_done();
             counts.take_off(done, &mut self.counted);
-            if counts.are_shared() && (micros > 0 || self.turn.turns >= until) {
+            if counts.are_shared() && (micros > 0 || self.turns >= until) {
                 return;
             }
         }
-        self.end(wire);
+        self.end();
     }
 }
 
 /// A slice of the turns of each site, in a thread of its own where one can be made.
 fn run_slices<K: SiteKeeper + Send, G: Gate + Send, R: Threads + Wait + Clock + Sync>(
     rt: &R,
-    wire: &Wire,
     counts: &RunCounts,
-    runs: &mut [SiteRun<K, G>],
+    runs: &mut [RunningSite<'_, K, G>],
     turns: u64,
 )
     requires count { 0 < length runs.old }
-    requires between { All (IsBetween K.shown K.may K.stored K.reopens G.gives_up wire.now turns)
-        runs.old }
+    requires between { All (IsBetween K.shown K.reopens G.gives_up turns) runs.old }
     requires turns { turns ≤ 1000000 }
     ensures count { length runs.new ≡ length runs.old }
-    ensures each { (i : ℕ) (d : SiteRun K G) → i < length runs.old
-        → IsSliced K.shown K.may K.stored K.reopens G.gives_up wire.now turns
-        (slice_index_or runs.old i d) (slice_index_or runs.new i d) }
+    ensures each { (i : ℕ) (d : Running K G) → i < length runs.old
+        → IsSliced K.shown K.reopens G.gives_up turns K.stored (slice_index_or runs.old i d)
+        (slice_index_or runs.new i d) }
 {
     let threads = runs.len();
     thread::for_each_mut(
         rt,
         runs,
         threads,
-        &|_, run: &mut SiteRun<K, G>|
-            requires { IsBetween K.shown K.may K.stored K.reopens G.gives_up wire.now turns run.now
-                × (turns ≤ 1000000) }
-            ensures { IsSliced K.shown K.may K.stored K.reopens G.gives_up wire.entry.now turns
-                run.entry.now run.exit.now }
-        { run.go(rt, wire, counts, turns) },
+        &|_, run: &mut RunningSite<'_, K, G>|
+            requires { IsBetween K.shown K.reopens G.gives_up turns run.now × (turns ≤ 1000000) }
+            ensures { IsSliced K.shown K.reopens G.gives_up turns K.stored run.entry.now
+                run.exit.now }
+        { run.go(rt, counts, turns) },
     );
 }
 
 /// Whether each site has ended its run.
-fn have_run<K: SiteKeeper, G: Gate>(runs: &[SiteRun<K, G>]) -> bool
+fn have_run<K: SiteKeeper, G: Gate>(runs: &[RunningSite<'_, K, G>]) -> bool
     ensures { result ≡ list_all (λ r. r.ended) runs.now }
 {
     runs.iter().all(|run| run.ended)
@@ -294,20 +264,18 @@ fn have_run<K: SiteKeeper, G: Gate>(runs: &[SiteRun<K, G>]) -> bool
 /// in slices, one site after another, until each has ended its run.
 pub fn run_all<K: SiteKeeper + Send, G: Gate + Send, R: Threads + Wait + Clock + Sync>(
     rt: &R,
-    wire: &Wire,
     counts: &RunCounts,
-    runs: &mut [SiteRun<K, G>],
+    runs: &mut [RunningSite<'_, K, G>],
     turns: u64,
 )
     requires count { 0 < length runs.old }
-    requires ready { All (IsReady K.shown K.may wire.now) runs.old }
+    requires ready { All IsReady runs.old }
     requires turns { turns ≤ 1000000 }
-    ensures { AllZip (Ran K.shown K.may K.stored K.reopens G.gives_up wire.now turns) runs.old
-        runs.new }
+    ensures { AllZip (Ran K.shown K.reopens G.gives_up K.stored turns) runs.old runs.new }
 {
     // A site that goes on made a turn in each slice.
     for _ in 0..turns + 1 {
-        run_slices(rt, wire, counts, runs, turns);
+        run_slices(rt, counts, runs, turns);
         if have_run(runs) {
             break;
         }

@@ -1,67 +1,197 @@
-//! One running site: opening it again, and a step of it.
-ghost use Rattle.std.specs.Prelude.{◌≡◌, ◌≢◌, ◌+◌, ◌^◌, ◌<◌, ◌≤◌, [], ◌∷◌, ◌++◌, Some, None, Err, IfOk, IfErr, IfSome, IsSome, is_some, not, map, option_map, vec_len, vec_capacity};
+//! One running site: as it begins, opening it again, a step of it, and what it leaves.
+ghost use Rattle.std.specs.Prelude.{◌≡◌, ◌+◌, ◌^◌, ◌<◌, [], ◌∷◌, ◌++◌, Some, None, Err, IfOk, IfErr, IfSome, IsSome, is_some, not, false, length, map, option_map};
 ghost use Rattle.keeper_core.specs.Keeping.{Applies, HindersOpening};
 ghost use Rattle.site_core.specs.Records.{Record};
 ghost use Rattle.site_core.specs.Steps.{CopiesRecord};
 ghost use Rattle.wire_core.specs.Seats.{IsSeatOf};
 ghost use Rattle.site_threads.specs.Answering.{DoesJob, IsShort, Opened, AnsweredStep};
-ghost use Rattle.site_threads.specs.Inputs.{input_of};
+ghost use Rattle.site_threads.specs.Ends.{IsOut};
 ghost use Rattle.site_threads.specs.Jobs.{entry_of, is_stop, open_after, option_items};
 ghost use Rattle.site_threads.specs.Keepers.{shown_in, may_in};
+ghost use Rattle.site_threads.specs.Parting.{HasKeeper, LeavesList};
 ghost use Rattle.site_threads.specs.Passing.{PassNothing};
 ghost use Rattle.site_threads.specs.Running.{MayDeliver, marks_in};
-ghost use Rattle.site_threads.specs.Sites.{IsSite, Continues};
+ghost use Rattle.site_threads.specs.Sites.{Continues, IsSite};
+ghost use Rattle.site_threads.specs.Starting.{IsLastMarked};
 ghost use Rattle.site_threads.specs.Turns.{IsRefused};
 
 use crate::asked::Asked;
+use crate::desks::DeskOut;
 use crate::following::{follow, follow_shown, view_of};
+use crate::gates::Gate;
 use crate::jobs::{Entry, Job, Ready, Receipt, Reply, answered, is_delivery};
+use crate::lists::RunLog;
 use crate::rounds::Round;
-use crate::stamps::Stamp;
+use crate::stamps::{Stamp, stamp_of};
+use crate::turns::TurnCause;
 use event_json::{MAX_SITES, SiteNo};
 use frame_core::MsgId;
 use keeper_core::{KeepFault, SiteKeeper};
 use site_core::{Effects, SiteInput, SiteState};
+use std::alloc::Global;
+use std::marker::Model;
 use std::snapshot::Snapshot;
 use wire_core::{Seat, Wire};
 
-/// A site, the seat that holds it alone, and the list of its steps.
+/// A running site: its keeper, the seat that holds it alone, the list of its steps, the gate to its turns, and the desk
+/// that it takes its jobs from.
+///
+/// Between any two calls its seat is one of its wire, the steps lead to the record last marked, and that is the one that
+/// the keeper shows; or the keeper is closed since the last step, and may be opened in that record or in the one after
+/// it.
 #[derive(Drop)]
-pub struct Site<K: SiteKeeper> {
-    /// Its keeper. None only within a call that opens it again.
-    pub keeper: Option<K>,
-    /// Its seat at the wire.
-    pub seat: Seat,
+pub struct RunningSite<'w, K: SiteKeeper, G: Gate> {
+    /// The wire that it is at.
+    pub(crate) wire: &'w Wire,
+    /// Its seat there.
+    pub(crate) seat: Seat,
     /// Its number.
-    pub me: SiteNo,
+    pub(crate) me: SiteNo,
+    /// Its keeper. None only within a call that opens it again.
+    pub(crate) keeper: Option<K>,
     /// The stamp of the record last marked.
-    pub stamp: Stamp,
+    pub(crate) stamp: Stamp,
     /// The steps of this run, in order.
-    pub entries: Vec<Entry>,
+    pub(crate) entries: Vec<Entry>,
     /// The record that it began with, for proofs alone.
-    pub start: Snapshot<SiteState>,
+    pub(crate) start: Snapshot<SiteState>,
     /// Its seat before its first turn, for proofs alone.
-    pub first: Snapshot<Seat>,
+    pub(crate) first: Snapshot<Seat>,
     /// By site, the message that was taken from it in this turn.
-    pub owed: [Option<MsgId>; MAX_SITES],
+    pub(crate) owed: [Option<MsgId>; MAX_SITES],
     /// By site, how far its messages were posted.
-    pub rounds: [Round; MAX_SITES],
+    pub(crate) rounds: [Round; MAX_SITES],
+    pub(crate) gate: G,
+    /// How many turns the gate was asked for. At 2^64 - 1 the count stays.
+    pub(crate) turns: u64,
+    /// Its end of its desk.
+    pub(crate) out: DeskOut,
+    /// A job that a turn gave back.
+    pub(crate) pending: Option<Job>,
+    /// Why the site ended its run before its time.
+    pub(crate) fault: Option<TurnCause>,
+    /// Whether it counts among the sites that may have an open recall of their own, or begin one.
+    pub(crate) counted: bool,
+    /// Whether it has ended its run, and makes no further turn.
+    pub(crate) ended: bool,
+    pub(crate) alloc: Global,
 }
 
-impl<K: SiteKeeper> Site<K> {
+impl<'w, K: SiteKeeper, G: Gate> Model for RunningSite<'w, K, G> {
+    ghost use Rattle.std.specs.Coded.{codes};
+    ghost use Rattle.site_core.specs.Codes.{coded_record};
+    ghost use Rattle.wire_core.specs.Seats.{coded_line, coded_seat};
+    ghost use Rattle.site_threads.specs.Sites.{Running, IsSite};
+
+    ghost Value = { Running K G };
+
+    ghost coded = { Prim.hlevel (codes, coded_record, coded_line, coded_seat) };
+
+    ghost use Rattle.site_threads.specs.Views.{running};
+
+    ghost view = { running };
+
+    ghost invariant = { λ s. IsSite K.shown K.may (running s) };
+}
+
+impl<'w, K: SiteKeeper, G: Gate> RunningSite<'w, K, G> {
+    /// The site `me`, which the seat holds alone, with its keeper, open in the record last marked, the gate to its turns,
+    /// and its end of a desk. Its list of steps is empty. Does not allocate.
+    pub fn new(
+        alloc: Global,
+        wire: &'w Wire,
+        keeper: K,
+        gate: G,
+        out: DeskOut,
+        seat: Seat,
+        me: SiteNo,
+    ) -> RunningSite<'w, K, G>
+        requires seat { IsSeatOf wire.now seat }
+        requires start { (r : Record) × (K.shown keeper ≡ Some r) × IsLastMarked seat.logs me r }
+        requires desk { IsOut out }
+        ensures seat { (result.wire ≡ wire.now) × (result.me ≡ me) × (result.seat ≡ seat)
+            × (result.first ≡ seat) }
+        ensures start { (result.keeper ≡ Some keeper) × (Some result.start ≡ K.shown keeper)
+            × (result.entries ≡ []) }
+        ensures desk { (result.out ≡ out) × (result.pending ≡ None) }
+        ensures turns { (result.turns ≡ 0) × (result.fault ≡ None) × (result.ended ≡ false) }
+    {
+        let Some(state) = keeper.view() else {
+            unreachable!()
+        };
+        let stamp = stamp_of(state);
+        let start = Snapshot::of(state);
+        let first = Snapshot::of(&seat);
+        RunningSite {
+            wire,
+            seat,
+            me,
+            keeper: Some(keeper),
+            stamp,
+            entries: Vec::new(alloc),
+            start,
+            first,
+            owed: [None; MAX_SITES],
+            rounds: [Round::new(); MAX_SITES],
+            gate,
+            turns: 0,
+            out,
+            pending: None,
+            fault: None,
+            counted: true,
+            ended: false,
+            alloc,
+        }
+    }
+
+    /// The keeper, the seat, and what else is left of the site's run.
+    pub fn finish(self) -> (K, Seat, RunLog)
+        ensures site { IsSite K.shown K.may self.entry }
+        ensures keeper { HasKeeper self.entry result.0 }
+        ensures seat { result.1 ≡ self.entry.seat }
+        ensures list { LeavesList self.entry result.2 }
+    {
+        let RunningSite {
+            seat,
+            me: site,
+            keeper,
+            entries,
+            start,
+            out,
+            pending,
+            turns,
+            fault,
+            ..
+        } = self;
+        let Some(keeper) = keeper else { unreachable!() };
+        let list = RunLog {
+            site,
+            entries,
+            start,
+            out,
+            pending,
+            turns,
+            fault,
+        };
+        (keeper, seat, list)
+    }
+
+    /// The record that the keeper shows. `None` while it is closed.
+    pub fn view(&self) -> Option<&SiteState>
+        ensures { option_map (λ r. r.now) result ≡ shown_in K.shown self.now.keeper }
+    {
+        view_of(&self.keeper)
+    }
+
     /// Opens the keeper again, where it is closed, and marks the step in which it stopped, where that was kept.
     ///
     /// # Errors
     /// What keeps it from being opened; it is closed then as before.
-    pub fn open_again(&mut self, wire: &Wire) -> Result<(), KeepFault>
-        requires seat { IsSeatOf wire.now self.old.seat }
-        requires site { IsSite K.shown K.may self.old }
+    pub(crate) fn open_again(&mut self) -> Result<(), KeepFault>
         requires few { marks_in self.old.seat.logs < 2 ^ 62 }
-        ensures site { IsSite K.shown K.may self.new }
-        ensures same { Continues K.stored 1 wire.now self.old self.new }
+        ensures same { Continues K.stored 1 self.old self.new }
         ensures entries { self.new.entries ≡ self.old.entries }
-        ensures passes { PassNothing self.old.seat.logs self.new.seat.logs }
-        ensures rounds { self.new.rounds ≡ self.old.rounds }
+        ensures passes { PassNothing self.old self.new }
         ensures open { IfOk result (λ _. IsSome (shown_in K.shown self.new.keeper)) }
         ensures opened { IfOk result (λ _. Opened K.shown K.reopens self.old.keeper
             self.new.keeper) }
@@ -89,7 +219,7 @@ impl<K: SiteKeeper> Site<K> {
                     unreachable!()
                 };
                 self.stamp = follow(
-                    wire,
+                    self.wire,
                     &mut self.seat,
                     self.stamp,
                     entry.input.input(),
@@ -105,27 +235,21 @@ impl<K: SiteKeeper> Site<K> {
     ///
     /// # Errors
     /// What was to be kept, where there is no memory: nothing was done.
-    pub fn take_in(&mut self, wire: &Wire, input: SiteInput, asked: Asked) -> Result<Reply, Asked>
-        requires seat { IsSeatOf wire.now self.old.seat }
-        requires site { IsSite K.shown K.may self.old }
+    pub(crate) fn take_in(&mut self, input: SiteInput, asked: Asked) -> Result<Reply, Asked>
         requires few { marks_in self.old.seat.logs < 2 ^ 62 }
         requires open { IsSome (shown_in K.shown self.old.keeper) }
         requires asked { asked ≡ input }
         requires noted { MayDeliver input self.old.seat.logs }
-        requires room { vec_len self.old.entries < vec_capacity self.old.entries }
-        ensures site { IsSite K.shown K.may self.new }
-        ensures same { Continues K.stored 1 wire.now self.old self.new }
-        ensures entered { IfOk result (λ reply. self.new.entries.items ≡ self.old.entries.items ++
-            (record { number = vec_len self.old.entries + 1; input = asked; reply = reply }) ∷ []) }
+        requires room { 0 < self.old.room }
+        ensures same { Continues K.stored 1 self.old self.new }
+        ensures entered { IfOk result (λ reply. self.new.entries ≡ self.old.entries ++
+            (record { number = length self.old.entries + 1; input = asked; reply = reply }) ∷ []) }
         ensures told { IfOk result (λ reply. AnsweredStep K.shown K.may K.applies self.old.keeper
             input reply self.new.keeper) }
         ensures stopped { IfOk result (λ reply. is_some (shown_in K.shown self.new.keeper) ≡ not
             (is_stop reply)) }
-        ensures passes { PassNothing self.old.seat.logs self.new.seat.logs }
-        ensures rounds { self.new.rounds ≡ self.old.rounds }
+        ensures passes { PassNothing self.old self.new }
         ensures owed { self.new.owed ≡ self.old.owed }
-        ensures room { (vec_capacity self.old.entries ≤ vec_capacity self.new.entries)
-            × (vec_len self.new.entries ≤ vec_len self.old.entries + 1) }
         ensures back { IfErr result (λ back. (back ≡ asked) × (self.new.entries ≡ self.old.entries)
             × (shown_in K.shown self.new.keeper ≡ shown_in K.shown self.old.keeper)) }
         ensures short { IfErr result (λ _. IsShort K.shown K.may K.applies self.old.keeper input
@@ -137,7 +261,7 @@ impl<K: SiteKeeper> Site<K> {
         };
         self.stamp = follow_shown(
             &self.keeper,
-            wire,
+            self.wire,
             &mut self.seat,
             self.stamp,
             asked.input(),
@@ -157,65 +281,28 @@ impl<K: SiteKeeper> Site<K> {
     ///
     /// # Errors
     /// The job, where there is no memory: nothing was done.
-    pub fn do_job(&mut self, wire: &Wire, ready: Option<Ready>) -> Result<Option<Receipt>, Job>
-        requires seat { IsSeatOf wire.now self.old.seat }
-        requires site { IsSite K.shown K.may self.old }
+    pub(crate) fn do_job(&mut self, ready: Option<Ready>) -> Result<Option<Receipt>, Job>
         requires few { marks_in self.old.seat.logs < 2 ^ 62 }
         requires open { IsSome (shown_in K.shown self.old.keeper) }
-        requires room { vec_len self.old.entries < vec_capacity self.old.entries }
-        ensures site { IsSite K.shown K.may self.new }
-        ensures same { Continues K.stored 1 wire.now self.old self.new }
+        requires room { 0 < self.old.room }
+        ensures same { Continues K.stored 1 self.old self.new }
         ensures job { IfOk result (λ receipt.
             (option_map (λ x. x.job) receipt ≡ option_map (λ x. x.job) ready)
             × IfSome receipt (λ x. x.site ≡ self.old.me)) }
-        ensures entered { IfOk result (λ receipt. self.new.entries.items ≡ self.old.entries.items ++
-            map entry_of (option_items receipt)) }
+        ensures entered { IfOk result (λ receipt. self.new.entries ≡ self.old.entries ++ map
+            entry_of (option_items receipt)) }
         ensures told { IfOk result (λ receipt. DoesJob K.shown K.may K.applies self.old.keeper
             receipt self.new.keeper) }
         ensures stopped { IfOk result (λ receipt. is_some
             (shown_in K.shown self.new.keeper) ≡ open_after receipt) }
-        ensures passes { PassNothing self.old.seat.logs self.new.seat.logs }
-        ensures rounds { self.new.rounds ≡ self.old.rounds }
-        ensures room { (vec_capacity self.old.entries ≤ vec_capacity self.new.entries)
-            × (vec_len self.new.entries ≤ vec_len self.old.entries + 1) }
+        ensures passes { PassNothing self.old self.new }
         ensures back { IfErr result (λ job. (Some job ≡ option_map (λ x. x.job) ready)
             × (self.new.entries ≡ self.old.entries)
             × (shown_in K.shown self.new.keeper ≡ shown_in K.shown self.old.keeper)) }
     {
-        match ready {
-            None => Ok(None),
-            Some(ready) => match self.do_ready(wire, ready) {
-                Ok(receipt) => Ok(Some(receipt)),
-                Err(job) => Err(job),
-            },
-        }
-    }
-
-    /// Does a job that is there, and gives its receipt.
-    fn do_ready(&mut self, wire: &Wire, ready: Ready) -> Result<Receipt, Job>
-        requires seat { IsSeatOf wire.now self.old.seat }
-        requires site { IsSite K.shown K.may self.old }
-        requires few { marks_in self.old.seat.logs < 2 ^ 62 }
-        requires open { IsSome (shown_in K.shown self.old.keeper) }
-        requires room { vec_len self.old.entries < vec_capacity self.old.entries }
-        ensures site { IsSite K.shown K.may self.new }
-        ensures same { Continues K.stored 1 wire.now self.old self.new }
-        ensures job { IfOk result (λ receipt. (receipt.job ≡ ready.job)
-            × (receipt.site ≡ self.old.me)) }
-        ensures entered { IfOk result (λ receipt. self.new.entries.items ≡ self.old.entries.items ++
-            entry_of receipt ∷ []) }
-        ensures told { IfOk result (λ receipt. AnsweredStep K.shown K.may K.applies self.old.keeper
-            (input_of receipt.job) receipt.reply self.new.keeper) }
-        ensures stopped { IfOk result (λ receipt. is_some (shown_in K.shown self.new.keeper) ≡ not
-            (is_stop receipt.reply)) }
-        ensures passes { PassNothing self.old.seat.logs self.new.seat.logs }
-        ensures rounds { self.new.rounds ≡ self.old.rounds }
-        ensures room { (vec_capacity self.old.entries ≤ vec_capacity self.new.entries)
-            × (vec_len self.new.entries ≤ vec_len self.old.entries + 1) }
-        ensures back { IfErr result (λ job. (job ≡ ready.job)
-            × (self.new.entries ≡ self.old.entries)
-            × (shown_in K.shown self.new.keeper ≡ shown_in K.shown self.old.keeper)) }
-    {
+        let Some(ready) = ready else {
+            return Ok(None);
+        };
         let Ready {
             job,
             entry,
@@ -225,17 +312,17 @@ impl<K: SiteKeeper> Site<K> {
         let number = self.entries.len() as u64 + 1;
         let input = job.into_input();
         let asked = Asked::of(&input, Some(entry));
-        match self.take_in(wire, input, asked) {
+        match self.take_in(input, asked) {
             Err(asked) => {
                 drop(asked);
                 Err(receipt)
             }
-            Ok(reply) => Ok(Receipt {
+            Ok(reply) => Ok(Some(Receipt {
                 site,
                 number,
                 job: receipt,
                 reply,
-            }),
+            })),
         }
     }
 }

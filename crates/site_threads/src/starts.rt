@@ -14,41 +14,32 @@ ghost use Rattle.site_threads.specs.Runs.{IsReady};
 use crate::desks::DeskOut;
 use crate::gates::Gate;
 use crate::room::add;
-use crate::runs::SiteRun;
-use crate::turns::SiteTurn;
+use crate::sites::RunningSite;
 use event_json::SiteNo;
 use keeper_core::SiteKeeper;
 use std::alloc::Global;
 use wire_core::{Seat, Wire};
 
-/// A run that has not begun.
-fn begin<K: SiteKeeper, G: Gate>(
+/// A site whose run has not begun.
+fn begin<'w, K: SiteKeeper, G: Gate>(
     alloc: Global,
-    wire: &Wire,
+    wire: &'w Wire,
     keeper: K,
     gate: G,
     out: DeskOut,
     seat: Seat,
     me: SiteNo,
-) -> SiteRun<K, G>
+) -> RunningSite<'w, K, G>
     requires seat { IsSeatOf wire.now seat }
     requires start { (r : Record) × (K.shown keeper ≡ Some r) × (seat.logs ≡ opening_log me r ∷ [])
         × (r.engagement.me ≡ me) }
     requires desk { IsUnused out }
-    ensures ready { IsReady K.shown K.may wire.now result }
-    ensures me { result.turn.site.me ≡ me }
+    ensures ready { IsReady result }
+    ensures place { (result.wire ≡ wire.now) × (result.me ≡ me) }
     ensures start { BeganIn K.shown keeper result }
     ensures desk { TookEnd out result }
 {
-    let _ = wire;
-    SiteRun {
-        turn: SiteTurn::new(alloc, keeper, gate, seat, me),
-        out,
-        pending: None,
-        fault: None,
-        counted: true,
-        ended: false,
-    }
+    RunningSite::new(alloc, wire, keeper, gate, out, seat, me)
 }
 
 /// The first of the sites that a seat holds, in order, and the others.
@@ -69,16 +60,16 @@ fn first_apart(wire: &Wire, seat: Seat, me: SiteNo) -> (Seat, Seat)
     }
 }
 
-/// A run for each site, each with a seat of its own. There is room for them.
-pub fn begin_all<K: SiteKeeper, G: Gate>(
+/// The sites, each with a seat of its own. There is room for them.
+pub fn begin_all<'w, K: SiteKeeper, G: Gate>(
     alloc: Global,
-    wire: &Wire,
+    wire: &'w Wire,
     seat: Seat,
     keepers: Vec<K>,
     desks: Vec<DeskOut>,
     gates: Vec<G>,
-    room: Vec<SiteRun<K, G>>,
-) -> Vec<SiteRun<K, G>>
+    room: Vec<RunningSite<'w, K, G>>,
+) -> Vec<RunningSite<'w, K, G>>
     requires seat { IsSeatOf wire.now seat }
     requires sites { (rs : List Record) × (seat.logs ≡ logs_from 0 rs)
         × AllShow K.shown keepers.items rs × AreInPlace rs }
@@ -87,9 +78,9 @@ pub fn begin_all<K: SiteKeeper, G: Gate>(
         × (length gates.items ≡ length keepers.items) }
     requires desks { All IsUnused desks.items }
     requires room { (room.items ≡ []) × (length keepers.items ≤ vec_capacity room) }
-    ensures ready { All (IsReady K.shown K.may wire.now) result.items }
-    ensures order { map (λ r. r.turn.site.me) result.items ≡ range_with_len 0
-        (length keepers.items) }
+    ensures ready { All IsReady result.items }
+    ensures wire { All (λ r. r.wire ≡ wire.now) result.items }
+    ensures order { map (λ r. r.me) result.items ≡ range_with_len 0 (length keepers.items) }
     ensures start { AllZip (BeganIn K.shown) keepers.items result.items }
     ensures desks { AllZip TookEnd desks.items result.items }
 {

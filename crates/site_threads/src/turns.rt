@@ -1,27 +1,19 @@
 //! One turn of a site.
-ghost use Rattle.std.specs.Prelude.{◌≡◌, ◌≢◌, ◌+◌, ◌-◌, ◌++◌, ◌^◌, ◌<◌, ◌≤◌, [], Some, None, IfOk, IfErr, IfSome, IsSome, Option, OnOk, map, min, option_map, vec_len, vec_capacity};
+ghost use Rattle.std.specs.Prelude.{◌≡◌, ◌+◌, ◌++◌, ◌^◌, ◌<◌, ◌≤◌, Some, IfOk, IfErr, IfSome, IsSome, Option, map, option_map};
 ghost use Rattle.site_core.specs.Records.{Record};
-ghost use Rattle.wire_core.specs.Seats.{IsSeatOf};
 ghost use Rattle.site_threads.specs.Answering.{Delivers, DoesJob, Opened};
 ghost use Rattle.site_threads.specs.Jobs.{entry_of, jobs_in, option_items, receipts_in};
 ghost use Rattle.site_threads.specs.Keepers.{shown_in};
 ghost use Rattle.site_threads.specs.Passing.{AnswersInTurn, PassNothing, PostsAfterTaking, TakesAfterJob, incoming};
 ghost use Rattle.site_threads.specs.Running.{marks_in};
-ghost use Rattle.site_threads.specs.Sites.{IsSite, Continues};
-ghost use Rattle.site_threads.specs.Starting.{IsLastMarked};
+ghost use Rattle.site_threads.specs.Sites.{Continues, at_next_turn};
 ghost use Rattle.site_threads.specs.Turns.{HindersTurn, lost};
 
 use crate::gates::{Gate, Pass};
-use crate::jobs::{Entry, Job, Ready, Receipt};
-use crate::rounds::Round;
-use crate::sites::Site;
-use crate::stamps::stamp_of;
-use event_json::{MAX_SITES, SiteNo};
+use crate::jobs::{Job, Ready, Receipt};
+use crate::sites::RunningSite;
 use keeper_core::{KeepFault, SiteKeeper};
-use std::alloc::Global;
-use std::snapshot::Snapshot;
 use thiserror::Error;
-use wire_core::{Seat, Wire};
 
 /// Why a turn was not made.
 #[derive(Debug, Drop, Error)]
@@ -61,51 +53,7 @@ pub struct TurnReport {
     pub uncopied: u64,
 }
 
-/// A running site, and the gate to its turns.
-#[derive(Drop)]
-pub struct SiteTurn<K: SiteKeeper, G: Gate> {
-    pub site: Site<K>,
-    pub gate: G,
-    /// How many turns the gate was asked for. At 2^64 - 1 the count stays.
-    pub turns: u64,
-    pub alloc: Global,
-}
-
-impl<K: SiteKeeper, G: Gate> SiteTurn<K, G> {
-    /// The site `me`, which the seat holds alone, with its keeper, open in the record last marked. Its list of steps is
-    /// empty. Does not allocate.
-    pub fn new(alloc: Global, keeper: K, gate: G, seat: Seat, me: SiteNo) -> SiteTurn<K, G>
-        requires start { (r : Record) × (K.shown keeper ≡ Some r) × IsLastMarked seat.logs me r }
-        ensures site { IsSite K.shown K.may result.site }
-        ensures first { (result.site.me ≡ me) × (result.site.seat ≡ seat)
-            × (result.site.entries.items ≡ []) × (Some result.site.start.value ≡ K.shown keeper)
-            × (result.site.first.value ≡ seat) × (result.site.keeper ≡ Some keeper) }
-        ensures turns { result.turns ≡ 0 }
-    {
-        let Some(state) = keeper.view() else {
-            unreachable!()
-        };
-        let stamp = stamp_of(state);
-        let start = Snapshot::of(state);
-        let first = Snapshot::of(&seat);
-        SiteTurn {
-            site: Site {
-                keeper: Some(keeper),
-                seat,
-                me,
-                stamp,
-                entries: Vec::new(alloc),
-                start,
-                first,
-                owed: [None; MAX_SITES],
-                rounds: [Round::new(); MAX_SITES],
-            },
-            gate,
-            turns: 0,
-            alloc,
-        }
-    }
-
+impl<K: SiteKeeper, G: Gate> RunningSite<'_, K, G> {
     /// One turn: the site does the job, asks each other site once, in the order of their numbers, takes at most one
     /// frame from each, and posts at most one to each. It waits for nobody.
     ///
@@ -124,42 +72,35 @@ impl<K: SiteKeeper, G: Gate> SiteTurn<K, G> {
     /// # Errors
     /// `NoMemory`, `GaveUp` where the gate gave up, or `Lost` where the keeper was closed and an opening of it was
     /// refused; each gives the job back, and nothing was done but the opening, and the mark that belongs to it.
-    pub fn turn(&mut self, wire: &Wire, job: Option<Job>) -> Result<TurnReport, TurnFault>
-        requires seat { IsSeatOf wire.now self.old.site.seat }
-        requires site { IsSite K.shown K.may self.old.site }
-        requires few { marks_in self.old.site.seat.logs < 2 ^ 61 }
-        ensures site { IsSite K.shown K.may self.new.site }
-        ensures same { Continues K.stored 18 wire.now self.old.site self.new.site }
-        ensures turns { self.new.turns ≡ min (self.old.turns + 1) (2 ^ 64 - 1) }
+    pub fn turn(&mut self, job: Option<Job>) -> Result<TurnReport, TurnFault>
+        requires few { marks_in self.old.seat.logs < 2 ^ 61 }
+        ensures same { Continues K.stored 18 (at_next_turn self.old) self.new }
         ensures job { IfOk result (λ report. (option_map (λ x. x.job) report.receipt ≡ job)
-            × IfSome report.receipt (λ x. x.site ≡ self.old.site.me)) }
-        ensures entered { IfOk result (TakesAfterJob K.shown wire.now.sites self.old.site
-            self.new.site) }
-        ensures sent { IfOk result (PostsAfterTaking K.shown wire.now.sites self.old.site
-            self.new.site) }
-        ensures answers { IfOk result (AnswersInTurn K.shown K.may K.applies K.reopens self.old.site
-            self.new.site) }
-        ensures jobs { IfOk result (λ report. jobs_in self.new.site.entries.items ≡ jobs_in
-            self.old.site.entries.items ++ option_items job) }
-        ensures receipts { IfOk result (λ report. receipts_in self.old.site.me
-            self.new.site.entries.items ≡ receipts_in self.old.site.me self.old.site.entries.items
-            ++ option_items report.receipt) }
-        ensures posted { IfOk result (λ report. report.posted + report.uncopied ≤ wire.now.sites) }
+            × IfSome report.receipt (λ x. x.site ≡ self.old.me)) }
+        ensures entered { IfOk result (TakesAfterJob K.shown self.old self.new) }
+        ensures sent { IfOk result (PostsAfterTaking K.shown self.old self.new) }
+        ensures answers { IfOk result (AnswersInTurn K.shown K.may K.applies K.reopens self.old
+            self.new) }
+        ensures jobs { IfOk result (λ report. jobs_in self.new.entries ≡ jobs_in self.old.entries ++
+            option_items job) }
+        ensures receipts { IfOk result (λ report. receipts_in self.old.me self.new.entries
+            ≡ receipts_in self.old.me self.old.entries ++ option_items report.receipt) }
+        ensures posted { IfOk result (λ report. report.posted +
+            report.uncopied ≤ self.old.wire.sites) }
         ensures back { IfErr result (λ fault. (fault.job ≡ job)
-            × (self.new.site.entries.items ≡ self.old.site.entries.items)
-            × PassNothing self.old.site.seat.logs self.new.site.seat.logs) }
+            × (self.new.entries ≡ self.old.entries)
+            × PassNothing self.old self.new) }
         ensures unchanged { IfErr result (λ fault. (r : Record)
-            → shown_in K.shown self.old.site.keeper ≡ Some r
-            → shown_in K.shown self.new.site.keeper ≡ Some r) }
+            → shown_in K.shown self.old.keeper ≡ Some r → shown_in K.shown self.new.keeper ≡ Some
+            r) }
         ensures why { IfErr result (λ fault. HindersTurn K.shown K.reopens G.gives_up fault.cause
-            self.old.gate self.new.site.me self.new.turns self.old.site.keeper
-            self.new.site.keeper) }
+            self.old.gate self.new.me self.new.turns self.old.keeper self.new.keeper) }
     {
-        if let Err(cause) = self.begin(wire) {
+        if let Err(cause) = self.begin() {
             return Err(TurnFault { cause, job });
         }
-        let room = wire.sites() + 1;
-        if self.site.entries.reserve(room).is_err() {
+        let room = self.wire.sites() + 1;
+        if self.entries.reserve(room).is_err() {
             return Err(TurnFault {
                 cause: TurnCause::NoMemory,
                 job,
@@ -170,34 +111,28 @@ impl<K: SiteKeeper, G: Gate> SiteTurn<K, G> {
                 cause: TurnCause::NoMemory,
                 job,
             }),
-            Ok(ready) => self.go_on(wire, ready),
+            Ok(ready) => self.go_on(ready),
         }
     }
 
     /// What a turn begins with: the gate, and the opening of a closed keeper.
-    fn begin(&mut self, wire: &Wire) -> Result<(), TurnCause>
-        requires seat { IsSeatOf wire.now self.old.site.seat }
-        requires site { IsSite K.shown K.may self.old.site }
-        requires few { marks_in self.old.site.seat.logs < 2 ^ 62 }
-        ensures site { IsSite K.shown K.may self.new.site }
-        ensures same { Continues K.stored 1 wire.now self.old.site self.new.site }
-        ensures turns { self.new.turns ≡ min (self.old.turns + 1) (2 ^ 64 - 1) }
-        ensures entries { self.new.site.entries ≡ self.old.site.entries }
-        ensures passes { PassNothing self.old.site.seat.logs self.new.site.seat.logs }
-        ensures rounds { self.new.site.rounds ≡ self.old.site.rounds }
-        ensures open { IfOk result (λ _. IsSome (shown_in K.shown self.new.site.keeper)) }
-        ensures opened { IfOk result (λ _. Opened K.shown K.reopens self.old.site.keeper
-            self.new.site.keeper) }
-        ensures stays { (r : Record) → shown_in K.shown self.old.site.keeper ≡ Some r
-            → shown_in K.shown self.new.site.keeper ≡ Some r }
+    fn begin(&mut self) -> Result<(), TurnCause>
+        requires few { marks_in self.old.seat.logs < 2 ^ 62 }
+        ensures same { Continues K.stored 1 (at_next_turn self.old) self.new }
+        ensures entries { self.new.entries ≡ self.old.entries }
+        ensures passes { PassNothing self.old self.new }
+        ensures open { IfOk result (λ _. IsSome (shown_in K.shown self.new.keeper)) }
+        ensures opened { IfOk result (λ _. Opened K.shown K.reopens self.old.keeper
+            self.new.keeper) }
+        ensures stays { (r : Record) → shown_in K.shown self.old.keeper ≡ Some r
+            → shown_in K.shown self.new.keeper ≡ Some r }
         ensures why { IfErr result (λ cause. HindersTurn K.shown K.reopens G.gives_up cause
-            self.old.gate self.new.site.me self.new.turns self.old.site.keeper
-            self.new.site.keeper) }
+            self.old.gate self.new.me self.new.turns self.old.keeper self.new.keeper) }
     {
         self.turns = self.turns.saturating_add(1);
-        match self.gate.enter(self.site.me, self.turns) {
+        match self.gate.enter(self.me, self.turns) {
             Pass::GiveUp => Err(TurnCause::GaveUp),
-            Pass::Go => match self.site.open_again(wire) {
+            Pass::Go => match self.open_again() {
                 Ok(()) => Ok(()),
                 Err(fault) => Err(lost(fault)),
             },
@@ -205,43 +140,35 @@ impl<K: SiteKeeper, G: Gate> SiteTurn<K, G> {
     }
 
     /// What a turn continues with: the job, and the frames.
-    fn go_on(&mut self, wire: &Wire, ready: Option<Ready>) -> Result<TurnReport, TurnFault>
-        requires seat { IsSeatOf wire.now self.old.site.seat }
-        requires site { IsSite K.shown K.may self.old.site }
-        requires few { marks_in self.old.site.seat.logs < 2 ^ 61 + 1 }
-        requires open { IsSome (shown_in K.shown self.old.site.keeper) }
-        requires room { vec_len self.old.site.entries + (wire.now.sites + 1) ≤ vec_capacity
-            self.old.site.entries }
-        ensures site { IsSite K.shown K.may self.new.site }
-        ensures same { Continues K.stored 17 wire.now self.old.site self.new.site }
-        ensures turns { self.new.turns ≡ self.old.turns }
+    fn go_on(&mut self, ready: Option<Ready>) -> Result<TurnReport, TurnFault>
+        requires few { marks_in self.old.seat.logs < 2 ^ 61 + 1 }
+        requires open { IsSome (shown_in K.shown self.old.keeper) }
+        requires room { self.old.wire.sites + 1 ≤ self.old.room }
+        ensures same { Continues K.stored 17 self.old self.new }
         ensures job { IfOk result (λ report. (option_map (λ x. x.job) report.receipt ≡ option_map
-            (λ x. x.job) ready) × IfSome report.receipt (λ x. x.site ≡ self.old.site.me)) }
-        ensures entered { IfOk result (TakesAfterJob K.shown wire.now.sites self.old.site
-            self.new.site) }
-        ensures sent { IfOk result (PostsAfterTaking K.shown wire.now.sites self.old.site
-            self.new.site) }
+            (λ x. x.job) ready) × IfSome report.receipt (λ x. x.site ≡ self.old.me)) }
+        ensures entered { IfOk result (TakesAfterJob K.shown self.old self.new) }
+        ensures sent { IfOk result (PostsAfterTaking K.shown self.old self.new) }
         ensures answers { IfOk result (λ report. (left : Option K)
-            × DoesJob K.shown K.may K.applies self.old.site.keeper report.receipt left
-            × Delivers K.shown K.may K.applies left self.new.site.keeper
-            (incoming self.old.site.seat.logs).noted (incoming self.new.site.seat.logs).noted
-            (self.old.site.entries.items ++ map entry_of (option_items report.receipt))
-            self.new.site.entries.items) }
-        ensures posted { IfOk result (λ report. report.posted + report.uncopied ≤ wire.now.sites) }
+            × DoesJob K.shown K.may K.applies self.old.keeper report.receipt left
+            × Delivers K.shown K.may K.applies left self.new.keeper
+            (incoming self.old.seat.logs).noted (incoming self.new.seat.logs).noted
+            (self.old.entries ++ map entry_of (option_items report.receipt)) self.new.entries) }
+        ensures posted { IfOk result (λ report. report.posted +
+            report.uncopied ≤ self.old.wire.sites) }
         ensures back { IfErr result (λ fault. (fault.job ≡ option_map (λ x. x.job) ready)
-            × (self.new.site.entries ≡ self.old.site.entries)
-            × PassNothing self.old.site.seat.logs self.new.site.seat.logs
-            × (fault.cause ≡ TurnCause.NoMemory)
-            × (shown_in K.shown self.new.site.keeper ≡ shown_in K.shown self.old.site.keeper)) }
+            × (self.new.entries ≡ self.old.entries)
+            × PassNothing self.old self.new × (fault.cause ≡ TurnCause.NoMemory)
+            × (shown_in K.shown self.new.keeper ≡ shown_in K.shown self.old.keeper)) }
     {
-        match self.site.do_job(wire, ready) {
+        match self.do_job(ready) {
             Err(job) => Err(TurnFault {
                 cause: TurnCause::NoMemory,
                 job: Some(job),
             }),
             Ok(receipt) => {
-                let received = self.site.receive_all(wire);
-                let given = self.site.send_all(wire, self.alloc);
+                let received = self.receive_all();
+                let given = self.send_all();
                 Ok(TurnReport {
                     receipt,
                     applied: received.entered,
@@ -251,21 +178,6 @@ impl<K: SiteKeeper, G: Gate> SiteTurn<K, G> {
                 })
             }
         }
-    }
-
-    /// The keeper, the seat and the list of steps.
-    pub fn finish(self) -> (Option<K>, Seat, Vec<Entry>)
-        ensures { (result.0 ≡ self.site.keeper) × (result.1 ≡ self.site.seat)
-            × (result.2 ≡ self.site.entries) }
-    {
-        let SiteTurn { site, .. } = self;
-        let Site {
-            keeper,
-            seat,
-            entries,
-            ..
-        } = site;
-        (keeper, seat, entries)
     }
 }
 

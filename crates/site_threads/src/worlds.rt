@@ -15,9 +15,10 @@ ghost use Rattle.site_threads.specs.Runs.{IsReady, Ran};
 use crate::counts::RunCounts;
 use crate::desks::DeskOut;
 use crate::gates::Gate;
-use crate::gather::{Ended, GatherCause, close_all};
+use crate::gather::{Ended, GatherCause, part};
 use crate::gathered::{GatherFault, Gathered};
-use crate::runs::{SiteRun, run_all};
+use crate::runs::run_all;
+use crate::sites::RunningSite;
 use crate::starts::begin_all;
 use event_json::SiteNo;
 use keeper_core::SiteKeeper;
@@ -59,15 +60,18 @@ fn wire_between<K: SiteKeeper>(alloc: Global, keepers: &[K]) -> Result<(Wire, Se
 }
 
 /// What a run needs memory for, but the sites' own steps.
-struct Room<K: SiteKeeper, G: Gate> {
+struct Room<'w, K: SiteKeeper, G: Gate> {
     wire: Wire,
     seat: Seat,
-    runs: Vec<SiteRun<K, G>>,
+    runs: Vec<RunningSite<'w, K, G>>,
     ended: Ended<K>,
 }
 
 /// The room for a run of the sites of these keepers.
-fn room_for<K: SiteKeeper, G: Gate>(alloc: Global, keepers: &[K]) -> Result<Room<K, G>, AllocError>
+fn room_for<'w, K: SiteKeeper, G: Gate>(
+    alloc: Global,
+    keepers: &[K],
+) -> Result<Room<'w, K, G>, AllocError>
     requires world { (rs : List Record) × AllShow K.shown keepers.now rs × MakeAWorld rs }
     requires count { (2 ≤ length keepers.now) × (length keepers.now ≤ MAX_SITES) }
     ensures wire { IfOk result (λ r. IsSeatOf r.wire r.seat × (r.wire.sites ≡ length keepers.now)) }
@@ -96,18 +100,17 @@ fn room_for<K: SiteKeeper, G: Gate>(alloc: Global, keepers: &[K]) -> Result<Room
 /// The turns of all sites.
 fn run_each<K: SiteKeeper + Send, G: Gate + Send, R: Threads + Wait + Clock + Sync>(
     rt: &R,
-    wire: &Wire,
     counts: &RunCounts,
-    runs: &mut Vec<SiteRun<K, G>>,
+    runs: &mut Vec<RunningSite<'_, K, G>>,
     turns: u64,
 )
     requires count { 0 < length runs.old.items }
-    requires ready { All (IsReady K.shown K.may wire.now) runs.old.items }
+    requires ready { All IsReady runs.old.items }
     requires turns { turns ≤ 1000000 }
-    ensures { AllZip (Ran K.shown K.may K.stored K.reopens G.gives_up wire.now turns) runs.old.items
+    ensures { AllZip (Ran K.shown K.reopens G.gives_up K.stored turns) runs.old.items
         runs.new.items }
 {
-    run_all(rt, wire, counts, runs.as_mut_slice(), turns);
+    run_all(rt, counts, runs.as_mut_slice(), turns);
 }
 
 /// Runs the sites from the first opening to the last joining, for which there is room.
@@ -115,7 +118,7 @@ fn run_in<K: SiteKeeper + Send, G: Gate + Send, R: Threads + Wait + Clock + Sync
     rt: &R,
     alloc: Global,
     counts: &RunCounts,
-    room: Room<K, G>,
+    room: Room<'_, K, G>,
     keepers: Vec<K>,
     desks: Vec<DeskOut>,
     gates: Vec<G>,
@@ -160,8 +163,10 @@ fn run_in<K: SiteKeeper + Send, G: Gate + Send, R: Threads + Wait + Clock + Sync
     };
     let (root, all) = wire.split(seat, first);
     let mut runs = begin_all(alloc, &wire, all, keepers, desks, gates, runs);
-    run_each(rt, &wire, counts, &mut runs, turns);
-    close_all(wire, root, runs, ended)
+    run_each(rt, counts, &mut runs, turns);
+    let (seat, ended) = part(&wire, root, runs, ended);
+    wire.close(seat);
+    ended
 }
 
 /// What is reported of a run that has ended, in which sites shared threads or not.

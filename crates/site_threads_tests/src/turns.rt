@@ -7,14 +7,13 @@ ghost use Rattle.wire_core.specs.Seats.{IsSeatOf};
 ghost use Rattle.site_threads.specs.Running.{marks_in};
 ghost use Rattle.site_threads.specs.Starting.{IsLastMarked};
 ghost use Rattle.site_threads.specs.Ends.{IsDesk, IsOut};
-ghost use Rattle.site_threads_tests.specs.Playing.{MayTurn};
 
 use crate::turns::fixtures::{both_ways, capture, fresh, start};
 use keeper_core::{MemoryKeeper, SiteKeeper};
 use site_core::SiteState;
 use site_recovery::{are_all_sites, check_world};
-use site_threads::{Desk, DeskFault, DeskOut, FreeGate, Gate, Job, SiteTurn, TurnReport};
-use std::alloc::Global;
+use site_threads::{Desk, DeskFault, DeskOut, FreeGate, Gate, Job, RunningSite, TurnReport};
+use std::alloc::{AllocError, Global};
 use std::hash::RandomState;
 use std::sync::Wait;
 use std::test::Fail;
@@ -22,8 +21,7 @@ use wire_core::{Seat, Wire};
 
 /// The wire between two sites whose records are consistent, and a seat that holds both.
 fn between(alloc: Global, first: &SiteState, second: &SiteState) -> Result<(Wire, Seat), Fail>
-    ensures wire { IfOk result (λ r. IsSeatOf r.0 r.1 × (r.0.sites ≡ 2)
-        × (r.1.logs ≡ logs_from 0 (first.now ∷ second.now ∷ []))) }
+    ensures wire { IfOk result (λ r. IsSeatOf r.0 r.1 × (r.0.sites ≡ 2) × (r.1.logs ≡ logs_from 0 (first.now ∷ second.now ∷ []))) }
     ensures numbers { OnOk result ((first.now.engagement.me ≡ 0) × (second.now.engagement.me ≡ 1)) }
 {
     let states = [first, second];
@@ -44,17 +42,11 @@ struct Turned {
 }
 
 /// Makes a turn.
-fn turn_once<K: SiteKeeper, G: Gate>(
-    wire: &Wire,
-    site: &mut SiteTurn<K, G>,
-    job: Option<Job>,
-) -> Turned
-    requires ready { MayTurn K.shown K.may wire.now site.old }
-    requires few { marks_in site.old.site.seat.logs ≤ 1000 }
-    ensures ready { MayTurn K.shown K.may wire.now site.new }
-    ensures few { marks_in site.new.site.seat.logs ≤ marks_in site.old.site.seat.logs + 18 }
+fn turn_once<K: SiteKeeper, G: Gate>(site: &mut RunningSite<'_, K, G>, job: Option<Job>) -> Turned
+    requires { marks_in site.old.seat.logs ≤ 1000 }
+    ensures { marks_in site.new.seat.logs ≤ marks_in site.old.seat.logs + 18 }
 {
-    match site.turn(wire, job) {
+    match site.turn(job) {
         Err(_) => Turned {
             applied: 0,
             lost: 0,
@@ -79,12 +71,26 @@ fn turn_once<K: SiteKeeper, G: Gate>(
     }
 }
 
-/// Whether the site's first recall has ended.
-fn has_ended(keeper: &Option<MemoryKeeper>) -> bool {
-    let Some(keeper) = keeper else {
-        return false;
-    };
-    let Some(state) = keeper.view() else {
+/// A running site that takes its jobs from no desk.
+fn begin<'w>(
+    alloc: Global,
+    wire: &'w Wire,
+    seat: Seat,
+    state: SiteState,
+) -> Result<RunningSite<'w, MemoryKeeper, FreeGate>, AllocError>
+    requires seat { IsSeatOf wire.now seat }
+    requires first { IsLastMarked seat.logs state.engagement.me state × (marks_in seat.logs ≡ 0) }
+    ensures { IfOk result (λ site. marks_in site.seat.logs ≡ 0) }
+{
+    let me = state.me();
+    let out = DeskOut::none(alloc)?;
+    let keeper = MemoryKeeper::new(state);
+    Ok(RunningSite::new(alloc, wire, keeper, FreeGate, out, seat, me))
+}
+
+/// Whether a recall of the site's own has ended.
+fn has_ended(state: Option<&SiteState>) -> bool {
+    let Some(state) = state else {
         return false;
     };
     for (_, own) in state.own_recalls() {
@@ -97,55 +103,43 @@ fn has_ended(keeper: &Option<MemoryKeeper>) -> bool {
 
 /// The first site captures, starts a recall and announces it; the second takes the message, and signals it; the
 /// signal ends the recall.
-fn exchange(
+fn exchange<K: SiteKeeper, G: Gate>(
     alloc: Global,
-    wire: &Wire,
-    mine: Seat,
-    theirs: Seat,
-    first: SiteState,
-    second: SiteState,
+    one: RunningSite<'_, K, G>,
+    two: RunningSite<'_, K, G>,
 ) -> bool
-    requires seats { IsSeatOf wire.now mine × IsSeatOf wire.now theirs }
-    requires first { IsLastMarked mine.logs first.engagement.me first × (marks_in mine.logs ≡ 0) }
-    requires second { IsLastMarked theirs.logs second.engagement.me second
-        × (marks_in theirs.logs ≡ 0) }
+    requires { (marks_in one.seat.logs ≡ 0) × (marks_in two.seat.logs ≡ 0) }
 {
-    let (a, b) = (first.me(), second.me());
-    let mut one = SiteTurn::new(alloc, MemoryKeeper::new(first), FreeGate, mine, a);
-    let mut two = SiteTurn::new(alloc, MemoryKeeper::new(second), FreeGate, theirs, b);
-    let captured = turn_once(wire, &mut one, capture(alloc));
-    let started = turn_once(wire, &mut one, start(alloc));
-    let taken = turn_once(wire, &mut two, None);
-    let signalled = turn_once(wire, &mut one, None);
-    let (keeper, _, entries) = one.finish();
+    let mut one = one;
+    let mut two = two;
+    let captured = turn_once(&mut one, capture(alloc));
+    let started = turn_once(&mut one, start(alloc));
+    let taken = turn_once(&mut two, None);
+    let signalled = turn_once(&mut one, None);
+    let (keeper, _, list) = one.finish();
     let counts = captured.posted == 0 && started.posted == 1 && taken.posted == 1;
     let came = taken.applied == 1 && signalled.applied == 1;
     let lost = taken.lost > 0 || signalled.lost > 0;
     let uncopied = started.uncopied > 0 || taken.uncopied > 0;
-    counts && came && !lost && !uncopied && entries.len() == 3 && has_ended(&keeper)
+    let done = list.entries.len() == 3 && has_ended(keeper.view());
+    counts && came && !lost && !uncopied && done
 }
 
 /// A turn of the one site, and then one of the other. Whether so many frames were taken and posted in each, and none was
 /// lost or had no memory for its copy.
 fn both_turn<K: SiteKeeper, G: Gate>(
-    wire: &Wire,
-    one: &mut SiteTurn<K, G>,
-    two: &mut SiteTurn<K, G>,
+    one: &mut RunningSite<'_, K, G>,
+    two: &mut RunningSite<'_, K, G>,
     job: Option<Job>,
     came: (u64, u64),
     went: (u64, u64),
 ) -> bool
-    requires ready { MayTurn K.shown K.may wire.now one.old
-        × MayTurn K.shown K.may wire.now two.old }
-    requires few { (marks_in one.old.site.seat.logs ≤ 900)
-        × (marks_in two.old.site.seat.logs ≤ 900) }
-    ensures ready { MayTurn K.shown K.may wire.now one.new
-        × MayTurn K.shown K.may wire.now two.new }
-    ensures few { (marks_in one.new.site.seat.logs ≤ marks_in one.old.site.seat.logs + 18)
-        × (marks_in two.new.site.seat.logs ≤ marks_in two.old.site.seat.logs + 18) }
+    requires { (marks_in one.old.seat.logs ≤ 900) × (marks_in two.old.seat.logs ≤ 900) }
+    ensures { (marks_in one.new.seat.logs ≤ marks_in one.old.seat.logs + 18)
+        × (marks_in two.new.seat.logs ≤ marks_in two.old.seat.logs + 18) }
 {
-    let first = turn_once(wire, one, job);
-    let second = turn_once(wire, two, None);
+    let first = turn_once(one, job);
+    let second = turn_once(two, None);
     let all = (first.applied, second.applied) == came && (first.posted, second.posted) == went;
     let lost = first.lost > 0 || second.lost > 0;
     let uncopied = first.uncopied > 0 || second.uncopied > 0;
@@ -153,11 +147,8 @@ fn both_turn<K: SiteKeeper, G: Gate>(
 }
 
 /// How many messages of others the site has seen.
-fn seen_by(keeper: &Option<MemoryKeeper>) -> usize {
-    let Some(keeper) = keeper else {
-        return 0;
-    };
-    match keeper.view() {
+fn seen_by(state: Option<&SiteState>) -> usize {
+    match state {
         Some(state) => state.seen().len(),
         None => 0,
     }
@@ -166,39 +157,25 @@ fn seen_by(keeper: &Option<MemoryKeeper>) -> usize {
 /// The first site announces two messages, one after another. The second one is engaged by the first of them, since it
 /// has a message for the first site, and the first site signals that one before it posts its second message. Then its
 /// first message, which still waits, is next again.
-fn take_rounds(
+fn take_rounds<K: SiteKeeper, G: Gate>(
     alloc: Global,
-    wire: &Wire,
-    mine: Seat,
-    theirs: Seat,
-    first: SiteState,
-    second: SiteState,
+    one: RunningSite<'_, K, G>,
+    two: RunningSite<'_, K, G>,
 ) -> bool
-    requires seats { IsSeatOf wire.now mine × IsSeatOf wire.now theirs }
-    requires first { IsLastMarked mine.logs first.engagement.me first × (marks_in mine.logs ≡ 0) }
-    requires second { IsLastMarked theirs.logs second.engagement.me second
-        × (marks_in theirs.logs ≡ 0) }
+    requires { (marks_in one.seat.logs ≡ 0) × (marks_in two.seat.logs ≡ 0) }
 {
-    let (a, b) = (first.me(), second.me());
-    let mut one = SiteTurn::new(alloc, MemoryKeeper::new(first), FreeGate, mine, a);
-    let mut two = SiteTurn::new(alloc, MemoryKeeper::new(second), FreeGate, theirs, b);
-    let captured = turn_once(wire, &mut one, both_ways(alloc, false));
-    let other = turn_once(wire, &mut two, both_ways(alloc, true));
+    let mut one = one;
+    let mut two = two;
+    let captured = turn_once(&mut one, both_ways(alloc, false));
+    let other = turn_once(&mut two, both_ways(alloc, true));
     let quiet = captured.posted == 0 && other.posted == 0;
-    let begun = both_turn(wire, &mut one, &mut two, start(alloc), (0, 1), (1, 1));
-    let signalled = both_turn(wire, &mut one, &mut two, None, (1, 1), (1, 0));
-    let next = both_turn(wire, &mut one, &mut two, None, (0, 1), (1, 1));
-    let seen = seen_by(&two.site.keeper);
-    let again = both_turn(wire, &mut one, &mut two, None, (1, 1), (1, 1));
-    let ended = both_turn(wire, &mut one, &mut two, None, (1, 0), (0, 0));
-    quiet
-        && begun
-        && signalled
-        && next
-        && seen == 2
-        && again
-        && ended
-        && has_ended(&one.site.keeper)
+    let begun = both_turn(&mut one, &mut two, start(alloc), (0, 1), (1, 1));
+    let signalled = both_turn(&mut one, &mut two, None, (1, 1), (1, 0));
+    let next = both_turn(&mut one, &mut two, None, (0, 1), (1, 1));
+    let seen = seen_by(two.view());
+    let again = both_turn(&mut one, &mut two, None, (1, 1), (1, 1));
+    let ended = both_turn(&mut one, &mut two, None, (1, 0), (0, 0));
+    quiet && begun && signalled && next && seen == 2 && again && ended && has_ended(one.view())
 }
 
 /// Makes the turns over a wire of their own.
@@ -206,7 +183,9 @@ fn by_turns(alloc: Global, first: SiteState, second: SiteState) -> Result<bool, 
     let b = second.me();
     let (wire, seat) = between(alloc, &first, &second)?;
     let (mine, theirs) = wire.split(seat, b);
-    Ok(exchange(alloc, &wire, mine, theirs, first, second))
+    let one = begin(alloc, &wire, mine, first)?;
+    let two = begin(alloc, &wire, theirs, second)?;
+    Ok(exchange(alloc, one, two))
 }
 
 /// Likewise, of two messages.
@@ -214,7 +193,9 @@ fn by_rounds(alloc: Global, first: SiteState, second: SiteState) -> Result<bool,
     let b = second.me();
     let (wire, seat) = between(alloc, &first, &second)?;
     let (mine, theirs) = wire.split(seat, b);
-    Ok(take_rounds(alloc, &wire, mine, theirs, first, second))
+    let one = begin(alloc, &wire, mine, first)?;
+    let two = begin(alloc, &wire, theirs, second)?;
+    Ok(take_rounds(alloc, one, two))
 }
 
 #[test]

@@ -4,7 +4,7 @@ use Rattle.std.proofs.lemmas.List.Elements.{All-nil, All-push}
 use Rattle.std.specs.List.{AllZip, range_with_len}
 use Rattle.std.specs.Vec.Iter.{into_iter_items}
 use Rattle.wire_core.specs.Rule.{logs_from}
-use Rattle.site_threads.specs.declared.runs.SiteRun.{SiteRun}
+use Rattle.site_threads.specs.Sites.{Running}
 use Rattle.site_threads.specs.Beginning.{BeganIn, TookEnd}
 use Rattle.site_threads.specs.Ends.{IsUnused}
 use Rattle.site_threads.specs.Runs.{IsReady}
@@ -32,13 +32,14 @@ loop-keeper-init g c =
       gates = ap length gates ∙ (count.2 ∙ ap length (sym keepers));
       sites = (
         sites.0,
-        sites.1 ∙ ap (λ (l : List (SiteRun g.row.K.Denot g.row.G.Denot)). logs_from (length l) sites.0) (sym none),
+        sites.1 ∙ ap (λ (l : List (Running g.row.K.Denot g.row.G.Denot)). logs_from (length l) sites.0) (sym none),
         subst (λ l. AllZip (λ k r. shown k ≡ Some r) l sites.0) (sym keepers) sites.2,
-        subst (λ (l : List (SiteRun g.row.K.Denot g.row.G.Denot)). NumberedFrom (length l) sites.0) (sym none) (placed sites.0 sites.3),
+        subst (λ (l : List (Running g.row.K.Denot g.row.G.Denot)). NumberedFrom (length l) sites.0) (sym none) (placed sites.0 sites.3),
       );
-      ready = subst (All (IsReady {G = g.row.G.Denot} shown g.K.SiteKeeper.may c.args.wire.now)) (sym none) (All-nil (IsReady {G = g.row.G.Denot} shown g.K.SiteKeeper.may c.args.wire.now));
-      order = subst (λ (l : List (SiteRun g.row.K.Denot g.row.G.Denot)). map (λ (r : SiteRun g.row.K.Denot g.row.G.Denot). r.turn.site.me) l ≡ range_with_len 0 (length l)) (sym none) refl;
-      start = subst (λ (l : List (SiteRun g.row.K.Denot g.row.G.Denot)). AllZip (BeganIn shown) [] l) (sym none) tt;
+      ready = let Ready = IsReady {K = g.row.K.Denot} {G = g.row.G.Denot} in subst (All Ready) (sym none) (All-nil Ready);
+      wires = let AtWire = λ (r : Running g.row.K.Denot g.row.G.Denot). r.wire ≡ c.args.wire.now in subst (All AtWire) (sym none) (All-nil AtWire);
+      order = subst (λ (l : List (Running g.row.K.Denot g.row.G.Denot)). map (λ (r : Running g.row.K.Denot g.row.G.Denot). r.me) l ≡ range_with_len 0 (length l)) (sym none) refl;
+      start = subst (λ (l : List (Running g.row.K.Denot g.row.G.Denot)). AllZip (BeganIn shown) [] l) (sym none) tt;
       room = c.requires.room.1;
     }
 
@@ -84,7 +85,8 @@ pub loop-keeper-preserved : goal.loop-keeper-preserved
 loop-keeper-preserved g c =
     let i = c.loop-keeper.invariant in
     let shown = g.K.SiteKeeper.shown in
-    let ready = IsReady {G = g.row.G.Denot} shown g.K.SiteKeeper.may c.args.wire.now in
+    let Ready = IsReady {K = g.row.K.Denot} {G = g.row.G.Denot} in
+    let AtWire = λ (r : Running g.row.K.Denot g.row.G.Denot). r.wire ≡ c.args.wire.now in
     let runs = c.loop-keeper.runs.items in
     let run = c.begin.result in
     let new = c.add.new.items.items in
@@ -121,8 +123,9 @@ loop-keeper-preserved g c =
         n.4,
         subst (λ k. NumberedFrom k n.1) (sym count) n.6,
       );
-      ready = subst (All ready) (sym pushed) (All-push ready runs run i.ready c.begin.ensures.ready);
-      order = numbered_push (λ (r : SiteRun g.row.K.Denot g.row.G.Denot). r.turn.site.me) 0 runs new run i.order (c.begin.ensures.me ∙ me ∙ (let z : length runs ≡ 0 + length runs = omega arith in z)) pushed;
+      ready = subst (All Ready) (sym pushed) (All-push Ready runs run i.ready c.begin.ensures.ready);
+      wires = subst (All AtWire) (sym pushed) (All-push AtWire runs run i.wires c.begin.ensures.place.0);
+      order = numbered_push (λ (r : Running g.row.K.Denot g.row.G.Denot). r.me) 0 runs new run i.order (c.begin.ensures.place.1 ∙ me ∙ (let z : length runs ≡ 0 + length runs = omega arith in z)) pushed;
       start = zipped_more (BeganIn shown) c.loop-keeper.yielded runs c.in-Some.keeper run new i.start c.begin.ensures.start pushed;
       room = omega (arith, i.room, c.add.ensures.room);
     }

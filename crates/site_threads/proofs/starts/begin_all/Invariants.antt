@@ -5,7 +5,7 @@ use Rattle.site_core.specs.Records.{Record}
 use Rattle.wire_core.specs.Rule.{logs_from}
 use Rattle.wire_core.specs.Seats.{IsSeatOf}
 use Rattle.site_threads.specs.declared.desks.DeskOut.{DeskOut}
-use Rattle.site_threads.specs.declared.runs.SiteRun.{SiteRun}
+use Rattle.site_threads.specs.Sites.{Running}
 use Rattle.site_threads.specs.Beginning.{BeganIn, TookEnd}
 use Rattle.site_threads.specs.Runs.{IsReady}
 use Rattle.site_threads.proofs.Starting.{NumberedFrom}
@@ -21,8 +21,9 @@ invariant-loop-keeper g l = record {
   few : length l.runs.items + length (into_iter_items l.keeper-iterator) ≤ 16;
   gates : length (into_iter_items l.asked) ≡ length (into_iter_items l.keeper-iterator);
   sites : (rs : List Record) × (l.rest.logs ≡ logs_from (length l.runs.items) rs) × AllZip (λ k r. g.K.SiteKeeper.shown k ≡ Some r) (into_iter_items l.keeper-iterator) rs × NumberedFrom (length l.runs.items) rs;
-  ready : All (IsReady {G = g.row.G.Denot} g.K.SiteKeeper.shown g.K.SiteKeeper.may l.wire) l.runs.items;
-  order : map (λ (r : SiteRun g.row.K.Denot g.row.G.Denot). r.turn.site.me) l.runs.items ≡ range_with_len 0 (length l.runs.items);
+  ready : All IsReady l.runs.items;
+  wires : All (λ (r : Running g.row.K.Denot g.row.G.Denot). r.wire ≡ l.wire) l.runs.items;
+  order : map (λ (r : Running g.row.K.Denot g.row.G.Denot). r.me) l.runs.items ≡ range_with_len 0 (length l.runs.items);
   start : AllZip (BeganIn g.K.SiteKeeper.shown) l.yielded l.runs.items;
   room : length l.fn.keepers.items ≤ vec_capacity l.runs;
 }

@@ -10,7 +10,7 @@ returns g c =
     let old = c.args.runs.now in
     let lent = c.as_mut_slice.result.now in
     let new = c.run_all.new.runs in
-    let ran = Ran {G = g.row.G.Denot} g.K.SiteKeeper.shown g.K.SiteKeeper.may g.K.SiteKeeper.stored g.K.SiteKeeper.reopens g.G.Gate.gives_up c.args.wire.now c.args.turns in
+    let ran = Ran {G = g.row.G.Denot} g.K.SiteKeeper.shown g.K.SiteKeeper.reopens g.G.Gate.gives_up g.K.SiteKeeper.stored c.args.turns in
     let same = c.as_mut_slice.ensures.value in
     let each = c.run_all.ensures in
     let count = as_long ran lent new each in

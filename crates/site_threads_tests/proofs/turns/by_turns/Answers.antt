@@ -2,8 +2,8 @@ use Rattle.std.proofs.Common.{◌∙◌}
 use Rattle.site_threads_tests.proofs.Playing.{first_marked, second_marked, first_unmarked, second_unmarked}
 use Rattle.site_threads_tests.proofs.turns.by_turns.Goals as goal
 
-pub exchange-requires-clause-first : goal.exchange-requires-clause-first
-exchange-requires-clause-first c =
+pub begin-requires-clause-first : goal.begin-requires-clause-first
+begin-requires-clause-first c =
     let made = c.in_ok-wire.ensures.wire in
     let numbers = c.in_ok-wire.ensures.numbers in
     let cut = c.me-b.ensures.me ∙ numbers.1 in
@@ -12,8 +12,8 @@ exchange-requires-clause-first c =
       first_unmarked c.args.first c.args.second c.in_ok-wire.seat.logs c.split-mine.result.0.logs c.me-b.result 0 made.2 cut part,
     )
 
-pub exchange-requires-clause-second : goal.exchange-requires-clause-second
-exchange-requires-clause-second c =
+pub begin-requires-2-clause-first : goal.begin-requires-2-clause-first
+begin-requires-2-clause-first c =
     let made = c.in_ok-wire.ensures.wire in
     let numbers = c.in_ok-wire.ensures.numbers in
     let cut = c.me-b.ensures.me ∙ numbers.1 in
