@@ -19,9 +19,6 @@ still_done shown old new out out' pending pending' stays same none done = record
   rests = done.rests;
 }
 
-pub invariant_of-self : goal.invariant_of-self
-invariant_of-self g c = let i = c.self.invariant in record { seat = i.seat; there = i.there; runs = i.runs; rounds = i.rounds; out = i.out }
-
 pub returns-in_default-clause-same : goal.returns-in_default-clause-same
 returns-in_default-clause-same g c =
     let o = c.open_again.ensures in
@@ -36,11 +33,6 @@ returns-in_default-clause-same g c =
       fits = fits_still _ _ s.me o.entries s.pending s.out;
       keeps = s.keeps;
     })
-
-pub returns-in_default-clause-done : goal.returns-in_default-clause-done
-returns-in_default-clause-done g c done =
-    let s = c.open_again.ensures.same in
-    still_done g.K.SiteKeeper.shown _ _ _ _ _ _ c.open_again.ensures.stays s.out s.pending (rw (← c.self.view_is) at done)
 
 pub returns-in-Err-clause-same : goal.returns-in-Err-clause-same
 returns-in-Err-clause-same g c =
@@ -57,11 +49,6 @@ returns-in-Err-clause-same g c =
       keeps = s.keeps;
     })
 
-pub returns-in-Err-clause-done : goal.returns-in-Err-clause-done
-returns-in-Err-clause-done g c done =
-    let o = rw (← c.self-2.view_is) at c.open_again.ensures in
-    still_done g.K.SiteKeeper.shown _ _ _ _ _ _ o.stays o.same.out o.same.pending (rw (← c.self.view_is) at done)
-
 pub returns-in-Err-clause-why : goal.returns-in-Err-clause-why
 returns-in-Err-clause-why g c =
     let s = c.self.inside in
@@ -74,3 +61,8 @@ returns-in-Err-clause-why g c =
       asked = let same = rw (← c.self-2.view_is) at c.open_again.ensures.same.turns in omega (arith, same);
       hinders = rw c.lost.ensures (lost_hinders _ _ _ _ _ _ _ _ c.in-Err.fault closed.0 closed.1);
     })
+
+pub returns-in_default-clause-done : goal.returns-in_default-clause-done
+returns-in_default-clause-done g c done =
+    let s = c.open_again.ensures.same in
+    still_done g.K.SiteKeeper.shown _ _ _ _ _ _ c.open_again.ensures.stays s.out s.pending (rw (← c.self.view_is) at done)

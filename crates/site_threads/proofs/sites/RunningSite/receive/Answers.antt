@@ -19,12 +19,6 @@ returns-then-eq-clause-frames g c =
     let same : s.me ≡ c.args.number = sym (eqb-true _ _ (sym c.eq.ensures ∙ c.if-eq.true)) ∙ c.in-Some.ensures.value in
     rw (← c.self.view_is, c.none.ensures) (subst (λ k. TakesFrames s.me k (k + 1) (incoming s.seat.logs) (incoming s.seat.logs) b b s.entries s.entries 0 0) same (takes_itself s.me (incoming s.seat.logs) b s.entries))
 
-pub returns-then-eq-clause-owed : goal.returns-then-eq-clause-owed
-returns-then-eq-clause-owed g c = owes_none _ _ c.args.self.now.owed refl
-
-pub returns-then-eq-clause-delivered : goal.returns-then-eq-clause-delivered
-returns-then-eq-clause-delivered g c = delivers_none g.K.SiteKeeper.shown g.K.SiteKeeper.may g.K.SiteKeeper.applies _ _ _ _ _ _ refl refl refl
-
 pub take-requires-clause-may : goal.take-requires-clause-may
 take-requires-clause-may g c =
     let apart : c.in-Some.other ≢ c.self.inside.me = search rules in
@@ -75,9 +69,6 @@ returns-in_default-take-clause-frames g c =
     let one = asked_one h.log _ _ _ h.alone h.own.site c.in-Some.other c.in_default-take.ensures.answer.0 in
     rw (← c.in-Some.ensures.value, ← c.self.view_is, c.none-in_default-take.ensures) (takes_in_vain _ c.in-Some.other _ _ _ _ apart up one.0 one.1)
 
-pub returns-in_default-take-clause-posts : goal.returns-in_default-take-clause-posts
-returns-in_default-take-clause-posts g c = let h = c.self.invariant.runs in rw (← c.self.view_is) ((asked_one h.log _ _ _ h.alone h.own.site c.in-Some.other c.in_default-take.ensures.answer.0).2, refl)
-
 pub returns-clause-frames : goal.returns-clause-frames
 returns-clause-frames g c =
     let h = c.self.invariant.runs in
@@ -93,9 +84,6 @@ returns-clause-posts g c =
     let h = c.self.invariant.runs in
     let p = c.enter.ensures.passes.1 in
     rw (← c.self.view_is) (p.0 ∙ (noted_one h.log _ _ _ h.alone h.own.site c.in-Some.other c.in-Some-take.frame c.in-Some-take.ensures.answer.0).2, p.1)
-
-pub returns-then-is_none-clause-owed : goal.returns-then-is_none-clause-owed
-returns-then-is_none-clause-owed g c = owes_none _ _ c.args.self.now.owed refl
 
 pub returns-in_default-take-clause-owed : goal.returns-in_default-take-clause-owed
 returns-in_default-take-clause-owed g c =
@@ -115,9 +103,6 @@ returns-clause-owed g c =
     (subst (λ o. OwesFor (incoming s.seat.logs).noted (incoming c.enter.new.self.seat.logs).noted s.owed o) (sym owed)
     (owes_one _ _ s.owed f c.in-Some.other (ap (λ (n : Incoming). n.noted) c.enter.ensures.passes.0 ∙ one.0) a.1 (subst (λ k. k < length s.owed) c.number.ensures.value there)))
 
-pub returns-then-is_none-clause-delivered : goal.returns-then-is_none-clause-delivered
-returns-then-is_none-clause-delivered g c = delivers_none g.K.SiteKeeper.shown g.K.SiteKeeper.may g.K.SiteKeeper.applies _ _ _ _ _ _ refl refl refl
-
 pub returns-in_default-take-clause-delivered : goal.returns-in_default-take-clause-delivered
 returns-in_default-take-clause-delivered g c =
     let h = c.self.invariant.runs in
@@ -129,3 +114,9 @@ returns-clause-delivered g c =
     let h = c.self.invariant.runs in
     let one = noted_one h.log _ _ _ h.alone h.own.site c.in-Some.other c.in-Some-take.frame c.in-Some-take.ensures.answer.0 in
     rw (← c.self.view_is) (c.enter.ensures.delivered _ _ (ap (λ (i : Incoming). i.noted) c.enter.ensures.passes.0 ∙ one.0))
+
+pub returns-then-eq-clause-owed : goal.returns-then-eq-clause-owed
+returns-then-eq-clause-owed g c = owes_none _ _ c.args.self.now.owed refl
+
+pub returns-then-is_none-clause-owed : goal.returns-then-is_none-clause-owed
+returns-then-is_none-clause-owed g c = owes_none _ _ c.args.self.now.owed refl

@@ -5,9 +5,6 @@ use Rattle.site_threads.proofs.Owing.{owed_begins, owed_goes_on}
 use Rattle.site_threads.proofs.Wired.{takes_at_none, takes_more, takes_as}
 use Rattle.site_threads.proofs.sites.RunningSite.receive_all.Goals as goal
 
-pub invariant_of-self : goal.invariant_of-self
-invariant_of-self g c = let i = c.self.invariant in record { seat = i.seat; there = i.there; runs = i.runs; rounds = i.rounds; out = i.out }
-
 pub loop-number-init : goal.loop-number-init
 loop-number-init g c =
     rw (← c.self.view_is)
