@@ -91,6 +91,8 @@ tells 1 '{"captured":1,"file":"aimless","known":0,"skipped":0}
 {"event":1,"field":"quantityList","file":"quantities","kind":"Quantities","refused":"Doc"}
 {"captured":1,"documents":2,"known":0,"refused":1,"skipped":0}' '{"note":"note: 1 event of bizStep shipping has no destination: nothing is traced past it"}
 {"note":"note: 1 event has no eventID: captured again, it counts again"}' capture made dairy aimless quantities
+tells 1 '{"event":1,"field":"quantityList","file":"quantities event 1","kind":"Quantities","refused":"Doc"}
+{"captured":0,"documents":1,"known":0,"refused":1,"skipped":0}' '' capture made dairy quantities --each
 for site in plant shop-1 shop-2; do
     "$recall" capture --json made "$site" "$chain/$site.json" >out 2>err || complain "a capture: $(cat out err)"
     is_json out && is_json err || complain "no JSON: $(cat out err)"
