@@ -60,7 +60,7 @@ held_from_chain W f r none root h s i chain =
     reached_holds (LeadsTo W) (λ p. Held W p.site r p.item)
     (λ p q at leads. elim leads as (λ _. Held W q.site r q.item) [
       | inl here ↦ subst (λ z. Held W z r q.item) here.0 (f.closed p.site r p.item q.item at here.1)
-      | inr away ↦ elim (f.told p.site r p.item q.site at away.0) as (λ _. Held W q.site r q.item) [
+      | inr away ↦ elim ((f.told q.site).told p.site r p.item at away.0) as (λ _. Held W q.site r q.item) [
         | inl told ↦ absurd (none p.site told.0 _ told.1 refl)
         | inr there ↦ subst (λ z. Held W q.site r z) away.1 there
       ]

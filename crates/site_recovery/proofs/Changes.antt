@@ -4,7 +4,7 @@ use Rattle.frame_core.specs.Numbers.{Recall, Message}
 use Rattle.frame_core.specs.declared.rows.Row.{Row}
 use Rattle.scholten_core.specs.declared.own_recalls.Own.{Own}
 use Rattle.site_core.specs.Ways as ways
-use Rattle.site_recovery.specs.Fit.{Tells, IsLive, IsEngaged, NoRows}
+use Rattle.site_recovery.specs.Fit.{Announces, IsLive, IsEngaged, NoRows}
 use Rattle.site_recovery.specs.Looks.{World, Makes, Ships, Held, row, seen, parent, own, next_message, next_recall}
 
 -- a fresh event came, and leads no quarantined item out of its quarantine
@@ -33,7 +33,7 @@ pub record Spreads (V W : World) (s : ℕ) (r : Recall) (item : List ℕ) : Type
   pub held_spread : (i : List ℕ) → ways.Spreads (V s) item i → Held W s r i
   pub row_kept : (t n : ℕ) (x : Row) → n < next_message V t → row V t n ≡ Some x → row W t n ≡ Some x
   pub row_origin : (t n : ℕ) (x : Row) → row W t n ≡ Some x → (row V t n ≡ Some x) ⊎ ((t ≡ s) × IsNewRow V W s r n x)
-  pub row_told : (i : List ℕ) (t : ℕ) → Held W s r i → (Held V s r i → ⊥) → Ships V s i t → Tells W s t r i
+  pub row_told : (i : List ℕ) (t : ℕ) → Held W s r i → (Held V s r i → ⊥) → Ships V s i t → Announces W s t r i
   pub next_up : (t : ℕ) → next_message V t ≤ next_message W t
 
 -- a message of the recall came that wasn't seen

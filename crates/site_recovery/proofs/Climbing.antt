@@ -6,7 +6,7 @@ use Rattle.std.proofs.lemmas.List.{get_or_past}
 use Rattle.std.proofs.lemmas.Map.Steps.{length-le_from_distinct_below}
 use Rattle.frame_core.specs.Numbers.{Recall, Message}
 use Rattle.site_core.specs.Records.{Record, fresh}
-use Rattle.site_recovery.specs.Fit.{Climbs}
+use Rattle.site_recovery.specs.Fit.{Climbs, LeadsHome}
 use Rattle.site_recovery.specs.Looks.{World, world_of, parent}
 use Rattle.site_recovery.proofs.Absent.{no_parent}
 use Rattle.site_recovery.proofs.Exact.{within_or_past}
@@ -62,12 +62,12 @@ module _ (W : World) (r : Recall) where
         let long = way-length k s c in
         omega (arith, short, long)
 
-  pub reaches_climbs : (n s : ℕ) → reaches n s ≡ true → (k : ℕ) × Climbs W r k s
+  pub reaches_climbs : (n s : ℕ) → reaches n s ≡ true → LeadsHome W r s
   reaches_climbs zero s h = (zero, eqb-true s r.site h)
   reaches_climbs (suc n) s h =
-      elim (eqb s r.site) as (λ b. eqb s r.site ≡ b → cond b true (elim (parent W s r) [ None ↦ false | Some m ↦ reaches n m.site ]) ≡ true → (k : ℕ) × Climbs W r k s) [
+      elim (eqb s r.site) as (λ b. eqb s r.site ≡ b → cond b true (elim (parent W s r) [ None ↦ false | Some m ↦ reaches n m.site ]) ≡ true → LeadsHome W r s) [
         | true ↦ λ e _. (zero, eqb-true s r.site e)
-        | false ↦ λ e g. elim (parent W s r) as (λ p. parent W s r ≡ p → (elim p [ None ↦ false | Some m ↦ reaches n m.site ]) ≡ true → (k : ℕ) × Climbs W r k s) [
+        | false ↦ λ e g. elim (parent W s r) as (λ p. parent W s r ≡ p → (elim p [ None ↦ false | Some m ↦ reaches n m.site ]) ≡ true → LeadsHome W r s) [
           | None ↦ λ _ f. absurd (true≢false (sym f))
           | Some m ↦ λ p f. let up = reaches_climbs n m.site f in (suc up.0, (m, p, up.1, λ same. true≢false (sym (eq-eqb s r.site same) ∙ e)))
         ] refl g
@@ -79,7 +79,7 @@ module _ (W : World) (r : Recall) where
   climbs_reaches (suc n) zero s l c = rw (eq-eqb s r.site c) refl
   climbs_reaches (suc n) (suc k) s l c = rw (ne_eqb s r.site c.3) (rw c.1 (climbs_reaches n k c.0.site (omega (arith, l)) c.2))
 
-  pub short_climbs_reach : (n : ℕ) → ((s : ℕ) (m : Message) → parent W s r ≡ Some m → s < n) → (s : ℕ) → ((k : ℕ) × Climbs W r k s) → reaches n s ≡ true
+  pub short_climbs_reach : (n : ℕ) → ((s : ℕ) (m : Message) → parent W s r ≡ Some m → s < n) → (s : ℕ) → LeadsHome W r s → reaches n s ≡ true
   short_climbs_reach n below s (k, c) = climbs_reaches n k s (climbs_short n below k s c) c
 
 -- a site that is engaged is of the list
@@ -113,7 +113,7 @@ module _ (W : World) (r : Recall) (n counter here start : ℕ) (so_far : reaches
   at_end past = let none : zero ≡ n - counter = omega (arith, past) in ap (λ k. reaches W r k here) none ∙ so_far
 
 -- the test decides whether parents lead home
-pub home_decided : (records : List Record) (r : Recall) (s : ℕ) (b : Bool) → b ≡ reaches (world_of records) r (length records) s → IsTrue b ↔ ((k : ℕ) × Climbs (world_of records) r k s)
+pub home_decided : (records : List Record) (r : Recall) (s : ℕ) (b : Bool) → b ≡ reaches (world_of records) r (length records) s → IsTrue b ↔ LeadsHome (world_of records) r s
 home_decided records r s b is = (
   λ h. reaches_climbs (world_of records) r (length records) s (sym is ∙ h),
   λ c. is ∙ short_climbs_reach (world_of records) r (length records) (engaged_below records r) s c,

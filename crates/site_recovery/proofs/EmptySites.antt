@@ -37,22 +37,18 @@ module _ (W : World) (empty : (s : ℕ) → (sites : List Site) × (W s ≡ fres
   empty_fit : Fit W
   empty_fit = record {
     closed = λ s r i j h _. absurd (no_item s r i h);
-    told = λ s r i t h _. absurd (no_item s r i h);
-    taken = λ s n x q e _. absurd (no_row s n x e);
-    reached = λ s r i h. absurd (no_item s r i h);
-    rooted = λ s k o e. absurd (none_begun s k o e);
-    rows_held = λ s n x e. absurd (no_row s n x e);
-    rows_shipped = λ s n x e. absurd (no_row s n x e);
-    engaged = λ s n x e. absurd (no_row s n x e);
-    parent_seen = λ s r m e. absurd (no_parent s r m e);
-    parent_row = λ s r m e. absurd (no_parent s r m e);
-    not_engaged = λ r m e. no_parent r.site r m e;
-    climbs = λ s r m e. absurd (no_parent s r m e);
-    ended = λ r is n x e _. no_row r.site n x e;
-    rows_below = λ s n x e. absurd (no_row s n x e);
-    seen_below = λ s m q e. absurd (none_seen s m q e);
-    own_below = λ s k o e. absurd (none_begun s k o e);
-    held_below = λ s r i h. absurd (no_item s r i h);
+    told = λ t. record { told = λ s r i h _. absurd (no_item s r i h); taken = λ s n x e _ _ _. absurd (no_row s n x e) };
+    justified = λ s. record { reached = λ r i h. absurd (no_item s r i h); rooted = λ k o e. absurd (none_begun s k o e); rows = λ n x e. absurd (no_row s n x e) };
+    waiting = λ s n x e. absurd (no_row s n x e);
+    parents_stand = λ s r m e. absurd (no_parent s r m e);
+    parents_lead_home = λ s r m e. absurd (no_parent s r m e);
+    ends_are_quiet = λ s r at is n x e _. no_row s n x e;
+    numbers_are_below = λ q. record {
+      rows = λ n x e. absurd (no_row q n x e);
+      seen = λ s m r e _. absurd (none_seen s m r e);
+      own = λ k o e. absurd (none_begun q k o e);
+      held = λ s r i h _. absurd (no_item s r i h);
+    };
   }
 
 pub each_is_empty : (sites : List Site) (records : List Record) → ((s : ℕ) → s < length records → world_of records s ≡ fresh sites s) → (s : ℕ) → (all : List Site) × (world_of records s ≡ fresh all s)

@@ -22,7 +22,7 @@ pub begun_opens : (V W : World) (s : ℕ) (item : List ℕ) (new_own : Own) → 
     → (q : Recall) (o : Own) → own V q.site q.number ≡ Some o → (t : ℕ) (i : List ℕ) → Held W t q i → Held V t q i
 begun_opens V W s item new_own f c q o is t i h = elim (c.spreads.held_origin t q i h) as (λ _. Held V t q i) [
   | inl old ↦ old
-  | inr new ↦ absurd (lt_irrefl (next_recall V s) (subst (λ (z : Recall). z.number < next_recall V z.site) new.1 (f.own_below q.site q.number o is)))
+  | inr new ↦ absurd (lt_irrefl (next_recall V s) (subst (λ (z : Recall). z.number < next_recall V z.site) new.1 ((f.numbers_are_below q.site).own q.number o is)))
 ]
 
 -- a row that is cleared is of another recall

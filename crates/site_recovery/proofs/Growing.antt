@@ -1,7 +1,7 @@
 -- A capture keeps the records consistent.
-use Rattle.std.proofs.Common.{◌≡◌, ◌⊎◌, inl, inr, ℕ, sym, subst}
+use Rattle.std.proofs.Common.{◌≡◌, inl, inr, ℕ, sym, subst}
 use Rattle.frame_core.specs.declared.frames.Frame.{Frame}
-use Rattle.site_recovery.specs.Fit.{Fit, Tells, FrameFits}
+use Rattle.site_recovery.specs.Fit.{Fit, IsPassedOn, FrameFits}
 use Rattle.site_recovery.specs.Looks.{World, Held}
 use Rattle.site_recovery.proofs.Chains.{reached_more}
 use Rattle.site_recovery.proofs.Changes.{Grows}
@@ -21,25 +21,23 @@ module _ (V W : World) (s : ℕ) (f : Fit V) (c : Grows V W s) where
       | inl old ↦ f.closed t r i j h old
       | inr new ↦ subst (λ z. Held V z r j) (sym new.0) (new.1 r (subst (λ z. Held V z r i) new.0 h))
     ];
-    told = λ t r i u h ships. elim (c.ships_origin t i u ships) as (λ _. Tells V t u r i ⊎ Held V u r i) [
-      | inl old ↦ f.told t r i u h old
-      | inr new ↦ absurd (new.1 r (subst (λ z. Held V z r i) new.0 h))
-    ];
-    taken = f.taken;
-    reached = λ t r i h. let k = f.reached t r i h in (k.0, k.1, reached_more V middle c.makes_kept c.ships_kept r.site k.0.root t i k.2);
-    rooted = f.rooted;
-    rows_held = f.rows_held;
-    rows_shipped = λ t n x e. c.ships_kept t x.item x.dest (f.rows_shipped t n x e);
-    engaged = f.engaged;
-    parent_seen = f.parent_seen;
-    parent_row = f.parent_row;
-    not_engaged = f.not_engaged;
-    climbs = λ t r m e. let k = f.climbs t r m e in (k.0, climbs_more V middle r (λ _ _ h. h) k.0 t k.1);
-    ended = f.ended;
-    rows_below = f.rows_below;
-    seen_below = f.seen_below;
-    own_below = f.own_below;
-    held_below = f.held_below;
+    told = λ u. record {
+      told = λ t r i h ships. elim (c.ships_origin t i u ships) as (λ _. IsPassedOn V t u r i) [
+        | inl old ↦ (f.told u).told t r i h old
+        | inr new ↦ absurd (new.1 r (subst (λ z. Held V z r i) new.0 h))
+      ];
+      taken = (f.told u).taken;
+    };
+    justified = λ t. let was = f.justified t in record {
+      reached = λ r i h. let k = was.reached r i h in (k.0, k.1, reached_more V middle c.makes_kept c.ships_kept r.site k.0.root t i k.2);
+      rooted = was.rooted;
+      rows = λ n x e. let just = was.rows n x e in (just.0, c.ships_kept t x.item x.dest just.1);
+    };
+    waiting = f.waiting;
+    parents_stand = f.parents_stand;
+    parents_lead_home = λ t r m e. let way = f.parents_lead_home t r m e in (way.0, (way.1.0, climbs_more V middle r (λ _ _ h. h) way.1.0 t way.1.1));
+    ends_are_quiet = f.ends_are_quiet;
+    numbers_are_below = λ t. let was = f.numbers_are_below t in record { rows = was.rows; seen = was.seen; own = was.own; held = was.held };
   }
 
   pub fit_grows : Fit W

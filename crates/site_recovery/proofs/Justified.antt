@@ -1,16 +1,15 @@
 -- Reach as it was found once for each recall, beside the other parts of what has its reason.
-use Rattle.std.proofs.Common.{◌≡◌, ◌↔◌, inl, inr, ℕ, ◌<◌, Bor, List, length, Some, ◌∙◌}
+use Rattle.std.proofs.Common.{◌↔◌, inl, inr, ℕ, ◌<◌, Bor, List, length, ◌∙◌}
 use Rattle.std.specs.Prelude.{Result, Ok, Err, IfErr}
 use mathlib.Core.Bool.{false≢true}
 use Rattle.frame_core.specs.Numbers.{Recall}
-use Rattle.frame_core.specs.declared.rows.Row.{Row}
-use Rattle.scholten_core.specs.declared.own_recalls.Own.{Own}
 use Rattle.trace_core.specs.declared.pairs.Pair.{Pair}
 use Rattle.site_core.specs.Quarantines.{Quarantine}
 use Rattle.site_core.specs.Records.{Record}
 use Rattle.site_recovery.specs.Checking.{HeldIn, IsReachedBy, records_at, world_at}
-use Rattle.site_recovery.specs.FittingAt.{AreAllSites, IsJustifiedAt}
-use Rattle.site_recovery.specs.Looks.{Held, Ships, row, own}
+use Rattle.site_recovery.specs.Fit.{IsJustifiedAt, RootsAreHeld, RowsAreJust}
+use Rattle.site_recovery.specs.FittingAt.{AreAllSites}
+use Rattle.site_recovery.specs.Looks.{Held}
 use Rattle.site_recovery.specs.Misfits.{TellsUnmet}
 use Rattle.site_recovery.specs.declared.checking.CheckFault.{CheckFault}
 use Rattle.site_recovery.specs.declared.checking.CheckFault.TheVariants.{NoMemory, Misfit}
@@ -31,8 +30,7 @@ module _ (refs : List (Bor Record)) (all : AreAllSites (records_at refs)) (reach
   abbrev pub FoundParts : ℕ → Type 0
   FoundParts s =
       ((r : Recall) (i : List ℕ) → Held (world_at refs) s r i → HeldIn reached r (record { site = s; item = i }))
-      × (((k : ℕ) (o : Own) → own (world_at refs) s k ≡ Some o → Held (world_at refs) s (record { site = s; number = k }) o.root)
-      × ((n : ℕ) (x : Row) → row (world_at refs) s n ≡ Some x → Held (world_at refs) s x.recall x.item × Ships (world_at refs) s x.item x.dest))
+      × (RootsAreHeld (world_at refs) s × RowsAreJust (world_at refs) s)
 
   held_at_one : (s : ℕ) (r : Recall) (i : List ℕ) → Held (world_at refs) s r i → s < length refs
   held_at_one s r i h = elim (within_or_past s (length refs)) as (λ _. s < length refs) [

@@ -1,12 +1,9 @@
 -- The first condition that fails.
-use Rattle.std.proofs.Common.{◌≡◌, ◌⊎◌, ◌↔◌, inl, inr, ℕ, List, Some, Result, Ok, Err, ◌+◌, ◌<◌, ◌==◌, if◌then◌else◌, refl, sym, ap, ◌∙◌, subst, arith}
+use Rattle.std.proofs.Common.{◌≡◌, ◌↔◌, inl, inr, ℕ, Result, Ok, Err, ◌+◌, ◌<◌, ◌==◌, if◌then◌else◌, refl, sym, ap, ◌∙◌, subst, arith}
 use Rattle.std.specs.Prelude.{IsErrAnd, IfErr}
-use Rattle.frame_core.specs.Numbers.{Recall, Message}
-use Rattle.frame_core.specs.declared.rows.Row.{Row}
-use Rattle.scholten_core.specs.declared.own_recalls.Own.{Own}
 use Rattle.site_recovery.specs.FittingAt.{Condition, Closed, Told, Justified, Waiting, ParentsStand, ParentsLeadHome, EndsAreQuiet, NumbersAreBelow, number_of, FitAt}
-use Rattle.site_recovery.specs.Fit.{Tells}
-use Rattle.site_recovery.specs.Looks.{World, Held, Ships, row, seen, own, next_message, next_recall}
+use Rattle.site_recovery.specs.Fit.{ShipmentsAreTold, MessagesAreTaken, RowsAreBelow, SeenAreBelow, OwnAreBelow, HeldAreBelow}
+use Rattle.site_recovery.specs.Looks.{World}
 use Rattle.site_recovery.specs.Misfits.{TellsMisfit, TellsUnmet}
 use Rattle.site_recovery.specs.declared.checking.CheckFault.{CheckFault}
 use Rattle.site_recovery.specs.declared.checking.CheckFault.TheVariants.{NoMemory, Misfit}
@@ -91,19 +88,13 @@ module _ (n : ℕ) (W : World) where
 -- The conditions that are tested in parts.
 module _ (W : World) where
   abbrev pub ToldParts : ℕ → Type 0
-  ToldParts t =
-      ((s : ℕ) (r : Recall) (i : List ℕ) → Held W s r i → Ships W s i t → Tells W s t r i ⊎ Held W t r i)
-      × ((s n : ℕ) (x : Row) (q : Recall) → row W s n ≡ Some x → x.dest ≡ t → seen W t (record { site = s; number = n }) ≡ Some q → Held W t x.recall x.item)
+  ToldParts t = ShipmentsAreTold W t × MessagesAreTaken W t
 
   pub told_parts : (t : ℕ) → ToldParts t ↔ FitAt W Told t
   told_parts t = (λ b. record { told = b.0; taken = b.1 }, λ f. (f.told, f.taken))
 
   abbrev pub BelowParts : ℕ → Type 0
-  BelowParts q =
-      (((n : ℕ) (x : Row) → row W q n ≡ Some x → n < next_message W q)
-      × ((s : ℕ) (m : Message) (r : Recall) → seen W s m ≡ Some r → m.site ≡ q → m.number < next_message W q))
-      × (((k : ℕ) (o : Own) → own W q k ≡ Some o → k < next_recall W q)
-      × ((s : ℕ) (r : Recall) (i : List ℕ) → Held W s r i → r.site ≡ q → r.number < next_recall W q))
+  BelowParts q = (RowsAreBelow W q × SeenAreBelow W q) × (OwnAreBelow W q × HeldAreBelow W q)
 
   pub below_parts : (q : ℕ) → BelowParts q ↔ FitAt W NumbersAreBelow q
   below_parts q = (λ b. record { rows = b.0.0; seen = b.0.1; own = b.1.0; held = b.1.1 }, λ f. ((f.rows, f.seen), (f.own, f.held)))

@@ -59,7 +59,7 @@ takes_stays V W s m r item f c stands q is = record { entry = c.own q.site q.num
 
 opens_stays : (V W : World) (s : ℕ) (item : List ℕ) (o : Own) → Fit V → Opens V W s item o → (q : Recall) → IsEnded V q → StaysAs V W q
 opens_stays V W s item o f c q is = record {
-  entry = c.own_kept q.site q.number is.0 (f.own_below q.site q.number is.0 is.1) is.1 ∙ sym is.1;
+  entry = c.own_kept q.site q.number is.0 ((f.numbers_are_below q.site).own q.number is.0 is.1) is.1 ∙ sym is.1;
   quarantine = λ t i. (begun_opens V W s item o f c q is.0 is.1 t i, c.spreads.held_kept t q i);
 }
 

@@ -4,7 +4,7 @@ use mathlib.Core.Bool.{false≢true}
 use Rattle.std.specs.Ordering.{nat_cmp}
 use Rattle.std.specs.Cmp.{nat_cmp_total}
 use Rattle.std.specs.FinMap.{FinMap, get, entries, nat_cmp-IsAntisymmetric}
-use Rattle.std.specs.List.{Contains, Any}
+use Rattle.std.specs.List.{Contains}
 use Rattle.std.specs.Prelude.{IsTrue}
 use Rattle.frame_core.specs.Orders.{recall_total, recall_exact}
 use Rattle.frame_core.specs.declared.rows.Row.{Row}

@@ -1,11 +1,11 @@
--- What a start and a message that is taken share keeps what is quarantined closed, and announced.
-use Rattle.std.proofs.Common.{◌≡◌, ◌⊎◌, inl, inr, ℕ, true, false, List, refl, sym, ◌∙◌, subst}
+-- What a start and a message that is taken share keeps what is quarantined closed and announced, and rows just and numbered.
+use Rattle.std.proofs.Common.{◌≡◌, ◌⊎◌, inl, inr, ℕ, ◌<◌, true, false, List, refl, sym, ◌∙◌, subst, lt_of_lt_of_le}
 use mathlib.Core.Bool.{false≢true}
 use Rattle.frame_core.specs.Numbers.{Recall}
 use Rattle.site_core.specs.Quarantines.{held}
-use Rattle.site_recovery.specs.Fit.{Fit, Tells}
-use Rattle.site_recovery.specs.Looks.{World, Makes, Ships, Held}
-use Rattle.site_recovery.proofs.Chains.{makes_before, ships_before, spreads_further}
+use Rattle.site_recovery.specs.Fit.{Fit, IsPassedOn, IsJust, IsClosedAt, ShipmentsAreTold, RowsAreJust, RowsAreBelow}
+use Rattle.site_recovery.specs.Looks.{World, Makes, Ships, Held, next_message}
+use Rattle.site_recovery.proofs.Chains.{makes_before, ships_now, ships_before, spreads_further}
 use Rattle.site_recovery.proofs.Changes.{Spreads}
 
 -- an item is held or not
@@ -16,7 +16,7 @@ held_or_not W s r i = elim (held (W s).quarantine r i) as (λ b. held (W s).quar
 ] refl
 
 module _ (V W : World) (s : ℕ) (r : Recall) (item : List ℕ) (f : Fit V) (c : Spreads V W s r item) where
-  pub spreads_closed : (t : ℕ) (q : Recall) (i j : List ℕ) → Held W t q i → Makes W t i j → Held W t q j
+  pub spreads_closed : (t : ℕ) → IsClosedAt W t
   spreads_closed t q i j h made =
       let before = makes_before V W c.captured t i j made in
       elim (c.held_origin t q i h) as (λ _. Held W t q j) [
@@ -24,15 +24,15 @@ module _ (V W : World) (s : ℕ) (r : Recall) (item : List ℕ) (f : Fit V) (c :
         | inr new ↦ rw (new.0, new.1) (c.held_spread j (spreads_further V s item i j new.2 (subst (λ u. Makes V u i j) new.0 before)))
       ]
 
-  pub spreads_told : (t : ℕ) (q : Recall) (i : List ℕ) (u : ℕ) → Held W t q i → Ships W t i u → Tells W t u q i ⊎ Held W u q i
-  spreads_told t q i u h ships =
+  pub spreads_told : (u : ℕ) → ShipmentsAreTold W u
+  spreads_told u t q i h ships =
       let before = ships_before V W c.captured t i u ships in
-      elim (held_or_not V t q i) as (λ _. Tells W t u q i ⊎ Held W u q i) [
-        | inl old ↦ elim (f.told t q i u old before) as (λ _. Tells W t u q i ⊎ Held W u q i) [
-          | inl told ↦ inl (told.0, c.row_kept t told.0 _ (f.rows_below t told.0 _ told.1) told.1)
+      elim (held_or_not V t q i) as (λ _. IsPassedOn W t u q i) [
+        | inl old ↦ elim ((f.told u).told t q i old before) as (λ _. IsPassedOn W t u q i) [
+          | inl told ↦ inl (told.0, c.row_kept t told.0 _ ((f.numbers_are_below t).rows told.0 _ told.1) told.1)
           | inr there ↦ inr (c.held_kept u q i there)
         ]
-        | inr new ↦ elim (c.held_origin t q i h) as (λ _. Tells W t u q i ⊎ Held W u q i) [
+        | inr new ↦ elim (c.held_origin t q i h) as (λ _. IsPassedOn W t u q i) [
           | inl old ↦ absurd (new old)
           | inr here ↦ rw (here.0, here.1) (inl (c.row_told i u
               (subst (λ z. Held W s z i) here.1 (subst (λ z. Held W z q i) here.0 h))
@@ -40,3 +40,15 @@ module _ (V W : World) (s : ℕ) (r : Recall) (item : List ℕ) (f : Fit V) (c :
               (subst (λ z. Ships V z i u) here.0 before)))
         ]
       ]
+
+  pub spreads_rows : (t : ℕ) → RowsAreJust W t
+  spreads_rows t n x e = elim (c.row_origin t n x e) as (λ _. IsJust (W t) x) [
+    | inl old ↦ let just = (f.justified t).rows n x old in (c.held_kept t x.recall x.item just.0, ships_now V W c.captured t x.item x.dest just.1)
+    | inr new ↦ subst (λ z. IsJust (W z) x) (sym new.0) (subst (λ z. Held W s z x.item) (sym new.1.recall) new.1.held, new.1.shipped)
+  ]
+
+  pub spreads_rows_below : (t : ℕ) → RowsAreBelow W t
+  spreads_rows_below t n x e = elim (c.row_origin t n x e) as (λ _. n < next_message W t) [
+    | inl old ↦ lt_of_lt_of_le ((f.numbers_are_below t).rows n x old) (c.next_up t)
+    | inr new ↦ subst (λ z. n < next_message W z) (sym new.0) new.1.below
+  ]

@@ -1,8 +1,8 @@
 //! The check that the records of all sites are consistent.
 ghost use Rattle.std.specs.Prelude.{◌<◌, ℕ, [], length, OnOk, IfErr};
 ghost use Rattle.site_recovery.specs.Checking.{records_at, world_at};
-ghost use Rattle.site_recovery.specs.Fit.{Fits};
-ghost use Rattle.site_recovery.specs.FittingAt.{AreAllSites, IsJustifiedAt};
+ghost use Rattle.site_recovery.specs.Fit.{Fits, IsJustifiedAt};
+ghost use Rattle.site_recovery.specs.FittingAt.{AreAllSites};
 ghost use Rattle.site_recovery.specs.Misfits.{TellsMisfit, TellsUnmet};
 
 use crate::closing::Closed;

@@ -41,7 +41,7 @@ impl EntryTest<RecallId, ItemSet> for ClosedSet<'_> {
 pub(crate) struct Closed;
 
 impl Condition for Closed {
-    ghost use Rattle.site_recovery.specs.FittingAt.{IsClosedAt};
+    ghost use Rattle.site_recovery.specs.Fit.{IsClosedAt};
 
     ghost holds = { λ _ W s. IsClosedAt W s };
 

@@ -1,10 +1,8 @@
 //! Parents: each was seen under its recall and its row stands, and from each engaged site they lead to
 //! the recall's initiator.
-ghost use Rattle.std.specs.Prelude.{◌≡◌, ◌≢◌, ◌↔◌, ℕ, ◌-◌, IsTrue, Some};
-ghost use Rattle.frame_core.specs.declared.rows.Row.{Row};
+ghost use Rattle.std.specs.Prelude.{◌↔◌, IsTrue};
 ghost use Rattle.site_recovery.specs.Checking.{world_at};
-ghost use Rattle.site_recovery.specs.Fit.{Climbs};
-ghost use Rattle.site_recovery.specs.Looks.{row};
+ghost use Rattle.site_recovery.specs.Fit.{HasRow, LeadsHome};
 
 use crate::conditions::Condition;
 use crate::every::{EntryTest, each_entry};
@@ -16,9 +14,7 @@ use std::alloc::{AllocError, Global};
 
 /// Whether the message has a row of the recall that goes to the site.
 fn has_row(sites: &[&SiteState], message: MsgId, site: SiteNo, recall: RecallId) -> bool
-    ensures { IsTrue result ↔ ((x : Row)
-        × (row (world_at sites.now) message.site message.number ≡ Some x) × (x.dest ≡ site)
-        × (x.recall ≡ recall)) }
+    ensures { IsTrue result ↔ HasRow (world_at sites.now) message site recall }
 {
     match row(sites, message.site, message.number) {
         Some(row) => row.dest == site && row.recall == recall,
@@ -34,12 +30,10 @@ struct StandingParent<'a> {
 }
 
 impl EntryTest<RecallId, MsgId> for StandingParent<'_> {
-    ghost use Rattle.std.specs.Prelude.{◌≡◌, Some};
-    ghost use Rattle.frame_core.specs.declared.rows.Row.{Row};
     ghost use Rattle.site_recovery.specs.Checking.{world_at};
-    ghost use Rattle.site_recovery.specs.Looks.{row, seen};
+    ghost use Rattle.site_recovery.specs.Fit.{ParentStands};
 
-    ghost holds = { λ t r m. (seen (world_at t.sites.now) t.site m ≡ Some r) × ((x : Row) × (row (world_at t.sites.now) m.site m.number ≡ Some x) × (x.dest ≡ t.site) × (x.recall ≡ r)) };
+    ghost holds = { λ t r m. ParentStands (world_at t.sites.now) t.site r m };
 
     fn passes(
         &self,
@@ -60,7 +54,7 @@ impl EntryTest<RecallId, MsgId> for StandingParent<'_> {
 pub(crate) struct ParentsStand;
 
 impl Condition for ParentsStand {
-    ghost use Rattle.site_recovery.specs.FittingAt.{ParentsStandAt};
+    ghost use Rattle.site_recovery.specs.Fit.{ParentsStandAt};
 
     ghost holds = { λ _ W s. ParentsStandAt W s };
 
@@ -77,7 +71,7 @@ impl Condition for ParentsStand {
 
 /// Whether parents lead from the site to the recall's initiator.
 fn climbs(sites: &[&SiteState], recall: RecallId, site: SiteNo) -> bool
-    ensures { IsTrue result ↔ ((k : ℕ) × Climbs (world_at sites.now) recall k site) }
+    ensures { IsTrue result ↔ LeadsHome (world_at sites.now) recall site }
 {
     let mut here = site;
     for _ in 0..sites.len() {
@@ -100,11 +94,10 @@ struct HomewardRecall<'a> {
 }
 
 impl EntryTest<RecallId, MsgId> for HomewardRecall<'_> {
-    ghost use Rattle.std.specs.Prelude.{◌≢◌, ℕ};
     ghost use Rattle.site_recovery.specs.Checking.{world_at};
-    ghost use Rattle.site_recovery.specs.Fit.{Climbs};
+    ghost use Rattle.site_recovery.specs.Fit.{IsOnTheWay};
 
-    ghost holds = { λ t r m. (t.site ≢ r.site) × ((k : ℕ) × Climbs (world_at t.sites.now) r k t.site) };
+    ghost holds = { λ t r m. IsOnTheWay (world_at t.sites.now) t.site r };
 
     fn passes(
         &self,
@@ -121,7 +114,7 @@ impl EntryTest<RecallId, MsgId> for HomewardRecall<'_> {
 pub(crate) struct ParentsLeadHome;
 
 impl Condition for ParentsLeadHome {
-    ghost use Rattle.site_recovery.specs.FittingAt.{ParentsLeadHomeFrom};
+    ghost use Rattle.site_recovery.specs.Fit.{ParentsLeadHomeFrom};
 
     ghost holds = { λ _ W s. ParentsLeadHomeFrom W s };
 

@@ -35,11 +35,9 @@ impl EntryTest<u64, Own> for HeldRoot<'_> {
 pub(crate) struct Rooted;
 
 impl Condition for Rooted {
-    ghost use Rattle.std.specs.Prelude.{◌≡◌, ℕ, Some};
-    ghost use Rattle.scholten_core.specs.declared.own_recalls.Own.{Own};
-    ghost use Rattle.site_recovery.specs.Looks.{Held, own};
+    ghost use Rattle.site_recovery.specs.Fit.{RootsAreHeld};
 
-    ghost holds = { λ _ W s. (k : ℕ) (o : Own) → own W s k ≡ Some o → Held W s (record { site = s; number = k }) o.root };
+    ghost holds = { λ _ W s. RootsAreHeld W s };
 
     fn holds_at(
         &self,
@@ -59,9 +57,9 @@ struct JustRow<'a> {
 }
 
 impl EntryTest<u64, Row> for JustRow<'_> {
-    ghost use Rattle.site_core.specs.Ways.{Holds, ShipsTo};
+    ghost use Rattle.site_recovery.specs.Fit.{IsJust};
 
-    ghost holds = { λ t _ x. Holds t.state.now x.recall x.item × ShipsTo t.state.now x.item x.dest };
+    ghost holds = { λ t _ x. IsJust t.state.now x };
 
     fn passes(&self, alloc: Global, _number: &u64, row: &Row) -> Result<bool, AllocError> {
         Ok(
@@ -76,11 +74,9 @@ impl EntryTest<u64, Row> for JustRow<'_> {
 pub(crate) struct RowsJustified;
 
 impl Condition for RowsJustified {
-    ghost use Rattle.std.specs.Prelude.{◌≡◌, ℕ, Some};
-    ghost use Rattle.frame_core.specs.declared.rows.Row.{Row};
-    ghost use Rattle.site_recovery.specs.Looks.{Held, Ships, row};
+    ghost use Rattle.site_recovery.specs.Fit.{RowsAreJust};
 
-    ghost holds = { λ _ W s. (n : ℕ) (x : Row) → row W s n ≡ Some x → Held W s x.recall x.item × Ships W s x.item x.dest };
+    ghost holds = { λ _ W s. RowsAreJust W s };
 
     fn holds_at(
         &self,

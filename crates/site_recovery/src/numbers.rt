@@ -32,11 +32,9 @@ impl<V> EntryTest<u64, V> for BelowNext {
 pub(crate) struct RowsBelow;
 
 impl Condition for RowsBelow {
-    ghost use Rattle.std.specs.Prelude.{◌≡◌, ◌<◌, ℕ, Some};
-    ghost use Rattle.frame_core.specs.declared.rows.Row.{Row};
-    ghost use Rattle.site_recovery.specs.Looks.{row, next_message};
+    ghost use Rattle.site_recovery.specs.Fit.{RowsAreBelow};
 
-    ghost holds = { λ _ W q. (n : ℕ) (x : Row) → row W q n ≡ Some x → n < next_message W q };
+    ghost holds = { λ _ W q. RowsAreBelow W q };
 
     fn holds_at(
         &self,
@@ -55,11 +53,9 @@ impl Condition for RowsBelow {
 pub(crate) struct OwnBelow;
 
 impl Condition for OwnBelow {
-    ghost use Rattle.std.specs.Prelude.{◌≡◌, ◌<◌, ℕ, Some};
-    ghost use Rattle.scholten_core.specs.declared.own_recalls.Own.{Own};
-    ghost use Rattle.site_recovery.specs.Looks.{own, next_recall};
+    ghost use Rattle.site_recovery.specs.Fit.{OwnAreBelow};
 
-    ghost holds = { λ _ W q. (k : ℕ) (o : Own) → own W q k ≡ Some o → k < next_recall W q };
+    ghost holds = { λ _ W q. OwnAreBelow W q };
 
     fn holds_at(
         &self,
@@ -112,11 +108,9 @@ impl<'a> Test<&'a SiteState> for MessageBelow {
 pub(crate) struct SeenBelow;
 
 impl Condition for SeenBelow {
-    ghost use Rattle.std.specs.Prelude.{◌≡◌, ◌<◌, ℕ, Some};
-    ghost use Rattle.frame_core.specs.Numbers.{Recall, Message};
-    ghost use Rattle.site_recovery.specs.Looks.{seen, next_message};
+    ghost use Rattle.site_recovery.specs.Fit.{SeenAreBelow};
 
-    ghost holds = { λ _ W q. (s : ℕ) (m : Message) (r : Recall) → seen W s m ≡ Some r → m.site ≡ q → m.number < next_message W q };
+    ghost holds = { λ _ W q. SeenAreBelow W q };
 
     fn holds_at(
         &self,
@@ -170,11 +164,9 @@ impl<'a> Test<&'a SiteState> for RecallBelow {
 pub(crate) struct HeldBelow;
 
 impl Condition for HeldBelow {
-    ghost use Rattle.std.specs.Prelude.{◌≡◌, ◌<◌, ℕ, List};
-    ghost use Rattle.frame_core.specs.Numbers.{Recall};
-    ghost use Rattle.site_recovery.specs.Looks.{Held, next_recall};
+    ghost use Rattle.site_recovery.specs.Fit.{HeldAreBelow};
 
-    ghost holds = { λ _ W q. (s : ℕ) (r : Recall) (i : List ℕ) → Held W s r i → r.site ≡ q → r.number < next_recall W q };
+    ghost holds = { λ _ W q. HeldAreBelow W q };
 
     fn holds_at(
         &self,

@@ -108,12 +108,9 @@ impl<'b> Test<&'b SiteState> for Telling<'_> {
 pub(crate) struct Told;
 
 impl Condition for Told {
-    ghost use Rattle.std.specs.Prelude.{◌⊎◌, ℕ, List};
-    ghost use Rattle.frame_core.specs.Numbers.{Recall};
-    ghost use Rattle.site_recovery.specs.Fit.{Tells};
-    ghost use Rattle.site_recovery.specs.Looks.{Held, Ships};
+    ghost use Rattle.site_recovery.specs.Fit.{ShipmentsAreTold};
 
-    ghost holds = { λ _ W t. (s : ℕ) (r : Recall) (i : List ℕ) → Held W s r i → Ships W s i t → Tells W s t r i ⊎ Held W t r i };
+    ghost holds = { λ _ W t. ShipmentsAreTold W t };
 
     fn holds_at(
         &self,
@@ -135,12 +132,10 @@ struct TakenRow<'a> {
 }
 
 impl EntryTest<u64, Row> for TakenRow<'_> {
-    ghost use Rattle.std.specs.Prelude.{◌≡◌, Some};
-    ghost use Rattle.frame_core.specs.Numbers.{Recall};
     ghost use Rattle.site_recovery.specs.Checking.{world_at};
-    ghost use Rattle.site_recovery.specs.Looks.{Held, seen};
+    ghost use Rattle.site_recovery.specs.Fit.{IsTaken};
 
-    ghost holds = { λ t n x. (q : Recall) → x.dest ≡ t.to → seen (world_at t.sites.now) t.to (record { site = t.from; number = n }) ≡ Some q → Held (world_at t.sites.now) t.to x.recall x.item };
+    ghost holds = { λ t n x. IsTaken (world_at t.sites.now) t.to (record { site = t.from; number = n }) x };
 
     fn passes(&self, _alloc: Global, number: &u64, row: &Row) -> Result<bool, AllocError> {
         if row.dest != self.to {
@@ -167,12 +162,11 @@ struct Taking<'a> {
 impl<'b> Test<&'b SiteState> for Taking<'_> {
     ghost use Rattle.std.specs.Prelude.{◌≡◌, ℕ, Some};
     ghost use Rattle.std.specs.FinMap.{get};
-    ghost use Rattle.frame_core.specs.Numbers.{Recall};
     ghost use Rattle.frame_core.specs.declared.rows.Row.{Row};
     ghost use Rattle.site_recovery.specs.Checking.{world_at};
-    ghost use Rattle.site_recovery.specs.Looks.{Held, seen};
+    ghost use Rattle.site_recovery.specs.Fit.{IsTaken};
 
-    ghost holds = { λ t s. (n : ℕ) (x : Row) → get s.now.engagement.outbox n ≡ Some x → (q : Recall) → x.dest ≡ t.to → seen (world_at t.sites.now) t.to (record { site = s.now.engagement.me; number = n }) ≡ Some q → Held (world_at t.sites.now) t.to x.recall x.item };
+    ghost holds = { λ t s. (n : ℕ) (x : Row) → get s.now.engagement.outbox n ≡ Some x → IsTaken (world_at t.sites.now) t.to (record { site = s.now.engagement.me; number = n }) x };
 
     fn passes(&self, alloc: Global, state: &&'b SiteState) -> Result<bool, AllocError> {
         let taken = TakenRow {
@@ -189,12 +183,9 @@ impl<'b> Test<&'b SiteState> for Taking<'_> {
 pub(crate) struct Taken;
 
 impl Condition for Taken {
-    ghost use Rattle.std.specs.Prelude.{◌≡◌, ℕ, Some};
-    ghost use Rattle.frame_core.specs.Numbers.{Recall};
-    ghost use Rattle.frame_core.specs.declared.rows.Row.{Row};
-    ghost use Rattle.site_recovery.specs.Looks.{Held, row, seen};
+    ghost use Rattle.site_recovery.specs.Fit.{MessagesAreTaken};
 
-    ghost holds = { λ _ W t. (s n : ℕ) (x : Row) (q : Recall) → row W s n ≡ Some x → x.dest ≡ t → seen W t (record { site = s; number = n }) ≡ Some q → Held W t x.recall x.item };
+    ghost holds = { λ _ W t. MessagesAreTaken W t };
 
     fn holds_at(
         &self,

@@ -49,11 +49,10 @@ struct WaitingRow<'a> {
 }
 
 impl EntryTest<u64, Row> for WaitingRow<'_> {
-    ghost use Rattle.std.specs.Prelude.{◌≡◌, ◌⊎◌};
     ghost use Rattle.site_recovery.specs.Checking.{world_at};
-    ghost use Rattle.site_recovery.specs.Fit.{IsEngaged, IsLive};
+    ghost use Rattle.site_recovery.specs.Fit.{MayWait};
 
-    ghost holds = { λ t n x. IsEngaged (world_at t.sites.now) t.site x.recall ⊎ ((t.site ≡ x.recall.site) × IsLive (world_at t.sites.now) x.recall) };
+    ghost holds = { λ t n x. MayWait (world_at t.sites.now) t.site x.recall };
 
     fn passes(&self, _alloc: Global, _number: &u64, row: &Row) -> Result<bool, AllocError> {
         Ok(
@@ -68,7 +67,7 @@ impl EntryTest<u64, Row> for WaitingRow<'_> {
 pub(crate) struct Waiting;
 
 impl Condition for Waiting {
-    ghost use Rattle.site_recovery.specs.FittingAt.{WaitsRightlyAt};
+    ghost use Rattle.site_recovery.specs.Fit.{WaitsRightlyAt};
 
     ghost holds = { λ _ W s. WaitsRightlyAt W s };
 
@@ -107,7 +106,7 @@ impl EntryTest<u64, Row> for QuietRow<'_> {
 pub(crate) struct EndsAreQuiet;
 
 impl Condition for EndsAreQuiet {
-    ghost use Rattle.site_recovery.specs.FittingAt.{EndsAreQuietAt};
+    ghost use Rattle.site_recovery.specs.Fit.{EndsAreQuietAt};
 
     ghost holds = { λ _ W s. EndsAreQuietAt W s };
 

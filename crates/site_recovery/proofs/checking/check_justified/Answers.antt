@@ -1,7 +1,7 @@
 use Rattle.std.proofs.Common.{◌↔◌, ◌<◌, length, subst, sym}
 use Rattle.std.proofs.lemmas.Result.{on_ok_weaker}
 use Rattle.site_recovery.specs.Checking.{HeldIn, IsReachedBy, records_at, world_at}
-use Rattle.site_recovery.specs.FittingAt.{IsJustifiedAt}
+use Rattle.site_recovery.specs.Fit.{IsJustifiedAt}
 use Rattle.site_recovery.specs.Misfits.{TellsUnmet}
 use Rattle.frame_core.specs.Numbers.{Recall}
 use Rattle.trace_core.specs.declared.pairs.Pair.{Pair}

@@ -4,13 +4,13 @@ use Rattle.std.proofs.lemmas.List.{length-map}
 use Rattle.frame_core.specs.Numbers.{Recall, Message}
 use Rattle.site_core.specs.Records.{Record}
 use Rattle.site_recovery.specs.Checking.{world_at, records_at}
-use Rattle.site_recovery.specs.Fit.{Climbs}
+use Rattle.site_recovery.specs.Fit.{LeadsHome}
 use Rattle.site_recovery.specs.Looks.{parent}
 use Rattle.site_recovery.proofs.Climbing.{reaches, home_now, stuck_now, one_up, at_end, home_decided}
 use Rattle.site_recovery.proofs.homeward.climbs.Goals as goal
 
 -- the climb of as many steps as there are sites decides
-decided : (sites : List (Bor Record)) (r : Recall) (s : ℕ) (b : Bool) → b ≡ reaches (world_at sites) r (length sites) s → IsTrue b ↔ ((k : ℕ) × Climbs (world_at sites) r k s)
+decided : (sites : List (Bor Record)) (r : Recall) (s : ℕ) (b : Bool) → b ≡ reaches (world_at sites) r (length sites) s → IsTrue b ↔ LeadsHome (world_at sites) r s
 decided sites r s b is = home_decided (records_at sites) r s b (is ∙ ap (λ n. reaches (world_at sites) r n s) (sym (length-map sites (λ r. r.now))))
 
 pub returns-then-eq : goal.returns-then-eq

@@ -5,7 +5,7 @@ use Rattle.std.proofs.lemmas.Result.{IfOk-weaker}
 use Rattle.trace_core.specs.Spreads.{Inside}
 use Rattle.site_core.specs.ItemSets as set
 use Rattle.site_recovery.specs.Checking.{world_at}
-use Rattle.site_recovery.specs.FittingAt.{IsClosedAt}
+use Rattle.site_recovery.specs.Fit.{IsClosedAt}
 use Rattle.site_recovery.proofs.MapsOfSites.{Each, each_kept}
 use Rattle.site_recovery.proofs.QuarantinedItems.{held_is, kept_set}
 use Rattle.site_recovery.proofs.closing.ClosedCondition.holds_at.Goals as goal

@@ -1,10 +1,8 @@
-use Rattle.std.proofs.Common.{◌↔◌, ◌≡◌, Some}
+use Rattle.std.proofs.Common.{◌↔◌}
 use Rattle.std.specs.Prelude.{IsTrue}
 use Rattle.std.proofs.lemmas.Result.{IfOk-weaker}
-use Rattle.frame_core.specs.declared.rows.Row.{Row}
 use Rattle.site_recovery.specs.Checking.{world_at}
-use Rattle.site_recovery.specs.FittingAt.{ParentsStandAt}
-use Rattle.site_recovery.specs.Looks.{row, seen}
+use Rattle.site_recovery.specs.Fit.{ParentStands, ParentsStandAt}
 use Rattle.site_recovery.proofs.MapsOfSites.{Each, each_parent}
 use Rattle.site_recovery.proofs.homeward.ParentsStandCondition.holds_at.Goals as goal
 
@@ -13,7 +11,7 @@ returns c =
     let W = world_at c.args.sites.now in
     let s = c.args.site in
     IfOk-weaker c.each_entry.result
-    (λ b. IsTrue b ↔ Each c.parents.result.now.entries (λ r m. (seen W s m ≡ Some r) × ((x : Row) × (row W m.site m.number ≡ Some x) × (x.dest ≡ s) × (x.recall ≡ r))))
+    (λ b. IsTrue b ↔ Each c.parents.result.now.entries (λ r m. ParentStands W s r m))
     (λ b. IsTrue b ↔ ParentsStandAt W s)
-    (λ b decides. each_parent W s c.args.state.now c.requires.here b c.parents.result.now.entries c.parents.ensures.entries (λ r m. (seen W s m ≡ Some r) × ((x : Row) × (row W m.site m.number ≡ Some x) × (x.dest ≡ s) × (x.recall ≡ r))) decides)
+    (λ b decides. each_parent W s c.args.state.now c.requires.here b c.parents.result.now.entries c.parents.ensures.entries (λ r m. ParentStands W s r m) decides)
     c.each_entry.ensures

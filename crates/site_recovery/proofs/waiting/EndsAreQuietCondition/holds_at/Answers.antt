@@ -3,8 +3,7 @@ use Rattle.std.specs.Prelude.{IsTrue}
 use Rattle.std.proofs.lemmas.Result.{IfOk-weaker}
 use Rattle.frame_core.specs.Numbers.{Recall}
 use Rattle.site_recovery.specs.Checking.{world_at}
-use Rattle.site_recovery.specs.Fit.{IsEnded}
-use Rattle.site_recovery.specs.FittingAt.{EndsAreQuietAt}
+use Rattle.site_recovery.specs.Fit.{IsEnded, EndsAreQuietAt}
 use Rattle.site_recovery.proofs.MapsOfSites.{Each, each_row}
 use Rattle.site_recovery.proofs.waiting.EndsAreQuietCondition.holds_at.Goals as goal
 
