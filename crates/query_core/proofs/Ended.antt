@@ -38,7 +38,7 @@ none_waits W s recall none =
 not_engaged : (W : World) → Fit W → (recall : Recall) → ((s : ℕ) → NoRows W s recall) → (s : ℕ) → parent W s recall ≡ None
 not_engaged W fit recall none s = elim (parent W s recall) as (λ p. parent W s recall ≡ p → p ≡ None) [
   | None ↦ λ _. refl
-  | Some m ↦ λ is. let sent = fit.parent_row s recall m is in absurd (none m.site m.number sent.0 sent.1 sent.3)
+  | Some m ↦ λ is. let sent = (fit.parents_stand s recall m is).1 in absurd (none m.site m.number sent.0 sent.1 sent.3)
 ] refl
 
 pub ends_wait_for_nothing : EndsWaitForNothing
@@ -59,10 +59,10 @@ pub parents_wait : ParentsWait
 parents_wait records recall detail standing m fit is among engaged =
     let W = world_of records in
     let at : parent W standing.site recall ≡ Some m = sym ((is.sites.exact standing).0 among).engaged_by ∙ engaged in
-    let sent = fit.parent_row standing.site recall m at in
+    let (saw, sent) = fit.parents_stand standing.site recall m at in
     let x : Row = sent.0 in
     let stands : row W m.site m.number ≡ Some (record { dest = standing.site; recall = recall; item = x.item }) = sent.1 ∙ ap Some (λ i. record { dest = sent.2 i; recall = sent.3 i; item = x.item }) in
-    let told : true ≡ is_some (seen W standing.site m) = sym (ap is_some (fit.parent_seen standing.site recall m at)) in
+    let told : true ≡ is_some (seen W standing.site m) = sym (ap is_some saw) in
     let waiting : WaitingMessage = record { message = m; to = standing.site; item = x.item; told = true } in
     (waiting, (is.waiting.exact waiting).1 (record { row = stands; told = told }), refl, refl, refl)
 
@@ -75,4 +75,4 @@ told_items_are_held records recall detail waiting fit is among told =
     let W = world_of records in
     let stands = (is.waiting.exact waiting).0 among in
     let under = seen_under (seen W waiting.to waiting.message) (sym stands.told ∙ told) in
-    fit.taken waiting.message.site waiting.message.number (record { dest = waiting.to; recall = recall; item = waiting.item }) under.0 stands.row under.1
+    (fit.told waiting.to).taken waiting.message.site waiting.message.number (record { dest = waiting.to; recall = recall; item = waiting.item }) stands.row under.0 refl under.1
