@@ -61,7 +61,7 @@ here_same V W still h t m q e =
 old_rows : (V W : World) (s : ℕ) (r : Recall) (item : List ℕ) → Spreads V W s r item → Fit V → SeenHere V → (t : ℕ) (m : Message) (q : Recall) → seen V t m ≡ Some q → (x : Row) → row W m.site m.number ≡ Some x → x.dest ≡ t
 old_rows V W s r item c f h t m q e x at = elim (c.row_origin m.site m.number x at) as (λ _. x.dest ≡ t) [
   | inl old ↦ (h t m q e).1 x old
-  | inr new ↦ absurd (let high = subst (λ z. next_message V z ≤ m.number) (sym new.0) new.1.above in let low = f.seen_below t m q e in omega (arith, high, low))
+  | inr new ↦ absurd (let high = subst (λ z. next_message V z ≤ m.number) (sym new.0) new.1.above in let low = (f.numbers_are_below m.site).seen t m q e refl in omega (arith, high, low))
 ]
 
 here_opens : (V W : World) (s : ℕ) (item : List ℕ) (c : (o : _) × Opens V W s item o) → Fit V → SeenHere V → SeenHere W
@@ -181,7 +181,7 @@ module _ (sites : ℕ) where
             let one = h.each site s (record_there rs site below) in
             let home : m.site ≡ site = at_row.0 ∙ (places site below).engagement in
             let right = one.sound.rows m.number (record { dest = dest; recall = r; item = i }) at_row.1 in
-            let ships = fits.records_fit.rows_shipped site m.number (record { dest = dest; recall = r; item = i }) at_row.1 in
+            let ships = ((fits.records_fit.justified site).rows m.number (record { dest = dest; recall = r; item = i }) at_row.1).1 in
             record {
               to = subst (λ n. dest < n) one.all right.dest;
               elsewhere = λ same. ships.0 (sym same ∙ home ∙ sym (places site below).captured);

@@ -202,7 +202,7 @@ module _ (recall : Recall) (root : List ℕ) (sites : ℕ) where
         let from = row_within s n x stands in
         let right = (sound_at s from).rows n x stands in
         let to : t < length rs = subst (λ k. t < k) (sites_at s from) right.dest in
-        let ships = h.fits.fits.records_fit.rows_shipped s n x stands in
+        let ships = ((h.fits.fits.records_fit.justified s).rows n x stands).1 in
         let mine : IsForSite (W t) m t recall = record {
           here = sym (h.fits.places t to).engagement;
           elsewhere = λ e. ships.0 (sym (e ∙ (h.fits.places t to).engagement) ∙ sym (h.fits.places s from).captured);
@@ -219,7 +219,7 @@ module _ (recall : Recall) (root : List ℕ) (sites : ℕ) where
         let takes : TakesMessage (W t) (V t) m recall i = subst (λ z. TakesMessage (W t) z m recall i) (sym (set_here rs t taken.after to)) taken.takes in
         let c : Takes W V t m recall i = takes_everywhere W V t (set_elsewhere rs t taken.after) (h.fits.places t to).engagement m recall i takes in
         goes_on f s from among to taken.effects_told taken.after taken.does (numbers_after_take (W t) taken.after m recall i taken.takes numbers)
-        (taking_leaves_less W V t m recall i c sites bound.0 (subst (λ k. s < k) h.count from) (bound.1 n right.number.high) (h.fits.fits.records_fit.rows_below s n x stands) stands)
+        (taking_leaves_less W V t m recall i c sites bound.0 (subst (λ k. s < k) h.count from) (bound.1 n right.number.high) ((h.fits.fits.records_fit.numbers_are_below s).rows n x stands) stands)
         (λ o k. (o, c.own recall.site recall.number ∙ k.0, k.1))
 
     -- the signal of a message that was seen and is no parent
@@ -244,7 +244,7 @@ module _ (recall : Recall) (root : List ℕ) (sites : ℕ) where
         let clears : ClearsRow (W s) (V s) n x = subst (λ z. ClearsRow (W s) z n x) (sym (set_here rs s cleared.after to)) cleared.clears in
         let c : Clears W V s n x = clears_everywhere W V s (set_elsewhere rs s cleared.after) (h.fits.places s to).engagement n x clears in
         goes_on f t from among to cleared.effects_told cleared.after cleared.does (numbers_after_signal (W s) cleared.after n x recall cleared.clears (h.numbers s (W s) (record_there rs s to)))
-        (clearing_leaves_less W V s n x c sites bound.0 answered.0.0 (subst (λ k. s < k) h.count to) (bound.1 n right.number.high) (h.fits.fits.records_fit.rows_below s n x stands) answered.0.1 clears.clears.row_gone)
+        (clearing_leaves_less W V s n x c sites bound.0 answered.0.0 (subst (λ k. s < k) h.count to) (bound.1 n right.number.high) ((h.fits.fits.records_fit.numbers_are_below s).rows n x stands) answered.0.1 clears.clears.row_gone)
         (λ o k. let p = c.own_kept recall.site recall.number o k.0 in (p.0, p.1, p.2 ∙ k.1))
 
     waiting_goes : Waiting W recall → Goes world

@@ -105,7 +105,7 @@ module _ (V W : World) (s : ℕ) (elsewhere : SameElsewhere V W s) (me : (V s).e
       let c = opens_everywhere V W s elsewhere me root w in
       let r : Recall = record { site = s; number = next_recall V s } in
       let name : record { site = (V s).engagement.me; number = next_recall V s } ≡ r = ap (λ z. record { site = z; number = next_recall V s }) me in
-      let never : (i : List ℕ) → Held V s r i → ⊥ = λ i h. omega (arith, f.held_below s r i h) in
+      let never : (i : List ℕ) → Held V s r i → ⊥ = λ i h. omega (arith, (f.numbers_are_below s).held s r i h refl) in
       log_adds V W s elsewhere f r root w.out
       (record {
         spreads = c.spreads;

@@ -37,8 +37,8 @@ way_goes rs sent site new now places fits below (goes_on input was after same_se
     let going = all site old (record_there rs site below) in
     record {
       sound = does_sound old input after.0 new going.sound after.1;
-      await = await_steps old new input after.0 (λ n x e. fits.records_fit.rows_below site n x e)
-          (λ r m mine e. fits.records_fit.not_engaged r m (subst (λ z. finite.get (world_of rs z).engagement.parents r ≡ Some m) (sym (mine ∙ (places site below).engagement)) e))
+      await = await_steps old new input after.0 (λ n x e. (fits.records_fit.numbers_are_below site).rows n x e)
+          (λ r m mine e. (fits.records_fit.parents_lead_home site r m e).0 (sym (mine ∙ (places site below).engagement)))
           after.1 going.await;
     }
 

@@ -30,7 +30,7 @@ module _ (W : World) (r : Recall) (f : Fit W) (sites : ℕ) (below : (s : ℕ) (
   free : (s n : ℕ) (x : Row) (p : Option Message) → row W s n ≡ Some x → x.recall ≡ r → parent W x.dest r ≡ p → p ≢ Some (record { site = s; number = n })
       → (q : Recall) → parent W x.dest q ≢ Some (record { site = s; number = n })
   free s n x p stands of at other q is =
-      let up = f.parent_row x.dest q (record { site = s; number = n }) is in
+      let up = (f.parents_stand x.dest q (record { site = s; number = n }) is).1 in
       let same : Some x ≡ Some up.0 = sym stands ∙ up.1 in
       let row_is : x ≡ up.0 = cc in
       let its : q ≡ r = sym up.3 ∙ ap (λ (y : Row). y.recall) (sym row_is) ∙ of in
@@ -55,7 +55,7 @@ module _ (W : World) (r : Recall) (f : Fit W) (sites : ℕ) (below : (s : ℕ) (
             | false ↦ λ differ. signal_waits s n x h.stands h.of_recall q is (Some p) at (λ e. let same : p ≡ m = cc in let equal = equal_messages p m same in let twice : false ≡ true = sym differ ∙ equal in cc)
             | true ↦ λ same.
                 let here : parent W x.dest r ≡ Some m = at ∙ ap Some (one_message p m same) in
-                let away : x.dest ≢ r.site = λ home. f.not_engaged r m (subst (λ z. parent W z r ≡ Some m) home here) in
+                let away : x.dest ≢ r.site = (f.parents_lead_home x.dest r m here).0 in
                 find fuel (suc k) x.dest (m, here, c, away) (omega (arith, far)) (awaits x.dest (m, here))
           ] refl
         ] refl

@@ -124,8 +124,8 @@ module _ (V W : World) (s : ℕ) (elsewhere : SameElsewhere V W s) (f : Fit V) (
   -- numbers announced before are below those of this step
   below : (m : Message) (x : Row) → Contains log (m, x) → m.number < next_message V m.site
   below m x h = elim (g.waits_or_seen m x h) as (λ _. m.number < next_message V m.site) [
-    | inl stands ↦ f.rows_below m.site m.number x stands
-    | inr saw ↦ f.seen_below x.dest m x.recall saw
+    | inl stands ↦ (f.numbers_are_below m.site).rows m.number x stands
+    | inr saw ↦ (f.numbers_are_below m.site).seen x.dest m x.recall saw refl
   ]
 
   apart : (m : Message) (x y : Row) → IsNew s (next_message V s) r out m x → Contains log (m, y) → ⊥
@@ -168,7 +168,7 @@ module _ (V W : World) (s : ℕ) (elsewhere : SameElsewhere V W s) (f : Fit V) (
         let stands = c.rows.row_told w.place (x.dest, x.item) w.message in
         inl (subst (λ (z : Message). row W z.site z.number ≡ Some x) (sym w.number) (stands ∙ ap (λ q. Some (record { dest = x.dest; recall = q; item = x.item })) (sym w.recall)))
     | inr old ↦ elim (g.waits_or_seen m x old) as (λ _. (row W m.site m.number ≡ Some x) ⊎ (seen W x.dest m ≡ Some x.recall)) [
-      | inl stands ↦ inl (c.spreads.row_kept m.site m.number x (f.rows_below m.site m.number x stands) stands)
+      | inl stands ↦ inl (c.spreads.row_kept m.site m.number x ((f.numbers_are_below m.site).rows m.number x stands) stands)
       | inr saw ↦ inr (c.seen_kept x.dest m x.recall saw)
     ]
   ]
