@@ -20,7 +20,8 @@ impl EntryTest<RecallId, ItemSet> for ClosedSet<'_> {
     ghost use Rattle.trace_core.specs.Spreads.{Inside};
     ghost use Rattle.site_core.specs.ItemSets as set;
 
-    ghost holds = { λ t _ items. (i j : List ℕ) → IsTrue (set.contains items i) → Inside t.state.now.captured i j → IsTrue (set.contains items j) };
+    ghost holds = { λ t _ items. (i j : List ℕ) → IsTrue (set.contains items i)
+        → Inside t.state.now.captured i j → IsTrue (set.contains items j) };
 
     fn passes(
         &self,

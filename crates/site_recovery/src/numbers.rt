@@ -96,7 +96,8 @@ impl<'a> Test<&'a SiteState> for MessageBelow {
     ghost use Rattle.std.specs.FinMap.{get};
     ghost use Rattle.frame_core.specs.Numbers.{Recall, Message};
 
-    ghost holds = { λ t s. (m : Message) (r : Recall) → get s.now.engagement.seen m ≡ Some r → m.site ≡ t.site → m.number < t.next };
+    ghost holds = { λ t s. (m : Message) (r : Recall) → get s.now.engagement.seen m ≡ Some r
+        → m.site ≡ t.site → m.number < t.next };
 
     fn passes(&self, alloc: Global, state: &&'a SiteState) -> Result<bool, AllocError> {
         each_entry(alloc, state.seen(), self)
@@ -152,7 +153,8 @@ impl<'a> Test<&'a SiteState> for RecallBelow {
     ghost use Rattle.frame_core.specs.Numbers.{Recall};
     ghost use Rattle.site_core.specs.ItemSets.{Items};
 
-    ghost holds = { λ t s. (r : Recall) (items : Items) → get s.now.quarantine r ≡ Some items → r.site ≡ t.site → r.number < t.next };
+    ghost holds = { λ t s. (r : Recall) (items : Items) → get s.now.quarantine r ≡ Some items
+        → r.site ≡ t.site → r.number < t.next };
 
     fn passes(&self, alloc: Global, state: &&'a SiteState) -> Result<bool, AllocError> {
         each_entry(alloc, state.quarantine().by_recall(), self)

@@ -55,7 +55,8 @@ impl Test<Pair> for Made<'_> {
     ghost use Rattle.std.specs.Prelude.{◌≡◌, IsTrue};
     ghost use Rattle.site_core.specs.ItemSets as set;
 
-    ghost holds = { λ t p. p.site ≡ t.state.now.captured.me → IsTrue (set.contains t.items.now p.item) };
+    ghost holds = { λ t p. p.site ≡ t.state.now.captured.me
+        → IsTrue (set.contains t.items.now p.item) };
 
     fn passes(&self, _alloc: Global, pair: &Pair) -> Result<bool, AllocError> {
         Ok(pair.site != self.state.captured().me() || self.items.contains(&pair.item))
@@ -67,7 +68,8 @@ impl Test<Epc> for Made<'_> {
     ghost use Rattle.trace_core.specs.Spreads.{Inside};
     ghost use Rattle.site_core.specs.ItemSets as set;
 
-    ghost holds = { λ t i. (j : List ℕ) → Inside t.state.now.captured i j → IsTrue (set.contains t.items.now j) };
+    ghost holds = { λ t i. (j : List ℕ) → Inside t.state.now.captured i j
+        → IsTrue (set.contains t.items.now j) };
 
     fn passes(&self, alloc: Global, item: &Epc) -> Result<bool, AllocError> {
         let pairs = self.state.captured().related(item)?;

@@ -39,7 +39,8 @@ impl EntryTest<RecallId, ItemSet> for HeldSet<'_> {
     ghost use Rattle.site_core.specs.ItemSets as set;
     ghost use Rattle.site_core.specs.Quarantines.{held};
 
-    ghost holds = { λ t r items. (i : List ℕ) → IsTrue (set.contains items i) → IsTrue (held t.reached.now r i) };
+    ghost holds = { λ t r items. (i : List ℕ) → IsTrue (set.contains items i)
+        → IsTrue (held t.reached.now r i) };
 
     fn passes(
         &self,
@@ -80,7 +81,8 @@ impl Condition for Reached<'_> {
     ghost use Rattle.site_recovery.specs.Checking.{HeldIn};
     ghost use Rattle.site_recovery.specs.Looks.{Held};
 
-    ghost holds = { λ c W s. (r : Recall) (i : List ℕ) → Held W s r i → HeldIn c.reached.now r (record { site = s; item = i }) };
+    ghost holds = { λ c W s. (r : Recall) (i : List ℕ) → Held W s r i
+        → HeldIn c.reached.now r (record { site = s; item = i }) };
 
     fn holds_at(
         &self,

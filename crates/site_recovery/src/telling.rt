@@ -29,7 +29,8 @@ impl Test<Epc> for ToldItem<'_> {
     ghost use Rattle.site_recovery.specs.Checking.{world_at};
     ghost use Rattle.site_recovery.specs.Looks.{Held};
 
-    ghost holds = { λ t i. ShipsTo t.from.now i t.to → IsTrue (held t.told.now t.recall i) ⊎ Held (world_at t.sites.now) t.to t.recall i };
+    ghost holds = { λ t i. ShipsTo t.from.now i t.to
+        → IsTrue (held t.told.now t.recall i) ⊎ Held (world_at t.sites.now) t.to t.recall i };
 
     fn passes(&self, alloc: Global, item: &Epc) -> Result<bool, AllocError> {
         if is_held(self.sites, self.to, self.recall, item) || self.told.holds(self.recall, item) {
@@ -56,7 +57,9 @@ impl EntryTest<RecallId, ItemSet> for ToldFrom<'_> {
     ghost use Rattle.site_recovery.specs.Checking.{world_at};
     ghost use Rattle.site_recovery.specs.Looks.{Held};
 
-    ghost holds = { λ t r items. (i : List ℕ) → IsTrue (set.contains items i) → ShipsTo t.from.now i t.to → IsTrue (held t.told.now r i) ⊎ Held (world_at t.sites.now) t.to r i };
+    ghost holds = { λ t r items. (i : List ℕ) → IsTrue (set.contains items i)
+        → ShipsTo t.from.now i t.to
+        → IsTrue (held t.told.now r i) ⊎ Held (world_at t.sites.now) t.to r i };
 
     fn passes(
         &self,
@@ -89,7 +92,8 @@ impl<'b> Test<&'b SiteState> for Telling<'_> {
     ghost use Rattle.site_recovery.specs.Checking.{world_at};
     ghost use Rattle.site_recovery.specs.Looks.{Held};
 
-    ghost holds = { λ t s. (r : Recall) (i : List ℕ) → Holds s.now r i → ShipsTo s.now i t.to → Tells s.now t.to r i ⊎ Held (world_at t.sites.now) t.to r i };
+    ghost holds = { λ t s. (r : Recall) (i : List ℕ) → Holds s.now r i → ShipsTo s.now i t.to
+        → Tells s.now t.to r i ⊎ Held (world_at t.sites.now) t.to r i };
 
     fn passes(&self, alloc: Global, state: &&'b SiteState) -> Result<bool, AllocError> {
         let told = told_to(alloc, *state, self.to)?;
@@ -135,7 +139,8 @@ impl EntryTest<u64, Row> for TakenRow<'_> {
     ghost use Rattle.site_recovery.specs.Checking.{world_at};
     ghost use Rattle.site_recovery.specs.Fit.{IsTaken};
 
-    ghost holds = { λ t n x. IsTaken (world_at t.sites.now) t.to (record { site = t.from; number = n }) x };
+    ghost holds = { λ t n x. IsTaken (world_at t.sites.now) t.to
+        (record { site = t.from; number = n }) x };
 
     fn passes(&self, _alloc: Global, number: &u64, row: &Row) -> Result<bool, AllocError> {
         if row.dest != self.to {
@@ -166,7 +171,9 @@ impl<'b> Test<&'b SiteState> for Taking<'_> {
     ghost use Rattle.site_recovery.specs.Checking.{world_at};
     ghost use Rattle.site_recovery.specs.Fit.{IsTaken};
 
-    ghost holds = { λ t s. (n : ℕ) (x : Row) → get s.now.engagement.outbox n ≡ Some x → IsTaken (world_at t.sites.now) t.to (record { site = s.now.engagement.me; number = n }) x };
+    ghost holds = { λ t s. (n : ℕ) (x : Row) → get s.now.engagement.outbox n ≡ Some x
+        → IsTaken (world_at t.sites.now) t.to
+        (record { site = s.now.engagement.me; number = n }) x };
 
     fn passes(&self, alloc: Global, state: &&'b SiteState) -> Result<bool, AllocError> {
         let taken = TakenRow {
