@@ -1,4 +1,4 @@
--- What a start and a message that is taken share keeps what is quarantined closed and announced, and rows just and numbered.
+-- What a start and a message that is taken share keeps what is quarantined closed and announced, and keeps rows just.
 use Rattle.std.proofs.Common.{◌≡◌, ◌⊎◌, inl, inr, ℕ, ◌<◌, true, false, List, refl, sym, ◌∙◌, subst, lt_of_lt_of_le}
 use mathlib.Core.Bool.{false≢true}
 use Rattle.frame_core.specs.Numbers.{Recall}

@@ -1,7 +1,7 @@
 -- When the records of all sites are consistent, and a frame that was sent fits them.
 --
--- The ten conditions are numbered as the answers of the check are. Numbers 7 and 8 are of one frame each; the others are
--- of the records alone, each stated at the site to which its failures are attributed.
+-- The ten conditions are numbered as the answers of the check are. Numbers 7 and 8 are of one frame each; the others
+-- are of the records alone, each stated at the site to which its failures are attributed.
 use Rattle.std.specs.Prelude.{◌≡◌, ◌≢◌, ◌⊎◌, ℕ, zero, suc, ◌<◌, IsTrue, IsFalse, List, Contains, Some}
 use Rattle.frame_core.specs.Numbers.{Recall, Message}
 use Rattle.frame_core.specs.declared.frames.Frame.{Frame}
@@ -32,7 +32,7 @@ IsInReach W r s i = (o : Own) × (own W r.site r.number ≡ Some o) × Reached W
 abbrev pub Announces : World → ℕ → ℕ → Recall → List ℕ → Type 0
 Announces W s t r i = Tells (W s) t r i
 
--- the site s passes the recall of the item on to the site t: it announces it there, or it is quarantined there
+-- the recall of the item is passed on from the site s to t: a row announces it there, or the item is quarantined there
 abbrev pub IsPassedOn : World → ℕ → ℕ → Recall → List ℕ → Type 0
 IsPassedOn W s t r i = Announces W s t r i ⊎ Held W t r i
 
@@ -68,7 +68,7 @@ MayWait W s r = IsEngaged W s r ⊎ ((s ≡ r.site) × IsLive W r)
 abbrev pub HasRow : World → Message → ℕ → Recall → Type 0
 HasRow W m s r = (x : Row) × (row W m.site m.number ≡ Some x) × (x.dest ≡ s) × (x.recall ≡ r)
 
--- the site has seen the message under the recall, and its row stands
+-- the parent was seen at the site under the recall, and its row stands where it was sent
 abbrev pub ParentStands : World → ℕ → Recall → Message → Type 0
 ParentStands W s r m = (seen W s m ≡ Some r) × HasRow W m s r
 

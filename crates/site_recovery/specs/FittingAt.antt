@@ -47,8 +47,8 @@ pub record IsOneOf (sites : ℕ) (s : ℕ) (site : Record) : Type 0 where
 abbrev pub AreAllSites : List Record → Type 0
 AreAllSites records = (s : ℕ) → s < length records → IsOneOf (length records) s (world_of records s)
 
--- A site that waits rightly and isn't engaged for its own recalls has no row of an ended one. So the ninth condition fails
--- only where the fourth or the sixth does.
+-- A site that waits rightly and isn't engaged for its own recalls has no row of an ended one. So the ninth condition
+-- fails only where the fourth or the sixth does.
 abbrev pub QuietEndsFollow : Type 0
 QuietEndsFollow = (W : World) (s : ℕ) → WaitsRightlyAt W s → ParentsLeadHomeFrom W s → EndsAreQuietAt W s
 
