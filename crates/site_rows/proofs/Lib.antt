@@ -7,7 +7,9 @@ pub mod ChangedEntries
 pub mod ClearsLead
 pub mod EachShown
 pub mod EventsInTurn
+pub mod EventsShown
 pub mod FreeAddresses
+pub mod FromPlaces
 pub mod GoodAddresses
 pub mod GoodRows
 pub mod GoodTables
@@ -37,6 +39,7 @@ pub mod SameRecords
 pub mod SameSites
 pub mod SignalsKeep
 pub mod StartsLead
+pub mod StepsKeep
 pub mod StepsLead
 pub mod TablesOfRecords
 pub mod TakesLead

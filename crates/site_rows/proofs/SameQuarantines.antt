@@ -20,13 +20,13 @@ use Rattle.site_rows.specs.RecordRows.{quarantine_row, quarantine_rows}
 use Rattle.site_core.proofs.Entries.{entry_found, entry_there}
 use Rattle.site_rows.proofs.SameRecalls.{same_recall_of}
 
-listed : (items : Items) (i : List ℕ) → IsTrue (set.contains items i) → Contains (set.items items) i
+pub listed : (items : Items) (i : List ℕ) → IsTrue (set.contains items i) → Contains (set.items items) i
 listed items i h = elim (get items i) as (λ found. get items i ≡ found → is_some found ≡ true → Contains (set.items items) i) [
   | None ↦ λ _ some. absurd (false≢true some)
   | Some u ↦ λ is _. contains-map (λ (e : List ℕ × Unit {0}). e.0) (entries items) (i, u) (entry_there item_total item_exact items i u is)
 ] refl h
 
-in_set : (items : Items) (i : List ℕ) → Contains (set.items items) i → IsTrue (set.contains items i)
+pub in_set : (items : Items) (i : List ℕ) → Contains (set.items items) i → IsTrue (set.contains items i)
 in_set items i at =
     let (e, among, same) = contains-from_map (λ (e : List ℕ × Unit {0}). e.0) (entries items) i at in
     subst (λ j. IsTrue (set.contains items j)) same (ap is_some (entry_found item_total items e.0 e.1 among))

@@ -1,6 +1,7 @@
 -- Laws of the rows of a record.
 use Rattle.std.specs.Prelude.{◌≡◌, ◌≢◌, ◌↔◌, ℕ, All, IsUtf8, Some, length, slice_get}
 use Rattle.std.specs.FinMap as finite
+use Rattle.std.specs.Ordering.{nat_cmp}
 use Rattle.event_json.specs.Contents.{id_of, kind_of}
 use Rattle.event_json.specs.Events.{Content, IsBody}
 use Rattle.event_json.specs.Sites.{AreSites, Site}
@@ -44,10 +45,17 @@ pub record IsEventAmong (sites : ℕ) (e : Content) : Type 0 where
 abbrev pub HoldsKeys : Quarantine → Type 0
 HoldsKeys q = (r : Recall) (items : Items) → finite.get q r ≡ Some items → All IsItemText (set.items items)
 
--- each message is about an item, and each own recall began with one
+-- each message is about an item
+abbrev pub AreOfItems : finite.FinMap nat_cmp Row → Type 0
+AreOfItems outbox = (number : ℕ) (row : Row) → finite.get outbox number ≡ Some row → IsItemText row.item
+
+-- each own recall began with one
+abbrev pub BeganWithItems : finite.FinMap nat_cmp Own → Type 0
+BeganWithItems recalls = (number : ℕ) (own : Own) → finite.get recalls number ≡ Some own → IsItemText own.root
+
 pub record NamesItems (d : Engagement) : Type 0 where
-  pub outbox : (number : ℕ) (row : Row) → finite.get d.outbox number ≡ Some row → IsItemText row.item
-  pub own : (number : ℕ) (own : Own) → finite.get d.own number ≡ Some own → IsItemText own.root
+  pub outbox : AreOfItems d.outbox
+  pub own : BeganWithItems d.own
 
 -- the addresses of a site are UTF-8, as all plain texts of a record
 abbrev pub HasTexts : Site → Type 0

@@ -4,6 +4,7 @@ pub mod BadAddresses
 pub mod BadEvents
 pub mod BadParts
 pub mod BadRows
+pub mod EventTexts
 pub mod HeldItems
 pub mod Laws
 pub mod PartsInTurn

@@ -1,10 +1,11 @@
 //! The rows of the sites and of their addresses.
-ghost use Rattle.std.specs.Prelude.{◌≡◌, ◌≤◌, fold, map, option_map, option_and_then, slice_get, pos, Some, IfOk, OnOk};
+ghost use Rattle.std.specs.Prelude.{◌≡◌, ◌≤◌, fold, map, option_map, option_and_then, slice_get, pos, Some, All, IfOk, OnOk};
 ghost use Rattle.std.specs.FinMap as finite;
 ghost use Rattle.std.specs.List.{enumerate_from};
 ghost use Rattle.frame_core.specs.Tables.{as_map};
 ghost use Rattle.event_json.specs.Sites.{Site};
 ghost use Rattle.site_rows.specs.RecordRows.{site_row, address_row, addresses_at, addresses_of, with_address};
+ghost use Rattle.site_rows.specs.Laws.{HasTexts};
 ghost use Rattle.site_rows.specs.Texts.{text_cmp};
 
 use crate::numbers::stored;
@@ -93,7 +94,11 @@ fn put_addresses(
     number: u64,
     addresses: &mut BTreeMap<Text, Address>,
 ) -> Result<(), AllocError>
-    ensures { (site : Site) → slice_get sites.now number ≡ Some site → OnOk result (as_map text_cmp addresses.new ≡ fold with_address (as_map text_cmp addresses.old) (addresses_at (number, site))) }
+    ensures added { (site : Site) → slice_get sites.now number ≡ Some site
+        → OnOk result (as_map text_cmp addresses.new
+        ≡ fold with_address (as_map text_cmp addresses.old) (addresses_at (number, site))) }
+    ensures texts { (site : Site) → slice_get sites.now number ≡ Some site
+        → OnOk result (HasTexts site) }
 {
     let _few = sites.len();
     for place in 0..ADDRESSES {
@@ -110,7 +115,8 @@ fn put_addresses(
 
 /// The addresses of all sites.
 fn addresses_of(alloc: Global, sites: &Sites) -> Result<BTreeMap<Text, Address>, AllocError>
-    ensures { IfOk result (λ addresses. as_map text_cmp addresses ≡ addresses_of sites.now) }
+    ensures all { IfOk result (λ addresses. as_map text_cmp addresses ≡ addresses_of sites.now) }
+    ensures texts { IfOk result (λ _. All HasTexts sites.now) }
 {
     let mut addresses = BTreeMap::new(alloc);
     for number in 0..sites.len() {
@@ -136,7 +142,9 @@ fn listed(alloc: Global, addresses: &BTreeMap<Text, Address>) -> Result<Vec<Addr
 
 /// The rows of the addresses, by text.
 pub fn address_rows(alloc: Global, sites: &Sites) -> Result<Sequence<AddressRow>, AllocError>
-    ensures { IfOk result (λ rows. rows ≡ map address_row (finite.entries (addresses_of sites.now))) }
+    ensures rows { IfOk result (λ rows.
+        rows ≡ map address_row (finite.entries (addresses_of sites.now))) }
+    ensures texts { IfOk result (λ _. All HasTexts sites.now) }
 {
     let addresses = addresses_of(alloc, sites)?;
     // The length shows the proof that the texts ascend.

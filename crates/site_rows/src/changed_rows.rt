@@ -14,6 +14,7 @@ ghost use Rattle.site_rows.specs.StepRows.{numbers_of, numbers_changed};
 
 use crate::changes::{Numbers, RecallKey};
 use crate::numbers::stored;
+use crate::recall_rows::{message_row, own_row};
 use crate::rows::{OutboxRow, ParentRow, QuarantineRow, RecallRow, SeenRow};
 use crate::texts::Text;
 use epc_core::Epc;
@@ -38,23 +39,10 @@ pub fn rows_held(
         rows.push(QuarantineRow {
             recall_site,
             recall_no,
-            item: Text::from_string(item.key(alloc)?),
+            item: Text::of_item(alloc, item)?,
         })?;
     }
     Ok(Sequence::from_vec(rows))
-}
-
-/// The row of an unsignalled message.
-fn message_row(alloc: Global, number: u64, row: &Row) -> Result<OutboxRow, AllocError>
-    ensures { IfOk result (λ message. message ≡ outbox_row (number, row.now)) }
-{
-    Ok(OutboxRow {
-        number: stored(number)?,
-        dest: stored(row.dest.number())?,
-        recall_site: stored(row.recall.site.number())?,
-        recall_no: stored(row.recall.number)?,
-        item: Text::from_string(row.item.key(alloc)?),
-    })
 }
 
 /// The rows of the messages that got numbers from this one on, where the site numbered them just now.
@@ -113,17 +101,6 @@ pub fn parent_rows_of(
     Ok(Sequence::from_vec(rows))
 }
 
-/// The row of an own recall.
-fn own_row(alloc: Global, number: u64, own: &Own) -> Result<RecallRow, AllocError>
-    ensures { IfOk result (λ row. row ≡ recall_row (number, own.now)) }
-{
-    Ok(RecallRow {
-        number: stored(number)?,
-        root: Text::from_string(own.root.key(alloc)?),
-        ended: i64::from(own.ended),
-    })
-}
-
 /// The row of the own recall of this number.
 pub fn own_rows_at(
     alloc: Global,
@@ -145,7 +122,7 @@ fn ended_row(alloc: Global, number: u64, own: &Own) -> Result<RecallRow, AllocEr
 {
     Ok(RecallRow {
         number: stored(number)?,
-        root: Text::from_string(own.root.key(alloc)?),
+        root: Text::of_item(alloc, &own.root)?,
         ended: 1,
     })
 }

@@ -1,8 +1,10 @@
 //! The rows of the captured events and of their lists.
-ghost use Rattle.std.specs.Prelude.{◌≡◌, ◌≤◌, ◌++◌, ◌∷◌, ◌+◌, [], drop, flat_map, map, length, option_map, pos, IfOk, OnOk};
+ghost use Rattle.std.specs.Prelude.{◌≡◌, ◌≤◌, ◌++◌, ◌∷◌, ◌+◌, [], drop, flat_map, map, length, option_map, pos, All, IfOk, IfSome, OnOk};
 ghost use Rattle.std.specs.List.{enumerate_from};
 ghost use Rattle.event_json.specs.Contents.{kind_of, id_of, number_of};
 ghost use Rattle.site_rows.specs.RecordRows.{event_row, part_row, part_rows, body_rows, parts_of, pack_rows, packs_of, packed_row, packed_rows, children_of, name_of};
+ghost use Rattle.site_rows.specs.EventTexts.{EachFrom, HasPlainIds, HasParts, HasParent, HasChildren};
+ghost use Rattle.site_rows.specs.Texts.{IsItemText, IsPlainText, IsTextOrNone};
 
 use crate::numbers::stored;
 use crate::rows::{EventRow, PackRow, PackedRow, PartRow};
@@ -40,17 +42,19 @@ fn kind_of(body: &Body) -> i64
 
 /// A copy of a text, where there is one.
 fn text_of(alloc: Global, text: Option<&PlainText>) -> Result<Option<Text>, AllocError>
-    ensures { IfOk result (λ copy. copy ≡ option_map (λ t. t.now) text.entry) }
+    ensures value { IfOk result (λ copy. copy ≡ option_map (λ t. t.now) text.entry) }
+    ensures plain { IsTextOrNone (option_map (λ t. t.now) text.entry) }
 {
     match text {
-        Some(text) => Ok(Some(Text::of(alloc, text.as_str())?)),
+        Some(text) => Ok(Some(Text::of_plain(alloc, text)?)),
         None => Ok(None),
     }
 }
 
 /// The transformationID of an event that makes items, where it has one.
 fn make_id_of(alloc: Global, body: &Body) -> Result<Option<Text>, AllocError>
-    ensures { IfOk result (λ copy. copy ≡ id_of body.now) }
+    ensures value { IfOk result (λ copy. copy ≡ id_of body.now) }
+    ensures plain { IsTextOrNone (id_of body.now) }
 {
     match body {
         Body::Make { id, .. } => text_of(alloc, id.as_ref()),
@@ -60,7 +64,8 @@ fn make_id_of(alloc: Global, body: &Body) -> Result<Option<Text>, AllocError>
 
 /// The row of an event of this number.
 fn event_row(alloc: Global, number: u64, event: &Event) -> Result<EventRow, AllocError>
-    ensures { IfOk result (λ row. row ≡ event_row (number, event.now)) }
+    ensures row { IfOk result (λ row. row ≡ event_row (number, event.now)) }
+    ensures ids { IfOk result (λ _. HasPlainIds event.now) }
 {
     let instant = event.instant();
     Ok(EventRow {
@@ -79,7 +84,9 @@ pub fn event_rows(
     captured: &Captured,
     from: usize,
 ) -> Result<Sequence<EventRow>, AllocError>
-    ensures { IfOk result (λ rows. rows ≡ map event_row (enumerate_from (from + 1) (drop from captured.now.events))) }
+    ensures rows { IfOk result (λ rows.
+        rows ≡ map event_row (enumerate_from (from + 1) (drop from captured.now.events))) }
+    ensures ids { IfOk result (λ _. EachFrom HasPlainIds from captured.now.events) }
 {
     let mut rows = Vec::new(alloc);
     for place in from..captured.len() {
@@ -110,10 +117,11 @@ fn push_items(
     role: u64,
     items: &[Epc],
 ) -> Result<(), AllocError>
-    ensures { OnOk result (rows.new.items ≡ rows.old.items ++ part_rows event role items.now) }
+    ensures rows { OnOk result (rows.new.items ≡ rows.old.items ++ part_rows event role items.now) }
+    ensures items { OnOk result (All IsItemText items.now) }
 {
     for (place, item) in items.iter().enumerate() {
-        let key = Text::from_string(item.key(alloc)?);
+        let key = Text::of_item(alloc, item)?;
         rows.push(part_row(event, role, place as u64, key)?)?;
     }
     Ok(())
@@ -153,10 +161,11 @@ fn push_outside(
     event: u64,
     outside: &[PlainText],
 ) -> Result<(), AllocError>
-    ensures { OnOk result (rows.new.items ≡ rows.old.items ++ part_rows event 2 outside.now) }
+    ensures rows { OnOk result (rows.new.items ≡ rows.old.items ++ part_rows event 2 outside.now) }
+    ensures plain { OnOk result (All IsPlainText outside.now) }
 {
     for (place, text) in outside.iter().enumerate() {
-        let text = Text::of(alloc, text.as_str())?;
+        let text = Text::of_plain(alloc, text)?;
         rows.push(part_row(event, OUTSIDE, place as u64, text)?)?;
     }
     Ok(())
@@ -170,7 +179,9 @@ fn push_body(
     sites: &Sites,
     body: &Body,
 ) -> Result<(), AllocError>
-    ensures { OnOk result (rows.new.items ≡ rows.old.items ++ body_rows sites.now event body.now) }
+    ensures rows { OnOk result (rows.new.items
+        ≡ rows.old.items ++ body_rows sites.now event body.now) }
+    ensures parts { OnOk result (HasParts body.now) }
 {
     match body {
         Body::Note { items } => push_items(alloc, rows, event, ITEM, items.as_slice()),
@@ -199,7 +210,9 @@ pub fn part_rows(
     captured: &Captured,
     from: usize,
 ) -> Result<Sequence<PartRow>, AllocError>
-    ensures { IfOk result (λ rows. rows ≡ flat_map (parts_of sites.now) (enumerate_from (from + 1) (drop from captured.now.events))) }
+    ensures rows { IfOk result (λ rows. rows ≡ flat_map (parts_of sites.now)
+        (enumerate_from (from + 1) (drop from captured.now.events))) }
+    ensures parts { IfOk result (λ _. EachFrom (λ e. HasParts e.body) from captured.now.events) }
 {
     let mut rows = Vec::new(alloc);
     for place in from..captured.len() {
@@ -223,10 +236,11 @@ fn number_of(action: Action) -> i64
 
 /// The key of an item, where there is one.
 fn key_of(alloc: Global, item: &Option<Epc>) -> Result<Option<Text>, AllocError>
-    ensures { IfOk result (λ key. key ≡ item.now) }
+    ensures value { IfOk result (λ key. key ≡ item.now) }
+    ensures item { IfSome item.now IsItemText }
 {
     match item {
-        Some(item) => Ok(Some(Text::from_string(item.key(alloc)?))),
+        Some(item) => Ok(Some(Text::of_item(alloc, item)?)),
         None => Ok(None),
     }
 }
@@ -238,7 +252,8 @@ fn push_pack(
     event: u64,
     body: &Body,
 ) -> Result<(), AllocError>
-    ensures { OnOk result (rows.new.items ≡ rows.old.items ++ pack_rows event body.now) }
+    ensures rows { OnOk result (rows.new.items ≡ rows.old.items ++ pack_rows event body.now) }
+    ensures parent { OnOk result (HasParent body.now) }
 {
     match body {
         Body::Pack { action, parent, .. } => {
@@ -259,7 +274,9 @@ pub fn pack_rows(
     captured: &Captured,
     from: usize,
 ) -> Result<Sequence<PackRow>, AllocError>
-    ensures { IfOk result (λ rows. rows ≡ flat_map packs_of (enumerate_from (from + 1) (drop from captured.now.events))) }
+    ensures rows { IfOk result (λ rows.
+        rows ≡ flat_map packs_of (enumerate_from (from + 1) (drop from captured.now.events))) }
+    ensures parents { IfOk result (λ _. EachFrom (λ e. HasParent e.body) from captured.now.events) }
 {
     let mut rows = Vec::new(alloc);
     for place in from..captured.len() {
@@ -288,10 +305,12 @@ fn push_children(
     event: u64,
     children: &[Epc],
 ) -> Result<(), AllocError>
-    ensures { OnOk result (rows.new.items ≡ rows.old.items ++ map (packed_row event) (enumerate_from 0 children.now)) }
+    ensures rows { OnOk result (rows.new.items ≡ rows.old.items ++ map (packed_row event)
+        (enumerate_from 0 children.now)) }
+    ensures items { OnOk result (All IsItemText children.now) }
 {
     for (place, item) in children.iter().enumerate() {
-        let key = Text::from_string(item.key(alloc)?);
+        let key = Text::of_item(alloc, item)?;
         rows.push(packed_row(event, place as u64, key)?)?;
     }
     Ok(())
@@ -304,7 +323,8 @@ fn push_packed(
     event: u64,
     body: &Body,
 ) -> Result<(), AllocError>
-    ensures { OnOk result (rows.new.items ≡ rows.old.items ++ packed_rows event body.now) }
+    ensures rows { OnOk result (rows.new.items ≡ rows.old.items ++ packed_rows event body.now) }
+    ensures children { OnOk result (HasChildren body.now) }
 {
     match body {
         Body::Pack { children, .. } => push_children(alloc, rows, event, children.as_slice()),
@@ -318,7 +338,10 @@ pub fn packed_rows(
     captured: &Captured,
     from: usize,
 ) -> Result<Sequence<PackedRow>, AllocError>
-    ensures { IfOk result (λ rows. rows ≡ flat_map children_of (enumerate_from (from + 1) (drop from captured.now.events))) }
+    ensures rows { IfOk result (λ rows.
+        rows ≡ flat_map children_of (enumerate_from (from + 1) (drop from captured.now.events))) }
+    ensures children { IfOk result (λ _.
+        EachFrom (λ e. HasChildren e.body) from captured.now.events) }
 {
     let mut rows = Vec::new(alloc);
     for place in from..captured.len() {

@@ -1,14 +1,17 @@
 //! The rows of a site's part in recalls: what is quarantined, its messages, its parents and its own recalls.
-ghost use Rattle.std.specs.Prelude.{◌≡◌, ◌++◌, IfOk, OnOk, flat_map, map};
+ghost use Rattle.std.specs.Prelude.{◌≡◌, ◌++◌, All, IfOk, OnOk, flat_map, map};
 ghost use Rattle.std.specs.FinMap as finite;
 ghost use Rattle.site_core.specs.ItemSets as set;
 ghost use Rattle.site_rows.specs.RecordRows.{quarantine_row, quarantine_rows, outbox_row, seen_row, parent_row, recall_row};
+ghost use Rattle.site_rows.specs.Laws.{AreOfItems, BeganWithItems, HoldsKeys};
+ghost use Rattle.site_rows.specs.Texts.{IsItemText};
 
 use crate::numbers::stored;
 use crate::rows::{OutboxRow, ParentRow, QuarantineRow, RecallRow, SeenRow};
 use crate::texts::Text;
 use event_json::Sequence;
-use frame_core::RecallId;
+use frame_core::{RecallId, Row};
+use scholten_core::Own;
 use site_core::{ItemSet, Quarantine, SiteState};
 use std::alloc::{AllocError, Global};
 
@@ -19,7 +22,9 @@ fn push_held(
     items: &ItemSet,
     rows: &mut Vec<QuarantineRow>,
 ) -> Result<(), AllocError>
-    ensures { OnOk result (rows.new.items ≡ rows.old.items ++ map (quarantine_row recall) (set.items items.now)) }
+    ensures rows { OnOk result (rows.new.items ≡ rows.old.items ++ map (quarantine_row recall)
+        (set.items items.now)) }
+    ensures items { OnOk result (All IsItemText (set.items items.now)) }
 {
     let recall_site = stored(recall.site.number())?;
     let recall_no = stored(recall.number)?;
@@ -27,7 +32,7 @@ fn push_held(
         rows.push(QuarantineRow {
             recall_site,
             recall_no,
-            item: Text::from_string(item.key(alloc)?),
+            item: Text::of_item(alloc, item)?,
         })?;
     }
     Ok(())
@@ -38,7 +43,9 @@ pub fn quarantine_rows(
     alloc: Global,
     quarantine: &Quarantine,
 ) -> Result<Sequence<QuarantineRow>, AllocError>
-    ensures { IfOk result (λ rows. rows ≡ flat_map quarantine_rows (finite.entries quarantine.now)) }
+    ensures rows { IfOk result (λ rows.
+        rows ≡ flat_map quarantine_rows (finite.entries quarantine.now)) }
+    ensures items { IfOk result (λ _. HoldsKeys quarantine.now) }
 {
     let mut rows = Vec::new(alloc);
     for (recall, items) in quarantine.by_recall() {
@@ -47,19 +54,29 @@ pub fn quarantine_rows(
     Ok(Sequence::from_vec(rows))
 }
 
+/// The row of an unsignalled message.
+pub fn message_row(alloc: Global, number: u64, row: &Row) -> Result<OutboxRow, AllocError>
+    ensures row { IfOk result (λ message. message ≡ outbox_row (number, row.now)) }
+    ensures item { IfOk result (λ _. IsItemText row.now.item) }
+{
+    Ok(OutboxRow {
+        number: stored(number)?,
+        dest: stored(row.dest.number())?,
+        recall_site: stored(row.recall.site.number())?,
+        recall_no: stored(row.recall.number)?,
+        item: Text::of_item(alloc, &row.item)?,
+    })
+}
+
 /// The rows of the messages that aren't signalled, by number.
 pub fn outbox_rows(alloc: Global, state: &SiteState) -> Result<Sequence<OutboxRow>, AllocError>
-    ensures { IfOk result (λ rows. rows ≡ map outbox_row (finite.entries state.now.engagement.outbox)) }
+    ensures rows { IfOk result (λ rows.
+        rows ≡ map outbox_row (finite.entries state.now.engagement.outbox)) }
+    ensures items { IfOk result (λ _. AreOfItems state.now.engagement.outbox) }
 {
     let mut rows = Vec::new(alloc);
     for (number, row) in state.outbox() {
-        rows.push(OutboxRow {
-            number: stored(*number)?,
-            dest: stored(row.dest.number())?,
-            recall_site: stored(row.recall.site.number())?,
-            recall_no: stored(row.recall.number)?,
-            item: Text::from_string(row.item.key(alloc)?),
-        })?;
+        rows.push(message_row(alloc, *number, row)?)?;
     }
     Ok(Sequence::from_vec(rows))
 }
@@ -96,17 +113,27 @@ pub fn parent_rows(alloc: Global, state: &SiteState) -> Result<Sequence<ParentRo
     Ok(Sequence::from_vec(rows))
 }
 
+/// The row of an own recall.
+pub fn own_row(alloc: Global, number: u64, own: &Own) -> Result<RecallRow, AllocError>
+    ensures row { IfOk result (λ row. row ≡ recall_row (number, own.now)) }
+    ensures item { IfOk result (λ _. IsItemText own.now.root) }
+{
+    Ok(RecallRow {
+        number: stored(number)?,
+        root: Text::of_item(alloc, &own.root)?,
+        ended: i64::from(own.ended),
+    })
+}
+
 /// The rows of the recalls that the site began, by number.
 pub fn recall_rows(alloc: Global, state: &SiteState) -> Result<Sequence<RecallRow>, AllocError>
-    ensures { IfOk result (λ rows. rows ≡ map recall_row (finite.entries state.now.engagement.own)) }
+    ensures rows { IfOk result (λ rows.
+        rows ≡ map recall_row (finite.entries state.now.engagement.own)) }
+    ensures items { IfOk result (λ _. BeganWithItems state.now.engagement.own) }
 {
     let mut rows = Vec::new(alloc);
     for (number, own) in state.own_recalls() {
-        rows.push(RecallRow {
-            number: stored(*number)?,
-            root: Text::from_string(own.root.key(alloc)?),
-            ended: i64::from(own.ended),
-        })?;
+        rows.push(own_row(alloc, *number, own)?)?;
     }
     Ok(Sequence::from_vec(rows))
 }

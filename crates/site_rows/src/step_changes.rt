@@ -7,6 +7,8 @@ ghost use Rattle.site_core.specs.Steps.{Does, Starts, Takes};
 ghost use Rattle.site_core.specs.Undoing.{IsSignal, IsUndoOf};
 ghost use Rattle.site_core.specs.declared.outcomes.Effects.{Effects};
 ghost use Rattle.site_core.specs.declared.outcomes.Effects.TheVariants as effects;
+ghost use Rattle.site_rows.specs.Laws.{HoldsItems, IsEventAmong, IsKept};
+ghost use Rattle.site_rows.specs.EventTexts.{EachFrom};
 ghost use Rattle.site_rows.specs.StepRows.{AreChangesOf, no_changes};
 
 use crate::changed_rows::{
@@ -22,8 +24,8 @@ use site_core::{Effects, SiteInput, SiteState, StepUndo};
 use std::alloc::{AllocError, Global};
 
 /// The rows that a step changed that is no signal: what it added, and what it put in place. They are found at the record
-/// after it and at what takes the step back. The effects count them, but for the members and the packs of events. Fails where memory
-/// runs out.
+/// after it and at what takes the step back. The effects count them, but for the members and the packs of events. A
+/// record that can be read back from its rows leads to one that can be, too. Fails where memory runs out.
 pub fn changes_of(
     alloc: Global,
     input: &SiteInput,
@@ -32,15 +34,17 @@ pub fn changes_of(
     new: &SiteState,
 ) -> Result<RowChanges, AllocError>
     requires no_signal { IsSignal input.now → ⊥ }
-    ensures { (old : Record) → Does old input.now effects.now new.now → IsUndoOf undo.now old input.now → IfOk result (λ changes. AreChangesOf changes effects.now old new.now) }
+    ensures changes { (old : Record) → Does old input.now effects.now new.now
+        → IsUndoOf undo.now old input.now
+        → IfOk result (λ changes. AreChangesOf changes effects.now old new.now) }
+    ensures items { (old : Record) → Does old input.now effects.now new.now
+        → IsUndoOf undo.now old input.now → IsKept old → HoldsItems old
+        → IfOk result (λ _. IsKept new.now × HoldsItems new.now) }
 {
     match input {
         SiteInput::Capture(_) => captured_changes(alloc, undo.captured, new),
         SiteInput::Start(_) => started_changes(alloc, effects, undo, new),
-        SiteInput::Deliver(Frame::Recall { id, recall, .. }) => {
-            taken_changes(alloc, *id, *recall, effects, undo, new)
-        }
-        SiteInput::Deliver(Frame::Signal { .. }) => Ok(no_changes(alloc)),
+        SiteInput::Deliver(frame) => delivered_changes(alloc, frame, effects, undo, new),
     }
 }
 
@@ -79,8 +83,14 @@ fn no_changes(alloc: Global) -> RowChanges
 
 /// The rows that a capture adds: those of the events from this place on, which weren't captured before.
 fn captured_changes(alloc: Global, from: usize, new: &SiteState) -> Result<RowChanges, AllocError>
-    ensures { (old : Record) (bytes : List ℕ) (told : Effects) → Does old (SiteInput.Capture bytes) told new.now → from ≡ length old.captured.events → IfOk result (λ changes. AreChangesOf changes told old new.now) }
+    ensures changes { (old : Record) (bytes : List ℕ) (told : Effects)
+        → Does old (SiteInput.Capture bytes) told new.now → from ≡ length old.captured.events
+        → IfOk result (λ changes. AreChangesOf changes told old new.now) }
+    ensures events { IfOk result (λ _.
+        EachFrom (IsEventAmong (length new.now.sites)) from new.now.captured.events) }
 {
+    // Its reader shows the proof that events ship to sites of the list.
+    let _me = new.me();
     let event = event_rows(alloc, new.captured(), from)?;
     let part = part_rows(alloc, new.sites(), new.captured(), from)?;
     let pack = pack_rows(alloc, new.captured(), from)?;
@@ -143,6 +153,36 @@ fn begun_changes(
         recall: own,
         numbers: Some(numbers),
     })
+}
+
+/// The rows that a frame changes that is no signal.
+fn delivered_changes(
+    alloc: Global,
+    frame: &Frame,
+    effects: &Effects,
+    undo: &StepUndo,
+    new: &SiteState,
+) -> Result<RowChanges, AllocError>
+    requires no_signal { IsSignal (SiteInput.Deliver frame.now) → ⊥ }
+    ensures changes { (old : Record) → Does old (SiteInput.Deliver frame.now) effects.now new.now
+        → IsUndoOf undo.now old (SiteInput.Deliver frame.now)
+        → IfOk result (λ changes. AreChangesOf changes effects.now old new.now) }
+    ensures items { (old : Record) → Does old (SiteInput.Deliver frame.now) effects.now new.now
+        → IsKept old → HoldsItems old → IfOk result (λ _. IsKept new.now × HoldsItems new.now) }
+{
+    match frame {
+        Frame::Recall {
+            id,
+            recall,
+            item,
+            ..
+        } => {
+            // The form shows the proof that the message is about an item.
+            let _form = item.form();
+            taken_changes(alloc, *id, *recall, effects, undo, new)
+        }
+        Frame::Signal { .. } => Ok(no_changes(alloc)),
+    }
 }
 
 /// The rows that a message of a recall changes, which may have been seen before.

@@ -1,10 +1,12 @@
 //! A text of a row, as the database has it: bytes, which need not be UTF-8.
-ghost use Rattle.std.specs.Prelude.{◌≡◌, IfOk, Some, option_map, string_bytes, refl, nat_eq};
+ghost use Rattle.std.specs.Prelude.{◌≡◌, IfOk, IsUtf8, Some, option_map, string_bytes, refl, nat_eq};
 ghost use Rattle.std.specs.Cmp as Cmp;
 ghost use Rattle.std.specs.Cmp.Lexicographic.{slice_cmp, pointwise, nat_list_cmp_total, nat_list_eq_equiv, texts_ties, texts_po};
 ghost use Rattle.std.specs.Ordering.{nat_cmp};
-ghost use Rattle.site_rows.specs.Texts.{Reads};
+ghost use Rattle.site_rows.specs.Texts.{IsItemText, IsPlainText, Reads};
 
+use epc_core::Epc;
+use event_json::PlainText;
 use std::alloc::{AllocError, Global};
 use std::cmp::Ordering;
 use std::marker::Model;
@@ -44,9 +46,28 @@ impl Text {
 
     /// A copy of a text.
     pub fn of(alloc: Global, text: &str) -> Result<Text, AllocError>
-        ensures { IfOk result (λ t. t ≡ text.now) }
+        ensures value { IfOk result (λ t. t ≡ text.now) }
+        ensures utf8 { IsUtf8 text.now }
     {
         Text::from_bytes(alloc, text.as_bytes())
+    }
+
+    /// A copy of a plain text.
+    pub fn of_plain(alloc: Global, text: &PlainText) -> Result<Text, AllocError>
+        ensures value { IfOk result (λ t. t ≡ text.now) }
+        ensures plain { IsPlainText text.now }
+    {
+        Text::of(alloc, text.as_str())
+    }
+
+    /// The key of an item.
+    pub fn of_item(alloc: Global, item: &Epc) -> Result<Text, AllocError>
+        ensures value { IfOk result (λ t. t ≡ item.now) }
+        ensures item { IsItemText item.now }
+    {
+        // The form shows the proof that this is the key of an item.
+        let _form = item.form();
+        Ok(Text::from_string(item.key(alloc)?))
     }
 
     /// Its bytes.

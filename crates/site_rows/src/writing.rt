@@ -1,5 +1,6 @@
 //! The rows of what a site keeps.
 ghost use Rattle.std.specs.Prelude.{◌≡◌, ◌∷◌, [], IfOk};
+ghost use Rattle.site_rows.specs.Laws.{HoldsItems, IsKept};
 ghost use Rattle.site_rows.specs.RecordRows.{store_row, rows_of};
 ghost use Rattle.site_rows.specs.declared.tables.Version.TheVariants.{Second};
 
@@ -27,10 +28,16 @@ fn store_rows(alloc: Global, state: &SiteState) -> Result<Sequence<StoreRow>, Al
     Ok(Sequence::from_vec(rows))
 }
 
-/// The rows of all tables of the second version that stand for what a site keeps. Fails where memory runs out.
+/// The rows of all tables of the second version that stand for what a site keeps. It can be read back from them: its
+/// events are within their limits, and its texts are those of items, sites and plain destinations, in UTF-8. Fails
+/// where memory runs out.
 pub fn rows_of(alloc: Global, state: &SiteState) -> Result<Rows, AllocError>
-    ensures { IfOk result (λ rows. rows ≡ rows_of state.now) }
+    ensures rows { IfOk result (λ rows. rows ≡ rows_of state.now) }
+    ensures kept { IfOk result (λ _. IsKept state.now) }
+    ensures items { IfOk result (λ _. HoldsItems state.now) }
 {
+    // Their readers show the proof that the sites are in order and the record is sound.
+    let _known = (state.sites().len(), state.me());
     Ok(Rows {
         version: Version::Second,
         store: store_rows(alloc, state)?,

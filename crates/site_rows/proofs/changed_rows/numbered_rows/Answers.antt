@@ -22,7 +22,7 @@ loop-number-preserved c =
             let within : j < length out = omega (arith, low, below, next) in
             let found = sym (w.in-Some.ensures ∙ ap (λ m. get m number) (c.outbox.ensures.outbox ∙ is)) in
             let made = row_found before from r out j number w.in-Some.row.now c.loop-number.rows.items _ here within found (c.loop-number.invariant.1 before r out j is next here) in
-            rw (w.rows-is, w.in_ok-push.ensures.items, w.in_ok-message_row.ensures, there) made,
+            rw (w.rows-is, w.in_ok-push.ensures.items, w.in_ok-message_row.ensures.row, there) made,
       )
       | in_default w ↦ (
         higher,
