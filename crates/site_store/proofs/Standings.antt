@@ -3,6 +3,7 @@ use Rattle.std.proofs.Common.{◌≡◌, ℕ, ◌+◌, ◌-◌, ◌^◌, Bool, t
 use Rattle.std.specs.Prelude.{IsTrue, min, if◌then◌else◌, ◌↔◌}
 use Rattle.std.proofs.lemmas.Option.{same_Some}
 use Rattle.sqlite.specs.State.{State}
+use Rattle.sqlite.specs.declared.error.Error.{Error}
 use Rattle.frame_core.specs.declared.frames.Frame.TheVariants as frames
 use Rattle.frame_core.specs.declared.rows.Row.{Row}
 use Rattle.frame_core.specs.Numbers.{Message}
@@ -16,12 +17,15 @@ use Rattle.site_core.specs.declared.outcomes.Effects.TheVariants as effects
 use Rattle.site_core.specs.declared.outcomes.Refusal.{Refusal}
 use Rattle.site_core.specs.declared.outcomes.Refusal.TheVariants as refusals
 use Rattle.keeper_core.specs.Keeping.{IsAfter}
+use Rattle.site_rows.specs.Laws.{HoldsItems, IsKept, SignalsKeepItems}
 use Rattle.site_rows.specs.RecordRows.{rows_of}
 use Rattle.site_rows.specs.declared.rows.Rows.{Rows}
 use Rattle.site_store.specs.Findable.{MayBeFound}
-use Rattle.site_store.specs.Standing.{Standing, StandsIn, IsNextOf, IsFoundAfter}
+use Rattle.site_store.specs.Standing.{Standing, alone, AreFound, StandsIn, IsNextOf}
 use Rattle.site_store.specs.StepTried.{StepsTo}
 use Rattle.site_store.specs.StepWritten.{LeavesAny, LeavesOneOf, AreStatements, IsCounted}
+use Rattle.site_store.specs.declared.writing.Unwritten.{Unwritten}
+use Rattle.site_store.specs.declared.writing.Unwritten.TheVariants.{NoMemory, Failed}
 
 -- ---- the record after a step that failed
 
@@ -33,9 +37,38 @@ next_done fixed s input told next is does = (
       (fixed s.state r next input w.2.0 told (subst (λ i. Does s.state i w.2.0 r) same w.2.1) does).1,
 )
 
-pub each_found : (s : Standing) → IsFoundAfter s.state s.pending → MayBeFound s.state → (r : Record) → StandsIn s r → MayBeFound r
-each_found s after now r (inl is) = subst MayBeFound (sym is) now
-each_found s after now r (inr w) = after w.0 r w.1 w.2
+-- ---- what an opening finds
+
+pub found_alone : (r : Record) → MayBeFound r → AreFound (alone r)
+found_alone r found s (inl is) = subst MayBeFound (sym is) found
+found_alone r found s (inr w) = absurd (let none : None ≡ Some w.0 = w.1 in cc)
+
+pub found_pending : (r : Record) (input : SiteInput) → MayBeFound r → ((next : Record) → IsAfter r input next → MayBeFound next) → AreFound (record { state = r; pending = Some input })
+found_pending r input found after s (inl is) = subst MayBeFound (sym is) found
+found_pending r input found after s (inr w) = after s (subst (λ i. IsAfter r i s) (sym (same_Some input w.0 w.1)) w.2)
+
+-- an input leads to one record
+pub found_after : EffectsAreFixed → (r next : Record) (input : SiteInput) (told : Effects) → Does r input told next → MayBeFound next → (s : Record) → IsAfter r input s → MayBeFound s
+found_after fixed r next input told does found s after = subst MayBeFound (fixed r next s input told after.0 does after.1).1 found
+
+-- a signal leads to one that is found
+pub found_signalled : SignalsKeepItems → (r : Record) (input : SiteInput) (m : Message) → ((by : ℕ) × (input ≡ Deliver (frames.Signal m by))) → MayBeFound r → (next : Record) → IsAfter r input next → MayBeFound next
+found_signalled keep r input m signal found next after =
+    let it = keep r next m signal.0 after.0 (subst (λ i. Does r i after.0 next) signal.1 after.1) found.kept found.items in
+    record { kept = it.0; items = it.1 }
+
+-- so does a step whose changes were made, as they were unless there was no memory for them
+pub found_made : {X E : Type 0} (changes : Result X E) (written : Result ℕ Unwritten) (new : Record) → IfErr changes (λ _. written ≡ Err NoMemory) → (written ≡ Err NoMemory → ⊥)
+    → IfOk changes (λ _. IsKept new × HoldsItems new) → MayBeFound new
+found_made (Ok made) written new none some it = record { kept = it.0; items = it.1 }
+found_made (Err why) written new none some it = absurd (some none)
+
+-- what is written, or fails for another reason, isn't for want of memory
+pub written_is_not : (written : Result ℕ Unwritten) (rows : ℕ) → written ≡ Ok rows → written ≡ Err NoMemory → ⊥
+written_is_not written rows is none = absurd (let e : Ok rows ≡ Err NoMemory = sym is ∙ none in cc)
+
+pub failed_is_not : (written : Result ℕ Unwritten) (error : Error) → written ≡ Err (Failed error) → written ≡ Err NoMemory → ⊥
+failed_is_not written error is none = absurd (let e : Err (Failed error) ≡ Err NoMemory = sym is ∙ none in cc)
 
 -- ---- what a step leaves
 

@@ -78,6 +78,6 @@ abbrev pub IsNextOf : Standing → Option Record → Type 0
 IsNextOf s None = (r : Record) → IsPending s r → ⊥
 IsNextOf s (Some next) = IsPending s next × ((r : Record) → IsPending s r → r ≡ next)
 
--- an opening finds it where tables list its rows
-abbrev pub IsFoundAfter : Record → Option SiteInput → Type 0
-IsFoundAfter state pending = (input : SiteInput) (r : Record) → pending ≡ Some input → IsAfter state input r → MayBeFound r
+-- an opening finds each of them where tables list its rows
+abbrev pub AreFound : Standing → Type 0
+AreFound s = (r : Record) → StandsIn s r → MayBeFound r

@@ -4,6 +4,7 @@ ghost use Rattle.sqlite.specs.State.{HasCleanDisk};
 ghost use Rattle.sqlite.specs.Held.{state};
 ghost use Rattle.keeper_core.specs.Keeping.{HindersOpening};
 ghost use Rattle.site_tables.specs.Tables.{no_schema};
+ghost use Rattle.site_store.specs.Findable.{MayBeFound};
 ghost use Rattle.site_store.specs.Openings.{FailsToBegin};
 ghost use Rattle.site_store.specs.StepWritten.{Keeps, IsInUse, BeginsAs};
 
@@ -34,6 +35,7 @@ pub fn begin_tables<S: Alter>(
     site: &SiteState,
 ) -> Result<(), KeepFault>
     ensures stored { HasCleanDisk (state S.Store conn.new) → OnOk result (Keeps site.now (state S.Store conn.new)) }
+    ensures found { OnOk result (MayBeFound site.now) }
     ensures kind { IfErr result HindersOpening }
     ensures cause { HasCleanDisk (state S.Store conn.new) → (state S.Store conn.old).in_transaction ≡ false → (state S.Store conn.old).now.schema ≡ no_schema
         → IfErr result (FailsToBegin (state S.Store conn.old) (state S.Store conn.new)) }

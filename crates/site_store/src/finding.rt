@@ -35,9 +35,10 @@ pub fn opening_fault(error: &Error) -> KeepFault
     }
 }
 
-/// Whether these are the rows of a record.
+/// Whether these are the rows of a record, which is found where tables list them.
 fn has_rows(alloc: Global, state: &SiteState, rows: &Rows) -> Result<bool, AllocError>
-    ensures { IfOk result (λ same. IsTrue same ↔ (rows.now ≡ rows_of state.now)) }
+    ensures same { IfOk result (λ same. IsTrue same ↔ (rows.now ≡ rows_of state.now)) }
+    ensures found { IfOk result (λ _. MayBeFound state.now) }
 {
     Ok(rows_of(alloc, state)? == *rows)
 }
@@ -45,6 +46,7 @@ fn has_rows(alloc: Global, state: &SiteState, rows: &Rows) -> Result<bool, Alloc
 impl Kept {
     /// An open record that its tables hold already. Does not allocate.
     pub fn new(alloc: Global, state: SiteState) -> Kept
+        requires { MayBeFound state }
         ensures standing { result.standing ≡ alone state }
         ensures is_open { result.is_open ≡ true }
         ensures fresh { (result.failures ≡ 0) × (result.statements ≡ 0) }
@@ -118,13 +120,6 @@ impl Kept {
         }
     }
 
-    /// Each record in which a closed one may be opened is found where tables list its rows. It is for proofs.
-    pub fn show_records(&self)
-        ensures { (r : Record) → MayIn self.now r → MayBeFound r }
-    {
-        self.standing.show_records();
-    }
-
     /// The record whose rows the tables list, of those in which a closed one may be opened, is the record from now on.
     ///
     /// # Errors
@@ -139,7 +134,6 @@ impl Kept {
         ensures unchanged { IfErr result (λ fault. self.new ≡ record self.old { failures = failures_after fault self.old.failures }) }
         ensures crash { Survives (state S.Store conn.old) (state S.Store conn.new) (λ _. ⊥) }
     {
-        self.show_records();
         match read_rows(self.alloc, conn) {
             Ok(rows) => self.recognise(&rows),
             Err(ReadFault::NoMemory) => Err(KeepFault::NoMemory),

@@ -1,15 +1,14 @@
 //! Laws of a site's tables, for proofs of the crates above. A law of all records is a function with an empty body whose
-//! contract is the law; one of a site, whose types say it, goes through the site.
+//! contract is the law; one of a site, whose type says it, takes the site.
 
-ghost use Rattle.site_store.specs.Crashes.{IsAfterCrash, AreNamed, OpensAfter, CallsLeaveOwn, CallsKeepToOldOrNew};
+ghost use Rattle.site_core.specs.Records.{Record};
+ghost use Rattle.site_store.specs.Crashes.{StandsFor, IsAfterCrash, AreNamed, OpensAfter, CallsLeaveOwn, CallsKeepToOldOrNew};
 ghost use Rattle.site_store.specs.Laws.{RowsOfARecordRise};
 ghost use Rattle.site_store.specs.Leavings.{LeavesOwn};
 ghost use Rattle.site_store.specs.Findable.{MayBeFound};
 
 use crate::opening::{Unfound, open_site};
 use crate::sites::StoredSite;
-use site_core::SiteState;
-use site_rows::sites_keep_items;
 use sqlite::{Connection, FileStore, Options};
 use sqlite_disk::Disk;
 use std::alloc::Global;
@@ -20,11 +19,12 @@ pub fn rows_of_a_record_rise()
     ensures { RowsOfARecordRise }
 {}
 
-/// What a site keeps is found where tables list its rows, whose texts are UTF-8.
-pub fn records_of_sites_may_be_found(state: &SiteState)
-    ensures { MayBeFound state.now }
+/// The record that a site shows, and each in which it may be opened while it is closed, is found where tables list its
+/// rows, whose texts are UTF-8.
+pub fn records_of_sites_may_be_found<D: Disk + Drop>(site: &StoredSite<D>)
+    ensures { (r : Record) → StandsFor site.now r → MayBeFound r }
 {
-    sites_keep_items(state);
+    site.show_records();
 }
 
 /// From call to call a crash leaves what is the site's own: the record that it shows, or one in which it may be opened.

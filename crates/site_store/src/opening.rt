@@ -9,6 +9,7 @@ ghost use Rattle.site_rows.specs.RecordRows.{HasTables, rows_under, version_numb
 ghost use Rattle.site_rows.specs.declared.tables.Version.{Version as TableVersion};
 ghost use Rattle.site_rows.specs.declared.tables.Version.TheVariants.{First};
 ghost use Rattle.site_tables.specs.Stored.{IsStoredUnder, contents_of};
+ghost use Rattle.site_store.specs.Findable.{MayBeFound};
 ghost use Rattle.site_store.specs.Openings.{ListsRecordUnder};
 ghost use Rattle.site_store.specs.Opened.{name_at, own_name, IsNamedSo, IsOtherVersion, IsRefused, unread, IsOpenFault, FailsToMigrate, IsOfDatabase, ListsSite, IsOfMachine, HoldsMigrated, IsOpenedAs, IsNotOpened, FindsLeft};
 ghost use Rattle.site_store.specs.StepWritten.{Keeps};
@@ -135,6 +136,7 @@ fn record_of(
 ) -> Result<SiteState, OpenFault>
     ensures read { IfOk result (λ state. rows_under rows.now.version state ≡ rows.now) }
     ensures named { IfOk result (λ state. own_name state ≡ name.now) }
+    ensures found { IfOk result MayBeFound }
     ensures refused { IfErr result (IsRefused name.now rows.now) }
     ensures same { HasTables rows.now → (r : Record) → IsKept r → HoldsItems r → own_name r ≡ name.now → rows.now ≡ rows_under rows.now.version r → MatchResult result (λ state. state ≡ r) (λ fault. fault ≡ OpenFault.NoMemory) }
 {
@@ -162,6 +164,7 @@ fn read_site<S: Alter>(
 ) -> Result<ReadSite, OpenFault>
     ensures read { HasCleanDisk (state S.Store conn.new) → IfOk result (λ read. ListsRecordUnder read.version read.state (state S.Store conn.old) (state S.Store conn.new)) }
     ensures named { IfOk result (λ read. own_name read.state ≡ name.now) }
+    ensures found { IfOk result (λ read. MayBeFound read.state) }
     ensures refused { HasCleanDisk (state S.Store conn.new) → IfErr result (IsOpenFault (state S.Store conn.old) (state S.Store conn.new) name.now) }
     ensures finds { HasCleanDisk (state S.Store conn.new) → (v : TableVersion) (r : Record) → ListsSite v r name.now (state S.Store conn.old)
         → MatchResult result (λ read. (read.version ≡ v) × (read.state ≡ r)) (IsOfMachine (state S.Store conn.old)) }

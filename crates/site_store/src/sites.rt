@@ -58,13 +58,14 @@ impl<D: Disk + Drop> Drop for StoredSite<D> {
 }
 
 impl<D: Disk + Drop> StoredSite<D> {
-    /// An open site whose rows the tables hold already. Does not allocate.
+    /// An open site whose rows the tables hold already; its record is found where tables list them. Does not allocate.
     pub(crate) fn adopt(
         alloc: Global,
         conn: Connection<FileStore<D>>,
         options: Options,
         state: SiteState,
     ) -> StoredSite<D>
+        requires { MayBeFound state }
         ensures shown { shown_by result ≡ Some state }
         ensures fresh { (failed_by result ≡ 0) × (statements_by result ≡ 0) }
         ensures over { link_of result ≡ Link.Connected conn }
@@ -131,7 +132,7 @@ impl<D: Disk + Drop> StoredSite<D> {
     pub(crate) fn show_records(&self)
         ensures { (r : Record) → MayBy self.now r → MayBeFound r }
     {
-        self.kept.show_records();
+        self.kept.standing.show_records();
     }
 
     /// A step.

@@ -3,24 +3,21 @@ ghost use Rattle.std.specs.Prelude.{◌≡◌, ◌⊎◌, ℕ, IsTrue, IfOk, IfE
 ghost use Rattle.sqlite.specs.State.{HasCleanDisk};
 ghost use Rattle.sqlite.specs.Held.{state};
 ghost use Rattle.frame_core.specs.declared.frames.Frame.TheVariants as frames;
-ghost use Rattle.frame_core.specs.Numbers.{Message};
 ghost use Rattle.site_core.specs.Records.{Record};
-ghost use Rattle.site_core.specs.Steps.{Does, CopiesRecord};
+ghost use Rattle.site_core.specs.Steps.{CopiesRecord};
 ghost use Rattle.site_core.specs.Undoing.{IsSignal};
 ghost use Rattle.site_core.specs.declared.inputs.SiteInput.{SiteInput as Asked};
-ghost use Rattle.site_core.specs.declared.outcomes.Effects.{Effects as Told};
 ghost use Rattle.site_store.specs.Findable.{MayBeFound};
-ghost use Rattle.site_store.specs.Standing.{alone, StandsIn, IsNextOf};
+ghost use Rattle.site_store.specs.Standing.{alone, AreFound, IsNextOf};
 ghost use Rattle.site_store.specs.StepTried.{StepsTo, LeavesTried, FailsTried, is_idle_try};
 ghost use Rattle.site_store.specs.StepWritten.{Keeps};
 
-use crate::laws::records_of_sites_may_be_found;
 use crate::writing::{Unwritten, write_found};
 use frame_core::{Frame, MsgId};
 use site_core::step_laws::{an_answer_tells_a_change, an_input_has_one_outcome};
 use site_core::{Effects, Refusal, SiteInput, SiteState};
 use site_rows::laws::signals_keep_items;
-use site_rows::{changes_of, signal_changes_of, sites_keep_items};
+use site_rows::{changes_of, signal_changes_of};
 use sqlite::{Alter, Connection, Error};
 use std::alloc::{AllocError, Global};
 use std::marker::Model;
@@ -33,7 +30,7 @@ pub struct Standing {
 }
 
 impl Model for Standing {
-    ghost use Rattle.site_store.specs.Standing.{Standing, coded_standing, IsFoundAfter};
+    ghost use Rattle.site_store.specs.Standing.{Standing, coded_standing, AreFound};
 
     ghost Value = { Standing };
 
@@ -41,8 +38,8 @@ impl Model for Standing {
 
     ghost view = { λ s. record { state = s.state; pending = s.pending } };
 
-    // The record after the input was seen when it stood in place.
-    ghost invariant = { λ s. IsFoundAfter s.state s.pending };
+    // Each record in which it may be opened is found where tables list its rows.
+    ghost invariant = { λ s. AreFound (record { state = s.state; pending = s.pending }) };
 }
 
 /// Why a step wasn't taken.
@@ -57,8 +54,9 @@ pub enum Untaken {
 }
 
 impl Standing {
-    /// A record alone. Does not allocate.
+    /// A record alone, which is found where tables list its rows. Does not allocate.
     pub fn new(state: SiteState) -> Standing
+        requires { MayBeFound state }
         ensures { result ≡ alone state }
     {
         Standing {
@@ -102,10 +100,9 @@ impl Standing {
 
     /// Each record in which it may be opened is found where tables list its rows. It is for proofs.
     pub fn show_records(&self)
-        ensures { (r : Record) → StandsIn self.now r → MayBeFound r }
+        ensures { AreFound self.now }
     {
         let _ = &self.pending;
-        records_of_sites_may_be_found(&self.state);
     }
 
     /// A step that a look at the record doesn't answer, and how many statements it ran: those of its rows, and the two
@@ -169,7 +166,6 @@ impl Standing {
             }
             Err(Unwritten::Failed(error)) => {
                 an_input_has_one_outcome();
-                records_of_sites_may_be_found(&self.state);
                 self.state.take_back(&input, &effects, undo);
                 self.pending = Some(input);
                 Err(Untaken::Failed(error))
@@ -195,6 +191,8 @@ impl Standing {
     {
         let effects = self.state.foresee(message);
         let changes = signal_changes_of(alloc, &self.state, message, &effects);
+        // The record after it is found, too.
+        signals_keep_items();
         match write_found(alloc, conn, changes) {
             Ok(written) => {
                 an_input_has_one_outcome();
@@ -205,7 +203,6 @@ impl Standing {
             }
             Err(Unwritten::NoMemory) => Err(Untaken::NoMemory),
             Err(Unwritten::Failed(error)) => {
-                show_after_signals(&self.state);
                 self.pending = Some(input);
                 Err(Untaken::Failed(error))
             }
@@ -223,12 +220,4 @@ fn message_signalled(input: &SiteInput) -> Option<MsgId>
         SiteInput::Capture(_) => None,
         SiteInput::Start(_) => None,
     }
-}
-
-/// The record after a signal is found where tables list its rows. It is for proofs.
-fn show_after_signals(state: &SiteState)
-    ensures { (m : Message) (by : ℕ) (told : Told) (next : Record) → Does state.now (Asked.Deliver (frames.Signal m by)) told next → MayBeFound next }
-{
-    sites_keep_items(state);
-    signals_keep_items();
 }

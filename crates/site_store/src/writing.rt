@@ -1,5 +1,5 @@
 //! The rows of a step written, in one transaction.
-ghost use Rattle.std.specs.Prelude.{◌≡◌, IfOk, IfErr, OnOk};
+ghost use Rattle.std.specs.Prelude.{◌≡◌, Err, IfOk, IfErr, OnOk};
 ghost use Rattle.sqlite.specs.State.{HasCleanDisk};
 ghost use Rattle.sqlite.specs.Held.{state};
 ghost use Rattle.site_core.specs.Records.{Record};
@@ -61,6 +61,7 @@ pub fn write_found<S: Alter>(
     ensures cause { (old : Record) → HasCleanDisk (state S.Store conn.new) → Keeps old (state S.Store conn.old) → IfErr result (FailsToWrite (state S.Store conn.old) (state S.Store conn.new)) }
     ensures counted { (old new : Record) (told : Told) → IfOk changes (λ c. AreChangesOf c told old new) → IfOk result (IsCounted old told new) }
     ensures clean { HasCleanDisk (state S.Store conn.new) → HasCleanDisk (state S.Store conn.old) }
+    ensures no_memory { IfErr changes (λ _. result ≡ Err Unwritten.NoMemory) }
 {
     match changes {
         Ok(changes) => write_step(alloc, conn, &changes),

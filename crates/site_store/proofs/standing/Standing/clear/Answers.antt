@@ -1,11 +1,29 @@
-use Rattle.std.proofs.Common.{◌≡◌, None, Some, refl, sym, ap, subst}
+use Rattle.std.proofs.Common.{◌≡◌, None, Some, inl, refl, sym, ap, subst}
 use Rattle.sqlite.specs.Held.{state}
 use Rattle.site_core.specs.Records.{Record}
 use Rattle.site_core.specs.Steps.{Does, CopiesRecord, changes}
 use Rattle.site_store.specs.Standing.{Standing}
 use Rattle.site_store.specs.StepWritten.{Keeps, KeepsWhereFailed, FailsToWrite, AreStatements}
-use Rattle.site_store.proofs.Standings.{next_of, next_does, as_signal, does_change, done_as_foreseen, not_idle, written_steps, leaves_pending}
+use Rattle.site_store.proofs.Standings.{found_alone, found_pending, found_signalled, next_of, next_does, as_signal, does_change, done_as_foreseen, not_idle, written_steps, leaves_pending}
 use Rattle.site_store.proofs.standing.Standing.clear.Goals as goal
+
+pub invariant_of-self : goal.invariant_of-self
+invariant_of-self g c =
+    let s = c.self.inside.state in
+    let input = c.args.input in
+    let told = c.foresee-effects.result in
+    let new = c.apply.new.self in
+    let same : s ≡ c.args.self.now.state = ap (λ (x : Standing). x.state) c.self.view_is in
+    let copies = subst (λ (x : Record). CopiesRecord x input) (sym same) c.requires.copies in
+    let one = c.an_input_has_one_outcome.ensures in
+    let does = done_as_foreseen s input c.args.message told c.requires.signal copies c.foresee-effects.ensures one.effects one.not_both new c.apply.result c.apply.ensures.done c.apply.ensures.refused c.apply.ensures.memory in
+    found_alone new (found_signalled c.signals_keep_items.ensures s input c.args.message c.requires.signal (c.self.invariant s (inl refl)) new (told, does))
+
+pub invariant_of-self-in-Err-Failed : goal.invariant_of-self-in-Err-Failed
+invariant_of-self-in-Err-Failed g c =
+    let s = c.self.inside.state in
+    let found = c.self.invariant s (inl refl) in
+    found_pending s c.args.input found (found_signalled c.signals_keep_items.ensures s c.args.input c.args.message c.requires.signal found)
 
 pub returns-in-Ok-clause-steps : goal.returns-in-Ok-clause-steps
 returns-in-Ok-clause-steps g c =
