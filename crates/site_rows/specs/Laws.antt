@@ -53,6 +53,7 @@ AreOfItems outbox = (number : ℕ) (row : Row) → finite.get outbox number ≡ 
 abbrev pub BeganWithItems : finite.FinMap nat_cmp Own → Type 0
 BeganWithItems recalls = (number : ℕ) (own : Own) → finite.get recalls number ≡ Some own → IsItemText own.root
 
+-- so it is of a site's part in recalls
 pub record NamesItems (d : Engagement) : Type 0 where
   pub outbox : AreOfItems d.outbox
   pub own : BeganWithItems d.own

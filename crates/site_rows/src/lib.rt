@@ -5,7 +5,6 @@ mod address_rows;
 mod changed_rows;
 mod changes;
 mod event_rows;
-mod keeping;
 pub mod laws;
 mod numbers;
 mod reading;
@@ -30,7 +29,6 @@ mod texts;
 mod writing;
 
 pub use changes::{Numbers, RecallKey, RowChanges};
-pub use keeping::sites_keep_items;
 pub use reading::{BadRow, StateFault, state_of};
 pub use rows::{
     AddressRow, EventRow, OutboxRow, PackRow, PackedRow, ParentRow, PartRow, QuarantineRow,

@@ -1,9 +1,0 @@
-use Rattle.std.specs.Cmp.{nat_cmp_total}
-use Rattle.std.specs.FinMap.{nat_cmp-IsAntisymmetric}
-use Rattle.std.specs.List.{Contains}
-use Rattle.std.proofs.Common.{sym, subst}
-use Rattle.site_core.proofs.Entries.{entry_there}
-use Rattle.site_rows.proofs.keeping.show_own_recalls.Goals as goal
-
-pub returns : goal.returns
-returns c = λ n own at. c.show_entries.ensures n own (subst (λ xs. Contains xs (n, own)) (sym c.own_recalls.ensures.entries) (entry_there nat_cmp_total nat_cmp-IsAntisymmetric c.args.state.now.engagement.own n own at))
