@@ -1,8 +1,8 @@
 //! The tables of a site made, with all rows of its record.
 ghost use Rattle.std.specs.Prelude.{◌≡◌, ◌↔◌, false, Err, IsTrue, IfErr, OnOk};
-ghost use Rattle.sqlite.specs.State.{HasCleanDisk};
 ghost use Rattle.sqlite.specs.Held.{state};
 ghost use Rattle.keeper_core.specs.Keeping.{HindersOpening};
+ghost use Rattle.site_tables.specs.HonestDisks.{OnHonestDisk};
 ghost use Rattle.site_tables.specs.Tables.{no_schema};
 ghost use Rattle.site_store.specs.Findable.{MayBeFound};
 ghost use Rattle.site_store.specs.Openings.{FailsToBegin};
@@ -34,13 +34,16 @@ pub fn begin_tables<S: Alter>(
     conn: &mut Connection<S>,
     site: &SiteState,
 ) -> Result<(), KeepFault>
-    ensures stored { HasCleanDisk (state S.Store conn.new) → OnOk result (Keeps site.now (state S.Store conn.new)) }
+    ensures stored { OnHonestDisk S.Store conn.new
+        (OnOk result (Keeps site.now (state S.Store conn.new))) }
     ensures found { OnOk result (MayBeFound site.now) }
     ensures kind { IfErr result HindersOpening }
-    ensures cause { HasCleanDisk (state S.Store conn.new) → (state S.Store conn.old).in_transaction ≡ false → (state S.Store conn.old).now.schema ≡ no_schema
-        → IfErr result (FailsToBegin (state S.Store conn.old) (state S.Store conn.new)) }
+    ensures cause { OnHonestDisk S.Store conn.new ((state S.Store conn.old).in_transaction ≡ false
+        → (state S.Store conn.old).now.schema ≡ no_schema
+        → IfErr result (FailsToBegin (state S.Store conn.old) (state S.Store conn.new))) }
     ensures crash { BeginsAs site.now (state S.Store conn.old) (state S.Store conn.new) }
-    ensures in_use { IsInUse (state S.Store conn.old) → (result ≡ Err KeepFault.Store) × (conn.new ≡ conn.old) }
+    ensures in_use { IsInUse (state S.Store conn.old) → (result ≡ Err KeepFault.Store)
+        × (conn.new ≡ conn.old) }
 {
     if !conn.is_autocommit() || !is_empty(conn.schema()) {
         return Err(KeepFault::Store);

@@ -1,10 +1,11 @@
 //! A closed record opened in that of its records whose rows the tables list.
 ghost use Rattle.std.specs.Prelude.{◌≡◌, ◌⊎◌, ◌↔◌, true, Some, None, Err, IsTrue, IsSome, IfOk, IfErr, OnOk, OnErr};
-ghost use Rattle.sqlite.specs.State.{HasCleanDisk, Survives};
+ghost use Rattle.sqlite.specs.State.{Survives};
 ghost use Rattle.sqlite.specs.Held.{state};
 ghost use Rattle.site_core.specs.Records.{Record};
 ghost use Rattle.keeper_core.specs.Keeping.{HindersOpening};
 ghost use Rattle.site_rows.specs.RecordRows.{rows_of};
+ghost use Rattle.site_tables.specs.HonestDisks.{OnHonestDisk};
 ghost use Rattle.site_store.specs.Faults.{IsFailedIn};
 ghost use Rattle.site_store.specs.Kept.{MayIn, failures_after};
 ghost use Rattle.site_store.specs.Findable.{MayBeFound};
@@ -64,7 +65,10 @@ impl Kept {
     pub fn hindered(&mut self, error: &Error) -> KeepFault
         ensures is { result ≡ opening_fault error.now }
         ensures kind { HindersOpening result }
-        ensures counted { self.new ≡ record self.old { failures = failures_after result self.old.failures } }
+        ensures counted { self.new ≡ record self.old {
+          failures = failures_after result
+              self.old.failures;
+        } }
     {
         let fault = opening_fault(error);
         if is_of_device(error) {
@@ -79,10 +83,14 @@ impl Kept {
     /// # Errors
     /// `NoMemory`, and `Store` where none of them has these rows. Nothing changes.
     fn recognise(&mut self, rows: &Rows) -> Result<(), KeepFault>
-        ensures opened { OnOk result ((self.new.is_open ≡ true) × MayIn self.old self.new.standing.state × (rows.now ≡ rows_of self.new.standing.state)) }
+        ensures opened { OnOk result ((self.new.is_open ≡ true)
+            × MayIn self.old self.new.standing.state
+            × (rows.now ≡ rows_of self.new.standing.state)) }
         ensures count { OnOk result (self.new.failures ≡ self.old.failures) }
-        ensures kind { IfErr result (λ fault. (fault ≡ KeepFault.NoMemory) ⊎ (fault ≡ KeepFault.Store)) }
-        ensures other { result ≡ Err KeepFault.Store → (r : Record) → MayIn self.old r → rows.now ≡ rows_of r → ⊥ }
+        ensures kind { IfErr result (λ fault. (fault ≡ KeepFault.NoMemory)
+            ⊎ (fault ≡ KeepFault.Store)) }
+        ensures other { result ≡ Err KeepFault.Store → (r : Record) → MayIn self.old r
+            → rows.now ≡ rows_of r → ⊥ }
         ensures unchanged { OnErr result (self.new ≡ self.old) }
     {
         match has_rows(self.alloc, self.standing.state(), rows) {
@@ -103,9 +111,11 @@ impl Kept {
 
     /// The record after the step that failed is the record from now on, where these are its rows.
     fn recognise_next(&mut self, next: SiteState, rows: &Rows) -> Result<(), KeepFault>
-        ensures opened { OnOk result ((self.new.is_open ≡ true) × (self.new.standing.state ≡ next) × (rows.now ≡ rows_of next)) }
+        ensures opened { OnOk result ((self.new.is_open ≡ true) × (self.new.standing.state ≡ next)
+            × (rows.now ≡ rows_of next)) }
         ensures count { OnOk result (self.new.failures ≡ self.old.failures) }
-        ensures kind { IfErr result (λ fault. (fault ≡ KeepFault.NoMemory) ⊎ (fault ≡ KeepFault.Store)) }
+        ensures kind { IfErr result (λ fault. (fault ≡ KeepFault.NoMemory)
+            ⊎ (fault ≡ KeepFault.Store)) }
         ensures other { result ≡ Err KeepFault.Store → rows.now ≡ rows_of next → ⊥ }
         ensures unchanged { OnErr result (self.new ≡ self.old) }
     {
@@ -125,13 +135,20 @@ impl Kept {
     /// # Errors
     /// Why it is closed still, in the records of before.
     pub fn find<S: Alter>(&mut self, conn: &mut Connection<S>) -> Result<(), KeepFault>
-        ensures opened { OnOk result ((self.new.is_open ≡ true) × MayIn self.old self.new.standing.state) }
+        ensures opened { OnOk result ((self.new.is_open ≡ true)
+            × MayIn self.old self.new.standing.state) }
         ensures count { OnOk result (self.new.failures ≡ self.old.failures) }
-        ensures listed { HasCleanDisk (state S.Store conn.new) → OnOk result (ListsRecord self.new.standing.state (state S.Store conn.old) (state S.Store conn.new)) }
-        ensures finds { HasCleanDisk (state S.Store conn.new) → result ≡ Err KeepFault.Store → (r : Record) → MayIn self.old r → ListsRows r (state S.Store conn.new) → IsSome (state S.Store conn.new).step_limit }
+        ensures listed { OnHonestDisk S.Store conn.new
+            (OnOk result (ListsRecord self.new.standing.state (state S.Store conn.old)
+            (state S.Store conn.new))) }
+        ensures finds { OnHonestDisk S.Store conn.new (result ≡ Err KeepFault.Store → (r : Record)
+            → MayIn self.old r → ListsRows r (state S.Store conn.new)
+            → IsSome (state S.Store conn.new).step_limit) }
         ensures kind { IfErr result HindersOpening }
-        ensures cause { HasCleanDisk (state S.Store conn.new) → result ≡ Err KeepFault.Device → IsFailedIn (state S.Store conn.old) (state S.Store conn.new) }
-        ensures unchanged { IfErr result (λ fault. self.new ≡ record self.old { failures = failures_after fault self.old.failures }) }
+        ensures cause { OnHonestDisk S.Store conn.new (result ≡ Err KeepFault.Device
+            → IsFailedIn (state S.Store conn.old) (state S.Store conn.new)) }
+        ensures unchanged { IfErr result (λ fault.
+            self.new ≡ record self.old { failures = failures_after fault self.old.failures }) }
         ensures crash { Survives (state S.Store conn.old) (state S.Store conn.new) (λ _. ⊥) }
     {
         match read_rows(self.alloc, conn) {

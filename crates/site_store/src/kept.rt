@@ -3,6 +3,7 @@ ghost use Rattle.std.specs.Prelude.{◌≡◌, ◌⊎◌, false, true, IfErr, Is
 ghost use Rattle.sqlite.specs.State.{HasCleanDisk};
 ghost use Rattle.sqlite.specs.Held.{state};
 ghost use Rattle.site_core.specs.Steps.{CopiesRecord};
+ghost use Rattle.site_tables.specs.HonestDisks.{OnHonestDisk};
 ghost use Rattle.site_store.specs.Faults.{IsCaused, closing_fault};
 ghost use Rattle.site_store.specs.Kept.{StepsKept, AppliesKept, StopsInStep, StopsKept, KeepsAfter, KeepsStopped, failures_after, is_idle};
 ghost use Rattle.site_store.specs.StepWritten.{Keeps};
@@ -34,7 +35,10 @@ impl Kept {
     fn close(&mut self, error: &Error) -> KeepFault
         ensures is { result ≡ closing_fault error.now }
         ensures kind { (result ≡ KeepFault.Device) ⊎ (result ≡ KeepFault.Store) }
-        ensures closed { self.new ≡ record self.old { is_open = false; failures = failures_after result self.old.failures } }
+        ensures closed { self.new ≡ record self.old {
+          is_open = false;
+          failures = failures_after result self.old.failures;
+        } }
     {
         self.is_open = false;
         if is_of_device(error) {
@@ -54,9 +58,13 @@ impl Kept {
     ) -> Result<Effects, KeepFault>
         requires copies { CopiesRecord self.old.standing.state input }
         ensures steps { StepsKept self.old input result self.new }
-        ensures disk { HasCleanDisk (state S.Store conn.new) → Keeps self.old.standing.state (state S.Store conn.old) → KeepsAfter self.new result (state S.Store conn.new) }
-        ensures cause { HasCleanDisk (state S.Store conn.new) → Keeps self.old.standing.state (state S.Store conn.old) → IfErr result (IsCaused (state S.Store conn.old) (state S.Store conn.new)) }
-        ensures clean { HasCleanDisk (state S.Store conn.new) → HasCleanDisk (state S.Store conn.old) }
+        ensures disk { OnHonestDisk S.Store conn.new
+            (Keeps self.old.standing.state (state S.Store conn.old)
+            → KeepsAfter self.new result (state S.Store conn.new)) }
+        ensures cause { OnHonestDisk S.Store conn.new
+            (Keeps self.old.standing.state (state S.Store conn.old)
+            → IfErr result (IsCaused (state S.Store conn.old) (state S.Store conn.new))) }
+        ensures clean { OnHonestDisk S.Store conn.new (HasCleanDisk (state S.Store conn.old)) }
         ensures calls { IsTrue (is_idle result) → conn.new ≡ conn.old }
     {
         match self.standing.step(self.alloc, conn, input) {
@@ -78,9 +86,13 @@ impl Kept {
         input: SiteInput,
     ) -> Result<Effects, KeepFault>
         ensures steps { StepsKept self.old input result self.new }
-        ensures disk { HasCleanDisk (state S.Store conn.new) → Keeps self.old.standing.state (state S.Store conn.old) → KeepsAfter self.new result (state S.Store conn.new) }
-        ensures cause { HasCleanDisk (state S.Store conn.new) → Keeps self.old.standing.state (state S.Store conn.old) → IfErr result (IsCaused (state S.Store conn.old) (state S.Store conn.new)) }
-        ensures clean { HasCleanDisk (state S.Store conn.new) → HasCleanDisk (state S.Store conn.old) }
+        ensures disk { OnHonestDisk S.Store conn.new
+            (Keeps self.old.standing.state (state S.Store conn.old)
+            → KeepsAfter self.new result (state S.Store conn.new)) }
+        ensures cause { OnHonestDisk S.Store conn.new
+            (Keeps self.old.standing.state (state S.Store conn.old)
+            → IfErr result (IsCaused (state S.Store conn.old) (state S.Store conn.new))) }
+        ensures clean { OnHonestDisk S.Store conn.new (HasCleanDisk (state S.Store conn.old)) }
         ensures calls { IsTrue (is_idle result) → conn.new ≡ conn.old }
     {
         match look(self.standing.state(), &input) {
@@ -103,9 +115,13 @@ impl Kept {
         input: SiteInput,
     ) -> Result<Effects, KeepFault>
         ensures steps { AppliesKept self.old.is_open self.old input result self.new }
-        ensures disk { HasCleanDisk (state S.Store conn.new) → Keeps self.old.standing.state (state S.Store conn.old) → KeepsAfter self.new result (state S.Store conn.new) }
-        ensures cause { HasCleanDisk (state S.Store conn.new) → Keeps self.old.standing.state (state S.Store conn.old) → IfErr result (IsCaused (state S.Store conn.old) (state S.Store conn.new)) }
-        ensures clean { HasCleanDisk (state S.Store conn.new) → HasCleanDisk (state S.Store conn.old) }
+        ensures disk { OnHonestDisk S.Store conn.new
+            (Keeps self.old.standing.state (state S.Store conn.old)
+            → KeepsAfter self.new result (state S.Store conn.new)) }
+        ensures cause { OnHonestDisk S.Store conn.new
+            (Keeps self.old.standing.state (state S.Store conn.old)
+            → IfErr result (IsCaused (state S.Store conn.old) (state S.Store conn.new))) }
+        ensures clean { OnHonestDisk S.Store conn.new (HasCleanDisk (state S.Store conn.old)) }
         ensures calls { IsTrue (is_idle result) → conn.new ≡ conn.old }
     {
         if !self.is_open {
@@ -123,8 +139,10 @@ impl Kept {
     ) -> Result<(), AllocError>
         requires is_open { self.old.is_open ≡ true }
         ensures stops { StopsInStep self.old input (is_ok result) self.new }
-        ensures disk { HasCleanDisk (state S.Store conn.new) → Keeps self.old.standing.state (state S.Store conn.old) → KeepsStopped self.new (is_ok result) (state S.Store conn.new) }
-        ensures clean { HasCleanDisk (state S.Store conn.new) → HasCleanDisk (state S.Store conn.old) }
+        ensures disk { OnHonestDisk S.Store conn.new
+            (Keeps self.old.standing.state (state S.Store conn.old)
+            → KeepsStopped self.new (is_ok result) (state S.Store conn.new)) }
+        ensures clean { OnHonestDisk S.Store conn.new (HasCleanDisk (state S.Store conn.old)) }
     {
         let answer = self.take(conn, input);
         if lacks_memory(&answer) {
@@ -149,8 +167,10 @@ impl Kept {
         keep: Keep,
     ) -> Result<(), AllocError>
         ensures stops { StopsKept self.old.is_open self.old input keep (is_ok result) self.new }
-        ensures disk { HasCleanDisk (state S.Store conn.new) → IsTrue self.old.is_open → Keeps self.old.standing.state (state S.Store conn.old) → KeepsStopped self.new (is_ok result) (state S.Store conn.new) }
-        ensures clean { HasCleanDisk (state S.Store conn.new) → HasCleanDisk (state S.Store conn.old) }
+        ensures disk { OnHonestDisk S.Store conn.new (IsTrue self.old.is_open
+            → Keeps self.old.standing.state (state S.Store conn.old)
+            → KeepsStopped self.new (is_ok result) (state S.Store conn.new)) }
+        ensures clean { OnHonestDisk S.Store conn.new (HasCleanDisk (state S.Store conn.old)) }
         ensures calls { self.old.is_open ≡ false → conn.new ≡ conn.old }
     {
         if !self.is_open {

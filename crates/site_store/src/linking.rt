@@ -34,10 +34,12 @@ fn open_files_again<D: Disk + Drop>(
 ) -> Result<Connection<FileStore<D>>, (Error, Files<D>)>
     ensures stores { IfOk result StoresListed }
     ensures unlimited { IfOk result (λ conn. conn.step_limit ≡ None) }
-    ensures is_open { IfOk result (λ conn. HasCleanDisk (file_state conn) → IsTrue (file_state conn).is_open) }
+    ensures is_open { IfOk result (λ conn. HasCleanDisk (file_state conn)
+        → IsTrue (file_state conn).is_open) }
     ensures made { IfOk result (IsMadeTo files) }
     ensures left { IfErr result (λ left. AreLeftOf D.Disk files left.1) }
-    ensures failed { IfErr result (λ left. is_of_device left.0 ≡ true → FailsToConnect D.Disk files left.1) }
+    ensures failed { IfErr result (λ left. is_of_device left.0 ≡ true
+        → FailsToConnect D.Disk files left.1) }
 {
     if !files.may_be_used() {
         return Err((Error::SqliteFailure(ErrorCode::CannotOpen), files));
@@ -63,10 +65,12 @@ pub fn connect<D: Disk + Drop>(
 ) -> Result<Connection<FileStore<D>>, (Error, Files<D>)>
     ensures stores { IfOk result StoresListed }
     ensures unlimited { IfOk result (λ conn. conn.step_limit ≡ None) }
-    ensures is_open { IfOk result (λ conn. HasCleanDisk (file_state conn) → IsTrue (file_state conn).is_open) }
+    ensures is_open { IfOk result (λ conn. HasCleanDisk (file_state conn)
+        → IsTrue (file_state conn).is_open) }
     ensures again { IfOk result (λ conn. IsReopened link (Link.Connected conn)) }
     ensures left { IfErr result (λ left. IsReopened link (Link.Unconnected left.1)) }
-    ensures failed { IfErr result (λ left. is_of_device left.0 ≡ true → IsOfDevice link (Link.Unconnected left.1)) }
+    ensures failed { IfErr result (λ left. is_of_device left.0 ≡ true
+        → IsOfDevice link (Link.Unconnected left.1)) }
 {
     let files = files_behind(link);
     open_files_again(alloc, files, options)

@@ -1,6 +1,6 @@
 //! A site opened from the tables of a file.
 ghost use Rattle.std.specs.Prelude.{◌≡◌, IfOk, IfErr, OnOk, MatchResult, option_map};
-ghost use Rattle.sqlite.specs.State.{HasCleanDisk, Survives};
+ghost use Rattle.sqlite.specs.State.{Survives};
 ghost use Rattle.sqlite.specs.Held.{state};
 ghost use Rattle.site_core.specs.Records.{Record};
 ghost use Rattle.site_rows.specs.Laws.{IsKept, HoldsItems};
@@ -8,6 +8,7 @@ ghost use Rattle.site_rows.specs.BadRows.{Tells};
 ghost use Rattle.site_rows.specs.RecordRows.{HasTables, rows_under, version_number};
 ghost use Rattle.site_rows.specs.declared.tables.Version.{Version as TableVersion};
 ghost use Rattle.site_rows.specs.declared.tables.Version.TheVariants.{First};
+ghost use Rattle.site_tables.specs.HonestDisks.{OnHonestDisk};
 ghost use Rattle.site_tables.specs.Stored.{IsStoredUnder, contents_of};
 ghost use Rattle.site_store.specs.Findable.{MayBeFound};
 ghost use Rattle.site_store.specs.Openings.{ListsRecordUnder};
@@ -30,7 +31,8 @@ use std::hash::RandomState;
 pub enum OpenFault {
     /// Memory ran out.
     NoMemory,
-    /// The tables aren't a site's, or `store` has no row, or one with the number of another version than the tables have.
+    /// The tables aren't a site's, or `store` has no row, or one with the number of another version than the tables
+    /// have.
     NotAStore,
     /// The version of the row of `store`, which is neither 1 nor 2.
     Version(i64),
@@ -101,8 +103,8 @@ fn site_of<'r>(sites: &'r [SiteRow], row: &StoreRow) -> Option<&'r SiteRow>
     sites.iter().find(|site| site.no == row.me)
 }
 
-/// Looks whether the rows are those of a site of this name. A name that isn't UTF-8 is left to the test of all rows, since
-/// no site has it.
+/// Looks whether the rows are those of a site of this name. A name that isn't UTF-8 is left to the test of all rows,
+/// since no site has it.
 fn check_name(alloc: Global, rows: &Rows, name: &str) -> Result<(), OpenFault>
     ensures named { OnOk result (IsNamedSo name.now rows.now) }
     ensures refused { IfErr result (IsRefused name.now rows.now) }
@@ -127,7 +129,8 @@ fn check_name(alloc: Global, rows: &Rows, name: &str) -> Result<(), OpenFault>
     }
 }
 
-/// The record of these rows, where it is that of a site of this name. That of rows in tables that their version has is found.
+/// The record of these rows, where it is that of a site of this name. That of rows in tables that their version has is
+/// found.
 fn record_of(
     alloc: Global,
     keys: RandomState,
@@ -138,7 +141,9 @@ fn record_of(
     ensures named { IfOk result (λ state. own_name state ≡ name.now) }
     ensures found { IfOk result MayBeFound }
     ensures refused { IfErr result (IsRefused name.now rows.now) }
-    ensures same { HasTables rows.now → (r : Record) → IsKept r → HoldsItems r → own_name r ≡ name.now → rows.now ≡ rows_under rows.now.version r → MatchResult result (λ state. state ≡ r) (λ fault. fault ≡ OpenFault.NoMemory) }
+    ensures same { HasTables rows.now → (r : Record) → IsKept r → HoldsItems r
+        → own_name r ≡ name.now → rows.now ≡ rows_under rows.now.version r
+        → MatchResult result (λ state. state ≡ r) (λ fault. fault ≡ OpenFault.NoMemory) }
 {
     check_name(alloc, rows, name)?;
     match state_of(alloc, keys, rows) {
@@ -162,12 +167,17 @@ fn read_site<S: Alter>(
     conn: &mut Connection<S>,
     name: &str,
 ) -> Result<ReadSite, OpenFault>
-    ensures read { HasCleanDisk (state S.Store conn.new) → IfOk result (λ read. ListsRecordUnder read.version read.state (state S.Store conn.old) (state S.Store conn.new)) }
+    ensures read { OnHonestDisk S.Store conn.new
+        (IfOk result (λ read. ListsRecordUnder read.version read.state (state S.Store conn.old)
+        (state S.Store conn.new))) }
     ensures named { IfOk result (λ read. own_name read.state ≡ name.now) }
     ensures found { IfOk result (λ read. MayBeFound read.state) }
-    ensures refused { HasCleanDisk (state S.Store conn.new) → IfErr result (IsOpenFault (state S.Store conn.old) (state S.Store conn.new) name.now) }
-    ensures finds { HasCleanDisk (state S.Store conn.new) → (v : TableVersion) (r : Record) → ListsSite v r name.now (state S.Store conn.old)
-        → MatchResult result (λ read. (read.version ≡ v) × (read.state ≡ r)) (IsOfMachine (state S.Store conn.old)) }
+    ensures refused { OnHonestDisk S.Store conn.new
+        (IfErr result (IsOpenFault (state S.Store conn.old) (state S.Store conn.new) name.now)) }
+    ensures finds { OnHonestDisk S.Store conn.new ((v : TableVersion) (r : Record)
+        → ListsSite v r name.now (state S.Store conn.old)
+        → MatchResult result (λ read. (read.version ≡ v)
+        × (read.state ≡ r)) (IsOfMachine (state S.Store conn.old))) }
     ensures crash { Survives (state S.Store conn.old) (state S.Store conn.new) (λ _. ⊥) }
 {
     match read_rows(alloc, conn) {
@@ -187,9 +197,13 @@ fn read_site<S: Alter>(
 /// # Errors
 /// What prevents it. A crash then leaves the one version or the other.
 fn migrate_site<S: Alter>(conn: &mut Connection<S>) -> Result<(), OpenFault>
-    ensures done { HasCleanDisk (state S.Store conn.new) → (r : Record) → IsStoredUnder First (contents_of (rows_under First r)) (state S.Store conn.old) → OnOk result (Keeps r (state S.Store conn.new)) }
-    ensures cause { HasCleanDisk (state S.Store conn.new) → (r : Record) → IfErr result (FailsToMigrate r (state S.Store conn.old) (state S.Store conn.new)) }
-    ensures crash { Survives (state S.Store conn.old) (state S.Store conn.new) (HoldsMigrated (state S.Store conn.old)) }
+    ensures done { OnHonestDisk S.Store conn.new ((r : Record)
+        → IsStoredUnder First (contents_of (rows_under First r)) (state S.Store conn.old)
+        → OnOk result (Keeps r (state S.Store conn.new))) }
+    ensures cause { OnHonestDisk S.Store conn.new ((r : Record)
+        → IfErr result (FailsToMigrate r (state S.Store conn.old) (state S.Store conn.new))) }
+    ensures crash { Survives (state S.Store conn.old) (state S.Store conn.new)
+        (HoldsMigrated (state S.Store conn.old)) }
     ensures fault { IfErr result IsOfDatabase }
 {
     if !conn.is_autocommit() {
@@ -203,15 +217,15 @@ fn migrate_site<S: Alter>(conn: &mut Connection<S>) -> Result<(), OpenFault>
 
 /// Opens the site of this name, whose tables the database has, with the keys of the hash by which items are numbered,
 /// drawn at random, so that nobody can choose texts that collide. Tables of the second version are read, and nothing is
-/// written; those of the first are tested whole, and then made of the second in one transaction, whose commit is the last
-/// call of the database.
+/// written; those of the first are tested whole, and then made of the second in one transaction, whose commit is the
+/// last call of the database.
 ///
 /// # Errors
 /// As [`OpenFault`] says. The connection is given back. Asked are, in this order: whether the tables are a site's and
 /// `store` has a row, whether that has a version, which is the tables', whether `site` has a row of its number, whether
-/// that has the name, and whether the rows stand in a record's under their version, table by table, a table's rows by key.
-/// An error of the database is reported as soon as a call returns it. After a refusal a crash leaves what it would have
-/// left before; after an error of a migration perhaps the second version, with the same record.
+/// that has the name, and whether the rows stand in a record's under their version, table by table, a table's rows by
+/// key. An error of the database is reported as soon as a call returns it. After a refusal a crash leaves what it would
+/// have left before; after an error of a migration perhaps the second version, with the same record.
 pub fn open_site<D: Disk + Drop>(
     alloc: Global,
     keys: RandomState,

@@ -1,12 +1,12 @@
 //! A record that a step changes in place, and takes back where its rows aren't written.
-ghost use Rattle.std.specs.Prelude.{◌≡◌, ◌⊎◌, ℕ, IsTrue, IfOk, IfErr, MatchOption};
+ghost use Rattle.std.specs.Prelude.{◌≡◌, ℕ, IsTrue, IfOk, IfErr, MatchOption};
 ghost use Rattle.sqlite.specs.State.{HasCleanDisk};
 ghost use Rattle.sqlite.specs.Held.{state};
 ghost use Rattle.frame_core.specs.declared.frames.Frame.TheVariants as frames;
-ghost use Rattle.site_core.specs.Records.{Record};
 ghost use Rattle.site_core.specs.Steps.{CopiesRecord};
 ghost use Rattle.site_core.specs.Undoing.{IsSignal};
 ghost use Rattle.site_core.specs.declared.inputs.SiteInput.{SiteInput as Asked};
+ghost use Rattle.site_tables.specs.HonestDisks.{OnHonestDisk};
 ghost use Rattle.site_store.specs.Findable.{MayBeFound};
 ghost use Rattle.site_store.specs.Standing.{alone, AreFound, IsNextOf};
 ghost use Rattle.site_store.specs.StepTried.{StepsTo, LeavesTried, FailsTried, is_idle_try};
@@ -119,9 +119,11 @@ impl Standing {
     ) -> Result<(Effects, u64), Untaken>
         requires copies { CopiesRecord self.old.state input }
         ensures steps { StepsTo self.old input result self.new }
-        ensures disk { HasCleanDisk (state S.Store conn.new) → Keeps self.old.state (state S.Store conn.old) → LeavesTried self.new result (state S.Store conn.new) }
-        ensures cause { HasCleanDisk (state S.Store conn.new) → Keeps self.old.state (state S.Store conn.old) → IfErr result (FailsTried (state S.Store conn.old) (state S.Store conn.new)) }
-        ensures clean { HasCleanDisk (state S.Store conn.new) → HasCleanDisk (state S.Store conn.old) }
+        ensures disk { OnHonestDisk S.Store conn.new (Keeps self.old.state (state S.Store conn.old)
+            → LeavesTried self.new result (state S.Store conn.new)) }
+        ensures cause { OnHonestDisk S.Store conn.new (Keeps self.old.state (state S.Store conn.old)
+            → IfErr result (FailsTried (state S.Store conn.old) (state S.Store conn.new))) }
+        ensures clean { OnHonestDisk S.Store conn.new (HasCleanDisk (state S.Store conn.old)) }
         ensures calls { IsTrue (is_idle_try result) → conn.new ≡ conn.old }
     {
         match message_signalled(&input) {
@@ -139,9 +141,11 @@ impl Standing {
     ) -> Result<(Effects, u64), Untaken>
         requires no_signal { IsSignal input → ⊥ }
         ensures steps { StepsTo self.old input result self.new }
-        ensures disk { HasCleanDisk (state S.Store conn.new) → Keeps self.old.state (state S.Store conn.old) → LeavesTried self.new result (state S.Store conn.new) }
-        ensures cause { HasCleanDisk (state S.Store conn.new) → Keeps self.old.state (state S.Store conn.old) → IfErr result (FailsTried (state S.Store conn.old) (state S.Store conn.new)) }
-        ensures clean { HasCleanDisk (state S.Store conn.new) → HasCleanDisk (state S.Store conn.old) }
+        ensures disk { OnHonestDisk S.Store conn.new (Keeps self.old.state (state S.Store conn.old)
+            → LeavesTried self.new result (state S.Store conn.new)) }
+        ensures cause { OnHonestDisk S.Store conn.new (Keeps self.old.state (state S.Store conn.old)
+            → IfErr result (FailsTried (state S.Store conn.old) (state S.Store conn.new))) }
+        ensures clean { OnHonestDisk S.Store conn.new (HasCleanDisk (state S.Store conn.old)) }
         ensures calls { IsTrue (is_idle_try result) → conn.new ≡ conn.old }
     {
         let (effects, undo) = match self.state.apply_noted(&input) {
@@ -184,9 +188,11 @@ impl Standing {
         requires signal { (by : ℕ) × (input ≡ Asked.Deliver (frames.Signal message by)) }
         requires copies { CopiesRecord self.old.state input }
         ensures steps { StepsTo self.old input result self.new }
-        ensures disk { HasCleanDisk (state S.Store conn.new) → Keeps self.old.state (state S.Store conn.old) → LeavesTried self.new result (state S.Store conn.new) }
-        ensures cause { HasCleanDisk (state S.Store conn.new) → Keeps self.old.state (state S.Store conn.old) → IfErr result (FailsTried (state S.Store conn.old) (state S.Store conn.new)) }
-        ensures clean { HasCleanDisk (state S.Store conn.new) → HasCleanDisk (state S.Store conn.old) }
+        ensures disk { OnHonestDisk S.Store conn.new (Keeps self.old.state (state S.Store conn.old)
+            → LeavesTried self.new result (state S.Store conn.new)) }
+        ensures cause { OnHonestDisk S.Store conn.new (Keeps self.old.state (state S.Store conn.old)
+            → IfErr result (FailsTried (state S.Store conn.old) (state S.Store conn.new))) }
+        ensures clean { OnHonestDisk S.Store conn.new (HasCleanDisk (state S.Store conn.old)) }
         ensures calls { IsTrue (is_idle_try result) → conn.new ≡ conn.old }
     {
         let effects = self.state.foresee(message);
@@ -212,7 +218,8 @@ impl Standing {
 
 /// The message that an input signals, if it is a signal.
 fn message_signalled(input: &SiteInput) -> Option<MsgId>
-    ensures { MatchOption result (IsSignal input.now → ⊥) (λ m. (by : ℕ) × (input.now ≡ Asked.Deliver (frames.Signal m by))) }
+    ensures { MatchOption result (IsSignal input.now → ⊥) (λ m. (by : ℕ)
+        × (input.now ≡ Asked.Deliver (frames.Signal m by))) }
 {
     match input {
         SiteInput::Deliver(Frame::Signal { id, .. }) => Some(*id),

@@ -5,6 +5,7 @@ ghost use Rattle.sqlite.specs.Held.{state};
 ghost use Rattle.site_core.specs.Records.{Record};
 ghost use Rattle.site_core.specs.declared.outcomes.Effects.{Effects as Told};
 ghost use Rattle.site_rows.specs.StepRows.{AreChangesOf};
+ghost use Rattle.site_tables.specs.HonestDisks.{OnHonestDisk};
 ghost use Rattle.site_store.specs.StepWritten.{Keeps, KeepsWhereFailed, FailsToWrite, IsCounted, cause_of};
 
 use crate::faults::is_of_memory;
@@ -22,21 +23,29 @@ pub enum Unwritten {
     Failed(Error),
 }
 
-/// Writes the rows that a step changes, in one transaction, and returns how many these are, at most 2^64 - 1. It says so of
-/// every step whose changes they are.
+/// Writes the rows that a step changes, in one transaction, and returns how many these are, at most 2^64 - 1. It says
+/// so of every step whose changes they are.
 ///
 /// # Errors
-/// As [`Unwritten`] says; the database's store failed for a cause that shows, or it refused a statement. A crash leaves the rows of the record before the step or of the one after it, and no others.
+/// As [`Unwritten`] says; the database's store failed for a cause that shows, or it refused a statement. A crash leaves
+/// the rows of the record before the step or of the one after it, and no others.
 pub fn write_step<S: Alter>(
     alloc: Global,
     conn: &mut Connection<S>,
     changes: &RowChanges,
 ) -> Result<u64, Unwritten>
-    ensures done { (old new : Record) (told : Told) → AreChangesOf changes.now told old new → HasCleanDisk (state S.Store conn.new) → Keeps old (state S.Store conn.old) → OnOk result (Keeps new (state S.Store conn.new)) }
-    ensures failed { (old new : Record) (told : Told) → AreChangesOf changes.now told old new → HasCleanDisk (state S.Store conn.new) → Keeps old (state S.Store conn.old) → IfErr result (KeepsWhereFailed old new (state S.Store conn.new)) }
-    ensures cause { (old : Record) → HasCleanDisk (state S.Store conn.new) → Keeps old (state S.Store conn.old) → IfErr result (FailsToWrite (state S.Store conn.old) (state S.Store conn.new)) }
-    ensures counted { (old new : Record) (told : Told) → AreChangesOf changes.now told old new → IfOk result (IsCounted old told new) }
-    ensures clean { HasCleanDisk (state S.Store conn.new) → HasCleanDisk (state S.Store conn.old) }
+    ensures done { (old new : Record) (told : Told) → AreChangesOf changes.now told old new
+        → HasCleanDisk (state S.Store conn.new) → Keeps old (state S.Store conn.old)
+        → OnOk result (Keeps new (state S.Store conn.new)) }
+    ensures failed { (old new : Record) (told : Told) → AreChangesOf changes.now told old new
+        → HasCleanDisk (state S.Store conn.new) → Keeps old (state S.Store conn.old)
+        → IfErr result (KeepsWhereFailed old new (state S.Store conn.new)) }
+    ensures cause { (old : Record) → HasCleanDisk (state S.Store conn.new)
+        → Keeps old (state S.Store conn.old)
+        → IfErr result (FailsToWrite (state S.Store conn.old) (state S.Store conn.new)) }
+    ensures counted { (old new : Record) (told : Told) → AreChangesOf changes.now told old new
+        → IfOk result (IsCounted old told new) }
+    ensures clean { OnHonestDisk S.Store conn.new (HasCleanDisk (state S.Store conn.old)) }
 {
     if !conn.is_autocommit() {
         let error = Error::SqliteFailure(ErrorCode::TransactionState);
@@ -56,11 +65,19 @@ pub fn write_found<S: Alter>(
     conn: &mut Connection<S>,
     changes: Result<RowChanges, AllocError>,
 ) -> Result<u64, Unwritten>
-    ensures done { (old new : Record) (told : Told) → IfOk changes (λ c. AreChangesOf c told old new) → HasCleanDisk (state S.Store conn.new) → Keeps old (state S.Store conn.old) → OnOk result (Keeps new (state S.Store conn.new)) }
-    ensures failed { (old new : Record) (told : Told) → IfOk changes (λ c. AreChangesOf c told old new) → HasCleanDisk (state S.Store conn.new) → Keeps old (state S.Store conn.old) → IfErr result (KeepsWhereFailed old new (state S.Store conn.new)) }
-    ensures cause { (old : Record) → HasCleanDisk (state S.Store conn.new) → Keeps old (state S.Store conn.old) → IfErr result (FailsToWrite (state S.Store conn.old) (state S.Store conn.new)) }
-    ensures counted { (old new : Record) (told : Told) → IfOk changes (λ c. AreChangesOf c told old new) → IfOk result (IsCounted old told new) }
-    ensures clean { HasCleanDisk (state S.Store conn.new) → HasCleanDisk (state S.Store conn.old) }
+    ensures done { (old new : Record) (told : Told)
+        → IfOk changes (λ c. AreChangesOf c told old new) → HasCleanDisk (state S.Store conn.new)
+        → Keeps old (state S.Store conn.old) → OnOk result (Keeps new (state S.Store conn.new)) }
+    ensures failed { (old new : Record) (told : Told)
+        → IfOk changes (λ c. AreChangesOf c told old new) → HasCleanDisk (state S.Store conn.new)
+        → Keeps old (state S.Store conn.old)
+        → IfErr result (KeepsWhereFailed old new (state S.Store conn.new)) }
+    ensures cause { (old : Record) → HasCleanDisk (state S.Store conn.new)
+        → Keeps old (state S.Store conn.old)
+        → IfErr result (FailsToWrite (state S.Store conn.old) (state S.Store conn.new)) }
+    ensures counted { (old new : Record) (told : Told)
+        → IfOk changes (λ c. AreChangesOf c told old new) → IfOk result (IsCounted old told new) }
+    ensures clean { OnHonestDisk S.Store conn.new (HasCleanDisk (state S.Store conn.old)) }
     ensures no_memory { IfErr changes (λ _. result ≡ Err Unwritten.NoMemory) }
 {
     match changes {

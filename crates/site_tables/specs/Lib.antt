@@ -3,6 +3,7 @@ pub mod Causes
 pub mod Changed
 pub mod Commands
 pub mod Filled
+pub mod HonestDisks
 pub mod Inserting
 pub mod Known
 pub mod Made

@@ -13,7 +13,8 @@ use std::alloc::AllocError;
 /// The row of `address`.
 fn address_row_of(row: &Row) -> Result<AddressRow, Error>
     ensures ok { IfOk result (λ it. row.now ≡ address_values it) }
-    ensures err { IfErr result (λ e. e ≢ Error.SqliteFailure ErrorCode.OutOfMemory → IsBadRow address_values row.now) }
+    ensures err { IfErr result (λ e. e ≢ Error.SqliteFailure ErrorCode.OutOfMemory
+        → IsBadRow address_values row.now) }
 {
     if row.column_count() != 3 {
         return Err(Error::InvalidColumnIndex(row.column_count()));

@@ -1,8 +1,9 @@
 //! A site's tables made, with the rows of the site, in one transaction.
 ghost use Rattle.std.specs.Prelude.{◌≡◌, false, IfErr, OnOk};
-ghost use Rattle.sqlite.specs.State.{HasCleanDisk, Survives};
+ghost use Rattle.sqlite.specs.State.{Survives};
 ghost use Rattle.sqlite.specs.Held.{state};
 ghost use Rattle.site_tables.specs.Causes.{HasReason};
+ghost use Rattle.site_tables.specs.HonestDisks.{OnHonestDisk};
 ghost use Rattle.site_tables.specs.Stored.{Holds, IsStored, contents_of};
 ghost use Rattle.site_tables.specs.Tables.{no_schema};
 
@@ -23,11 +24,12 @@ pub fn create_site<S: Alter>(
 ) -> Result<(), Error>
     requires outside { conn.old.in_transaction ≡ false }
     ensures mode { conn.new.in_transaction ≡ false }
-    ensures stored { HasCleanDisk (state S.Store conn.new) → (state S.Store conn.old).now.schema ≡ no_schema
-        → OnOk result (IsStored (contents_of rows.now) (state S.Store conn.new)) }
-    ensures cause { HasCleanDisk (state S.Store conn.new) → (state S.Store conn.old).now.schema ≡ no_schema
-        → IfErr result (HasReason (state S.Store conn.old) (state S.Store conn.new)) }
-    ensures crash { Survives (state S.Store conn.old) (state S.Store conn.new) (λ db. (state S.Store conn.old).now.schema ≡ no_schema → Holds (contents_of rows.now) db) }
+    ensures stored { OnHonestDisk S.Store conn.new ((state S.Store conn.old).now.schema ≡ no_schema
+        → OnOk result (IsStored (contents_of rows.now) (state S.Store conn.new))) }
+    ensures cause { OnHonestDisk S.Store conn.new ((state S.Store conn.old).now.schema ≡ no_schema
+        → IfErr result (HasReason (state S.Store conn.old) (state S.Store conn.new))) }
+    ensures crash { Survives (state S.Store conn.old) (state S.Store conn.new) (λ db.
+        (state S.Store conn.old).now.schema ≡ no_schema → Holds (contents_of rows.now) db) }
 {
     let mut written: u64 = 0;
     let mut tx = conn.transaction();

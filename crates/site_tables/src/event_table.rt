@@ -13,7 +13,8 @@ use std::alloc::AllocError;
 /// The row of `event`.
 fn event_row_of(row: &Row) -> Result<EventRow, Error>
     ensures ok { IfOk result (λ it. row.now ≡ event_values it) }
-    ensures err { IfErr result (λ e. e ≢ Error.SqliteFailure ErrorCode.OutOfMemory → IsBadRow event_values row.now) }
+    ensures err { IfErr result (λ e. e ≢ Error.SqliteFailure ErrorCode.OutOfMemory
+        → IsBadRow event_values row.now) }
 {
     if row.column_count() != 6 {
         return Err(Error::InvalidColumnIndex(row.column_count()));

@@ -27,7 +27,8 @@ pub trait TableChange {
         written: &mut u64,
     ) -> Result<usize, Error>
         ensures same_reference { tx.new.conn.ghost_name ≡ tx.old.conn.ghost_name }
-        ensures wrote { Writes (declared named) (change element.now) (state S.Store tx.old.conn.now) (state S.Store tx.new.conn.now) result }
+        ensures wrote { Writes (declared named) (change element.now) (state S.Store tx.old.conn.now)
+            (state S.Store tx.new.conn.now) result }
         ensures counted { written.new ≡ min 18_446_744_073_709_551_615 (written.old + 1) };
 }
 
@@ -38,8 +39,10 @@ pub fn write_each<C: TableChange, S: Alter>(
     written: &mut u64,
 ) -> Result<(), Error>
     ensures same_reference { tx.new.conn.ghost_name ≡ tx.old.conn.ghost_name }
-    ensures wrote { Writes (declared C.named) (changes_each C.change elements.now) (state S.Store tx.old.conn.now) (state S.Store tx.new.conn.now) result }
-    ensures counted { OnOk result (written.new ≡ min 18_446_744_073_709_551_615 (written.old + length elements.now)) }
+    ensures wrote { Writes (declared C.named) (changes_each C.change elements.now)
+        (state S.Store tx.old.conn.now) (state S.Store tx.new.conn.now) result }
+    ensures counted { OnOk result (written.new ≡ min 18_446_744_073_709_551_615
+        (written.old + length elements.now)) }
 {
     // The count fits its type.
     let _written = *written;

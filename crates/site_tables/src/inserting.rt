@@ -25,8 +25,10 @@ fn insert_together<'a, T: TableRow, S: Alter>(
 ) -> Result<(), Error>
     requires { Inserts (declared T.TableRow.named) T.TableRow.shown (length rows.now) text.now }
     ensures same_reference { tx.new.conn.ghost_name ≡ tx.old.conn.ghost_name }
-    ensures wrote { Writes (declared T.TableRow.named) (adds (map T.TableRow.shown rows.now)) (state S.Store tx.old.conn.now) (state S.Store tx.new.conn.now) result }
-    ensures counted { OnOk result (written.new ≡ min 18_446_744_073_709_551_615 (written.old + length rows.now)) }
+    ensures wrote { Writes (declared T.TableRow.named) (adds (map T.TableRow.shown rows.now))
+        (state S.Store tx.old.conn.now) (state S.Store tx.new.conn.now) result }
+    ensures counted { OnOk result (written.new ≡ min 18_446_744_073_709_551_615
+        (written.old + length rows.now)) }
 {
     // The count fits its type.
     let _written = *written;
@@ -51,8 +53,11 @@ fn insert_eights<'a, T: TableRow, S: Alter>(
 ) -> Result<(), Error>
     requires { Inserts (declared T.TableRow.named) T.TableRow.shown 8 text.now }
     ensures same_reference { tx.new.conn.ghost_name ≡ tx.old.conn.ghost_name }
-    ensures wrote { Writes (declared T.TableRow.named) (adds (map T.TableRow.shown (take (length rows.now / 8 * 8) rows.now))) (state S.Store tx.old.conn.now) (state S.Store tx.new.conn.now) result }
-    ensures counted { OnOk result (written.new ≡ min 18_446_744_073_709_551_615 (written.old + length rows.now / 8 * 8)) }
+    ensures wrote { Writes (declared T.TableRow.named)
+        (adds (map T.TableRow.shown (take (length rows.now / 8 * 8) rows.now)))
+        (state S.Store tx.old.conn.now) (state S.Store tx.new.conn.now) result }
+    ensures counted { OnOk result (written.new ≡ min 18_446_744_073_709_551_615
+        (written.old + length rows.now / 8 * 8)) }
 {
     // The count fits its type.
     let _written = *written;
@@ -71,8 +76,10 @@ pub fn insert_each<T: TableRow, S: Alter>(
     written: &mut u64,
 ) -> Result<(), Error>
     ensures same_reference { tx.new.conn.ghost_name ≡ tx.old.conn.ghost_name }
-    ensures wrote { Writes (declared T.TableRow.named) (adds (map T.TableRow.shown rows.now)) (state S.Store tx.old.conn.now) (state S.Store tx.new.conn.now) result }
-    ensures counted { OnOk result (written.new ≡ min 18_446_744_073_709_551_615 (written.old + length rows.now)) }
+    ensures wrote { Writes (declared T.TableRow.named) (adds (map T.TableRow.shown rows.now))
+        (state S.Store tx.old.conn.now) (state S.Store tx.new.conn.now) result }
+    ensures counted { OnOk result (written.new ≡ min 18_446_744_073_709_551_615
+        (written.old + length rows.now)) }
 {
     // The count fits its type.
     let _written = *written;

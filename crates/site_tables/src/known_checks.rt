@@ -1,5 +1,5 @@
 //! Tests of the conditions of a table.
-ghost use Rattle.std.specs.Prelude.{◌≡◌, ◌↔◌, [], ◌∷◌, ℕ, suc, pos, IsTrue, MatchOption, List, ◌≢◌};
+ghost use Rattle.std.specs.Prelude.{◌≡◌, ◌↔◌, [], ◌∷◌, ℕ, suc, pos, IsTrue, MatchOption, ◌≢◌};
 ghost use Rattle.sqlite.specs.declared.types.Value.TheVariants.{Int};
 ghost use Rattle.sqlite.specs.Term.{lit, col, op2};
 ghost use Rattle.sqlite_sql.specs.declared.ops.BinaryOp.TheVariants.{Or};
@@ -25,7 +25,8 @@ fn is_place(nodes: &[Op], at: usize, place: usize) -> bool
 
 /// Whether a node is this number.
 fn is_literal(nodes: &[Op], at: usize, number: u8) -> bool
-    ensures { (depth : ℕ) → (IsTrue result ↔ (term_to nodes.now (suc depth) at ≡ lit (Int (pos number)))) }
+    ensures { (depth : ℕ) → (IsTrue result
+        ↔ (term_to nodes.now (suc depth) at ≡ lit (Int (pos number)))) }
 {
     match nodes.get(at) {
         Some(Op::Literal(Value::Int(found))) => *found == i64::from(number),
@@ -35,7 +36,8 @@ fn is_literal(nodes: &[Op], at: usize, number: u8) -> bool
 
 /// Whether a node says that the column at a place is this number.
 fn is_equality(nodes: &[Op], at: usize, place: usize, number: u8) -> bool
-    ensures { (depth : ℕ) → (IsTrue result ↔ (term_to nodes.now (suc (suc depth)) at ≡ equals place number)) }
+    ensures { (depth : ℕ) → (IsTrue result
+        ↔ (term_to nodes.now (suc (suc depth)) at ≡ equals place number)) }
 {
     match nodes.get(at) {
         Some(Op::Binary(BinaryOp::Compare(CompareOp::Eq, Collation::Binary), a, b)) => {
@@ -49,7 +51,9 @@ fn is_equality(nodes: &[Op], at: usize, place: usize, number: u8) -> bool
 
 /// Whether a node says that the column at a place is 0 or 1.
 fn is_zero_or_one(nodes: &[Op], at: usize, place: usize) -> bool
-    ensures { (depth : ℕ) → (IsTrue result ↔ (term_to nodes.now (suc (suc (suc depth))) at ≡ op2 Or (equals place 0) (equals place 1))) }
+    ensures { (depth : ℕ) → (IsTrue result
+        ↔ (term_to nodes.now (suc (suc (suc depth))) at ≡ op2 Or (equals place 0)
+        (equals place 1))) }
 {
     match nodes.get(at) {
         Some(Op::Binary(BinaryOp::Or, a, b)) => {
@@ -63,7 +67,8 @@ fn is_zero_or_one(nodes: &[Op], at: usize, place: usize) -> bool
 
 /// The root, where there is one alone.
 fn one_root(roots: &[usize]) -> Option<usize>
-    ensures { MatchOption result ((root : ℕ) → roots.now ≢ root ∷ []) (λ root. roots.now ≡ root ∷ []) }
+    ensures { MatchOption result ((root : ℕ)
+        → roots.now ≢ root ∷ []) (λ root. roots.now ≡ root ∷ []) }
 {
     match roots {
         [root] => Some(*root),

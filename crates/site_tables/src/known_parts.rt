@@ -51,7 +51,11 @@ pub fn are_columns(columns: &[Column], declared: &[declarations::Column]) -> boo
 
 /// Whether no default is computed.
 fn has_no_stamp(table: &Table) -> bool
-    ensures { IsTrue result ↔ (table.now.stamps ≡ record { places = []; terms = []; formats = [] }) }
+    ensures { IsTrue result ↔ (table.now.stamps ≡ record {
+      places = [];
+      terms = [];
+      formats = [];
+    }) }
 {
     table.stamps.places.is_empty()
         && table.stamps.terms.roots.is_empty()
@@ -91,7 +95,8 @@ fn are_lists(lists: &[Items<usize>], places: &[usize]) -> bool
 
 /// Whether there are as many orders, by bytes, ascending.
 fn are_plain(orders: &[Order], places: &[usize]) -> bool
-    ensures { IsTrue result ↔ (orders.now ≡ map (λ _. record { digits = 0 }) (uniques_as places.now)) }
+    ensures { IsTrue result ↔ (orders.now ≡ map (λ _. record { digits = 0 })
+        (uniques_as places.now)) }
 {
     match orders {
         [] => places.is_empty(),
@@ -136,7 +141,8 @@ fn is_one_name(names: &[Bytes], name: &str) -> bool
 
 /// Whether nothing is done where the parent of a row goes or changes.
 fn has_no_action(reference: &Reference) -> bool
-    ensures { IsTrue result ↔ ((reference.now.on_delete ≡ actions.NoAction) × (reference.now.on_update ≡ actions.NoAction) × (reference.now.is_deferred ≡ false)) }
+    ensures { IsTrue result ↔ ((reference.now.on_delete ≡ actions.NoAction)
+        × (reference.now.on_update ≡ actions.NoAction) × (reference.now.is_deferred ≡ false)) }
 {
     reference.on_delete == Action::NoAction
         && reference.on_update == Action::NoAction
@@ -145,7 +151,8 @@ fn has_no_action(reference: &Reference) -> bool
 
 /// Whether the reference is this one.
 fn is_reference(reference: &Reference, parent: &Parent) -> bool
-    ensures { IsTrue result ↔ (reference.now ≡ to (parent.now.place ∷ []) parent.now.table.now parent.now.column.now) }
+    ensures { IsTrue result ↔ (reference.now
+        ≡ to (parent.now.place ∷ []) parent.now.table.now parent.now.column.now) }
 {
     is_one_place(reference.columns.as_slice(), parent.place)
         && has_text(&reference.parent, parent.table)

@@ -4,7 +4,7 @@ ghost use Rattle.site_tables.specs.Known.{table_as, index_as};
 ghost use Rattle.site_rows.specs.BadRows.{Tells};
 ghost use Rattle.site_tables.specs.Tables.{schema_under};
 
-use crate::all_tables::{are_indexes, are_tables};
+use crate::all_declared::{are_indexes, are_tables};
 use crate::declarations::{self, Declaration};
 use crate::known_checks::has_checks;
 use crate::known_parts::{are_columns, has_unique, is_index, is_named, refers};

@@ -2,6 +2,8 @@
 #![tactic(auto)]
 
 mod address_table;
+mod all_declared;
+mod all_reads;
 mod all_tables;
 mod beginning;
 mod counting;
@@ -31,7 +33,7 @@ mod stored;
 mod table_row;
 mod trying;
 
-pub use all_tables::read_rows;
+pub use all_reads::read_rows;
 pub use beginning::create_site;
 pub use faults::ReadFault;
 pub use known_tables::version_of;

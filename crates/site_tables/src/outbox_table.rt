@@ -15,7 +15,8 @@ use std::alloc::AllocError;
 /// The row of `outbox`.
 fn outbox_row_of(row: &Row) -> Result<OutboxRow, Error>
     ensures ok { IfOk result (λ it. row.now ≡ outbox_values it) }
-    ensures err { IfErr result (λ e. e ≢ Error.SqliteFailure ErrorCode.OutOfMemory → IsBadRow outbox_values row.now) }
+    ensures err { IfErr result (λ e. e ≢ Error.SqliteFailure ErrorCode.OutOfMemory
+        → IsBadRow outbox_values row.now) }
 {
     if row.column_count() != 5 {
         return Err(Error::InvalidColumnIndex(row.column_count()));

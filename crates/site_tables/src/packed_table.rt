@@ -13,7 +13,8 @@ use std::alloc::AllocError;
 /// The row of `packed`.
 fn packed_row_of(row: &Row) -> Result<PackedRow, Error>
     ensures ok { IfOk result (λ it. row.now ≡ packed_values it) }
-    ensures err { IfErr result (λ e. e ≢ Error.SqliteFailure ErrorCode.OutOfMemory → IsBadRow packed_values row.now) }
+    ensures err { IfErr result (λ e. e ≢ Error.SqliteFailure ErrorCode.OutOfMemory
+        → IsBadRow packed_values row.now) }
 {
     if row.column_count() != 3 {
         return Err(Error::InvalidColumnIndex(row.column_count()));

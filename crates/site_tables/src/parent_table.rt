@@ -15,7 +15,8 @@ use std::alloc::AllocError;
 /// The row of `parent`.
 fn parent_row_of(row: &Row) -> Result<ParentRow, Error>
     ensures ok { IfOk result (λ it. row.now ≡ parent_values it) }
-    ensures err { IfErr result (λ e. e ≢ Error.SqliteFailure ErrorCode.OutOfMemory → IsBadRow parent_values row.now) }
+    ensures err { IfErr result (λ e. e ≢ Error.SqliteFailure ErrorCode.OutOfMemory
+        → IsBadRow parent_values row.now) }
 {
     if row.column_count() != 4 {
         return Err(Error::InvalidColumnIndex(row.column_count()));

@@ -13,7 +13,8 @@ use std::alloc::AllocError;
 /// The row of `part`.
 fn part_row_of(row: &Row) -> Result<PartRow, Error>
     ensures ok { IfOk result (λ it. row.now ≡ part_values it) }
-    ensures err { IfErr result (λ e. e ≢ Error.SqliteFailure ErrorCode.OutOfMemory → IsBadRow part_values row.now) }
+    ensures err { IfErr result (λ e. e ≢ Error.SqliteFailure ErrorCode.OutOfMemory
+        → IsBadRow part_values row.now) }
 {
     if row.column_count() != 4 {
         return Err(Error::InvalidColumnIndex(row.column_count()));

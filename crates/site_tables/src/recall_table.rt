@@ -15,7 +15,8 @@ use std::alloc::AllocError;
 /// The row of `recall`.
 fn recall_row_of(row: &Row) -> Result<RecallRow, Error>
     ensures ok { IfOk result (λ it. row.now ≡ recall_values it) }
-    ensures err { IfErr result (λ e. e ≢ Error.SqliteFailure ErrorCode.OutOfMemory → IsBadRow recall_values row.now) }
+    ensures err { IfErr result (λ e. e ≢ Error.SqliteFailure ErrorCode.OutOfMemory
+        → IsBadRow recall_values row.now) }
 {
     if row.column_count() != 3 {
         return Err(Error::InvalidColumnIndex(row.column_count()));

@@ -13,7 +13,8 @@ use std::alloc::AllocError;
 /// The row of `seen`.
 fn seen_row_of(row: &Row) -> Result<SeenRow, Error>
     ensures ok { IfOk result (λ it. row.now ≡ seen_values it) }
-    ensures err { IfErr result (λ e. e ≢ Error.SqliteFailure ErrorCode.OutOfMemory → IsBadRow seen_values row.now) }
+    ensures err { IfErr result (λ e. e ≢ Error.SqliteFailure ErrorCode.OutOfMemory
+        → IsBadRow seen_values row.now) }
 {
     if row.column_count() != 4 {
         return Err(Error::InvalidColumnIndex(row.column_count()));

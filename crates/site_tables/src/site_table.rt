@@ -13,7 +13,8 @@ use std::alloc::AllocError;
 /// The row of `site`.
 fn site_row_of(row: &Row) -> Result<SiteRow, Error>
     ensures ok { IfOk result (λ it. row.now ≡ site_values it) }
-    ensures err { IfErr result (λ e. e ≢ Error.SqliteFailure ErrorCode.OutOfMemory → IsBadRow site_values row.now) }
+    ensures err { IfErr result (λ e. e ≢ Error.SqliteFailure ErrorCode.OutOfMemory
+        → IsBadRow site_values row.now) }
 {
     if row.column_count() != 2 {
         return Err(Error::InvalidColumnIndex(row.column_count()));

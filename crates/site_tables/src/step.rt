@@ -1,11 +1,11 @@
 //! The rows that a step changes, written in one transaction.
-ghost use Rattle.std.specs.Prelude.{◌≡◌, ◌+◌, [], ◌∷◌, false, length, min, IsTrue, IfErr, OnOk, OnErr};
-ghost use Rattle.sqlite.specs.Tree.{Trees};
-ghost use Rattle.sqlite.specs.State.{HasCleanDisk, IsUnchanged, Survives};
+ghost use Rattle.std.specs.Prelude.{◌≡◌, ◌+◌, [], ◌∷◌, false, length, min, IfErr, OnOk, OnErr};
+ghost use Rattle.sqlite.specs.State.{Survives};
 ghost use Rattle.sqlite.specs.Held.{state};
 ghost use Rattle.site_rows.specs.declared.tables.Table.TheVariants.{Store, Event, Part, Pack, Packed, Quarantine, Outbox, Seen, Parent, Recall};
 ghost use Rattle.site_tables.specs.Causes.{HasReason};
 ghost use Rattle.site_tables.specs.Changed.{put, dropped, changed, rows_written, numbers_written};
+ghost use Rattle.site_tables.specs.HonestDisks.{OnHonestDisk};
 ghost use Rattle.site_tables.specs.Stored.{Contents, Holds, IsStored, IsStopped, WritesAll, after, only};
 
 use crate::in_turn::write_each;
@@ -26,8 +26,11 @@ fn write_captured<S: Alter>(
     written: &mut u64,
 ) -> Result<(), Error>
     ensures same_reference { tx.new.conn.ghost_name ≡ tx.old.conn.ghost_name }
-    ensures wrote { WritesAll (only (Event ∷ Part ∷ Pack ∷ Packed ∷ []) (put changes.now)) (state S.Store tx.old.conn.now) (state S.Store tx.new.conn.now) result }
-    ensures counted { OnOk result (written.new ≡ min 18_446_744_073_709_551_615 (written.old + (length changes.now.event + length changes.now.part + length changes.now.pack + length changes.now.packed))) }
+    ensures wrote { WritesAll (only (Event ∷ Part ∷ Pack ∷ Packed ∷ []) (put changes.now))
+        (state S.Store tx.old.conn.now) (state S.Store tx.new.conn.now) result }
+    ensures counted { OnOk result (written.new ≡ min 18_446_744_073_709_551_615
+        (written.old + (length changes.now.event + length changes.now.part + length
+        changes.now.pack + length changes.now.packed))) }
 {
     insert_each(alloc, tx, changes.event.as_slice(), written)?;
     insert_each(alloc, tx, changes.part.as_slice(), written)?;
@@ -43,8 +46,11 @@ fn write_recalled<S: Alter>(
     written: &mut u64,
 ) -> Result<(), Error>
     ensures same_reference { tx.new.conn.ghost_name ≡ tx.old.conn.ghost_name }
-    ensures wrote { WritesAll (only (Quarantine ∷ Outbox ∷ Seen ∷ Parent ∷ []) (put changes.now)) (state S.Store tx.old.conn.now) (state S.Store tx.new.conn.now) result }
-    ensures counted { OnOk result (written.new ≡ min 18_446_744_073_709_551_615 (written.old + (length changes.now.quarantine + length changes.now.outbox + length changes.now.seen + length changes.now.parent))) }
+    ensures wrote { WritesAll (only (Quarantine ∷ Outbox ∷ Seen ∷ Parent ∷ []) (put changes.now))
+        (state S.Store tx.old.conn.now) (state S.Store tx.new.conn.now) result }
+    ensures counted { OnOk result (written.new ≡ min 18_446_744_073_709_551_615
+        (written.old + (length changes.now.quarantine + length changes.now.outbox + length
+        changes.now.seen + length changes.now.parent))) }
 {
     insert_each(alloc, tx, changes.quarantine.as_slice(), written)?;
     write_each::<PutsOutbox, _>(tx, changes.outbox.as_slice(), written)?;
@@ -59,8 +65,12 @@ fn write_signalled<S: Alter>(
     written: &mut u64,
 ) -> Result<(), Error>
     ensures same_reference { tx.new.conn.ghost_name ≡ tx.old.conn.ghost_name }
-    ensures wrote { WritesAll (λ t rows. only (Recall ∷ []) (put changes.now) t (dropped changes.now t rows)) (state S.Store tx.old.conn.now) (state S.Store tx.new.conn.now) result }
-    ensures counted { OnOk result (written.new ≡ min 18_446_744_073_709_551_615 (written.old + (length changes.now.signalled + length changes.now.left + length changes.now.recall))) }
+    ensures wrote { WritesAll (λ t rows. only (Recall ∷ []) (put changes.now) t
+        (dropped changes.now t rows)) (state S.Store tx.old.conn.now)
+        (state S.Store tx.new.conn.now) result }
+    ensures counted { OnOk result (written.new ≡ min 18_446_744_073_709_551_615
+        (written.old + (length changes.now.signalled + length changes.now.left + length
+        changes.now.recall))) }
 {
     write_each::<DropsOutbox, _>(tx, changes.signalled.as_slice(), written)?;
     write_each::<DropsParent, _>(tx, changes.left.as_slice(), written)?;
@@ -74,8 +84,10 @@ fn write_numbers<S: Alter>(
     written: &mut u64,
 ) -> Result<(), Error>
     ensures same_reference { tx.new.conn.ghost_name ≡ tx.old.conn.ghost_name }
-    ensures wrote { WritesAll (only (Store ∷ []) (put changes.now)) (state S.Store tx.old.conn.now) (state S.Store tx.new.conn.now) result }
-    ensures counted { OnOk result (written.new ≡ min 18_446_744_073_709_551_615 (written.old + numbers_written changes.now.numbers)) }
+    ensures wrote { WritesAll (only (Store ∷ []) (put changes.now)) (state S.Store tx.old.conn.now)
+        (state S.Store tx.new.conn.now) result }
+    ensures counted { OnOk result (written.new ≡ min 18_446_744_073_709_551_615
+        (written.old + numbers_written changes.now.numbers)) }
 {
     // The count fits its type.
     let _written = *written;
@@ -94,8 +106,10 @@ fn write_changes<S: Alter>(
     written: &mut u64,
 ) -> Result<(), Error>
     ensures same_reference { tx.new.conn.ghost_name ≡ tx.old.conn.ghost_name }
-    ensures wrote { WritesAll (changed changes.now) (state S.Store tx.old.conn.now) (state S.Store tx.new.conn.now) result }
-    ensures counted { OnOk result (written.new ≡ min 18_446_744_073_709_551_615 (written.old + rows_written changes.now)) }
+    ensures wrote { WritesAll (changed changes.now) (state S.Store tx.old.conn.now)
+        (state S.Store tx.new.conn.now) result }
+    ensures counted { OnOk result (written.new ≡ min 18_446_744_073_709_551_615
+        (written.old + rows_written changes.now)) }
 {
     write_captured(alloc, tx, changes, written)?;
     write_recalled(alloc, tx, changes, written)?;
@@ -117,14 +131,21 @@ pub fn store_changes<S: Alter>(
 ) -> Result<(), Error>
     requires outside { conn.old.in_transaction ≡ false }
     ensures mode { conn.new.in_transaction ≡ false }
-    ensures done { HasCleanDisk (state S.Store conn.new) → (before : Contents) → IsStored before (state S.Store conn.old)
-        → OnOk result (IsStored (after (changed changes.now) before) (state S.Store conn.new)) }
-    ensures stopped { HasCleanDisk (state S.Store conn.new) → (before : Contents) → IsStored before (state S.Store conn.old)
-        → OnErr result (IsStopped before (after (changed changes.now) before) (state S.Store conn.new)) }
-    ensures crash { Survives (state S.Store conn.old) (state S.Store conn.new) (λ db. (before : Contents) → IsStored before (state S.Store conn.old) → Holds (after (changed changes.now) before) db) }
-    ensures cause { HasCleanDisk (state S.Store conn.new) → (before : Contents) → IsStored before (state S.Store conn.old)
-        → IfErr result (HasReason (state S.Store conn.old) (state S.Store conn.new)) }
-    ensures counted { OnOk result (written.new ≡ min 18_446_744_073_709_551_615 (written.old + rows_written changes.now)) }
+    ensures done { OnHonestDisk S.Store conn.new ((before : Contents)
+        → IsStored before (state S.Store conn.old)
+        → OnOk result (IsStored (after (changed changes.now) before) (state S.Store conn.new))) }
+    ensures stopped { OnHonestDisk S.Store conn.new ((before : Contents)
+        → IsStored before (state S.Store conn.old)
+        → OnErr result (IsStopped before (after (changed changes.now) before)
+        (state S.Store conn.new))) }
+    ensures crash { Survives (state S.Store conn.old) (state S.Store conn.new) (λ db.
+        (before : Contents) → IsStored before (state S.Store conn.old)
+        → Holds (after (changed changes.now) before) db) }
+    ensures cause { OnHonestDisk S.Store conn.new ((before : Contents)
+        → IsStored before (state S.Store conn.old)
+        → IfErr result (HasReason (state S.Store conn.old) (state S.Store conn.new))) }
+    ensures counted { OnOk result (written.new ≡ min 18_446_744_073_709_551_615
+        (written.old + rows_written changes.now)) }
 {
     let mut tx = conn.transaction();
     write_changes(alloc, &mut tx, changes, written)?;

@@ -17,7 +17,8 @@ use std::alloc::AllocError;
 /// The row of `store`.
 fn store_row_of(row: &Row) -> Result<StoreRow, Error>
     ensures ok { IfOk result (λ it. row.now ≡ store_values it) }
-    ensures err { IfErr result (λ e. e ≢ Error.SqliteFailure ErrorCode.OutOfMemory → IsBadRow store_values row.now) }
+    ensures err { IfErr result (λ e. e ≢ Error.SqliteFailure ErrorCode.OutOfMemory
+        → IsBadRow store_values row.now) }
 {
     if row.column_count() != 5 {
         return Err(Error::InvalidColumnIndex(row.column_count()));
@@ -108,7 +109,8 @@ pub fn update_store<S: Alter>(
     written: &mut u64,
 ) -> Result<usize, Error>
     ensures same_reference { tx.new.conn.ghost_name ≡ tx.old.conn.ghost_name }
-    ensures wrote { Writes store (map (sets_numbers numbers.now)) (state S.Store tx.old.conn.now) (state S.Store tx.new.conn.now) result }
+    ensures wrote { Writes store (map (sets_numbers numbers.now)) (state S.Store tx.old.conn.now)
+        (state S.Store tx.new.conn.now) result }
     ensures counted { written.new ≡ min 18_446_744_073_709_551_615 (written.old + 1) }
 {
     count_one(written);
@@ -121,7 +123,8 @@ pub fn update_store<S: Alter>(
 /// Sets the version in the row of `store`.
 pub fn set_version<S: Alter>(tx: &mut Transaction<'_, S>, version: i64) -> Result<usize, Error>
     ensures same_reference { tx.new.conn.ghost_name ≡ tx.old.conn.ghost_name }
-    ensures wrote { Writes store (map (sets_version version)) (state S.Store tx.old.conn.now) (state S.Store tx.new.conn.now) result }
+    ensures wrote { Writes store (map (sets_version version)) (state S.Store tx.old.conn.now)
+        (state S.Store tx.new.conn.now) result }
 {
     tx.execute("UPDATE store SET version = ?1", params![&version])
 }

@@ -1,9 +1,10 @@
 //! Rows that a query shows, as the code has them.
 ghost use Rattle.std.specs.Prelude.{◌≡◌, ◌≢◌, ◌⊎◌, ◌++◌, ◌∷◌, [], map, IsTrue, IsFalse, IfOk, IfErr, OnOk};
-ghost use Rattle.sqlite.specs.State.{HasCleanDisk, IsUnchanged, Survives, Shown};
+ghost use Rattle.sqlite.specs.State.{IsUnchanged, Survives, Shown};
 ghost use Rattle.sqlite.specs.Held.{state};
 ghost use Rattle.sqlite.specs.Given.{IsPlain};
 ghost use Rattle.sqlite.specs.Listing.{understood};
+ghost use Rattle.site_tables.specs.HonestDisks.{OnHonestDisk};
 ghost use Rattle.site_tables.specs.Reads.{FailsToList, IsBadRow};
 
 use crate::faults::ReadFault;
@@ -23,7 +24,8 @@ fn is_of_memory(error: &Error) -> bool
 /// The value of the row at a place, from 1, of a table.
 fn row_of<T: TableRow>(row: &Row, table: Table, place: u64) -> Result<T, ReadFault>
     ensures ok { IfOk result (λ it. row.now ≡ T.TableRow.shown it) }
-    ensures err { IfErr result (λ f. (f ≡ ReadFault.NoMemory) ⊎ ((f ≡ ReadFault.BadRow table place) × IsBadRow T.TableRow.shown row.now)) }
+    ensures err { IfErr result (λ f. (f ≡ ReadFault.NoMemory)
+        ⊎ ((f ≡ ReadFault.BadRow table place) × IsBadRow T.TableRow.shown row.now)) }
 {
     match T::from_row(row) {
         Ok(it) => Ok(it),
@@ -56,9 +58,14 @@ pub fn read_each<T: TableRow + Drop, S: Alter>(
     sql: &str,
 ) -> Result<Vec<T>, ReadFault>
     requires { IsPlain (understood conn.old.schema sql.now) }
-    ensures rows { HasCleanDisk (state S.Store conn.new) → IfOk result (λ rows. (mid : _) × IsUnchanged (state S.Store conn.old) (state S.Store mid) × Shown sql.now [] (state S.Store mid) (state S.Store conn.new) (map T.TableRow.shown rows.items)) }
-    ensures same { HasCleanDisk (state S.Store conn.new) → OnOk result (IsUnchanged (state S.Store conn.old) (state S.Store conn.new)) }
-    ensures cause { HasCleanDisk (state S.Store conn.new) → IfErr result (FailsToList S.Store table sql.now T.TableRow.shown conn.old conn.new) }
+    ensures rows { OnHonestDisk S.Store conn.new (IfOk result (λ rows. (mid : _)
+        × IsUnchanged (state S.Store conn.old) (state S.Store mid)
+        × Shown sql.now [] (state S.Store mid) (state S.Store conn.new)
+        (map T.TableRow.shown rows.items))) }
+    ensures same { OnHonestDisk S.Store conn.new
+        (OnOk result (IsUnchanged (state S.Store conn.old) (state S.Store conn.new))) }
+    ensures cause { OnHonestDisk S.Store conn.new
+        (IfErr result (FailsToList S.Store table sql.now T.TableRow.shown conn.old conn.new)) }
     ensures crash { Survives (state S.Store conn.old) (state S.Store conn.new) (λ _. ⊥) }
 {
     let mut read = Vec::new(alloc);

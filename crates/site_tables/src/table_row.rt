@@ -36,7 +36,8 @@ pub trait TableRow: Sized {
 
     /// The text that makes the table, behind those that are made earlier.
     fn create_text() -> &'static str
-        ensures { IsMade result.now (schema_of (earlier named made)) (record (declared named) { tree = 0 }) };
+        ensures { IsMade result.now (schema_of (earlier named made))
+            (record (declared named) { tree = 0 }) };
 
     /// The text that shows the rows of the table by their keys, in a database of a version that has the table.
     fn select_text() -> &'static str
@@ -60,7 +61,8 @@ pub trait TableRow: Sized {
     /// Where memory runs out, and where no value stands for the row.
     fn from_row(row: &Row) -> Result<Self, Error>
         ensures ok { IfOk result (λ it. row.now ≡ shown it) }
-        ensures err { IfErr result (λ e. e ≢ Error.SqliteFailure ErrorCode.OutOfMemory → IsBadRow shown row.now) };
+        ensures err { IfErr result (λ e. e ≢ Error.SqliteFailure ErrorCode.OutOfMemory
+            → IsBadRow shown row.now) };
 }
 
 /// A text as a column has it: bytes, which need not be UTF-8.
@@ -86,7 +88,9 @@ impl FromSql for TextColumn {
 /// The text in a column.
 pub fn text_at(row: &Row, at: usize) -> Result<Text, Error>
     ensures ok { IfOk result (λ t. column row.now at ≡ SqlText t) }
-    ensures err { at < length row.now → IfErr result (λ e. e ≢ Error.SqliteFailure ErrorCode.OutOfMemory → (t : List ℕ) → column row.now at ≢ SqlText t) }
+    ensures err { at < length row.now → IfErr result (λ e.
+        e ≢ Error.SqliteFailure ErrorCode.OutOfMemory → (t : List ℕ)
+        → column row.now at ≢ SqlText t) }
 {
     let column: TextColumn = row.get(at)?;
     Ok(column.0)
@@ -95,7 +99,9 @@ pub fn text_at(row: &Row, at: usize) -> Result<Text, Error>
 /// The text in a column, or None where it has NULL.
 pub fn text_or_null_at(row: &Row, at: usize) -> Result<Option<Text>, Error>
     ensures ok { IfOk result (λ t. column row.now at ≡ or_null SqlText t) }
-    ensures err { at < length row.now → IfErr result (λ e. e ≢ Error.SqliteFailure ErrorCode.OutOfMemory → (t : Option (List ℕ)) → column row.now at ≢ or_null SqlText t) }
+    ensures err { at < length row.now → IfErr result (λ e.
+        e ≢ Error.SqliteFailure ErrorCode.OutOfMemory → (t : Option (List ℕ))
+        → column row.now at ≢ or_null SqlText t) }
 {
     let column: Option<TextColumn> = row.get(at)?;
     match column {

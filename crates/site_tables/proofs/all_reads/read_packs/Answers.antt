@@ -4,7 +4,7 @@ use Rattle.site_rows.specs.declared.tables.Table.TheVariants.{Store, Site, Addre
 use Rattle.sqlite.proofs.StateLemmas.{unchanged}
 use Rattle.site_tables.specs.Tables.{Has, told_under}
 use Rattle.site_tables.proofs.BadReads.{clean_before, read_before, read_next, fails_next}
-use Rattle.site_tables.proofs.all_tables.read_packs.Goals as goal
+use Rattle.site_tables.proofs.all_reads.read_packs.Goals as goal
 
 pub returns-in-First-clause-same : goal.returns-in-First-clause-same
 returns-in-First-clause-same g c clean is_open = unchanged (state g.S.Store c.args.conn.now) is_open

@@ -1,7 +1,7 @@
 use Rattle.std.proofs.Common.{◌≡◌, [], ◌∷◌, refl, sym, ap₂, ◌∙◌}
 use Rattle.site_tables.specs.Tables.{site, address, part, quarantine, seen, parent, packed, first_schema, site_schema}
 use Rattle.site_tables.proofs.Declared.{index_is}
-use Rattle.site_tables.proofs.all_tables.are_indexes.Goals as goal
+use Rattle.site_tables.proofs.all_declared.are_indexes.Goals as goal
 
 pub returns-in-First : goal.returns-in-First
 returns-in-First c =

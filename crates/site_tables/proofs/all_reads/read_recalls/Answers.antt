@@ -4,7 +4,7 @@ use Rattle.site_rows.specs.declared.tables.Table.TheVariants.{Quarantine, Outbox
 use Rattle.site_tables.specs.Tables.{before_messages}
 use Rattle.site_tables.proofs.BadReads.{clean_before, read_before, read_next, fails_next}
 use Rattle.site_tables.proofs.InSchemas.{has_recalls, told_from, told_past}
-use Rattle.site_tables.proofs.all_tables.read_recalls.Goals as goal
+use Rattle.site_tables.proofs.all_reads.read_recalls.Goals as goal
 
 pub read_table-requires : goal.read_table-requires
 read_table-requires c c' = record { has = (has_recalls c'.args.version).0 }

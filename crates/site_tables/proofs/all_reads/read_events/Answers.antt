@@ -3,7 +3,7 @@ use Rattle.sqlite.specs.Held.{state}
 use Rattle.site_rows.specs.declared.tables.Table.TheVariants.{Store, Site, Address, Event, Part}
 use Rattle.site_tables.proofs.BadReads.{clean_before, read_before, read_next, fails_next}
 use Rattle.site_tables.proofs.InSchemas.{has_events}
-use Rattle.site_tables.proofs.all_tables.read_events.Goals as goal
+use Rattle.site_tables.proofs.all_reads.read_events.Goals as goal
 
 pub read_table-requires : goal.read_table-requires
 read_table-requires c c' = record { has = (has_events c'.args.version).0 }

@@ -4,7 +4,7 @@ use Rattle.sqlite.proofs.Callers.{unchanged_then}
 use Rattle.site_rows.specs.declared.tables.Table.TheVariants.{Store, Site, Address, Event, Part, Pack, Packed, Quarantine, Outbox, Seen, Parent, Recall}
 use Rattle.site_tables.specs.Tables.{packs_under}
 use Rattle.site_tables.proofs.BadReads.{all_listed, clean_before, listed_before, packs_read, read_before, read_next, fails_since}
-use Rattle.site_tables.proofs.all_tables.read_version.Goals as goal
+use Rattle.site_tables.proofs.all_reads.read_version.Goals as goal
 
 pub returns-clause-rows : goal.returns-clause-rows
 returns-clause-rows g c clean =
