@@ -36,12 +36,16 @@ Applies old input (Err Store) None may = MayBeOldOrNew old input may
 -- no other answer is given
 Applies old input answer shown may = ⊥
 
--- the same for a stop, and whether there was memory
-abbrev pub Stops : Record → SiteInput → Keep → Bool → Option Record → (Record → Type 0) → Type 0
-Stops old input Old true None may = (r : Record) → may r → r ≡ old
-Stops old input New true None may = MayBeOldOrNew old input may
-Stops old input keep false (Some new) may = new ≡ old
-Stops old input keep done shown may = ⊥
+-- it may be opened in the record after the input; in the old one only where the input is refused, or the step failed
+abbrev pub MayBeNew : Record → SiteInput → Type 0 → (Record → Type 0) → Type 0
+MayBeNew old input failed may = (r : Record) → may r → IsAfter old input r ⊎ ((r ≡ old) × (((why : Refusal) × IsRefusedFor old input why) ⊎ failed))
+
+-- the same for a stop, whether the device or the store failed in it, and whether there was memory
+abbrev pub Stops : Record → SiteInput → Keep → Type 0 → Bool → Option Record → (Record → Type 0) → Type 0
+Stops old input Old failed true None may = (r : Record) → may r → r ≡ old
+Stops old input New failed true None may = MayBeNew old input failed may
+Stops old input keep failed false (Some new) may = new ≡ old
+Stops old input keep failed done shown may = ⊥
 
 -- closed, to be opened in no other record than before
 abbrev pub StaysClosed : (Record → Type 0) → Option Record → (Record → Type 0) → Type 0

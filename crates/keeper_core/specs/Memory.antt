@@ -27,6 +27,9 @@ shown_in keeper = if keeper.is_open then Some keeper.state else None
 abbrev pub MayIn : InMemory → Record → Type 0
 MayIn keeper r = r ≡ keeper.state
 
+pub may_be_opened_in : (keeper : InMemory) → shown_in keeper ≡ None → (r : Record) × MayIn keeper r
+may_be_opened_in keeper closed = (keeper.state, refl)
+
 -- the step of an open keeper that isn't armed
 abbrev pub StepsIn : InMemory → SiteInput → Result Effects KeepFault → InMemory → Type 0
 StepsIn old input (Ok effects) new = Does old.state input effects new.state × (new ≡ record old { state = new.state })

@@ -1,5 +1,5 @@
 //! What keeps the record of one site.
-ghost use Rattle.std.specs.Prelude.{◌≡◌, ℕ, ◌≤◌, Bool, Option, Some, None, Result, Ok, Err, IfOk, IfErr, MatchResult, is_ok, option_map};
+ghost use Rattle.std.specs.Prelude.{◌≡◌, ◌⊎◌, ℕ, ◌≤◌, Bool, Option, Some, None, Result, Ok, Err, IfOk, IfErr, MatchResult, is_ok, option_map};
 ghost use Rattle.site_core.specs.Records.{Record};
 ghost use Rattle.site_core.specs.Steps.{CopiesRecord};
 ghost use Rattle.site_core.specs.declared.inputs.SiteInput.{SiteInput};
@@ -23,8 +23,14 @@ pub trait SiteKeeper: Drop {
     /// The records in which it may be opened while it is closed.
     ghost may: { Self → Record → Type 0 };
 
+    /// While it is closed it may be opened in some record: what is said of each such record isn't said of none.
+    ghost may_be_opened: { (k : Self) → shown k ≡ None → (r : Record) × may k r };
+
     /// How often the device has failed.
     ghost failed: { Self → ℕ };
+
+    /// The store failed in the step that closed it.
+    ghost store_failed: { Self → Type 0 };
 
     /// A crash leaves on the device the record that it shows, or, while it is closed, one of those in which it may be
     /// opened, and no other: now, or before the openings that failed since. A keeper without a device has none to lose.
@@ -61,18 +67,21 @@ pub trait SiteKeeper: Drop {
         ensures closed { shown self.old ≡ None → (result ≡ Err KeepFault.Closed)
             × (self.new ≡ self.old) }
         ensures cause { result ≡ Err KeepFault.Device → Rises (failed self.old) (failed self.new) }
+        ensures store { result ≡ Err KeepFault.Store → store_failed self.new }
         ensures count { failed self.old ≤ failed self.new }
         ensures stored { stored self.old → stored self.new }
         ensures kind { applies self.old input result self.new };
 
-    /// A step of which nothing is reported, since the site stops in it: the keeper is closed then. On a closed
-    /// keeper it changes nothing.
+    /// A step of which nothing is reported, since the site stops in it: the keeper is closed then, to be opened in the
+    /// record that is to be kept. That is the old one, or the new one: the record after the input, and the old one only
+    /// where the input is refused, or the device or the store failed. On a closed keeper it changes nothing.
     ///
     /// # Errors
     /// Where memory runs out, and an open keeper stays open with the record that it had.
     fn stop(&mut self, input: SiteInput, keep: Keep) -> Result<(), AllocError>
         ensures open { (old : Record) → shown self.old ≡ Some old
-            → Stops old input keep (is_ok result) (shown self.new) (may self.new) }
+            → Stops old input keep (Rises (failed self.old) (failed self.new) ⊎ store_failed self.new)
+            (is_ok result) (shown self.new) (may self.new) }
         ensures closed { shown self.old ≡ None → self.new ≡ self.old }
         ensures count { failed self.old ≤ failed self.new }
         ensures stored { stored self.old → stored self.new }
@@ -96,8 +105,4 @@ pub trait SiteKeeper: Drop {
             (λ u. failed self ≤ failed u.keeper) }
         ensures stored { stored self → MatchResult result stored (λ u. stored u.keeper) }
         ensures kind { reopens self result };
-
-    /// A closed keeper may be opened in some record: what is said of each such record isn't said of none.
-    fn may_be_opened(&self)
-        ensures { shown self.now ≡ None → (r : Record) × may self.now r };
 }

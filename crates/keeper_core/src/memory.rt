@@ -1,9 +1,9 @@
 //! A keeper in memory.
-ghost use Rattle.std.specs.Prelude.{◌≡◌, ◌≤◌, ⊤, true, Some, None, Ok, Err, IfOk, IfErr, MatchResult, is_ok};
+ghost use Rattle.std.specs.Prelude.{◌≡◌, ◌⊎◌, ◌≤◌, ⊤, true, Some, None, Ok, Err, IfOk, IfErr, MatchResult, is_ok};
 ghost use Rattle.site_core.specs.Records.{Record};
 ghost use Rattle.site_core.specs.Steps.{CopiesRecord};
 ghost use Rattle.keeper_core.specs.Keeping.{Applies, Stops, StaysClosed, HindersOpening, Rises};
-ghost use Rattle.keeper_core.specs.Memory.{shown_in, MayIn, StepsIn, StopsIn, FailsIn, AppliesIn, StopsWhereOpen, ReopensIn, one_more};
+ghost use Rattle.keeper_core.specs.Memory.{shown_in, MayIn, may_be_opened_in, StepsIn, StopsIn, FailsIn, AppliesIn, StopsWhereOpen, ReopensIn, one_more};
 
 use crate::faults::{Keep, KeepFault, Unopened};
 use crate::keepers::SiteKeeper;
@@ -27,7 +27,8 @@ impl Model for MemoryKeeper {
 
     ghost coded = { coded_keeper };
 
-    ghost view = { λ k. record { state = k.state; is_open = k.is_open; armed = k.armed; failures = k.failures } };
+    ghost view = { λ k. record
+        { state = k.state; is_open = k.is_open; armed = k.armed; failures = k.failures } };
 }
 
 impl MemoryKeeper {
@@ -105,7 +106,12 @@ impl SiteKeeper for MemoryKeeper {
 
     ghost may = { MayIn };
 
+    ghost may_be_opened = { may_be_opened_in };
+
     ghost failed = { λ k. k.failures };
+
+    // It has no store that could refuse a step.
+    ghost store_failed = { λ _. ⊥ };
 
     // Nothing of it outlives a crash.
     ghost stored = { λ _. ⊤ };
@@ -138,6 +144,7 @@ impl SiteKeeper for MemoryKeeper {
         ensures closed { shown_in self.old ≡ None → (result ≡ Err KeepFault.Closed)
             × (self.new ≡ self.old) }
         ensures cause { result ≡ Err KeepFault.Device → Rises self.old.failures self.new.failures }
+        ensures store { result ≡ Err KeepFault.Store → ⊥ }
         ensures count { self.old.failures ≤ self.new.failures }
         ensures stored { ⊤ → ⊤ }
         ensures kind { AppliesIn self.old.is_open self.old.armed self.old input result self.new }
@@ -153,7 +160,8 @@ impl SiteKeeper for MemoryKeeper {
 
     fn stop(&mut self, input: SiteInput, keep: Keep) -> Result<(), AllocError>
         ensures open { (old : Record) → shown_in self.old ≡ Some old
-            → Stops old input keep (is_ok result) (shown_in self.new) (MayIn self.new) }
+            → Stops old input keep (Rises self.old.failures self.new.failures ⊎ ⊥)
+            (is_ok result) (shown_in self.new) (MayIn self.new) }
         ensures closed { shown_in self.old ≡ None → self.new ≡ self.old }
         ensures count { self.old.failures ≤ self.new.failures }
         ensures stored { ⊤ → ⊤ }
@@ -182,6 +190,4 @@ impl SiteKeeper for MemoryKeeper {
         keeper.is_open = true;
         Ok(keeper)
     }
-
-    fn may_be_opened(&self) {}
 }

@@ -1,5 +1,5 @@
 -- What each call of a site leaves in a crash, and in which records that may be opened.
-use Rattle.std.proofs.Common.{◌≡◌, ◌⊎◌, ℕ, List, Bool, true, false, Option, Some, None, Result, Ok, Err, MatchResult, inl, inr, sym, ◌∙◌, subst, arith}
+use Rattle.std.proofs.Common.{◌≡◌, ◌⊎◌, ℕ, List, Bool, true, false, Option, Some, None, Result, Ok, Err, MatchResult, inl, inr, sym, ◌∙◌, subst, arith, ⊎_elim}
 use Rattle.std.proofs.lemmas.Option.{same_Some}
 use Rattle.std.proofs.Math.Logic.{∥∥₁_map}
 use Rattle.sqlite_disk.specs.declared.Disk as disk
@@ -10,11 +10,12 @@ use Rattle.sqlite.specs.Held.{Held}
 use Rattle.site_core.specs.Records.{Record}
 use Rattle.site_core.specs.declared.inputs.SiteInput.{SiteInput}
 use Rattle.site_core.specs.declared.outcomes.Effects.{Effects}
+use Rattle.site_core.specs.declared.outcomes.Refusal.{Refusal}
 use Rattle.keeper_core.specs.declared.faults.Keep.{Keep}
 use Rattle.keeper_core.specs.declared.faults.Keep.TheVariants.{Old, New}
 use Rattle.keeper_core.specs.declared.faults.KeepFault.{KeepFault}
 use Rattle.keeper_core.specs.declared.faults.KeepFault.TheVariants as faults
-use Rattle.keeper_core.specs.Keeping.{Applies, Stops, IsAfter, MayBeOldOrNew}
+use Rattle.keeper_core.specs.Keeping.{Applies, Stops, IsAfter, IsRefusedFor, MayBeOldOrNew}
 use Rattle.site_store.specs.declared.kept.Kept.{Kept}
 use Rattle.site_store.specs.declared.opening.OpenFault.{OpenFault}
 use Rattle.site_store.specs.declared.sites.Link.{Link}
@@ -66,15 +67,16 @@ applied_in old input (Err faults.Store) None may h r stands = h r (may_be may r 
 applied_in old input (Err faults.Closed) (Some s) may h r stands = absurd h
 applied_in old input (Err faults.Closed) None may h r stands = absurd h
 
-stopped_in : (old : Record) (input : SiteInput) (keep : Keep) (done : Bool) (shown : Option Record) (may : Record → Type 0) → Stops old input keep done shown may → MayBeOldOrNew old input (Stands shown may)
-stopped_in old input Old true (Some s) may h r stands = absurd h
-stopped_in old input Old true None may h r stands = inl (h r (may_be may r stands))
-stopped_in old input New true (Some s) may h r stands = absurd h
-stopped_in old input New true None may h r stands = h r (may_be may r stands)
-stopped_in old input Old false (Some s) may h r stands = shows (OldOrNew old input) may s r stands (inl h)
-stopped_in old input Old false None may h r stands = absurd h
-stopped_in old input New false (Some s) may h r stands = shows (OldOrNew old input) may s r stands (inl h)
-stopped_in old input New false None may h r stands = absurd h
+stopped_in : (old : Record) (input : SiteInput) (keep : Keep) (failed : Type 0) (done : Bool) (shown : Option Record) (may : Record → Type 0) → Stops old input keep failed done shown may → MayBeOldOrNew old input (Stands shown may)
+stopped_in old input Old failed true (Some s) may h r stands = absurd h
+stopped_in old input Old failed true None may h r stands = inl (h r (may_be may r stands))
+stopped_in old input New failed true (Some s) may h r stands = absurd h
+stopped_in old input New failed true None may h r stands =
+    ⊎_elim (λ a. inr a) (λ (b : (r ≡ old) × (((why : Refusal) × IsRefusedFor old input why) ⊎ failed)). inl b.0) (h r (may_be may r stands))
+stopped_in old input Old failed false (Some s) may h r stands = shows (OldOrNew old input) may s r stands (inl h)
+stopped_in old input Old failed false None may h r stands = absurd h
+stopped_in old input New failed false (Some s) may h r stands = shows (OldOrNew old input) may s r stands (inl h)
+stopped_in old input New failed false None may h r stands = absurd h
 
 module _ {D : Type 0} {g : disk.Ghosts D} where
   -- ---- from call to call
@@ -118,6 +120,6 @@ module _ {D : Type 0} {g : disk.Ghosts D} where
   pub calls_keep : CallsKeepToOldOrNew g
   calls_keep = record {
     applied = λ old new input answer r shown h. applied_in r input answer (shown_by new) (MayIn new.kept) (open_by r input answer old new shown h);
-    stopped = λ old new input keep done r shown h. stopped_in r input keep done (shown_by new) (MayIn new.kept) (stop_open_by r input keep done old new shown h);
+    stopped = λ old new input keep done r shown h. stopped_in r input keep _ done (shown_by new) (MayIn new.kept) (stop_open_by r input keep done old new shown h);
     reopened = reopened_in;
   }

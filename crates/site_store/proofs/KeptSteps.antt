@@ -1,5 +1,5 @@
 -- A step and a stop of a record that a database keeps are those of a keeper.
-use Rattle.std.proofs.Common.{◌≡◌, ℕ, ◌+◌, ◌^◌, ◌≤◌, ◌==◌, arith, Bool, true, false, Some, None, Result, Ok, Err, inl, inr, refl, sym, ◌∙◌, ap, subst, ⊎_elim, if◌then◌else◌}
+use Rattle.std.proofs.Common.{◌≡◌, ◌⊎◌, ℕ, ◌+◌, ◌^◌, ◌≤◌, ◌==◌, arith, Bool, true, false, Some, None, Result, Ok, Err, inl, inr, refl, sym, ◌∙◌, ap, subst, ⊎_elim, if◌then◌else◌}
 use Rattle.std.proofs.lemmas.Bool.{eqb-true}
 use Rattle.std.proofs.lemmas.Option.{same_Some}
 use Rattle.site_core.specs.Records.{Record}
@@ -10,10 +10,10 @@ use Rattle.keeper_core.specs.declared.faults.Keep.{Keep}
 use Rattle.keeper_core.specs.declared.faults.Keep.TheVariants.{Old, New}
 use Rattle.keeper_core.specs.declared.faults.KeepFault.{KeepFault}
 use Rattle.keeper_core.specs.declared.faults.KeepFault.TheVariants.{NoMemory, Refused, Device, Store, Closed}
-use Rattle.keeper_core.specs.Keeping.{Applies, Stops, IsAfter, MayBeOldOrNew, Rises}
+use Rattle.keeper_core.specs.Keeping.{Applies, Stops, IsAfter, IsRefusedFor, MayBeNew, MayBeOldOrNew, Rises}
 use Rattle.keeper_core.specs.Memory.{one_more}
 use Rattle.site_store.specs.declared.kept.Kept.{Kept}
-use Rattle.site_store.specs.Kept.{shown_in, MayIn, failures_after, ClosesAt, StepsKept, AppliesKept, StopsAfter, StopsKept, stopped_at}
+use Rattle.site_store.specs.Kept.{shown_in, HasFailed, MayIn, failures_after, ClosesAt, StepsKept, AppliesKept, StopsAfter, StopsKept, stopped_at}
 
 -- where a record is shown, it is open in that
 pub shown_open : (k : Kept) (r : Record) → shown_in k ≡ Some r → (k.is_open ≡ true) × (k.standing.state ≡ r)
@@ -115,6 +115,14 @@ applies_cause input old new h = at old.is_open h
     at true it = rw (ap (λ (k : Kept). k.failures) it.1) (one_more_rises old.failures)
     at false it = absurd (let f : Err Device ≡ Err Closed = it.0 in cc)
 
+-- a step that the store failed in is kept
+pub applies_store : (input : SiteInput) (old new : Kept) → AppliesKept old.is_open old input (Err Store) new → HasFailed new
+applies_store input old new h = at old.is_open h
+  where
+    at : (b : Bool) → AppliesKept b old input (Err Store) new → HasFailed new
+    at true it = (input, ap (λ (k : Kept). k.standing.pending) it.1)
+    at false it = absurd (let f : Err Store ≡ Err Closed = it.0 in cc)
+
 -- stopped in its record
 rests : (k new : Kept) → new ≡ stopped_at k → (shown_in new ≡ None) × ((q : Record) → MayIn new q → q ≡ k.standing.state)
 rests k new e = (
@@ -122,29 +130,40 @@ rests k new e = (
   λ q may. ⊎_elim (λ h. h ∙ ap (λ (k : Kept). k.standing.state) e) (λ w. absurd (let f : None ≡ Some w.0 = sym (ap (λ (k : Kept). k.standing.pending) e) ∙ w.1 in cc)) may,
 )
 
+-- the device failed once more, or a step that failed is kept
+abbrev pub Fails : Kept → Kept → Type 0
+Fails old new = Rises old.failures new.failures ⊎ HasFailed new
+
+-- closed in a step that failed, it may be opened in the old record for that reason
+new_unless : (r : Record) (input : SiteInput) (fault : KeepFault) (old mid new : Kept) → old.standing.state ≡ r → ClosesAt old input fault mid → new ≡ mid → Fails old new → MayBeNew r input (Fails old new) (MayIn new)
+new_unless r input fault old mid new same h is failed q may =
+    ⊎_elim (λ e. inr (e, inr failed)) (λ a. inl a) (old_or_new r input fault old mid same h q (subst (λ k. MayIn k q) is may))
+
 in_step : (r : Record) (input : SiteInput) (answer : Result Effects KeepFault) (old mid new : Kept) (done : Bool) → old.is_open ≡ true → old.standing.state ≡ r → StepsKept old input answer mid → StopsAfter answer mid done new
-    → Stops r input New done (shown_in new) (MayIn new)
+    → Stops r input New (Fails old new) done (shown_in new) (MayIn new)
 in_step r input (Ok effects) old mid new done is same h stop =
     let it = rests mid new stop.1 in
-    rw (stop.0, it.0) (λ q may. inr (effects, subst (λ x. Does r input effects x) (sym (it.1 q may)) (subst (λ x. Does x input effects mid.standing.state) same h.0)))
+    rw (stop.0, it.0) (λ q may. inl (effects, subst (λ x. Does r input effects x) (sym (it.1 q may)) (subst (λ x. Does x input effects mid.standing.state) same h.0)))
 in_step r input (Err (Refused why)) old mid new done is same h stop =
     let it = rests mid new stop.1 in
-    rw (stop.0, it.0) (λ q may. inl (it.1 q may ∙ ap (λ (k : Kept). k.standing.state) h.1 ∙ same))
+    rw (stop.0, it.0) (λ q may. inr (it.1 q may ∙ ap (λ (k : Kept). k.standing.state) h.1 ∙ same, inl (why, subst (λ x. IsRefusedFor x input why) same h.0)))
 in_step r input (Err NoMemory) old mid new done is same h stop = rw (stop.0, stays r old new is same (stop.1 ∙ h.1)) refl
 in_step r input (Err Device) old mid new done is same h stop =
-    rw (stop.0, ap shown_in stop.1 ∙ closes r input Device old mid h) (subst (λ k. MayBeOldOrNew r input (MayIn k)) (sym stop.1) (old_or_new r input Device old mid same h))
+    let rises = subst (Rises old.failures) (sym (ap (λ (k : Kept). k.failures) (stop.1 ∙ h.1))) (one_more_rises old.failures) in
+    rw (stop.0, ap shown_in stop.1 ∙ closes r input Device old mid h) (new_unless r input Device old mid new same h stop.1 (inl rises))
 in_step r input (Err Store) old mid new done is same h stop =
-    rw (stop.0, ap shown_in stop.1 ∙ closes r input Store old mid h) (subst (λ k. MayBeOldOrNew r input (MayIn k)) (sym stop.1) (old_or_new r input Store old mid same h))
+    rw (stop.0, ap shown_in stop.1 ∙ closes r input Store old mid h)
+    (new_unless r input Store old mid new same h stop.1 (inr (input, ap (λ (k : Kept). k.standing.pending) (stop.1 ∙ h.1))))
 in_step r input (Err Closed) old mid new done is same h stop = absurd h
 
-stops : (r : Record) (input : SiteInput) (keep : Keep) (done : Bool) (old new : Kept) → old.is_open ≡ true → old.standing.state ≡ r → StopsKept true old input keep done new → Stops r input keep done (shown_in new) (MayIn new)
+stops : (r : Record) (input : SiteInput) (keep : Keep) (done : Bool) (old new : Kept) → old.is_open ≡ true → old.standing.state ≡ r → StopsKept true old input keep done new → Stops r input keep (Fails old new) done (shown_in new) (MayIn new)
 stops r input Old done old new is same h =
     let it = rests old new h.1 in
     rw (h.0, it.0) (λ q may. it.1 q may ∙ same)
 stops r input New done old new is same h = in_step r input h.0 old h.1 new done is same h.2 h.3
 
 -- a stop, where it shows a record
-pub stops_open : (r : Record) (input : SiteInput) (keep : Keep) (done : Bool) (old new : Kept) → shown_in old ≡ Some r → StopsKept old.is_open old input keep done new → Stops r input keep done (shown_in new) (MayIn new)
+pub stops_open : (r : Record) (input : SiteInput) (keep : Keep) (done : Bool) (old new : Kept) → shown_in old ≡ Some r → StopsKept old.is_open old input keep done new → Stops r input keep (Fails old new) done (shown_in new) (MayIn new)
 stops_open r input keep done old new shown h =
     let at = shown_open old r shown in
     stops r input keep done old new at.0 at.1 (subst (λ b. StopsKept b old input keep done new) at.0 h)

@@ -12,7 +12,7 @@ use Rattle.site_core.specs.declared.inputs.SiteInput.{SiteInput}
 use Rattle.site_core.specs.declared.outcomes.Effects.{Effects}
 use Rattle.keeper_core.specs.declared.faults.Keep.{Keep}
 use Rattle.keeper_core.specs.declared.faults.KeepFault.{KeepFault}
-use Rattle.keeper_core.specs.declared.faults.KeepFault.TheVariants.{NoMemory, Device, Closed}
+use Rattle.keeper_core.specs.declared.faults.KeepFault.TheVariants.{NoMemory, Device, Store, Closed}
 use Rattle.keeper_core.specs.declared.faults.Unopened.{Unopened}
 use Rattle.keeper_core.specs.Keeping.{Applies, Stops, Rises, StaysClosed}
 use Rattle.site_store.specs.declared.kept.Kept.{Kept}
@@ -20,11 +20,11 @@ use Rattle.site_store.specs.declared.sites.Link.{Link}
 use Rattle.site_store.specs.declared.sites.Link.TheVariants.{Connected, Unconnected}
 use Rattle.site_store.specs.declared.sites.StoredSite.{StoredSite}
 use Rattle.site_store.specs.Faults.{IsCaused}
-use Rattle.site_store.specs.Kept.{MayIn, AppliesKept, StopsKept, KeepsAfter, KeepsStopped, is_idle}
+use Rattle.site_store.specs.Kept.{HasFailed, MayIn, AppliesKept, StopsKept, KeepsAfter, KeepsStopped, is_idle}
 use Rattle.site_store.specs.Standing.{Standing, StandsIn}
 use Rattle.site_store.specs.StepWritten.{Keeps}
 use Rattle.site_store.specs.Sites.{shown_at, shown_by, MayBy, AppliesAt, AppliesBy, StopsAt, StopsBy, OpensIn, StaysShut}
-use Rattle.site_store.proofs.KeptSteps.{applies_open, applies_memory, applies_closed, applies_count, applies_cause, stops_open, stops_closed, stops_count, closed_shows, shown_closed, fault_rises, fault_counts}
+use Rattle.site_store.proofs.KeptSteps.{Fails, applies_open, applies_memory, applies_closed, applies_count, applies_cause, applies_store, stops_open, stops_closed, stops_count, closed_shows, shown_closed, fault_rises, fault_counts}
 
 -- who shows a record is seen to
 pub shows_none : {A : Type 0} (f : A → Record) (seen : Option A) (r : Record) → is_some seen ≡ false → option_map f seen ≡ Some r → ⊥
@@ -80,6 +80,15 @@ module _ {D : Type 0} {g : disk.Ghosts D} where
   pub cause_by : (input : SiteInput) (answer : Result Effects KeepFault) (old new : StoredSite D g) → AppliesBy old input answer new → answer ≡ Err Device → Rises old.kept.failures new.kept.failures
   cause_by input answer old new h is = cause_at input old.link new.link old.kept new.kept (subst (λ a. AppliesAt old.link old.kept input a new.link new.kept) is h.0)
 
+  store_at : (input : SiteInput) (before after : Link D g) (old new : Kept) → AppliesAt before old input (Err Store) after new → HasFailed new
+  store_at input (Connected before) (Connected after) old new h = applies_store input old new h.0
+  store_at input (Connected before) (Unconnected after) old new h = absurd h
+  store_at input (Unconnected before) (Connected after) old new h = absurd h
+  store_at input (Unconnected before) (Unconnected after) old new h = absurd (let f : Err Store ≡ Err Closed = h.0 in cc)
+
+  pub store_by : (input : SiteInput) (answer : Result Effects KeepFault) (old new : StoredSite D g) → AppliesBy old input answer new → answer ≡ Err Store → HasFailed new.kept
+  store_by input answer old new h is = store_at input old.link new.link old.kept new.kept (subst (λ a. AppliesAt old.link old.kept input a new.link new.kept) is h.0)
+
   count_at : (input : SiteInput) (answer : Result Effects KeepFault) (before after : Link D g) (old new : Kept) → AppliesAt before old input answer after new → old.failures ≤ new.failures
   count_at input answer (Connected before) (Connected after) old new h = applies_count input answer old new h.0
   count_at input answer (Connected before) (Unconnected after) old new h = absurd h
@@ -90,12 +99,12 @@ module _ {D : Type 0} {g : disk.Ghosts D} where
   count_by input answer old new h = count_at input answer old.link new.link old.kept new.kept h.0
 
   stop_open_at : (r : Record) (input : SiteInput) (keep : Keep) (done : Bool) (before after : Link D g) (old new : Kept) → shown_at before old ≡ Some r → StopsAt before old input keep done after new
-      → Stops r input keep done (shown_at after new) (MayIn new)
+      → Stops r input keep (Fails old new) done (shown_at after new) (MayIn new)
   stop_open_at r input keep done (Connected before) (Connected after) old new shown h = stops_open r input keep done old new shown h.0
   stop_open_at r input keep done (Connected before) (Unconnected after) old new shown h = absurd h
   stop_open_at r input keep done (Unconnected before) after old new shown h = absurd (let f : None ≡ Some r = shown in cc)
 
-  pub stop_open_by : (r : Record) (input : SiteInput) (keep : Keep) (done : Bool) (old new : StoredSite D g) → shown_by old ≡ Some r → StopsBy old input keep done new → Stops r input keep done (shown_by new) (MayBy new)
+  pub stop_open_by : (r : Record) (input : SiteInput) (keep : Keep) (done : Bool) (old new : StoredSite D g) → shown_by old ≡ Some r → StopsBy old input keep done new → Stops r input keep (Fails old.kept new.kept) done (shown_by new) (MayBy new)
   stop_open_by r input keep done old new shown h = stop_open_at r input keep done old.link new.link old.kept new.kept shown h.0
 
   stop_closed_at : (input : SiteInput) (keep : Keep) (done : Bool) (before after : Link D g) (old new : Kept) → shown_at before old ≡ None → StopsAt before old input keep done after new → (new ≡ old) × (after ≡ before)

@@ -24,6 +24,10 @@ shown_in k = if k.is_open then Some k.standing.state else None
 abbrev pub MayIn : Kept → Record → Type 0
 MayIn k r = StandsIn k.standing r
 
+-- a step failed whose rows may be written
+abbrev pub HasFailed : Kept → Type 0
+HasFailed k = (input : SiteInput) × (k.standing.pending ≡ Some input)
+
 -- the device has failed once more, where that is the answer
 abbrev pub failures_after : KeepFault → ℕ → ℕ
 failures_after Device failures = one_more failures

@@ -1,5 +1,6 @@
 -- A site kept by the files of a connection.
-use Rattle.std.specs.Prelude.{◌≡◌, ⊤, ℕ, Option, Some, None, Result, Ok, Err, IfErr, Bool, false, IsTrue}
+use Rattle.std.specs.Prelude.{◌≡◌, ⊤, ℕ, Option, Some, None, Result, Ok, Err, IfErr, Bool, false, IsTrue, refl}
+use mathlib.Core.Logic.{inl}
 use Rattle.sqlite_disk.specs.declared.Disk as disk
 use Rattle.sqlite_store.specs.declared.store.FileStore.{FileStore}
 use Rattle.sqlite.specs.Held.{Held}
@@ -21,7 +22,7 @@ use Rattle.site_store.specs.declared.sites.Link.{Link}
 use Rattle.site_store.specs.declared.sites.Link.TheVariants.{Connected, Unconnected}
 use Rattle.site_store.specs.declared.sites.StoredSite.{StoredSite}
 use Rattle.site_store.specs.Faults.{IsCaused}
-use Rattle.site_store.specs.Kept.{shown_in, MayIn, AppliesKept, StopsKept, KeepsAfter, KeepsStopped, is_idle}
+use Rattle.site_store.specs.Kept.{shown_in, HasFailed, MayIn, AppliesKept, StopsKept, KeepsAfter, KeepsStopped, is_idle}
 use Rattle.site_store.specs.Openings.{StaysAs, ListsRows}
 use Rattle.site_store.specs.Reopened.{IsReopened, IsOfDevice}
 use Rattle.site_store.specs.StepWritten.{Keeps}
@@ -40,6 +41,13 @@ module _ {D : Type 0} {g : disk.Ghosts D} where
   -- the records in which it may be opened while it is closed
   abbrev pub MayBy : StoredSite D g → Record → Type 0
   MayBy site = MayIn site.kept
+
+  pub may_be_opened_by : (site : StoredSite D g) → shown_by site ≡ None → (r : Record) × MayBy site r
+  may_be_opened_by site closed = (site.kept.standing.state, inl refl)
+
+  -- the store failed in the step that closed it: the one whose rows may be written is kept
+  abbrev pub StoreFailed : StoredSite D g → Type 0
+  StoreFailed site = HasFailed site.kept
 
   -- how often the device has failed
   abbrev pub failed_by : StoredSite D g → ℕ

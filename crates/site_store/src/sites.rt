@@ -1,11 +1,11 @@
 //! A site kept in the tables of a file.
-ghost use Rattle.std.specs.Prelude.{◌≡◌, ◌≤◌, false, Some, None, Ok, Err, IfOk, IfErr, IsTrue, MatchResult, is_ok};
+ghost use Rattle.std.specs.Prelude.{◌≡◌, ◌⊎◌, ◌≤◌, false, Some, None, Ok, Err, IfOk, IfErr, IsTrue, MatchResult, is_ok};
 ghost use Rattle.sqlite.specs.Files.{file_state};
 ghost use Rattle.sqlite.specs.State.{HasCleanDisk};
 ghost use Rattle.site_core.specs.Records.{Record};
 ghost use Rattle.site_core.specs.Steps.{CopiesRecord};
 ghost use Rattle.keeper_core.specs.Keeping.{Applies, Stops, StaysClosed, HindersOpening, Rises};
-ghost use Rattle.site_store.specs.Sites.{shown_by, MayBy, failed_by, statements_by, link_of, IsKeptOver, IsKeptBy, StoresListed, OpensIn, StaysShut, NoneListed, AppliesBy, StopsBy, ReopensBy};
+ghost use Rattle.site_store.specs.Sites.{shown_by, MayBy, StoreFailed, may_be_opened_by, failed_by, statements_by, link_of, IsKeptOver, IsKeptBy, StoresListed, OpensIn, StaysShut, NoneListed, AppliesBy, StopsBy, ReopensBy};
 ghost use Rattle.site_store.specs.Leavings.{StillLeaves, KeepsOwn};
 ghost use Rattle.site_store.specs.Opened.{MayBeFound};
 ghost use Rattle.site_store.specs.Reopened.{FailsOver, IsOfDevice, IsOnlyRead, IsReopened};
@@ -83,9 +83,9 @@ impl<D: Disk + Drop> StoredSite<D> {
     ///
     /// # Errors
     /// `NoMemory`, `Device` or `Store`, as the store of the database failed, for a cause that shows, or it refused a
-    /// statement; the last also where the database isn't empty or in a transaction, which then is as
-    /// it was. The connection is given back: while the tables are made, and after an error, a crash leaves what it would
-    /// have left before, or all tables with the rows of the record and no others.
+    /// statement; the last also where the database isn't empty or in a transaction, which then is as it was. The
+    /// connection is given back: while the tables are made, and after an error, a crash leaves what it would have left
+    /// before, or all tables with the rows of the record and no others.
     pub fn create(
         alloc: Global,
         conn: Connection<FileStore<D>>,
@@ -97,10 +97,14 @@ impl<D: Disk + Drop> StoredSite<D> {
         ensures stored { IfOk result (λ site. IsKeptBy site state) }
         ensures own { IfOk result KeepsOwn }
         ensures kind { IfErr result (λ left. HindersOpening left.fault) }
-        ensures cause { (file_state conn).in_transaction ≡ false → (file_state conn).now.schema ≡ no_schema
-            → IfErr result (λ left. HasCleanDisk (file_state left.conn) → FailsToBegin (file_state conn) (file_state left.conn) left.fault) }
-        ensures crash { IfErr result (λ left. BeginsAs state (file_state conn) (file_state left.conn)) }
-        ensures in_use { IsInUse (file_state conn) → result ≡ Err (record { conn = conn; fault = KeepFault.Store }) }
+        ensures cause { (file_state conn).in_transaction ≡ false
+            → (file_state conn).now.schema ≡ no_schema
+            → IfErr result (λ left. HasCleanDisk (file_state left.conn)
+            → FailsToBegin (file_state conn) (file_state left.conn) left.fault) }
+        ensures crash { IfErr result (λ left.
+            BeginsAs state (file_state conn) (file_state left.conn)) }
+        ensures in_use { IsInUse (file_state conn)
+            → result ≡ Err (record { conn = conn; fault = KeepFault.Store }) }
     {
         let mut conn = conn;
         match begin_tables(alloc, &mut conn, &state) {
@@ -121,7 +125,8 @@ impl<D: Disk + Drop> StoredSite<D> {
         link
     }
 
-    /// How many rows the last step wrote that had effects, and the two statements that begin and commit. 0 for a step that changed nothing, and before the first.
+    /// How many rows the last step wrote that had effects, and the two statements that begin and commit. 0 for a step
+    /// that changed nothing, and before the first.
     pub fn statements(&self) -> u64
         ensures { result ≡ statements_by self.now }
     {
@@ -165,7 +170,8 @@ impl<D: Disk + Drop> StoredSite<D> {
         ensures unopened { IfErr result (StaysShut self.kept) }
         ensures unfound { IfErr result (λ left. NoneListed self.kept left.fault left.keeper.link) }
         ensures reopened { IfErr result (λ left. IsReopened self.link left.keeper.link) }
-        ensures failed { IfErr result (λ left. left.fault ≡ KeepFault.Device → IsOfDevice self.link left.keeper.link) }
+        ensures failed { IfErr result (λ left. left.fault ≡ KeepFault.Device
+            → IsOfDevice self.link left.keeper.link) }
     {
         let StoredSite {
             mut kept,
@@ -193,7 +199,11 @@ impl<D: Disk + Drop> SiteKeeper for StoredSite<D> {
 
     ghost may = { MayBy };
 
+    ghost may_be_opened = { may_be_opened_by };
+
     ghost failed = { failed_by };
+
+    ghost store_failed = { StoreFailed };
 
     ghost stored = { KeepsOwn };
 
@@ -214,12 +224,17 @@ impl<D: Disk + Drop> SiteKeeper for StoredSite<D> {
         self.kept.failures
     }
 
-    #[tactic(auto, using(crate::proofs::SiteSteps::open_by, crate::proofs::SiteSteps::memory_by, crate::proofs::SiteSteps::closed_by, crate::proofs::SiteSteps::cause_by, crate::proofs::SiteSteps::count_by, crate::proofs::OwnSteps::applied))]
+    #[tactic(auto, using(crate::proofs::SiteSteps::open_by, crate::proofs::SiteSteps::memory_by, crate::proofs::SiteSteps::closed_by, crate::proofs::SiteSteps::cause_by, crate::proofs::SiteSteps::store_by, crate::proofs::SiteSteps::count_by, crate::proofs::OwnSteps::applied))]
     fn apply(&mut self, input: SiteInput) -> Result<Effects, KeepFault>
-        ensures open { (old : Record) → shown_by self.old ≡ Some old → Applies old input result (shown_by self.new) (MayBy self.new) }
-        ensures memory { (old : Record) → shown_by self.old ≡ Some old → result ≡ Err KeepFault.NoMemory → CopiesRecord old input }
-        ensures closed { shown_by self.old ≡ None → (result ≡ Err KeepFault.Closed) × (self.new ≡ self.old) }
-        ensures cause { result ≡ Err KeepFault.Device → Rises (failed_by self.old) (failed_by self.new) }
+        ensures open { (old : Record) → shown_by self.old ≡ Some old
+            → Applies old input result (shown_by self.new) (MayBy self.new) }
+        ensures memory { (old : Record) → shown_by self.old ≡ Some old
+            → result ≡ Err KeepFault.NoMemory → CopiesRecord old input }
+        ensures closed { shown_by self.old ≡ None → (result ≡ Err KeepFault.Closed)
+            × (self.new ≡ self.old) }
+        ensures cause { result ≡ Err KeepFault.Device
+            → Rises (failed_by self.old) (failed_by self.new) }
+        ensures store { result ≡ Err KeepFault.Store → StoreFailed self.new }
         ensures count { failed_by self.old ≤ failed_by self.new }
         ensures kind { AppliesBy self.old input result self.new }
         ensures stored { KeepsOwn self.old → KeepsOwn self.new }
@@ -229,7 +244,9 @@ impl<D: Disk + Drop> SiteKeeper for StoredSite<D> {
 
     #[tactic(auto, using(crate::proofs::SiteSteps::stop_open_by, crate::proofs::SiteSteps::stop_closed_by, crate::proofs::SiteSteps::stop_count_by, crate::proofs::OwnSteps::stopped))]
     fn stop(&mut self, input: SiteInput, keep: Keep) -> Result<(), AllocError>
-        ensures open { (old : Record) → shown_by self.old ≡ Some old → Stops old input keep (is_ok result) (shown_by self.new) (MayBy self.new) }
+        ensures open { (old : Record) → shown_by self.old ≡ Some old
+            → Stops old input keep (Rises (failed_by self.old) (failed_by self.new)
+            ⊎ StoreFailed self.new) (is_ok result) (shown_by self.new) (MayBy self.new) }
         ensures closed { shown_by self.old ≡ None → self.new ≡ self.old }
         ensures count { failed_by self.old ≤ failed_by self.new }
         ensures kind { StopsBy self.old input keep (is_ok result) self.new }
@@ -241,12 +258,17 @@ impl<D: Disk + Drop> SiteKeeper for StoredSite<D> {
     #[tactic(auto, using(crate::proofs::SiteSteps::stays_closed, crate::proofs::SiteSteps::left_cause, crate::proofs::SiteSteps::left_count))]
     fn reopen(self) -> Result<Self, Unopened<Self>>
         ensures open { (r : Record) → shown_by self ≡ Some r → result ≡ Ok self }
-        ensures opened { shown_by self ≡ None → IfOk result (λ keeper. (r : Record) × MayBy self r × (shown_by keeper ≡ Some r)) }
-        ensures unopened { IfErr result (λ u. HindersOpening u.fault × StaysClosed (MayBy self) (shown_by u.keeper) (MayBy u.keeper)) }
-        ensures cause { IfErr result (λ u. u.fault ≡ KeepFault.Device → Rises (failed_by self) (failed_by u.keeper)) }
-        ensures count { MatchResult result (λ keeper. failed_by self ≤ failed_by keeper) (λ u. failed_by self ≤ failed_by u.keeper) }
+        ensures opened { shown_by self ≡ None → IfOk result (λ keeper. (r : Record) × MayBy self r
+            × (shown_by keeper ≡ Some r)) }
+        ensures unopened { IfErr result (λ u. HindersOpening u.fault
+            × StaysClosed (MayBy self) (shown_by u.keeper) (MayBy u.keeper)) }
+        ensures cause { IfErr result (λ u. u.fault ≡ KeepFault.Device
+            → Rises (failed_by self) (failed_by u.keeper)) }
+        ensures count { MatchResult result (λ keeper. failed_by self ≤ failed_by keeper) (λ u.
+            failed_by self ≤ failed_by u.keeper) }
         ensures kind { ReopensBy self result }
-        ensures leaves { IfErr result (λ u. StillLeaves (MayBy self) (link_of self) (link_of u.keeper)) }
+        ensures leaves { IfErr result (λ u. StillLeaves (MayBy self) (link_of self)
+            (link_of u.keeper)) }
         ensures stored { KeepsOwn self → MatchResult result KeepsOwn (λ u. KeepsOwn u.keeper) }
     {
         if self.view().is_some() {
@@ -254,8 +276,6 @@ impl<D: Disk + Drop> SiteKeeper for StoredSite<D> {
         }
         self.open_again()
     }
-
-    fn may_be_opened(&self) {}
 }
 
 /// A closed record opened over a connection just made, in that of its records whose rows the tables list.
@@ -276,7 +296,8 @@ fn find_over<D: Disk + Drop>(
     ensures unopened { IfErr result (StaysShut kept) }
     ensures unfound { IfErr result (λ left. NoneListed kept left.fault left.keeper.link) }
     ensures read { IfErr result (λ left. IsOnlyRead conn left.keeper.link) }
-    ensures failed { IfErr result (λ left. left.fault ≡ KeepFault.Device → FailsOver conn left.keeper.link) }
+    ensures failed { IfErr result (λ left. left.fault ≡ KeepFault.Device
+        → FailsOver conn left.keeper.link) }
 {
     let mut kept = kept;
     let mut conn = conn;

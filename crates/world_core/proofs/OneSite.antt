@@ -5,7 +5,8 @@ use Rattle.std.specs.Option.{option_map, is_some}
 use Rattle.site_core.specs.Records.{Record}
 use Rattle.site_core.specs.declared.inputs.SiteInput.{SiteInput}
 use Rattle.site_core.specs.declared.outcomes.Effects.{Effects}
-use Rattle.keeper_core.specs.Keeping.{Applies, IsAfter, Stops, StaysClosed, HindersOpening}
+use Rattle.site_core.specs.declared.outcomes.Refusal.{Refusal}
+use Rattle.keeper_core.specs.Keeping.{Applies, IsAfter, IsRefusedFor, Stops, StaysClosed, HindersOpening}
 use Rattle.keeper_core.specs.declared.faults.Keep.{Keep}
 use Rattle.keeper_core.specs.declared.faults.Keep.TheVariants.{Old, New}
 use Rattle.keeper_core.specs.declared.faults.KeepFault.{KeepFault}
@@ -56,26 +57,26 @@ steps_found old found input applied answer shown may f a h new s =
     subst (λ i. Steps old i answer new) (sym f) (subst (λ x. Steps old (Some input) x new) (sym a) (steps_back old input applied shown may h new s))
 
 -- the same of a stop
-stopped_back : (old : Record) (input : SiteInput) (keep : Keep) (shown : Option Record) (may : Record → Type 0) → Stops old input keep true shown may → (new : Standing) → StandsAs shown may new → TurnStops old (Some input) keep Stopped new
-stopped_back old input Old None may h (Up q) s = let s' : None ≡ Some q = s in cc
-stopped_back old input Old None may h (Down q) s = ap Down (h q s.1)
-stopped_back old input New None may h new s = down_alone old input may new h s
-stopped_back old input Old (Some n) may h new s = absurd h
-stopped_back old input New (Some n) may h new s = absurd h
+stopped_back : (old : Record) (input : SiteInput) (keep : Keep) (failed : Type 0) (shown : Option Record) (may : Record → Type 0) → Stops old input keep failed true shown may → (new : Standing) → StandsAs shown may new → TurnStops old (Some input) keep Stopped new
+stopped_back old input Old failed None may h (Up q) s = let s' : None ≡ Some q = s in cc
+stopped_back old input Old failed None may h (Down q) s = ap Down (h q s.1)
+stopped_back old input New failed None may h new s = down_alone old input may new (λ r m. ⊎_elim (λ a. inr a) (λ (b : (r ≡ old) × (((why : Refusal) × IsRefusedFor old input why) ⊎ failed)). inl b.0) (h r m)) s
+stopped_back old input Old failed (Some n) may h new s = absurd h
+stopped_back old input New failed (Some n) may h new s = absurd h
 
-unstopped_back : (old : Record) (input : SiteInput) (keep : Keep) (shown : Option Record) (may : Record → Type 0) → Stops old input keep false shown may → (new : Standing) → StandsAs shown may new → new ≡ Up old
-unstopped_back old input Old (Some n) may h new s = up_alone n _ may new h s
-unstopped_back old input New (Some n) may h new s = up_alone n _ may new h s
-unstopped_back old input Old None may h new s = absurd h
-unstopped_back old input New None may h new s = absurd h
+unstopped_back : (old : Record) (input : SiteInput) (keep : Keep) (failed : Type 0) (shown : Option Record) (may : Record → Type 0) → Stops old input keep failed false shown may → (new : Standing) → StandsAs shown may new → new ≡ Up old
+unstopped_back old input Old failed (Some n) may h new s = up_alone n _ may new h s
+unstopped_back old input New failed (Some n) may h new s = up_alone n _ may new h s
+unstopped_back old input Old failed None may h new s = absurd h
+unstopped_back old input New failed None may h new s = absurd h
 
-pub stops_found : (old : Record) (found : Option SiteInput) (input : SiteInput) (keep : Keep) (done : Bool) (shown : Option Record) (may : Record → Type 0) → found ≡ Some input → done ≡ true → Stops old input keep done shown may → (new : Standing) → StandsAs shown may new → TurnStops old found keep Stopped new
-stops_found old found input keep done shown may f d h new s =
-    subst (λ i. TurnStops old i keep Stopped new) (sym f) (stopped_back old input keep shown may (subst (λ b. Stops old input keep b shown may) d h) new s)
+pub stops_found : (old : Record) (found : Option SiteInput) (input : SiteInput) (keep : Keep) (failed : Type 0) (done : Bool) (shown : Option Record) (may : Record → Type 0) → found ≡ Some input → done ≡ true → Stops old input keep failed done shown may → (new : Standing) → StandsAs shown may new → TurnStops old found keep Stopped new
+stops_found old found input keep failed done shown may f d h new s =
+    subst (λ i. TurnStops old i keep Stopped new) (sym f) (stopped_back old input keep failed shown may (subst (λ b. Stops old input keep failed b shown may) d h) new s)
 
-pub stop_unfound : (old : Record) (found : Option SiteInput) (input : SiteInput) (keep : Keep) (done : Bool) (shown : Option Record) (may : Record → Type 0) → found ≡ Some input → done ≡ false → Stops old input keep done shown may → (new : Standing) → StandsAs shown may new → TurnStops old found keep NoMemoryAnswer new
-stop_unfound old found input keep done shown may f d h new s =
-    let e = unstopped_back old input keep shown may (subst (λ b. Stops old input keep b shown may) d h) new s in
+pub stop_unfound : (old : Record) (found : Option SiteInput) (input : SiteInput) (keep : Keep) (failed : Type 0) (done : Bool) (shown : Option Record) (may : Record → Type 0) → found ≡ Some input → done ≡ false → Stops old input keep failed done shown may → (new : Standing) → StandsAs shown may new → TurnStops old found keep NoMemoryAnswer new
+stop_unfound old found input keep failed done shown may f d h new s =
+    let e = unstopped_back old input keep failed shown may (subst (λ b. Stops old input keep failed b shown may) d h) new s in
     subst (λ i. TurnStops old i keep NoMemoryAnswer new) (sym f) (elim keep as (λ k. TurnStops old (Some input) k NoMemoryAnswer new) [ Old ↦ e | New ↦ e ])
 
 -- a keeper that was opened

@@ -40,14 +40,15 @@ module _ {A B : Type 0} (R : A → B → Type 0) where
   zip_before (a ∷ as') (suc i) (b ∷ bs) (suc s) x h below e = zip_before as' i bs s x h.1 (omega arith) e
 
 module _ {K : Type 0} (shown : K → Option Record) (may : K → Record → Type 0) where
-  -- one keeper more: it is up with the record that it shows, or down with one in which it may be opened
-  pub one_more_stands : (keepers : List K) (i : ℕ) (k : K) (sites : List Standing) → i < length keepers → k ≡ get_or keepers i k → (shown k ≡ None → (r : Record) × may k r) → AllZip (λ x standing. StandsAs (shown x) (may x) standing) (take i keepers) sites
-      → (more : List Standing) × AllZip (λ x standing. StandsAs (shown x) (may x) standing) (take (i + 1) keepers) more
-  one_more_stands keepers i k sites in' is some z =
+  -- a keeper is up with the record that it shows, or down with one in which it may be opened
+  pub each_stands : ((k : K) → shown k ≡ None → (r : Record) × may k r) → (keepers : List K) → (sites : List Standing) × AllZip (λ k standing. StandsAs (shown k) (may k) standing) keepers sites
+  each_stands opened [] = ([], tt)
+  each_stands opened (k ∷ ks) =
       let R : K → Standing → Type 0 = λ x standing. StandsAs (shown x) (may x) standing in
       let one : (standing : Standing) × R k standing =
-      elim (shown k) as (λ o. shown k ≡ o → (standing : Standing) × R k standing) [ Some r ↦ λ e. (Up r, e) | None ↦ λ e. let m = some e in (Down m.0, (e, m.1)) ] refl in
-      (sites ++ one.0 ∷ [], zip_more R keepers i sites k one.0 in' is z one.1)
+      elim (shown k) as (λ o. shown k ≡ o → (standing : Standing) × R k standing) [ Some r ↦ λ e. (Up r, e) | None ↦ λ e. let m = opened k e in (Down m.0, (e, m.1)) ] refl in
+      let rest = each_stands opened ks in
+      (one.0 ∷ rest.0, (one.1, rest.1))
 
 module _ {K : Type 0} (shown : K → Option Record) (may : K → Record → Type 0) where
   -- where all keepers are open, there is one list of records that they show

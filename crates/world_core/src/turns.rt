@@ -79,7 +79,8 @@ pub fn sent_at(sent: &[Frame], place: u64) -> Option<&Frame>
     sent.get((place - 1) as usize)
 }
 
-/// The site that a frame is for: the one whose number a message carries, and the sender of the message that is signalled.
+/// The site that a frame is for: the one whose number a message carries, and the sender of the message that is
+/// signalled.
 pub fn addressee(frame: &Frame) -> SiteNo
     ensures { result ≡ addressee frame.now }
 {

@@ -1,10 +1,8 @@
 //! The records that keepers show, all together.
 
-ghost use Rattle.std.specs.List.{AllZip};
-ghost use Rattle.std.specs.Prelude.{List, IfOk, IfErr, map};
+ghost use Rattle.std.specs.Prelude.{IfOk, IfErr, map};
 ghost use Rattle.world_core.specs.Faults.{IfClosed};
-ghost use Rattle.world_core.specs.Keepers.{StandsAs, AllShow, IsFirstClosed};
-ghost use Rattle.world_core.specs.Worlds.{Standing};
+ghost use Rattle.world_core.specs.Keepers.{AllShow, IsFirstClosed};
 
 use crate::faults::ViewFault;
 use keeper_core::SiteKeeper;
@@ -25,14 +23,4 @@ pub fn views<K: SiteKeeper>(alloc: Global, keepers: &[K]) -> Result<Vec<&SiteSta
         }
     }
     Ok(states)
-}
-
-/// Each keeper is open, or may be opened in some record.
-pub fn each_stands<K: SiteKeeper>(keepers: &[K])
-    ensures { (sites : List Standing) × AllZip
-        (λ k standing. StandsAs (K.shown k) (K.may k) standing) keepers.now sites }
-{
-    for keeper in keepers {
-        keeper.may_be_opened();
-    }
 }

