@@ -10,7 +10,7 @@ use Rattle.site_core.specs.declared.outcomes.Effects.TheVariants as effects
 use Rattle.site_threads.specs.Answering.{AnsweredStep}
 use Rattle.site_threads.specs.Inputs.{is_delivery}
 use Rattle.site_threads.specs.Jobs.{is_stop, reply_to, told}
-use Rattle.site_threads.specs.Keepers.{shown_in, may_in}
+use Rattle.site_threads.specs.Keepers.{shown_if, may_if}
 use Rattle.site_threads.specs.declared.jobs.Reply.{Reply}
 use Rattle.site_threads.proofs.Taking.{Answer, none≢some, the, shown_up}
 
@@ -42,12 +42,12 @@ pub stays_open : (shown now : Option Record) (may : Record → Type 0) (input : 
 stays_open shown now may input a f p up applies e = let u = shown_up shown up in open_unless a f p u.0 input now may e (applies u.0 u.1)
 
 module _ {K : Type 0} (shown : K → Option Record) (may : K → Record → Type 0) (applies : K → SiteInput → Answer → K → Type 0) where
-  there : (o : Option K) → IsSome (shown_in shown o) → (k : K) × (o ≡ Some k)
+  there : (o : Option K) → IsSome (shown_if shown o) → (k : K) × (o ≡ Some k)
   there None up = absurd (true≢false (sym up))
   there (Some k) up = (k, refl)
 
-  pub told_so : (old new : Option K) (input : SiteInput) (a : Answer) (f : Bool) (p : Reply) → IsSome (shown_in shown old) → ((k : K) → old ≡ Some k → (l : K) × (new ≡ Some l) × applies k input a l)
-      → ((r : Record) → shown_in shown old ≡ Some r → Applies r input a (shown_in shown new) (may_in may new)) → f ≡ is_delivery input → Some p ≡ reply_to f a → AnsweredStep shown may applies old input p new
+  pub told_so : (old new : Option K) (input : SiteInput) (a : Answer) (f : Bool) (p : Reply) → IsSome (shown_if shown old) → ((k : K) → old ≡ Some k → (l : K) × (new ≡ Some l) × applies k input a l)
+      → ((r : Record) → shown_if shown old ≡ Some r → Applies r input a (shown_if shown new) (may_if may new)) → f ≡ is_delivery input → Some p ≡ reply_to f a → AnsweredStep shown may applies old input p new
   told_so old new input a f p up asked step frame e =
       let k = there old up in
       let l = asked k.0 k.1 in
@@ -58,6 +58,6 @@ module _ {K : Type 0} (shown : K → Option Record) (may : K → Record → Type
         old_is = k.1;
         new_is = l.1;
         applied = l.2;
-        stands = λ r is. subst (λ (o : Option K). Applies r input a (shown_in shown o) (may_in may o)) l.1 (step r (ap (shown_in shown) k.1 ∙ is));
+        stands = λ r is. subst (λ (o : Option K). Applies r input a (shown_if shown o) (may_if may o)) l.1 (step r (ap (shown_if shown) k.1 ∙ is));
         reply_is = ap (λ b. reply_to b a) (sym frame) ∙ sym e;
       }

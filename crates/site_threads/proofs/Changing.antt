@@ -1,32 +1,45 @@
 -- Steps, and the inputs of those in which the record changed.
-use Rattle.std.proofs.Common.{◌≡◌, List, [], ◌∷◌, ◌++◌, refl, sym, ap, ◌∙◌, subst, append_assoc, append-nil}
+use Rattle.std.proofs.Common.{◌≡◌, List, [], ◌∷◌, ◌++◌, refl, sym, ap, ◌∙◌, append_assoc, append-nil}
 use Rattle.site_core.specs.Records.{Record}
 use Rattle.site_core.specs.declared.inputs.SiteInput.{SiteInput}
-use Rattle.site_threads.specs.Jobs.{IsChange, Keeps, Kept, KeptBy}
-use Rattle.site_threads.specs.Running.{Led, Start}
+use Rattle.world_core.specs.KeptSteps.{StandsAfter}
+use Rattle.world_core.proofs.KeptSteps.{stands_append}
+use Rattle.site_threads.specs.Jobs.{Enters, EntersMarked, IsChange, Keeps, WithMarks, with_marks}
 use Rattle.site_threads.specs.declared.jobs.Entry.{Entry}
 
-pub kept_so : (old : Record) (xs : List Entry) (changes : List SiteInput) (new : Record) → KeptBy old xs changes new → Kept old xs new
-kept_so old [] changes new k = k.0
-kept_so old (x ∷ xs) changes new k = (k.0, k.3, kept_so k.0 xs k.2 new k.6)
+pub entered_so : (old : WithMarks) (xs : List Entry) (new : WithMarks) → StandsAfter EntersMarked old xs new → StandsAfter Enters old.stood xs new.stood
+entered_so old [] new k = ap (λ (m : WithMarks). m.stood) k
+entered_so old (x ∷ xs) new k = (k.0.stood, k.1.0, entered_so k.0 xs new k.2)
+
+pub entered_none : (start : WithMarks) (marked : List SiteInput) (r : Record) → marked ≡ start.marked → r ≡ start.stood → StandsAfter EntersMarked start [] (with_marks r marked)
+entered_none start marked r is same = λ i. with_marks (same i) (is i)
 
 -- one step more
-kept_push : (old : Record) (xs : List Entry) (changes : List SiteInput) (x : Entry) (more : List SiteInput) (r new : Record) → KeptBy old xs changes r → Keeps x.reply r x.input new → IsChange r x.input new more → KeptBy old (xs ++ x ∷ []) (changes ++ more) new
-kept_push old [] changes x more r new k s c =
-    (new, more, [], subst (λ o. Keeps x.reply o x.input new) k.0 s, subst (λ o. IsChange o x.input new more) k.0 c, ap (λ l. l ++ more) k.1 ∙ sym (append-nil more), (refl, refl))
-kept_push old (y ∷ ys) changes x more r new k s c =
-    (k.0, k.1, k.2 ++ more, k.3, k.4, ap (λ l. l ++ more) k.5 ∙ append_assoc k.1 k.2 more, kept_push k.0 ys k.2 x more r new k.6 s c)
+pub entered_more : (start : WithMarks) (xs : List Entry) (marked : List SiteInput) (x : Entry) (r new : Record) (more marked' : List SiteInput)
+    → StandsAfter EntersMarked start xs (with_marks r marked) → Keeps x.reply r x.input new → IsChange r x.input new more → marked' ≡ marked ++ more → StandsAfter EntersMarked start (xs ++ x ∷ []) (with_marks new marked')
+entered_more start xs marked x r new more marked' so s c is =
+    stands_append EntersMarked xs (x ∷ []) start (with_marks r marked) (with_marks new marked') so (with_marks new marked', (s, more, c, is), refl)
 
-module _ (start : Start) where
-  pub led_none : (marked : List SiteInput) (r : Record) → marked ≡ start.marked → r ≡ start.stood → Led start [] marked r
-  led_none marked r is same = record { changes = []; marks = is ∙ sym (append-nil start.marked); steps = (same, refl) }
+-- the steps don't ask what was marked before them
+behind : (before : List SiteInput) (old : WithMarks) (xs : List Entry) (new : WithMarks) → StandsAfter EntersMarked old xs new
+    → StandsAfter EntersMarked (with_marks old.stood (before ++ old.marked)) xs (with_marks new.stood (before ++ new.marked))
+behind before old [] new k = ap (λ (m : WithMarks). with_marks m.stood (before ++ m.marked)) k
+behind before old (x ∷ xs) new k =
+    let step = k.1 in
+    let is = ap (λ (m : List SiteInput). before ++ m) step.3 ∙ sym (append_assoc before old.marked step.1) in
+    (with_marks k.0.stood (before ++ k.0.marked), (step.0, step.1, step.2, is), behind before k.0 xs new k.2)
 
-  pub led_push : (xs : List Entry) (marked : List SiteInput) (x : Entry) (r new : Record) (more marked' : List SiteInput) → Led start xs marked r → Keeps x.reply r x.input new → IsChange r x.input new more → marked' ≡ marked ++ more → Led start (xs ++ x ∷ []) marked' new
-  led_push xs marked x r new more marked' l s c is = record {
-    changes = l.changes ++ more;
-    marks = is ∙ ap (λ m. m ++ more) l.marks ∙ append_assoc start.marked l.changes more;
-    steps = kept_push start.stood xs l.changes x more r new l.steps s c;
-  }
-
-  pub led_so : (xs : List Entry) (marked : List SiteInput) (r : Record) → Led start xs marked r → Kept start.stood xs r
-  led_so xs marked r l = kept_so start.stood xs l.changes r l.steps
+pub entered_alone : (old : WithMarks) (xs : List Entry) (new : WithMarks) → StandsAfter EntersMarked old xs new
+    → (changes : List SiteInput) × (new.marked ≡ old.marked ++ changes) × StandsAfter EntersMarked (with_marks old.stood []) xs (with_marks new.stood changes)
+entered_alone old [] new k = ([], ap (λ (m : WithMarks). m.marked) k ∙ sym (append-nil old.marked), ap (λ (m : WithMarks). with_marks m.stood []) k)
+entered_alone old (x ∷ xs) new k =
+    let step = k.1 in
+    let more = entered_alone k.0 xs new k.2 in (
+      step.1 ++ more.0,
+      more.1 ∙ ap (λ m. m ++ more.0) step.3 ∙ append_assoc old.marked step.1 more.0,
+      (
+        with_marks k.0.stood (step.1 ++ []),
+        (step.0, step.1, step.2, append-nil step.1),
+        behind step.1 (with_marks k.0.stood []) xs (with_marks new.stood more.0) more.2,
+      ),
+    )

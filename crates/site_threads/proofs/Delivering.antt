@@ -12,7 +12,7 @@ use Rattle.site_core.specs.declared.inputs.SiteInput.TheVariants.{Deliver}
 use Rattle.site_core.specs.declared.outcomes.Effects.{Effects}
 use Rattle.site_threads.specs.Answering.{Deliveries, Delivers, DoesJob, IsShort, Opened, AnsweredStep}
 use Rattle.site_threads.specs.Jobs.{entry_of, option_items, reply_to}
-use Rattle.site_threads.specs.Keepers.{shown_in}
+use Rattle.site_threads.specs.Keepers.{shown_if}
 use Rattle.site_threads.specs.declared.jobs.Entry.{Entry}
 use Rattle.site_threads.specs.declared.jobs.Reply.{Reply}
 use Rattle.site_threads.specs.declared.turns.TurnReport.{TurnReport}
@@ -34,17 +34,17 @@ same_back B C new old (Ok a) h = tt
 same_back B C new old (Err e) h = h.1
 
 module _ {K : Type 0} (shown : K → Option Record) (may : K → Record → Type 0) (applies : K → SiteInput → Result Effects KeepFault → K → Type 0) where
-  there : (old : Option K) → IsSome (shown_in shown old) → (k : K) × (old ≡ Some k)
+  there : (old : Option K) → IsSome (shown_if shown old) → (k : K) × (old ≡ Some k)
   there None up = absurd (true≢false (sym up))
   there (Some k) up = (k, refl)
 
-  pub is_short : (old new : Option K) (input : SiteInput) (a : Answer) (f : Bool) → IsSome (shown_in shown old) → ((k : K) → old ≡ Some k → (l : K) × (new ≡ Some l) × applies k input a l)
-      → ((r : Record) → shown_in shown old ≡ Some r → a ≡ Err faults.NoMemory → CopiesRecord r input) → None ≡ reply_to f a → IsShort shown may applies old input new
+  pub is_short : (old new : Option K) (input : SiteInput) (a : Answer) (f : Bool) → IsSome (shown_if shown old) → ((k : K) → old ≡ Some k → (l : K) × (new ≡ Some l) × applies k input a l)
+      → ((r : Record) → shown_if shown old ≡ Some r → a ≡ Err faults.NoMemory → CopiesRecord r input) → None ≡ reply_to f a → IsShort shown may applies old input new
   is_short old new input a f up asked memory e =
       let k = there old up in
       let l = asked k.0 k.1 in
       let short = short_of a f e in
-      record { was = k.0; left = l.0; old_is = k.1; new_is = l.1; applied = subst (λ b. applies k.0 input b l.0) short l.2; copies = λ r is. memory r (ap (shown_in shown) k.1 ∙ is) short }
+      record { was = k.0; left = l.0; old_is = k.1; new_is = l.1; applied = subst (λ b. applies k.0 input b l.0) short l.2; copies = λ r is. memory r (ap (shown_if shown) k.1 ∙ is) short }
 
   deliveries_more : (old mid new : Option K) (fs gs : List Frame) (xs ys : List Entry) → Deliveries shown may applies old fs xs mid → Deliveries shown may applies mid gs ys new → Deliveries shown may applies old (fs ++ gs) (xs ++ ys) new
   deliveries_more old mid new [] gs xs ys (none, same) t =

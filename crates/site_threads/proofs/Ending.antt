@@ -8,6 +8,7 @@ use Rattle.std.specs.Option.{option_or}
 use Rattle.site_core.specs.Records.{Record}
 use Rattle.world_core.specs.Faults.{AreOneWorld, MakeAWorld}
 use Rattle.world_core.specs.Keepers.{IsFirstClosed}
+use Rattle.world_core.specs.KeptSteps.{StandsAfter}
 use Rattle.wire_core.specs.Seats.{Line, SeatView}
 use Rattle.site_threads.specs.declared.desks.DeskOut.{DeskOut}
 use Rattle.site_threads.specs.declared.gather.GatherCause.{GatherCause}
@@ -20,13 +21,13 @@ use Rattle.site_threads.specs.declared.turns.TurnCause.TheVariants as turns
 use Rattle.site_threads.specs.Beginning.{BeganIn, TookEnd}
 use Rattle.site_threads.specs.Ends.{takes, HasTold, IsOut, SameOut}
 use Rattle.site_threads.specs.Gathering.{AreInOrder, MayStandIn, KeepersFit, Began, FitsEnd, HasEnd, HasTurned, IsFirstCause, IsKept, IsLeft, AreOpenBefore, Explains, FitAfter, HindersRun, NoneEndedBefore, WasRefused}
-use Rattle.site_threads.specs.Jobs.{Kept, jobs_in, option_items, receipts_in}
-use Rattle.site_threads.specs.Keepers.{shown_in, may_in}
+use Rattle.site_threads.specs.Jobs.{Enters, jobs_in, option_items, receipts_in, with_marks}
+use Rattle.site_threads.specs.Keepers.{shown_if, may_if}
 use Rattle.site_threads.specs.Parting.{HasKeeper, LeavesList, cause_of, first_cause}
 use Rattle.site_threads.specs.Running.{Holding, inputs_in}
 use Rattle.site_threads.specs.Runs.{EndedBy, IsFresh, IsReady, Ran}
 use Rattle.site_threads.specs.Sites.{IsSite, Running, start_of}
-use Rattle.site_threads.proofs.Changing.{led_so}
+use Rattle.site_threads.proofs.Changing.{entered_so}
 use Rattle.site_threads.proofs.Gathering.{exact_when_fit}
 use Rattle.site_threads.proofs.Continuing.{out_on}
 use Rattle.site_threads.proofs.Zips.{all_carried, as_long, zip_through}
@@ -148,7 +149,7 @@ module _ {K G : Type 0} (shown : K → Option Record) (reopens : K → Result K 
   -- Where no site ended its run.
 
   opened : (old run : Running K G) (k : K) → Ran shown reopens gives_up stored most old run → HasKeeper run k → run.fault ≡ None → (r : Record) × (shown k ≡ Some r)
-  opened old run k ran is fine = shown_record (shown k) (subst (λ (o : Option K). IsSome (shown_in shown o)) is (ran.over.is_open fine))
+  opened old run k ran is fine = shown_record (shown k) (subst (λ (o : Option K). IsSome (shown_if shown o)) is (ran.over.is_open fine))
 
   jobs_one : (old run : Running K G) (l : RunLog) → IsReady old → Ran shown reopens gives_up stored most old run → IsOut run.out → LeavesList run l → FitsEnd l
   jobs_one old run l ready ran out left = record {
@@ -160,11 +161,11 @@ module _ {K G : Type 0} (shown : K → Option Record) (reopens : K → Result K 
   kept_one : (may : K → Record → Type 0) (old run : Running K G) (k : K) (l : RunLog) → IsReady old → Ran shown reopens gives_up stored most old run → IsSite shown may run → HasKeeper run k → LeavesList run l → run.fault ≡ None → IsKept shown k l
   kept_one may old run k l ready ran site is left fine =
       let o = opened old run k ran is fine in
-      let h = subst (λ (x : Option Record). Holding x (may_in may run.keeper) (start_of run) run.entries site.runs.log) (ap (shown_in shown) is ∙ o.1) site.runs.holding in
+      let h = subst (λ (x : Option Record). Holding x (may_if may run.keeper) (start_of run) run.entries site.runs.log) (ap (shown_if shown) is ∙ o.1) site.runs.holding in
       record {
         last = o.0;
         stands = o.1;
-        steps = subst (λ (y : Record × List Entry). Kept y.0 y.1 o.0) (λ i. (sym left.start i, sym left.entries i)) (led_so (start_of run) run.entries site.runs.log.inputs o.0 h.steps);
+        steps = subst (λ (y : Record × List Entry). StandsAfter Enters y.0 y.1 o.0) (λ i. (sym left.start i, sym left.entries i)) (entered_so (start_of run) run.entries (with_marks o.0 site.runs.log.inputs) h.steps);
         jobs = jobs_one old run l ready ran site.out left;
       }
 
@@ -191,7 +192,7 @@ module _ {K G : Type 0} (shown : K → Option Record) (reopens : K → Result K 
         gone = ap (λ (o : DeskOut). o.gone) left.out ∙ done.gone;
         none = left.pending ∙ done.none;
         record_is = done.record_is;
-        stands = ap (shown_in shown) (sym is) ∙ done.stands;
+        stands = ap (shown_if shown) (sym is) ∙ done.stands;
         rests = done.rests;
       })
     ];
@@ -251,7 +252,7 @@ module _ {K G : Type 0} (shown : K → Option Record) (reopens : K → Result K 
             let lost : EndedBy shown reopens gives_up r (turns.Lost why) = subst (λ z. IfSome z (EndedBy shown reopens gives_up r)) f x.0.over.why in (
               0,
               subst (Names shown (k ∷ ks) a 0) (let e : Some (SiteLost r.me) ≡ Some cause = h in let q : SiteLost r.me ≡ cause = cc in q)
-                  (me ∙ (let z : a ≡ a + 0 = omega arith in z), ((k, refl, ap (shown_in shown) (sym y.0) ∙ lost.hinders.refused.stays), none_before shown (k ∷ ks))),
+                  (me ∙ (let z : a ≡ a + 0 = omega arith in z), ((k, refl, ap (shown_if shown) (sym y.0) ∙ lost.hinders.refused.stays), none_before shown (k ∷ ks))),
             )
       ]
       refl is

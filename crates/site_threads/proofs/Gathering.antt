@@ -13,7 +13,7 @@ use Rattle.site_recovery.specs.Fit.{Fits}
 use Rattle.site_recovery.specs.Laws.{AreInPlace}
 use Rattle.site_recovery.specs.Looks.{world_of}
 use Rattle.world_core.specs.Faults.{AreOneWorld}
-use Rattle.world_core.specs.KeptSteps.{Handed, handed_to}
+use Rattle.world_core.specs.KeptSteps.{Handed, handed_to, StandsAfter}
 use Rattle.world_core.specs.Recalls.{AreExactOnceEnded, quarantined}
 use Rattle.world_core.specs.Worlds as world
 use Rattle.world_core.specs.Worlds.{Up, WorldState, WorldFits}
@@ -22,18 +22,19 @@ use Rattle.wire_core.specs.declared.views.Log.{Log}
 use Rattle.wire_core.specs.Answers.{Holds}
 use Rattle.wire_core.specs.Fitting.{RecordsFit}
 use Rattle.wire_core.specs.Frames.{DeliversOneOf}
-use Rattle.wire_core.specs.Rule.{AreAnswered, records, frames}
+use Rattle.wire_core.specs.Rule.{AreAnswered, last_records, frames}
 use Rattle.wire_core.specs.Seats.{Line, HoldsAll, AreAllLogs, Gathered}
 use Rattle.wire_core.proofs.Fitting.{one_step, fewer_fit}
 use Rattle.wire_core.proofs.Running.{run_fits}
+use Rattle.site_threads.proofs.Changing.{entered_alone}
 use Rattle.site_threads.specs.declared.jobs.Entry.{Entry}
 use Rattle.site_threads.specs.declared.lists.RunLog.{RunLog}
 use Rattle.site_threads.specs.Gathering.{AreStepsOf, AreTheirSteps, MayStandIn, EndedAreExact, KeepersFit, Lead, RanFrom}
-use Rattle.site_threads.specs.Keepers.{shown_in, may_in}
+use Rattle.site_threads.specs.Keepers.{shown_if, may_if}
 use Rattle.site_threads.specs.Parting.{HasKeeper, LeavesList}
 use Rattle.site_threads.specs.Runs.{IsFresh}
-use Rattle.site_threads.specs.Jobs.{KeptBy}
-use Rattle.site_threads.specs.Running.{Holding, Start}
+use Rattle.site_threads.specs.Jobs.{EntersMarked, WithMarks, with_marks}
+use Rattle.site_threads.specs.Running.{Holding}
 use Rattle.site_threads.specs.Sites.{IsSite, Running, start_of}
 use Rattle.site_threads.proofs.OneList.{IsSameSite, holding_same, one_again}
 use Rattle.site_threads.proofs.Zips.{zip_through}
@@ -42,7 +43,7 @@ use Rattle.site_threads.proofs.Zips.{zip_through}
 IsLastOrNext : Log → Record → Type 0
 IsLastOrNext log r = (r ≡ log.last) ⊎ ((input : SiteInput) × IsAfter log.last input r × DeliversOneOf log.noted input)
 
-may_be : (shown : Option Record) (may : Record → Type 0) (start : Start) (entries : List Entry) (log : Log) (r : Record) → Holding shown may start entries log → MayStandIn shown may r → IsLastOrNext log r
+may_be : (shown : Option Record) (may : Record → Type 0) (start : WithMarks) (entries : List Entry) (log : Log) (r : Record) → Holding shown may start entries log → MayStandIn shown may r → IsLastOrNext log r
 unfolding IsLastOrNext
 may_be (Some x) may start entries log r h o = inl (o ∙ h.marked)
 may_be None may start entries log r h o = ⊎_elim (λ (e : r ≡ log.last). inl e) (λ (a : IsAfter log.last h.last.input r). inr (h.last.input, a, h.noted)) (h.old_or_new r o)
@@ -119,26 +120,29 @@ exact_when_fit rs fit recall =
 -- what is known of a site at the end, beside its log
 record IsEnd {K G : Type 0} (shown : K → Option Record) (may : K → Record → Type 0) (run : Running K G) (log : Log) : Type 0 where
   mine : log.site ≡ run.me
-  holding : Holding (shown_in shown run.keeper) (may_in may run.keeper) (start_of run) run.entries log
+  holding : Holding (shown_if shown run.keeper) (may_if may run.keeper) (start_of run) run.entries log
 
 RunStandsIn : {K G : Type 0} → (K → Option Record) → (K → Record → Type 0) → Running K G → Record → Type 0
-RunStandsIn shown may run r = MayStandIn (shown_in shown run.keeper) (may_in may run.keeper) r
+RunStandsIn shown may run r = MayStandIn (shown_if shown run.keeper) (may_if may run.keeper) r
 
 -- where the steps of a site lead, what was marked of it since the first turn are the inputs of those in which its record changed
-led : (o : Option Record) (m : Record → Type 0) (start : Start) (entries : List Entry) (log : Log) → Holding o m start entries log → (changes : List SiteInput) × (log.inputs ≡ start.marked ++ changes) × Lead o m start.stood entries changes log.last
-led (Some r) m start entries log h = (h.steps.changes, h.steps.marks, (h.marked, subst (KeptBy start.stood entries h.steps.changes) h.marked h.steps.steps))
+led : (o : Option Record) (m : Record → Type 0) (start : WithMarks) (entries : List Entry) (log : Log) → Holding o m start entries log → (changes : List SiteInput) × (log.inputs ≡ start.marked ++ changes) × Lead o m start.stood entries changes log.last
+led (Some r) m start entries log h =
+    let alone = entered_alone start entries (with_marks r log.inputs) h.steps in
+    (alone.0, alone.1, (h.marked, subst (λ (x : Record). StandsAfter EntersMarked (with_marks start.stood []) entries (with_marks x alone.0)) h.marked alone.2))
 led None m start entries log h =
-    (h.steps.changes, h.steps.marks, record { earlier = h.earlier; stop = h.last; all = h.all; reply = h.reply; steps = h.steps.steps; old_or_new = h.old_or_new })
+    let alone = entered_alone start h.earlier (with_marks log.last log.inputs) h.steps in
+    (alone.0, alone.1, record { earlier = h.earlier; stop = h.last; all = h.all; reply = h.reply; steps = alone.2; old_or_new = h.old_or_new })
 
 module _ {K G : Type 0} (shown : K → Option Record) (may : K → Record → Type 0) where
-  any_fit : (sent : List Frame) (done : List Record) (runs : List (Running K G)) (ls : List Log) (rs : List Record) → RecordsFit (done ++ records ls) sent → ((e : Log) (f : Frame) → Contains ls e → Contains e.noted f → Contains sent f)
+  any_fit : (sent : List Frame) (done : List Record) (runs : List (Running K G)) (ls : List Log) (rs : List Record) → RecordsFit (done ++ last_records ls) sent → ((e : Log) (f : Frame) → Contains ls e → Contains e.noted f → Contains sent f)
       → AllZip (IsEnd shown may) runs ls → AllZip (RunStandsIn shown may) runs rs → RecordsFit (done ++ rs) sent
   unfolding RunStandsIn
   any_fit sent done [] [] [] fit noted z s = fit
   any_fit sent done (e ∷ es) (log ∷ ls) (r ∷ rs) fit noted z s =
-      let mine = may_be (shown_in shown e.keeper) (may_in may e.keeper) (start_of e) e.entries log r z.0.holding s.0 in
-      let next = one_more done (records ls) sent log r fit (λ f c. noted log f (0, omega arith, refl) c) mine in
-      let more = any_fit sent (done ++ r ∷ []) es ls rs (subst (λ l. RecordsFit l sent) (sym (append_assoc done (r ∷ []) (records ls))) next) (λ x f c d. noted x f (let h = c.1 in (suc c.0, omega arith, c.2)) d) z.1 s.1 in
+      let mine = may_be (shown_if shown e.keeper) (may_if may e.keeper) (start_of e) e.entries log r z.0.holding s.0 in
+      let next = one_more done (last_records ls) sent log r fit (λ f c. noted log f (0, omega arith, refl) c) mine in
+      let more = any_fit sent (done ++ r ∷ []) es ls rs (subst (λ l. RecordsFit l sent) (sym (append_assoc done (r ∷ []) (last_records ls))) next) (λ x f c d. noted x f (let h = c.1 in (suc c.0, omega arith, c.2)) d) z.1 s.1 in
       subst (λ l. RecordsFit l sent) (append_assoc done (r ∷ []) rs) more
   any_fit sent done [] (l ∷ ls) rs fit noted z s = absurd z
   any_fit sent done [] [] (r ∷ rs) fit noted z s = absurd s
@@ -150,7 +154,7 @@ module _ {K G : Type 0} (shown : K → Option Record) (may : K → Record → Ty
   unfolding RunStandsIn
   end_same run r is stands =
       let h = is.runs in
-      holding_same (shown_in shown run.keeper) (may_in may run.keeper) (start_of run) run.entries h.log r h.holding stands
+      holding_same (shown_if shown run.keeper) (may_if may run.keeper) (start_of run) run.entries h.log r h.holding stands
 
   all_same : (runs : List (Running K G)) (rs : List Record) → All (IsSite shown may) runs → AllZip (RunStandsIn shown may) runs rs → AllZip IsSameSite (map (λ (r : Running K G). r.start) runs) rs
   all_same [] [] all s = tt
@@ -180,12 +184,12 @@ module _ {K G : Type 0} (shown : K → Option Record) (may : K → Record → Ty
   -- as the keepers stand, so do their runs
   runs_stand : (runs : List (Running K G)) (keepers : List K) (rs : List Record) → AllZip HasKeeper runs keepers → AllZip (λ k r. MayStandIn (shown k) (may k) r) keepers rs → AllZip (RunStandsIn shown may) runs rs
   unfolding RunStandsIn
-  runs_stand runs keepers rs = zip_through HasKeeper (λ k r. MayStandIn (shown k) (may k) r) (RunStandsIn shown may) runs keepers rs (λ run k r is o. subst (λ (x : Option K). MayStandIn (shown_in shown x) (may_in may x) r) (sym is) o)
+  runs_stand runs keepers rs = zip_through HasKeeper (λ k r. MayStandIn (shown k) (may k) r) (RunStandsIn shown may) runs keepers rs (λ run k r is o. subst (λ (x : Option K). MayStandIn (shown_if shown x) (may_if may x) r) (sym is) o)
 
   steps_one : (handed : List Handed) (run : Running K G) (log : Log) (k : K) (l : RunLog) → AreAnswered handed log.inputs → IsEnd shown may run log → HasKeeper run k → LeavesList run l → IsFresh run → AreStepsOf shown may handed k l log.last
   steps_one handed run log k l answered end is left fresh =
-      let d = led (shown_in shown run.keeper) (may_in may run.keeper) (start_of run) run.entries log end.holding in
-      let here = subst (λ (x : Option K). Lead (shown_in shown x) (may_in may x) run.start run.entries d.0 log.last) is d.2 in
+      let d = led (shown_if shown run.keeper) (may_if may run.keeper) (start_of run) run.entries log end.holding in
+      let here = subst (λ (x : Option K). Lead (shown_if shown x) (may_if may x) run.start run.entries d.0 log.last) is d.2 in
       record {
         changes = d.0;
         lead = subst (λ (y : Record × List Entry). Lead (shown k) (may k) y.0 y.1 d.0 log.last) (λ i. (sym left.start i, sym left.entries i)) here;
@@ -193,7 +197,7 @@ module _ {K G : Type 0} (shown : K → Option Record) (may : K → Record → Ty
       }
 
   steps_from : (handed : ℕ → List Handed) (a : ℕ) (runs : List (Running K G)) (ls : List Log) (ks : List K) (lists : List RunLog) → ((i : ℕ) (e : Log) → get_elem? ls i ≡ some e → AreAnswered (handed (a + i)) e.inputs) → AllZip (IsEnd shown may) runs ls → AllZip HasKeeper runs ks
-      → AllZip LeavesList runs lists → All IsFresh runs → AreTheirSteps shown may handed a ks lists (records ls)
+      → AllZip LeavesList runs lists → All IsFresh runs → AreTheirSteps shown may handed a ks lists (last_records ls)
   steps_from handed a [] [] [] [] f z has left fresh = tt
   steps_from handed a (run ∷ runs) (log ∷ ls) (k ∷ ks) (l ∷ lists) f z has left fresh = (
     steps_one (handed a) run log k l (subst (λ n. AreAnswered (handed n) log.inputs) (let z : a + 0 ≡ a = omega arith in z) (f 0 log refl)) z.0 has.0 left.0 (All-head IsFresh run runs fresh),
@@ -229,7 +233,7 @@ module _ {K G : Type 0} (shown : K → Option Record) (may : K → Record → Ty
         let same = all_held wire.sites logs everyone sites_are are ∙ joined ∙ e.1 in
         let run = (subst (Gathered wire.start) same gathered).run in
         record {
-          after = records e.0;
+          after = last_records e.0;
           leads = record { events = run.events; answers = run.answers; sent = run.sent; happened = run.happened; runs = run.runs };
           steps = steps_from (λ site. handed_to site run.sent run.events run.answers) 0 runs e.0 keepers lists (λ i x at. subst (λ n. AreAnswered (handed_to n run.sent run.events run.answers) x.inputs) (let z : i ≡ 0 + i = omega arith in z) (run.handed i x at)) e.2 have left fresh;
         }

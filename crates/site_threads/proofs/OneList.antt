@@ -7,14 +7,15 @@ use Rattle.site_core.specs.declared.inputs.SiteInput.{SiteInput}
 use Rattle.site_core.specs.declared.outcomes.Effects.TheVariants as effects
 use Rattle.world_core.specs.Faults.{AreOneWorld}
 use Rattle.world_core.proofs.Pins.{does_sites}
+use Rattle.world_core.specs.KeptSteps.{StandsAfter}
 use Rattle.wire_core.specs.declared.views.Log.{Log}
 use Rattle.site_threads.specs.declared.jobs.Entry.{Entry}
 use Rattle.site_threads.specs.declared.jobs.Reply.{Reply}
 use Rattle.site_threads.specs.declared.jobs.Reply.TheVariants.{Captured, Started, Frame, Refused, Stopped}
 use Rattle.site_threads.specs.Gathering.{MayStandIn}
-use Rattle.site_threads.specs.Jobs.{Keeps, Kept}
-use Rattle.site_threads.specs.Running.{Holding, Start}
-use Rattle.site_threads.proofs.Changing.{led_so}
+use Rattle.site_threads.specs.Jobs.{Enters, Keeps, WithMarks, with_marks}
+use Rattle.site_threads.specs.Running.{Holding}
+use Rattle.site_threads.proofs.Changing.{entered_so}
 use Rattle.site_threads.proofs.Stamping.{same_me}
 use Rattle.site_threads.proofs.Zips.{as_long}
 
@@ -45,14 +46,14 @@ keeps_same Frame old input new k = elim k.1 [
 keeps_same (Refused number) old input new k = equal old new k.2
 keeps_same Stopped old input new k = either old new input k
 
-kept_same : (old : Record) (entries : List Entry) (new : Record) → Kept old entries new → IsSameSite old new
+kept_same : (old : Record) (entries : List Entry) (new : Record) → StandsAfter Enters old entries new → IsSameSite old new
 kept_same old [] new k = equal old new k
 kept_same old (x ∷ xs) new k = then old k.0 new (keeps_same x.reply old x.input k.0 k.1) (kept_same k.0 xs new k.2)
 
 -- in whichever record a site stands, it is the one that began
-pub holding_same : (shown : Option Record) (may : Record → Type 0) (start : Start) (entries : List Entry) (log : Log) (r : Record) → Holding shown may start entries log → MayStandIn shown may r → IsSameSite start.stood r
-holding_same (Some x) may start entries log r h o = then start.stood x r (kept_same start.stood entries x (led_so start entries log.inputs x h.steps)) (equal x r o)
-holding_same None may start entries log r h o = then start.stood log.last r (kept_same start.stood h.earlier log.last (led_so start h.earlier log.inputs log.last h.steps)) (either log.last r h.last.input (h.old_or_new r o))
+pub holding_same : (shown : Option Record) (may : Record → Type 0) (start : WithMarks) (entries : List Entry) (log : Log) (r : Record) → Holding shown may start entries log → MayStandIn shown may r → IsSameSite start.stood r
+holding_same (Some x) may start entries log r h o = then start.stood x r (kept_same start.stood entries x (entered_so start entries (with_marks x log.inputs) h.steps)) (equal x r o)
+holding_same None may start entries log r h o = then start.stood log.last r (kept_same start.stood h.earlier log.last (entered_so start h.earlier (with_marks log.last log.inputs) h.steps)) (either log.last r h.last.input (h.old_or_new r o))
 
 -- place by place
 

@@ -14,10 +14,10 @@ use Rattle.wire_core.specs.Changes.{on, asks, offers, sends, receives}
 use Rattle.wire_core.specs.Frames.{sender}
 use Rattle.wire_core.specs.declared.views.Log.{Log}
 use Rattle.site_threads.specs.Inputs.{input_of, is_delivery}
-use Rattle.site_threads.specs.Jobs.{entry_of, job_of, jobs_in, open_after, option_items}
+use Rattle.site_threads.specs.Jobs.{entry_of, job_of, jobs_in, open_after, option_items, WithMarks}
 use Rattle.site_threads.specs.Offers.{IsFor}
 use Rattle.site_threads.specs.Passing.{EntersFrames, Incoming, TakesFrames}
-use Rattle.site_threads.specs.Running.{Holding, StandsOpen, Start as Origin, IsRunning, MayDeliver}
+use Rattle.site_threads.specs.Running.{Holding, StandsOpen, IsRunning, MayDeliver}
 use Rattle.site_threads.specs.declared.jobs.Entry.{Entry}
 use Rattle.site_threads.specs.declared.jobs.Job.{Job}
 use Rattle.site_threads.specs.declared.jobs.Job.TheVariants as jobs
@@ -33,11 +33,11 @@ last_has : {A : Type 0} (xs : List A) (x : A) → Contains (xs ++ x ∷ []) x
 last_has xs x = Contains-append_right xs (x ∷ []) x (0, omega arith, refl)
 
 -- what is held stays with a site that was asked and a frame that was noted, and with one that was offered or sent
-held_asked : (shown : Option Record) (may : Record → Type 0) (start : Origin) (entries : List Entry) (log : Log) (other : ℕ) → Holding shown may start entries log → Holding shown may start entries (asks other log)
+held_asked : (shown : Option Record) (may : Record → Type 0) (start : WithMarks) (entries : List Entry) (log : Log) (other : ℕ) → Holding shown may start entries log → Holding shown may start entries (asks other log)
 held_asked (Some r) may start entries log other h = record { marked = h.marked; steps = h.steps }
 held_asked None may start entries log other h = record { earlier = h.earlier; last = h.last; all = h.all; reply = h.reply; steps = h.steps; old_or_new = h.old_or_new; noted = h.noted }
 
-held_noted : (shown : Option Record) (may : Record → Type 0) (start : Origin) (entries : List Entry) (log : Log) (other : ℕ) (f : Frame) → Holding shown may start entries log → Holding shown may start entries (receives other f log)
+held_noted : (shown : Option Record) (may : Record → Type 0) (start : WithMarks) (entries : List Entry) (log : Log) (other : ℕ) (f : Frame) → Holding shown may start entries log → Holding shown may start entries (receives other f log)
 held_noted (Some r) may start entries log other f h = record { marked = h.marked; steps = h.steps }
 held_noted None may start entries log other f h = record {
   earlier = h.earlier;
@@ -49,11 +49,11 @@ held_noted None may start entries log other f h = record {
   noted = λ g is. Contains-append_left log.noted (f ∷ []) g (h.noted g is);
 }
 
-held_offered : (shown : Option Record) (may : Record → Type 0) (start : Origin) (entries : List Entry) (log : Log) (f : Frame) → Holding shown may start entries log → Holding shown may start entries (offers f log)
+held_offered : (shown : Option Record) (may : Record → Type 0) (start : WithMarks) (entries : List Entry) (log : Log) (f : Frame) → Holding shown may start entries log → Holding shown may start entries (offers f log)
 held_offered (Some r) may start entries log f h = record { marked = h.marked; steps = h.steps }
 held_offered None may start entries log f h = record { earlier = h.earlier; last = h.last; all = h.all; reply = h.reply; steps = h.steps; old_or_new = h.old_or_new; noted = h.noted }
 
-held_sent : (shown : Option Record) (may : Record → Type 0) (start : Origin) (entries : List Entry) (log : Log) (f : Frame) → Holding shown may start entries log → Holding shown may start entries (sends f log)
+held_sent : (shown : Option Record) (may : Record → Type 0) (start : WithMarks) (entries : List Entry) (log : Log) (f : Frame) → Holding shown may start entries log → Holding shown may start entries (sends f log)
 held_sent (Some r) may start entries log f h = record { marked = h.marked; steps = h.steps }
 held_sent None may start entries log f h = record { earlier = h.earlier; last = h.last; all = h.all; reply = h.reply; steps = h.steps; old_or_new = h.old_or_new; noted = h.noted }
 
@@ -62,7 +62,7 @@ delivered (Deliver f) g = f
 delivered (Capture bytes) g = g
 delivered (Start item) g = g
 
-module _ (shown : Option Record) (may : Record → Type 0) (logs : List Log) (me : ℕ) (kept : Stamp) (entries : List Entry) (start : Origin) (h : IsRunning shown may logs me kept entries start) where
+module _ (shown : Option Record) (may : Record → Type 0) (logs : List Log) (me : ℕ) (kept : Stamp) (entries : List Entry) (start : WithMarks) (h : IsRunning shown may logs me kept entries start) where
   pub may_take : (count other : ℕ) → other ≢ me → other < count → MayTake count me other logs
   may_take count other apart there = record { held = (h.log, subst (λ l. Contains l h.log) (sym h.alone) (alone_has h.log), h.own.site); apart = apart; there = there }
 

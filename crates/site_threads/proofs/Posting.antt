@@ -16,10 +16,10 @@ use Rattle.wire_core.specs.Frames.{sender}
 use Rattle.wire_core.specs.declared.calls.Post.{Post}
 use Rattle.wire_core.specs.declared.calls.Post.TheVariants.{Posted, Full}
 use Rattle.wire_core.specs.declared.views.Log.{Log}
-use Rattle.site_threads.specs.Jobs.{option_items}
+use Rattle.site_threads.specs.Jobs.{option_items, WithMarks}
 use Rattle.site_threads.specs.Offers.{IsFor, behind, message_of, moved, owed_by, round_at, wish}
 use Rattle.site_threads.specs.Passing.{Outgoing, IsSentBy, PostsFrames, Rise, incoming, others, outgoing, went_of, wishes}
-use Rattle.site_threads.specs.Running.{IsRunning, Start}
+use Rattle.site_threads.specs.Running.{IsRunning}
 use Rattle.site_threads.specs.declared.rounds.Round.{Round}
 use Rattle.site_threads.specs.declared.stamps.Stamp.{Stamp}
 use Rattle.site_threads.specs.declared.jobs.Entry.{Entry}
@@ -235,7 +235,7 @@ module _ (rounds : List Round) (to : ℕ) (there : to < length rounds) (found : 
   pub place_full : (number : Option ℕ) (k : ℕ) → (round_at (set (set rounds to found) to (moved found 0 number)) k).place ≡ (round_at rounds k).place
   place_full number k = place_set found k (round_at rounds k).place (λ e. same ∙ ap (λ j. (round_at rounds j).place) (sym e)) (λ apart. refl)
 
-module _ (shown : Option Record) (may : Record → Type 0) (logs : List Log) (me : ℕ) (kept : Stamp) (entries : List Entry) (start : Start) (h : IsRunning shown may logs me kept entries start) (r : Record) (is : shown ≡ Some r) (to : ℕ) (f : Frame) (fits : IsFor r.engagement to f) (from : sender f ≡ me) (apart : to ≢ me) (new : List Log) (owed : ℕ → Option Message) (place : ℕ → ℕ) (one : wishes me to (to + 1) shown owed place ≡ f ∷ []) where
+module _ (shown : Option Record) (may : Record → Type 0) (logs : List Log) (me : ℕ) (kept : Stamp) (entries : List Entry) (start : WithMarks) (h : IsRunning shown may logs me kept entries start) (r : Record) (is : shown ≡ Some r) (to : ℕ) (f : Frame) (fits : IsFor r.engagement to f) (from : sender f ≡ me) (apart : to ≢ me) (new : List Log) (owed : ℕ → Option Message) (place : ℕ → ℕ) (one : wishes me to (to + 1) shown owed place ≡ f ∷ []) where
   -- by what became of it
   pub posted : (A B C : Type 0) (places : ℕ → ℕ → ℕ) (n : ℕ) (p : Post) → ((k : ℕ) → places 1 k ≡ behind k (place k) f) → ((k : ℕ) → places 0 k ≡ place k)
       → MatchPost p ((new ≡ on (sender f) (sends f) logs) × A) (λ g. (g ≡ f) × (new ≡ on (sender f) (offers f) logs) × B × C) → MatchPost p (n ≡ 1) (λ g. n ≡ 0)

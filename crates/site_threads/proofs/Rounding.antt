@@ -10,8 +10,9 @@ use Rattle.wire_core.specs.Changes.{on, offers, sends}
 use Rattle.wire_core.specs.declared.calls.Post.{Post}
 use Rattle.wire_core.specs.declared.calls.Post.TheVariants.{Posted, Full}
 use Rattle.wire_core.specs.declared.views.Log.{Log}
+use Rattle.site_threads.specs.Jobs.{WithMarks}
 use Rattle.site_threads.specs.Offers.{IsRound, round_at}
-use Rattle.site_threads.specs.Running.{Follows, Holding, MayFollow, IsRunning, Start}
+use Rattle.site_threads.specs.Running.{Follows, Holding, MayFollow, IsRunning}
 use Rattle.site_threads.specs.Sites.{AreRounds}
 use Rattle.site_threads.specs.Stamps.{stamp}
 use Rattle.site_threads.specs.declared.rounds.Round.{Round}
@@ -49,7 +50,7 @@ each_set P d none (x ∷ xs) zero v here all (suc k) = all (suc k)
 each_set P d none (x ∷ xs) (suc i) v here all zero = all zero
 each_set P d none (x ∷ xs) (suc i) v here all (suc k) = each_set (λ j. P (suc j)) d (λ j. none (suc j)) xs i v here (λ j. all (suc j)) k
 
-module _ (shown : Option Record) (may : Record → Type 0) (logs : List Log) (me : ℕ) (kept : Stamp) (entries : List Entry) (start : Start) (h : IsRunning shown may logs me kept entries start) (rounds : List Round) (a : AreRounds logs rounds) where
+module _ (shown : Option Record) (may : Record → Type 0) (logs : List Log) (me : ℕ) (kept : Stamp) (entries : List Entry) (start : WithMarks) (h : IsRunning shown may logs me kept entries start) (rounds : List Round) (a : AreRounds logs rounds) where
   last_of : (s : Option Record) → Holding s may start entries h.log → IfSome s (λ r. r ≡ h.log.last)
   last_of None holding = tt
   last_of (Some r) holding = holding.marked

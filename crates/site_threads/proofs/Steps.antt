@@ -6,15 +6,16 @@ use Rattle.std.specs.Prelude.{get_or}
 use Rattle.keeper_core.specs.Keeping.{IsAfter, StaysClosed}
 use Rattle.site_core.specs.Records.{Record}
 use Rattle.site_core.specs.declared.inputs.SiteInput.{SiteInput}
+use Rattle.world_core.specs.KeptSteps.{StandsAfter}
 use Rattle.wire_core.specs.declared.views.Log.{Log}
 use Rattle.wire_core.specs.Frames.{DeliversOneOf}
 use Rattle.site_threads.specs.declared.jobs.Entry.{Entry}
 use Rattle.site_threads.specs.declared.jobs.Reply.{Reply}
 use Rattle.site_threads.specs.declared.stamps.Stamp.{Stamp}
-use Rattle.site_threads.specs.Jobs.{Keeps}
-use Rattle.site_threads.specs.Running.{Holding, Led, Start, StandsClosed, IsRunning, MarksChange, MayFollow, Follows, marks_in}
+use Rattle.site_threads.specs.Jobs.{Keeps, EntersMarked, WithMarks, with_marks}
+use Rattle.site_threads.specs.Running.{Holding, StandsClosed, IsRunning, MarksChange, MayFollow, Follows, marks_in}
 use Rattle.site_threads.specs.Stamps.{stamp}
-use Rattle.site_threads.proofs.Changing.{led_push}
+use Rattle.site_threads.proofs.Changing.{entered_more}
 use Rattle.site_threads.proofs.Stamping.{same_me}
 
 last_is : (xs : List Entry) (x y : Entry) (all : List Entry) → all ≡ xs ++ x ∷ [] → Some y ≡ slice_get all (length all - 1) → y ≡ x
@@ -26,7 +27,7 @@ last_is xs x y all is at =
 pub next_me : (old new : Record) (input : SiteInput) → (new ≡ old) ⊎ IsAfter old input new → new.engagement.me ≡ old.engagement.me
 next_me old new input next = ⊎_elim (λ (k : new ≡ old). ap (λ z. z.engagement.me) k) (λ (a : IsAfter old input new). same_me old new input a) next
 
-module _ (shown : Option Record) (may : Record → Type 0) (logs : List Log) (me : ℕ) (kept : Stamp) (entries : List Entry) (start : Start) (h : IsRunning shown may logs me kept entries start) where
+module _ (shown : Option Record) (may : Record → Type 0) (logs : List Log) (me : ℕ) (kept : Stamp) (entries : List Entry) (start : WithMarks) (h : IsRunning shown may logs me kept entries start) where
   pub few_in : marks_in logs < 2 ^ 62 → length h.log.inputs < 2 ^ 62
   few_in few = let e = ap marks_in h.alone in omega arith
 
@@ -59,7 +60,7 @@ module _ (shown : Option Record) (may : Record → Type 0) (logs : List Log) (me
       let f = follows h.log h.alone in
       let more = subst (λ (z : Entry). MarksChange logs z.input r new) (last_is c.earlier c.last y entries c.all at) marks h.log f.0 h.alone f.1 in
       let keeps = subst (λ (p : Reply). Keeps p h.log.last c.last.input r) (sym c.reply) (c.old_or_new r m) in
-      let steps : Led start entries f.0.inputs r = subst (λ l. Led start l f.0.inputs r) (sym c.all) (led_push start c.earlier h.log.inputs c.last h.log.last r more.0 f.0.inputs c.steps keeps more.1 more.2) in
+      let steps : StandsAfter EntersMarked start entries (with_marks r f.0.inputs) = subst (λ l. StandsAfter EntersMarked start l (with_marks r f.0.inputs)) (sym c.all) (entered_more start c.earlier h.log.inputs c.last h.log.last r more.0 f.0.inputs c.steps keeps more.1 more.2) in
       record {
         log = f.0;
         alone = f.1;

@@ -10,17 +10,18 @@ use Rattle.site_core.specs.declared.inputs.SiteInput.{SiteInput}
 use Rattle.site_core.specs.declared.inputs.SiteInput.TheVariants as inputs
 use Rattle.site_core.specs.declared.outcomes.Effects.{Effects}
 use Rattle.site_core.specs.declared.outcomes.Effects.TheVariants as effects
+use Rattle.world_core.specs.KeptSteps.{StandsAfter}
 use Rattle.wire_core.specs.declared.views.Log.{Log}
 use Rattle.site_threads.specs.declared.jobs.Entry.{Entry}
 use Rattle.site_threads.specs.declared.jobs.Reply.{Reply}
 use Rattle.site_threads.specs.declared.jobs.Reply.TheVariants.{Stopped}
 use Rattle.site_threads.specs.declared.stamps.Stamp.{Stamp}
 use Rattle.site_threads.specs.Inputs.{is_delivery}
-use Rattle.site_threads.specs.Jobs.{Keeps, AreNumbered, reply_to, told}
-use Rattle.site_threads.specs.Running.{Holding, Led, Start, StandsOpen, IsRunning, MarksChange, MayFollow, MayDeliver, Follows, marks_in}
+use Rattle.site_threads.specs.Jobs.{Keeps, AreNumbered, reply_to, told, EntersMarked, WithMarks, with_marks}
+use Rattle.site_threads.specs.Running.{Holding, StandsOpen, IsRunning, MarksChange, MayFollow, MayDeliver, Follows, marks_in}
 use Rattle.site_threads.specs.Stamps.{stamp}
 use Rattle.site_threads.proofs.Numbers.{numbered_push}
-use Rattle.site_threads.proofs.Changing.{led_push}
+use Rattle.site_threads.proofs.Changing.{entered_more}
 use Rattle.site_threads.proofs.Steps.{few_in, log_own, next_me}
 
 abbrev pub Answer : Type 0
@@ -84,15 +85,15 @@ pub shown_up : (shown : Option Record) → IsSome shown → (r : Record) × (sho
 shown_up None up = absurd (true≢false (sym up))
 shown_up (Some r) up = (r, refl)
 
-module _ (shown : Option Record) (may : Record → Type 0) (logs : List Log) (me : ℕ) (kept : Stamp) (entries : List Entry) (start : Start) (h : IsRunning shown may logs me kept entries start) (is_open : IsSome shown) where
+module _ (shown : Option Record) (may : Record → Type 0) (logs : List Log) (me : ℕ) (kept : Stamp) (entries : List Entry) (start : WithMarks) (h : IsRunning shown may logs me kept entries start) (is_open : IsSome shown) where
   up : (r : Record) × (shown ≡ Some r)
   up = shown_up shown is_open
 
   held : StandsOpen up.0 start entries h.log
   held = subst (λ (s : Option Record). Holding s may start entries h.log) up.1 h.holding
 
-  steps : Led start entries h.log.inputs h.log.last
-  steps = subst (λ (r : Record). Led start entries h.log.inputs r) held.marked held.steps
+  steps : StandsAfter EntersMarked start entries (with_marks h.log.last h.log.inputs)
+  steps = subst (λ (r : Record). StandsAfter EntersMarked start entries (with_marks r h.log.inputs)) held.marked held.steps
 
   -- the keeper stays open in its record
   runs_on : (now : Option Record) (may' : Record → Type 0) → now ≡ Some up.0 → IsRunning now may' logs me kept entries start
@@ -154,6 +155,6 @@ module _ (shown : Option Record) (may : Record → Type 0) (logs : List Log) (me
           numbered = numbers;
           holding = record {
             marked = sym g.2.last;
-            steps = subst (λ (l : List Entry). Led start l g.0.inputs r) (sym is) (led_push start entries h.log.inputs x h.log.last r more.0 g.0.inputs steps (keeps_of a f p h.log.last input r may' frame e s) more.1 more.2);
+            steps = subst (λ (l : List Entry). StandsAfter EntersMarked start l (with_marks r g.0.inputs)) (sym is) (entered_more start entries h.log.inputs x h.log.last r more.0 g.0.inputs steps (keeps_of a f p h.log.last input r may' frame e s) more.1 more.2);
           };
         }

@@ -12,7 +12,7 @@ use Rattle.site_core.specs.declared.inputs.SiteInput.TheVariants as inputs
 use Rattle.site_core.specs.declared.outcomes.Effects.{Effects}
 use Rattle.site_threads.specs.Inputs.{input_of, is_delivery}
 use Rattle.site_threads.specs.Jobs.{reply_to}
-use Rattle.site_threads.specs.Keepers.{shown_in}
+use Rattle.site_threads.specs.Keepers.{shown_if}
 use Rattle.site_threads.specs.declared.jobs.Entry.{Entry}
 use Rattle.site_threads.specs.declared.jobs.Receipt.{Receipt}
 use Rattle.site_threads.specs.declared.jobs.Reply.{Reply}
@@ -27,7 +27,7 @@ pub record OpenedAgain {K : Type 0} (reopens : K → Result K (Unopened K) → T
 
 -- an open keeper is left as it was, and another was opened again
 abbrev pub Opened : {K : Type 0} → (K → Option Record) → (K → Result K (Unopened K) → Type 0) → Option K → Option K → Type 0
-Opened shown reopens old new = (IsSome (shown_in shown old) × (new ≡ old)) ⊎ OpenedAgain reopens old new
+Opened shown reopens old new = (IsSome (shown_if shown old) × (new ≡ old)) ⊎ OpenedAgain reopens old new
 
 module _ {K : Type 0} (shown : K → Option Record) (may : K → Record → Type 0) (applies : K → SiteInput → Result Effects KeepFault → K → Type 0) where
   -- the keeper was asked for the step, answered as its kind promises, and the reply is what is reported of that answer

@@ -9,7 +9,7 @@ use Rattle.site_core.specs.Records.{Record}
 use Rattle.world_core.specs.Faults.{HindersKeepers, MakeAWorld}
 use Rattle.world_core.specs.Keepers.{AllShow, IsFirstClosed}
 use Rattle.world_core.specs.Recalls.{AreExactOnceEnded, quarantined}
-use Rattle.world_core.specs.KeptSteps.{Handed, handed_to}
+use Rattle.world_core.specs.KeptSteps.{Handed, StandsAfter, handed_to}
 use Rattle.world_core.specs.Turns.{Runs}
 use Rattle.world_core.specs.declared.events.Answer.{Answer}
 use Rattle.world_core.specs.declared.events.WorldEvent.{WorldEvent}
@@ -25,7 +25,7 @@ use Rattle.site_threads.specs.declared.jobs.Entry.{Entry}
 use Rattle.site_threads.specs.declared.jobs.Receipt.{Receipt}
 use Rattle.site_threads.specs.declared.jobs.Reply.TheVariants.{Stopped}
 use Rattle.site_threads.specs.Ends.{takes, HasTold, IsOut, SameOut}
-use Rattle.site_threads.specs.Jobs.{IsEntered, jobs_in, option_items, receipts_in, Kept, KeptBy}
+use Rattle.site_threads.specs.Jobs.{Enters, EntersMarked, IsEntered, jobs_in, option_items, receipts_in, with_marks}
 use Rattle.site_threads.specs.Parting.{cause_of}
 use Rattle.site_threads.specs.Resting.{IsDone}
 
@@ -59,12 +59,12 @@ pub record LeadToAStop (may : Record → Type 0) (start : Record) (entries : Lis
   pub stop : Entry
   pub all : entries ≡ earlier ++ stop ∷ []
   pub reply : stop.reply ≡ Stopped
-  pub steps : KeptBy start earlier changes last
+  pub steps : StandsAfter EntersMarked (with_marks start []) earlier (with_marks last changes)
   pub old_or_new : MayBeOldOrNew last stop.input may
 
 -- the steps lead to the record that the keeper shows, or to a stop
 abbrev pub Lead : Option Record → (Record → Type 0) → Record → List Entry → List SiteInput → Record → Type 0
-Lead (Some r) may start entries changes last = (r ≡ last) × KeptBy start entries changes last
+Lead (Some r) may start entries changes last = (r ≡ last) × StandsAfter EntersMarked (with_marks start []) entries (with_marks last changes)
 Lead None may start entries changes last = LeadToAStop may start entries changes last
 
 module _ {K : Type 0} (shown : K → Option Record) (may : K → Record → Type 0) where
@@ -109,7 +109,7 @@ pub record FitsEnd (l : RunLog) : Type 0 where
 pub record IsKept {K : Type 0} (shown : K → Option Record) (k : K) (l : RunLog) : Type 0 where
   pub last : Record
   pub stands : shown k ≡ Some last
-  pub steps : Kept l.start.value l.entries.items last
+  pub steps : StandsAfter Enters l.start.value l.entries.items last
   pub jobs : FitsEnd l
 
 -- The gate of the keeper's site was asked for all these turns; or for fewer, and the site is done.

@@ -63,20 +63,25 @@ Keeps Frame old input new = IsTrue (is_delivery input) × AfterFrame old input n
 Keeps (Refused number) old input new = IsFalse (is_delivery input) × ((why : Refusal) × IsRefusedFor old input why × (number ≡ refusal_number why)) × (new ≡ old)
 Keeps Stopped old input new = (new ≡ old) ⊎ IsAfter old input new
 
--- from the record old these steps lead to new, one after another, each as its reply says
-abbrev pub Kept : Record → List Entry → Record → Type 0
-Kept old [] new = new ≡ old
-Kept old (x ∷ xs) new = (r : Record) × Keeps x.reply old x.input r × Kept r xs new
+-- what a step of the list leads to, as its reply says
+abbrev pub Enters : Record → Entry → Record → Type 0
+Enters old x new = Keeps x.reply old x.input new
 
 -- the input of the step, where the record changed in it, and else none
 abbrev pub IsChange : Record → SiteInput → Record → List SiteInput → Type 0
 IsChange old input new changes = ((new ≡ old) × (changes ≡ [])) ⊎ ((new ≢ old) × (changes ≡ input ∷ []))
 
--- so they lead there, and these are the inputs of those in which the record changed, in order
-abbrev pub KeptBy : Record → List Entry → List SiteInput → Record → Type 0
-KeptBy old [] changes new = (new ≡ old) × (changes ≡ [])
-KeptBy old (x ∷ xs) changes new =
-    (r : Record) × (here : List SiteInput) × (rest : List SiteInput) × Keeps x.reply old x.input r × IsChange old x.input r here × (changes ≡ here ++ rest) × KeptBy r xs rest new
+-- a record, and the inputs that were marked of its site
+pub record WithMarks : Type 0 where
+  pub stood : Record
+  pub marked : List SiteInput
+
+abbrev pub with_marks : Record → List SiteInput → WithMarks
+with_marks r inputs = record { stood = r; marked = inputs }
+
+-- what a step of the list leads to, of which the input is marked just where the record changed
+abbrev pub EntersMarked : WithMarks → Entry → WithMarks → Type 0
+EntersMarked old x new = Enters old.stood x new.stood × (more : List SiteInput) × IsChange old.stood x.input new.stood more × (new.marked ≡ old.marked ++ more)
 
 -- What a list of steps has.
 

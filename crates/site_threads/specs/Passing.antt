@@ -14,7 +14,7 @@ use Rattle.wire_core.specs.Frames.{sender}
 use Rattle.world_core.specs.Turns.{addressee}
 use Rattle.site_threads.specs.Answering.{Delivers, DoesJob, Opened}
 use Rattle.site_threads.specs.Jobs.{AreOfFrames, ComesTo, entry_of, open_after, option_items}
-use Rattle.site_threads.specs.Keepers.{shown_in}
+use Rattle.site_threads.specs.Keepers.{shown_if}
 use Rattle.site_threads.specs.Offers.{behind, owed_by, owes, round_at, wish}
 use Rattle.site_threads.specs.declared.jobs.Entry.{Entry}
 use Rattle.site_threads.specs.Sites.{Running}
@@ -154,16 +154,16 @@ module _ {K G : Type 0} (shown : K → Option Record) where
 
   abbrev pub TakesOfEach : ℕ → ℕ → Running K G → Running K G → ℕ → ℕ → Type 0
   TakesOfEach low high old new count lost =
-      TakesFrames old.me low high (incoming old.seat.logs) (incoming new.seat.logs) (is_some (shown_in shown old.keeper)) (is_some (shown_in shown new.keeper)) old.entries new.entries count lost
+      TakesFrames old.me low high (incoming old.seat.logs) (incoming new.seat.logs) (is_some (shown_if shown old.keeper)) (is_some (shown_if shown new.keeper)) old.entries new.entries count lost
 
   abbrev pub PostsToEach : ℕ → ℕ → (ℕ → Option Message) → Running K G → Running K G → ℕ → ℕ → Type 0
   PostsToEach low high owed old new count uncopied =
-      PostsFrames old.me low high (shown_in shown new.keeper) owed (outgoing old.seat.logs) (outgoing new.seat.logs) (place_of old) (place_of new) count uncopied
+      PostsFrames old.me low high (shown_if shown new.keeper) owed (outgoing old.seat.logs) (outgoing new.seat.logs) (place_of old) (place_of new) count uncopied
 
   -- after the step of its job, if it was given one, a site takes frames in its turn
   abbrev pub TakesAfterJob : Running K G → Running K G → TurnReport → Type 0
   TakesAfterJob old new report =
-      TakesFrames old.me 0 old.wire.sites (incoming old.seat.logs) (incoming new.seat.logs) (open_after report.receipt) (is_some (shown_in shown new.keeper)) (old.entries ++ map entry_of (option_items report.receipt)) new.entries report.applied report.lost
+      TakesFrames old.me 0 old.wire.sites (incoming old.seat.logs) (incoming new.seat.logs) (open_after report.receipt) (is_some (shown_if shown new.keeper)) (old.entries ++ map entry_of (option_items report.receipt)) new.entries report.applied report.lost
 
   -- the keeper is open, or is opened again; it does the job, if the site was given one; and then the frames are delivered
   abbrev pub AnswersInTurn : (K → Record → Type 0) → (K → SiteInput → Result Effects KeepFault → K → Type 0) → (K → Result K (Unopened K) → Type 0) → Running K G → Running K G → TurnReport → Type 0

@@ -5,7 +5,7 @@ use Rattle.scholten_core.specs.declared.own_recalls.Own.{Own}
 use Rattle.site_core.specs.Records.{Record}
 use Rattle.site_threads.specs.declared.desks.DeskOut.{DeskOut}
 use Rattle.site_threads.specs.declared.jobs.Job.{Job}
-use Rattle.site_threads.specs.Keepers.{shown_in}
+use Rattle.site_threads.specs.Keepers.{shown_if}
 
 -- each recall that the site began has ended
 abbrev pub HaveEnded : Record → Type 0
@@ -21,5 +21,5 @@ pub record IsDone {K : Type 0} (shown : K → Option Record) (keeper : Option K)
   pub gone : IsTrue out.gone
   pub none : pending ≡ None
   pub record_is : Record
-  pub stands : shown_in shown keeper ≡ Some record_is
+  pub stands : shown_if shown keeper ≡ Some record_is
   pub rests : IsAtRest record_is

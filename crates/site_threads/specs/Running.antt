@@ -3,42 +3,33 @@ use Rattle.std.specs.Prelude.{◌≡◌, ◌⊎◌, ℕ, ◌+◌, ◌<◌, ◌�
 use Rattle.keeper_core.specs.Keeping.{IsAfter, MayBeOldOrNew}
 use Rattle.site_core.specs.Records.{Record}
 use Rattle.site_core.specs.declared.inputs.SiteInput.{SiteInput}
+use Rattle.world_core.specs.KeptSteps.{StandsAfter}
 use Rattle.wire_core.specs.declared.views.Log.{Log}
 use Rattle.wire_core.specs.Frames.{DeliversOneOf}
-use Rattle.site_threads.specs.Jobs.{AreNumbered, IsChange, KeptBy}
+use Rattle.site_threads.specs.Jobs.{AreNumbered, EntersMarked, IsChange, WithMarks, with_marks}
 use Rattle.site_threads.specs.Stamps.{stamp}
 use Rattle.site_threads.specs.declared.jobs.Entry.{Entry}
 use Rattle.site_threads.specs.declared.jobs.Reply.TheVariants.{Stopped}
 use Rattle.site_threads.specs.declared.stamps.Stamp.{Stamp}
 
--- before a site's first turn: its record, and the inputs that were marked of it
-pub record Start : Type 0 where
-  pub stood : Record
-  pub marked : List SiteInput
-
--- The steps lead from there to this record, and what was marked since are the inputs of those in which the record changed.
-pub record Led (start : Start) (entries : List Entry) (marked : List SiteInput) (last : Record) : Type 0 where
-  pub changes : List SiteInput
-  pub marks : marked ≡ start.marked ++ changes
-  pub steps : KeptBy start.stood entries changes last
-
--- The record last marked is the one that the keeper shows, and the steps lead to it.
-pub record StandsOpen (r : Record) (start : Start) (entries : List Entry) (log : Log) : Type 0 where
+-- Of a site that began its first turn with this record and these marks: the record last marked is the one that the keeper
+-- shows, and the steps lead to it, of which those are marked in which the record changed.
+pub record StandsOpen (r : Record) (start : WithMarks) (entries : List Entry) (log : Log) : Type 0 where
   pub marked : r ≡ log.last
-  pub steps : Led start entries log.inputs r
+  pub steps : StandsAfter EntersMarked start entries (with_marks r log.inputs)
 
 -- The keeper is closed since the last step of the list, and the steps before it lead to the record last marked. It may
 -- be opened in that record, or in the one after the last step.
-pub record StandsClosed (may : Record → Type 0) (start : Start) (entries : List Entry) (log : Log) : Type 0 where
+pub record StandsClosed (may : Record → Type 0) (start : WithMarks) (entries : List Entry) (log : Log) : Type 0 where
   pub earlier : List Entry
   pub last : Entry
   pub all : entries ≡ earlier ++ last ∷ []
   pub reply : last.reply ≡ Stopped
-  pub steps : Led start earlier log.inputs log.last
+  pub steps : StandsAfter EntersMarked start earlier (with_marks log.last log.inputs)
   pub old_or_new : MayBeOldOrNew log.last last.input may
   pub noted : DeliversOneOf log.noted last.input
 
-abbrev pub Holding : Option Record → (Record → Type 0) → Start → List Entry → Log → Type 0
+abbrev pub Holding : Option Record → (Record → Type 0) → WithMarks → List Entry → Log → Type 0
 Holding (Some r) may start entries log = StandsOpen r start entries log
 Holding None may start entries log = StandsClosed may start entries log
 
@@ -48,7 +39,7 @@ pub record IsOwn (log : Log) (me : ℕ) : Type 0 where
   pub last : log.last.engagement.me ≡ me
 
 -- the seat holds this site alone
-pub record IsRunning (shown : Option Record) (may : Record → Type 0) (logs : List Log) (me : ℕ) (kept : Stamp) (entries : List Entry) (start : Start) : Type 0 where
+pub record IsRunning (shown : Option Record) (may : Record → Type 0) (logs : List Log) (me : ℕ) (kept : Stamp) (entries : List Entry) (start : WithMarks) : Type 0 where
   pub log : Log
   pub alone : logs ≡ log ∷ []
   pub own : IsOwn log me

@@ -7,7 +7,7 @@ use Rattle.site_threads.specs.declared.runs.Turned.TheVariants.{Changed, Idle, E
 use Rattle.site_threads.specs.declared.turns.TurnCause.{TurnCause}
 use Rattle.site_threads.specs.Ends.{takes, HasTold, SameOut}
 use Rattle.site_threads.specs.Jobs.{jobs_in, option_items, receipts_in}
-use Rattle.site_threads.specs.Keepers.{shown_in}
+use Rattle.site_threads.specs.Keepers.{shown_if}
 use Rattle.site_threads.specs.Resting.{IsDone}
 use Rattle.site_threads.specs.Running.{inputs_in, marks_in}
 use Rattle.site_threads.specs.Sites.{Running}
@@ -61,7 +61,7 @@ module _ {K G : Type 0} (shown : K → Option Record) (reopens : K → Result K 
   pub record HasFinished (turns : ℕ) (s : Running K G) : Type 0 where
     pub asked : s.turns ≤ turns
     pub all : s.fault ≡ None → (s.turns ≡ turns) ⊎ IsDone shown s.keeper s.out s.pending
-    pub is_open : s.fault ≡ None → IsSome (shown_in shown s.keeper)
+    pub is_open : s.fault ≡ None → IsSome (shown_if shown s.keeper)
     pub why : IfSome s.fault (EndedBy s)
 
   -- so a site ran

@@ -4,6 +4,7 @@ use Rattle.frame_core.specs.Numbers.{Message}
 use Rattle.site_core.specs.Records.{Record}
 use Rattle.wire_core.specs.Seats.{Line, SeatView, IsSeatOf}
 use Rattle.wire_core.specs.declared.views.Log.{Log}
+use Rattle.site_threads.specs.Jobs.{WithMarks, with_marks}
 use Rattle.site_threads.specs.declared.desks.DeskOut.{DeskOut}
 use Rattle.site_threads.specs.declared.jobs.Entry.{Entry}
 use Rattle.site_threads.specs.declared.jobs.Job.{Job}
@@ -11,9 +12,9 @@ use Rattle.site_threads.specs.declared.rounds.Round.{Round}
 use Rattle.site_threads.specs.declared.stamps.Stamp.{Stamp}
 use Rattle.site_threads.specs.declared.turns.TurnCause.{TurnCause}
 use Rattle.site_threads.specs.Ends.{IsOut}
-use Rattle.site_threads.specs.Keepers.{shown_in, may_in}
+use Rattle.site_threads.specs.Keepers.{shown_if, may_if}
 use Rattle.site_threads.specs.Offers.{IsRound, round_at}
-use Rattle.site_threads.specs.Running.{IsRunning, Start, inputs_in, marks_in}
+use Rattle.site_threads.specs.Running.{IsRunning, inputs_in, marks_in}
 
 -- a running site
 pub record Running (K G : Type 0) : Type 0 where
@@ -48,8 +49,8 @@ abbrev pub AreRounds : List Log → List Round → Type 0
 AreRounds logs rounds = (e : Log) → logs ≡ e ∷ [] → (to : ℕ) → IsRound e.last.engagement to (round_at rounds to)
 
 -- before its first turn
-abbrev pub start_of : {K G : Type 0} → Running K G → Start
-start_of s = record { stood = s.start; marked = inputs_in s.first.logs }
+abbrev pub start_of : {K G : Type 0} → Running K G → WithMarks
+start_of s = with_marks s.start (inputs_in s.first.logs)
 
 module _ {K G : Type 0} (shown : K → Option Record) (may : K → Record → Type 0) where
   -- the site is of its wire, has its keeper and its end of a desk, stands as its steps, and keeps its places by the record
@@ -57,7 +58,7 @@ module _ {K G : Type 0} (shown : K → Option Record) (may : K → Record → Ty
   pub record IsSite (s : Running K G) : Type 0 where
     pub seat : IsSeatOf s.wire s.seat
     pub there : IsSome s.keeper
-    pub runs : IsRunning (shown_in shown s.keeper) (may_in may s.keeper) s.seat.logs s.me s.stamp s.entries (start_of s)
+    pub runs : IsRunning (shown_if shown s.keeper) (may_if may s.keeper) s.seat.logs s.me s.stamp s.entries (start_of s)
     pub rounds : AreRounds s.seat.logs s.rounds
     pub out : IsOut s.out
 

@@ -5,7 +5,7 @@ use Rattle.keeper_core.specs.declared.faults.KeepFault.{KeepFault}
 use Rattle.keeper_core.specs.declared.faults.KeepFault.TheVariants as faults
 use Rattle.keeper_core.specs.declared.faults.Unopened.{Unopened}
 use Rattle.site_core.specs.Records.{Record}
-use Rattle.site_threads.specs.Keepers.{shown_in}
+use Rattle.site_threads.specs.Keepers.{shown_if}
 use Rattle.site_threads.specs.declared.turns.TurnCause.{TurnCause}
 use Rattle.site_threads.specs.declared.turns.TurnCause.TheVariants.{NoMemory, GaveUp, Lost}
 
@@ -24,7 +24,7 @@ module _ {K : Type 0} (shown : K → Option Record) (reopens : K → Result K (U
     pub refused : reopens was (Err left)
     pub fault_is : left.fault ≡ fault
     pub new_is : new ≡ Some left.keeper
-    pub stays : shown_in shown new ≡ None
+    pub stays : shown_if shown new ≡ None
 
   -- a lost site was refused that by something else than out of memory
   pub record IsLost (fault : KeepFault) (old new : Option K) : Type 0 where

@@ -1,7 +1,5 @@
 //! Jobs for a site from another thread, and their receipts back.
 ghost use Rattle.std.specs.Prelude.{◌≡◌, ◌<◌, ◌≤◌, true, false, [], ◌∷◌, ◌++◌, length, take, IfOk, IfSome, IsTrue, ◌↔◌, MatchResult};
-ghost use Rattle.crossbeam_channel.specs.Claims.{view, IsSeatAt};
-ghost use Rattle.crossbeam_channel.specs.Ends.{sends_on, receives_on};
 ghost use Rattle.site_threads.specs.Desks.{is_spent, fault_job};
 ghost use Rattle.site_threads.specs.Jobs.{option_items};
 ghost use Rattle.site_threads.specs.Ends.{puts, takes, hears, tells, IsDesk, IsOut, IsUnused, AreEnds, AreFirst, SameDesk, SameOut, SendsReceipt};
@@ -130,7 +128,8 @@ pub struct DeskOut {
     /// Whether this end counts the desk as gone, so that no job comes from it any more: as many were taken as there can
     /// be, or the channel reported that the other end was dropped, and that no job is left.
     pub gone: bool,
-    /// Whether the channel reported, as a receipt was to be sent, that the other end was dropped: none is sent any more.
+    /// Whether the channel reported, as a receipt was to be sent, that the other end was dropped: none is sent any
+    /// more.
     pub dropped: bool,
 }
 
@@ -288,8 +287,8 @@ impl DeskOut {
     }
 }
 
-/// How many jobs were taken from a desk: the first ones that were put. The receipts that came from it are the first ones
-/// that were sent.
+/// How many jobs were taken from a desk: the first ones that were put. The receipts that came from it are the first
+/// ones that were sent.
 pub fn taken_of(desk: Desk, out: DeskOut) -> u64
     requires { IsDesk desk × IsOut out × AreEnds desk out }
     ensures taken { (result ≡ length (takes out)) × (takes out ≡ take result (puts desk)) }

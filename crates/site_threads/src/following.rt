@@ -1,7 +1,7 @@
 //! Marking a step on the wire.
 ghost use Rattle.std.specs.Prelude.{◌≡◌, ◌↔◌, IsTrue, IfSome, MatchOption, option_map};
 ghost use Rattle.wire_core.specs.Seats.{IsSeatOf};
-ghost use Rattle.site_threads.specs.Keepers.{shown_in};
+ghost use Rattle.site_threads.specs.Keepers.{shown_if};
 ghost use Rattle.site_threads.specs.Running.{MarksChange, MayFollow, Follows};
 ghost use Rattle.site_threads.specs.Stamps.{stamp};
 
@@ -42,13 +42,13 @@ pub fn follow_shown<K: SiteKeeper>(
     input: &Snapshot<SiteInput>,
 ) -> Stamp
     requires seat { IsSeatOf wire.now seat.old }
-    requires may { IfSome (shown_in K.shown keeper.now)
+    requires may { IfSome (shown_if K.shown keeper.now)
         (MayFollow seat.old.logs kept input.now.value) }
     ensures seat { IsSeatOf wire.now seat.new }
-    ensures follows { MatchOption (shown_in K.shown keeper.now)
+    ensures follows { MatchOption (shown_if K.shown keeper.now)
         ((result ≡ kept) × (seat.new.logs ≡ seat.old.logs))
         (λ r. (result ≡ stamp r) × Follows seat.old.logs r seat.new.logs) }
-    ensures marks { IfSome (shown_in K.shown keeper.now)
+    ensures marks { IfSome (shown_if K.shown keeper.now)
         (λ r. MarksChange seat.old.logs input.now.value r seat.new.logs) }
 {
     match view_of(keeper) {
@@ -59,7 +59,7 @@ pub fn follow_shown<K: SiteKeeper>(
 
 /// The record that a keeper shows.
 pub fn view_of<K: SiteKeeper>(keeper: &Option<K>) -> Option<&SiteState>
-    ensures { option_map (λ r. r.now) result ≡ shown_in K.shown keeper.now }
+    ensures { option_map (λ r. r.now) result ≡ shown_if K.shown keeper.now }
 {
     match keeper {
         None => None,

@@ -2,7 +2,6 @@
 ghost use Rattle.std.specs.Prelude.{◌≡◌, ◌↔◌, ◌≤◌, All, IsTrue, cond, is_ok, length, take};
 ghost use Rattle.site_threads.specs.Ends.{hears, puts, IsDesk, AreEnds, AreFirst};
 ghost use Rattle.site_threads.specs.Gathering.{IsConfirmed, FitsEnd};
-ghost use Rattle.site_threads.specs.Inputs.{input_of};
 ghost use Rattle.site_threads.specs.Jobs.{IsEntered, entry_of, is_stop, jobs_in, receipts_in, stops_in};
 
 use crate::desks::{Desk, taken_of};
@@ -88,8 +87,8 @@ impl RunLog {
         stops_among(self.entries.as_slice())
     }
 
-    /// How many jobs of a desk stand in the list: the first ones that were put. The receipts that came from the desk are
-    /// the first of those of the list's jobs, so that each of them is confirmed.
+    /// How many jobs of a desk stand in the list: the first ones that were put. The receipts that came from the desk
+    /// are the first of those of the list's jobs, so that each of them is confirmed.
     pub fn settle(self, desk: Desk) -> u64
         requires desk { IsDesk desk × AreEnds desk self.out }
         requires jobs { FitsEnd self }

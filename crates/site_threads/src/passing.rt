@@ -6,7 +6,7 @@ ghost use Rattle.scholten_core.specs.Engagement.{Engagement};
 ghost use Rattle.site_core.specs.declared.inputs.SiteInput.TheVariants.{Deliver};
 ghost use Rattle.wire_core.specs.Answers.{MatchPost};
 ghost use Rattle.site_threads.specs.Answering.{Delivers};
-ghost use Rattle.site_threads.specs.Keepers.{shown_in};
+ghost use Rattle.site_threads.specs.Keepers.{shown_if};
 ghost use Rattle.site_threads.specs.Offers.{IsFor, IsRound, message_of, next_to, offer_of, owed_by};
 ghost use Rattle.site_threads.specs.Passing.{DeliversNoted, EntersFrames, OwesNoted, PassNothing, PostsNothing, PostsToEach, TakesNothing, TakesOfEach, incoming, owed_in};
 ghost use Rattle.site_threads.specs.Running.{marks_in, MayDeliver};
@@ -103,13 +103,13 @@ impl<K: SiteKeeper, G: Gate> RunningSite<'_, K, G> {
     /// Applies a frame that was taken, and enters it. What became of it.
     fn enter(&mut self, frame: Frame) -> Received
         requires few { marks_in self.old.seat.logs < 2 ^ 62 }
-        requires open { IsSome (shown_in K.shown self.old.keeper) }
+        requires open { IsSome (shown_if K.shown self.old.keeper) }
         requires noted { MayDeliver (Deliver frame) self.old.seat.logs }
         requires room { 0 < self.old.room }
         ensures same { Continues K.stored 1 self.old self.new }
         ensures owed { self.new.owed ≡ self.old.owed }
-        ensures frames { EntersFrames (is_some (shown_in K.shown self.old.keeper))
-            (is_some (shown_in K.shown self.new.keeper)) (frame ∷ []) self.old.entries
+        ensures frames { EntersFrames (is_some (shown_if K.shown self.old.keeper))
+            (is_some (shown_if K.shown self.new.keeper)) (frame ∷ []) self.old.entries
             self.new.entries result.entered result.lost }
         ensures passes { PassNothing self.old self.new }
         ensures delivered { (noted : List Frame) (came : List Frame) → came ≡ noted ++ frame ∷ []
@@ -123,8 +123,8 @@ impl<K: SiteKeeper, G: Gate> RunningSite<'_, K, G> {
         count_entered(taken)
     }
 
-    /// Offers the site of this number the frame that the record has for it, if it is another; the frame is posted unless
-    /// the mailbox is full. What became of it. Nothing is offered while the keeper is closed.
+    /// Offers the site of this number the frame that the record has for it, if it is another; the frame is posted
+    /// unless the mailbox is full. What became of it. Nothing is offered while the keeper is closed.
     fn send(&mut self, number: u64) -> Given
         requires there { (number < self.old.wire.sites) × (number < MAX_SITES) }
         ensures same { Continues K.stored 0 self.old self.new }
@@ -209,10 +209,10 @@ impl<K: SiteKeeper, G: Gate> RunningSite<'_, K, G> {
 
 /// The number of the next message for a site of the record that is shown.
 fn next_message<K: SiteKeeper>(keeper: &Option<K>, round: &mut Round, to: SiteNo) -> Option<u64>
-    requires round { IfSome (shown_in K.shown keeper.now) (λ r. IsRound r.engagement to round.old) }
+    requires round { IfSome (shown_if K.shown keeper.now) (λ r. IsRound r.engagement to round.old) }
     ensures next { result ≡ option_and_then (λ r. next_to r.engagement to round.old.place)
-        (shown_in K.shown keeper.now) }
-    ensures round { (e : Engagement) → IfSome (shown_in K.shown keeper.now) (λ r. r.engagement ≡ e)
+        (shown_if K.shown keeper.now) }
+    ensures round { (e : Engagement) → IfSome (shown_if K.shown keeper.now) (λ r. r.engagement ≡ e)
         → IsRound e to round.old → IsRound e to round.new }
     ensures place { round.new.place ≡ round.old.place }
 {

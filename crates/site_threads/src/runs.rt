@@ -3,7 +3,7 @@ ghost use Rattle.std.specs.Prelude.{◌≡◌, ◌↔◌, ◌+◌, ◌-◌, ◌+
 ghost use Rattle.std.specs.List.{AllZip, list_all};
 ghost use Rattle.site_threads.specs.Ends.{takes, tells, IsOut, SameOut};
 ghost use Rattle.site_threads.specs.Jobs.{option_items};
-ghost use Rattle.site_threads.specs.Keepers.{shown_in};
+ghost use Rattle.site_threads.specs.Keepers.{shown_if};
 ghost use Rattle.site_threads.specs.Resting.{HaveEnded, IsAtRest, IsDone};
 ghost use Rattle.site_threads.specs.Runs.{IsReady, SameRun, EndedBy, IsBetween, IsSliced, Ran, goes_on};
 ghost use Rattle.site_threads.specs.Running.{marks_in};
@@ -176,7 +176,7 @@ impl<K: SiteKeeper, G: Gate> RunningSite<'_, K, G> {
         ensures turns { self.new.turns ≡ self.old.turns }
         ensures done { IsDone K.shown self.old.keeper self.old.out self.old.pending
             → IsDone K.shown self.new.keeper self.new.out self.new.pending }
-        ensures open { self.new.fault ≡ None → IsSome (shown_in K.shown self.new.keeper) }
+        ensures open { self.new.fault ≡ None → IsSome (shown_if K.shown self.new.keeper) }
         ensures why { IfSome self.new.fault (EndedBy K.shown K.reopens G.gives_up self.new) }
     {
         self.ended = true;

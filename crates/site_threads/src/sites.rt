@@ -7,7 +7,7 @@ ghost use Rattle.wire_core.specs.Seats.{IsSeatOf};
 ghost use Rattle.site_threads.specs.Answering.{DoesJob, IsShort, Opened, AnsweredStep};
 ghost use Rattle.site_threads.specs.Ends.{IsOut};
 ghost use Rattle.site_threads.specs.Jobs.{entry_of, is_stop, open_after, option_items};
-ghost use Rattle.site_threads.specs.Keepers.{shown_in, may_in};
+ghost use Rattle.site_threads.specs.Keepers.{shown_if, may_if};
 ghost use Rattle.site_threads.specs.Parting.{HasKeeper, LeavesList};
 ghost use Rattle.site_threads.specs.Passing.{PassNothing};
 ghost use Rattle.site_threads.specs.Running.{MayDeliver, marks_in};
@@ -36,9 +36,9 @@ use wire_core::{Seat, Wire};
 /// A running site: its keeper, the seat that holds it alone, the list of its steps, the gate to its turns, and the desk
 /// that it takes its jobs from.
 ///
-/// Between any two calls its seat is one of its wire, the steps lead to the record last marked, and that is the one that
-/// the keeper shows; or the keeper is closed since the last step, and may be opened in that record or in the one after
-/// it.
+/// Between any two calls its seat is one of its wire, the steps lead to the record last marked, and that is the one
+/// that the keeper shows; or the keeper is closed since the last step, and may be opened in that record or in the one
+/// after it.
 #[derive(Drop)]
 pub struct RunningSite<'w, K: SiteKeeper, G: Gate> {
     /// The wire that it is at.
@@ -95,8 +95,8 @@ impl<'w, K: SiteKeeper, G: Gate> Model for RunningSite<'w, K, G> {
 }
 
 impl<'w, K: SiteKeeper, G: Gate> RunningSite<'w, K, G> {
-    /// The site `me`, which the seat holds alone, with its keeper, open in the record last marked, the gate to its turns,
-    /// and its end of a desk. Its list of steps is empty. Does not allocate.
+    /// The site `me`, which the seat holds alone, with its keeper, open in the record last marked, the gate to its
+    /// turns, and its end of a desk. Its list of steps is empty. Does not allocate.
     pub fn new(
         alloc: Global,
         wire: &'w Wire,
@@ -178,7 +178,7 @@ impl<'w, K: SiteKeeper, G: Gate> RunningSite<'w, K, G> {
 
     /// The record that the keeper shows. `None` while it is closed.
     pub fn view(&self) -> Option<&SiteState>
-        ensures { option_map (λ r. r.now) result ≡ shown_in K.shown self.now.keeper }
+        ensures { option_map (λ r. r.now) result ≡ shown_if K.shown self.now.keeper }
     {
         view_of(&self.keeper)
     }
@@ -192,11 +192,11 @@ impl<'w, K: SiteKeeper, G: Gate> RunningSite<'w, K, G> {
         ensures same { Continues K.stored 1 self.old self.new }
         ensures entries { self.new.entries ≡ self.old.entries }
         ensures passes { PassNothing self.old self.new }
-        ensures open { IfOk result (λ _. IsSome (shown_in K.shown self.new.keeper)) }
+        ensures open { IfOk result (λ _. IsSome (shown_if K.shown self.new.keeper)) }
         ensures opened { IfOk result (λ _. Opened K.shown K.reopens self.old.keeper
             self.new.keeper) }
-        ensures stays { (r : Record) → shown_in K.shown self.old.keeper ≡ Some r
-            → shown_in K.shown self.new.keeper ≡ Some r }
+        ensures stays { (r : Record) → shown_if K.shown self.old.keeper ≡ Some r
+            → shown_if K.shown self.new.keeper ≡ Some r }
         ensures closed { IfErr result (λ fault. HindersOpening fault
             × IsRefused K.shown K.reopens fault self.old.keeper self.new.keeper) }
     {
@@ -237,7 +237,7 @@ impl<'w, K: SiteKeeper, G: Gate> RunningSite<'w, K, G> {
     /// What was to be kept, where there is no memory: nothing was done.
     pub(crate) fn take_in(&mut self, input: SiteInput, asked: Asked) -> Result<Reply, Asked>
         requires few { marks_in self.old.seat.logs < 2 ^ 62 }
-        requires open { IsSome (shown_in K.shown self.old.keeper) }
+        requires open { IsSome (shown_if K.shown self.old.keeper) }
         requires asked { asked ≡ input }
         requires noted { MayDeliver input self.old.seat.logs }
         requires room { 0 < self.old.room }
@@ -246,12 +246,12 @@ impl<'w, K: SiteKeeper, G: Gate> RunningSite<'w, K, G> {
             (record { number = length self.old.entries + 1; input = asked; reply = reply }) ∷ []) }
         ensures told { IfOk result (λ reply. AnsweredStep K.shown K.may K.applies self.old.keeper
             input reply self.new.keeper) }
-        ensures stopped { IfOk result (λ reply. is_some (shown_in K.shown self.new.keeper) ≡ not
+        ensures stopped { IfOk result (λ reply. is_some (shown_if K.shown self.new.keeper) ≡ not
             (is_stop reply)) }
         ensures passes { PassNothing self.old self.new }
         ensures owed { self.new.owed ≡ self.old.owed }
         ensures back { IfErr result (λ back. (back ≡ asked) × (self.new.entries ≡ self.old.entries)
-            × (shown_in K.shown self.new.keeper ≡ shown_in K.shown self.old.keeper)) }
+            × (shown_if K.shown self.new.keeper ≡ shown_if K.shown self.old.keeper)) }
         ensures short { IfErr result (λ _. IsShort K.shown K.may K.applies self.old.keeper input
             self.new.keeper) }
     {
@@ -283,7 +283,7 @@ impl<'w, K: SiteKeeper, G: Gate> RunningSite<'w, K, G> {
     /// The job, where there is no memory: nothing was done.
     pub(crate) fn do_job(&mut self, ready: Option<Ready>) -> Result<Option<Receipt>, Job>
         requires few { marks_in self.old.seat.logs < 2 ^ 62 }
-        requires open { IsSome (shown_in K.shown self.old.keeper) }
+        requires open { IsSome (shown_if K.shown self.old.keeper) }
         requires room { 0 < self.old.room }
         ensures same { Continues K.stored 1 self.old self.new }
         ensures job { IfOk result (λ receipt.
@@ -294,11 +294,11 @@ impl<'w, K: SiteKeeper, G: Gate> RunningSite<'w, K, G> {
         ensures told { IfOk result (λ receipt. DoesJob K.shown K.may K.applies self.old.keeper
             receipt self.new.keeper) }
         ensures stopped { IfOk result (λ receipt. is_some
-            (shown_in K.shown self.new.keeper) ≡ open_after receipt) }
+            (shown_if K.shown self.new.keeper) ≡ open_after receipt) }
         ensures passes { PassNothing self.old self.new }
         ensures back { IfErr result (λ job. (Some job ≡ option_map (λ x. x.job) ready)
             × (self.new.entries ≡ self.old.entries)
-            × (shown_in K.shown self.new.keeper ≡ shown_in K.shown self.old.keeper)) }
+            × (shown_if K.shown self.new.keeper ≡ shown_if K.shown self.old.keeper)) }
     {
         let Some(ready) = ready else {
             return Ok(None);
@@ -329,12 +329,12 @@ impl<'w, K: SiteKeeper, G: Gate> RunningSite<'w, K, G> {
 
 /// A step of an open keeper.
 fn apply_to<K: SiteKeeper>(keeper: &mut Option<K>, input: SiteInput) -> Result<Effects, KeepFault>
-    requires { IsSome (shown_in K.shown keeper.old) }
-    ensures step { (old : Record) → shown_in K.shown keeper.old ≡ Some old
-        → Applies old input result (shown_in K.shown keeper.new) (may_in K.may keeper.new) }
+    requires { IsSome (shown_if K.shown keeper.old) }
+    ensures step { (old : Record) → shown_if K.shown keeper.old ≡ Some old
+        → Applies old input result (shown_if K.shown keeper.new) (may_if K.may keeper.new) }
     ensures asked { (k : K) → keeper.old ≡ Some k → (left : K) × (keeper.new ≡ Some left)
         × K.applies k input result left }
-    ensures memory { (r : Record) → shown_in K.shown keeper.old ≡ Some r
+    ensures memory { (r : Record) → shown_if K.shown keeper.old ≡ Some r
         → result ≡ Err KeepFault.NoMemory → CopiesRecord r input }
     ensures there { IsSome keeper.new }
     ensures stored { IfSome keeper.old K.stored → IfSome keeper.new K.stored }

@@ -3,7 +3,7 @@ ghost use Rattle.std.specs.Prelude.{◌≡◌, ◌+◌, ◌++◌, ◌^◌, ◌<�
 ghost use Rattle.site_core.specs.Records.{Record};
 ghost use Rattle.site_threads.specs.Answering.{Delivers, DoesJob, Opened};
 ghost use Rattle.site_threads.specs.Jobs.{entry_of, jobs_in, option_items, receipts_in};
-ghost use Rattle.site_threads.specs.Keepers.{shown_in};
+ghost use Rattle.site_threads.specs.Keepers.{shown_if};
 ghost use Rattle.site_threads.specs.Passing.{AnswersInTurn, PassNothing, PostsAfterTaking, TakesAfterJob, incoming};
 ghost use Rattle.site_threads.specs.Running.{marks_in};
 ghost use Rattle.site_threads.specs.Sites.{Continues, at_next_turn};
@@ -57,13 +57,13 @@ impl<K: SiteKeeper, G: Gate> RunningSite<'_, K, G> {
     /// One turn: the site does the job, asks each other site once, in the order of their numbers, takes at most one
     /// frame from each, and posts at most one to each. It waits for nobody.
     ///
-    /// A frame that is taken is entered, or counted as lost where its step found no memory. To each other site it offers
-    /// the signal of the message that it took from there in this turn, where that may be sent; else its next message for
-    /// that site: the one of the least number behind the message posted there last, and where there is none, the one of
-    /// the least number of all. Where memory runs out for the copy of such a frame, it isn't offered, and is counted. A
-    /// frame that is offered is posted, unless the last one that went that way still lies in its mailbox. A step in
-    /// which the site stops is the last one of the turn: from then on nobody is asked, no frame is taken, and none is
-    /// offered.
+    /// A frame that is taken is entered, or counted as lost where its step found no memory. To each other site it
+    /// offers the signal of the message that it took from there in this turn, where that may be sent; else its next
+    /// message for that site: the one of the least number behind the message posted there last, and where there is
+    /// none, the one of the least number of all. Where memory runs out for the copy of such a frame, it isn't offered,
+    /// and is counted. A frame that is offered is posted, unless the last one that went that way still lies in its
+    /// mailbox. A step in which the site stops is the last one of the turn: from then on nobody is asked, no frame is
+    /// taken, and none is offered.
     ///
     /// First the gate is asked, and a closed keeper is opened again. Each step is marked on the wire after its keeper
     /// answered it and before a frame is posted; as the turn returns, the record last marked is the one that the keeper
@@ -91,7 +91,7 @@ impl<K: SiteKeeper, G: Gate> RunningSite<'_, K, G> {
             × (self.new.entries ≡ self.old.entries)
             × PassNothing self.old self.new) }
         ensures unchanged { IfErr result (λ fault. (r : Record)
-            → shown_in K.shown self.old.keeper ≡ Some r → shown_in K.shown self.new.keeper ≡ Some
+            → shown_if K.shown self.old.keeper ≡ Some r → shown_if K.shown self.new.keeper ≡ Some
             r) }
         ensures why { IfErr result (λ fault. HindersTurn K.shown K.reopens G.gives_up fault.cause
             self.old.gate self.new.me self.new.turns self.old.keeper self.new.keeper) }
@@ -121,11 +121,11 @@ impl<K: SiteKeeper, G: Gate> RunningSite<'_, K, G> {
         ensures same { Continues K.stored 1 (at_next_turn self.old) self.new }
         ensures entries { self.new.entries ≡ self.old.entries }
         ensures passes { PassNothing self.old self.new }
-        ensures open { IfOk result (λ _. IsSome (shown_in K.shown self.new.keeper)) }
+        ensures open { IfOk result (λ _. IsSome (shown_if K.shown self.new.keeper)) }
         ensures opened { IfOk result (λ _. Opened K.shown K.reopens self.old.keeper
             self.new.keeper) }
-        ensures stays { (r : Record) → shown_in K.shown self.old.keeper ≡ Some r
-            → shown_in K.shown self.new.keeper ≡ Some r }
+        ensures stays { (r : Record) → shown_if K.shown self.old.keeper ≡ Some r
+            → shown_if K.shown self.new.keeper ≡ Some r }
         ensures why { IfErr result (λ cause. HindersTurn K.shown K.reopens G.gives_up cause
             self.old.gate self.new.me self.new.turns self.old.keeper self.new.keeper) }
     {
@@ -142,7 +142,7 @@ impl<K: SiteKeeper, G: Gate> RunningSite<'_, K, G> {
     /// What a turn continues with: the job, and the frames.
     fn go_on(&mut self, ready: Option<Ready>) -> Result<TurnReport, TurnFault>
         requires few { marks_in self.old.seat.logs < 2 ^ 61 + 1 }
-        requires open { IsSome (shown_in K.shown self.old.keeper) }
+        requires open { IsSome (shown_if K.shown self.old.keeper) }
         requires room { self.old.wire.sites + 1 ≤ self.old.room }
         ensures same { Continues K.stored 17 self.old self.new }
         ensures job { IfOk result (λ report. (option_map (λ x. x.job) report.receipt ≡ option_map
@@ -159,7 +159,7 @@ impl<K: SiteKeeper, G: Gate> RunningSite<'_, K, G> {
         ensures back { IfErr result (λ fault. (fault.job ≡ option_map (λ x. x.job) ready)
             × (self.new.entries ≡ self.old.entries)
             × PassNothing self.old self.new × (fault.cause ≡ TurnCause.NoMemory)
-            × (shown_in K.shown self.new.keeper ≡ shown_in K.shown self.old.keeper)) }
+            × (shown_if K.shown self.new.keeper ≡ shown_if K.shown self.old.keeper)) }
     {
         match self.do_job(ready) {
             Err(job) => Err(TurnFault {

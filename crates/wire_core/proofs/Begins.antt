@@ -12,7 +12,7 @@ use Rattle.wire_core.specs.declared.views.Log.{Log}
 use Rattle.wire_core.specs.declared.views.View.{View}
 use Rattle.wire_core.specs.Fitting.{RecordsFit}
 use Rattle.wire_core.specs.Mailboxes.{empty, Mailbox, word_of, slot_of}
-use Rattle.wire_core.specs.Rule.{AreAnswered, Ruled, Knows, records, opening_log, logs_from, first_view, world_up}
+use Rattle.wire_core.specs.Rule.{AreAnswered, Ruled, Knows, last_records, opening_log, logs_from, first_view, world_up}
 use Rattle.wire_core.proofs.Lists.{within, at_Contains, Contains_at}
 
 module _ {A : Type 0} where
@@ -26,7 +26,7 @@ fresh [] site i e at = absurd (some-ne-none e (sym at))
 fresh (r ∷ rs) site zero e at = (r, sym (some-injective _ e at) ∙ ap (λ k. opening_log k r) (let x : site ≡ site + 0 = omega arith in x))
 fresh (r ∷ rs) site (suc i) e at = let o = fresh rs (site + 1) i e at in (o.0, o.1 ∙ ap (λ k. opening_log k o.0) (let x : site + 1 + i ≡ site + suc i = omega arith in x))
 
-all_records : (rs : List Record) (site : ℕ) → records (logs_from site rs) ≡ rs
+all_records : (rs : List Record) (site : ℕ) → last_records (logs_from site rs) ≡ rs
 all_records [] site = refl
 all_records (r ∷ rs) site = ap (λ (l : List Record). r ∷ l) (all_records rs (site + 1))
 

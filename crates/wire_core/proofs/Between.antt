@@ -10,7 +10,7 @@ use Rattle.wire_core.specs.declared.views.Log.{Log}
 use Rattle.wire_core.specs.Between.{IsKnown, StandsInOneSeat, ShowsTheWay, WasSentBy, HoldsBetween}
 use Rattle.wire_core.specs.Laws.{RuleHoldsBetween}
 use Rattle.wire_core.specs.Mailboxes.{Phase, empty, writing, full, reading, number, home, Between}
-use Rattle.wire_core.specs.Rule.{Ruled, records, frames}
+use Rattle.wire_core.specs.Rule.{Ruled, last_records, frames}
 use Rattle.wire_core.proofs.Boxes.{Table}
 use Rattle.wire_core.proofs.Closing.{numbered}
 use Rattle.wire_core.proofs.Lists.{there, within, one_there, at_Contains, from_flat}
@@ -86,7 +86,7 @@ module _ (rs : List Record) (s : Table) (h : Ruled rs s) where
       numbered 0 (length rs) h.0 h.2 (λ k e at. h.4.own k e at ∙ (let z : k ≡ 0 + k = omega arith in z)),
       (λ e c. let p = at_Contains h.0 e c in known p.0 e p.1),
       h.5.run,
-      up_fits (records h.0) (frames h.0) (run_fits rs h.0 h.5.run),
+      up_fits (last_records h.0) (frames h.0) (run_fits rs h.0 h.5.run),
     );
   }
 

@@ -14,10 +14,10 @@ use Rattle.world_core.specs.Turns.{addressee}
 use Rattle.wire_core.specs.declared.views.Log.{Log}
 use Rattle.wire_core.specs.Answers.{Holds, MayPost, MayTake, MayMark}
 use Rattle.wire_core.specs.Changes.{pick, on, asks, offers, sends, receives, marks, below, from}
-use Rattle.wire_core.specs.Playing.{MayPlay, PlaysAt, SameSites, MayBePosted, MayGoOn, IsNext, PlaysOn, HasNoted, Leaves}
+use Rattle.wire_core.specs.Playing.{MayPlay, PlaysAt, SameSites, MayBePosted, MayGoOn, IsNext, PlaysOn, HasNoted, MarksNothing}
 use Rattle.wire_core.specs.Rule.{logs_from}
 use Rattle.wire_core.specs.Seats.{Line, SeatView, IsSeatOf, HoldsAll}
-use Rattle.wire_core.specs.Standing.{StandsAs}
+use Rattle.wire_core.specs.Standing.{WasLastMarked}
 use Rattle.wire_core.proofs.Changes.{same_sites}
 use Rattle.wire_core.proofs.Lists.{there, Contains_at, Contains_map, map_Contains, index_is}
 use Rattle.wire_core.proofs.Standing.{asked_sites_mark_nothing, offered_frames_mark_nothing, sent_frames_mark_nothing, noted_frames_mark_nothing, marks_put_the_record, marks_leave_other_sites}
@@ -39,28 +39,28 @@ may_post w s r f p b = record {
 pub may_take : (w : Line) (s : SeatView) (r : Record) (other : ℕ) → MayPlay w s r → other ≢ r.engagement.me → other < 2 → MayTake w.sites r.engagement.me other s.logs
 may_take w s r other p apart small = record { held = (p.stands.log, p.stands.held, p.stands.site); apart = apart; there = subst (λ k. other < k) (sym p.two) small }
 
-pub leaves_itself : (logs : List Log) → Leaves logs logs
+pub leaves_itself : (logs : List Log) → MarksNothing logs logs
 leaves_itself logs = record { sites = refl; stand = λ r n s. s }
 
-pub left_by_post : (logs new : List Log) (site : ℕ) (f : Frame) → new ≡ on site (sends f) logs → Leaves logs new
-left_by_post logs new site f is = subst (Leaves logs) (sym is) record { sites = same_sites site (sends f) (λ e. refl) logs; stand = λ r n s. sent_frames_mark_nothing logs site f r n s }
+pub left_by_post : (logs new : List Log) (site : ℕ) (f : Frame) → new ≡ on site (sends f) logs → MarksNothing logs new
+left_by_post logs new site f is = subst (MarksNothing logs) (sym is) record { sites = same_sites site (sends f) (λ e. refl) logs; stand = λ r n s. sent_frames_mark_nothing logs site f r n s }
 
-pub left_by_offer : (logs new : List Log) (site : ℕ) (f : Frame) → new ≡ on site (offers f) logs → Leaves logs new
-left_by_offer logs new site f is = subst (Leaves logs) (sym is) record { sites = same_sites site (offers f) (λ e. refl) logs; stand = offered_frames_mark_nothing logs site f }
+pub left_by_offer : (logs new : List Log) (site : ℕ) (f : Frame) → new ≡ on site (offers f) logs → MarksNothing logs new
+left_by_offer logs new site f is = subst (MarksNothing logs) (sym is) record { sites = same_sites site (offers f) (λ e. refl) logs; stand = offered_frames_mark_nothing logs site f }
 
-pub left_by_take : (logs new : List Log) (site other : ℕ) (f : Frame) → new ≡ on site (receives other f) logs → Leaves logs new
-left_by_take logs new site other f is = subst (Leaves logs) (sym is) record { sites = same_sites site (receives other f) (λ e. refl) logs; stand = λ r n s. noted_frames_mark_nothing logs site other f r n s }
+pub left_by_take : (logs new : List Log) (site other : ℕ) (f : Frame) → new ≡ on site (receives other f) logs → MarksNothing logs new
+left_by_take logs new site other f is = subst (MarksNothing logs) (sym is) record { sites = same_sites site (receives other f) (λ e. refl) logs; stand = λ r n s. noted_frames_mark_nothing logs site other f r n s }
 
-pub left_by_asking : (logs new : List Log) (site other : ℕ) → new ≡ on site (asks other) logs → Leaves logs new
-left_by_asking logs new site other is = subst (Leaves logs) (sym is) record { sites = same_sites site (asks other) (λ e. refl) logs; stand = asked_sites_mark_nothing logs site other }
+pub left_by_asking : (logs new : List Log) (site other : ℕ) → new ≡ on site (asks other) logs → MarksNothing logs new
+left_by_asking logs new site other is = subst (MarksNothing logs) (sym is) record { sites = same_sites site (asks other) (λ e. refl) logs; stand = asked_sites_mark_nothing logs site other }
 
-pub leaves_both : (old mid new : List Log) → Leaves old mid → Leaves mid new → Leaves old new
+pub leaves_both : (old mid new : List Log) → MarksNothing old mid → MarksNothing mid new → MarksNothing old new
 leaves_both old mid new l m = record { sites = m.sites ∙ l.sites; stand = λ r n s. m.stand r n (l.stand r n s) }
 
-pub still_may : (w : Line) (s t : SeatView) (r : Record) → MayPlay w s r → IsSeatOf w t → Leaves s.logs t.logs → MayPlay w t r
+pub still_may : (w : Line) (s t : SeatView) (r : Record) → MayPlay w s r → IsSeatOf w t → MarksNothing s.logs t.logs → MayPlay w t r
 still_may w s t r p seat l = record { seat = seat; two = p.two; count = p.count; stands = l.stand r p.count p.stands; room = p.room }
 
-pub still_holds : (old new : List Log) (site : ℕ) → Leaves old new → Holds site old → Holds site new
+pub still_holds : (old new : List Log) (site : ℕ) → MarksNothing old new → Holds site old → Holds site new
 still_holds old new site l holds =
     let c = subst (λ (k : List ℕ). Contains k holds.0.site) (sym l.sites) (Contains_map (λ (e : Log). e.site) old holds.0 holds.1) in
     let p = map_Contains (λ (e : Log). e.site) new holds.0.site c in
@@ -89,7 +89,7 @@ may_mark w s r next input may is = record {
 }
 
 -- one more mark may be counted
-pub counted : (logs : List Log) (r : Record) (n : ℕ) → StandsAs logs r n → StandsAs logs r (n + 1)
+pub counted : (logs : List Log) (r : Record) (n : ℕ) → WasLastMarked logs r n → WasLastMarked logs r (n + 1)
 counted logs r n s = record { log = s.log; held = s.held; site = s.site; last = s.last; marked = let m = s.marked in omega arith }
 
 -- a site that stays, that took a frame, and that was marked
@@ -105,16 +105,16 @@ goes_on old new r next input same is = subst (λ l. PlaysOn old l r next) (sym i
 }
 
 -- the frame that was taken is noted
-pub may_go_on : (w : Line) (s t : SeatView) (r : Record) (f : Frame) → MayPlay w s r → IsSeatOf w t → Leaves s.logs t.logs → HasNoted r.engagement.me f t.logs → MayGoOn w t r (Deliver f)
+pub may_go_on : (w : Line) (s t : SeatView) (r : Record) (f : Frame) → MayPlay w s r → IsSeatOf w t → MarksNothing s.logs t.logs → HasNoted r.engagement.me f t.logs → MayGoOn w t r (Deliver f)
 may_go_on w s t r f p seat l noted =
     let stands = l.stand r p.count p.stands in
     record { seat = seat; count = p.count; stands = stands; noted = λ g same. let eq : f ≡ g = cc in subst (Contains stands.log.noted) eq (noted stands.log stands.held stands.site); room = p.room }
 
 -- and then the step is done
-pub took : (old mid new : List Log) (r next : Record) → Leaves old mid → PlaysOn mid new r next → PlaysOn old new r next
+pub took : (old mid new : List Log) (r next : Record) → MarksNothing old mid → PlaysOn mid new r next → PlaysOn old new r next
 took old mid new r next l g = record { sites = g.sites ∙ l.sites; same = g.same; stands = λ n s. g.stands n (l.stand r n s); others = λ q n other s. g.others q n other (l.stand q n s) }
 
-pub stays : (old new : List Log) (r : Record) → Leaves old new → PlaysOn old new r r
+pub stays : (old new : List Log) (r : Record) → MarksNothing old new → PlaysOn old new r r
 stays old new r l = took old new new r r l (goes_nowhere new r)
 
 -- One site after another.
@@ -122,7 +122,7 @@ stays old new r l = took old new new r r l (goes_nowhere new r)
 pub may_play : (n : ℕ) (w : Line) (s : SeatView) (r : Record) → PlaysAt n w s r → n < 2 ^ 62 → MayPlay w s r
 may_play n w s r p small = record { seat = p.seat; two = p.two; count = n; stands = p.stands; room = small }
 
-pub still_plays : (n : ℕ) (w : Line) (s t : SeatView) (r : Record) → PlaysAt n w s r → IsSeatOf w t → Leaves s.logs t.logs → PlaysAt n w t r
+pub still_plays : (n : ℕ) (w : Line) (s t : SeatView) (r : Record) → PlaysAt n w s r → IsSeatOf w t → MarksNothing s.logs t.logs → PlaysAt n w t r
 still_plays n w s t r p seat l = record { seat = seat; two = p.two; stands = l.stand r n p.stands }
 
 pub plays_on : (n : ℕ) (w : Line) (s t : SeatView) (r next : Record) → PlaysAt n w s r → IsSeatOf w t → PlaysOn s.logs t.logs r next → PlaysAt (n + 1) w t next
@@ -133,24 +133,24 @@ other_plays n w s t r q next p apart seat g = record { seat = seat; two = p.two;
 
 -- at the start
 pub first_plays : (w : Line) (s : SeatView) (a b : Record) → IsSeatOf w s → w.sites ≡ 2 → s.logs ≡ logs_from 0 (a ∷ b ∷ []) → a.engagement.me ≡ 0 → PlaysAt 0 w s a
-first_plays w s a b seat two is me = record { seat = seat; two = two; stands = subst (λ l. StandsAs l a 0) (sym is) record { log = _; held = (0, omega arith, refl); site = sym me; last = refl; marked = omega arith } }
+first_plays w s a b seat two is me = record { seat = seat; two = two; stands = subst (λ l. WasLastMarked l a 0) (sym is) record { log = _; held = (0, omega arith, refl); site = sym me; last = refl; marked = omega arith } }
 
 pub second_plays : (w : Line) (s : SeatView) (a b : Record) → IsSeatOf w s → w.sites ≡ 2 → s.logs ≡ logs_from 0 (a ∷ b ∷ []) → b.engagement.me ≡ 1 → PlaysAt 0 w s b
-second_plays w s a b seat two is me = record { seat = seat; two = two; stands = subst (λ l. StandsAs l b 0) (sym is) record { log = _; held = (1, omega arith, refl); site = sym me; last = refl; marked = omega arith } }
+second_plays w s a b seat two is me = record { seat = seat; two = two; stands = subst (λ l. WasLastMarked l b 0) (sym is) record { log = _; held = (1, omega arith, refl); site = sym me; last = refl; marked = omega arith } }
 
 -- once the seat is split between them
 pub first_alone : (w : Line) (t : SeatView) (a b : Record) (l : List Log) (cut : ℕ) → IsSeatOf w t → w.sites ≡ 2 → l ≡ logs_from 0 (a ∷ b ∷ []) → cut ≡ 1 → t.logs ≡ below cut l → a.engagement.me ≡ 0 → PlaysAt 0 w t a
 first_alone w t a b l cut seat two all one is me = record {
   seat = seat;
   two = two;
-  stands = subst (λ x. StandsAs x a 0) (sym (is ∙ (λ k. below (one k) (all k)))) record { log = _; held = (0, omega arith, refl); site = sym me; last = refl; marked = omega arith };
+  stands = subst (λ x. WasLastMarked x a 0) (sym (is ∙ (λ k. below (one k) (all k)))) record { log = _; held = (0, omega arith, refl); site = sym me; last = refl; marked = omega arith };
 }
 
 pub second_alone : (w : Line) (t : SeatView) (a b : Record) (l : List Log) (cut : ℕ) → IsSeatOf w t → w.sites ≡ 2 → l ≡ logs_from 0 (a ∷ b ∷ []) → cut ≡ 1 → t.logs ≡ from cut l → b.engagement.me ≡ 1 → PlaysAt 0 w t b
 second_alone w t a b l cut seat two all one is me = record {
   seat = seat;
   two = two;
-  stands = subst (λ x. StandsAs x b 0) (sym (is ∙ (λ k. from (one k) (all k)))) record { log = _; held = (0, omega arith, refl); site = sym me; last = refl; marked = omega arith };
+  stands = subst (λ x. WasLastMarked x b 0) (sym (is ∙ (λ k. from (one k) (all k)))) record { log = _; held = (0, omega arith, refl); site = sym me; last = refl; marked = omega arith };
 }
 
 -- and joined again

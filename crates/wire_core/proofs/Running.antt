@@ -15,6 +15,7 @@ use Rattle.site_core.specs.Steps.{Does}
 use Rattle.site_core.specs.declared.inputs.SiteInput.{SiteInput}
 use Rattle.site_core.specs.declared.inputs.SiteInput.TheVariants as inputs
 use Rattle.site_core.specs.declared.outcomes.Effects.{Effects}
+use Rattle.keeper_core.specs.Keeping.{IsAfter}
 use Rattle.site_recovery.specs.Fit.{Fits}
 use Rattle.site_recovery.specs.Laws.{AreInPlace}
 use Rattle.site_recovery.specs.Looks.{world_of}
@@ -24,7 +25,7 @@ use Rattle.world_core.specs.declared.events.WorldEvent.{WorldEvent}
 use Rattle.world_core.specs.declared.events.WorldEvent.TheVariants.{Step, Send}
 use Rattle.world_core.specs.declared.events.WorldInput.{WorldInput}
 use Rattle.world_core.specs.declared.events.WorldInput.TheVariants.{Capture, Start, Deliver}
-use Rattle.world_core.specs.KeptSteps.{Handed, Answered, Broken, StandsAfter, handed, handed_to, input_told}
+use Rattle.world_core.specs.KeptSteps.{LeadsOn, Handed, Answered, Broken, StandsAfter, handed, handed_to, input_told}
 use Rattle.world_core.specs.Turns.{Runs, Sends, Steps, Turns, TurnsFrom, addressee, frame_at, input_at, input_of_frame, site_of}
 use Rattle.world_core.specs.Worlds.{Standing, Up, Down, WorldState, WorldFits, record_of}
 use Rattle.world_core.proofs.Fitting.{runs_keep_the_fit}
@@ -34,7 +35,7 @@ use Rattle.wire_core.specs.declared.views.Log.{Log}
 use Rattle.wire_core.specs.Fitting.{RecordsFit}
 use Rattle.wire_core.specs.Frames.{sender}
 use Rattle.wire_core.specs.Laws.{RunsFit, RunsStand}
-use Rattle.wire_core.specs.Rule.{AreAnswered, Happened, IsRun, Stands, frames, records, sent_from, world_up}
+use Rattle.wire_core.specs.Rule.{AreAnswered, Happened, IsRun, frames, last_records, sent_from, world_up}
 use Rattle.wire_core.proofs.Fitting.{fewer_fit}
 use Rattle.wire_core.proofs.Lists.{at_Contains, from_flat, map_set_same, within}
 
@@ -57,7 +58,7 @@ fits_up rs sent fit = record { places = subst AreInPlace (up_records rs) fit.pla
 
 -- What was handed.
 
-answered_stands : (handed : List Handed) (inputs : List SiteInput) (opening last : Record) → AreAnswered handed inputs → StandsAfter opening handed last → Stands opening inputs last
+answered_stands : (handed : List Handed) (inputs : List SiteInput) (opening last : Record) → AreAnswered handed inputs → StandsAfter LeadsOn opening handed last → StandsAfter IsAfter opening inputs last
 answered_stands [] [] opening last a s = s
 answered_stands (Answered given effects ∷ rest) (input ∷ inputs) opening last a s = (s.0, (effects, subst (λ (x : SiteInput). Does opening x effects s.0) a.0 s.1), answered_stands rest inputs s.0 last a.1 s.2)
 answered_stands [] (input ∷ inputs) opening last a s = absurd a
@@ -157,21 +158,21 @@ module _ (start : List Record) (logs : List Log) (R : IsRun start logs) where
       let p = from_flat (λ (x : Log). x.sent) logs f c in
       in_sent_from p.0 R.sent f (subst (λ (l : List Frame). Contains l f) (sym (R.from p.0 p.1 p.2)) p.3)
 
-  run_world : WorldFits (world_up (records logs) R.sent)
-  run_world = runs_keep_the_fit (world_up start []) (world_up (records logs) R.sent) R.events R.answers (up_fits start [] R.begun) R.runs
+  run_world : WorldFits (world_up (last_records logs) R.sent)
+  run_world = runs_keep_the_fit (world_up start []) (world_up (last_records logs) R.sent) R.events R.answers (up_fits start [] R.begun) R.runs
 
   -- what was consistent at the start is consistent now
-  pub run_fits : RecordsFit (records logs) (frames logs)
-  run_fits = fewer_fit (records logs) R.sent (frames logs) (fits_up (records logs) R.sent run_world) run_has
+  pub run_fits : RecordsFit (last_records logs) (frames logs)
+  run_fits = fewer_fit (last_records logs) R.sent (frames logs) (fits_up (last_records logs) R.sent run_world) run_has
 
   -- each site stands as its inputs
-  pub run_stands : (i : ℕ) (e : Log) → get_elem? logs i ≡ some e → Stands e.opening e.inputs e.last
+  pub run_stands : (i : ℕ) (e : Log) → get_elem? logs i ≡ some e → StandsAfter IsAfter e.opening e.inputs e.last
   run_stands i e at =
       let began = found start i e.opening (ap (λ (l : List Record). get_elem? l i) (sym R.openings) ∙ at_map (λ (x : Log). x.opening) logs i e at) in
-      let stands = (sites_stand (world_up start []) (world_up (records logs) R.sent) R.events R.answers R.runs).each i e.opening (ap (λ (l : List Record). slice_get l i) (up_records start) ∙ began) in
-      let now = ap (λ (l : List Record). slice_get l i) (up_records (records logs)) ∙ found (records logs) i e.last (at_map (λ (x : Log). x.last) logs i e at) in
+      let stands = (sites_stand (world_up start []) (world_up (last_records logs) R.sent) R.events R.answers R.runs).each i e.opening (ap (λ (l : List Record). slice_get l i) (up_records start) ∙ began) in
+      let now = ap (λ (l : List Record). slice_get l i) (up_records (last_records logs)) ∙ found (last_records logs) i e.last (at_map (λ (x : Log). x.last) logs i e at) in
       let same : stands.now ≡ e.last = same_Some stands.now e.last (sym stands.there ∙ now) in
-      answered_stands (handed_to i R.sent R.events R.answers) e.inputs e.opening e.last (R.handed i e at) (subst (StandsAfter e.opening (handed_to i R.sent R.events R.answers)) same stands.kept)
+      answered_stands (handed_to i R.sent R.events R.answers) e.inputs e.opening e.last (R.handed i e at) (subst (StandsAfter LeadsOn e.opening (handed_to i R.sent R.events R.answers)) same stands.kept)
 
   module _ (i : ℕ) (e e' : Log) (at : get_elem? logs i ≡ some e) (opening : e'.opening ≡ e.opening) where
     few : (f : Frame) → Contains R.sent f → sender f < length (set logs i e')
@@ -199,11 +200,11 @@ module _ (start : List Record) (logs : List Log) (R : IsRun start logs) where
       senders = few;
     }
 
-    before : slice_get (world_up (records logs) R.sent).sites i ≡ Some (Up e.last)
-    before = found (map (λ (r : Record). Up r) (records logs)) i (Up e.last) (at_map (λ (r : Record). Up r) (records logs) i e.last (at_map (λ (x : Log). x.last) logs i e at))
+    before : slice_get (world_up (last_records logs) R.sent).sites i ≡ Some (Up e.last)
+    before = found (map (λ (r : Record). Up r) (last_records logs)) i (Up e.last) (at_map (λ (r : Record). Up r) (last_records logs) i e.last (at_map (λ (x : Log). x.last) logs i e at))
 
-    changed : map (λ (r : Record). Up r) (records (set logs i e')) ≡ set (map (λ (r : Record). Up r) (records logs)) i (Up e'.last)
-    changed = ap (map (λ (r : Record). Up r)) (map-set (λ (x : Log). x.last) logs i e') ∙ map-set (λ (r : Record). Up r) (records logs) i e'.last
+    changed : map (λ (r : Record). Up r) (last_records (set logs i e')) ≡ set (map (λ (r : Record). Up r) (last_records logs)) i (Up e'.last)
+    changed = ap (map (λ (r : Record). Up r)) (map-set (λ (x : Log). x.last) logs i e') ∙ map-set (λ (r : Record). Up r) (last_records logs) i e'.last
 
     -- a mark is a step that was done
     pub run_marked : (input : SiteInput) (effects : Effects) → Does e.last input effects e'.last → ((f : Frame) → input ≡ inputs.Deliver f → Contains (frames logs) f × (addressee f ≡ i)) → e'.sent ≡ e.sent → e'.inputs ≡ e.inputs ++ input ∷ [] → IsRun start (set logs i e')
@@ -230,10 +231,10 @@ module _ (start : List Record) (logs : List Log) (R : IsRun start logs) where
         w = as_given R.sent i input (λ f is. let k = known f is in (run_has f k.0, k.1))
 
         old : WorldState
-        old = world_up (records logs) R.sent
+        old = world_up (last_records logs) R.sent
 
         new : WorldState
-        new = world_up (records (set logs i e')) R.sent
+        new = world_up (last_records (set logs i e')) R.sent
 
         turn : Turns old (Step i w.0) (Done effects) new
         turn = subst (λ (at : Maybe Standing). TurnsFrom at old (Step i w.0) (Done effects) new) (sym before)
@@ -275,10 +276,10 @@ module _ (start : List Record) (logs : List Log) (R : IsRun start logs) where
         number = length (R.sent ++ f ∷ [])
 
         old : WorldState
-        old = world_up (records logs) R.sent
+        old = world_up (last_records logs) R.sent
 
         new : WorldState
-        new = world_up (records (set logs i e')) (R.sent ++ f ∷ [])
+        new = world_up (last_records (set logs i e')) (R.sent ++ f ∷ [])
 
         turn : Turns old (Send i place) (WasSent number) new
         turn = subst (λ (at : Maybe Standing). TurnsFrom at old (Send i place) (WasSent number) new) (sym before)

@@ -7,7 +7,7 @@ use Rattle.site_core.specs.Records.{Record}
 use Rattle.wire_core.specs.declared.views.Log.{Log}
 use Rattle.wire_core.specs.Changes.{pick, on, asks, offers, sends, receives, marks}
 use Rattle.wire_core.specs.Rule.{opening_log, logs_from}
-use Rattle.wire_core.specs.Standing.{StandsAs, OpeningRecordsStand, SplitsMarkNothing, JoinsMarkNothing, SentFramesMarkNothing, OfferedFramesMarkNothing, NotedFramesMarkNothing, AskedSitesMarkNothing, MarksPutTheRecord, MarksLeaveOtherSites}
+use Rattle.wire_core.specs.Standing.{WasLastMarked, OpeningRecordsStand, SplitsMarkNothing, JoinsMarkNothing, SentFramesMarkNothing, OfferedFramesMarkNothing, NotedFramesMarkNothing, AskedSitesMarkNothing, MarksPutTheRecord, MarksLeaveOtherSites}
 use Rattle.wire_core.proofs.Changes.{changed_there}
 use Rattle.wire_core.proofs.Lists.{Contains_map}
 use Rattle.wire_core.proofs.Parts.{kept}
@@ -53,7 +53,7 @@ joins_mark_nothing one other r count = (
 )
 
 -- a change that keeps a site, its record and its inputs
-stands_on : (i : ℕ) (g : Log → Log) → ((e : Log) → (g e).site ≡ e.site) → ((e : Log) → (g e).last ≡ e.last) → ((e : Log) → (g e).inputs ≡ e.inputs) → (logs : List Log) (r : Record) (count : ℕ) → StandsAs logs r count → StandsAs (on i g logs) r count
+stands_on : (i : ℕ) (g : Log → Log) → ((e : Log) → (g e).site ≡ e.site) → ((e : Log) → (g e).last ≡ e.last) → ((e : Log) → (g e).inputs ≡ e.inputs) → (logs : List Log) (r : Record) (count : ℕ) → WasLastMarked logs r count → WasLastMarked (on i g logs) r count
 stands_on i g site last inputs logs r count s = record {
   log = pick i g s.log;
   held = Contains_map (pick i g) logs s.log s.held;

@@ -7,13 +7,15 @@ use lib.ListN.{get_elem?}
 use Rattle.atomic_table.specs.Table.{State}
 use Rattle.frame_core.specs.declared.frames.Frame.{Frame}
 use Rattle.site_core.specs.Records.{Record}
+use Rattle.keeper_core.specs.Keeping.{IsAfter}
+use Rattle.world_core.specs.KeptSteps.{StandsAfter}
 use Rattle.world_core.specs.Turns.{addressee}
 use Rattle.world_core.specs.Worlds.{WorldState, WorldFits}
 use Rattle.wire_core.specs.declared.views.Log.{Log}
 use Rattle.wire_core.specs.declared.views.View.{View}
 use Rattle.wire_core.specs.Frames.{way}
 use Rattle.wire_core.specs.Mailboxes.{word_of, slot_of}
-use Rattle.wire_core.specs.Rule.{IsRun, Stands, frames, records, world_up}
+use Rattle.wire_core.specs.Rule.{IsRun, frames, last_records, world_up}
 
 -- some seat knows this of a site
 abbrev pub IsKnown : List View → Log → Type 0
@@ -43,7 +45,7 @@ WasSentBy views f = (e : Log) × IsKnown views e × Contains e.sent f
 
 -- the world that the logs of all sites show: each site is up with the record last marked, and all frames sent were sent
 abbrev pub world_shown : List Log → WorldState
-world_shown logs = world_up (records logs) (frames logs)
+world_shown logs = world_up (last_records logs) (frames logs)
 
 -- of sites that had these records at the start
 pub record HoldsBetween (start : List Record) (s : State (Maybe Frame) View) : Type 0 where
@@ -51,7 +53,7 @@ pub record HoldsBetween (start : List Record) (s : State (Maybe Frame) View) : T
   -- a site's progress word is the number of its marked inputs
   pub progress : (e : Log) → IsKnown s.views e → get_elem? s.words e.site ≡ some (length e.inputs)
   -- the record last marked stands as the steps marked
-  pub stands : (e : Log) → IsKnown s.views e → Stands e.opening e.inputs e.last
+  pub stands : (e : Log) → IsKnown s.views e → StandsAfter IsAfter e.opening e.inputs e.last
   pub mailboxes : (a b : Log) → IsKnown s.views a → IsKnown s.views b → a.site ≢ b.site → ShowsTheWay s.words s.homes a b
   -- each noted frame was sent, to that site
   pub noted : (e : Log) (f : Frame) → IsKnown s.views e → Contains e.noted f → (addressee f ≡ e.site) × WasSentBy s.views f

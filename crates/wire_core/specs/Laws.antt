@@ -9,6 +9,7 @@ use Rattle.site_core.specs.Records.{Record}
 use Rattle.site_core.specs.declared.inputs.SiteInput.{SiteInput}
 use Rattle.site_recovery.specs.Looks.{world_of}
 use Rattle.keeper_core.specs.Keeping.{IsAfter}
+use Rattle.world_core.specs.KeptSteps.{StandsAfter}
 use Rattle.world_core.specs.Turns.{addressee}
 use Rattle.wire_core.specs.declared.views.Log.{Log}
 use Rattle.wire_core.specs.declared.views.View.{View}
@@ -17,7 +18,7 @@ use Rattle.wire_core.specs.Changes.{AllBut, Level, OneMore, Sent as WasSent}
 use Rattle.wire_core.specs.Fitting.{RecordsFit}
 use Rattle.wire_core.specs.Frames.{DeliversOneOf, sender}
 use Rattle.wire_core.specs.Mailboxes.{slot_of, word_of}
-use Rattle.wire_core.specs.Rule.{IsRun, Ruled, Stands, frames, records}
+use Rattle.wire_core.specs.Rule.{IsRun, Ruled, frames, last_records}
 
 -- A mark: one step of one site, by an input that may deliver a frame that was sent.
 abbrev pub MarksKeepTheFit : Type 0
@@ -39,11 +40,11 @@ FewerSentFit =
 
 -- Where the logs are a run of the world, the records last marked are consistent with all frames sent.
 abbrev pub RunsFit : Type 0
-RunsFit = (start : List Record) (logs : List Log) → IsRun start logs → RecordsFit (records logs) (frames logs)
+RunsFit = (start : List Record) (logs : List Log) → IsRun start logs → RecordsFit (last_records logs) (frames logs)
 
 -- There each record last marked stands as the steps marked.
 abbrev pub RunsStand : Type 0
-RunsStand = (start : List Record) (logs : List Log) (e : Log) → IsRun start logs → Contains logs e → Stands e.opening e.inputs e.last
+RunsStand = (start : List Record) (logs : List Log) (e : Log) → IsRun start logs → Contains logs e → StandsAfter IsAfter e.opening e.inputs e.last
 
 -- Between any two steps.
 abbrev pub RuleHoldsBetween : Type 0

@@ -9,21 +9,21 @@ use Rattle.world_core.specs.Turns.{addressee}
 use Rattle.wire_core.specs.declared.views.Log.{Log}
 use Rattle.wire_core.specs.Frames.{sender, DeliversOneOf}
 use Rattle.wire_core.specs.Seats.{Line, SeatView, IsSeatOf}
-use Rattle.wire_core.specs.Standing.{StandsAs}
+use Rattle.wire_core.specs.Standing.{WasLastMarked}
 
 -- the seat is of the wire of two sites, and the record is the one last marked of a site that it holds
 pub record MayPlay (w : Line) (s : SeatView) (r : Record) : Type 0 where
   pub seat : IsSeatOf w s
   pub two : w.sites ≡ 2
   pub count : ℕ
-  pub stands : StandsAs s.logs r count
+  pub stands : WasLastMarked s.logs r count
   pub room : count < 2 ^ 62
 
 -- the same, with the number of marks
 pub record PlaysAt (count : ℕ) (w : Line) (s : SeatView) (r : Record) : Type 0 where
   pub seat : IsSeatOf w s
   pub two : w.sites ≡ 2
-  pub stands : StandsAs s.logs r count
+  pub stands : WasLastMarked s.logs r count
 
 -- the record makes the frame emittable, and it is of that site, for the other of two
 pub record MayBePosted (r : Record) (f : Frame) : Type 0 where
@@ -36,9 +36,9 @@ abbrev pub SameSites : List Log → List Log → Type 0
 SameSites old new = map (λ e. e.site) new ≡ map (λ e. e.site) old
 
 -- the same sites, and the same records last marked
-pub record Leaves (old new : List Log) : Type 0 where
+pub record MarksNothing (old new : List Log) : Type 0 where
   pub sites : SameSites old new
-  pub stand : (r : Record) (n : ℕ) → StandsAs old r n → StandsAs new r n
+  pub stand : (r : Record) (n : ℕ) → WasLastMarked old r n → WasLastMarked new r n
 
 -- the site noted the frame
 abbrev pub HasNoted : ℕ → Frame → List Log → Type 0
@@ -53,7 +53,7 @@ pub record IsNext (r : Record) (input : SiteInput) (next : Record) : Type 0 wher
 pub record MayGoOn (w : Line) (s : SeatView) (r : Record) (input : SiteInput) : Type 0 where
   pub seat : IsSeatOf w s
   pub count : ℕ
-  pub stands : StandsAs s.logs r count
+  pub stands : WasLastMarked s.logs r count
   pub noted : DeliversOneOf stands.log.noted input
   pub room : count < 2 ^ 62
 
@@ -61,5 +61,5 @@ pub record MayGoOn (w : Line) (s : SeatView) (r : Record) (input : SiteInput) : 
 pub record PlaysOn (old new : List Log) (r next : Record) : Type 0 where
   pub sites : SameSites old new
   pub same : next.engagement.me ≡ r.engagement.me
-  pub stands : (n : ℕ) → StandsAs old r n → StandsAs new next (n + 1)
-  pub others : (q : Record) (n : ℕ) → q.engagement.me ≢ r.engagement.me → StandsAs old q n → StandsAs new q n
+  pub stands : (n : ℕ) → WasLastMarked old r n → WasLastMarked new next (n + 1)
+  pub others : (q : Record) (n : ℕ) → q.engagement.me ≢ r.engagement.me → WasLastMarked old q n → WasLastMarked new q n

@@ -8,7 +8,6 @@ use Rattle.event_json.specs.declared.limits.TheConstants.{MAX_SITES}
 use Rattle.frame_core.specs.declared.frames.Frame.{Frame}
 use Rattle.site_core.specs.Records.{Record}
 use Rattle.site_core.specs.declared.inputs.SiteInput.{SiteInput}
-use Rattle.keeper_core.specs.Keeping.{IsAfter}
 use Rattle.world_core.specs.declared.events.Answer.{Answer}
 use Rattle.world_core.specs.declared.events.Answer.TheVariants.{Done, Sent as WasSent}
 use Rattle.world_core.specs.declared.events.WorldEvent.{WorldEvent}
@@ -24,16 +23,11 @@ use Rattle.wire_core.specs.Frames.{sender}
 use Rattle.wire_core.specs.Mailboxes.{Mailbox}
 
 -- the records last marked, by site, and all frames sent
-abbrev pub records : List Log → List Record
-records logs = map (λ e. e.last) logs
+abbrev pub last_records : List Log → List Record
+last_records logs = map (λ e. e.last) logs
 
 abbrev pub frames : List Log → List Frame
 frames logs = flat_map (λ e. e.sent) logs
-
--- a record stands as the steps by these inputs
-abbrev pub Stands : Record → List SiteInput → Record → Type 0
-Stands opening [] last = last ≡ opening
-Stands opening (input ∷ inputs) last = (r : Record) × IsAfter opening input r × Stands r inputs last
 
 -- the view has the logs of just the sites that stand in this seat
 abbrev pub Knows : (ℕ → ℕ) → List Log → ℕ → View → Type 0
@@ -75,7 +69,7 @@ pub record IsRun (start : List Record) (logs : List Log) : Type 0 where
   pub answers : List Answer
   pub sent : List Frame
   pub happened : AllZip Happened events answers
-  pub runs : Runs (world_up start []) events answers (world_up (records logs) sent)
+  pub runs : Runs (world_up start []) events answers (world_up (last_records logs) sent)
   pub handed : (i : ℕ) (e : Log) → get_elem? logs i ≡ some e → AreAnswered (handed_to i sent events answers) e.inputs
   pub from : (i : ℕ) (e : Log) → get_elem? logs i ≡ some e → sent_from i sent ≡ e.sent
   pub senders : (f : Frame) → Contains sent f → sender f < length logs

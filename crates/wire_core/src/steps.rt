@@ -1,6 +1,6 @@
 //! The seven kinds of atomic step, one call of the table each.
 
-ghost use Rattle.std.specs.Prelude.{◌≡◌, ◌≢◌, ℕ, ◌+◌, ◌*◌, ◌^◌, ◌<◌, ◌≤◌, [], ◌∷◌, length, Some, None, Contains};
+ghost use Rattle.std.specs.Prelude.{◌≡◌, ◌≢◌, ℕ, ◌+◌, ◌*◌, ◌<◌, ◌≤◌, [], ◌∷◌, length, Some, None, Contains};
 ghost use Rattle.event_json.specs.declared.limits.TheConstants.{MAX_SITES};
 ghost use Rattle.frame_core.specs.declared.frames.Frame.{Frame};
 ghost use Rattle.site_core.specs.Emitting.{emittable};

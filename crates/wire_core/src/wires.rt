@@ -28,7 +28,11 @@ impl Model for Wire {
 
     ghost coded = { coded_line };
 
-    ghost view = { λ w. record { table = w.table.shared.table_id; sites = length w.table.shared.key.items; start = map (λ s. s.value) w.table.shared.key.items } };
+    ghost view = { λ w. record {
+      table = w.table.shared.table_id;
+      sites = length w.table.shared.key.items;
+      start = map (λ s. s.value) w.table.shared.key.items;
+    } };
 
     ghost invariant = { λ w. IsLaidOut w.table.shared.table_id (length w.table.shared.key.items) };
 }

@@ -11,6 +11,7 @@ use Rattle.site_core.specs.declared.inputs.SiteInput.{SiteInput}
 use Rattle.keeper_core.specs.declared.faults.Keep.{Keep}
 use Rattle.keeper_core.specs.declared.faults.Keep.TheVariants.{Old, New}
 use Rattle.keeper_core.specs.declared.faults.KeepFault.TheVariants.{Refused, Device, Store}
+use Rattle.keeper_core.specs.Keeping.{IsAfter}
 use Rattle.world_core.specs.declared.events.WorldInput.{WorldInput}
 use Rattle.world_core.specs.declared.events.WorldInput.TheVariants.{Capture, Start, Deliver}
 use Rattle.world_core.specs.declared.events.WorldEvent.{WorldEvent}
@@ -19,7 +20,7 @@ use Rattle.world_core.specs.declared.events.Answer.{Answer}
 use Rattle.world_core.specs.declared.events.Answer.TheVariants.{Done, Fault, Sent, NoFrame, NoSite, Stopped, Reopened, NotReopened, NoMemory}
 use Rattle.world_core.specs.Worlds.{Standing, Up, Down, WorldState, record_of, records}
 use Rattle.world_core.specs.Turns.{site_of, input_at, input_of_frame, frame_at, GoesDown, Steps, Stops, Sends, Reopens, TurnsAt, TurnsFrom, Turns, Runs}
-use Rattle.world_core.specs.KeptSteps.{Handed, Answered, Broken, StandsAfter, SitesStand, input_told, handed, handed_to}
+use Rattle.world_core.specs.KeptSteps.{LeadsOn, Handed, Answered, Broken, StandsAfter, SitesStand, input_told, handed, handed_to}
 
 -- One place of a list.
 
@@ -58,21 +59,21 @@ input_kept sent more site (Deliver place) input e = delivered_kept sent more sit
 -- One event at its site: what was found then is found in the end.
 
 module _ (old : Record) where
-  down_kept : (input : SiteInput) (new : Standing) → GoesDown old input new → StandsAfter old (Broken input ∷ []) (record_of new)
-  down_kept input new h = ⊎_elim (λ e. inl (ap record_of e)) (λ a. inr (a.0, a.1, ap record_of a.2)) h
+  down_kept : (input : SiteInput) (new : Standing) → GoesDown old input new → StandsAfter LeadsOn old (Broken input ∷ []) (record_of new)
+  down_kept input new h = (record_of new, ⊎_elim (λ e. inl (ap record_of e)) (λ a. inr (subst (λ (r : Record). IsAfter old input r) (sym (ap record_of a.2)) a.1)) h, refl)
 
-  step_kept : (found last : Option SiteInput) (answer : Answer) (new : Standing) → ((input : SiteInput) → found ≡ Some input → last ≡ Some input) → Steps old found answer new → StandsAfter old (handed answer last) (record_of new)
-  step_kept (Some input) last (Done effects) new k h = subst (λ l. StandsAfter old (handed (Done effects) l) (record_of new)) (sym (k input refl)) (h.0, h.1, ap record_of h.2)
+  step_kept : (found last : Option SiteInput) (answer : Answer) (new : Standing) → ((input : SiteInput) → found ≡ Some input → last ≡ Some input) → Steps old found answer new → StandsAfter LeadsOn old (handed answer last) (record_of new)
+  step_kept (Some input) last (Done effects) new k h = subst (λ l. StandsAfter LeadsOn old (handed (Done effects) l) (record_of new)) (sym (k input refl)) (h.0, h.1, ap record_of h.2)
   step_kept (Some input) last (Fault (Refused why)) new k h = ap record_of h.1
-  step_kept (Some input) last (Fault Device) new k h = subst (λ l. StandsAfter old (handed (Fault Device) l) (record_of new)) (sym (k input refl)) (down_kept input new h)
-  step_kept (Some input) last (Fault Store) new k h = subst (λ l. StandsAfter old (handed (Fault Store) l) (record_of new)) (sym (k input refl)) (down_kept input new h)
+  step_kept (Some input) last (Fault Device) new k h = subst (λ l. StandsAfter LeadsOn old (handed (Fault Device) l) (record_of new)) (sym (k input refl)) (down_kept input new h)
+  step_kept (Some input) last (Fault Store) new k h = subst (λ l. StandsAfter LeadsOn old (handed (Fault Store) l) (record_of new)) (sym (k input refl)) (down_kept input new h)
   step_kept (Some input) last NoMemory new k h = ap record_of h
   step_kept None last NoFrame new k h = ap record_of h
   step_kept found last answer new k h = absurd h
 
-  stop_kept : (found last : Option SiteInput) (keep : Keep) (answer : Answer) (new : Standing) → ((input : SiteInput) → found ≡ Some input → last ≡ Some input) → Stops old found keep answer new → StandsAfter old (handed answer last) (record_of new)
-  stop_kept (Some input) last Old Stopped new k h = subst (λ l. StandsAfter old (handed Stopped l) (record_of new)) (sym (k input refl)) (inl (ap record_of h))
-  stop_kept (Some input) last New Stopped new k h = subst (λ l. StandsAfter old (handed Stopped l) (record_of new)) (sym (k input refl)) (down_kept input new h)
+  stop_kept : (found last : Option SiteInput) (keep : Keep) (answer : Answer) (new : Standing) → ((input : SiteInput) → found ≡ Some input → last ≡ Some input) → Stops old found keep answer new → StandsAfter LeadsOn old (handed answer last) (record_of new)
+  stop_kept (Some input) last Old Stopped new k h = subst (λ l. StandsAfter LeadsOn old (handed Stopped l) (record_of new)) (sym (k input refl)) (record_of new, inl (ap record_of h), refl)
+  stop_kept (Some input) last New Stopped new k h = subst (λ l. StandsAfter LeadsOn old (handed Stopped l) (record_of new)) (sym (k input refl)) (down_kept input new h)
   stop_kept (Some input) last Old NoMemory new k h = ap record_of h
   stop_kept (Some input) last New NoMemory new k h = ap record_of h
   stop_kept None last Old NoFrame new k h = ap record_of h
@@ -80,7 +81,7 @@ module _ (old : Record) where
   stop_kept found last keep answer new k h = absurd h
 
   -- nothing is given by the other events
-  none_kept : (answer : Answer) (new : Record) → new ≡ old → StandsAfter old (handed answer None) new
+  none_kept : (answer : Answer) (new : Record) → new ≡ old → StandsAfter LeadsOn old (handed answer None) new
   none_kept (Done effects) new h = h
   none_kept (Fault Device) new h = h
   none_kept (Fault Store) new h = h
@@ -94,14 +95,14 @@ reopen_same old (NotReopened Store) new h = ap record_of h
 reopen_same old NoMemory new h = ap record_of h
 reopen_same old answer new h = absurd h
 
-turn_kept : (old : Standing) (sent more : List Frame) (event : WorldEvent) (answer : Answer) (new : Standing) (now : List Frame) → TurnsAt old sent event answer new now → StandsAfter (record_of old) (handed answer (input_told (sent ++ more) event)) (record_of new)
+turn_kept : (old : Standing) (sent more : List Frame) (event : WorldEvent) (answer : Answer) (new : Standing) (now : List Frame) → TurnsAt old sent event answer new now → StandsAfter LeadsOn (record_of old) (handed answer (input_told (sent ++ more) event)) (record_of new)
 turn_kept (Up r) sent more (Step site told) answer new now h = step_kept r (input_at sent site told) _ answer new (input_kept sent more site told) h.0
 turn_kept (Up r) sent more (Stop site told keep) answer new now h = stop_kept r (input_at sent site told) _ keep answer new (input_kept sent more site told) h.0
 turn_kept (Up r) sent more (Send site place) answer new now h = none_kept r answer (record_of new) (ap record_of h.1)
 turn_kept (Up r) sent more (Reopen site) answer new now h = none_kept r answer (record_of new) (ap record_of h.1)
 turn_kept (Down r) sent more (Reopen site) answer new now h = none_kept r answer (record_of new) (reopen_same r answer new h.0)
-turn_kept (Down r) sent more (Step site told) answer new now h = subst (λ a. StandsAfter r (handed a (input_at (sent ++ more) site told)) (record_of new)) (sym h.0) (ap record_of h.1)
-turn_kept (Down r) sent more (Stop site told keep) answer new now h = subst (λ a. StandsAfter r (handed a (input_at (sent ++ more) site told)) (record_of new)) (sym h.0) (ap record_of h.1)
+turn_kept (Down r) sent more (Step site told) answer new now h = subst (λ a. StandsAfter LeadsOn r (handed a (input_at (sent ++ more) site told)) (record_of new)) (sym h.0) (ap record_of h.1)
+turn_kept (Down r) sent more (Stop site told keep) answer new now h = subst (λ a. StandsAfter LeadsOn r (handed a (input_at (sent ++ more) site told)) (record_of new)) (sym h.0) (ap record_of h.1)
 turn_kept (Down r) sent more (Send site place) answer new now h = none_kept r answer (record_of new) (ap record_of h.1)
 
 -- What was sent before is sent.
@@ -126,7 +127,7 @@ sent_more (Down r) sent (Send site place) answer new now h = ([], h.2 ∙ sym (a
 
 -- from the record r the site comes, by these inputs, to the record that it has in the new world
 abbrev Comes : ℕ → Record → List Handed → WorldState → Type 0
-Comes site r inputs new = (s : Record) × (slice_get (records new) site ≡ Some s) × StandsAfter r inputs s
+Comes site r inputs new = (s : Record) × (slice_get (records new) site ≡ Some s) × StandsAfter LeadsOn r inputs s
 
 -- what one event does to the sites, and to what was sent
 record Kept (old : WorldState) (event : WorldEvent) (answer : Answer) (new : WorldState) : Type 0 where
@@ -136,7 +137,7 @@ record Kept (old : WorldState) (event : WorldEvent) (answer : Answer) (new : Wor
   stands : (site : ℕ) (r : Record) (rest : List Frame) → slice_get (records old) site ≡ Some r → Comes site r (cond (site_of event == site) (handed answer (input_told (old.sent ++ rest) event)) []) new
 
 -- where there is no such site nothing is given to one
-no_site_kept : (old : Record) (found : Option SiteInput) (b : Bool) → StandsAfter old (cond b (handed NoSite found) []) old
+no_site_kept : (old : Record) (found : Option SiteInput) (b : Bool) → StandsAfter LeadsOn old (cond b (handed NoSite found) []) old
 no_site_kept old found true = refl
 no_site_kept old found false = refl
 
@@ -151,7 +152,7 @@ kept_from None old new event answer e h = record {
   stands = λ site r rest at. (
     r,
     ap (λ w. slice_get (records w) site) h.1 ∙ at,
-    subst (λ a. StandsAfter r (cond (site_of event == site) (handed a (input_told (old.sent ++ rest) event)) []) r) (sym h.0) (no_site_kept r (input_told (old.sent ++ rest) event) (site_of event == site)),
+    subst (λ a. StandsAfter LeadsOn r (cond (site_of event == site) (handed a (input_told (old.sent ++ rest) event)) []) r) (sym h.0) (no_site_kept r (input_told (old.sent ++ rest) event) (site_of event == site)),
   );
 }
 kept_from (Some standing) old new event answer e (changed, turns, is) =
@@ -168,12 +169,12 @@ kept_from (Some standing) old new event answer e (changed, turns, is) =
           let was : record_of standing ≡ r = same_Some (record_of standing) r (sym (record_there old.sites place standing e) ∙ subst (λ s. slice_get (records old) s ≡ Some r) same at) in
           let now : slice_get (records new) site ≡ Some (record_of changed) =
           subst (λ s. slice_get (records new) s ≡ Some (record_of changed)) (sym same) (record_there new.sites place changed (ap (λ l. slice_get l place) is ∙ get_set old.sites place standing changed e)) in
-          let kept : StandsAfter (record_of standing) told (record_of changed) = turn_kept standing old.sent rest event answer changed new.sent turns in
-          (record_of changed, now, subst (λ b. StandsAfter r (cond b told []) (record_of changed)) (sym (eq-eqb place site (sym same))) (subst (λ q. StandsAfter q told (record_of changed)) was kept)))
+          let kept : StandsAfter LeadsOn (record_of standing) told (record_of changed) = turn_kept standing old.sent rest event answer changed new.sent turns in
+          (record_of changed, now, subst (λ b. StandsAfter LeadsOn r (cond b told []) (record_of changed)) (sym (eq-eqb place site (sym same))) (subst (λ q. StandsAfter LeadsOn q told (record_of changed)) was kept)))
           (λ ne.
           let now : slice_get (records new) site ≡ Some r =
           slice_get-map record_of new.sites site ∙ ap (option_map record_of) (ap (λ l. slice_get l site) is ∙ get_set_other old.sites place site changed ne) ∙ sym (slice_get-map record_of old.sites site) ∙ at in
-          (r, now, subst (λ b. StandsAfter r (cond b told []) r) (sym (ne_eqb place site (λ e. ne (sym e)))) refl))
+          (r, now, subst (λ b. StandsAfter LeadsOn r (cond b told []) r) (sym (ne_eqb place site (λ e. ne (sym e)))) refl))
           (cases_eq site place);
     }
 
@@ -182,10 +183,10 @@ turn_kept_all old new event answer h = kept_from (slice_get old.sites (site_of e
 
 -- A run.
 
-stands_append : (xs ys : List Handed) (a b c : Record) → StandsAfter a xs b → StandsAfter b ys c → StandsAfter a (xs ++ ys) c
-stands_append [] ys a b c h k = subst (λ r. StandsAfter r ys c) h k
-stands_append (Answered input effects ∷ xs) ys a b c h k = (h.0, h.1, stands_append xs ys h.0 b c h.2 k)
-stands_append (Broken input ∷ xs) ys a b c h k = ⊎_elim (λ l. inl (stands_append xs ys a b c l k)) (λ r. inr (r.0, r.1, stands_append xs ys r.0 b c r.2 k)) h
+module _ {R S : Type 0} (step : R → S → R → Type 0) where
+  pub stands_append : (xs ys : List S) (a b c : R) → StandsAfter step a xs b → StandsAfter step b ys c → StandsAfter step a (xs ++ ys) c
+  stands_append [] ys a b c h k = subst (λ (r : R). StandsAfter step r ys c) h k
+  stands_append (x ∷ xs) ys a b c h k = (h.0, h.1, stands_append xs ys h.0 b c h.2 k)
 
 pub frames_stay : (old new : WorldState) (events : List WorldEvent) (answers : List Answer) → Runs old events answers new → (more : List Frame) × (new.sent ≡ old.sent ++ more)
 frames_stay old new [] [] h = ([], ap (λ w. w.sent) h ∙ sym (append-nil old.sent))
@@ -213,7 +214,7 @@ run_kept old new (event ∷ events) (answer ∷ answers) site r last rest e h at
     let first : Comes site r (cond (site_of event == site) (handed answer (input_told last event)) []) h.0 =
     subst (λ l. Comes site r (cond (site_of event == site) (handed answer (input_told l event)) []) h.0) (sym whole) (k.stands site r more at) in
     let next = run_kept h.0 new events answers site first.0 last rest e h.2 first.1 in
-    (next.0, next.1, stands_append (cond (site_of event == site) (handed answer (input_told last event)) []) (handed_to site last events answers) r first.0 next.0 first.2 next.2)
+    (next.0, next.1, stands_append LeadsOn (cond (site_of event == site) (handed answer (input_told last event)) []) (handed_to site last events answers) r first.0 next.0 first.2 next.2)
 run_kept old new [] (answer ∷ answers) site r last rest e h at = absurd h
 run_kept old new (event ∷ events) [] site r last rest e h at = absurd h
 

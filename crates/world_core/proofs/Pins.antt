@@ -16,7 +16,7 @@ use Rattle.site_recovery.proofs.Worlds.{fewer_frames_fit}
 use Rattle.trace_core.proofs.Members.{contains_none}
 use Rattle.keeper_core.specs.Keeping.{IsAfter}
 use Rattle.world_core.specs.Faults.{AreOneWorld, MakeAWorld}
-use Rattle.world_core.specs.KeptSteps.{Handed, Answered, Broken, StandsAfter, handed_to}
+use Rattle.world_core.specs.KeptSteps.{LeadsOn, Handed, Answered, Broken, StandsAfter, handed_to}
 use Rattle.world_core.specs.PinLaws.{AnsweredStepsAreWhole, BrokenStepsAreEither, EndsAreTold, OthersAreAbsent, RunsMakeAWorldAgain}
 use Rattle.world_core.specs.Recalls.{ended_in}
 use Rattle.world_core.specs.Turns.{Turns}
@@ -44,15 +44,13 @@ answered_steps_are_whole old new input effects = (
   λ does. (new, does, refl),
 )
 
-pub whole_or_absent : (old new : Record) (input : SiteInput) → StandsAfter old (Broken input ∷ []) new ↔ ((new ≡ old) ⊎ IsAfter old input new)
+pub whole_or_absent : (old new : Record) (input : SiteInput) → StandsAfter LeadsOn old (Broken input ∷ []) new ↔ ((new ≡ old) ⊎ IsAfter old input new)
 whole_or_absent old new input = (forth, back) where
-  forth : StandsAfter old (Broken input ∷ []) new → (new ≡ old) ⊎ IsAfter old input new
-  forth (inl same) = inl same
-  forth (inr (mid, after, same)) = inr (subst (λ (r : Record). IsAfter old input r) (sym same) after)
+  forth : StandsAfter LeadsOn old (Broken input ∷ []) new → (new ≡ old) ⊎ IsAfter old input new
+  forth (mid, went, same) = subst (λ (r : Record). (r ≡ old) ⊎ IsAfter old input r) (sym same) went
 
-  back : (new ≡ old) ⊎ IsAfter old input new → StandsAfter old (Broken input ∷ []) new
-  back (inl same) = inl same
-  back (inr after) = inr (new, after, refl)
+  back : (new ≡ old) ⊎ IsAfter old input new → StandsAfter LeadsOn old (Broken input ∷ []) new
+  back went = (new, went, refl)
 
 pub broken_steps_are_either : BrokenStepsAreEither
 broken_steps_are_either = (whole_or_absent, whole_or_absent, whole_or_absent)
@@ -73,13 +71,13 @@ does_sites s t (Deliver (frames.Signal m by)) (effects.ParentDue parent) h = ap 
 does_sites s t (Deliver (frames.Signal m by)) (effects.Ended recall) h = ap (λ (r : Record). r.sites) h.after
 does_sites s t input e h = absurd h
 
-stands_sites : (old : Record) (hs : List Handed) (new : Record) → StandsAfter old hs new → new.sites ≡ old.sites
+goes_sites : (old : Record) (handed : Handed) (new : Record) → LeadsOn old handed new → new.sites ≡ old.sites
+goes_sites old (Answered input e) new h = does_sites old new input e h
+goes_sites old (Broken input) new h = ⊎_elim (λ same. ap (λ (r : Record). r.sites) same) (λ after. does_sites old new input after.0 after.1) h
+
+stands_sites : (old : Record) (hs : List Handed) (new : Record) → StandsAfter LeadsOn old hs new → new.sites ≡ old.sites
 stands_sites old [] new h = ap (λ (r : Record). r.sites) h
-stands_sites old (Answered input e ∷ rest) new h = stands_sites h.0 rest new h.2 ∙ does_sites old h.0 input e h.1
-stands_sites old (Broken input ∷ rest) new h = ⊎_elim
-    (λ k. stands_sites old rest new k)
-    (λ k. stands_sites k.0 rest new k.2 ∙ does_sites old k.0 input k.1.0 k.1.1)
-    h
+stands_sites old (x ∷ xs) new h = stands_sites h.0 xs new h.2 ∙ goes_sites old x h.0 h.1
 
 pub runs_make_a_world_again : RunsMakeAWorldAgain
 runs_make_a_world_again old new events answers fits one run =

@@ -20,11 +20,15 @@ pub data Handed : Type 0 where
   Answered : SiteInput → Effects → Handed
   Broken : SiteInput → Handed
 
--- from the record old, these inputs lead to new
-abbrev pub StandsAfter : Record → List Handed → Record → Type 0
-StandsAfter old [] new = new ≡ old
-StandsAfter old (Answered input effects ∷ rest) new = (mid : Record) × Does old input effects mid × StandsAfter mid rest new
-StandsAfter old (Broken input ∷ rest) new = StandsAfter old rest new ⊎ ((mid : Record) × IsAfter old input mid × StandsAfter mid rest new)
+-- new stands after these steps from old, one after another, each of which leads on so
+abbrev pub StandsAfter : {R S : Type 0} → (R → S → R → Type 0) → R → List S → R → Type 0
+StandsAfter step old [] new = new ≡ old
+StandsAfter {R} step old (x ∷ xs) new = (mid : R) × step old x mid × StandsAfter step mid xs new
+
+-- what an input leads to that was handed to a site
+abbrev pub LeadsOn : Record → Handed → Record → Type 0
+LeadsOn old (Answered input effects) new = Does old input effects new
+LeadsOn old (Broken input) new = (new ≡ old) ⊎ IsAfter old input new
 
 -- what an event gives to its site
 abbrev pub input_told : List Frame → WorldEvent → Option SiteInput
@@ -50,7 +54,7 @@ handed_to site sent events answers = []
 pub record StandsAsKept (site : ℕ) (old : Record) (events : List WorldEvent) (answers : List Answer) (new : WorldState) : Type 0 where
   pub now : Record
   pub there : slice_get (records new) site ≡ Some now
-  pub kept : StandsAfter old (handed_to site new.sent events answers) now
+  pub kept : StandsAfter LeadsOn old (handed_to site new.sent events answers) now
 
 -- after a run there are the same sites, and each stands so
 pub record SitesStand (old : WorldState) (events : List WorldEvent) (answers : List Answer) (new : WorldState) : Type 0 where

@@ -10,7 +10,7 @@ use Rattle.site_core.specs.declared.outcomes.Refusal.{Refusal}
 use Rattle.keeper_core.specs.Keeping.{IsAfter}
 use Rattle.keeper_core.specs.declared.faults.KeepFault.TheVariants.{Refused, Device, Store}
 use Rattle.world_core.specs.Faults.{AreOneWorld, MakeAWorld}
-use Rattle.world_core.specs.KeptSteps.{StandsAfter, handed}
+use Rattle.world_core.specs.KeptSteps.{LeadsOn, StandsAfter, handed}
 use Rattle.world_core.specs.Recalls.{HasEnded, ended_in}
 use Rattle.world_core.specs.Turns.{Runs}
 use Rattle.world_core.specs.Worlds.{WorldState, WorldFits, records}
@@ -57,16 +57,16 @@ RunsMakeAWorldAgain =
 abbrev pub AnsweredStepsAreWhole : Type 0
 AnsweredStepsAreWhole =
     (old new : Record) (input : SiteInput) (effects : Effects)
-    → StandsAfter old (handed (Done effects) (Some input)) new ↔ Does old input effects new
+    → StandsAfter LeadsOn old (handed (Done effects) (Some input)) new ↔ Does old input effects new
 
 -- One in which the site stopped, or its device or its store failed, stands whole or not at all.
 abbrev pub IsWholeOrAbsent : Answer → Type 0
 IsWholeOrAbsent answer =
-    (old new : Record) (input : SiteInput) → StandsAfter old (handed answer (Some input)) new ↔ ((new ≡ old) ⊎ IsAfter old input new)
+    (old new : Record) (input : SiteInput) → StandsAfter LeadsOn old (handed answer (Some input)) new ↔ ((new ≡ old) ⊎ IsAfter old input new)
 
 -- A step that is refused, or finds no memory, doesn't stand.
 abbrev pub IsAbsent : Answer → Type 0
-IsAbsent answer = (old new : Record) (input : SiteInput) → StandsAfter old (handed answer (Some input)) new ↔ (new ≡ old)
+IsAbsent answer = (old new : Record) (input : SiteInput) → StandsAfter LeadsOn old (handed answer (Some input)) new ↔ (new ≡ old)
 
 abbrev pub OthersAreAbsent : Type 0
 OthersAreAbsent = ((why : Refusal) → IsAbsent (Fault (Refused why))) × IsAbsent NoMemory

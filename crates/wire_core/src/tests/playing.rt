@@ -7,10 +7,10 @@ ghost use Rattle.world_core.specs.Turns.{addressee};
 ghost use Rattle.wire_core.specs.declared.views.Log.{Log};
 ghost use Rattle.wire_core.specs.Answers.{MayTake};
 ghost use Rattle.wire_core.specs.Frames.{sender};
-ghost use Rattle.wire_core.specs.Playing.{MayPlay, MayBePosted, MayGoOn, IsNext, PlaysOn, HasNoted, Leaves};
+ghost use Rattle.wire_core.specs.Playing.{MayPlay, MayBePosted, MayGoOn, IsNext, PlaysOn, HasNoted, MarksNothing};
 ghost use Rattle.wire_core.specs.Rule.{logs_from};
 ghost use Rattle.wire_core.specs.Seats.{IsSeatOf};
-ghost use Rattle.wire_core.specs.Standing.{StandsAs};
+ghost use Rattle.wire_core.specs.Standing.{WasLastMarked};
 
 use crate::{Post, Seat, Wire, ways};
 use event_json::SiteNo;
@@ -67,7 +67,7 @@ fn post_asked(wire: &Wire, seat: &mut Seat, state: &SiteState, mut frame: Frame,
     requires seat { MayPlay wire.now seat.old state.now }
     requires frame { MayBePosted state.now frame }
     ensures seat { IsSeatOf wire.now seat.new }
-    ensures left { Leaves seat.old.logs seat.new.logs }
+    ensures left { MarksNothing seat.old.logs seat.new.logs }
 {
     for _ in 0..times {
         match wire.post(seat, frame) {
@@ -91,7 +91,7 @@ pub fn post_first(
 ) -> Option<Post>
     requires seat { MayPlay wire.now seat.old state.now }
     ensures seat { IsSeatOf wire.now seat.new }
-    ensures left { Leaves seat.old.logs seat.new.logs }
+    ensures left { MarksNothing seat.old.logs seat.new.logs }
 {
     match first_frame(alloc, state) {
         Some(frame) => Some(post_asked(wire, seat, state, frame, times)),
@@ -104,7 +104,7 @@ fn take_asked(wire: &Wire, seat: &mut Seat, me: SiteNo, other: SiteNo, times: u3
     requires seat { IsSeatOf wire.now seat.old }
     requires may { MayTake wire.now.sites me other seat.old.logs }
     ensures seat { IsSeatOf wire.now seat.new }
-    ensures left { Leaves seat.old.logs seat.new.logs }
+    ensures left { MarksNothing seat.old.logs seat.new.logs }
     ensures noted { IfSome result (λ f. HasNoted me f seat.new.logs) }
 {
     for _ in 0..times {

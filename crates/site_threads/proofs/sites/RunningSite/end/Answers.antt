@@ -3,14 +3,14 @@ use Rattle.std.specs.Prelude.{IsTrue}
 use Rattle.site_core.specs.Records.{Record}
 use Rattle.site_threads.specs.declared.desks.DeskOut.{DeskOut}
 use Rattle.site_threads.specs.declared.jobs.Job.{Job}
-use Rattle.site_threads.specs.Keepers.{shown_in}
+use Rattle.site_threads.specs.Keepers.{shown_if}
 use Rattle.site_threads.specs.Resting.{IsDone}
 use Rattle.site_threads.proofs.Continuing.{fits_still, out_stays}
 use Rattle.site_threads.proofs.Refusing.{lost_hinders}
 use Rattle.site_threads.proofs.sites.RunningSite.end.Goals as goal
 
 -- a site that is done stays so while its keeper shows the same record
-still_done : {K : Type 0} (shown : K → Option Record) (old new : Option K) (out out' : DeskOut) (pending pending' : Option Job) → ((r : Record) → shown_in shown old ≡ Some r → shown_in shown new ≡ Some r) → out' ≡ out → pending' ≡ pending → IsDone shown old out pending → IsDone shown new out' pending'
+still_done : {K : Type 0} (shown : K → Option Record) (old new : Option K) (out out' : DeskOut) (pending pending' : Option Job) → ((r : Record) → shown_if shown old ≡ Some r → shown_if shown new ≡ Some r) → out' ≡ out → pending' ≡ pending → IsDone shown old out pending → IsDone shown new out' pending'
 still_done shown old new out out' pending pending' stays same none done = record {
   gone = subst (λ (d : DeskOut). IsTrue d.gone) (sym same) done.gone;
   none = none ∙ done.none;

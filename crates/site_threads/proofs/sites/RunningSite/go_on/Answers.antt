@@ -1,7 +1,7 @@
 use Rattle.std.proofs.Common.{◌∙◌, ◌++◌, ap, refl, sym}
 use Rattle.site_threads.specs.Passing.{Incoming, owed_in}
 use Rattle.site_threads.specs.Offers.{owed_by}
-use Rattle.site_threads.specs.Keepers.{shown_in}
+use Rattle.site_threads.specs.Keepers.{shown_if}
 use Rattle.std.specs.Prelude.{is_some}
 use Rattle.site_threads.proofs.Wired.{takes_as}
 use Rattle.site_threads.proofs.Delivering.{delivers_as}
@@ -14,7 +14,7 @@ returns-in-Ok-clause-entered g c =
     let sent = c.send_all-given.ensures in
     let job = c.do_job.ensures in
     rw (← job.same.wire)
-    (takes_as _ _ _ _ _ _ _ _ _ _ _ _ _ _ _ _ _ _ job.same.me job.passes.0 (sym sent.takes.0) c.in-Ok.ensures.stopped (sym (ap (λ k. is_some (shown_in shown k)) sent.takes.2)) c.in-Ok.ensures.entered (sym sent.takes.1) c.receive_all-received.ensures.frames)
+    (takes_as _ _ _ _ _ _ _ _ _ _ _ _ _ _ _ _ _ _ job.same.me job.passes.0 (sym sent.takes.0) c.in-Ok.ensures.stopped (sym (ap (λ k. is_some (shown_if shown k)) sent.takes.2)) c.in-Ok.ensures.entered (sym sent.takes.1) c.receive_all-received.ensures.frames)
 
 pub returns-in-Ok-clause-sent : goal.returns-in-Ok-clause-sent
 returns-in-Ok-clause-sent g c took is =

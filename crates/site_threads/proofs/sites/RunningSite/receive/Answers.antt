@@ -1,7 +1,7 @@
 use Rattle.std.proofs.Common.{◌+◌, ◌≢◌, ◌≡◌, ◌<◌, length, set, sym, subst, None, is_some, true, refl, ap, ◌∙◌, rules}
 use Rattle.std.proofs.lemmas.Bool.{eqb-true}
 use Rattle.wire_core.specs.Changes.{asks, receives}
-use Rattle.site_threads.specs.Keepers.{shown_in}
+use Rattle.site_threads.specs.Keepers.{shown_if}
 use Rattle.site_threads.specs.Offers.{message_of}
 use Rattle.site_threads.specs.Passing.{Incoming, OwesFor, TakesFrames, incoming}
 use Rattle.site_threads.specs.Views.{running}
@@ -15,7 +15,7 @@ use Rattle.site_threads.proofs.sites.RunningSite.receive.Goals as goal
 pub returns-then-eq-clause-frames : goal.returns-then-eq-clause-frames
 returns-then-eq-clause-frames g c =
     let s = running c.self.inside in
-    let b = is_some (shown_in g.K.SiteKeeper.shown s.keeper) in
+    let b = is_some (shown_if g.K.SiteKeeper.shown s.keeper) in
     let same : s.me ≡ c.args.number = sym (eqb-true _ _ (sym c.eq.ensures ∙ c.if-eq.true)) ∙ c.in-Some.ensures.value in
     rw (← c.self.view_is, c.none.ensures) (subst (λ k. TakesFrames s.me k (k + 1) (incoming s.seat.logs) (incoming s.seat.logs) b b s.entries s.entries 0 0) same (takes_itself s.me (incoming s.seat.logs) b s.entries))
 
@@ -58,13 +58,13 @@ enter-requires-clause-noted g c = taken_delivers _ _ _ _ _ _ _ c.self.invariant.
 pub returns-then-is_none-clause-frames : goal.returns-then-is_none-clause-frames
 returns-then-is_none-clause-frames g c =
     let s = running c.self.inside in
-    let shut : shown_in g.K.SiteKeeper.shown s.keeper ≡ None = search rules in
+    let shut : shown_if g.K.SiteKeeper.shown s.keeper ≡ None = search rules in
     rw (← c.self.view_is, c.none-then-is_none.ensures) (takes_closed s.me c.args.number (incoming s.seat.logs) _ s.entries (ap is_some shut))
 
 pub returns-in_default-take-clause-frames : goal.returns-in_default-take-clause-frames
 returns-in_default-take-clause-frames g c =
     let h = c.self.invariant.runs in
-    let up : is_some (shown_in g.K.SiteKeeper.shown c.self.inside.keeper) ≡ true = search rules in
+    let up : is_some (shown_if g.K.SiteKeeper.shown c.self.inside.keeper) ≡ true = search rules in
     let apart : c.in-Some.other ≢ c.self.inside.me = search rules in
     let one = asked_one h.log _ _ _ h.alone h.own.site c.in-Some.other c.in_default-take.ensures.answer.0 in
     rw (← c.in-Some.ensures.value, ← c.self.view_is, c.none-in_default-take.ensures) (takes_in_vain _ c.in-Some.other _ _ _ _ apart up one.0 one.1)
@@ -74,7 +74,7 @@ returns-clause-frames g c =
     let h = c.self.invariant.runs in
     let a = c.in-Some-take.ensures.answer in
     let e = c.enter.ensures in
-    let up : is_some (shown_in g.K.SiteKeeper.shown c.self.inside.keeper) ≡ true = search rules in
+    let up : is_some (shown_if g.K.SiteKeeper.shown c.self.inside.keeper) ≡ true = search rules in
     let apart : c.in-Some.other ≢ c.self.inside.me = search rules in
     let one = noted_one h.log _ _ _ h.alone h.own.site c.in-Some.other c.in-Some-take.frame a.0 in
     rw (← c.in-Some.ensures.value, ← c.self.view_is) (takes_one _ _ _ _ _ c.in-Some-take.frame _ _ _ _ _ _ one.0 one.1 e.passes.0 a.1 a.2 apart up e.frames)

@@ -3,7 +3,7 @@ use Rattle.std.proofs.lemmas.Bool.{eqb-true}
 use Rattle.std.proofs.lemmas.List.{get_or-set_same}
 use Rattle.std.specs.Prelude.{IfSome, option_map}
 use Rattle.frame_core.specs.declared.frames.Frame.{Frame}
-use Rattle.site_threads.specs.Keepers.{shown_in}
+use Rattle.site_threads.specs.Keepers.{shown_if}
 use Rattle.site_threads.specs.Offers.{IsFor, IsRound, message_of, moved, round_at}
 use Rattle.site_threads.specs.Passing.{PostsFrames, outgoing, owed_in, place_of}
 use Rattle.site_threads.specs.Views.{running}
@@ -21,7 +21,7 @@ pub returns-then-eq-clause-posted : goal.returns-then-eq-clause-posted
 returns-then-eq-clause-posted g c =
     let s = running c.self.inside in
     let same : s.me ≡ c.args.number = sym (eqb-true _ _ (sym c.eq.ensures ∙ c.if-eq.true)) ∙ c.in-Some.ensures.value in
-    let shown = shown_in g.K.SiteKeeper.shown s.keeper in
+    let shown = shown_if g.K.SiteKeeper.shown s.keeper in
     let out = outgoing s.seat.logs in
     rw (← c.self.view_is)
     (subst (λ (z : Given). PostsFrames s.me c.args.number (c.args.number + 1) shown (owed_in s) out out (place_of s) (place_of s) z.posted z.uncopied) (sym c.none.ensures)
@@ -32,7 +32,7 @@ pub next_message-next-requires : goal.next_message-next-requires
 next_message-next-requires g c =
     let s = running c.self.inside in
     let at = c.number-place.result in
-    record { round = subst (λ k. IfSome (shown_in g.K.SiteKeeper.shown s.keeper) (λ r. IsRound r.engagement k (round_at s.rounds at))) c.number-place.ensures.value (shown_round _ _ _ _ _ _ _ c.self.invariant.runs s.rounds c.self.invariant.rounds at) }
+    record { round = subst (λ k. IfSome (shown_if g.K.SiteKeeper.shown s.keeper) (λ r. IsRound r.engagement k (round_at s.rounds at))) c.number-place.ensures.value (shown_round _ _ _ _ _ _ _ c.self.invariant.runs s.rounds c.self.invariant.rounds at) }
 
 pub invariant_of-self : goal.invariant_of-self
 invariant_of-self g c = record {
@@ -47,7 +47,7 @@ pub returns-in_default-view_of-clause-posted : goal.returns-in_default-view_of-c
 returns-in_default-view_of-clause-posted g c =
     let s = running c.self.inside in
     let at = c.number-place.result in
-    let shown = shown_in g.K.SiteKeeper.shown s.keeper in
+    let shown = shown_if g.K.SiteKeeper.shown s.keeper in
     let out = outgoing s.seat.logs in
     let found = c.next_message-next.new.round in
     let shut : shown ≡ None = search rules in
@@ -72,7 +72,7 @@ returns-in_default-offered-clause-posted g c =
     let apart : c.in-Some.to ≢ s.me = search rules in
     let at = c.number-place.result in
     let value = c.number-place.ensures.value in
-    let shown = shown_in g.K.SiteKeeper.shown s.keeper in
+    let shown = shown_if g.K.SiteKeeper.shown s.keeper in
     let r = c.in-Some-view_of.state.now in
     let stands = sym c.in-Some-view_of.ensures in
     let found = c.next_message-next.new.round in
@@ -99,7 +99,7 @@ returns-in_default-found-clause-posted g c =
     let apart : c.in-Some.to ≢ s.me = search rules in
     let at = c.number-place.result in
     let value = c.number-place.ensures.value in
-    let shown = shown_in g.K.SiteKeeper.shown s.keeper in
+    let shown = shown_if g.K.SiteKeeper.shown s.keeper in
     let out = outgoing s.seat.logs in
     let r = c.in-Some-view_of.state.now in
     let stands = sym c.in-Some-view_of.ensures in
@@ -152,7 +152,7 @@ returns-clause-posted g c =
     let apart : c.in-Some.to ≢ s.me = search rules in
     let at = c.number-place.result in
     let value = c.number-place.ensures.value in
-    let shown = shown_in g.K.SiteKeeper.shown s.keeper in
+    let shown = shown_if g.K.SiteKeeper.shown s.keeper in
     let h = c.self.invariant.runs in
     let r = c.in-Some-view_of.state.now in
     let stands = sym c.in-Some-view_of.ensures in

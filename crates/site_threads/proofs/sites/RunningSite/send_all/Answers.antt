@@ -1,5 +1,5 @@
 use Rattle.std.proofs.Common.{◌∙◌, ap, refl, sym, arith}
-use Rattle.site_threads.specs.Keepers.{shown_in}
+use Rattle.site_threads.specs.Keepers.{shown_if}
 use Rattle.site_threads.proofs.Continuing.{continues_none, continues_on}
 use Rattle.site_threads.proofs.Posting.{owed_of, posts_as, posts_more, posts_none, wishes_none}
 use Rattle.site_threads.proofs.Wired.{others_none}
@@ -23,7 +23,7 @@ loop-number-preserved g c =
       same = continues_on g.K.SiteKeeper.stored 0 0 0 _ _ _ (omega arith) i.same t.same;
       takes = (t.takes.0 ∙ i.takes.0, t.takes.1 ∙ i.takes.1, t.takes.2 ∙ i.takes.2, t.takes.3 ∙ i.takes.3);
       posted = posts_more _ 0 _ _ _ _ _ _ _ _ _ _ _ _ _ _ (omega arith) (omega arith)
-          (posts_as _ _ _ _ _ _ _ _ _ _ _ _ _ _ _ _ refl (sym (ap (shown_in g.K.SiteKeeper.shown) t.takes.2)) refl refl refl i.posted)
+          (posts_as _ _ _ _ _ _ _ _ _ _ _ _ _ _ _ _ refl (sym (ap (shown_if g.K.SiteKeeper.shown) t.takes.2)) refl refl refl i.posted)
           (posts_as _ _ _ _ _ _ _ _ _ _ _ _ _ _ _ _ i.same.me refl (ap owed_of i.takes.3) refl refl t.posted);
       count = omega (arith, one, sum);
     }

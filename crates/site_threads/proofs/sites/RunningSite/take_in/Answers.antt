@@ -3,7 +3,7 @@ use Rattle.std.specs.Prelude.{IfSome, vec_len}
 use Rattle.keeper_core.specs.Keeping.{Applies}
 use Rattle.site_threads.specs.Inputs.{is_delivery}
 use Rattle.site_threads.specs.Jobs.{reply_to}
-use Rattle.site_threads.specs.Keepers.{shown_in, may_in}
+use Rattle.site_threads.specs.Keepers.{shown_if, may_if}
 use Rattle.site_threads.specs.Running.{MarksChange, MayDeliver, MayFollow}
 use Rattle.site_threads.proofs.Answered.{told_so, stays_open}
 use Rattle.site_threads.proofs.Delivering.{is_short}
@@ -23,14 +23,14 @@ invariant_of-self g c = record {
 
 pub returns-in_default-clause-back : goal.returns-in_default-clause-back
 returns-in_default-clause-back g c =
-    rw (← c.self.view_is) (refl, refl, (no_memory _ _ _ _ _ _ _ c.self.invariant.runs (rw (← c.self.view_is) at c.requires.open) c.args.input c.apply_to.result c.is_delivery-frame.result _ (may_in g.K.SiteKeeper.may c.apply_to.new.keeper) c.apply_to.ensures.step (sym c.in_default.is ∙ c.answered.ensures)).1)
+    rw (← c.self.view_is) (refl, refl, (no_memory _ _ _ _ _ _ _ c.self.invariant.runs (rw (← c.self.view_is) at c.requires.open) c.args.input c.apply_to.result c.is_delivery-frame.result _ (may_if g.K.SiteKeeper.may c.apply_to.new.keeper) c.apply_to.ensures.step (sym c.in_default.is ∙ c.answered.ensures)).1)
 
 pub follow_shown-self-inside-requires-clause-may : goal.follow_shown-self-inside-requires-clause-may
 follow_shown-self-inside-requires-clause-may g c =
     let same = sym c.requires.asked in
-    subst (λ i. IfSome (shown_in g.K.SiteKeeper.shown c.apply_to.new.keeper) (MayFollow c.self.inside.seat.logs c.self.inside.stamp i)) (sym c.input.ensures)
-    (may_follow _ _ _ _ _ _ _ c.self.invariant.runs (rw (← c.self.view_is) at c.requires.open) c.args.asked c.apply_to.result c.is_delivery-frame.result _ (may_in g.K.SiteKeeper.may c.apply_to.new.keeper)
-    (λ old is. subst (λ i. Applies old i c.apply_to.result (shown_in g.K.SiteKeeper.shown c.apply_to.new.keeper) (may_in g.K.SiteKeeper.may c.apply_to.new.keeper)) same (c.apply_to.ensures.step old is)) (rw (← c.self.view_is) at c.requires.few)
+    subst (λ i. IfSome (shown_if g.K.SiteKeeper.shown c.apply_to.new.keeper) (MayFollow c.self.inside.seat.logs c.self.inside.stamp i)) (sym c.input.ensures)
+    (may_follow _ _ _ _ _ _ _ c.self.invariant.runs (rw (← c.self.view_is) at c.requires.open) c.args.asked c.apply_to.result c.is_delivery-frame.result _ (may_if g.K.SiteKeeper.may c.apply_to.new.keeper)
+    (λ old is. subst (λ i. Applies old i c.apply_to.result (shown_if g.K.SiteKeeper.shown c.apply_to.new.keeper) (may_if g.K.SiteKeeper.may c.apply_to.new.keeper)) same (c.apply_to.ensures.step old is)) (rw (← c.self.view_is) at c.requires.few)
     (subst (λ i. MayDeliver i c.self.inside.seat.logs) same (rw (← c.self.view_is) at c.requires.noted)))
 
 pub invariant_of-self-2 : goal.invariant_of-self-2
@@ -42,14 +42,14 @@ invariant_of-self-2 g c =
     record {
       seat = c.follow_shown-self-inside.ensures.seat;
       there = c.apply_to.ensures.there;
-      runs = took_in _ _ _ _ _ _ _ c.self.invariant.runs (rw (← c.self.view_is) at c.requires.open) c.args.asked c.apply_to.result c.is_delivery-frame.result _ (may_in g.K.SiteKeeper.may c.apply_to.new.keeper)
-          (λ old is. subst (λ i. Applies old i c.apply_to.result (shown_in g.K.SiteKeeper.shown c.apply_to.new.keeper) (may_in g.K.SiteKeeper.may c.apply_to.new.keeper)) same (c.apply_to.ensures.step old is))
+      runs = took_in _ _ _ _ _ _ _ c.self.invariant.runs (rw (← c.self.view_is) at c.requires.open) c.args.asked c.apply_to.result c.is_delivery-frame.result _ (may_if g.K.SiteKeeper.may c.apply_to.new.keeper)
+          (λ old is. subst (λ i. Applies old i c.apply_to.result (shown_if g.K.SiteKeeper.shown c.apply_to.new.keeper) (may_if g.K.SiteKeeper.may c.apply_to.new.keeper)) same (c.apply_to.ensures.step old is))
           p _ _ _ _ (c.is_delivery-frame.ensures ∙ ap is_delivery same) e (subst (λ i. MayDeliver i c.self.inside.seat.logs) same (rw (← c.self.view_is) at c.requires.noted)) c.follow_shown-self-inside.ensures.follows
-          (subst (λ i. IfSome (shown_in g.K.SiteKeeper.shown c.apply_to.new.keeper) (λ r. MarksChange c.self.inside.seat.logs i r c.follow_shown-self-inside.new.seat.logs)) c.input.ensures c.follow_shown-self-inside.ensures.marks)
+          (subst (λ i. IfSome (shown_if g.K.SiteKeeper.shown c.apply_to.new.keeper) (λ r. MarksChange c.self.inside.seat.logs i r c.follow_shown-self-inside.new.seat.logs)) c.input.ensures c.follow_shown-self-inside.ensures.marks)
           (let l = c.self.inside.entries.ok.0 in omega arith) items;
       rounds = may_follow_rounds _ c.self.inside.seat.logs c.follow_shown-self-inside.new.seat.logs _ _ c.args.asked c.self.inside.rounds
-          (may_follow _ _ _ _ _ _ _ c.self.invariant.runs (rw (← c.self.view_is) at c.requires.open) c.args.asked c.apply_to.result c.is_delivery-frame.result _ (may_in g.K.SiteKeeper.may c.apply_to.new.keeper)
-          (λ old is. subst (λ i. Applies old i c.apply_to.result (shown_in g.K.SiteKeeper.shown c.apply_to.new.keeper) (may_in g.K.SiteKeeper.may c.apply_to.new.keeper)) same (c.apply_to.ensures.step old is)) (rw (← c.self.view_is) at c.requires.few)
+          (may_follow _ _ _ _ _ _ _ c.self.invariant.runs (rw (← c.self.view_is) at c.requires.open) c.args.asked c.apply_to.result c.is_delivery-frame.result _ (may_if g.K.SiteKeeper.may c.apply_to.new.keeper)
+          (λ old is. subst (λ i. Applies old i c.apply_to.result (shown_if g.K.SiteKeeper.shown c.apply_to.new.keeper) (may_if g.K.SiteKeeper.may c.apply_to.new.keeper)) same (c.apply_to.ensures.step old is)) (rw (← c.self.view_is) at c.requires.few)
           (subst (λ i. MayDeliver i c.self.inside.seat.logs) same (rw (← c.self.view_is) at c.requires.noted)))
           c.follow_shown-self-inside.ensures.follows c.self.invariant.rounds;
       out = c.self.invariant.out;
@@ -63,7 +63,7 @@ returns-clause-told g c =
 
 pub returns-clause-stopped : goal.returns-clause-stopped
 returns-clause-stopped g c =
-    stays_open (shown_in g.K.SiteKeeper.shown c.self.inside.keeper) _ (may_in g.K.SiteKeeper.may c.apply_to.new.keeper) c.args.input c.apply_to.result c.is_delivery-frame.result c.in-Some.reply (rw (← c.self.view_is) at c.requires.open) c.apply_to.ensures.step (sym c.in-Some.is ∙ c.answered.ensures)
+    stays_open (shown_if g.K.SiteKeeper.shown c.self.inside.keeper) _ (may_if g.K.SiteKeeper.may c.apply_to.new.keeper) c.args.input c.apply_to.result c.is_delivery-frame.result c.in-Some.reply (rw (← c.self.view_is) at c.requires.open) c.apply_to.ensures.step (sym c.in-Some.is ∙ c.answered.ensures)
 
 pub returns-clause-passes : goal.returns-clause-passes
 returns-clause-passes g c = let h = c.self.invariant.runs in let p = may_follow_pass _ h.log c.self.inside.seat.logs c.follow_shown-self-inside.new.seat.logs _ _ h.alone c.follow_shown-self-inside.ensures.follows in rw (← c.self.view_is) (p.0, (p.1, refl))
