@@ -8,8 +8,8 @@ use crate::outcomes::{AuditedRecall, CommandRefusal, Outcome, is_open, some_open
 use site_core::{Effects, Refusal};
 
 impl Outcome {
-    /// What to do next, or what should be known of it: a line for the error stream, behind the answer, which begins with
-    /// `note: `. `None` where there is nothing to add. What a capture and a run tell beside their answer they tell
+    /// What to do next, or what should be known of it: a line for the error stream, behind the answer, which begins
+    /// with `note: `. `None` where there is nothing to add. What a capture and a run tell beside their answer they tell
     /// themselves.
     pub fn advice(&self) -> Option<&'static str>
         ensures { option_map (λ t. t.now) result ≡ advice self.now }

@@ -22,13 +22,15 @@ pub enum Task {
 /// What came of an input.
 #[derive(Debug, Drop)]
 pub enum InputOutcome {
-    /// A document was captured: so many of its events are new, were captured before, and are of a type that isn't traced.
+    /// A document was captured: so many of its events are new, were captured before, and are of a type that isn't
+    /// traced.
     Captured {
         fresh: u64,
         known: u64,
         skipped: u64,
     },
-    /// A recall was started: so many items came under it there, so many messages were numbered, and whether it has ended.
+    /// A recall was started: so many items came under it there, so many messages were numbered, and whether it has
+    /// ended.
     Started {
         recall: RecallId,
         quarantined: u64,
@@ -113,7 +115,8 @@ fn started_words(
     messages: u64,
     ended: bool,
 ) -> Result<String, AllocError>
-    ensures { IfOk result (λ t. string_bytes t ≡ started_words sites.now recall quarantined messages ended) }
+    ensures { IfOk result (λ t. string_bytes t
+        ≡ started_words sites.now recall quarantined messages ended) }
 {
     let recall = recall_text(alloc, sites, recall)?;
     let recall = recall.as_str();

@@ -59,7 +59,8 @@ fn bare_cause(
     words: &str,
     kind: &str,
 ) -> Result<Value, AllocError>
-    ensures { IfOk result (λ v. view v ≡ object (caused_with name.now file.now words.now kind.now no_members)) }
+    ensures { IfOk result (λ v. view v
+        ≡ object (caused_with name.now file.now words.now kind.now no_members)) }
 {
     json!(in alloc; {"cause": words, "fault": name, "file": file, "kind": kind})
 }
@@ -72,7 +73,9 @@ fn table_cause(
     kind: &str,
     table: &str,
 ) -> Result<Value, AllocError>
-    ensures { IfOk result (λ v. view v ≡ object (caused_with name.now file.now words.now kind.now (text_at (codes "table") table.now no_members))) }
+    ensures { IfOk result (λ v. view v
+        ≡ object (caused_with name.now file.now words.now kind.now
+        (text_at (codes "table") table.now no_members))) }
 {
     json!(in alloc; {"cause": words, "fault": name, "file": file, "kind": kind, "table": table})
 }
@@ -85,7 +88,9 @@ fn name_cause(
     kind: &str,
     named: &str,
 ) -> Result<Value, AllocError>
-    ensures { IfOk result (λ v. view v ≡ object (caused_with name.now file.now words.now kind.now (text_at (codes "name") named.now no_members))) }
+    ensures { IfOk result (λ v. view v
+        ≡ object (caused_with name.now file.now words.now kind.now
+        (text_at (codes "name") named.now no_members))) }
 {
     json!(in alloc; {"cause": words, "fault": name, "file": file, "kind": kind, "name": named})
 }
@@ -99,7 +104,9 @@ fn row_cause(
     table: &str,
     row: u64,
 ) -> Result<Value, AllocError>
-    ensures { IfOk result (λ v. view v ≡ object (caused_with name.now file.now words.now kind.now (count_at (codes "row") row (text_at (codes "table") table.now no_members)))) }
+    ensures { IfOk result (λ v. view v
+        ≡ object (caused_with name.now file.now words.now kind.now
+        (count_at (codes "row") row (text_at (codes "table") table.now no_members)))) }
 {
     json!(in alloc; {"cause": words, "fault": name, "file": file, "kind": kind, "row": row, "table": table})
 }
@@ -112,7 +119,9 @@ fn version_cause(
     kind: &str,
     version: i64,
 ) -> Result<Value, AllocError>
-    ensures { IfOk result (λ v. view v ≡ object (caused_with name.now file.now words.now kind.now (member (codes "version") (number (of_integer version)) no_members))) }
+    ensures { IfOk result (λ v. view v
+        ≡ object (caused_with name.now file.now words.now kind.now
+        (member (codes "version") (number (of_integer version)) no_members))) }
 {
     json!(in alloc; {"cause": words, "fault": name, "file": file, "kind": kind, "version": version})
 }
@@ -125,7 +134,9 @@ fn site_cause(
     kind: &str,
     site: &str,
 ) -> Result<Value, AllocError>
-    ensures { IfOk result (λ v. view v ≡ object (caused_with name.now file.now words.now kind.now (text_at (codes "site") site.now no_members))) }
+    ensures { IfOk result (λ v. view v
+        ≡ object (caused_with name.now file.now words.now kind.now
+        (text_at (codes "site") site.now no_members))) }
 {
     json!(in alloc; {"cause": words, "fault": name, "file": file, "kind": kind, "site": site})
 }

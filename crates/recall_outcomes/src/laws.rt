@@ -48,7 +48,8 @@ pub fn values_tell_kinds()
     ensures { ValuesTellKinds }
 {}
 
-/// Two outcomes of one kind whose values are the same have the same contents, where the sites that they name are listed.
+/// Two outcomes of one kind whose values are the same have the same contents, where the sites that they name are
+/// listed.
 pub fn values_tell_outcomes()
     ensures { ValuesTellOutcomes }
 {}

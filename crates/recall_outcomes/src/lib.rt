@@ -17,6 +17,7 @@ mod places;
 mod printing;
 mod query_json;
 mod query_texts;
+mod report_json;
 mod report_texts;
 mod sentences;
 mod step_json;

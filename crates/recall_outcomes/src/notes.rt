@@ -54,7 +54,8 @@ fn push_note(
     one: &str,
     more: &str,
 ) -> Result<(), AllocError>
-    ensures { OnOk result (string_bytes text.new ≡ string_bytes text.old ++ note_line count one.now more.now) }
+    ensures { OnOk result (string_bytes text.new
+        ≡ string_bytes text.old ++ note_line count one.now more.now) }
 {
     if count == 0 {
         return Ok(());

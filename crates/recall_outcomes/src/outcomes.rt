@@ -138,8 +138,8 @@ pub enum CommandRefusal {
 }
 
 impl Outcome {
-    /// The status of a program that ends with it: 0 done, 1 refused, 4 a discrepancy, and where it was asked for, 5 for a
-    /// recall that is open.
+    /// The status of a program that ends with it: 0 done, 1 refused, 4 a discrepancy, and where it was asked for, 5 for
+    /// a recall that is open.
     pub fn status(&self) -> u8
         ensures { result ≡ outcome_status self.now }
     {

@@ -13,8 +13,8 @@ use report_core::OutsideShipment;
 use std::alloc::{AllocError, Global};
 
 impl Outcome {
-    /// Of a report, or of a trace to where an item went: for each listed address of a site that names a place outside in
-    /// another spelling a line that begins with `note: `, with the first such place. Empty for every other outcome.
+    /// Of a report, or of a trace to where an item went: for each listed address of a site that names a place outside
+    /// in another spelling a line that begins with `note: `, with the first such place. Empty for every other outcome.
     ///
     /// # Errors
     /// Where memory runs out.
@@ -40,7 +40,8 @@ impl Outcome {
 
 /// A line for each address of a site that names one of these places.
 fn notes_of(alloc: Global, sites: &Sites, outside: &[OutsideShipment]) -> Result<String, AllocError>
-    ensures { IfOk result (λ t. string_bytes t ≡ sites_below sites.now outside.now (length sites.now)) }
+    ensures { IfOk result (λ t. string_bytes t ≡ sites_below sites.now outside.now
+        (length sites.now)) }
 {
     let mut text = String::new(alloc);
     for number in 0..sites.len() {
@@ -61,7 +62,8 @@ fn push_site(
     outside: &[OutsideShipment],
     site: SiteNo,
 ) -> Result<(), AllocError>
-    ensures { OnOk result (string_bytes text.new ≡ string_bytes text.old ++ site_notes sites.now outside.now site) }
+    ensures { OnOk result (string_bytes text.new
+        ≡ string_bytes text.old ++ site_notes sites.now outside.now site) }
 {
     let name = name_of(sites, site);
     for place in 0..MAX_ADDRESSES as u64 {
@@ -107,7 +109,8 @@ fn push_note(
     name: &str,
     address: &str,
 ) -> Result<(), AllocError>
-    ensures { OnOk result (string_bytes text.new ≡ string_bytes text.old ++ place_note place.now name.now address.now) }
+    ensures { OnOk result (string_bytes text.new
+        ≡ string_bytes text.old ++ place_note place.now name.now address.now) }
 {
     let line = format!(in alloc;
         "note: the destination {place} may be {name}, whose address {address} names the same place\n"

@@ -13,11 +13,11 @@ use crate::causes::Failure;
 use crate::fault_json::fault_json;
 use crate::faults::Fault;
 use crate::outcome_json::{
-    audited_json, created_json, effects_json, input_json, misfit_json, note_json, ran_json,
-    report_json, totals_json, why_json,
+    created_json, effects_json, input_json, note_json, ran_json, totals_json, why_json,
 };
 use crate::outcomes::{AuditedRecall, CommandRefusal, Form, Outcome, StartedRecall};
 use crate::query_json::{detail_json, known_json, status_json, would_json};
+use crate::report_json::{audited_json, misfit_json, report_json};
 use crate::told_events::told_events;
 use crate::trace_json::{back_json, trace_json};
 use event_json::{SiteNo, Sites};
@@ -157,14 +157,16 @@ fn one_line(alloc: Global, value: &Value) -> Result<String, AllocError>
 /// Adds a value in a line of its own.
 fn push_line(alloc: Global, text: &mut String, value: &Value) -> Result<(), AllocError>
     requires { has_float (view value.now) ≡ false }
-    ensures { OnOk result (string_bytes text.new ≡ string_bytes text.old ++ json_line (view value.now)) }
+    ensures { OnOk result (string_bytes text.new ≡ string_bytes text.old ++ json_line
+        (view value.now)) }
 {
     let line = one_line(alloc, value)?;
     text.push_str(line.as_str())
 }
 
 fn ran_lines(alloc: Global, sites: &Sites, recalls: &[StartedRecall]) -> Result<String, AllocError>
-    ensures { IfOk result (λ t. string_bytes t ≡ json_lines (map (ran_json sites.now) recalls.now)) }
+    ensures { IfOk result (λ t. string_bytes t
+        ≡ json_lines (map (ran_json sites.now) recalls.now)) }
 {
     let mut text = String::new(alloc);
     for recall in recalls {
@@ -179,7 +181,8 @@ fn status_lines(
     sites: &Sites,
     recalls: &[RecallStatus],
 ) -> Result<String, AllocError>
-    ensures { IfOk result (λ t. string_bytes t ≡ json_lines (map (status_json sites.now) recalls.now)) }
+    ensures { IfOk result (λ t. string_bytes t
+        ≡ json_lines (map (status_json sites.now) recalls.now)) }
 {
     let mut text = String::new(alloc);
     for recall in recalls {
@@ -194,7 +197,8 @@ fn known_lines(
     site: SiteNo,
     items: &[KnownItem],
 ) -> Result<String, AllocError>
-    ensures { IfOk result (λ t. string_bytes t ≡ json_lines (map (known_json sites.now site) items.now)) }
+    ensures { IfOk result (λ t. string_bytes t
+        ≡ json_lines (map (known_json sites.now site) items.now)) }
 {
     let mut text = String::new(alloc);
     for item in items {
@@ -208,7 +212,8 @@ fn audited_lines(
     sites: &Sites,
     recalls: &[AuditedRecall],
 ) -> Result<String, AllocError>
-    ensures { IfOk result (λ t. string_bytes t ≡ json_lines (map (audited_json sites.now) recalls.now)) }
+    ensures { IfOk result (λ t. string_bytes t
+        ≡ json_lines (map (audited_json sites.now) recalls.now)) }
 {
     let mut text = String::new(alloc);
     for recall in recalls {
@@ -237,7 +242,8 @@ impl InputOutcome {
         sites: &Sites,
         source: &str,
     ) -> Result<String, AllocError>
-        ensures { IfOk result (λ t. string_bytes t ≡ input_line form task sites.now source.now self.now) }
+        ensures { IfOk result (λ t. string_bytes t
+            ≡ input_line form task sites.now source.now self.now) }
     {
         match form {
             Form::Text | Form::Csv | Form::Dot => self.text(alloc, sites, source),
@@ -259,15 +265,16 @@ impl Totals {
 }
 
 impl Fault {
-    /// What is printed of a fault on the error stream, whole lines: its name, the file that it is about and what is known
-    /// of that, and in words what it means.
+    /// What is printed of a fault on the error stream, whole lines: its name, the file that it is about and what is
+    /// known of that, and in words what it means.
     pub fn lines(
         self,
         alloc: Global,
         form: Form,
         failure: Option<&Failure>,
     ) -> Result<String, AllocError>
-        ensures { IfOk result (λ t. string_bytes t ≡ fault_lines form self (option_map (λ f. f.now) failure.entry)) }
+        ensures { IfOk result (λ t. string_bytes t ≡ fault_lines form self
+            (option_map (λ f. f.now) failure.entry)) }
     {
         match form {
             Form::Text | Form::Csv | Form::Dot => fault_text(alloc, self, failure),
@@ -320,7 +327,8 @@ impl Failure {
 
 /// A fault in lines of words.
 fn fault_text(alloc: Global, fault: Fault, failure: Option<&Failure>) -> Result<String, AllocError>
-    ensures { IfOk result (λ t. string_bytes t ≡ fault_text fault (option_map (λ f. f.now) failure.entry)) }
+    ensures { IfOk result (λ t. string_bytes t
+        ≡ fault_text fault (option_map (λ f. f.now) failure.entry)) }
 {
     let mut text = String::from_str(alloc, fault.line())?;
     if let Some(failure) = failure {
@@ -371,7 +379,8 @@ fn lines_of(alloc: Global, text: &str) -> Result<Vec<&str>, AllocError>
 
 /// A value for each of these lines.
 fn notes_of_lines(alloc: Global, lines: &[&str]) -> Result<String, AllocError>
-    ensures { IfOk result (λ t. string_bytes t ≡ json_lines (map note_json (map (λ line. line.now) lines.now))) }
+    ensures { IfOk result (λ t. string_bytes t
+        ≡ json_lines (map note_json (map (λ line. line.now) lines.now))) }
 {
     let mut notes = String::new(alloc);
     for line in lines {

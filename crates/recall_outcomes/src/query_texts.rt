@@ -33,7 +33,8 @@ fn push_status(
     sites: &Sites,
     status: &RecallStatus,
 ) -> Result<(), AllocError>
-    ensures { OnOk result (string_bytes text.new ≡ string_bytes text.old ++ status_text sites.now status.now) }
+    ensures { OnOk result (string_bytes text.new
+        ≡ string_bytes text.old ++ status_text sites.now status.now) }
 {
     let line = status_text(alloc, sites, status)?;
     text.push_str(line.as_str())
@@ -88,7 +89,8 @@ fn push_standings(
     sites: &Sites,
     standings: &[SiteStanding],
 ) -> Result<(), AllocError>
-    ensures { OnOk result (string_bytes text.new ≡ string_bytes text.old ++ flat_map (standing_text sites.now) standings.now) }
+    ensures { OnOk result (string_bytes text.new ≡ string_bytes text.old ++ flat_map
+        (standing_text sites.now) standings.now) }
 {
     for standing in standings {
         push_standing(alloc, text, sites, standing)?;
@@ -103,7 +105,8 @@ fn push_standing(
     sites: &Sites,
     standing: &SiteStanding,
 ) -> Result<(), AllocError>
-    ensures { OnOk result (string_bytes text.new ≡ string_bytes text.old ++ standing_text sites.now standing.now) }
+    ensures { OnOk result (string_bytes text.new
+        ≡ string_bytes text.old ++ standing_text sites.now standing.now) }
 {
     let name = name_of(sites, standing.site);
     let counts = counts_text(alloc, standing.quarantined, standing.waiting)?;
@@ -132,7 +135,8 @@ fn push_messages(
     sites: &Sites,
     messages: &[WaitingMessage],
 ) -> Result<(), AllocError>
-    ensures { OnOk result (string_bytes text.new ≡ string_bytes text.old ++ flat_map (waiting_text sites.now) messages.now) }
+    ensures { OnOk result (string_bytes text.new ≡ string_bytes text.old ++ flat_map
+        (waiting_text sites.now) messages.now) }
 {
     for message in messages {
         push_message(alloc, text, sites, message)?;
@@ -147,7 +151,8 @@ fn push_message(
     sites: &Sites,
     waiting: &WaitingMessage,
 ) -> Result<(), AllocError>
-    ensures { OnOk result (string_bytes text.new ≡ string_bytes text.old ++ waiting_text sites.now waiting.now) }
+    ensures { OnOk result (string_bytes text.new
+        ≡ string_bytes text.old ++ waiting_text sites.now waiting.now) }
 {
     let message = message_text(alloc, sites, waiting.message)?;
     let name = name_of(sites, waiting.to);
@@ -191,7 +196,8 @@ fn push_known(
     site: SiteNo,
     known: &KnownItem,
 ) -> Result<(), AllocError>
-    ensures { OnOk result (string_bytes text.new ≡ string_bytes text.old ++ known_text sites.now site known.now) }
+    ensures { OnOk result (string_bytes text.new
+        ≡ string_bytes text.old ++ known_text sites.now site known.now) }
 {
     let name = name_of(sites, site);
     let key = known.item.key(alloc)?;

@@ -25,7 +25,8 @@ pub(crate) fn report_text(
     ways: Ways,
     events: &[Sequence<StepEvents>],
 ) -> Result<String, AllocError>
-    ensures { IfOk result (λ t. string_bytes t ≡ report_text sites.now recall report.now ways events.now) }
+    ensures { IfOk result (λ t. string_bytes t
+        ≡ report_text sites.now recall report.now ways events.now) }
 {
     let mut text = head_text(alloc, sites, recall, &report.root, report.ended)?;
     push_pairs(
@@ -49,7 +50,8 @@ pub(crate) fn push_total(
     pairs: usize,
     outside: usize,
 ) -> Result<(), AllocError>
-    ensures { OnOk result (string_bytes text.new ≡ string_bytes text.old ++ total_text pairs outside) }
+    ensures { OnOk result (string_bytes text.new
+        ≡ string_bytes text.old ++ total_text pairs outside) }
 {
     let total = format!(in alloc; "total {pairs} outside {outside}\n")?;
     text.push_str(total.as_str())
@@ -107,7 +109,8 @@ fn push_quarantined(
     trail: Option<&Sequence<Pair>>,
     steps: Option<&[StepEvents]>,
 ) -> Result<(), AllocError>
-    ensures { OnOk result (string_bytes text.new ≡ string_bytes text.old ++ quarantined_text sites.now ways
+    ensures { OnOk result (string_bytes text.new
+        ≡ string_bytes text.old ++ quarantined_text sites.now ways
         (pair.now, (option_map (λ t. t.now) trail.entry, option_map (λ s. s.now) steps.entry))) }
 {
     match trail {
@@ -178,7 +181,8 @@ pub(crate) fn push_beside(
     text.push_str(line.as_str())
 }
 
-/// Adds a line for each pair of a trail, with its place on the trail, from 1, and the events of the step that leads to it.
+/// Adds a line for each pair of a trail, with its place on the trail, from 1, and the events of the step that leads to
+/// it.
 fn push_trail(
     alloc: Global,
     text: &mut String,
@@ -186,7 +190,8 @@ fn push_trail(
     steps: &[StepEvents],
     trail: &[Pair],
 ) -> Result<(), AllocError>
-    ensures { OnOk result (string_bytes text.new ≡ string_bytes text.old ++ trail_text sites.now steps.now trail.now) }
+    ensures { OnOk result (string_bytes text.new
+        ≡ string_bytes text.old ++ trail_text sites.now steps.now trail.now) }
 {
     for (place, pair) in trail.iter().enumerate() {
         push_step(alloc, text, sites, place + 1, pair)?;
@@ -203,7 +208,8 @@ fn push_step(
     place: usize,
     pair: &Pair,
 ) -> Result<(), AllocError>
-    ensures { OnOk result (string_bytes text.new ≡ string_bytes text.old ++ step_text sites.now (place, pair.now)) }
+    ensures { OnOk result (string_bytes text.new ≡ string_bytes text.old ++ step_text sites.now
+        (place, pair.now)) }
 {
     let name = name_of(sites, pair.site);
     let key = pair.item.key(alloc)?;
@@ -218,7 +224,8 @@ pub(crate) fn push_outsides(
     sites: &Sites,
     outside: &[OutsideShipment],
 ) -> Result<(), AllocError>
-    ensures { OnOk result (string_bytes text.new ≡ string_bytes text.old ++ outsides_text sites.now outside.now) }
+    ensures { OnOk result (string_bytes text.new
+        ≡ string_bytes text.old ++ outsides_text sites.now outside.now) }
 {
     for shipment in outside {
         push_outside(alloc, text, sites, shipment)?;
@@ -233,7 +240,8 @@ fn push_outside(
     sites: &Sites,
     shipment: &OutsideShipment,
 ) -> Result<(), AllocError>
-    ensures { OnOk result (string_bytes text.new ≡ string_bytes text.old ++ outside_text sites.now shipment.now) }
+    ensures { OnOk result (string_bytes text.new
+        ≡ string_bytes text.old ++ outside_text sites.now shipment.now) }
 {
     let name = name_of(sites, shipment.site);
     let key = shipment.item.key(alloc)?;

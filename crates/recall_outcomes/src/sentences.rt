@@ -65,7 +65,8 @@ fn is_last(last: Option<&str>, sentence: &str) -> bool
 
 /// Adds the line of a sentence.
 fn push_line(text: &mut String, sentence: &str) -> Result<(), AllocError>
-    ensures { OnOk result (string_bytes text.new ≡ string_bytes text.old ++ sentence_line sentence.now) }
+    ensures { OnOk result (string_bytes text.new
+        ≡ string_bytes text.old ++ sentence_line sentence.now) }
 {
     text.push_str(sentence)?;
     text.push_str("\n")

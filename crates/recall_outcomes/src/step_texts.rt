@@ -15,7 +15,8 @@ pub(crate) fn push_led_by(
     steps: &[StepEvents],
     place: usize,
 ) -> Result<(), AllocError>
-    ensures { OnOk result (string_bytes text.new ≡ string_bytes text.old ++ led_by_text steps.now place) }
+    ensures { OnOk result (string_bytes text.new
+        ≡ string_bytes text.old ++ led_by_text steps.now place) }
 {
     let Some(before) = place.checked_sub(1) else {
         return Ok(());
@@ -32,7 +33,8 @@ pub(crate) fn push_all_by(
     text: &mut String,
     steps: &[StepEvents],
 ) -> Result<(), AllocError>
-    ensures { OnOk result (string_bytes text.new ≡ string_bytes text.old ++ flat_map by_text steps.now) }
+    ensures { OnOk result (string_bytes text.new
+        ≡ string_bytes text.old ++ flat_map by_text steps.now) }
 {
     for step in steps {
         push_by(alloc, text, step)?;
@@ -60,7 +62,8 @@ fn push_made(
     taken_in: &CapturedEvent,
     given_out: &CapturedEvent,
 ) -> Result<(), AllocError>
-    ensures { OnOk result (string_bytes text.new ≡ string_bytes text.old ++ made_text taken_in.now given_out.now) }
+    ensures { OnOk result (string_bytes text.new
+        ≡ string_bytes text.old ++ made_text taken_in.now given_out.now) }
 {
     push_event(alloc, text, "made", taken_in)?;
     if taken_in.number == given_out.number {
@@ -76,7 +79,8 @@ fn push_event(
     did: &str,
     event: &CapturedEvent,
 ) -> Result<(), AllocError>
-    ensures { OnOk result (string_bytes text.new ≡ string_bytes text.old ++ event_text did.now event.now) }
+    ensures { OnOk result (string_bytes text.new
+        ≡ string_bytes text.old ++ event_text did.now event.now) }
 {
     let number = event.number;
     let (id, time) = (or_dash(event.id.as_ref()), or_dash(event.time.as_ref()));

@@ -82,7 +82,8 @@ fn push_ran(
     sites: &Sites,
     started: &StartedRecall,
 ) -> Result<(), AllocError>
-    ensures { OnOk result (string_bytes text.new ≡ string_bytes text.old ++ ran_text sites.now started.now) }
+    ensures { OnOk result (string_bytes text.new
+        ≡ string_bytes text.old ++ ran_text sites.now started.now) }
 {
     let recall = recall_text(alloc, sites, started.recall)?;
     let recall = recall.as_str();
@@ -113,7 +114,8 @@ fn push_audited(
     sites: &Sites,
     audited: &AuditedRecall,
 ) -> Result<(), AllocError>
-    ensures { OnOk result (string_bytes text.new ≡ string_bytes text.old ++ audited_text sites.now audited.now) }
+    ensures { OnOk result (string_bytes text.new
+        ≡ string_bytes text.old ++ audited_text sites.now audited.now) }
 {
     let line = verdict_text(alloc, sites, audited.recall, &audited.verdict)?;
     text.push_str(line.as_str())
@@ -147,7 +149,8 @@ fn differs_text(
     pair: &Pair,
     missing: bool,
 ) -> Result<String, AllocError>
-    ensures { IfOk result (λ t. string_bytes t ≡ differs_text sites.now recall.now pair.now missing) }
+    ensures { IfOk result (λ t. string_bytes t
+        ≡ differs_text sites.now recall.now pair.now missing) }
 {
     let name = name_of(sites, pair.site);
     let key = pair.item.key(alloc)?;
@@ -197,7 +200,8 @@ fn push_refused(
     sites: &Sites,
     why: &CommandRefusal,
 ) -> Result<(), AllocError>
-    ensures { OnOk result (string_bytes text.new ≡ string_bytes text.old ++ why_text sites.now why.now) }
+    ensures { OnOk result (string_bytes text.new
+        ≡ string_bytes text.old ++ why_text sites.now why.now) }
 {
     let words = why_words(alloc, sites, why)?;
     let words = words.as_str();

@@ -7,10 +7,11 @@ ghost use Rattle.serde_json.specs.View.{view};
 ghost use Rattle.recall_outcomes.specs.Json.{back_json, beside_json, leading_json, leading_members, led_json, list_of, pair_members, trace_json};
 ghost use Rattle.recall_outcomes.specs.Steps.{each_with};
 
-use crate::outcome_json::{
-    beside_json, list_value, outsides_json, pair_json, pairs_json, quarantined_json, traced_json,
-};
+use crate::outcome_json::list_value;
 use crate::outcomes::Ways;
+use crate::report_json::{
+    beside_json, outsides_json, pair_json, pairs_json, quarantined_json, traced_json,
+};
 use crate::step_json::put_events;
 use crate::told_events::next_steps;
 use event_json::{Sequence, Sites};
@@ -53,7 +54,8 @@ fn all_led_json(
     trails: &[Sequence<Pair>],
     events: &[Sequence<StepEvents>],
 ) -> Result<Value, AllocError>
-    ensures { IfOk result (λ v. view v ≡ list_of (led_json sites.now ways) (zip pairs.now (each_with trails.now events.now))) }
+    ensures { IfOk result (λ v. view v ≡ list_of (led_json sites.now ways)
+        (zip pairs.now (each_with trails.now events.now))) }
 {
     let mut list = Vec::new(alloc);
     let mut events = events.iter();
@@ -97,7 +99,8 @@ fn all_leading_json(
     trails: &[Sequence<Pair>],
     events: &[Sequence<StepEvents>],
 ) -> Result<Value, AllocError>
-    ensures { IfOk result (λ v. view v ≡ list_of (leading_json sites.now ways) (zip pairs.now (each_with trails.now events.now))) }
+    ensures { IfOk result (λ v. view v ≡ list_of (leading_json sites.now ways)
+        (zip pairs.now (each_with trails.now events.now))) }
 {
     let mut list = Vec::new(alloc);
     let mut events = events.iter();
@@ -117,7 +120,8 @@ fn leading_json(
     trail: &Sequence<Pair>,
     steps: Option<&[StepEvents]>,
 ) -> Result<Value, AllocError>
-    ensures { IfOk result (λ v. view v ≡ leading_json sites.now ways (pair.now, (trail.now, option_map (λ s. s.now) steps.entry))) }
+    ensures { IfOk result (λ v. view v ≡ leading_json sites.now ways
+        (pair.now, (trail.now, option_map (λ s. s.now) steps.entry))) }
 {
     let mut value = led_from_json(alloc, sites, ways, pair, trail)?;
     let Some(members) = value.as_object_mut() else {
@@ -135,7 +139,8 @@ fn led_from_json(
     pair: &Pair,
     trail: &Sequence<Pair>,
 ) -> Result<Value, AllocError>
-    ensures { IfOk result (λ v. view v ≡ object (leading_members sites.now ways pair.now trail.now)) }
+    ensures { IfOk result (λ v. view v
+        ≡ object (leading_members sites.now ways pair.now trail.now)) }
 {
     match ways {
         Ways::Trails => traced_json(alloc, sites, pair, Some(trail)),

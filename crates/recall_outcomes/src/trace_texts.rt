@@ -74,7 +74,8 @@ fn push_origins_total(
     pairs: usize,
     origins: usize,
 ) -> Result<(), AllocError>
-    ensures { OnOk result (string_bytes text.new ≡ string_bytes text.old ++ origins_total_text pairs origins) }
+    ensures { OnOk result (string_bytes text.new
+        ≡ string_bytes text.old ++ origins_total_text pairs origins) }
 {
     let total = format!(in alloc; "total {pairs} origins {origins}\n")?;
     text.push_str(total.as_str())
@@ -82,7 +83,8 @@ fn push_origins_total(
 
 /// Adds an item at a site, to the end of a line.
 fn push_item(alloc: Global, text: &mut String, sites: &Sites, pair: &Pair) -> Result<(), AllocError>
-    ensures { OnOk result (string_bytes text.new ≡ string_bytes text.old ++ item_text sites.now pair.now) }
+    ensures { OnOk result (string_bytes text.new
+        ≡ string_bytes text.old ++ item_text sites.now pair.now) }
 {
     let name = name_of(sites, pair.site);
     let key = pair.item.key(alloc)?;
@@ -100,8 +102,8 @@ fn push_all_led(
     trails: &[Sequence<Pair>],
     events: &[Sequence<StepEvents>],
 ) -> Result<(), AllocError>
-    ensures { OnOk result (string_bytes text.new ≡ string_bytes text.old
-        ++ flat_map (led_pair_text sites.now ways) (zip pairs.now (each_with trails.now events.now))) }
+    ensures { OnOk result (string_bytes text.new ≡ string_bytes text.old ++ flat_map
+        (led_pair_text sites.now ways) (zip pairs.now (each_with trails.now events.now))) }
 {
     let mut events = events.iter();
     for (pair, trail) in pairs.iter().zip(trails) {
@@ -121,8 +123,8 @@ fn push_all_leading(
     trails: &[Sequence<Pair>],
     events: &[Sequence<StepEvents>],
 ) -> Result<(), AllocError>
-    ensures { OnOk result (string_bytes text.new ≡ string_bytes text.old
-        ++ flat_map (leading_pair_text sites.now ways) (zip pairs.now (each_with trails.now events.now))) }
+    ensures { OnOk result (string_bytes text.new ≡ string_bytes text.old ++ flat_map
+        (leading_pair_text sites.now ways) (zip pairs.now (each_with trails.now events.now))) }
 {
     let mut events = events.iter();
     for (pair, trail) in pairs.iter().zip(trails) {
@@ -161,7 +163,8 @@ fn push_origins(
     sites: &Sites,
     origins: &[Pair],
 ) -> Result<(), AllocError>
-    ensures { OnOk result (string_bytes text.new ≡ string_bytes text.old ++ flat_map (origin_text sites.now) origins.now) }
+    ensures { OnOk result (string_bytes text.new ≡ string_bytes text.old ++ flat_map
+        (origin_text sites.now) origins.now) }
 {
     for origin in origins {
         push_origin(alloc, text, sites, origin)?;
@@ -176,7 +179,8 @@ fn push_origin(
     sites: &Sites,
     origin: &Pair,
 ) -> Result<(), AllocError>
-    ensures { OnOk result (string_bytes text.new ≡ string_bytes text.old ++ origin_text sites.now origin.now) }
+    ensures { OnOk result (string_bytes text.new
+        ≡ string_bytes text.old ++ origin_text sites.now origin.now) }
 {
     text.push_str("origin ")?;
     push_item(alloc, text, sites, origin)

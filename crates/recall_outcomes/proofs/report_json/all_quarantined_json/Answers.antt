@@ -4,7 +4,7 @@ use Rattle.serde_json.specs.Data.{Data, array}
 use Rattle.serde_json.specs.View.{items_of, view}
 use Rattle.recall_outcomes.specs.Json.{quarantined_json}
 use Rattle.recall_outcomes.proofs.ZipLemmas.{none_left}
-use Rattle.recall_outcomes.proofs.outcome_json.all_quarantined_json.Goals as goal
+use Rattle.recall_outcomes.proofs.report_json.all_quarantined_json.Goals as goal
 
 pub returns : goal.returns
 returns c =

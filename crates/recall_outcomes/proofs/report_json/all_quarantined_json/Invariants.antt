@@ -3,7 +3,7 @@ use Rattle.std.specs.List.{zip}
 use Rattle.serde_json.specs.View.{view}
 use Rattle.recall_outcomes.specs.Json.{quarantined_json}
 use Rattle.recall_outcomes.specs.Steps.{each_with}
-use Rattle.recall_outcomes.proofs.outcome_json.all_quarantined_json.Given as goal
+use Rattle.recall_outcomes.proofs.report_json.all_quarantined_json.Given as goal
 
 -- the values so far and those of the rest are all of them
 abbrev pub invariant-loop-pair : goal.invariant-loop-pair
