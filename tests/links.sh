@@ -137,9 +137,13 @@ def contracts_of(path, name):
     lines = lines_of(path)
     for start, line in enumerate(lines):
         if re.search(r'\bfn\s+%s(?!\w)' % re.escape(name), line):
-            end = start
-            while end < len(lines) and not re.match(r'\s*\{\}?\s*$|.*\S.*;\s*$', lines[end]) \
+            end, depth = start, 0
+            while end < len(lines) and not re.match(r'\s*\{\}?\s*$', lines[end]) \
                     and not (end > start and re.match(r'\s*(?:pub )?fn\b', lines[end])):
+                # (a record within a clause has lines that end so, too)
+                depth += lines[end].count('{') - lines[end].count('}')
+                if depth == 0 and lines[end].rstrip().endswith(';'):
+                    break
                 end += 1
             yield '\n'.join(lines[start:end + 1])
 

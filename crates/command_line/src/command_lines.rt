@@ -31,8 +31,8 @@ pub(crate) enum Asked<'a> {
     Mistake(String),
 }
 
-/// What a site of a folder does one after another: the documents that it captures, or the items whose recall it starts, of
-/// several words, or of the lines or the events of files.
+/// What a site of a folder does one after another: the documents that it captures, or the items whose recall it starts,
+/// of several words, or of the lines or the events of files.
 #[derive(Debug, Drop)]
 pub(crate) struct Batch<'a> {
     pub(crate) folder: &'a str,
@@ -151,7 +151,8 @@ fn named<'a>(alloc: Global, matches: &ArgMatches<'a>) -> Option<Asked<'a>>
     }
 }
 
-/// What is reported where options contradict one another. `clap` would refuse them, but then its contract tells no argument.
+/// What is reported where options contradict one another. `clap` would refuse them, but then its contract tells no
+/// argument.
 fn mistake<'a>(alloc: Global, what: &str) -> Result<Asked<'a>, AllocError>
     ensures { IfOk result IsMistake }
 {
@@ -221,8 +222,8 @@ fn start_command<'a>(alloc: Global, given: &ArgMatches<'a>, form: Form) -> Optio
     }))
 }
 
-/// What words are that are files of documents. None where both the lines and the events of a file are to be taken on their
-/// own.
+/// What words are that are files of documents. None where both the lines and the events of a file are to be taken on
+/// their own.
 fn documents_kind(given: &ArgMatches<'_>) -> Option<WordKind>
     ensures one { IfSome result (GivesDocuments (rows_of (found_of given.now))) }
     ensures two { IfNone result (AsksLinesAndEvents (rows_of (found_of given.now))) }

@@ -37,12 +37,11 @@ use std::time::Clock;
 /// something was refused, 2 bad command line, 3 a fault that isn't printed as `refused`, out of
 /// memory too, 4 an audit found a discrepancy, 5 a recall is open, where that was asked for.
 ///
-/// The words begin with the program's name. Answers, refusals and help go to `output`, faults and
-/// what is wrong with a command line to `errors`, and so do the notes of a run. What a command on the
-/// sites' files says is that of the calls of `files` that lead to it, as text or in the form that the
-/// words ask for; without such a command `files` isn't asked. What stands in the files no contract says. In a run each site has a copy of the gate
-/// to its turns. The keys are those of the hash by which items are numbered, drawn at random, so that
-/// nobody can choose texts that collide.
+/// The words begin with the program's name. Answers, refusals and help go to `output`, faults and what is wrong with a
+/// command line to `errors`, and so do the notes of a run. What a command on the sites' files says is that of the calls
+/// of `files` that lead to it, as text or in the form that the words ask for; without such a command `files` isn't
+/// asked. What stands in the files no contract says. In a run each site has a copy of the gate to its turns. The keys
+/// are those of the hash by which items are numbered, drawn at random, so that nobody can choose texts that collide.
 pub fn run_command<
     R: Threads + Wait + Clock + Sync,
     K: SiteKeeper + Send,
@@ -232,7 +231,8 @@ fn take_batch<K: SiteKeeper, F: Files<K>, W: Write, E: Write>(
 
 /// Tells what the documents of a capture said that isn't traced, where there is memory for it.
 fn note_untraced<E: Write>(alloc: Global, form: Form, untraced: &Untraced, errors: &mut E)
-    ensures { AppendsBeginning (E.contents errors.old) (E.contents errors.new) (note_lines form (untraced_text untraced.now)) }
+    ensures { AppendsBeginning (E.contents errors.old) (E.contents errors.new)
+        (note_lines form (untraced_text untraced.now)) }
 {
     if let Ok(text) = untraced_text(alloc, untraced) {
         note(alloc, form, text.as_str(), errors);
@@ -258,8 +258,8 @@ fn tell<K: SiteKeeper, F: Files<K>, W: Write, E: Write>(
     }
 }
 
-/// Prints an outcome, and behind it on the error stream what it means, its notes, what is advised, and which places outside
-/// may be a traced site.
+/// Prints an outcome, and behind it on the error stream what it means, its notes, what is advised, and which places
+/// outside may be a traced site.
 fn tell_output<K: SiteKeeper, F: Files<K>, W: Write, E: Write>(
     alloc: Global,
     form: Form,
@@ -287,7 +287,8 @@ fn tell_output<K: SiteKeeper, F: Files<K>, W: Write, E: Write>(
     }
 }
 
-/// Tells in a sentence what a refusal means and what to do, where that isn't printed as JSON and there is memory for it.
+/// Tells in a sentence what a refusal means and what to do, where that isn't printed as JSON and there is memory for
+/// it.
 fn explain<E: Write>(alloc: Global, form: Form, outcome: &Outcome, errors: &mut E)
     ensures { Explains form outcome.now (E.contents errors.old) (E.contents errors.new) }
 {
@@ -321,7 +322,8 @@ fn advise<E: Write>(alloc: Global, form: Form, outcome: &Outcome, errors: &mut E
 
 /// Tells which places outside may be a traced site, where there is memory for it.
 fn note_places<E: Write>(alloc: Global, form: Form, told: &Output, errors: &mut E)
-    ensures { AppendsBeginning (E.contents errors.old) (E.contents errors.new) (note_lines form (place_notes told.now.sites told.now.outcome)) }
+    ensures { AppendsBeginning (E.contents errors.old) (E.contents errors.new)
+        (note_lines form (place_notes told.now.sites told.now.outcome)) }
 {
     if let Ok(text) = told.outcome.place_notes(alloc, &told.sites) {
         note(alloc, form, text.as_str(), errors);
@@ -330,7 +332,8 @@ fn note_places<E: Write>(alloc: Global, form: Form, told: &Output, errors: &mut 
 
 /// Tells a note, where there is memory for it.
 fn note<E: Write>(alloc: Global, form: Form, text: &str, errors: &mut E)
-    ensures { AppendsBeginning (E.contents errors.old) (E.contents errors.new) (note_lines form text.now) }
+    ensures { AppendsBeginning (E.contents errors.old) (E.contents errors.new)
+        (note_lines form text.now) }
 {
     if let Ok(lines) = note_lines(alloc, form, text) {
         say(errors, lines.as_str());
@@ -359,7 +362,8 @@ pub(crate) fn fault<K: SiteKeeper, F: Files<K>, E: Write>(
     errors: &mut E,
 ) -> u8
     ensures status { result ≡ 3 }
-    ensures told { TellsFault F.fails form files.now cause (E.contents errors.old) (E.contents errors.new) }
+    ensures told { TellsFault F.fails form files.now cause (E.contents errors.old)
+        (E.contents errors.new) }
 {
     match cause.lines(alloc, form, files.failure()) {
         Ok(text) => say(errors, text.as_str()),
@@ -371,7 +375,8 @@ pub(crate) fn fault<K: SiteKeeper, F: Files<K>, E: Write>(
 /// Prints the name of a fault.
 fn bare_fault<E: Write>(cause: Fault, errors: &mut E) -> u8
     ensures status { result ≡ 3 }
-    ensures told { AppendsBeginning (E.contents errors.old) (E.contents errors.new) (fault_line cause) }
+    ensures told { AppendsBeginning (E.contents errors.old) (E.contents errors.new)
+        (fault_line cause) }
 {
     say(errors, cause.line());
     statuses::FAULT

@@ -4,7 +4,8 @@
 pub(crate) const ABOUT: &str =
     "Traces recalled products through a supply chain: sites capture GS1 EPCIS 2.0 events, and a recall of an item finds all that was made from it or shipped on.";
 
-/// The program's version, that of the sites' files which it makes, and the toolchain and the logic that it is proved with.
+/// The program's version, that of the sites' files which it makes, and the toolchain and the logic that it is proved
+/// with.
 pub(crate) const VERSION: &str =
     "0.1.0 (site files of version 2, proved with rattle-kit-13f logic dac8208d650f15bf)";
 

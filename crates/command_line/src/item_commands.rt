@@ -23,7 +23,8 @@ pub(crate) fn start_known<K: SiteKeeper, F: Files<K>>(
     site: &str,
     item: &Spelled<'_>,
 ) -> Result<Output, Fault>
-    ensures led { IfOk result (λ output. Led F.does files.old files.new (AndWho K.shown K.stored folder.now site.now item.now
+    ensures led { IfOk result (λ output.
+        Led F.does files.old files.new (AndWho K.shown K.stored folder.now site.now item.now
         (StartsAt K.shown K.stored folder.now site.now item.now) output)) }
     ensures failed { IfErr result (λ fault. Led F.does files.old files.new
         (StartFails K.shown K.may K.failed K.stored folder.now site.now item.now fault)) }
@@ -40,7 +41,8 @@ pub(crate) fn dry_start_known<K: SiteKeeper, F: Files<K>>(
     site: &str,
     item: &Spelled<'_>,
 ) -> Result<Output, Fault>
-    ensures led { IfOk result (λ output. Led F.does files.old files.new (AndWho K.shown K.stored folder.now site.now item.now
+    ensures led { IfOk result (λ output.
+        Led F.does files.old files.new (AndWho K.shown K.stored folder.now site.now item.now
         (DryStartsAt K.shown K.stored folder.now site.now item.now) output)) }
     ensures failed { IfErr result (λ fault. Led F.does files.old files.new
         (DryStartFails K.shown K.stored folder.now site.now item.now fault)) }
@@ -60,7 +62,8 @@ pub(crate) fn trace_known<K: SiteKeeper, F: Files<K>>(
     ways: Ways,
     events: bool,
 ) -> Result<Output, Fault>
-    ensures led { IfOk result (λ output. Led F.does files.old files.new (AndWho K.shown K.stored folder.now site.now item.now
+    ensures led { IfOk result (λ output.
+        Led F.does files.old files.new (AndWho K.shown K.stored folder.now site.now item.now
         (TracesAt K.shown K.stored folder.now site.now item.now back ways events) output)) }
     ensures failed { IfErr result (λ fault. Led F.does files.old files.new
         (TraceFails K.shown K.stored folder.now site.now item.now fault)) }
@@ -69,8 +72,8 @@ pub(crate) fn trace_known<K: SiteKeeper, F: Files<K>>(
     Ok(with_knowers(alloc, files, folder, site, item, first))
 }
 
-/// What a command on an item at a site came to, and who knows the item where the site doesn't. Nothing is told where that
-/// can't be found out.
+/// What a command on an item at a site came to, and who knows the item where the site doesn't. Nothing is told where
+/// that can't be found out.
 fn with_knowers<K: SiteKeeper, F: Files<K>>(
     alloc: Global,
     files: &mut F,
@@ -80,7 +83,8 @@ fn with_knowers<K: SiteKeeper, F: Files<K>>(
     first: Output,
 ) -> Output
     ensures { Led F.does files.old files.new
-        (TellsBehind K.shown K.stored folder.now site.now item.now (is_unknown first.outcome) first result) }
+        (TellsBehind K.shown K.stored folder.now site.now item.now
+        (is_unknown first.outcome) first result) }
 {
     if !is_unknown(&first.outcome) {
         return first;

@@ -6,8 +6,8 @@ use recall_outcomes::Form;
 use std::alloc::Global;
 use std::test::Fail;
 
-/// Events of which the first has no inputs, the second ships to nowhere, is no SGTIN by its check digit and has no eventID, the
-/// third is skipped and the fourth has quantities.
+/// Events of which the first has no inputs, the second ships to nowhere, is no SGTIN by its check digit and has no
+/// eventID, the third is skipped and the fourth has quantities.
 const STRANGE: &str =
     "{\"type\":\"EPCISDocument\",\"epcisBody\":{\"eventList\":[{\"type\":\"TransformationEvent\",\"eventTime\":\"2024-05-01T08:00:00Z\",\"eventTimeZoneOffset\":\"+00:00\",\"outputEPCList\":[\"y\"]},{\"type\":\"ObjectEvent\",\"eventTime\":\"2024-05-01T08:00:00Z\",\"eventTimeZoneOffset\":\"+00:00\",\"action\":\"OBSERVE\",\"epcList\":[\"https://id.gs1.org/01/09521321000118/21/1\"],\"bizStep\":\"shipping\"},{\"type\":\"TransactionEvent\"},{\"type\":\"ObjectEvent\",\"quantityList\":[{}]}]}}";
 

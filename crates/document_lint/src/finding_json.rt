@@ -34,7 +34,8 @@ fn push_finding(
     source: &str,
     finding: &Finding,
 ) -> Result<(), AllocError>
-    ensures { OnOk result (string_bytes text.new ≡ string_bytes text.old ++ finding_line source.now finding.now) }
+    ensures { OnOk result (string_bytes text.new
+        ≡ string_bytes text.old ++ finding_line source.now finding.now) }
 {
     let value = finding_json(alloc, source, finding)?;
     let line = json_line(alloc, &value)?;
@@ -78,7 +79,8 @@ fn fault_json(
     field: &str,
     source: &str,
 ) -> Result<Value, AllocError>
-    ensures { IfOk result (λ v. view v ≡ object (fault_members source.now event field.now kind.now)) }
+    ensures { IfOk result (λ v. view v
+        ≡ object (fault_members source.now event field.now kind.now)) }
 {
     json!(in alloc; {"event": event, "fault": kind, "field": field, "file": source})
 }
@@ -114,7 +116,8 @@ fn near_json(
     source: &str,
     text: &str,
 ) -> Result<Value, AllocError>
-    ensures { IfOk result (λ v. view v ≡ object (near_members source.now event field.now text.now)) }
+    ensures { IfOk result (λ v. view v
+        ≡ object (near_members source.now event field.now text.now)) }
 {
     json!(in alloc; {"event": event, "field": field, "file": source, "text": text, "warning": "NearMiss"})
 }
@@ -126,7 +129,8 @@ fn other_json(
     member: &str,
     source: &str,
 ) -> Result<Value, AllocError>
-    ensures { IfOk result (λ v. view v ≡ object (other_members source.now event member.now address.now)) }
+    ensures { IfOk result (λ v. view v
+        ≡ object (other_members source.now event member.now address.now)) }
 {
     json!(in alloc; {"address": address, "event": event, "field": member, "file": source, "warning": "OtherPlace"})
 }

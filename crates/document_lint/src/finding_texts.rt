@@ -42,7 +42,8 @@ fn push_finding(
     source: &str,
     finding: &Finding,
 ) -> Result<(), AllocError>
-    ensures { OnOk result (string_bytes text.new ≡ string_bytes text.old ++ finding_text source.now finding.now) }
+    ensures { OnOk result (string_bytes text.new
+        ≡ string_bytes text.old ++ finding_text source.now finding.now) }
 {
     let words = what_words(alloc, finding.event, &finding.what)?;
     text.push_str(words.as_str())?;

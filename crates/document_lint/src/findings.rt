@@ -36,8 +36,8 @@ pub enum What {
     Outside(PlainText),
     /// The event has no eventID, so that it counts again where it is captured again.
     NoEventId,
-    /// The text of an item begins as that of an SGTIN or an SSCC does and breaks a rule of these, so that it is taken as any
-    /// other text.
+    /// The text of an item begins as that of an SGTIN or an SSCC does and breaks a rule of these, so that it is taken
+    /// as any other text.
     NearMiss {
         field: DocField,
         text: PlainText,

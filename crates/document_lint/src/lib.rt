@@ -1,5 +1,5 @@
-//! What is wrong and what is strange in a document, before it is captured: every event that can't be read with its fault, and
-//! what an event says that isn't traced or is probably not meant; and how that is printed.
+//! What is wrong and what is strange in a document, before it is captured: every event that can't be read with its
+//! fault, and what an event says that isn't traced or is probably not meant; and how that is printed.
 #![tactic(auto)]
 
 mod event_lists;

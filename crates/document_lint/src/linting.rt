@@ -21,8 +21,8 @@ use std::alloc::{AllocError, Global};
 
 /// What is wrong with a document in the JSON form of GS1 EPCIS 2.0, an EPCISDocument or one bare event, and what is
 /// strange about its events, with destinations looked up among the sites. Of each event that can't be read its first
-/// fault is told. A document without a fault is one that `read_document` of `event_json` reads. Where the site that is to
-/// capture it is named, it is told of events that happened at another one.
+/// fault is told. A document without a fault is one that `read_document` of `event_json` reads. Where the site that is
+/// to capture it is named, it is told of events that happened at another one.
 ///
 /// # Errors
 /// Where memory runs out.
@@ -70,7 +70,8 @@ fn fault_finding(fault: DocFault) -> Finding
 /// What is found in the document of a value.
 #[tactic(auto, unfolding(crate::specs::Findings::value_lint))]
 fn lint_value(alloc: Global, value: &Value, listing: &Listing<'_>) -> Result<Lint, AllocError>
-    ensures { IfOk result (λ l. l ≡ value_lint listing.now.sites.now listing.now.here (view value.now)) }
+    ensures { IfOk result (λ l. l ≡ value_lint listing.now.sites.now listing.now.here
+        (view value.now)) }
 {
     let list = match event_list(value) {
         Ok(list) => list,
@@ -87,7 +88,8 @@ fn lint_value(alloc: Global, value: &Value, listing: &Listing<'_>) -> Result<Lin
 
 /// Adds the fault of a list of more than 1,000 events.
 fn push_length(findings: &mut Vec<Finding>, list: &[Value]) -> Result<(), AllocError>
-    ensures { OnOk result (findings.new.items ≡ findings.old.items ++ length_findings (few_events (items_view list.now))) }
+    ensures { OnOk result (findings.new.items ≡ findings.old.items ++ length_findings
+        (few_events (items_view list.now))) }
 {
     if let Err(fault) = check_count(list) {
         findings.push(fault_finding(fault))?;
@@ -114,8 +116,9 @@ fn push_events(
     listing: &Listing<'_>,
     list: &[Value],
 ) -> Result<(), AllocError>
-    ensures { OnOk result (findings.new.items ≡ findings.old.items
-        ++ flat_map (event_findings listing.now.sites.now listing.now.here) (enumerate_from 1 (in_order (items_view list.now)))) }
+    ensures { OnOk result (findings.new.items ≡ findings.old.items ++ flat_map
+        (event_findings listing.now.sites.now listing.now.here)
+        (enumerate_from 1 (in_order (items_view list.now)))) }
 {
     for (place, value) in list.iter().enumerate() {
         push_event(alloc, findings, listing, place as u64 + 1, value)?;
@@ -132,7 +135,9 @@ fn push_event(
     number: u64,
     value: &Value,
 ) -> Result<(), AllocError>
-    ensures { OnOk result (findings.new.items ≡ findings.old.items ++ event_findings listing.now.sites.now listing.now.here (number, view value.now)) }
+    ensures { OnOk result (findings.new.items
+        ≡ findings.old.items ++ event_findings listing.now.sites.now listing.now.here
+        (number, view value.now)) }
 {
     let found = found_of(alloc, listing, value)?;
     push_at(findings, number, found)
@@ -140,7 +145,8 @@ fn push_event(
 
 /// Adds what was found of the event of a number.
 fn push_at(findings: &mut Vec<Finding>, number: u64, found: Vec<What>) -> Result<(), AllocError>
-    ensures { OnOk result (findings.new.items ≡ findings.old.items ++ at_number number found.items) }
+    ensures { OnOk result (findings.new.items
+        ≡ findings.old.items ++ at_number number found.items) }
 {
     for what in found {
         findings.push(Finding {
@@ -153,7 +159,8 @@ fn push_at(findings: &mut Vec<Finding>, number: u64, found: Vec<What>) -> Result
 
 /// The fault of an event, that it is skipped, or what is strange about it.
 fn found_of(alloc: Global, listing: &Listing<'_>, value: &Value) -> Result<Vec<What>, AllocError>
-    ensures { IfOk result (λ found. found.items ≡ found_of listing.now.sites.now listing.now.here (view value.now) (numbered_event listing.now.sites.now 1 (view value.now))) }
+    ensures { IfOk result (λ found. found.items ≡ found_of listing.now.sites.now listing.now.here
+        (view value.now) (numbered_event listing.now.sites.now 1 (view value.now))) }
 {
     let mut found = Vec::new(alloc);
     match read_alone(alloc, listing.sites, value)? {

@@ -31,7 +31,8 @@ pub(crate) fn push_other_places(
     listing: &Listing<'_>,
     value: &Value,
 ) -> Result<(), AllocError>
-    ensures { OnOk result (found.new.items ≡ found.old.items ++ other_places listing.now.sites.now listing.now.here (view value.now)) }
+    ensures { OnOk result (found.new.items
+        ≡ found.old.items ++ other_places listing.now.sites.now listing.now.here (view value.now)) }
 {
     push_other_place(
         alloc,
@@ -65,8 +66,9 @@ fn push_other_place(
     member: PlaceMember,
     text: Option<&str>,
 ) -> Result<(), AllocError>
-    ensures { OnOk result (found.new.items ≡ found.old.items
-        ++ other_place listing.now.sites.now listing.now.here member (option_map (λ t. t.now) text.entry)) }
+    ensures { OnOk result (found.new.items
+        ≡ found.old.items ++ other_place listing.now.sites.now listing.now.here member
+        (option_map (λ t. t.now) text.entry)) }
 {
     let Some(text) = text else {
         return Ok(());

@@ -23,9 +23,9 @@ pub enum Split {
     Unlisted(Vec<u8>),
 }
 
-/// Takes a document in the JSON form of GS1 EPCIS 2.0 apart: for each of its events, skipped and faulty ones too, there is a
-/// document of that event alone, which is read as the event is read among the others. A bare event is its own. There may be
-/// more events than one document may have.
+/// Takes a document in the JSON form of GS1 EPCIS 2.0 apart: for each of its events, skipped and faulty ones too, there
+/// is a document of that event alone, which is read as the event is read among the others. A bare event is its own.
+/// There may be more events than one document may have.
 ///
 /// # Errors
 /// Where memory runs out.
@@ -56,7 +56,8 @@ pub fn split_document(alloc: Global, bytes: Vec<u8>) -> Result<Split, AllocError
 
 /// Whether a value is an EPCISDocument by its type, and no bare event.
 fn has_body(value: &Value) -> bool
-    ensures { result ≡ is_text (λ text. bytes_eq text (codes "EPCISDocument")) (type_text (view value.now)) }
+    ensures { result ≡ is_text (λ text. bytes_eq text (codes "EPCISDocument"))
+        (type_text (view value.now)) }
 {
     match type_text(value) {
         Some(text) => text == "EPCISDocument",
@@ -67,7 +68,8 @@ fn has_body(value: &Value) -> bool
 /// A document for each event of a list.
 fn documents_of(alloc: Global, list: &[Value]) -> Result<Vec<Vec<u8>>, AllocError>
     requires { items_depth (items_view list.now) + 3 ≤ max_depth }
-    ensures { IfOk result (λ documents. AllZip IsAlone (in_order (items_view list.now)) (map (λ d. d.items) documents.items)) }
+    ensures { IfOk result (λ documents. AllZip IsAlone (in_order (items_view list.now))
+        (map (λ d. d.items) documents.items)) }
 {
     let mut documents = Vec::new(alloc);
     for value in list.iter() {

@@ -35,7 +35,9 @@ pub(crate) fn push_strange(
     value: &Value,
     event: &Event,
 ) -> Result<(), AllocError>
-    ensures { OnOk result (found.new.items ≡ found.old.items ++ strange listing.now.sites.now listing.now.here (view value.now) event.now) }
+    ensures { OnOk result (found.new.items
+        ≡ found.old.items ++ strange listing.now.sites.now listing.now.here
+        (view value.now) event.now) }
 {
     if is_aimless(value) {
         found.push(What::ShipsNowhere)?;
@@ -75,7 +77,8 @@ fn is_aimless(value: &Value) -> bool
 /// Whether an event has no destinations, in a list that is one.
 #[tactic(auto, using(event_json::proofs::Lists::items_count))]
 fn has_no_destination(value: &Value) -> bool
-    ensures { result ≡ is_empty_list (list_of fields.DestinationList (member_of fields.DestinationList (view value.now))) }
+    ensures { result ≡ is_empty_list (list_of fields.DestinationList
+        (member_of fields.DestinationList (view value.now))) }
 {
     match member_named(value, "destinationList") {
         None => true,

@@ -8,8 +8,8 @@ use std::cmp::Ordering;
 
 /// How two blocks of equally many bytes compare, byte by byte from the left. Their number is even.
 ///
-/// Words of 8 bytes are read as numbers, which compare as their bytes do. Always inlined, so that the constant length of
-/// an array leaves no loop.
+/// Words of 8 bytes are read as numbers, which compare as their bytes do. Always inlined, so that the constant length
+/// of an array leaves no loop.
 #[inline(always)]
 pub(crate) fn compare_blocks(block: &[u8], other: &[u8]) -> Ordering
     requires same { length block.now ≡ length other.now }

@@ -29,19 +29,22 @@ pub fn reading_is_spelling()
 
 /// Two plain texts have equal keys exactly where they spell one item.
 pub fn equal_keys_one_item()
-    ensures { (text other : List ℕ) → IsPlain text → IsPlain other → (key_of text ≡ key_of other) ↔ ((key : List ℕ) × Spells text key × Spells other key) }
+    ensures { (text other : List ℕ) → IsPlain text → IsPlain other → (key_of text ≡ key_of other)
+        ↔ ((key : List ℕ) × Spells text key × Spells other key) }
 {}
 
 /// The key of an item's form is an item's key, and determines the form.
 pub fn one_key_one_form()
     ensures is_key { (form : EpcForm) → IsForm form → IsKey (key_of_form form) }
-    ensures same { (form other : EpcForm) → IsForm form → IsForm other → key_of_form form ≡ key_of_form other → SameForm form other }
+    ensures same { (form other : EpcForm) → IsForm form → IsForm other
+        → key_of_form form ≡ key_of_form other → SameForm form other }
 {}
 
 /// Which texts are refused, and by which fault: at most one of the three.
 pub fn refusals()
     ensures empty { (text : List ℕ) → (reading text ≡ Err EpcFault.Empty) ↔ (length text ≡ 0) }
-    ensures too_long { (text : List ℕ) → (reading text ≡ Err EpcFault.TooLong) ↔ (512 < length text) }
+    ensures too_long { (text : List ℕ) → (reading text ≡ Err EpcFault.TooLong)
+        ↔ (512 < length text) }
     ensures bad_byte { BadBytesAreRefused }
 {}
 

@@ -140,7 +140,8 @@ fn check_count(list: &[Value]) -> Result<(), DocFault>
 #[tactic(auto, unfolding(crate::specs::Documents::document_of))]
 pub fn read_value(alloc: Global, value: &Value, sites: &Sites) -> Result<Doc, ReadFault>
     ensures gives { Gives result (document_of sites.now (view value.now)) }
-    ensures memory { result ≡ Err ReadFault.NoMemory → IsOk (document_of sites.now (view value.now)) }
+    ensures memory { result ≡ Err ReadFault.NoMemory
+        → IsOk (document_of sites.now (view value.now)) }
 {
     let list = event_list(value)?;
     check_count(list)?;
@@ -157,7 +158,8 @@ pub fn read_value(alloc: Global, value: &Value, sites: &Sites) -> Result<Doc, Re
 #[tactic(auto, unfolding(crate::specs::Documents::text_document))]
 pub fn read_document(alloc: Global, bytes: &[u8], sites: &Sites) -> Result<Doc, ReadFault>
     ensures text { IsUtf8 bytes.now → Gives result (text_document sites.now bytes.now) }
-    ensures bytes { (IsUtf8 bytes.now → ⊥) → Gives result (Err (whole fields.Document kinds.Syntax)) }
+    ensures bytes { (IsUtf8 bytes.now → ⊥)
+        → Gives result (Err (whole fields.Document kinds.Syntax)) }
     ensures memory { result ≡ Err ReadFault.NoMemory → 0 < length bytes.now }
 {
     match Value::from_slice(alloc, bytes) {

@@ -12,7 +12,8 @@ use crate::doc_faults::{DocFault, DocFaultKind, DocField, ReadFault};
 /// text.
 pub(crate) fn json_fault(error: &serde_json::Error) -> ReadFault
     ensures memory { (result ≡ ReadFault.NoMemory) ↔ IsMemory error.now }
-    ensures syntax { (result ≡ ReadFault.Doc (whole fields.Document kinds.Syntax)) ↔ (IsMemory error.now → ⊥) }
+    ensures syntax { (result ≡ ReadFault.Doc (whole fields.Document kinds.Syntax))
+        ↔ (IsMemory error.now → ⊥) }
 {
     if error.is_memory() {
         ReadFault::NoMemory

@@ -53,7 +53,8 @@ impl<'v> Model for DestinationTexts<'v> {
 
     ghost view = { λ t. map destination_in t.list.now };
 
-    ghost invariant = { λ t. All IsDestination t.list.now × (length t.list.now ≤ MAX_LIST_MEMBERS) };
+    ghost invariant = { λ t. All IsDestination t.list.now
+        × (length t.list.now ≤ MAX_LIST_MEMBERS) };
 }
 
 /// Refuses a list of more than 1,000 members.

@@ -76,7 +76,8 @@ pub fn identifier<'v>(value: &'v Value, field: DocField) -> Result<Option<PlainS
 
 /// The members of an array, none where it is absent.
 pub fn list<'v>(value: &'v Value, field: DocField) -> Result<&'v [Value], Flaw>
-    ensures { Shows (λ l. items_view l.now) result (list_of field (member_of field (view value.now))) }
+    ensures { Shows (λ l. items_view l.now) result
+        (list_of field (member_of field (view value.now))) }
 {
     let Some(found) = member(value, field) else {
         return Ok(&[]);

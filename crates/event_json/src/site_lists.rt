@@ -163,7 +163,8 @@ impl Sites {
 
     /// The name of a site, `None` where there is none of this number.
     pub fn name(&self, site: SiteNo) -> Option<&str>
-        ensures { option_map (λ t. t.now) result ≡ option_map (λ s. s.name) (slice_get self.now site) }
+        ensures { option_map (λ t. t.now) result ≡ option_map (λ s. s.name)
+            (slice_get self.now site) }
     {
         match self.sites.get(site.number() as usize) {
             Some(entry) => Some(entry.name()),
@@ -235,10 +236,15 @@ impl Sites {
     /// cause for, each found without allocating, or `NoMemory` where there is cause for none. The
     /// sites then are as they were.
     pub fn add(&mut self, name: &str, addresses: &[&str]) -> Result<SiteNo, SitesFault>
-        ensures free { OnOk result (sites_fault self.old name.now (map (λ a. a.now) addresses.now) ≡ None) }
+        ensures free { OnOk result (sites_fault self.old name.now (map (λ a. a.now) addresses.now)
+            ≡ None) }
         ensures number { IfOk result (λ site. site ≡ length self.old) }
-        ensures ok { OnOk result (self.new ≡ self.old ++ record { name = name.now; addresses = map (λ a. a.now) addresses.now } ∷ []) }
-        ensures cause { IfErr result (λ fault. IsCause fault (sites_fault self.old name.now (map (λ a. a.now) addresses.now))) }
+        ensures ok { OnOk result (self.new ≡ self.old ++ record {
+          name = name.now;
+          addresses = map (λ a. a.now) addresses.now;
+        } ∷ []) }
+        ensures cause { IfErr result (λ fault.
+            IsCause fault (sites_fault self.old name.now (map (λ a. a.now) addresses.now))) }
         ensures err { OnErr result (self.new ≡ self.old) }
     {
         if let Some(fault) = self.fault_of(name, addresses) {
@@ -264,7 +270,8 @@ impl Sites {
 
 /// Whether some text is an address of a site.
 fn some_addressed(sites: &Sites, texts: &[&str]) -> bool
-    ensures { result ≡ list_any (λ a. is_some (addressed sites.now a)) (map (λ t. t.now) texts.now) }
+    ensures { result ≡ list_any (λ a. is_some (addressed sites.now a))
+        (map (λ t. t.now) texts.now) }
 {
     for text in texts {
         if sites.addressed(*text).is_some() {

@@ -161,7 +161,8 @@ fn of_value(alloc: Global, value: &Value, sites: &Sites) -> Result<Untraced, Rea
 #[tactic(auto, unfolding(crate::specs::Untraced::text_untraced))]
 pub fn read_untraced(alloc: Global, bytes: &[u8], sites: &Sites) -> Result<Untraced, ReadFault>
     ensures text { IsUtf8 bytes.now → Gives result (text_untraced sites.now bytes.now) }
-    ensures bytes { (IsUtf8 bytes.now → ⊥) → Gives result (Err (whole fields.Document kinds.Syntax)) }
+    ensures bytes { (IsUtf8 bytes.now → ⊥)
+        → Gives result (Err (whole fields.Document kinds.Syntax)) }
 {
     match Value::from_slice(alloc, bytes) {
         Ok(value) => of_value(alloc, &value, sites),

@@ -31,8 +31,10 @@ pub fn audit_sites<K: SiteKeeper, F: Files<K>>(
     files: &mut F,
     folder: &str,
 ) -> Result<Output, Fault>
-    ensures calls { IfOk result (λ output. Led F.does files.old files.new (AuditsAt K.shown K.stored folder.now output)) }
-    ensures failed { IfErr result (λ fault. Led F.does files.old files.new (AllFails K.shown K.stored folder.now fault)) }
+    ensures calls { IfOk result (λ output.
+        Led F.does files.old files.new (AuditsAt K.shown K.stored folder.now output)) }
+    ensures failed { IfErr result (λ fault.
+        Led F.does files.old files.new (AllFails K.shown K.stored folder.now fault)) }
 {
     let sites = sites_of(alloc, files, folder)?;
     let outcome = ask_all(alloc, files, folder, &sites, &AuditOfAll {})?;
@@ -78,7 +80,8 @@ pub fn audit_of(alloc: Global, records: &[&SiteState]) -> Result<Outcome, Fault>
 /// Audits each recall that a site began, by site, then by number.
 fn audit_recalls(alloc: Global, records: &[&SiteState]) -> Result<Vec<AuditedRecall>, AllocError>
     requires { AreAllSites (records_at records.now) }
-    ensures { IfOk result (λ v. AllZip (AuditsRecall (records_at records.now)) (begun (records_at records.now)) v.items) }
+    ensures { IfOk result (λ v. AllZip (AuditsRecall (records_at records.now))
+        (begun (records_at records.now)) v.items) }
 {
     let mut audited = Vec::new(alloc);
     let recalls = begun(alloc, records)?;

@@ -30,10 +30,13 @@ pub(crate) fn take_by_event<K: SiteKeeper, F: Files<K>, W: Write>(
 ) -> Result<Counts, Fault>
     ensures taken { (old : Record) → K.shown keeper.old ≡ Some old
         → IfOk result (λ after. (new : Record) × (K.shown keeper.new ≡ Some new)
-        × TakesThose (λ inputs. Led F.does files.old files.new (ReadsWord kinds.DocumentEvents path.now inputs)) form sites.now
-        (standing old (W.contents output.old) counts) (standing new (W.contents output.new) after)) }
+        × TakesThose (λ inputs. Led F.does files.old files.new
+        (ReadsWord kinds.DocumentEvents path.now inputs)) form sites.now
+        (standing old (W.contents output.old) counts)
+        (standing new (W.contents output.new) after)) }
     ensures early { (old : Record) → K.shown keeper.old ≡ Some old
-        → OnErr result (TakesSome form sites.now (standing old (W.contents output.old) counts) (W.contents output.new)) }
+        → OnErr result (TakesSome form sites.now (standing old (W.contents output.old) counts)
+        (W.contents output.new)) }
     ensures stored { K.stored keeper.old → K.stored keeper.new }
 {
     let bytes = files.read(alloc, path)?;
@@ -61,9 +64,11 @@ fn take_events<K: SiteKeeper, W: Write>(
     ensures taken { (old : Record) → K.shown keeper.old ≡ Some old
         → IfOk result (λ after. (new : Record) × (K.shown keeper.new ≡ Some new)
         × Takes form sites.now (standing old (W.contents output.old) counts)
-        (of_events path.now 1 (map (λ d. d.items) documents.items)) (standing new (W.contents output.new) after)) }
+        (of_events path.now 1 (map (λ d. d.items) documents.items))
+        (standing new (W.contents output.new) after)) }
     ensures early { (old : Record) → K.shown keeper.old ≡ Some old
-        → OnErr result (TakesSome form sites.now (standing old (W.contents output.old) counts) (W.contents output.new)) }
+        → OnErr result (TakesSome form sites.now (standing old (W.contents output.old) counts)
+        (W.contents output.new)) }
     ensures stored { K.stored keeper.old → K.stored keeper.new }
 {
     let mut counts = counts;
@@ -91,10 +96,11 @@ fn take_event<K: SiteKeeper, W: Write>(
 ) -> Result<Counts, Fault>
     ensures taken { (old : Record) → K.shown keeper.old ≡ Some old
         → IfOk result (λ after. (new : Record) × (K.shown keeper.new ≡ Some new)
-        × TakesOne form sites.now
-        (standing old (W.contents output.old) counts) (of_event path.now number document.items) (standing new (W.contents output.new) after)) }
+        × TakesOne form sites.now (standing old (W.contents output.old) counts)
+        (of_event path.now number document.items) (standing new (W.contents output.new) after)) }
     ensures early { (old : Record) → K.shown keeper.old ≡ Some old
-        → OnErr result (TakesSome form sites.now (standing old (W.contents output.old) counts) (W.contents output.new)) }
+        → OnErr result (TakesSome form sites.now (standing old (W.contents output.old) counts)
+        (W.contents output.new)) }
     ensures stored { K.stored keeper.old → K.stored keeper.new }
 {
     let source = format!(in alloc; "{path} event {number}")?;

@@ -1,5 +1,5 @@
-//! Several inputs of one site: its file is opened once, and each input is a step of its own. They are documents, which are
-//! captured, or EPCs of items, of which recalls are started.
+//! Several inputs of one site: its file is opened once, and each input is a step of its own. They are documents, which
+//! are captured, or EPCs of items, of which recalls are started.
 
 ghost use Rattle.std.specs.Prelude.{◌≡◌, ◌∷◌, [], List, Some, IfOk, OnOk, OnErr, map};
 ghost use Rattle.std.specs.Io.KnownBytes.{Appends};
@@ -33,8 +33,8 @@ pub enum WordKind {
     DocumentEvents,
     /// An EPC, in this spelling.
     Epc(Spelling),
-    /// The path of a file of which each line is an EPC in this spelling, but for blank ones. Spaces at its end are no part
-    /// of it.
+    /// The path of a file of which each line is an EPC in this spelling, but for blank ones. Spaces at its end are no
+    /// part of it.
     EpcLines(Spelling),
 }
 
@@ -71,15 +71,16 @@ pub(crate) struct Counts {
     pub(crate) untraced: Untraced,
 }
 
-/// Captures documents, or starts recalls of items, at a site of a folder, whose file is opened once. Each input is a step of
-/// its own, and its line is written once it is kept, in this form, with its source; then a line of totals. An input that is
-/// refused hinders no other.
+/// Captures documents, or starts recalls of items, at a site of a folder, whose file is opened once. Each input is a
+/// step of its own, and its line is written once it is kept, in this form, with its source; then a line of totals. An
+/// input that is refused hinders no other.
 ///
 /// # Errors
-/// Those of the folder's list, those of opening the site's file, `Read` where a file of inputs can't be read, those of a
-/// step, and `Write` where a line can't be written. The inputs whose lines were written stay taken. After `NoMemory`,
+/// Those of the folder's list, those of opening the site's file, `Read` where a file of inputs can't be read, those of
+/// a step, and `Write` where a line can't be written. The inputs whose lines were written stay taken. After `NoMemory`,
 /// `Write`, `Device` or `Store` the one behind them may be kept, too: a document that is captured again has its events
-/// with an eventID known then, and those without one are captured twice; a recall that is started again is a second one.
+/// with an eventID known then, and those without one are captured twice; a recall that is started again is a second
+/// one.
 pub fn do_batch<K: SiteKeeper, F: Files<K>, W: Write>(
     alloc: Global,
     files: &mut F,
@@ -89,11 +90,13 @@ pub fn do_batch<K: SiteKeeper, F: Files<K>, W: Write>(
     form: Form,
     output: &mut W,
 ) -> Result<BatchSummary, Fault>
-    ensures all { IfOk result (λ summary. Led F.does files.old files.new (DoesAll K.shown K.stored form folder.now
-        site.now batch.now.kind (map (λ w. w.now) batch.now.words.now)
-        (W.contents output.old) (W.contents output.new) summary)) }
-    ensures early { OnErr result (Began F.does files.old (EndsEarly K.shown K.stored form folder.now (task_of batch.now.kind)
-        site.now (W.contents output.old) (W.contents output.new))) }
+    ensures all { IfOk result (λ summary.
+        Led F.does files.old files.new
+        (DoesAll K.shown K.stored form folder.now site.now batch.now.kind
+        (map (λ w. w.now) batch.now.words.now) (W.contents output.old)
+        (W.contents output.new) summary)) }
+    ensures early { OnErr result (Began F.does files.old (EndsEarly K.shown K.stored form folder.now
+        (task_of batch.now.kind) site.now (W.contents output.old) (W.contents output.new))) }
 {
     let sites = sites_of(alloc, files, folder)?;
     let Some(number) = sites.find(site) else {
@@ -135,7 +138,8 @@ fn take_all<K: SiteKeeper, F: Files<K>, W: Write>(
         (standing new (W.contents output.new) counts)) }
     ensures early { (old : Record) → K.shown keeper.old ≡ Some old
         → OnErr result (TakesSome form sites.now
-        (standing old (W.contents output.old) (no_counts (task_of batch.now.kind))) (W.contents output.new)) }
+        (standing old (W.contents output.old) (no_counts (task_of batch.now.kind)))
+        (W.contents output.new)) }
     ensures stored { K.stored keeper.old → K.stored keeper.new }
 {
     let mut counts = Counts {
@@ -164,10 +168,12 @@ fn take_word<K: SiteKeeper, F: Files<K>, W: Write>(
 ) -> Result<Counts, Fault>
     ensures taken { (old : Record) → K.shown keeper.old ≡ Some old
         → IfOk result (λ after. (new : Record) × (K.shown keeper.new ≡ Some new)
-        × TakesThose (λ inputs. Led F.does files.old files.new (ReadsWord kind word.now inputs)) form sites.now
-        (standing old (W.contents output.old) counts) (standing new (W.contents output.new) after)) }
+        × TakesThose (λ inputs. Led F.does files.old files.new (ReadsWord kind word.now inputs))
+        form sites.now (standing old (W.contents output.old) counts)
+        (standing new (W.contents output.new) after)) }
     ensures early { (old : Record) → K.shown keeper.old ≡ Some old
-        → OnErr result (TakesSome form sites.now (standing old (W.contents output.old) counts) (W.contents output.new)) }
+        → OnErr result (TakesSome form sites.now (standing old (W.contents output.old) counts)
+        (W.contents output.new)) }
     ensures stored { K.stored keeper.old → K.stored keeper.new }
 {
     match kind {
@@ -208,10 +214,13 @@ fn take_document<K: SiteKeeper, F: Files<K>, W: Write>(
 ) -> Result<Counts, Fault>
     ensures taken { (old : Record) → K.shown keeper.old ≡ Some old
         → IfOk result (λ after. (new : Record) × (K.shown keeper.new ≡ Some new)
-        × TakesThose (λ inputs. Led F.does files.old files.new (ReadsWord kinds.Document path.now inputs)) form sites.now
-        (standing old (W.contents output.old) counts) (standing new (W.contents output.new) after)) }
+        × TakesThose (λ inputs. Led F.does files.old files.new
+        (ReadsWord kinds.Document path.now inputs)) form sites.now
+        (standing old (W.contents output.old) counts)
+        (standing new (W.contents output.new) after)) }
     ensures early { (old : Record) → K.shown keeper.old ≡ Some old
-        → OnErr result (TakesSome form sites.now (standing old (W.contents output.old) counts) (W.contents output.new)) }
+        → OnErr result (TakesSome form sites.now (standing old (W.contents output.old) counts)
+        (W.contents output.new)) }
     ensures stored { K.stored keeper.old → K.stored keeper.new }
 {
     let bytes = files.read(alloc, path)?;
@@ -231,10 +240,11 @@ pub(crate) fn take_file<K: SiteKeeper, W: Write>(
 ) -> Result<Counts, Fault>
     ensures taken { (old : Record) → K.shown keeper.old ≡ Some old
         → IfOk result (λ after. (new : Record) × (K.shown keeper.new ≡ Some new)
-        × TakesOne form sites.now
-        (standing old (W.contents output.old) counts) (of_file path.now bytes.items) (standing new (W.contents output.new) after)) }
+        × TakesOne form sites.now (standing old (W.contents output.old) counts)
+        (of_file path.now bytes.items) (standing new (W.contents output.new) after)) }
     ensures early { (old : Record) → K.shown keeper.old ≡ Some old
-        → OnErr result (TakesSome form sites.now (standing old (W.contents output.old) counts) (W.contents output.new)) }
+        → OnErr result (TakesSome form sites.now (standing old (W.contents output.old) counts)
+        (W.contents output.new)) }
     ensures stored { K.stored keeper.old → K.stored keeper.new }
 {
     let source = String::from_str(alloc, path)?;
@@ -260,10 +270,13 @@ fn take_epc<K: SiteKeeper, F: Files<K>, W: Write>(
 ) -> Result<Counts, Fault>
     ensures taken { (old : Record) → K.shown keeper.old ≡ Some old
         → IfOk result (λ after. (new : Record) × (K.shown keeper.new ≡ Some new)
-        × TakesThose (λ inputs. Led F.does files.old files.new (ReadsWord (kinds.Epc spelling) text.now inputs)) form sites.now
-        (standing old (W.contents output.old) counts) (standing new (W.contents output.new) after)) }
+        × TakesThose (λ inputs. Led F.does files.old files.new
+        (ReadsWord (kinds.Epc spelling) text.now inputs)) form sites.now
+        (standing old (W.contents output.old) counts)
+        (standing new (W.contents output.new) after)) }
     ensures early { (old : Record) → K.shown keeper.old ≡ Some old
-        → OnErr result (TakesSome form sites.now (standing old (W.contents output.old) counts) (W.contents output.new)) }
+        → OnErr result (TakesSome form sites.now (standing old (W.contents output.old) counts)
+        (W.contents output.new)) }
     ensures stored { K.stored keeper.old → K.stored keeper.new }
 {
     let source = String::from_str(alloc, text)?;
@@ -290,10 +303,12 @@ fn take_lines<K: SiteKeeper, F: Files<K>, W: Write>(
 ) -> Result<Counts, Fault>
     ensures taken { (old : Record) → K.shown keeper.old ≡ Some old
         → IfOk result (λ after. (new : Record) × (K.shown keeper.new ≡ Some new)
-        × TakesThose (λ inputs. Led F.does files.old files.new (ReadsLines doing path.now inputs)) form sites.now
-        (standing old (W.contents output.old) counts) (standing new (W.contents output.new) after)) }
+        × TakesThose (λ inputs. Led F.does files.old files.new (ReadsLines doing path.now inputs))
+        form sites.now (standing old (W.contents output.old) counts)
+        (standing new (W.contents output.new) after)) }
     ensures early { (old : Record) → K.shown keeper.old ≡ Some old
-        → OnErr result (TakesSome form sites.now (standing old (W.contents output.old) counts) (W.contents output.new)) }
+        → OnErr result (TakesSome form sites.now (standing old (W.contents output.old) counts)
+        (W.contents output.new)) }
     ensures stored { K.stored keeper.old → K.stored keeper.new }
 {
     let mut counts = counts;
@@ -325,9 +340,11 @@ fn take_line<K: SiteKeeper, W: Write>(
     ensures taken { (old : Record) → K.shown keeper.old ≡ Some old
         → IfOk result (λ after. (new : Record) × (K.shown keeper.new ≡ Some new)
         × Takes form sites.now (standing old (W.contents output.old) counts)
-        (of_lines doing path.now number (bytes.items ∷ [])) (standing new (W.contents output.new) after)) }
+        (of_lines doing path.now number (bytes.items ∷ []))
+        (standing new (W.contents output.new) after)) }
     ensures early { (old : Record) → K.shown keeper.old ≡ Some old
-        → OnErr result (TakesSome form sites.now (standing old (W.contents output.old) counts) (W.contents output.new)) }
+        → OnErr result (TakesSome form sites.now (standing old (W.contents output.old) counts)
+        (W.contents output.new)) }
     ensures stored { K.stored keeper.old → K.stored keeper.new }
 {
     if is_blank(bytes.as_slice()) {
@@ -392,10 +409,11 @@ pub(crate) fn take<K: SiteKeeper, W: Write>(
 ) -> Result<Counts, Fault>
     ensures taken { (old : Record) → K.shown keeper.old ≡ Some old
         → IfOk result (λ after. (new : Record) × (K.shown keeper.new ≡ Some new)
-        × TakesOne form sites.now
-        (standing old (W.contents output.old) counts) (input_of given) (standing new (W.contents output.new) after)) }
+        × TakesOne form sites.now (standing old (W.contents output.old) counts) (input_of given)
+        (standing new (W.contents output.new) after)) }
     ensures early { (old : Record) → K.shown keeper.old ≡ Some old
-        → OnErr result (TakesSome form sites.now (standing old (W.contents output.old) counts) (W.contents output.new)) }
+        → OnErr result (TakesSome form sites.now (standing old (W.contents output.old) counts)
+        (W.contents output.new)) }
     ensures stored { K.stored keeper.old → K.stored keeper.new }
 {
     let Counts { totals, untraced } = counts;
@@ -416,7 +434,8 @@ pub(crate) fn take<K: SiteKeeper, W: Write>(
 /// Writes whole lines.
 pub(crate) fn write_lines<W: Write>(output: &mut W, lines: &str) -> Result<(), Fault>
     ensures ok { OnOk result (Appends (W.contents output.old) (W.contents output.new) lines.now) }
-    ensures err { OnErr result (AppendsBeginning (W.contents output.old) (W.contents output.new) lines.now) }
+    ensures err { OnErr result (AppendsBeginning (W.contents output.old)
+        (W.contents output.new) lines.now) }
 {
     match write_text(output, lines.as_bytes()) {
         Ok(()) => Ok(()),

@@ -21,13 +21,13 @@ use recall_outcomes::{CommandRefusal, Fault, Outcome};
 use site_core::{Effects, Refusal, SiteInput, SiteState, Stepped, step};
 use std::alloc::Global;
 
-/// Tells how many items of a site of a folder the start of a recall would quarantine there, and how many messages it would
-/// have for other sites. The step is made on a copy of the record: nothing is begun or changed.
+/// Tells how many items of a site of a folder the start of a recall would quarantine there, and how many messages it
+/// would have for other sites. The step is made on a copy of the record: nothing is begun or changed.
 ///
 /// # Errors
-/// As those of a start but for those of writing: those of the folder's list, those of opening the site's file; once that
-/// is open `NoMemory` alone. The site's record is as it was. A site that isn't listed and a text that spells no item are
-/// refused before the file is opened.
+/// As those of a start but for those of writing: those of the folder's list, those of opening the site's file; once
+/// that is open `NoMemory` alone. The site's record is as it was. A site that isn't listed and a text that spells no
+/// item are refused before the file is opened.
 pub fn dry_start<K: SiteKeeper, F: Files<K>>(
     alloc: Global,
     files: &mut F,
@@ -58,9 +58,13 @@ fn dry_start_in<K: SiteKeeper, F: Files<K>>(
     site: &str,
     item: &Spelled<'_>,
 ) -> Result<Outcome, Fault>
-    ensures calls { IfOk result (λ outcome. Led F.does files.old files.new (AtSite site.now (named sites.now site.now)
-        (λ number. DryStartsItem K.shown K.stored folder.now sites.now number (item_reading item.now)) outcome)) }
-    ensures failed { IfErr result (λ fault. Led F.does files.old files.new (AtSiteFails (named sites.now site.now)
+    ensures calls { IfOk result (λ outcome.
+        Led F.does files.old files.new (AtSite site.now (named sites.now site.now) (λ number.
+        DryStartsItem K.shown K.stored folder.now sites.now number (item_reading item.now))
+        outcome)) }
+    ensures failed { IfErr result (λ fault.
+        Led F.does files.old files.new
+        (AtSiteFails (named sites.now site.now)
         (AskSiteOfItemFails K.shown K.stored folder.now sites.now item.now) fault)) }
 {
     let Some(number) = sites.find(site) else {
@@ -98,7 +102,8 @@ impl SiteQuestion for StartOf {
 
 /// Why a start would be refused, for which memory alone is no reason.
 fn refused(alloc: Global, why: Refusal) -> Result<Outcome, Fault>
-    ensures answered { IfOk result (λ outcome. (why ≢ Refusal.NoMemory) × IsRefusal (Step why) outcome) }
+    ensures answered { IfOk result (λ outcome. (why ≢ Refusal.NoMemory)
+        × IsRefusal (Step why) outcome) }
     ensures failed { IfErr result (λ fault. fault ≡ Fault.NoMemory) }
 {
     match &why {

@@ -20,8 +20,8 @@ use recall_text::{SiteList, read_sites};
 use site_core::SiteState;
 use std::alloc::{AllocError, Global};
 
-/// The files that the commands read, make and change. What stands behind a path no contract says: each call is stated by
-/// one relation of the kind of files, so that contracts say which calls led to an outcome, or to a fault.
+/// The files that the commands read, make and change. What stands behind a path no contract says: each call is stated
+/// by one relation of the kind of files, so that contracts say which calls led to an outcome, or to a fault.
 pub trait Files<K: SiteKeeper> {
     ghost use Rattle.std.specs.Prelude.{List, ℕ, Option, IfOk, IfErr, OnOk, option_map};
     ghost use Rattle.recall_outcomes.specs.declared.causes.Failure.{Failure};
@@ -38,13 +38,15 @@ pub trait Files<K: SiteKeeper> {
 
     /// The bytes of a file. `Read` where it is missing or can't be read.
     fn read(&mut self, alloc: Global, path: &str) -> Result<Vec<u8>, Fault>
-        ensures read { IfOk result (λ bytes. does self.old (ReadFile path.now bytes.items) self.new) }
+        ensures read { IfOk result (λ bytes.
+            does self.old (ReadFile path.now bytes.items) self.new) }
         ensures failed { IfErr result (λ fault. does self.old (Failed path.now fault) self.new) };
 
-    /// The next line of a file, from its first one on, without its LF; `None` at its end. A last line needs no LF. `Read`
-    /// where the file is missing or can't be read.
+    /// The next line of a file, from its first one on, without its LF; `None` at its end. A last line needs no LF.
+    /// `Read` where the file is missing or can't be read.
     fn read_line(&mut self, alloc: Global, path: &str) -> Result<Option<Vec<u8>>, Fault>
-        ensures read { IfOk result (λ line. does self.old (ReadLine path.now (option_map (λ l. l.items) line)) self.new) }
+        ensures read { IfOk result (λ line.
+            does self.old (ReadLine path.now (option_map (λ l. l.items) line)) self.new) }
         ensures failed { IfErr result (λ fault. does self.old (Failed path.now fault) self.new) };
 
     /// Whether there is a file of this path.
@@ -59,7 +61,8 @@ pub trait Files<K: SiteKeeper> {
 
     /// Opens the file of the site of a name, on which a crash leaves the record that is shown.
     fn open_site(&mut self, alloc: Global, path: &str, name: &str) -> Result<K, Fault>
-        ensures opened { IfOk result (λ keeper. does self.old (OpenedSite path.now name.now keeper) self.new) }
+        ensures opened { IfOk result (λ keeper.
+            does self.old (OpenedSite path.now name.now keeper) self.new) }
         ensures stored { IfOk result K.stored }
         ensures failed { IfErr result (λ fault. does self.old (Failed path.now fault) self.new) };
 
@@ -113,8 +116,10 @@ pub(crate) fn sites_of<K: SiteKeeper, F: Files<K>>(
     files: &mut F,
     folder: &str,
 ) -> Result<Sites, Fault>
-    ensures read { IfOk result (λ sites. Led F.does files.old files.new (ListsSites folder.now sites)) }
-    ensures failed { IfErr result (λ fault. Led F.does files.old files.new (ListFails folder.now fault)) }
+    ensures read { IfOk result (λ sites.
+        Led F.does files.old files.new (ListsSites folder.now sites)) }
+    ensures failed { IfErr result (λ fault.
+        Led F.does files.old files.new (ListFails folder.now fault)) }
 {
     let path = list_path(alloc, folder)?;
     let text = files.read(alloc, path.as_str())?;
@@ -142,8 +147,10 @@ pub(crate) fn open_site<K: SiteKeeper, F: Files<K>>(
     sites: &Sites,
     site: SiteNo,
 ) -> Result<K, Fault>
-    ensures opened { IfOk result (λ keeper. F.does files.old (opens_site folder.now sites.now site keeper) files.new) }
-    ensures keeps { IfOk result (λ keeper. (r : Record) × KeepsSite K.shown K.stored sites.now site keeper r) }
+    ensures opened { IfOk result (λ keeper.
+        F.does files.old (opens_site folder.now sites.now site keeper) files.new) }
+    ensures keeps { IfOk result (λ keeper. (r : Record)
+        × KeepsSite K.shown K.stored sites.now site keeper r) }
     ensures failed { IfErr result (λ fault. Led F.does files.old files.new
         (OpenFails K.shown folder.now sites.now site fault)) }
 {
@@ -177,8 +184,10 @@ pub(crate) fn open_all<K: SiteKeeper, F: Files<K>>(
     folder: &str,
     sites: &Sites,
 ) -> Result<Vec<K>, Fault>
-    ensures opened { IfOk result (λ keepers. Calls F.does files.old (opens_from folder.now sites.now 0 keepers.items) files.new) }
-    ensures keep { IfOk result (λ keepers. (rs : List Record) × KeepFrom K.shown K.stored sites.now 0 keepers.items rs) }
+    ensures opened { IfOk result (λ keepers.
+        Calls F.does files.old (opens_from folder.now sites.now 0 keepers.items) files.new) }
+    ensures keep { IfOk result (λ keepers. (rs : List Record)
+        × KeepFrom K.shown K.stored sites.now 0 keepers.items rs) }
     ensures number { IfOk result (λ keepers. length keepers.items ≡ length sites.now) }
     ensures few { length sites.now ≤ 16 }
     ensures failed { IfErr result (λ fault. Led F.does files.old files.new

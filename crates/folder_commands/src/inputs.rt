@@ -1,4 +1,5 @@
-//! What comes of an input at a site: a document that it captures, or a text that spells an item of which it starts a recall.
+//! What comes of an input at a site: a document that it captures, or a text that spells an item of which it starts a
+//! recall.
 
 ghost use Rattle.std.specs.Prelude.{◌≡◌, Ok, Some, IfOk};
 ghost use Rattle.event_json.specs.Untraced.{text_untraced};
@@ -72,7 +73,8 @@ fn captured<K: SiteKeeper>(
 ) -> Result<(InputOutcome, Untraced), Fault>
     ensures came { (old : Record) → K.shown keeper.old ≡ Some old
         → IfOk result (λ r. (new : Record) × (K.shown keeper.new ≡ Some new)
-        × ComesTo doings.Capture old document.items r.0 new × PassesOver old.sites document.items r.0 passed r.1) }
+        × ComesTo doings.Capture old document.items r.0 new
+        × PassesOver old.sites document.items r.0 passed r.1) }
     ensures stored { K.stored keeper.old → K.stored keeper.new }
 {
     let untraced = untraced_at(alloc, keeper, document.as_slice())?;
@@ -93,15 +95,16 @@ fn captured<K: SiteKeeper>(
     }
 }
 
-/// What a document says that isn't traced by the sites of the record that a keeper shows; `None` where it is refused as a
-/// document.
+/// What a document says that isn't traced by the sites of the record that a keeper shows; `None` where it is refused as
+/// a document.
 fn untraced_at<K: SiteKeeper>(
     alloc: Global,
     keeper: &K,
     document: &[u8],
 ) -> Result<Option<Untraced>, Fault>
-    ensures { (old : Record) → K.shown keeper.now ≡ Some old → (doc : Doc) → IsReadAs old.sites document.now (Ok doc)
-        → IfOk result (λ found. (untraced : Untraced) × (found ≡ Some untraced) × (text_untraced old.sites document.now ≡ Ok untraced)) }
+    ensures { (old : Record) → K.shown keeper.now ≡ Some old → (doc : Doc)
+        → IsReadAs old.sites document.now (Ok doc) → IfOk result (λ found. (untraced : Untraced)
+        × (found ≡ Some untraced) × (text_untraced old.sites document.now ≡ Ok untraced)) }
 {
     match keeper.view() {
         Some(state) => untraced_of(alloc, document, state.sites()),
@@ -117,7 +120,8 @@ fn started<K: SiteKeeper>(
     text: &[u8],
 ) -> Result<InputOutcome, Fault>
     ensures came { (old : Record) → K.shown keeper.old ≡ Some old
-        → IfOk result (λ came. (new : Record) × (K.shown keeper.new ≡ Some new) × ComesTo (doings.Start spelling) old text.now came new) }
+        → IfOk result (λ came. (new : Record) × (K.shown keeper.new ≡ Some new)
+        × ComesTo (doings.Start spelling) old text.now came new) }
     ensures stored { K.stored keeper.old → K.stored keeper.new }
 {
     match item_in(alloc, spelling, text)? {
@@ -157,7 +161,8 @@ fn unread(spelling: Spelling) -> SpellingFault
 /// What comes of the start of a recall of an item at a site.
 fn started_of<K: SiteKeeper>(keeper: &mut K, item: Epc) -> Result<InputOutcome, Fault>
     ensures came { (old : Record) → K.shown keeper.old ≡ Some old
-        → IfOk result (λ came. (new : Record) × (K.shown keeper.new ≡ Some new) × StartComesTo old (Ok item) came new) }
+        → IfOk result (λ came. (new : Record) × (K.shown keeper.new ≡ Some new)
+        × StartComesTo old (Ok item) came new) }
     ensures stored { K.stored keeper.old → K.stored keeper.new }
 {
     match keeper.apply(SiteInput::Start(item)) {

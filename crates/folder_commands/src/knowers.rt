@@ -26,13 +26,13 @@ use std::alloc::{AllocError, Global};
 /// How many items are told that end in a text.
 const MAX_ENDINGS: usize = 5;
 
-/// Tells in whole lines for the error stream which sites of a folder know an item that the site of a name doesn't know, and
-/// which items of that site end in the text that was given for it: at most five. Nothing is told of a site that isn't listed,
-/// or of a text that spells no item. Nothing is begun or changed.
+/// Tells in whole lines for the error stream which sites of a folder know an item that the site of a name doesn't know,
+/// and which items of that site end in the text that was given for it: at most five. Nothing is told of a site that
+/// isn't listed, or of a text that spells no item. Nothing is begun or changed.
 ///
 /// # Errors
-/// As those of a trace: those of the folder's list, and those of opening the sites' files; once these are open `NoMemory`
-/// alone. The sites' records are as they were.
+/// As those of a trace: those of the folder's list, and those of opening the sites' files; once these are open
+/// `NoMemory` alone. The sites' records are as they were.
 pub fn who_knows<K: SiteKeeper, F: Files<K>>(
     alloc: Global,
     files: &mut F,
@@ -61,7 +61,9 @@ fn knowers_in<K: SiteKeeper, F: Files<K>>(
     ensures calls { IfOk result (λ told. Led F.does files.old files.new
         (KnowersNamed K.shown K.stored folder.now sites.now item.now.text.now
         (named sites.now site.now) (item_reading item.now) (string_bytes told))) }
-    ensures failed { IfErr result (λ fault. Led F.does files.old files.new (AtSiteFails (named sites.now site.now)
+    ensures failed { IfErr result (λ fault.
+        Led F.does files.old files.new
+        (AtSiteFails (named sites.now site.now)
         (AskOfItemFails K.shown K.stored folder.now sites.now item.now) fault)) }
 {
     let Some(site) = sites.find(site) else {
@@ -96,7 +98,8 @@ impl Question for KnowersOf<'_> {
 
     type Answer = String;
 
-    ghost answers = { λ q rs told. TellsKnowers q.sites.now q.site q.item q.text.now rs (string_bytes told) };
+    ghost answers = { λ q rs told. TellsKnowers q.sites.now q.site q.item q.text.now rs
+        (string_bytes told) };
 
     fn answer(&self, alloc: Global, records: &[&SiteState]) -> Result<String, Fault> {
         Ok(told_of_all(alloc, self, records)?)
@@ -109,8 +112,8 @@ fn told_of_all(
     asked: &KnowersOf<'_>,
     records: &[&SiteState],
 ) -> Result<String, AllocError>
-    ensures { IfOk result (λ told. TellsKnowers asked.now.sites.now asked.now.site asked.now.item asked.now.text.now
-        (records_at records.now) (string_bytes told)) }
+    ensures { IfOk result (λ told. TellsKnowers asked.now.sites.now asked.now.site asked.now.item
+        asked.now.text.now (records_at records.now) (string_bytes told)) }
 {
     let mut told = String::new(alloc);
     for state in records {
@@ -122,8 +125,8 @@ fn told_of_all(
 
 /// What is told of the site of a record.
 fn told_of(alloc: Global, asked: &KnowersOf<'_>, state: &SiteState) -> Result<String, AllocError>
-    ensures { IfOk result (λ told. TellsOf asked.now.sites.now asked.now.site asked.now.item asked.now.text.now
-        state.now (string_bytes told)) }
+    ensures { IfOk result (λ told. TellsOf asked.now.sites.now asked.now.site asked.now.item
+        asked.now.text.now state.now (string_bytes told)) }
 {
     if state.me() == asked.site {
         endings(alloc, asked.sites, asked.text, state)
@@ -204,7 +207,8 @@ fn ends_lines(
     text: &str,
     ending: &[KnownItem],
 ) -> Result<String, AllocError>
-    ensures { IfOk result (λ told. string_bytes told ≡ flat_map (ends_line sites.now site text.now) ending.now) }
+    ensures { IfOk result (λ told. string_bytes told
+        ≡ flat_map (ends_line sites.now site text.now) ending.now) }
 {
     let mut told = String::new(alloc);
     for known in ending {
@@ -222,7 +226,8 @@ fn ends_line(
     text: &str,
     known: &KnownItem,
 ) -> Result<String, AllocError>
-    ensures { IfOk result (λ line. string_bytes line ≡ ends_line sites.now site text.now known.now) }
+    ensures { IfOk result (λ line. string_bytes line
+        ≡ ends_line sites.now site text.now known.now) }
 {
     let key = known.item.key(alloc)?;
     let mut line = String::from_str(alloc, "note: ")?;

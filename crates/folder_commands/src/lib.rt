@@ -1,7 +1,9 @@
-//! Commands on the files of the sites in a folder: making them, capturing, starting a recall, a run of all sites, reports and
-//! audits; and questions, which leave them as they are: traces of an item, how recalls stand, which items a site knows.
+//! Commands on the files of the sites in a folder: making them, capturing, starting a recall, a run of all sites,
+//! reports and audits; and questions, which leave them as they are: traces of an item, how recalls stand, which items a
+//! site knows.
 //!
-//! The files themselves stand behind the trait [`Files`]. What a command comes to is an [`Outcome`](recall_outcomes::Outcome).
+//! The files themselves stand behind the trait [`Files`]. What a command comes to is an
+//! [`Outcome`](recall_outcomes::Outcome).
 #![tactic(auto)]
 
 mod audits;

@@ -1,4 +1,5 @@
-//! `lint`: what is wrong and what is strange in documents, by a list of sites, before they are captured. It changes nothing.
+//! `lint`: what is wrong and what is strange in documents, by a list of sites, before they are captured. It changes
+//! nothing.
 
 ghost use Rattle.std.specs.Prelude.{◌≡◌, ◌⊎◌, ◌++◌, [], List, IfOk, OnErr, OnOk, map, option_map, string_bytes};
 ghost use Rattle.std.specs.Io.KnownBytes.{Appends};
@@ -24,10 +25,10 @@ pub struct LintSummary {
     pub status: u8,
 }
 
-/// Looks for what is wrong and what is strange in documents, by the sites of a list: the lines of each document are written
-/// before the next one is read, and then a line of totals, in this form. Where the site that is to capture them is named, it
-/// is told of events that happened at another one. Where a line of the list is refused, it has fewer than two sites or
-/// it doesn't list that site, that is written, and no document is read. No other file is asked for.
+/// Looks for what is wrong and what is strange in documents, by the sites of a list: the lines of each document are
+/// written before the next one is read, and then a line of totals, in this form. Where the site that is to capture them
+/// is named, it is told of events that happened at another one. Where a line of the list is refused, it has fewer than
+/// two sites or it doesn't list that site, that is written, and no document is read. No other file is asked for.
 ///
 /// # Errors
 /// `Read` where the list or a document can't be read, and `Write` where lines can't be written. `NoMemory` at any time.
@@ -41,10 +42,12 @@ pub fn lint_documents<K: SiteKeeper, F: Files<K>, W: Write>(
     form: Form,
     output: &mut W,
 ) -> Result<LintSummary, Fault>
-    ensures all { IfOk result (λ summary. Led F.does files.old files.new
-        (Lints form list.now (option_map (λ t. t.now) site.entry) (map (λ p. p.now) paths.now) (W.contents output.old) (W.contents output.new) summary)) }
+    ensures all { IfOk result (λ summary.
+        Led F.does files.old files.new (Lints form list.now (option_map (λ t. t.now) site.entry)
+        (map (λ p. p.now) paths.now) (W.contents output.old) (W.contents output.new) summary)) }
     ensures early { OnErr result (Began F.does files.old
-        (LintEndsEarly form list.now (option_map (λ t. t.now) site.entry) (map (λ p. p.now) paths.now) (W.contents output.old) (W.contents output.new))) }
+        (LintEndsEarly form list.now (option_map (λ t. t.now) site.entry)
+        (map (λ p. p.now) paths.now) (W.contents output.old) (W.contents output.new))) }
 {
     let text = files.read(alloc, list)?;
     let list = read_sites(alloc, text.as_slice())?;
@@ -77,7 +80,8 @@ fn refusals_of(
     list: &SiteList,
     site: Option<&str>,
 ) -> Result<Vec<CommandRefusal>, AllocError>
-    ensures { IfOk result (λ whys. AreReasons list.now (option_map (λ t. t.now) site.entry) whys.items) }
+    ensures { IfOk result (λ whys. AreReasons list.now (option_map (λ t. t.now) site.entry)
+        whys.items) }
 {
     let mut refusals = Vec::new(alloc);
     push_lines(list.refused.as_slice(), &mut refusals)?;
@@ -93,7 +97,8 @@ fn push_unlisted(
     site: Option<&str>,
     refusals: &mut Vec<CommandRefusal>,
 ) -> Result<(), AllocError>
-    ensures { OnOk result ((whys : List CommandRefusal) × IsUnlisted sites.now (option_map (λ t. t.now) site.entry) whys
+    ensures { OnOk result ((whys : List CommandRefusal)
+        × IsUnlisted sites.now (option_map (λ t. t.now) site.entry) whys
         × (refusals.new.items ≡ refusals.old.items ++ whys)) }
 {
     let Some(name) = site else {
@@ -117,8 +122,8 @@ fn refuse<W: Write>(
     form: Form,
     output: &mut W,
 ) -> Result<LintSummary, Fault>
-    ensures all { IfOk result (λ summary.
-        RefusesList form list.now whys.items (W.contents output.old) (W.contents output.new) summary) }
+    ensures all { IfOk result (λ summary. RefusesList form list.now whys.items
+        (W.contents output.old) (W.contents output.new) summary) }
     ensures early { OnErr result
         (Appends (W.contents output.old) (W.contents output.new) []
         ⊎ RefusesSome form list.now whys.items (W.contents output.old) (W.contents output.new)) }
@@ -140,10 +145,12 @@ fn lint_all<K: SiteKeeper, F: Files<K>, W: Write>(
     form: Form,
     output: &mut W,
 ) -> Result<LintSummary, Fault>
-    ensures all { IfOk result (λ summary. Led F.does files.old files.new
-        (LintsAll form listing.now.sites.now listing.now.here (map (λ p. p.now) paths.now) (W.contents output.old) (W.contents output.new) summary)) }
+    ensures all { IfOk result (λ summary.
+        Led F.does files.old files.new (LintsAll form listing.now.sites.now listing.now.here
+        (map (λ p. p.now) paths.now) (W.contents output.old) (W.contents output.new) summary)) }
     ensures early { OnErr result (Began F.does files.old
-        (LintsSome form listing.now.sites.now listing.now.here (map (λ p. p.now) paths.now) (W.contents output.old) (W.contents output.new))) }
+        (LintsSome form listing.now.sites.now listing.now.here (map (λ p. p.now) paths.now)
+        (W.contents output.old) (W.contents output.new))) }
 {
     let totals = lint_files(alloc, files, listing, paths, form, output)?;
     let line = totals_line(alloc, form, totals)?;
@@ -162,10 +169,12 @@ fn lint_files<K: SiteKeeper, F: Files<K>, W: Write>(
     form: Form,
     output: &mut W,
 ) -> Result<LintTotals, Fault>
-    ensures all { IfOk result (λ totals. Led F.does files.old files.new
-        (LintsThose form listing.now.sites.now listing.now.here (map (λ p. p.now) paths.now) (W.contents output.old) (W.contents output.new) totals)) }
+    ensures all { IfOk result (λ totals.
+        Led F.does files.old files.new (LintsThose form listing.now.sites.now listing.now.here
+        (map (λ p. p.now) paths.now) (W.contents output.old) (W.contents output.new) totals)) }
     ensures early { OnErr result (Began F.does files.old
-        (LintsSome form listing.now.sites.now listing.now.here (map (λ p. p.now) paths.now) (W.contents output.old) (W.contents output.new))) }
+        (LintsSome form listing.now.sites.now listing.now.here (map (λ p. p.now) paths.now)
+        (W.contents output.old) (W.contents output.new))) }
 {
     let mut totals = LintTotals::new();
     for path in paths {
@@ -184,10 +193,13 @@ fn lint_file<K: SiteKeeper, F: Files<K>, W: Write>(
     form: Form,
     output: &mut W,
 ) -> Result<LintTotals, Fault>
-    ensures all { IfOk result (λ after. Led F.does files.old files.new
-        (LintsOne form listing.now.sites.now listing.now.here path.now (W.contents output.old) (W.contents output.new) totals after)) }
+    ensures all { IfOk result (λ after.
+        Led F.does files.old files.new
+        (LintsOne form listing.now.sites.now listing.now.here path.now (W.contents output.old)
+        (W.contents output.new) totals after)) }
     ensures early { OnErr result (Began F.does files.old
-        (OneEndsEarly form listing.now.sites.now listing.now.here path.now (W.contents output.old) (W.contents output.new))) }
+        (OneEndsEarly form listing.now.sites.now listing.now.here path.now (W.contents output.old)
+        (W.contents output.new))) }
 {
     let bytes = files.read(alloc, path)?;
     let found = lint_document(alloc, bytes.as_slice(), listing)?;

@@ -30,8 +30,8 @@ use std::hash::RandomState;
 ///
 /// # Errors
 /// `Read` where the list can't be read, then the fault of the first look for a file that fails: nothing was made. Then
-/// that of the first file that can't be made, behind those of the sites before it. `NoMemory` at any time, with the files
-/// of the first sites made, or none.
+/// that of the first file that can't be made, behind those of the sites before it. `NoMemory` at any time, with the
+/// files of the first sites made, or none.
 pub fn init<K: SiteKeeper, F: Files<K>>(
     alloc: Global,
     keys: RandomState,
@@ -39,8 +39,10 @@ pub fn init<K: SiteKeeper, F: Files<K>>(
     folder: &str,
     list: &str,
 ) -> Result<Output, Fault>
-    ensures calls { IfOk result (λ output. Led F.does files.old files.new (InitsAt folder.now list.now output)) }
-    ensures failed { IfErr result (λ fault. Led F.does files.old files.new (InitFails folder.now list.now fault)) }
+    ensures calls { IfOk result (λ output.
+        Led F.does files.old files.new (InitsAt folder.now list.now output)) }
+    ensures failed { IfErr result (λ fault.
+        Led F.does files.old files.new (InitFails folder.now list.now fault)) }
 {
     let text = files.read(alloc, list)?;
     let list = read_sites(alloc, text.as_slice())?;
@@ -61,8 +63,10 @@ fn make_listed<K: SiteKeeper, F: Files<K>>(
     text: &[u8],
     list: &SiteList,
 ) -> Result<Outcome, Fault>
-    ensures calls { IfOk result (λ outcome. Led F.does files.old files.new (MakesListed folder.now list.now text.now outcome)) }
-    ensures failed { IfErr result (λ fault. Led F.does files.old files.new (MakeFails folder.now list.now fault)) }
+    ensures calls { IfOk result (λ outcome.
+        Led F.does files.old files.new (MakesListed folder.now list.now text.now outcome)) }
+    ensures failed { IfErr result (λ fault.
+        Led F.does files.old files.new (MakeFails folder.now list.now fault)) }
 {
     let sites = &list.sites;
     let mut refusals = Vec::new(alloc);
@@ -109,10 +113,13 @@ fn push_existing<K: SiteKeeper, F: Files<K>>(
     sites: &Sites,
     refusals: &mut Vec<CommandRefusal>,
 ) -> Result<(), Fault>
-    ensures looked { OnOk result ((found : List Bool) × Calls F.does files.old (looks_from folder.now sites.now 0 found) files.new
-        × (length found ≡ length sites.now) × (more : List CommandRefusal) × AllZip IsExists (existing sites.now 0 found) more
+    ensures looked { OnOk result ((found : List Bool)
+        × Calls F.does files.old (looks_from folder.now sites.now 0 found) files.new
+        × (length found ≡ length sites.now) × (more : List CommandRefusal)
+        × AllZip IsExists (existing sites.now 0 found) more
         × (refusals.new.items ≡ refusals.old.items ++ more)) }
-    ensures failed { IfErr result (λ fault. Led F.does files.old files.new (LooksForSome folder.now sites.now fault)) }
+    ensures failed { IfErr result (λ fault.
+        Led F.does files.old files.new (LooksForSome folder.now sites.now fault)) }
 {
     for number in 0..sites.len() {
         let Some(site) = SiteNo::of(number) else {
@@ -133,8 +140,9 @@ fn push_list<K: SiteKeeper, F: Files<K>>(
 ) -> Result<(), Fault>
     ensures looked { OnOk result (Led F.does files.old files.new
         (LooksForList folder.now refusals.old.items refusals.new.items)) }
-    ensures failed { IfErr result (λ fault. (refusals.old.items ≡ []) × Led F.does files.old files.new
-        (λ calls. LookFails (list_path folder.now) fault calls ⊎ RunsOut fault calls)) }
+    ensures failed { IfErr result (λ fault. (refusals.old.items ≡ [])
+        × Led F.does files.old files.new (λ calls. LookFails (list_path folder.now) fault calls
+        ⊎ RunsOut fault calls)) }
 {
     if refusals.is_empty() {
         let path = list_path(alloc, folder)?;
@@ -151,9 +159,12 @@ fn push_where<K: SiteKeeper, F: Files<K>>(
     name: &str,
     refusals: &mut Vec<CommandRefusal>,
 ) -> Result<(), Fault>
-    ensures looked { OnOk result ((found : Bool) × F.does files.old (LookedFor path.now found) files.new
-        × (more : List CommandRefusal) × AllZip IsExists (name_where found name.now) more × (refusals.new.items ≡ refusals.old.items ++ more)) }
-    ensures failed { IfErr result (λ fault. Led F.does files.old files.new (LookFails path.now fault)) }
+    ensures looked { OnOk result ((found : Bool)
+        × F.does files.old (LookedFor path.now found) files.new × (more : List CommandRefusal)
+        × AllZip IsExists (name_where found name.now) more
+        × (refusals.new.items ≡ refusals.old.items ++ more)) }
+    ensures failed { IfErr result (λ fault.
+        Led F.does files.old files.new (LookFails path.now fault)) }
 {
     if files.exists(path)? {
         let name = String::from_str(alloc, name)?;
@@ -171,8 +182,10 @@ fn make_folder<K: SiteKeeper, F: Files<K>>(
     text: &[u8],
     sites: &Sites,
 ) -> Result<(), Fault>
-    ensures made { OnOk result (Calls F.does files.old (makes_all folder.now sites.now text.now) files.new) }
-    ensures failed { IfErr result (λ fault. Led F.does files.old files.new (MakesSome folder.now sites.now fault)) }
+    ensures made { OnOk result (Calls F.does files.old (makes_all folder.now sites.now text.now)
+        files.new) }
+    ensures failed { IfErr result (λ fault.
+        Led F.does files.old files.new (MakesSome folder.now sites.now fault)) }
 {
     make_all(alloc, keys, files, folder, sites)?;
     let path = list_path(alloc, folder)?;
@@ -187,8 +200,10 @@ fn make_all<K: SiteKeeper, F: Files<K>>(
     folder: &str,
     sites: &Sites,
 ) -> Result<(), Fault>
-    ensures made { OnOk result (Calls F.does files.old (makes_from folder.now sites.now 0 (length sites.now)) files.new) }
-    ensures failed { IfErr result (λ fault. Led F.does files.old files.new (MakesSome folder.now sites.now fault)) }
+    ensures made { OnOk result (Calls F.does files.old
+        (makes_from folder.now sites.now 0 (length sites.now)) files.new) }
+    ensures failed { IfErr result (λ fault.
+        Led F.does files.old files.new (MakesSome folder.now sites.now fault)) }
 {
     for number in 0..sites.len() {
         let Some(site) = SiteNo::of(number) else {

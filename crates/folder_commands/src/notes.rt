@@ -139,7 +139,8 @@ pub(crate) fn notes_text<K: SiteKeeper, F: Files<K>>(
     sites: &Sites,
     notes: &RunNotes,
 ) -> Result<String, AllocError>
-    ensures { IfOk result (λ t. TellsNotes (F.knows files.now) folder.now sites.now notes.now (string_bytes t)) }
+    ensures { IfOk result (λ t. TellsNotes (F.knows files.now) folder.now sites.now notes.now
+        (string_bytes t)) }
 {
     let mut text = stops_text(alloc, files, folder, sites, notes.stops.as_slice())?;
     text.push_str(shared_note(notes.shared))?;
@@ -155,7 +156,8 @@ fn stops_text<K: SiteKeeper, F: Files<K>>(
     sites: &Sites,
     stops: &[Stop],
 ) -> Result<String, AllocError>
-    ensures { IfOk result (λ t. TellsStops (F.knows files.now) folder.now sites.now stops.now (string_bytes t)) }
+    ensures { IfOk result (λ t. TellsStops (F.knows files.now) folder.now sites.now stops.now
+        (string_bytes t)) }
 {
     let mut text = String::new(alloc);
     for stop in stops {

@@ -63,7 +63,8 @@ fn ask_keepers<K: SiteKeeper, Q: Question>(
     question: &Q,
 ) -> Result<Q::Answer, Fault>
     requires { (rs : List Record) × AreShown K.shown keepers.now rs × AreAllSites rs }
-    ensures answered { (rs : List Record) → AreShown K.shown keepers.now rs → IfOk result (Q.answers question.now rs) }
+    ensures answered { (rs : List Record) → AreShown K.shown keepers.now rs
+        → IfOk result (Q.answers question.now rs) }
     ensures failed { IfErr result (λ fault. fault ≡ Fault.NoMemory) }
 {
     let records = open_records(alloc, keepers)?;
@@ -112,7 +113,8 @@ fn ask_keeper<K: SiteKeeper, Q: SiteQuestion>(
     question: &Q,
 ) -> Result<Outcome, Fault>
     requires { (r : Record) × (K.shown keeper.now ≡ Some r) }
-    ensures answered { (r : Record) → K.shown keeper.now ≡ Some r → IfOk result (Q.answers question.now r) }
+    ensures answered { (r : Record) → K.shown keeper.now ≡ Some r
+        → IfOk result (Q.answers question.now r) }
     ensures failed { IfErr result (λ fault. fault ≡ Fault.NoMemory) }
 {
     let Some(state) = keeper.view() else {

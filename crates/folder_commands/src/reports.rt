@@ -25,7 +25,8 @@ use report_core::{RecallReport, ReportFault, StepEvents, report, report_with_eve
 use site_core::SiteState;
 use std::alloc::Global;
 
-/// Reports a recall from the files of all sites of a folder, with the events behind the steps, where these are asked for.
+/// Reports a recall from the files of all sites of a folder, with the events behind the steps, where these are asked
+/// for.
 ///
 /// # Errors
 /// In this order: those of the folder's list, and those of opening the sites' files; once these are open `NoMemory`
@@ -63,8 +64,9 @@ fn report_in<K: SiteKeeper, F: Files<K>>(
     ways: Ways,
     events: bool,
 ) -> Result<Outcome, Fault>
-    ensures calls { IfOk result (λ outcome. Led F.does files.old files.new
-        (ReportsBy K.shown K.stored folder.now sites.now (recall_of recall.now) ways events outcome)) }
+    ensures calls { IfOk result (λ outcome.
+        Led F.does files.old files.new (ReportsBy K.shown K.stored folder.now sites.now
+        (recall_of recall.now) ways events outcome)) }
     ensures failed { IfErr result (λ fault. Led F.does files.old files.new
         (AskOfRecallFails K.shown K.stored folder.now sites.now (recall_of recall.now) fault)) }
 {
@@ -104,8 +106,8 @@ impl Question for ReportOf {
     }
 }
 
-/// Reports a recall from the records of all sites, in the order of their numbers, with the events behind the steps, where these
-/// are asked for.
+/// Reports a recall from the records of all sites, in the order of their numbers, with the events behind the steps,
+/// where these are asked for.
 ///
 /// # Errors
 /// `NoMemory` alone.
@@ -142,8 +144,8 @@ fn told_report(
 ) -> Result<(RecallReport, Option<Vec<Sequence<StepEvents>>>), ReportFault>
     requires all { AreAllSites (records_at records.now) }
     ensures report { IfOk result (λ told. IsReport (records_at records.now) recall told.0) }
-    ensures events { IfOk result (λ told.
-        TellsEvents (records_at records.now) events (steps_to ways) (map or_no_pairs told.0.trails) told.1) }
+    ensures events { IfOk result (λ told. TellsEvents (records_at records.now) events
+        (steps_to ways) (map or_no_pairs told.0.trails) told.1) }
     ensures fault { IfErr result (TellsFault (world_at records.now) recall) }
 {
     if events {

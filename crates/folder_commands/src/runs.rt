@@ -38,8 +38,8 @@ pub struct Ran {
 /// recall that a site began, by site and number: whether it has ended, or is open. The notes name each site that
 /// stopped in a step, how often, and why: `Device` where its device failed in the run, else `Store`; behind that they
 /// say what is known of the site's file. They tell where sites shared threads, and where a recall is open that a
-/// further run goes on with it. Where the records aren't consistent, there is no run, and that is the outcome. Each site has a copy of the gate
-/// to its turns.
+/// further run goes on with it. Where the records aren't consistent, there is no run, and that is the outcome. Each
+/// site has a copy of the gate to its turns.
 ///
 /// # Errors
 /// In this order: those of the folder's list, those of opening the sites' files, and those of [`run_of`]; after these
@@ -85,13 +85,14 @@ fn told<K: SiteKeeper, F: Files<K>>(
     }
 }
 
-/// Runs the sites of these keepers, in the order of their numbers, for so many turns: at most 1,000,000. Each has a copy of
-/// the gate to its turns. The keepers are given back, open where there is an outcome.
+/// Runs the sites of these keepers, in the order of their numbers, for so many turns: at most 1,000,000. Each has a
+/// copy of the gate to its turns. The keepers are given back, open where there is an outcome.
 ///
 /// # Errors
 /// `OtherSites` where the keepers aren't of one list of sites, in order, and `Closed` where one is closed: they are as
-/// they were. `NoMemory`, `SiteLost` where a keeper was closed and an opening of it was refused, and `GaveUp` where a gate
-/// gave up: in whichever records the keepers are open, or may be opened, they are consistent, or nothing has changed.
+/// they were. `NoMemory`, `SiteLost` where a keeper was closed and an opening of it was refused, and `GaveUp` where a
+/// gate gave up: in whichever records the keepers are open, or may be opened, they are consistent, or nothing has
+/// changed.
 ///
 /// What the keepers stored before, they store after it, also where it has no outcome.
 pub fn run_of<K: SiteKeeper + Send, G: Gate + Copy + Send, R: Threads + Wait + Clock + Sync>(
@@ -103,9 +104,11 @@ pub fn run_of<K: SiteKeeper + Send, G: Gate + Copy + Send, R: Threads + Wait + C
 ) -> (Vec<K>, Result<Ran, Fault>)
     requires count { (2 ≤ length keepers.items) × (length keepers.items ≤ 16) }
     requires turns { turns ≤ 1000000 }
-    ensures answered { IfOk result.1 (λ ran. AnswersRun K.shown K.failed turns keepers.items result.0.items ran.outcome ran.notes) }
+    ensures answered { IfOk result.1 (λ ran.
+        AnswersRun K.shown K.failed turns keepers.items result.0.items ran.outcome ran.notes) }
     ensures stored { All K.stored keepers.items → All K.stored result.0.items }
-    ensures failed { IfErr result.1 (FailsRun K.shown K.may K.reopens G.gives_up turns keepers.items result.0.items) }
+    ensures failed { IfErr result.1 (FailsRun K.shown K.may K.reopens G.gives_up turns keepers.items
+        result.0.items) }
 {
     let Ok((desks, gates, before)) = before_run(alloc, gate, keepers.as_slice()) else {
         return (keepers, Err(Fault::NoMemory));
@@ -133,7 +136,8 @@ fn before_run<K: SiteKeeper, G: Gate + Copy>(
     gate: G,
     keepers: &[K],
 ) -> Result<(Vec<DeskOut>, Vec<G>, Vec<u64>), AllocError>
-    ensures desks { IfOk result (λ r. (length r.0.items ≡ length keepers.now) × All IsUnused r.0.items) }
+    ensures desks { IfOk result (λ r. (length r.0.items ≡ length keepers.now)
+        × All IsUnused r.0.items) }
     ensures limits { IfOk result (λ r. All (λ d. d.limit ≡ 0) r.0.items) }
     ensures gates { IfOk result (λ r. length r.1.items ≡ length keepers.now) }
     ensures failures { IfOk result (λ r. r.2.items ≡ map K.failed keepers.now) }
@@ -193,7 +197,8 @@ fn tell_run<K: SiteKeeper>(
     requires fit { KeepersFit K.shown K.may run.now.keepers.items }
     requires all { AreOfSites before.now (map K.failed run.now.keepers.items) run.now.lists.items }
     ensures told { IfOk result (λ r. TellsRecalls K.shown run.now.keepers.items r.0.items) }
-    ensures noted { IfOk result (λ r. AreNotes before.now (map K.failed run.now.keepers.items) run.now.lists.items r.0.items r.1) }
+    ensures noted { IfOk result (λ r. AreNotes before.now (map K.failed run.now.keepers.items)
+        run.now.lists.items r.0.items r.1) }
 {
     let keepers = run.keepers.as_slice();
     let records = open_records(alloc, keepers)?;

@@ -18,8 +18,8 @@ use recall_outcomes::{Fault, Outcome};
 use site_core::SiteState;
 use std::alloc::Global;
 
-/// Tells the items that a site of a folder knows, of which the key, as it is printed, contains a text. Each key contains
-/// the empty text. Nothing is begun or changed.
+/// Tells the items that a site of a folder knows, of which the key, as it is printed, contains a text. Each key
+/// contains the empty text. Nothing is begun or changed.
 ///
 /// # Errors
 /// In this order: those of the folder's list, and those of opening the site's file; once that is open `NoMemory` alone.
@@ -54,10 +54,14 @@ fn items_in<K: SiteKeeper, F: Files<K>>(
     site: &str,
     text: &str,
 ) -> Result<Outcome, Fault>
-    ensures calls { IfOk result (λ outcome. Led F.does files.old files.new (AtSite site.now (named sites.now site.now)
-        (λ number. TellsSite K.shown K.stored folder.now sites.now number (AnswersItems number text.now)) outcome)) }
-    ensures failed { IfErr result (λ fault. Led F.does files.old files.new (AtSiteFails (named sites.now site.now)
-        (AskSiteFails K.shown K.stored folder.now sites.now) fault)) }
+    ensures calls { IfOk result (λ outcome.
+        Led F.does files.old files.new (AtSite site.now (named sites.now site.now) (λ number.
+        TellsSite K.shown K.stored folder.now sites.now number (AnswersItems number text.now))
+        outcome)) }
+    ensures failed { IfErr result (λ fault.
+        Led F.does files.old files.new
+        (AtSiteFails (named sites.now site.now) (AskSiteFails K.shown K.stored folder.now sites.now)
+        fault)) }
 {
     let Some(site) = sites.find(site) else {
         return Ok(no_site(alloc, site)?);

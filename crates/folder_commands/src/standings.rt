@@ -18,8 +18,8 @@ use recall_text::telling::recall_of;
 use site_core::SiteState;
 use std::alloc::Global;
 
-/// Tells how each recall stands that a site of a folder began, and where it is asked for, by the status that one is open.
-/// Nothing is begun or changed.
+/// Tells how each recall stands that a site of a folder began, and where it is asked for, by the status that one is
+/// open. Nothing is begun or changed.
 ///
 /// # Errors
 /// In this order: those of the folder's list, and those of opening the sites' files; once these are open `NoMemory`
@@ -32,7 +32,8 @@ pub fn recalls_standing<K: SiteKeeper, F: Files<K>>(
 ) -> Result<Output, Fault>
     ensures calls { IfOk result (λ output. Led F.does files.old files.new
         (RecallsStandAt K.shown K.stored folder.now coded output)) }
-    ensures failed { IfErr result (λ fault. Led F.does files.old files.new (AllFails K.shown K.stored folder.now fault)) }
+    ensures failed { IfErr result (λ fault.
+        Led F.does files.old files.new (AllFails K.shown K.stored folder.now fault)) }
 {
     let sites = sites_of(alloc, files, folder)?;
     let outcome = ask_all(alloc, files, folder, &sites, &AllRecalls { coded })?;
@@ -43,7 +44,8 @@ pub fn recalls_standing<K: SiteKeeper, F: Files<K>>(
     })
 }
 
-/// Tells how a recall stands: at each site that it concerns, and which messages of it wait. Nothing is begun or changed.
+/// Tells how a recall stands: at each site that it concerns, and which messages of it wait. Nothing is begun or
+/// changed.
 ///
 /// # Errors
 /// In this order: those of the folder's list, and those of opening the sites' files; once these are open `NoMemory`

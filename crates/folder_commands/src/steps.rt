@@ -21,13 +21,13 @@ use recall_outcomes::{CommandRefusal, Fault, Outcome};
 use site_core::SiteInput;
 use std::alloc::Global;
 
-/// Captures the document in a file at a site of a folder. Of a document that is captured the notes tell what isn't traced;
-/// one that is refused has none.
+/// Captures the document in a file at a site of a folder. Of a document that is captured the notes tell what isn't
+/// traced; one that is refused has none.
 ///
 /// # Errors
 /// In this order, each without a change: those of the folder's list, `Read` where the document can't be read, those of
-/// opening the site's file; and then those of its step, as [`step`] has them. A site that isn't listed is refused before
-/// the document is read. After `NoMemory` the document may be captured and not reported.
+/// opening the site's file; and then those of its step, as [`step`] has them. A site that isn't listed is refused
+/// before the document is read. After `NoMemory` the document may be captured and not reported.
 pub fn capture<K: SiteKeeper, F: Files<K>>(
     alloc: Global,
     files: &mut F,
@@ -82,9 +82,9 @@ fn capture_file<K: SiteKeeper, F: Files<K>>(
 /// Starts a recall of an item at a site of a folder.
 ///
 /// # Errors
-/// In this order, each without a change: those of the folder's list, those of opening the site's file; and then those of
-/// its step, as [`step`] has them. A site that isn't listed and a text that spells no item are refused before the file is
-/// opened.
+/// In this order, each without a change: those of the folder's list, those of opening the site's file; and then those
+/// of its step, as [`step`] has them. A site that isn't listed and a text that spells no item are refused before the
+/// file is opened.
 pub fn start<K: SiteKeeper, F: Files<K>>(
     alloc: Global,
     files: &mut F,
@@ -115,9 +115,12 @@ fn start_in<K: SiteKeeper, F: Files<K>>(
     site: &str,
     item: &Spelled<'_>,
 ) -> Result<Outcome, Fault>
-    ensures calls { IfOk result (λ outcome. Led F.does files.old files.new (AtSite site.now (named sites.now site.now)
-        (λ number. StartsItem K.shown K.stored folder.now sites.now number (item_reading item.now)) outcome)) }
-    ensures failed { IfErr result (λ fault. Led F.does files.old files.new (AtSiteFails (named sites.now site.now)
+    ensures calls { IfOk result (λ outcome.
+        Led F.does files.old files.new (AtSite site.now (named sites.now site.now) (λ number.
+        StartsItem K.shown K.stored folder.now sites.now number (item_reading item.now)) outcome)) }
+    ensures failed { IfErr result (λ fault.
+        Led F.does files.old files.new
+        (AtSiteFails (named sites.now site.now)
         (StartFailsAt K.shown K.may K.failed K.stored folder.now sites.now item.now) fault)) }
 {
     let Some(number) = sites.find(site) else {
@@ -153,19 +156,23 @@ fn step_at<K: SiteKeeper, F: Files<K>>(
 ///
 /// # Errors
 /// `Closed` exactly while the keeper is closed, and nothing changes. `Device`, which comes only where
-/// [`SiteKeeper::failures`] rose, and `Store`, which close it, with the record before the step or the one after it. After
-/// `NoMemory` it is open, and nothing changed.
+/// [`SiteKeeper::failures`] rose, and `Store`, which close it, with the record before the step or the one after it.
+/// After `NoMemory` it is open, and nothing changed.
 pub fn step<K: SiteKeeper>(
     alloc: Global,
     keeper: &mut K,
     input: SiteInput,
 ) -> Result<Outcome, Fault>
-    ensures answered { (old : Record) → K.shown keeper.old ≡ Some old → IfOk result (AnswersStep old input (K.shown keeper.new)) }
-    ensures failed { (old : Record) → K.shown keeper.old ≡ Some old → IfErr result (FailsStep old input (K.shown keeper.new) (K.may keeper.new)) }
-    ensures closed { K.shown keeper.old ≡ None → (result ≡ Err Fault.Closed) × (keeper.new ≡ keeper.old) }
+    ensures answered { (old : Record) → K.shown keeper.old ≡ Some old
+        → IfOk result (AnswersStep old input (K.shown keeper.new)) }
+    ensures failed { (old : Record) → K.shown keeper.old ≡ Some old
+        → IfErr result (FailsStep old input (K.shown keeper.new) (K.may keeper.new)) }
+    ensures closed { K.shown keeper.old ≡ None → (result ≡ Err Fault.Closed)
+        × (keeper.new ≡ keeper.old) }
     ensures cause { result ≡ Err Fault.Device → Rises (K.failed keeper.old) (K.failed keeper.new) }
     ensures stored { K.stored keeper.old → K.stored keeper.new }
-    ensures kind { (answer : Result Effects KeepFault) × K.applies keeper.old input answer keeper.new × TellsAnswer answer result }
+    ensures kind { (answer : Result Effects KeepFault)
+        × K.applies keeper.old input answer keeper.new × TellsAnswer answer result }
 {
     match keeper.apply(input) {
         Ok(effects) => Ok(Outcome::Stepped(effects)),

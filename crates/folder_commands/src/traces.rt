@@ -32,13 +32,13 @@ use report_core::{
 use site_core::{Refusal, SiteState};
 use std::alloc::Global;
 
-/// Traces an item at a site of a folder to where it went, or back to where it came from, with the events behind the steps, where
-/// these are asked for. Nothing is begun or changed.
+/// Traces an item at a site of a folder to where it went, or back to where it came from, with the events behind the
+/// steps, where these are asked for. Nothing is begun or changed.
 ///
 /// # Errors
 /// In this order: those of the folder's list, and those of opening the sites' files; once these are open `NoMemory`
-/// alone. The sites' records are as they were. A site that isn't listed and a text that spells no item are refused before the
-/// files are opened.
+/// alone. The sites' records are as they were. A site that isn't listed and a text that spells no item are refused
+/// before the files are opened.
 pub fn trace_item<K: SiteKeeper, F: Files<K>>(
     alloc: Global,
     files: &mut F,
@@ -75,9 +75,13 @@ fn trace_in<K: SiteKeeper, F: Files<K>>(
     ways: Ways,
     events: bool,
 ) -> Result<Outcome, Fault>
-    ensures calls { IfOk result (λ outcome. Led F.does files.old files.new (AtSite site.now (named sites.now site.now)
-        (λ number. TracesItem K.shown K.stored folder.now sites.now number (item_reading item.now) back ways events) outcome)) }
-    ensures failed { IfErr result (λ fault. Led F.does files.old files.new (AtSiteFails (named sites.now site.now)
+    ensures calls { IfOk result (λ outcome.
+        Led F.does files.old files.new (AtSite site.now (named sites.now site.now) (λ number.
+        TracesItem K.shown K.stored folder.now sites.now number
+        (item_reading item.now) back ways events) outcome)) }
+    ensures failed { IfErr result (λ fault.
+        Led F.does files.old files.new
+        (AtSiteFails (named sites.now site.now)
         (AskOfItemFails K.shown K.stored folder.now sites.now item.now) fault)) }
 {
     let Some(site) = sites.find(site) else {
@@ -136,7 +140,8 @@ fn forward_of(
     events: bool,
 ) -> Result<Outcome, Fault>
     requires all { AreAllSites (records_at records.now) }
-    ensures answered { IfOk result (AnswersTrace (records_at records.now) site item.now false ways events) }
+    ensures answered { IfOk result (AnswersTrace (records_at records.now) site item.now false ways
+        events) }
     ensures failed { IfErr result (λ fault. fault ≡ Fault.NoMemory) }
 {
     match told_trace(alloc, records, site, item, ways, events) {
@@ -183,7 +188,8 @@ fn back_of(
     events: bool,
 ) -> Result<Outcome, Fault>
     requires all { AreAllSites (records_at records.now) }
-    ensures answered { IfOk result (AnswersTrace (records_at records.now) site item.now true ways events) }
+    ensures answered { IfOk result (AnswersTrace (records_at records.now) site item.now true ways
+        events) }
     ensures failed { IfErr result (λ fault. fault ≡ Fault.NoMemory) }
 {
     match told_back(alloc, records, site, item, ways, events) {
@@ -206,7 +212,8 @@ fn told_back(
     events: bool,
 ) -> Result<(BackTrace, Option<Vec<Sequence<StepEvents>>>), TraceFault>
     requires all { AreAllSites (records_at records.now) }
-    ensures trace { IfOk result (λ told. IsBackTrace (records_at records.now) site item.now told.0) }
+    ensures trace { IfOk result (λ told.
+        IsBackTrace (records_at records.now) site item.now told.0) }
     ensures events { IfOk result (λ told.
         TellsEvents (records_at records.now) events (steps_from ways) told.0.trails told.1) }
     ensures known { IfOk result (λ told. IsKnownAt (world_at records.now) site item.now) }
@@ -222,7 +229,8 @@ fn told_back(
 
 /// An item that isn't known is refused as the start of its recall would be.
 fn untraced(alloc: Global, fault: TraceFault) -> Result<Outcome, Fault>
-    ensures answered { IfOk result (λ outcome. (fault ≡ TraceFault.UnknownItem) × IsRefusal (Step UnknownItem) outcome) }
+    ensures answered { IfOk result (λ outcome. (fault ≡ TraceFault.UnknownItem)
+        × IsRefusal (Step UnknownItem) outcome) }
     ensures failed { IfErr result (λ fault. fault ≡ Fault.NoMemory) }
 {
     match fault {

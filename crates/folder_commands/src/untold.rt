@@ -42,7 +42,8 @@ pub(crate) fn untraced_of(
     sites: &Sites,
 ) -> Result<Option<Untraced>, Fault>
     ensures found { (doc : Doc) → IsReadAs sites.now document.now (Ok doc)
-        → IfOk result (λ found. (untraced : Untraced) × (found ≡ Some untraced) × (text_untraced sites.now document.now ≡ Ok untraced)) }
+        → IfOk result (λ found. (untraced : Untraced) × (found ≡ Some untraced)
+        × (text_untraced sites.now document.now ≡ Ok untraced)) }
     ensures failed { IfErr result (λ fault. fault ≡ Fault.NoMemory) }
 {
     match read_untraced(alloc, document, sites) {

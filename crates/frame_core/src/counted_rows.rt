@@ -35,7 +35,10 @@ impl Model for CountedRows {
 
     ghost coded = { coded_counted };
 
-    ghost view = { λ c. record { rows = as_map nat_cmp c.rows; counts = as_map recall_cmp c.counts } };
+    ghost view = { λ c. record {
+      rows = as_map nat_cmp c.rows;
+      counts = as_map recall_cmp c.counts;
+    } };
 
     ghost invariant = { λ c. AreCounted (as_map nat_cmp c.rows) (as_map recall_cmp c.counts) };
 }
@@ -68,10 +71,12 @@ impl CountedRows {
         ensures old { IfOk result (λ old. old ≡ finite.get self.old.rows number) }
         ensures ok { OnOk result (self.new.rows ≡ finite.insert self.old.rows number row) }
         ensures err { OnErr result (self.new.rows ≡ self.old.rows) }
-        ensures only_new { OnErr result ((finite.get self.old.rows number ≡ None) ⊎ (finite.get self.old.counts row.recall ≡ None)) }
+        ensures only_new { OnErr result ((finite.get self.old.rows number ≡ None)
+            ⊎ (finite.get self.old.counts row.recall ≡ None)) }
         ensures counts { KeepsCounts self.old.counts self.new.counts }
         // The recall of a row that is written over has a count.
-        ensures written_over { IfOk result (λ old. IfSome old (λ before. IsSome (finite.get self.new.counts before.recall))) }
+        ensures written_over { IfOk result (λ old.
+            IfSome old (λ before. IsSome (finite.get self.new.counts before.recall))) }
     {
         let recall = row.recall;
         // The length bounds the counts.
@@ -160,10 +165,12 @@ impl CountedRows {
         item: &Epc,
     ) -> Result<Option<Row>, AllocError>
         ensures old { IfOk result (λ old. old ≡ finite.get self.old.rows number) }
-        ensures ok { OnOk result (self.new.rows ≡ finite.insert self.old.rows number (row_for recall (dest, item.now))) }
+        ensures ok { OnOk result (self.new.rows ≡ finite.insert self.old.rows number
+            (row_for recall (dest, item.now))) }
         ensures err { OnErr result (self.new.rows ≡ self.old.rows) }
         ensures counts { KeepsCounts self.old.counts self.new.counts }
-        ensures written_over { IfOk result (λ old. IfSome old (λ before. IsSome (finite.get self.new.counts before.recall))) }
+        ensures written_over { IfOk result (λ old.
+            IfSome old (λ before. IsSome (finite.get self.new.counts before.recall))) }
     {
         let item = item.copy(alloc)?;
         self.put(number, Row { dest, recall, item })
@@ -238,7 +245,8 @@ fn count_of(counts: &BTreeMap<RecallId, u64>, recall: RecallId) -> u64
 /// Raises the count of a recall by one. Only a recall without a count allocates.
 fn raise(counts: &mut BTreeMap<RecallId, u64>, recall: RecallId) -> Result<(), AllocError>
     requires { count_in (as_map recall_cmp counts.old) recall < 2 ^ 63 }
-    ensures ok { OnOk result (IsRaised (as_map recall_cmp counts.old) recall (as_map recall_cmp counts.new)) }
+    ensures ok { OnOk result (IsRaised (as_map recall_cmp counts.old) recall
+        (as_map recall_cmp counts.new)) }
     ensures err { OnErr result (as_map recall_cmp counts.new ≡ as_map recall_cmp counts.old) }
     ensures only_new { OnErr result (finite.get (as_map recall_cmp counts.old) recall ≡ None) }
     ensures kept { KeepsCounts (as_map recall_cmp counts.old) (as_map recall_cmp counts.new) }
@@ -251,7 +259,8 @@ fn raise(counts: &mut BTreeMap<RecallId, u64>, recall: RecallId) -> Result<(), A
 /// Lowers the count of a recall by one. Does not allocate.
 fn lower(counts: &mut BTreeMap<RecallId, u64>, recall: RecallId)
     requires { 0 < count_in (as_map recall_cmp counts.old) recall }
-    ensures lowered { IsLowered (as_map recall_cmp counts.old) recall (as_map recall_cmp counts.new) }
+    ensures lowered { IsLowered (as_map recall_cmp counts.old) recall
+        (as_map recall_cmp counts.new) }
     ensures kept { KeepsCounts (as_map recall_cmp counts.old) (as_map recall_cmp counts.new) }
 {
     let count = count_of(counts, recall);

@@ -79,7 +79,10 @@ impl Outbox {
     /// The outbox of these rows, by number, with this next number.
     pub fn restore(alloc: Global, rows: BTreeMap<u64, Row>, next: u64) -> Result<Outbox, AllocError>
         requires in_range { IsNextNumber next }
-        ensures { IfOk result (λ outbox. outbox ≡ record { rows = as_map nat_cmp rows; next = next }) }
+        ensures { IfOk result (λ outbox. outbox ≡ record {
+          rows = as_map nat_cmp rows;
+          next = next;
+        }) }
     {
         let rows = CountedRows::of(alloc, rows)?;
         Ok(Outbox { rows, next })
@@ -90,7 +93,8 @@ impl Outbox {
     /// In a restored outbox a row may stand at the next number; it is written over.
     pub fn number(&mut self, dest: SiteNo, recall: RecallId, item: Epc) -> Result<u64, NumberFault>
         ensures number { IfOk result (λ number. number ≡ self.old.next) }
-        ensures rows { OnOk result (self.new.rows ≡ numbered self.old.rows self.old.next recall ((dest, item) ∷ [])) }
+        ensures rows { OnOk result (self.new.rows ≡ numbered self.old.rows self.old.next recall
+            ((dest, item) ∷ [])) }
         ensures next { OnOk result (self.new.next ≡ self.old.next + 1) }
         ensures spent { (result ≡ Err NumberFault.NumbersSpent) ↔ (2 ^ 62 < self.old.next) }
         ensures err { OnErr result (self.new ≡ self.old) }
@@ -112,10 +116,12 @@ impl Outbox {
         recall: RecallId,
         out: &[(SiteNo, Epc)],
     ) -> Result<(), NumberFault>
-        ensures rows { OnOk result (self.new.rows ≡ numbered self.old.rows self.old.next recall out.now) }
+        ensures rows { OnOk result (self.new.rows
+            ≡ numbered self.old.rows self.old.next recall out.now) }
         ensures next { OnOk result (self.new.next ≡ self.old.next + length out.now) }
         // More rows are needed than numbers are left.
-        ensures spent { (result ≡ Err NumberFault.NumbersSpent) ↔ (2 ^ 62 + 1 < self.old.next + length out.now) }
+        ensures spent { (result ≡ Err NumberFault.NumbersSpent)
+            ↔ (2 ^ 62 + 1 < self.old.next + length out.now) }
         ensures err { OnErr result (self.new ≡ self.old) }
     {
         if out.len() as u64 > self.numbers_left() {
@@ -132,8 +138,9 @@ impl Outbox {
         requires low { 1 ≤ first }
         requires no_higher { first ≤ self.old.next }
         // Where they were numbered from rows that stood below, it is what it was before.
-        ensures rows { (rows : map.FinMap nat_cmp Told) (r : Recall) (out : List (ℕ × List ℕ)) → AreBelow rows first
-            → self.old.rows ≡ numbered rows first r out → self.old.next ≡ first + length out → self.new.rows ≡ rows }
+        ensures rows { (rows : map.FinMap nat_cmp Told) (r : Recall) (out : List (ℕ × List ℕ))
+            → AreBelow rows first → self.old.rows ≡ numbered rows first r out
+            → self.old.next ≡ first + length out → self.new.rows ≡ rows }
         ensures next { self.new.next ≡ first }
     {
         self.rows.take_from(first, self.next);
@@ -190,7 +197,8 @@ impl Outbox {
 
     /// Whether a message of a recall is unsignalled beside this one, which is of the recall. Does not allocate.
     pub fn has_rows_beside(&self, number: u64, recall: RecallId) -> bool
-        requires of_recall { (row : Told) × (map.get self.now.rows number ≡ Some row) × (row.recall ≡ recall) }
+        requires of_recall { (row : Told) × (map.get self.now.rows number ≡ Some row)
+            × (row.recall ≡ recall) }
         ensures { result ≡ has_rows (map.remove self.now.rows number) recall }
     {
         self.rows.count(recall) > 1

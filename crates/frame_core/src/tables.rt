@@ -70,7 +70,8 @@ pub fn put<K: Key, V: Drop>(
     value: V,
 ) -> Result<Option<V>, AllocError>
     ensures old { IfOk result (λ old. old ≡ finite.get (as_map K.cmp map.old) key) }
-    ensures ok { OnOk result (as_map K.cmp map.new ≡ finite.insert (as_map K.cmp map.old) key value) }
+    ensures ok { OnOk result (as_map K.cmp map.new
+        ≡ finite.insert (as_map K.cmp map.old) key value) }
     ensures entries { OnOk result (map.new.entries ≡ finite.put K.cmp key value map.old.entries) }
     ensures err { OnErr result (as_map K.cmp map.new ≡ as_map K.cmp map.old) }
     ensures only_new { OnErr result (finite.get (as_map K.cmp map.old) key ≡ None) }

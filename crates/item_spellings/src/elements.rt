@@ -50,7 +50,8 @@ fn all_elements(
     form: Form,
     text: &[u8],
 ) -> Result<Option<Vec<(&[u8], &[u8])>>, AllocError>
-    ensures { IfOk result (λ found. option_map (λ v. seen v.items) found ≡ all_elements form text.now) }
+    ensures { IfOk result (λ found. option_map (λ v. seen v.items) found
+        ≡ all_elements form text.now) }
 {
     let mut elements = Vec::new(alloc);
     let mut rest = text;
@@ -113,7 +114,8 @@ fn has_ai(count: usize, text: &[u8]) -> bool
 
 /// The value of an AI in front of a text, and what is behind it.
 fn value_of<'a>(form: Form, ai: &'a [u8], text: &'a [u8]) -> Option<(&'a [u8], &'a [u8], &'a [u8])>
-    ensures { option_map (λ p. ((p.0.now, p.1.now), p.2.now)) result ≡ value_of form ai.now text.now }
+    ensures { option_map (λ p. ((p.0.now, p.1.now), p.2.now)) result
+        ≡ value_of form ai.now text.now }
 {
     let fixed = fixed_length(first_two(ai));
     let count = value_count(form, fixed, text);

@@ -1,8 +1,8 @@
 //! Items as they are printed and scanned.
 //!
-//! An item is spelled by an EPC text, by the key that is printed of it, or by the GS1 element strings that a scanner gives
-//! (GS1 General Specifications, section 7.8). Keys and EPC texts are `epc_core`'s; this crate reads element strings, and
-//! tells why a text spells no item.
+//! An item is spelled by an EPC text, by the key that is printed of it, or by the GS1 element strings that a scanner
+//! gives (GS1 General Specifications, section 7.8). Keys and EPC texts are `epc_core`'s; this crate reads element
+//! strings, and tells why a text spells no item.
 #![tactic(auto)]
 
 mod bytes;

@@ -34,7 +34,8 @@ fn item_named<'a>(
     gtin: Option<&'a [u8]>,
     serial: Option<&'a [u8]>,
 ) -> Result<Named<'a>, ScanFault>
-    ensures { NamesItem (item_named (option_map (λ b. b.now) sscc.entry) (option_map (λ b. b.now) gtin.entry) (option_map (λ b. b.now) serial.entry)) result }
+    ensures { NamesItem (item_named (option_map (λ b. b.now) sscc.entry)
+        (option_map (λ b. b.now) gtin.entry) (option_map (λ b. b.now) serial.entry)) result }
 {
     match (sscc, gtin, serial) {
         (Some(_), Some(_), Some(_)) => Err(ScanFault::TwoItems),

@@ -4,9 +4,9 @@ ghost use Rattle.item_spellings.specs.Places.{are_one_place, extension_of, has_u
 
 use crate::bytes::{are_digits, weighted_sum};
 
-/// Whether one of two texts is the Digital Link of a GLN, perhaps with its extension, and the other one an EPC URI of the
-/// same place, as `https://id.gs1.org/414/9521321000032` and `urn:epc:id:sgln:9521321.00003.0` are. A link shows not how
-/// many digits the company prefix has, so that it has an EPC URI for each number of 6 to 12.
+/// Whether one of two texts is the Digital Link of a GLN, perhaps with its extension, and the other one an EPC URI of
+/// the same place, as `https://id.gs1.org/414/9521321000032` and `urn:epc:id:sgln:9521321.00003.0` are. A link shows
+/// not how many digits the company prefix has, so that it has an EPC URI for each number of 6 to 12.
 #[tactic(auto, unfolding(crate::specs::Places::are_one_place))]
 pub fn are_one_place(a: &str, b: &str) -> bool
     ensures { result ≡ are_one_place a.now b.now }

@@ -10,12 +10,12 @@ use crate::lookups::{Named, item_of};
 use epc_core::Epc;
 use std::alloc::{AllocError, Global};
 
-/// The item that a scanned text spells: the trade item of its GTIN (AI 01) and serial number (AI 21), or the logistic unit
-/// of its SSCC (AI 00), whatever stands beside them and in any order.
+/// The item that a scanned text spells: the trade item of its GTIN (AI 01) and serial number (AI 21), or the logistic
+/// unit of its SSCC (AI 00), whatever stands beside them and in any order.
 ///
-/// The text is a list of GS1 element strings, with each AI in brackets or as a bar code carries them, where an FNC1 (the
-/// byte 29) ends a value of no predefined length; a symbology identifier and an FNC1 in front are passed over. It fails only
-/// where memory runs out.
+/// The text is a list of GS1 element strings, with each AI in brackets or as a bar code carries them, where an FNC1
+/// (the byte 29) ends a value of no predefined length; a symbology identifier and an FNC1 in front are passed over. It
+/// fails only where memory runs out.
 #[tactic(auto, unfolding(crate::specs::Scans::scan_reading))]
 pub fn read_scan(alloc: Global, text: &str) -> Result<Result<Epc, ScanFault>, AllocError>
     ensures { IfOk result (λ item. item ≡ scan_reading text.now) }

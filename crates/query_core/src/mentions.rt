@@ -41,7 +41,8 @@ pub(crate) fn mentions_in(
     alloc: Global,
     captured: &Captured,
 ) -> Result<BTreeMap<Epc, Mentions>, AllocError>
-    ensures { IfOk result (λ counts. AreCounted captured.now.events (length captured.now.events) counts) }
+    ensures { IfOk result (λ counts. AreCounted captured.now.events
+        (length captured.now.events) counts) }
 {
     let mut counts = BTreeMap::new(alloc);
     for place in 0..captured.len() {
@@ -124,7 +125,8 @@ pub(crate) fn keep_quarantined(
     counts: &mut BTreeMap<Epc, Mentions>,
     quarantine: &Quarantine,
 ) -> Result<(), AllocError>
-    ensures { OnOk result (Keeps counts.old counts.new (λ i. (r : Recall) × IsTrue (held quarantine.now r i))) }
+    ensures { OnOk result (Keeps counts.old counts.new (λ i. (r : Recall)
+        × IsTrue (held quarantine.now r i))) }
 {
     for (_, items) in quarantine.by_recall() {
         keep_all(alloc, counts, items)?;

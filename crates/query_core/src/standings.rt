@@ -23,7 +23,8 @@ fn quarantined_at(state: &SiteState, recall: RecallId) -> u64
 
 /// How many pairs of a site and an item are quarantined under the recall.
 pub(crate) fn quarantined_in(sites: &[&SiteState], recall: RecallId) -> Result<u64, AllocError>
-    ensures { IfOk result (λ count. count ≡ sum_by (quarantined_count recall) (records_at sites.now)) }
+    ensures { IfOk result (λ count. count ≡ sum_by (quarantined_count recall)
+        (records_at sites.now)) }
 {
     let mut count = 0;
     for state in sites {
@@ -38,7 +39,8 @@ pub(crate) fn standings(
     sites: &[&SiteState],
     recall: RecallId,
 ) -> Result<Vec<SiteStanding>, AllocError>
-    ensures { IfOk result (λ standings. standings.items ≡ flat_map (standings_at recall) (records_at sites.now)) }
+    ensures { IfOk result (λ standings. standings.items ≡ flat_map (standings_at recall)
+        (records_at sites.now)) }
 {
     let mut standings = Vec::new(alloc);
     for state in sites {

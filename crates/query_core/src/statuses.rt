@@ -24,7 +24,8 @@ pub(crate) fn add_statuses(
     counts: &BTreeMap<RecallId, u64>,
 ) -> Result<(), AllocError>
     requires counted { AreWaitingCounts (records_at sites.now) (as_map recall_cmp counts.now) }
-    ensures { OnOk result (statuses.new.items ≡ statuses.old.items ++ statuses_by (records_at sites.now) state.now) }
+    ensures { OnOk result (statuses.new.items ≡ statuses.old.items ++ statuses_by
+        (records_at sites.now) state.now) }
 {
     let site = state.me();
     for (number, own) in state.own_recalls() {

@@ -48,7 +48,8 @@ pub(crate) fn waiting_counts(
     alloc: Global,
     sites: &[&SiteState],
 ) -> Result<BTreeMap<RecallId, u64>, AllocError>
-    ensures { IfOk result (λ counts. AreWaitingCounts (records_at sites.now) (as_map recall_cmp counts)) }
+    ensures { IfOk result (λ counts. AreWaitingCounts (records_at sites.now)
+        (as_map recall_cmp counts)) }
 {
     let mut counts = BTreeMap::new(alloc);
     for state in sites {
@@ -80,7 +81,8 @@ pub(crate) fn count_of(counts: &BTreeMap<RecallId, u64>, recall: RecallId) -> u6
 
 /// Raises the count of a recall by one.
 fn raise(counts: &mut BTreeMap<RecallId, u64>, recall: RecallId) -> Result<(), AllocError>
-    ensures { OnOk result (IsRaised (as_map recall_cmp counts.old) recall (as_map recall_cmp counts.new)) }
+    ensures { OnOk result (IsRaised (as_map recall_cmp counts.old) recall
+        (as_map recall_cmp counts.new)) }
 {
     let count = plus(count_of(counts, recall), 1)?;
     tables::put(counts, recall, count)?;

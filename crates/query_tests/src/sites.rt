@@ -90,7 +90,8 @@ pub fn recalling_twice(alloc: Global, keys: RandomState) -> Result<SiteState, Fa
     Ok(site)
 }
 
-/// Site B, which shipped x to A, took A's message that x is recalled, so that it has one for A, and began a recall of x.
+/// Site B, which shipped x to A, took A's message that x is recalled, so that it has one for A, and began a recall of
+/// x.
 pub fn recalling_too(alloc: Global, keys: RandomState) -> Result<SiteState, Fail> {
     let mut site = untold(alloc, keys)?;
     capture(alloc, &mut site, SENT_BACK)?;

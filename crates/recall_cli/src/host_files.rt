@@ -57,8 +57,8 @@ impl Drop for HostFiles<'_> {
 }
 
 impl<'a> HostFiles<'a> {
-    /// The files that a runtime gives, with the keys of the hash by which sites number items, and for how many seconds a
-    /// site's file is waited for that is in use.
+    /// The files that a runtime gives, with the keys of the hash by which sites number items, and for how many seconds
+    /// a site's file is waited for that is in use.
     pub(crate) fn new(runtime: &'a HostRuntime, keys: RandomState, seconds: u64) -> HostFiles<'a> {
         HostFiles {
             runtime,
@@ -118,8 +118,8 @@ impl<'a> HostFiles<'a> {
         Ok(line)
     }
 
-    /// Opens a database, and makes it where there is no file or an empty one. One that is in use is tried again, ten times
-    /// a second, for as long as is waited for.
+    /// Opens a database, and makes it where there is no file or an empty one. One that is in use is tried again, ten
+    /// times a second, for as long as is waited for.
     fn connect(&self, path: &str) -> Result<FileConnection, Trouble>
         ensures { IfOk result (λ conn. IsFound conn) }
     {

@@ -26,8 +26,8 @@ const TABLES: [Table; 12] = [
 /// What the indexes that a declaration makes by itself begin with.
 const AUTOMATIC: &[u8] = b"sqlite_autoindex_";
 
-/// Why a database of these tables is no site's: what it has besides, what it lacks, or that its table `store` has no row of
-/// their version.
+/// Why a database of these tables is no site's: what it has besides, what it lacks, or that its table `store` has no
+/// row of their version.
 pub(crate) fn cause_of(alloc: Global, schema: &Schema) -> Cause {
     if version_of(schema).is_some() {
         return Cause::NoStoreRow;

@@ -110,7 +110,8 @@ impl Answer {
 
     /// The refusal of a line at a site that is down.
     pub fn closed(alloc: Global, sites: &Sites, site: SiteNo) -> Result<Answer, AllocError>
-        ensures { IfOk result (λ a. answer_of a ≡ refused (codes "Closed " ++ name_at sites.now site)) }
+        ensures { IfOk result (λ a. answer_of a
+            ≡ refused (codes "Closed " ++ name_at sites.now site)) }
     {
         let name = name_of(sites, site);
         let what = format!(in alloc; "Closed {name}")?;
@@ -127,7 +128,8 @@ impl Answer {
 
     /// The refusal of a `site` line for its name or addresses.
     pub fn bad_site(alloc: Global, fault: &SitesFault) -> Result<Answer, AllocError>
-        ensures { IfOk result (λ a. answer_of a ≡ refused (codes "BadSite " ++ sites_fault_name fault.now)) }
+        ensures { IfOk result (λ a. answer_of a
+            ≡ refused (codes "BadSite " ++ sites_fault_name fault.now)) }
     {
         let name = fault.name();
         let what = format!(in alloc; "BadSite {name}")?;
@@ -163,7 +165,8 @@ impl Answer {
         rounds: u64,
         frames: u64,
     ) -> Result<Answer, AllocError>
-        ensures { IfOk result (λ a. answer_of a ≡ done (string_bytes text ++ pumped_text rounds frames)) }
+        ensures { IfOk result (λ a. answer_of a
+            ≡ done (string_bytes text ++ pumped_text rounds frames)) }
     {
         let mut text = text;
         let line = format!(in alloc; "pumped {rounds} frames {frames}\n")?;
@@ -189,7 +192,8 @@ impl Answer {
         pairs: &[Pair],
         ended: bool,
     ) -> Result<Answer, AllocError>
-        ensures { IfOk result (λ a. answer_of a ≡ done (quarantine_text sites.now pairs.now ended)) }
+        ensures { IfOk result (λ a. answer_of a
+            ≡ done (quarantine_text sites.now pairs.now ended)) }
     {
         let mut text = pair_lines(alloc, sites, pairs)?;
         let line = quarantined_text(alloc, pairs.len(), ended)?;

@@ -20,8 +20,8 @@ pub fn add_site(
     name: &str,
     addresses: &str,
 ) -> Result<Answer, AllocError>
-    ensures { IfOk result (λ a. (answer_of a, gathering sites.new)
-        ≡ site_added sites.old name.now (fields addresses.now) (sites_fault sites.old name.now (fields addresses.now))) }
+    ensures { IfOk result (λ a. (answer_of a, gathering sites.new) ≡ site_added sites.old name.now
+        (fields addresses.now) (sites_fault sites.old name.now (fields addresses.now))) }
 {
     let addresses = fields(alloc, addresses)?;
     match site_or_fault(sites.add(name, addresses.as_slice()))? {

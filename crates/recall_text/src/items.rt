@@ -11,7 +11,8 @@ use std::alloc::{AllocError, Global};
 
 /// The item that an EPC text names, `None` where it is no EPC text. Only plain texts allocate.
 pub fn item_of(alloc: Global, text: &str) -> Result<Option<Epc>, AllocError>
-    ensures ok { IfOk result (λ item. MatchOption item ((fault : EpcFault) × (reading text.now ≡ Err fault)) (λ e. (reading text.now ≡ Ok e) × IsPlain text.now)) }
+    ensures ok { IfOk result (λ item. MatchOption item ((fault : EpcFault)
+        × (reading text.now ≡ Err fault)) (λ e. (reading text.now ≡ Ok e) × IsPlain text.now)) }
     ensures err { IfErr result (λ _. IsPlain text.now) }
 {
     match item_or_fault(Epc::read(alloc, text)) {

@@ -57,7 +57,8 @@ impl<'a> Line<'a> {
     }
 
     fn of_capture(rest: &'a str) -> Line<'a>
-        ensures { request result ≡ capture_found (first_field rest.now) (past_spaces (after_field rest.now)) }
+        ensures { request result ≡ capture_found (first_field rest.now)
+            (past_spaces (after_field rest.now)) }
     {
         let (name, rest) = split_field(rest);
         let document = past_spaces(rest);
@@ -96,7 +97,8 @@ fn is_comment(line: &[u8]) -> bool
 
 /// The line as a text, where it is UTF-8.
 fn text_of(line: &[u8]) -> Option<&str>
-    ensures { MatchOption result (is_utf8 line.now ≡ false) (λ text. (is_utf8 line.now ≡ true) × (text.now ≡ line.now)) }
+    ensures { MatchOption result (is_utf8 line.now ≡ false) (λ text. (is_utf8 line.now ≡ true)
+        × (text.now ≡ line.now)) }
 {
     match str::from_utf8(line) {
         Ok(text) => Some(text),

@@ -131,7 +131,9 @@ fn push_messages(
     numbered: u64,
     word: &str,
 ) -> Result<(), AllocError>
-    ensures { OnOk result (string_bytes text.new ≡ string_bytes text.old ++ codes " messages " ++ decimal numbered ++ 32 ∷ (word.now ++ 10 ∷ [])) }
+    ensures { OnOk result (string_bytes text.new
+        ≡ string_bytes text.old ++ codes " messages " ++ decimal numbered ++ 32 ∷
+        (word.now ++ 10 ∷ [])) }
 {
     let line = format!(in alloc; " messages {numbered} {word}\n")?;
     text.push_str(line.as_str())
@@ -144,7 +146,8 @@ fn signalled_text(alloc: Global, about: &str, what: &str) -> Result<String, Allo
 }
 
 fn due_text(alloc: Global, sites: &Sites, about: &str, parent: MsgId) -> Result<String, AllocError>
-    ensures { IfOk result (λ t. string_bytes t ≡ signalled_text about.now (codes "due " ++ message_text sites.now parent)) }
+    ensures { IfOk result (λ t. string_bytes t ≡ signalled_text about.now
+        (codes "due " ++ message_text sites.now parent)) }
 {
     let parent = message_text(alloc, sites, parent)?;
     let parent = parent.as_str();
@@ -158,7 +161,8 @@ fn end_text(
     about: &str,
     recall: RecallId,
 ) -> Result<String, AllocError>
-    ensures { IfOk result (λ t. string_bytes t ≡ signalled_text about.now (codes "ended " ++ recall_text sites.now recall)) }
+    ensures { IfOk result (λ t. string_bytes t ≡ signalled_text about.now
+        (codes "ended " ++ recall_text sites.now recall)) }
 {
     let recall = recall_text(alloc, sites, recall)?;
     let recall = recall.as_str();
@@ -212,7 +216,9 @@ fn doc_fault_text(alloc: Global, fault: &DocFault) -> Result<String, AllocError>
 }
 
 fn fault_text(alloc: Global, kind: &str, event: u64, field: &str) -> Result<String, AllocError>
-    ensures { IfOk result (λ t. string_bytes t ≡ codes "Doc " ++ kind.now ++ codes " event " ++ decimal event ++ codes " field " ++ field.now) }
+    ensures { IfOk result (λ t. string_bytes t
+        ≡ codes "Doc " ++ kind.now ++ codes " event " ++ decimal event ++ codes " field "
+        ++ field.now) }
 {
     let mut text = format!(in alloc; "Doc {kind} event {event}")?;
     text.push_str(" field ")?;
@@ -259,7 +265,8 @@ pub fn push_pair(
     sites: &Sites,
     pair: &Pair,
 ) -> Result<(), AllocError>
-    ensures ok { OnOk result (string_bytes text.new ≡ string_bytes text.old ++ pair_text sites.now pair.now) }
+    ensures ok { OnOk result (string_bytes text.new
+        ≡ string_bytes text.old ++ pair_text sites.now pair.now) }
     ensures err { OnErr result (string_bytes text.new ≡ string_bytes text.old) }
 {
     let name = name_of(sites, pair.site);

@@ -15,7 +15,8 @@ const MOST_TRIES: u32 = 1_024;
 /// times in a row. At [`ScriptFault::Write`], the only fault, a beginning of the text was written.
 pub fn write_text<W: Write>(writer: &mut W, text: &[u8]) -> Result<(), ScriptFault>
     ensures ok { OnOk result (Appends (W.contents writer.old) (W.contents writer.new) text.now) }
-    ensures err { OnErr result (AppendsBeginning (W.contents writer.old) (W.contents writer.new) text.now) }
+    ensures err { OnErr result (AppendsBeginning (W.contents writer.old)
+        (W.contents writer.new) text.now) }
     ensures fault { IfErr result (λ e. e ≡ ScriptFault.Write) }
 {
     let mut rest = text;
@@ -30,7 +31,8 @@ pub fn write_text<W: Write>(writer: &mut W, text: &[u8]) -> Result<(), ScriptFau
 fn write_some<W: Write>(writer: &mut W, text: &[u8]) -> Result<usize, ScriptFault>
     ensures some { IfOk result (λ n. 0 < n) }
     ensures bound { IfOk result (λ n. n ≤ length text.now) }
-    ensures ok { IfOk result (λ n. Appends (W.contents writer.old) (W.contents writer.new) (take n text.now)) }
+    ensures ok { IfOk result (λ n. Appends (W.contents writer.old) (W.contents writer.new)
+        (take n text.now)) }
     ensures err { OnErr result (Keeps (W.contents writer.old) (W.contents writer.new)) }
     ensures fault { IfErr result (λ e. e ≡ ScriptFault.Write) }
 {
@@ -46,7 +48,8 @@ fn write_some<W: Write>(writer: &mut W, text: &[u8]) -> Result<usize, ScriptFaul
 /// One write, and how many bytes it took: none where it was interrupted.
 fn write_once<W: Write>(writer: &mut W, text: &[u8]) -> Result<usize, ScriptFault>
     ensures bound { IfOk result (λ n. n ≤ length text.now) }
-    ensures ok { IfOk result (λ n. Appends (W.contents writer.old) (W.contents writer.new) (take n text.now)) }
+    ensures ok { IfOk result (λ n. Appends (W.contents writer.old) (W.contents writer.new)
+        (take n text.now)) }
     ensures err { OnErr result (Keeps (W.contents writer.old) (W.contents writer.new)) }
     ensures fault { IfErr result (λ e. e ≡ ScriptFault.Write) }
 {

@@ -7,9 +7,9 @@ use jiff::Timestamp;
 use jiff::tz::Offset;
 use std::alloc::{AllocError, Global};
 
-/// The time of an instant, which is given in nanoseconds from 1970 in UTC: `2024-05-01T13:20:00Z`, with as many decimals
-/// of the second as it has. An event's time that is written so is read as this instant. `None` where the instant lies
-/// outside those that an event's time can name.
+/// The time of an instant, which is given in nanoseconds from 1970 in UTC: `2024-05-01T13:20:00Z`, with as many
+/// decimals of the second as it has. An event's time that is written so is read as this instant. `None` where the
+/// instant lies outside those that an event's time can name.
 ///
 /// # Errors
 /// Out of memory.

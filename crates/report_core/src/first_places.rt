@@ -152,7 +152,8 @@ impl PlaceTest for JoinedWithOne<'_> {
     ghost use Rattle.std.specs.Prelude.{◌≡◌};
     ghost use Rattle.report_core.specs.FirstPlaces.{IsJoinedWithOne};
 
-    ghost holds = { λ t p. (t.number ≡ p.site) × IsJoinedWithOne t.site.now.events t.number t.parts.now p.event };
+    ghost holds = { λ t p. (t.number ≡ p.site)
+        × IsJoinedWithOne t.site.now.events t.number t.parts.now p.event };
 
     fn test(&self, place: EventPlace) -> bool {
         self.number == place.site && self.joins(place.event)
@@ -162,7 +163,8 @@ impl PlaceTest for JoinedWithOne<'_> {
 impl JoinedWithOne<'_> {
     /// Whether one of the events is a part of the transformation of the one at a place.
     fn joins(&self, event: usize) -> bool
-        ensures { IsTrue result ↔ IsJoinedWithOne self.now.site.now.events self.now.number self.now.parts.now event }
+        ensures { IsTrue result ↔ IsJoinedWithOne self.now.site.now.events self.now.number
+            self.now.parts.now event }
     {
         let test = JoinedWith {
             site: self.site,

@@ -54,7 +54,8 @@ fn add_of_body(
     body: &Body,
     found: &mut BTreeSet<OutsideShipment>,
 ) -> Result<(), AllocError>
-    ensures { OnOk result (Adds found.old found.new (BodyTells captured.now.events site wanted.now body.now)) }
+    ensures { OnOk result (Adds found.old found.new
+        (BodyTells captured.now.events site wanted.now body.now)) }
 {
     match body {
         Body::Ship { items, outside, .. } => add_of_shipment(
@@ -80,7 +81,8 @@ fn add_of_shipment(
     destinations: &[PlainText],
     found: &mut BTreeSet<OutsideShipment>,
 ) -> Result<(), AllocError>
-    ensures { OnOk result (Adds found.old found.new (ShipmentTells captured.now.events site wanted.now items.now destinations.now)) }
+    ensures { OnOk result (Adds found.old found.new
+        (ShipmentTells captured.now.events site wanted.now items.now destinations.now)) }
 {
     if destinations.is_empty() {
         return Ok(());
@@ -98,7 +100,8 @@ fn add_of_items(
     destinations: &[PlainText],
     found: &mut BTreeSet<OutsideShipment>,
 ) -> Result<(), AllocError>
-    ensures { OnOk result (Adds found.old found.new (OneTells items.now (ItemGoes site wanted.now destinations.now))) }
+    ensures { OnOk result (Adds found.old found.new
+        (OneTells items.now (ItemGoes site wanted.now destinations.now))) }
 {
     for item in items {
         if wanted.contains(item) {
@@ -116,7 +119,8 @@ fn add_of_item(
     destinations: &[PlainText],
     found: &mut BTreeSet<OutsideShipment>,
 ) -> Result<(), AllocError>
-    ensures { OnOk result (Adds found.old found.new (OneTells destinations.now (Goes site item.now))) }
+    ensures { OnOk result (Adds found.old found.new
+        (OneTells destinations.now (Goes site item.now))) }
 {
     for text in destinations {
         found.insert(OutsideShipment {

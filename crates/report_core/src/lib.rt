@@ -1,5 +1,5 @@
-//! The report of a recall, and the audit of its end: what is quarantined against what its root reaches. And the trace of
-//! an item, whether or not it was recalled.
+//! The report of a recall, and the audit of its end: what is quarantined against what its root reaches. And the trace
+//! of an item, whether or not it was recalled.
 #![tactic(auto)]
 
 mod audits;

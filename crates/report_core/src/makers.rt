@@ -1,4 +1,5 @@
-//! Under which items events are noted: in which transformations each was made or taken in, and by which shipments it left.
+//! Under which items events are noted: in which transformations each was made or taken in, and by which shipments it
+//! left.
 ghost use Rattle.std.specs.Prelude.{◌≡◌, ◌++◌, ◌∷◌, [], ℕ, List, IfOk, OnOk};
 ghost use Rattle.trace_core.specs.Chains.{sites_at};
 ghost use Rattle.trace_core.specs.Pairs.{GivesOut, TakesIn};
@@ -106,7 +107,8 @@ fn note_site(
     noting: Noting,
     index: &mut BTreeMap<Epc, EventPlaces>,
 ) -> Result<(), AllocError>
-    ensures { OnOk result (AddsTo (Keeps index.old) (Keeps index.new) (SiteNotes noting site.now number)) }
+    ensures { OnOk result (AddsTo (Keeps index.old) (Keeps index.new)
+        (SiteNotes noting site.now number)) }
 {
     for place in 0..site.len() {
         if let Some(event) = site.event(place) {

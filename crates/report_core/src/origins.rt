@@ -16,7 +16,8 @@ pub(crate) fn origins_of(
     sites: &[&Captured],
     pairs: &[Pair],
 ) -> Result<Vec<Pair>, AllocError>
-    ensures ascending { IfOk result (λ origins. IsStrictlyAscending pairs.now → IsStrictlyAscending origins.items) }
+    ensures ascending { IfOk result (λ origins. IsStrictlyAscending pairs.now
+        → IsStrictlyAscending origins.items) }
     ensures exact { IfOk result (λ origins. (p : Pair) → Contains origins.items p
         ↔ (Contains pairs.now p × (ByOne pairs.now (Related (sites_at sites.now)) p → ⊥))) }
 {
@@ -50,7 +51,8 @@ fn targets_of(
 
 /// Adds pairs to a set.
 fn insert_all(pairs: Vec<Pair>, found: &mut BTreeSet<Pair>) -> Result<(), AllocError>
-    ensures { OnOk result (AddsTo (IsFound pair_cmp found.old) (IsFound pair_cmp found.new) (Contains pairs.items)) }
+    ensures { OnOk result (AddsTo (IsFound pair_cmp found.old) (IsFound pair_cmp found.new)
+        (Contains pairs.items)) }
 {
     for pair in pairs {
         found.insert(pair)?;

@@ -15,8 +15,8 @@ use std::alloc::{AllocError, Global};
 use std::collections::BTreeSet;
 use trace_core::{Pair, keys_in_order};
 
-/// A recalled or traced item that was shipped to a place outside the traced sites. These shipments are ordered by site, then
-/// by item, then by destination.
+/// A recalled or traced item that was shipped to a place outside the traced sites. These shipments are ordered by site,
+/// then by item, then by destination.
 #[derive(Debug, Drop, PartialEq, Eq, PartialOrd, Ord)]
 pub struct OutsideShipment {
     /// The site that shipped it.
@@ -50,7 +50,8 @@ pub(crate) fn shipped_from(
     pairs: &[Pair],
 ) -> Result<Vec<OutsideShipment>, AllocError>
     requires all { AreAllSites (records_at sites.now) }
-    ensures { IfOk result (λ out. AreOutsideOf (world_at sites.now) (λ p. Contains pairs.now p) out.items) }
+    ensures { IfOk result (λ out. AreOutsideOf (world_at sites.now) (λ p.
+        Contains pairs.now p) out.items) }
 {
     let sets = items_by_site(alloc, sites.len(), pairs)?;
     let mut found = BTreeSet::new(alloc);

@@ -31,7 +31,8 @@ pub(crate) fn reached(
 ) -> Result<Vec<Pair>, AllocError>
     requires begun { own (world_at sites.now) recall.site recall.number ≡ Some entry.now }
     ensures ascending { IfOk result (λ pairs. IsStrictlyAscending pairs.items) }
-    ensures reached { IfOk result (λ pairs. (p : Pair) → Contains pairs.items p ↔ IsReachedBy (records_at sites.now) recall p) }
+    ensures reached { IfOk result (λ pairs. (p : Pair) → Contains pairs.items p
+        ↔ IsReachedBy (records_at sites.now) recall p) }
 {
     let root = root_of(alloc, recall, entry)?;
     let captured = captured(alloc, sites)?;

@@ -87,7 +87,8 @@ fn push_senders(
     pair: &Pair,
     found: &mut Vec<Pair>,
 ) -> Result<(), AllocError>
-    ensures { OnOk result (AddsToList found.old.items found.new.items (ByOne (sites_at sites.now) (SendsTo pair.now))) }
+    ensures { OnOk result (AddsToList found.old.items found.new.items
+        (ByOne (sites_at sites.now) (SendsTo pair.now))) }
 {
     for site in sites {
         push_sender(alloc, site, pair, found)?;
@@ -141,8 +142,9 @@ fn push_inputs_of(
     seen: &mut Seen,
     found: &mut Vec<Pair>,
 ) -> Result<(), AllocError>
-    ensures { OnOk result (AddsUnseen (GoesIntoSeen (sites_at sites.now)) (GoesIntoAt (sites_at sites.now) at place)
-        seen.old seen.new (Contains found.old.items) (Contains found.new.items)) }
+    ensures { OnOk result (AddsUnseen (GoesIntoSeen (sites_at sites.now))
+        (GoesIntoAt (sites_at sites.now) at place) seen.old seen.new (Contains found.old.items)
+        (Contains found.new.items)) }
 {
     if place.site >= sites.len() {
         return Ok(());
@@ -198,7 +200,8 @@ fn push_parts(
     places: &[usize],
     found: &mut Vec<Pair>,
 ) -> Result<(), AllocError>
-    ensures { OnOk result (AddsToList found.old.items found.new.items (ByOne places.now (IsInputAt site.now))) }
+    ensures { OnOk result (AddsToList found.old.items found.new.items
+        (ByOne places.now (IsInputAt site.now))) }
 {
     for place in places {
         push_part(alloc, site, *place, found)?;

@@ -28,8 +28,8 @@ pub struct BackTrace {
     pub root: Pair,
     /// What reaches it by chains of made and shipped items, itself among them, by site, then by item, and each once.
     pub pairs: Sequence<Pair>,
-    /// For each of these pairs, in their order, a chain of related pairs from it to the root, without repeats and with as
-    /// few pairs as any.
+    /// For each of these pairs, in their order, a chain of related pairs from it to the root, without repeats and with
+    /// as few pairs as any.
     pub trails: Sequence<Sequence<Pair>>,
     /// Those of these pairs that no pair is related to: by no event of the given sites were they made there or shipped
     /// there. By site, then by item, and each once.

@@ -80,7 +80,8 @@ pub(crate) fn told_along_those(
     shown: ShownSteps,
 ) -> Result<Vec<Sequence<StepEvents>>, AllocError>
     requires { All (IsChain (IsRelatedStep relating.now)) (map or_no_pairs trails.now) }
-    ensures { IfOk result (λ told. AreToldAlong relating.now shown (map or_no_pairs trails.now) told.items) }
+    ensures { IfOk result (λ told. AreToldAlong relating.now shown
+        (map or_no_pairs trails.now) told.items) }
 {
     let mut told = Vec::new(alloc);
     for trail in trails {
@@ -124,7 +125,8 @@ fn told_of(
     pairs: &[Pair],
 ) -> Result<Sequence<StepEvents>, AllocError>
     requires { IsChain (IsRelatedStep relating.now) pairs.now }
-    ensures { IfOk result (AllZip (λ step. TellsStep relating.now step.0 step.1) (steps_of pairs.now)) }
+    ensures { IfOk result (AllZip (λ step. TellsStep relating.now step.0 step.1)
+        (steps_of pairs.now)) }
 {
     let mut told = Vec::new(alloc);
     for place in 1..pairs.len() {

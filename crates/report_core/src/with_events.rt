@@ -27,9 +27,9 @@ use trace_core::Pair;
 /// Reports a recall as `report` does, and tells along each trail the first captured events that relate the pairs of
 /// each of its steps, or in brief of its last step alone. Of a pair without a trail no events are told.
 ///
-/// Goes over the events of all sites three times, and over what lies in the items of each shipment; for each step that is
-/// told at the events that take its first item in, each with those that give its second one out, or at those that ship
-/// it.
+/// Goes over the events of all sites three times, and over what lies in the items of each shipment; for each step that
+/// is told at the events that take its first item in, each with those that give its second one out, or at those that
+/// ship it.
 ///
 /// # Errors
 /// As `report`.
@@ -131,9 +131,10 @@ fn report_events(
     trails: &[Option<Sequence<Pair>>],
     shown: ShownSteps,
 ) -> Result<Vec<Sequence<StepEvents>>, AllocError>
-    requires { All (IsChain (IsRelatedStep (captured_of (records_at sites.now)))) (map or_no_pairs trails.now) }
-    ensures { IfOk result (λ told.
-        AreToldAlong (captured_of (records_at sites.now)) shown (map or_no_pairs trails.now) told.items) }
+    requires { All (IsChain (IsRelatedStep (captured_of (records_at sites.now))))
+        (map or_no_pairs trails.now) }
+    ensures { IfOk result (λ told. AreToldAlong (captured_of (records_at sites.now)) shown
+        (map or_no_pairs trails.now) told.items) }
 {
     let captured = captured(alloc, sites)?;
     let relating = RelatingEvents::of(alloc, captured.as_slice())?;

@@ -95,7 +95,8 @@ fn push_held(
     pairs: &[Pair],
     trails: &[Option<Sequence<Pair>>],
 ) -> Result<(), AllocError>
-    ensures { OnOk result (string_bytes text.new ≡ string_bytes text.old ++ flat_map (held_line sites.now recall.now) (zip pairs.now trails.now)) }
+    ensures { OnOk result (string_bytes text.new ≡ string_bytes text.old ++ flat_map
+        (held_line sites.now recall.now) (zip pairs.now trails.now)) }
 {
     for (pair, trail) in pairs.iter().zip(trails) {
         push_held_pair(alloc, text, sites, recall, pair, trail)?;
@@ -112,7 +113,8 @@ fn push_held_pair(
     pair: &Pair,
     trail: &Option<Sequence<Pair>>,
 ) -> Result<(), AllocError>
-    ensures { OnOk result (string_bytes text.new ≡ string_bytes text.old ++ held_line sites.now recall.now (pair.now, trail.now)) }
+    ensures { OnOk result (string_bytes text.new
+        ≡ string_bytes text.old ++ held_line sites.now recall.now (pair.now, trail.now)) }
 {
     push_pair(alloc, text, sites, recall, "held", pair, step_before(trail))
 }
@@ -135,7 +137,8 @@ fn push_led(
     pairs: &[Pair],
     trails: &[Sequence<Pair>],
 ) -> Result<(), AllocError>
-    ensures { OnOk result (string_bytes text.new ≡ string_bytes text.old ++ flat_map (led_line sites.now) (zip pairs.now trails.now)) }
+    ensures { OnOk result (string_bytes text.new ≡ string_bytes text.old ++ flat_map
+        (led_line sites.now) (zip pairs.now trails.now)) }
 {
     for (pair, trail) in pairs.iter().zip(trails) {
         push_led_pair(alloc, text, sites, pair, trail.as_slice())?;
@@ -151,7 +154,8 @@ fn push_led_pair(
     pair: &Pair,
     trail: &[Pair],
 ) -> Result<(), AllocError>
-    ensures { OnOk result (string_bytes text.new ≡ string_bytes text.old ++ led_line sites.now (pair.now, trail.now)) }
+    ensures { OnOk result (string_bytes text.new ≡ string_bytes text.old ++ led_line sites.now
+        (pair.now, trail.now)) }
 {
     push_pair(alloc, text, sites, "", "found", pair, before_last(trail))
 }
@@ -164,7 +168,8 @@ fn push_leading(
     pairs: &[Pair],
     trails: &[Sequence<Pair>],
 ) -> Result<(), AllocError>
-    ensures { OnOk result (string_bytes text.new ≡ string_bytes text.old ++ flat_map (leading_line sites.now) (zip pairs.now trails.now)) }
+    ensures { OnOk result (string_bytes text.new ≡ string_bytes text.old ++ flat_map
+        (leading_line sites.now) (zip pairs.now trails.now)) }
 {
     for (pair, trail) in pairs.iter().zip(trails) {
         push_leading_pair(alloc, text, sites, pair, trail.as_slice())?;
@@ -180,7 +185,8 @@ fn push_leading_pair(
     pair: &Pair,
     trail: &[Pair],
 ) -> Result<(), AllocError>
-    ensures { OnOk result (string_bytes text.new ≡ string_bytes text.old ++ leading_line sites.now (pair.now, trail.now)) }
+    ensures { OnOk result (string_bytes text.new ≡ string_bytes text.old ++ leading_line sites.now
+        (pair.now, trail.now)) }
 {
     push_pair(alloc, text, sites, "", "found", pair, step_behind(trail))
 }
@@ -199,7 +205,8 @@ fn push_origins(
     sites: &Sites,
     origins: &[Pair],
 ) -> Result<(), AllocError>
-    ensures { OnOk result (string_bytes text.new ≡ string_bytes text.old ++ flat_map (origin_line sites.now) origins.now) }
+    ensures { OnOk result (string_bytes text.new ≡ string_bytes text.old ++ flat_map
+        (origin_line sites.now) origins.now) }
 {
     for origin in origins {
         push_origin(alloc, text, sites, origin)?;
@@ -214,7 +221,8 @@ fn push_origin(
     sites: &Sites,
     origin: &Pair,
 ) -> Result<(), AllocError>
-    ensures { OnOk result (string_bytes text.new ≡ string_bytes text.old ++ origin_line sites.now origin.now) }
+    ensures { OnOk result (string_bytes text.new
+        ≡ string_bytes text.old ++ origin_line sites.now origin.now) }
 {
     push_pair(alloc, text, sites, "", "origin", origin, None)
 }
@@ -227,7 +235,8 @@ fn push_outsides(
     recall: &str,
     outside: &[OutsideShipment],
 ) -> Result<(), AllocError>
-    ensures { OnOk result (string_bytes text.new ≡ string_bytes text.old ++ flat_map (outside_line sites.now recall.now) outside.now) }
+    ensures { OnOk result (string_bytes text.new ≡ string_bytes text.old ++ flat_map
+        (outside_line sites.now recall.now) outside.now) }
 {
     for shipment in outside {
         push_outside(alloc, text, sites, recall, shipment)?;
@@ -243,7 +252,8 @@ fn push_outside(
     recall: &str,
     shipment: &OutsideShipment,
 ) -> Result<(), AllocError>
-    ensures { OnOk result (string_bytes text.new ≡ string_bytes text.old ++ outside_line sites.now recall.now shipment.now) }
+    ensures { OnOk result (string_bytes text.new
+        ≡ string_bytes text.old ++ outside_line sites.now recall.now shipment.now) }
 {
     push_row(
         alloc,
@@ -268,8 +278,8 @@ fn push_pair(
     pair: &Pair,
     beside: Option<&Pair>,
 ) -> Result<(), AllocError>
-    ensures { OnOk result (string_bytes text.new ≡ string_bytes text.old
-        ++ csv_line (pair_row sites.now recall.now kind.now pair.now (option_map (λ p. p.now) beside.entry))) }
+    ensures { OnOk result (string_bytes text.new ≡ string_bytes text.old ++ csv_line
+        (pair_row sites.now recall.now kind.now pair.now (option_map (λ p. p.now) beside.entry))) }
 {
     push_row(
         alloc, text, sites, recall, pair.site, &pair.item, beside, kind, "",
@@ -288,8 +298,9 @@ fn push_row(
     kind: &str,
     destination: &str,
 ) -> Result<(), AllocError>
-    ensures { OnOk result (string_bytes text.new ≡ string_bytes text.old
-        ++ csv_line (row_of sites.now recall.now site item.now (option_map (λ p. p.now) beside.entry) kind.now destination.now)) }
+    ensures { OnOk result (string_bytes text.new ≡ string_bytes text.old ++ csv_line
+        (row_of sites.now recall.now site item.now (option_map (λ p. p.now) beside.entry) kind.now
+        destination.now)) }
 {
     let key = item.key(alloc)?;
     push_place(text, sites, recall, site, key.as_str())?;
@@ -307,7 +318,8 @@ fn push_place(
     site: SiteNo,
     key: &str,
 ) -> Result<(), AllocError>
-    ensures { OnOk result (string_bytes text.new ≡ string_bytes text.old ++ place_text sites.now recall.now site key.now) }
+    ensures { OnOk result (string_bytes text.new
+        ≡ string_bytes text.old ++ place_text sites.now recall.now site key.now) }
 {
     push_field(text, recall)?;
     push_next(text, name_of(sites, site))?;
@@ -333,7 +345,8 @@ fn push_beside(
     sites: &Sites,
     beside: Option<&Pair>,
 ) -> Result<(), AllocError>
-    ensures { OnOk result (string_bytes text.new ≡ string_bytes text.old ++ beside_text sites.now (option_map (λ p. p.now) beside.entry)) }
+    ensures { OnOk result (string_bytes text.new ≡ string_bytes text.old ++ beside_text sites.now
+        (option_map (λ p. p.now) beside.entry)) }
 {
     let item = item_beside(alloc, beside)?;
     push_next(text, name_beside(sites, beside))?;
@@ -343,7 +356,8 @@ fn push_beside(
 /// Adds the last fields of a row, and the line's end.
 #[tactic(auto, unfolding(crate::specs::Pieces::end_text))]
 fn push_end(text: &mut String, kind: &str, destination: &str) -> Result<(), AllocError>
-    ensures { OnOk result (string_bytes text.new ≡ string_bytes text.old ++ end_text kind.now destination.now) }
+    ensures { OnOk result (string_bytes text.new
+        ≡ string_bytes text.old ++ end_text kind.now destination.now) }
 {
     push_next(text, kind)?;
     push_next(text, destination)?;
@@ -394,7 +408,8 @@ fn name_beside<'a>(sites: &'a Sites, beside: Option<&Pair>) -> &'a str
 
 /// The key of a pair's item, or nothing.
 fn item_beside(alloc: Global, beside: Option<&Pair>) -> Result<String, AllocError>
-    ensures { IfOk result (λ t. string_bytes t ≡ item_beside (option_map (λ p. p.now) beside.entry)) }
+    ensures { IfOk result (λ t. string_bytes t
+        ≡ item_beside (option_map (λ p. p.now) beside.entry)) }
 {
     match beside {
         None => Ok(String::new(alloc)),
@@ -404,7 +419,8 @@ fn item_beside(alloc: Global, beside: Option<&Pair>) -> Result<String, AllocErro
 
 /// Adds a comma and a field.
 fn push_next(text: &mut String, field: &str) -> Result<(), AllocError>
-    ensures { OnOk result (string_bytes text.new ≡ string_bytes text.old ++ behind_comma field.now) }
+    ensures { OnOk result (string_bytes text.new
+        ≡ string_bytes text.old ++ behind_comma field.now) }
 {
     text.push(',')?;
     push_field(text, field)
@@ -424,7 +440,8 @@ fn push_field(text: &mut String, field: &str) -> Result<(), AllocError>
 
 /// Adds a field in quotes, with each quote in it doubled.
 fn push_quoted(text: &mut String, field: &str) -> Result<(), AllocError>
-    ensures { OnOk result (string_bytes text.new ≡ string_bytes text.old ++ quoted default_writer field.now) }
+    ensures { OnOk result (string_bytes text.new
+        ≡ string_bytes text.old ++ quoted default_writer field.now) }
 {
     text.push('"')?;
     push_doubled(text, field)?;
@@ -434,7 +451,8 @@ fn push_quoted(text: &mut String, field: &str) -> Result<(), AllocError>
 /// Adds a text with each quote doubled.
 #[tactic(auto, using(crate::proofs::Replacing::doubled))]
 fn push_doubled(text: &mut String, field: &str) -> Result<(), AllocError>
-    ensures { OnOk result (string_bytes text.new ≡ string_bytes text.old ++ escaped default_writer field.now) }
+    ensures { OnOk result (string_bytes text.new
+        ≡ string_bytes text.old ++ escaped default_writer field.now) }
 {
     push_replaced(text, field, '"', "\"\"")
 }

@@ -1,5 +1,5 @@
-//! A report and a trace as a picture for Graphviz, in its language DOT: the sites as boxes, in them the items, and an edge
-//! for each step.
+//! A report and a trace as a picture for Graphviz, in its language DOT: the sites as boxes, in them the items, and an
+//! edge for each step.
 
 ghost use Rattle.std.specs.Prelude.{◌≡◌, ◌++◌, IfOk, OnOk, length, option_map, string_bytes};
 ghost use Rattle.std.specs.List.{flat_map, zip};
@@ -103,7 +103,8 @@ fn push_clusters(
     sites: &Sites,
     pairs: &[Pair],
 ) -> Result<(), AllocError>
-    ensures { OnOk result (string_bytes text.new ≡ string_bytes text.old ++ clusters_below sites.now pairs.now (length sites.now)) }
+    ensures { OnOk result (string_bytes text.new
+        ≡ string_bytes text.old ++ clusters_below sites.now pairs.now (length sites.now)) }
 {
     for number in 0..sites.len() {
         let Some(site) = SiteNo::of(number) else {
@@ -123,7 +124,8 @@ fn push_cluster(
     pairs: &[Pair],
     site: SiteNo,
 ) -> Result<(), AllocError>
-    ensures { OnOk result (string_bytes text.new ≡ string_bytes text.old ++ cluster_text sites.now pairs.now site) }
+    ensures { OnOk result (string_bytes text.new
+        ≡ string_bytes text.old ++ cluster_text sites.now pairs.now site) }
 {
     let name = name_of(sites, site);
     push_box(alloc, text, name)?;
@@ -161,7 +163,8 @@ fn push_nodes(
     pairs: &[Pair],
     site: SiteNo,
 ) -> Result<(), AllocError>
-    ensures { OnOk result (string_bytes text.new ≡ string_bytes text.old ++ flat_map (node_at sites.now site) pairs.now) }
+    ensures { OnOk result (string_bytes text.new ≡ string_bytes text.old ++ flat_map
+        (node_at sites.now site) pairs.now) }
 {
     for pair in pairs {
         push_node_at(alloc, text, sites, pair, site)?;
@@ -177,7 +180,8 @@ fn push_node_at(
     pair: &Pair,
     site: SiteNo,
 ) -> Result<(), AllocError>
-    ensures { OnOk result (string_bytes text.new ≡ string_bytes text.old ++ node_at sites.now site pair.now) }
+    ensures { OnOk result (string_bytes text.new
+        ≡ string_bytes text.old ++ node_at sites.now site pair.now) }
 {
     if pair.site == site {
         push_node(alloc, text, sites, pair)
@@ -189,7 +193,8 @@ fn push_node_at(
 /// Adds the node of a pair, with its item.
 #[tactic(auto, unfolding(crate::specs::Dot::node_text))]
 fn push_node(alloc: Global, text: &mut String, sites: &Sites, pair: &Pair) -> Result<(), AllocError>
-    ensures { OnOk result (string_bytes text.new ≡ string_bytes text.old ++ node_text sites.now pair.now) }
+    ensures { OnOk result (string_bytes text.new
+        ≡ string_bytes text.old ++ node_text sites.now pair.now) }
 {
     let key = pair.item.key(alloc)?;
     text.push_str("    ")?;
@@ -201,7 +206,8 @@ fn push_node(alloc: Global, text: &mut String, sites: &Sites, pair: &Pair) -> Re
 
 /// Marks the item that was asked for or recalled.
 fn push_root(alloc: Global, text: &mut String, sites: &Sites, root: &Pair) -> Result<(), AllocError>
-    ensures { OnOk result (string_bytes text.new ≡ string_bytes text.old ++ root_mark sites.now root.now) }
+    ensures { OnOk result (string_bytes text.new
+        ≡ string_bytes text.old ++ root_mark sites.now root.now) }
 {
     push_mark(alloc, text, sites, "penwidth=3", root)
 }
@@ -213,7 +219,8 @@ fn push_origins(
     sites: &Sites,
     origins: &[Pair],
 ) -> Result<(), AllocError>
-    ensures { OnOk result (string_bytes text.new ≡ string_bytes text.old ++ flat_map (origin_mark sites.now) origins.now) }
+    ensures { OnOk result (string_bytes text.new ≡ string_bytes text.old ++ flat_map
+        (origin_mark sites.now) origins.now) }
 {
     for origin in origins {
         push_origin(alloc, text, sites, origin)?;
@@ -229,7 +236,8 @@ fn push_origin(
     sites: &Sites,
     origin: &Pair,
 ) -> Result<(), AllocError>
-    ensures { OnOk result (string_bytes text.new ≡ string_bytes text.old ++ origin_mark sites.now origin.now) }
+    ensures { OnOk result (string_bytes text.new
+        ≡ string_bytes text.old ++ origin_mark sites.now origin.now) }
 {
     push_mark(alloc, text, sites, "peripheries=2", origin)
 }
@@ -243,7 +251,8 @@ fn push_mark(
     how: &str,
     pair: &Pair,
 ) -> Result<(), AllocError>
-    ensures { OnOk result (string_bytes text.new ≡ string_bytes text.old ++ mark_text sites.now how.now pair.now) }
+    ensures { OnOk result (string_bytes text.new
+        ≡ string_bytes text.old ++ mark_text sites.now how.now pair.now) }
 {
     text.push_str("  ")?;
     push_pair_node(alloc, text, sites, pair.site, &pair.item)?;
@@ -260,7 +269,8 @@ fn push_held(
     pairs: &[Pair],
     trails: &[Option<Sequence<Pair>>],
 ) -> Result<(), AllocError>
-    ensures { OnOk result (string_bytes text.new ≡ string_bytes text.old ++ flat_map (held_edge sites.now) (zip pairs.now trails.now)) }
+    ensures { OnOk result (string_bytes text.new ≡ string_bytes text.old ++ flat_map
+        (held_edge sites.now) (zip pairs.now trails.now)) }
 {
     for (pair, trail) in pairs.iter().zip(trails) {
         if let Some(trail) = trail {
@@ -278,7 +288,8 @@ fn push_led(
     pairs: &[Pair],
     trails: &[Sequence<Pair>],
 ) -> Result<(), AllocError>
-    ensures { OnOk result (string_bytes text.new ≡ string_bytes text.old ++ flat_map (led_edge sites.now) (zip pairs.now trails.now)) }
+    ensures { OnOk result (string_bytes text.new ≡ string_bytes text.old ++ flat_map
+        (led_edge sites.now) (zip pairs.now trails.now)) }
 {
     for (pair, trail) in pairs.iter().zip(trails) {
         push_edge_to(alloc, text, sites, pair, before_last(trail.as_slice()))?;
@@ -294,7 +305,8 @@ fn push_leading(
     pairs: &[Pair],
     trails: &[Sequence<Pair>],
 ) -> Result<(), AllocError>
-    ensures { OnOk result (string_bytes text.new ≡ string_bytes text.old ++ flat_map (leading_edge sites.now) (zip pairs.now trails.now)) }
+    ensures { OnOk result (string_bytes text.new ≡ string_bytes text.old ++ flat_map
+        (leading_edge sites.now) (zip pairs.now trails.now)) }
 {
     for (pair, trail) in pairs.iter().zip(trails) {
         push_edge_from(alloc, text, sites, pair, trail.as_slice().get(1))?;
@@ -310,7 +322,9 @@ fn push_edge_to(
     pair: &Pair,
     before: Option<&Pair>,
 ) -> Result<(), AllocError>
-    ensures { OnOk result (string_bytes text.new ≡ string_bytes text.old ++ edge_to sites.now pair.now (option_map (λ p. p.now) before.entry)) }
+    ensures { OnOk result (string_bytes text.new
+        ≡ string_bytes text.old ++ edge_to sites.now pair.now
+        (option_map (λ p. p.now) before.entry)) }
 {
     match before {
         None => Ok(()),
@@ -326,7 +340,9 @@ fn push_edge_from(
     pair: &Pair,
     behind: Option<&Pair>,
 ) -> Result<(), AllocError>
-    ensures { OnOk result (string_bytes text.new ≡ string_bytes text.old ++ edge_from sites.now pair.now (option_map (λ p. p.now) behind.entry)) }
+    ensures { OnOk result (string_bytes text.new
+        ≡ string_bytes text.old ++ edge_from sites.now pair.now
+        (option_map (λ p. p.now) behind.entry)) }
 {
     match behind {
         None => Ok(()),
@@ -343,7 +359,8 @@ fn push_step(
     from: &Pair,
     to: &Pair,
 ) -> Result<(), AllocError>
-    ensures { OnOk result (string_bytes text.new ≡ string_bytes text.old ++ step_text sites.now from.now to.now) }
+    ensures { OnOk result (string_bytes text.new
+        ≡ string_bytes text.old ++ step_text sites.now from.now to.now) }
 {
     text.push_str("  ")?;
     push_pair_node(alloc, text, sites, from.site, &from.item)?;
@@ -359,7 +376,8 @@ fn push_outsides(
     sites: &Sites,
     outside: &[OutsideShipment],
 ) -> Result<(), AllocError>
-    ensures { OnOk result (string_bytes text.new ≡ string_bytes text.old ++ flat_map (outside_text sites.now) outside.now) }
+    ensures { OnOk result (string_bytes text.new ≡ string_bytes text.old ++ flat_map
+        (outside_text sites.now) outside.now) }
 {
     for shipment in outside {
         push_outside(alloc, text, sites, shipment)?;
@@ -374,7 +392,8 @@ fn push_outside(
     sites: &Sites,
     shipment: &OutsideShipment,
 ) -> Result<(), AllocError>
-    ensures { OnOk result (string_bytes text.new ≡ string_bytes text.old ++ outside_text sites.now shipment.now) }
+    ensures { OnOk result (string_bytes text.new
+        ≡ string_bytes text.old ++ outside_text sites.now shipment.now) }
 {
     let destination = shipment.destination.as_str();
     push_place(alloc, text, destination)?;
@@ -429,7 +448,8 @@ fn push_pair_node(
     site: SiteNo,
     item: &Epc,
 ) -> Result<(), AllocError>
-    ensures { OnOk result (string_bytes text.new ≡ string_bytes text.old ++ pair_node sites.now site item.now) }
+    ensures { OnOk result (string_bytes text.new
+        ≡ string_bytes text.old ++ pair_node sites.now site item.now) }
 {
     let name = name_of(sites, site);
     let key = item.key(alloc)?;

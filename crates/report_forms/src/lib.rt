@@ -1,5 +1,5 @@
-//! Reports and traces in forms that other programs read: as rows of comma-separated fields (RFC 4180), and as a picture for
-//! Graphviz.
+//! Reports and traces in forms that other programs read: as rows of comma-separated fields (RFC 4180), and as a picture
+//! for Graphviz.
 #![tactic(auto)]
 
 mod csv_tables;

@@ -13,7 +13,8 @@ pub(crate) fn push_replaced(
     with: &str,
 ) -> Result<(), AllocError>
     requires { byte < 128 }
-    ensures { OnOk result (string_bytes text.new ≡ string_bytes text.old ++ replaced byte with.now part.now) }
+    ensures { OnOk result (string_bytes text.new
+        ≡ string_bytes text.old ++ replaced byte with.now part.now) }
 {
     let mut rest = part;
     while let Some((before, behind)) = rest.split_once(byte) {

@@ -62,7 +62,15 @@ impl Model for Diffusion {
 
     ghost coded = { coded_engagement };
 
-    ghost view = { λ d. record { me = d.me; outbox = d.outbox.rows; seen = d.seen; parents = as_map recall_cmp d.parents; own = as_map nat_cmp d.own; next_message = d.outbox.next; next_recall = d.next_recall } };
+    ghost view = { λ d. record {
+      me = d.me;
+      outbox = d.outbox.rows;
+      seen = d.seen;
+      parents = as_map recall_cmp d.parents;
+      own = as_map nat_cmp d.own;
+      next_message = d.outbox.next;
+      next_recall = d.next_recall;
+    } };
 
     ghost invariant = { λ d. IsNextNumber d.next_recall };
 }
@@ -70,7 +78,15 @@ impl Model for Diffusion {
 impl Diffusion {
     /// The site `me` with no recalls. The next numbers are 1. Does not allocate.
     pub fn new(alloc: Global, me: SiteNo) -> Diffusion
-        ensures { result ≡ record { me = me; outbox = map.empty; seen = map.empty; parents = map.empty; own = map.empty; next_message = 1; next_recall = 1 } }
+        ensures { result ≡ record {
+          me = me;
+          outbox = map.empty;
+          seen = map.empty;
+          parents = map.empty;
+          own = map.empty;
+          next_message = 1;
+          next_recall = 1;
+        } }
     {
         Diffusion {
             me,
@@ -97,7 +113,15 @@ impl Diffusion {
     ) -> Result<Diffusion, AllocError>
         requires next_message_in_range { IsNextNumber next_message }
         requires next_recall_in_range { IsNextNumber next_recall }
-        ensures { IfOk result (λ d. d ≡ record { me = me; outbox = as_map nat_cmp outbox; seen = as_map message_cmp seen; parents = as_map recall_cmp parents; own = as_map nat_cmp own; next_message = next_message; next_recall = next_recall }) }
+        ensures { IfOk result (λ d. d ≡ record {
+          me = me;
+          outbox = as_map nat_cmp outbox;
+          seen = as_map message_cmp seen;
+          parents = as_map recall_cmp parents;
+          own = as_map nat_cmp own;
+          next_message = next_message;
+          next_recall = next_recall;
+        }) }
     {
         let outbox = Outbox::restore(alloc, outbox, next_message)?;
         Ok(Diffusion {
@@ -117,7 +141,9 @@ impl Diffusion {
         ensures answer { IfOk result (λ answer. answer ≡ began self.old out.now) }
         ensures ok { OnOk result (self.new ≡ begun self.old root out.now) }
         // The next recall has no number, or more messages are needed than numbers are left.
-        ensures spent { (result ≡ Err NumberFault.NumbersSpent) ↔ ((2 ^ 62 < self.old.next_recall) ⊎ (2 ^ 62 + 1 < self.old.next_message + length out.now)) }
+        ensures spent { (result ≡ Err NumberFault.NumbersSpent)
+            ↔ ((2 ^ 62 < self.old.next_recall)
+            ⊎ (2 ^ 62 + 1 < self.old.next_message + length out.now)) }
         ensures err { OnErr result (self.new ≡ self.old) }
     {
         if self.next_recall > LAST_NUMBER || out.len() as u64 > self.outbox.numbers_left() {
@@ -150,12 +176,15 @@ impl Diffusion {
         recall: RecallId,
         out: &[(SiteNo, Epc)],
     ) -> Result<Received, NumberFault>
-        ensures answer { IfOk result (λ answer. answer ≡ (received self.old message recall out.now).1) }
+        ensures answer { IfOk result (λ answer.
+            answer ≡ (received self.old message recall out.now).1) }
         ensures ok { OnOk result (self.new ≡ (received self.old message recall out.now).0) }
         // That a message was seen before is found without memory and without numbers.
         ensures repeat { (result ≡ Ok Received.Repeat) ↔ IsSome (map.get self.old.seen message) }
         // More messages are needed than numbers are left.
-        ensures spent { (result ≡ Err NumberFault.NumbersSpent) ↔ (IsNone (map.get self.old.seen message) × (2 ^ 62 + 1 < self.old.next_message + length out.now)) }
+        ensures spent { (result ≡ Err NumberFault.NumbersSpent)
+            ↔ (IsNone (map.get self.old.seen message)
+            × (2 ^ 62 + 1 < self.old.next_message + length out.now)) }
         ensures err { OnErr result (self.new ≡ self.old) }
     {
         if self.seen.recall_of(message).is_some() {
@@ -201,8 +230,9 @@ impl Diffusion {
         requires low { 1 ≤ first }
         requires no_higher { first ≤ self.old.next_message }
         // Where the message came at free numbers, and this was the next message's, it is what it was before.
-        ensures { (old : Engagement) (out : List (ℕ × List ℕ)) → HasFreeNumbers old → old.next_message ≡ first
-            → received old message recall out ≡ (self.old, answer) → self.new ≡ old }
+        ensures { (old : Engagement) (out : List (ℕ × List ℕ)) → HasFreeNumbers old
+            → old.next_message ≡ first → received old message recall out ≡ (self.old, answer)
+            → self.new ≡ old }
     {
         match answer {
             Received::Repeat => {}
@@ -219,8 +249,8 @@ impl Diffusion {
         requires low { 1 ≤ first }
         requires no_higher { first ≤ self.old.next_message }
         ensures { (old : Engagement) (r : Recall) (out : List (ℕ × List ℕ)) → HasFreeNumbers old
-            → old.next_message ≡ first → map.get old.seen message ≡ None → self.old ≡ noted old message r out
-            → self.new ≡ old }
+            → old.next_message ≡ first → map.get old.seen message ≡ None
+            → self.old ≡ noted old message r out → self.new ≡ old }
     {
         self.seen.forget(message);
         self.outbox.take_back(first);
@@ -244,7 +274,8 @@ impl Diffusion {
         requires unseen { map.get self.old.seen message ≡ None }
         requires no_parent { map.get self.old.parents recall ≡ None }
         requires numbers { self.old.next_message + length out.now ≤ 2 ^ 62 + 1 }
-        ensures ok { OnOk result (self.new ≡ with_parent (noted self.old message recall out.now) recall message) }
+        ensures ok { OnOk result (self.new
+            ≡ with_parent (noted self.old message recall out.now) recall message) }
         ensures err { OnErr result (self.new ≡ self.old) }
     {
         tables::put(&mut self.parents, recall, message)?;
@@ -334,7 +365,9 @@ impl Diffusion {
     /// Whether a message of a recall engages this site, where it gives rise to these messages: it then has
     /// messages that are not signalled, has no parent, and isn't the live initiator.
     fn is_engaged_by(&self, recall: RecallId, out: &[(SiteNo, Epc)]) -> bool
-        ensures { result ≡ (has_rows (numbered self.now.outbox self.now.next_message recall out.now) recall && (is_none (map.get self.now.parents recall) && is_none (live_own self.now recall))) }
+        ensures { result ≡ (has_rows (numbered self.now.outbox self.now.next_message recall out.now)
+            recall && (is_none (map.get self.now.parents recall) && is_none
+            (live_own self.now recall))) }
     {
         self.has_rows_after(recall, out)
             && self.parent(recall).is_none()
@@ -343,7 +376,8 @@ impl Diffusion {
 
     /// Whether a message of the recall is unsignalled once these are numbered.
     fn has_rows_after(&self, recall: RecallId, out: &[(SiteNo, Epc)]) -> bool
-        ensures { result ≡ has_rows (numbered self.now.outbox self.now.next_message recall out.now) recall }
+        ensures { result ≡ has_rows (numbered self.now.outbox self.now.next_message recall out.now)
+            recall }
     {
         match out {
             [] => self.outbox.has_rows(recall),

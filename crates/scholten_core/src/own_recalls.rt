@@ -40,7 +40,9 @@ impl Copyable for Own {
 
 /// Records the end of a recall. Does not allocate.
 pub(crate) fn record_end(recalls: &mut BTreeMap<u64, Own>, number: u64)
-    ensures { (own : Own) → map.get (as_map nat_cmp recalls.old) number ≡ Some own → as_map nat_cmp recalls.new ≡ map.insert (as_map nat_cmp recalls.old) number (with_end own) }
+    ensures { (own : Own) → map.get (as_map nat_cmp recalls.old) number ≡ Some own
+        → as_map nat_cmp recalls.new ≡ map.insert (as_map nat_cmp recalls.old) number
+        (with_end own) }
 {
     if let Some(own) = recalls.get_mut(&number) {
         own.ended = true;

@@ -30,7 +30,8 @@ impl Running {
         name: &str,
         document: &str,
     ) -> Result<Answer, AllocError>
-        ensures { IfOk result (λ a. DoesTask self.old (capture name.now document.now) (answer_of a) self.new) }
+        ensures { IfOk result (λ a. DoesTask self.old (capture name.now document.now)
+            (answer_of a) self.new) }
     {
         let Some(site) = self.find(name) else {
             return Answer::no_site(alloc, name);
@@ -51,7 +52,8 @@ impl Running {
         name: &str,
         item: &str,
     ) -> Result<Answer, AllocError>
-        ensures ok { IfOk result (λ a. DoesTask self.old (recall name.now item.now) (answer_of a) self.new) }
+        ensures ok { IfOk result (λ a. DoesTask self.old (recall name.now item.now)
+            (answer_of a) self.new) }
         ensures err { IfErr result (λ _. ItemTakesMemory item.now (named self.old.sites name.now)) }
     {
         match self.find(name) {
@@ -61,7 +63,8 @@ impl Running {
     }
 
     fn recall_at(&mut self, alloc: Global, site: SiteNo, item: &str) -> Result<Answer, AllocError>
-        ensures ok { IfOk result (λ a. RecallRead self.old site (reading item.now) (answer_of a) self.new) }
+        ensures ok { IfOk result (λ a. RecallRead self.old site (reading item.now)
+            (answer_of a) self.new) }
         ensures err { IfErr result (λ _. IsPlain item.now) }
     {
         match item_of(alloc, item)? {

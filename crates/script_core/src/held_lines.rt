@@ -28,7 +28,8 @@ impl Model for HeldLine {
 
     ghost view = { λ h. h.bytes.items };
 
-    ghost invariant = { λ h. (length h.bytes.items ≤ longest_line) × (room ≤ vec_capacity h.bytes) };
+    ghost invariant = { λ h. (length h.bytes.items ≤ longest_line)
+        × (room ≤ vec_capacity h.bytes) };
 }
 
 impl HeldLine {
@@ -58,7 +59,8 @@ impl HeldLine {
 
     /// Puts bytes behind. Memory is needed only for a line of over 8,192 bytes.
     pub(crate) fn grow(&mut self, bytes: &[u8]) -> Result<(), ScriptFault>
-        ensures ok { OnOk result ((length self.new ≤ longest_line) × (self.new ≡ self.old ++ bytes.now)) }
+        ensures ok { OnOk result ((length self.new ≤ longest_line)
+            × (self.new ≡ self.old ++ bytes.now)) }
         ensures err { IfErr result (λ e. FailsToGrow self.old bytes.now e) }
         ensures same { OnErr result (self.new ≡ self.old) }
     {

@@ -26,8 +26,8 @@ pub fn scripts_have_one_answer()
 
 /// The world that a script leaves is that of a run of events, from sites at which nothing happened yet. So what is
 /// proved of runs holds of scripts: each site stands as its answered steps in order, with each step that it stopped in
-/// whole or absent, and whenever the site that began a recall has recorded its end, what is quarantined under it is what
-/// its root reaches.
+/// whole or absent, and whenever the site that began a recall has recorded its end, what is quarantined under it is
+/// what its root reaches.
 pub fn scripts_run_a_world()
     ensures { ScriptsRunAWorld }
 {}

@@ -23,7 +23,8 @@ use trace_core::{Captured, Pair, reach};
 impl Running {
     /// The pairs that an item at a site reaches.
     pub(crate) fn reach(&self, alloc: Global, name: &str, item: &str) -> Result<Answer, AllocError>
-        ensures ok { IfOk result (λ a. DoesTask self.now (reach name.now item.now) (answer_of a) self.now) }
+        ensures ok { IfOk result (λ a. DoesTask self.now (reach name.now item.now)
+            (answer_of a) self.now) }
         ensures err { IfErr result (λ _. ItemTakesMemory item.now (named self.now.sites name.now)) }
     {
         match self.find(name) {
@@ -33,7 +34,8 @@ impl Running {
     }
 
     fn reach_at(&self, alloc: Global, site: SiteNo, item: &str) -> Result<Answer, AllocError>
-        ensures ok { IfOk result (λ a. ReachRead self.now site (reading item.now) (answer_of a) self.now) }
+        ensures ok { IfOk result (λ a. ReachRead self.now site (reading item.now)
+            (answer_of a) self.now) }
         ensures err { IfErr result (λ _. IsPlain item.now) }
     {
         match item_of(alloc, item)? {
@@ -56,7 +58,8 @@ impl Running {
 
     /// The captured events of each site that is up, in order.
     fn captured(&self, alloc: Global) -> Result<Vec<&Captured>, AllocError>
-        ensures { first_down self.now ≡ None → IfOk result (λ v. map (λ c. c.now) v.items ≡ captured_of (records self.now.world)) }
+        ensures { first_down self.now ≡ None
+            → IfOk result (λ v. map (λ c. c.now) v.items ≡ captured_of (records self.now.world)) }
     {
         let mut captured = Vec::new(alloc);
         for number in 0..self.count() {
@@ -87,7 +90,8 @@ impl Running {
         name: &str,
         number: u64,
     ) -> Result<Answer, AllocError>
-        ensures { IfOk result (λ a. DoesTask self.now (quarantine name.now number) (answer_of a) self.now) }
+        ensures { IfOk result (λ a. DoesTask self.now (quarantine name.now number)
+            (answer_of a) self.now) }
     {
         match self.find(name) {
             None => Answer::no_site(alloc, name),

@@ -40,7 +40,8 @@ impl Running {
 
     /// One round: every site is opened, and then each takes its part.
     fn round(&mut self, alloc: Global, text: &mut String) -> Result<(), AllocError>
-        ensures { OnOk result (AddsText TakesRound self.old self.new (string_bytes text.old) (string_bytes text.new)) }
+        ensures { OnOk result (AddsText TakesRound self.old self.new (string_bytes text.old)
+            (string_bytes text.new)) }
     {
         self.open_all()?;
         for number in 0..self.count() {
@@ -77,7 +78,8 @@ impl Running {
         site: SiteNo,
         text: &mut String,
     ) -> Result<(), AllocError>
-        ensures { OnOk result (AddsText (TakesPart site) self.old self.new (string_bytes text.old) (string_bytes text.new)) }
+        ensures { OnOk result (AddsText (TakesPart site) self.old self.new (string_bytes text.old)
+            (string_bytes text.new)) }
     {
         let numbers = self.row_numbers(alloc, site)?;
         for number in &numbers {
@@ -104,7 +106,8 @@ impl Running {
         number: u64,
         text: &mut String,
     ) -> Result<(), AllocError>
-        ensures { OnOk result (AddsText (Exchanges site number) self.old self.new (string_bytes text.old) (string_bytes text.new)) }
+        ensures { OnOk result (AddsText (Exchanges site number) self.old self.new
+            (string_bytes text.old) (string_bytes text.new)) }
     {
         let Some(state) = self.state(site) else {
             return Ok(());
@@ -129,7 +132,9 @@ impl Running {
         message: MsgId,
         text: &mut String,
     ) -> Result<(), AllocError>
-        ensures { OnOk result (AddsText (Carries (option_and_then (owed_signal message) (up_at self.old site))) self.old self.new (string_bytes text.old) (string_bytes text.new)) }
+        ensures { OnOk result (AddsText (Carries
+            (option_and_then (owed_signal message) (up_at self.old site))) self.old self.new
+            (string_bytes text.old) (string_bytes text.new)) }
     {
         let Some(state) = self.state(site) else {
             return Ok(());
@@ -149,8 +154,10 @@ impl Running {
         to: SiteNo,
         text: &mut String,
     ) -> Result<(), AllocError>
-        ensures { (old : Record) (frame : Frame) → up_at self.old site ≡ Some old → frame_named old.engagement name ≡ Some frame → addressee frame ≡ to
-            → OnOk result (AddsText (Carries (Some frame)) self.old self.new (string_bytes text.old) (string_bytes text.new)) }
+        ensures { (old : Record) (frame : Frame) → up_at self.old site ≡ Some old
+            → frame_named old.engagement name ≡ Some frame → addressee frame ≡ to
+            → OnOk result (AddsText (Carries (Some frame)) self.old self.new (string_bytes text.old)
+            (string_bytes text.new)) }
     {
         let at = self.emit(site, name)?;
         if !self.is_up(to) {
@@ -163,7 +170,8 @@ impl Running {
 
 /// The numbers of the rows in an outbox.
 fn numbers_of(alloc: Global, state: &SiteState) -> Result<Vec<u64>, AllocError>
-    ensures { IfOk result (λ numbers. numbers.items ≡ map (λ e. e.0) (entries state.now.engagement.outbox)) }
+    ensures { IfOk result (λ numbers. numbers.items
+        ≡ map (λ e. e.0) (entries state.now.engagement.outbox)) }
 {
     let mut numbers = Vec::new(alloc);
     for (number, _) in state.outbox() {

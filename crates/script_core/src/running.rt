@@ -46,7 +46,8 @@ impl Model for Running {
 
     ghost view = { λ r. record { sites = r.sites; world = r.world; armed = r.armed.items } };
 
-    ghost invariant = { λ r. (length r.world.sites ≡ length r.sites) × (length r.armed.items ≡ length r.sites) };
+    ghost invariant = { λ r. (length r.world.sites ≡ length r.sites)
+        × (length r.armed.items ≡ length r.sites) };
 }
 
 impl Running {
@@ -70,7 +71,8 @@ impl Running {
 
     /// Does what a line asks. After an `Err` nothing is said of the world.
     pub(crate) fn answer(&mut self, alloc: Global, task: Task<'_>) -> Result<Answer, AllocError>
-        ensures ok { IfOk result (λ a. DoesTask self.old (task_of task.entry) (answer_of a) self.new) }
+        ensures ok { IfOk result (λ a. DoesTask self.old (task_of task.entry)
+            (answer_of a) self.new) }
         ensures err { IfErr result (λ _. DoingTakesMemory self.old (task_of task.entry)) }
     {
         match task {
@@ -159,8 +161,11 @@ impl Running {
 
     /// Gives an input to a site that is up: it is a step, or the stop that is armed for it.
     pub(crate) fn hand(&mut self, site: SiteNo, input: WorldInput) -> Result<Outcome, AllocError>
-        ensures { (old : Record) (given : SiteInput) → up_at self.old site ≡ Some old → input_at self.old.world.sent site input ≡ Some given
-            → IfOk result (λ outcome. (standing : Standing) × Happens old (armed_at self.old site) given outcome standing × (self.new ≡ with_standing self.old site standing)) }
+        ensures { (old : Record) (given : SiteInput) → up_at self.old site ≡ Some old
+            → input_at self.old.world.sent site input ≡ Some given
+            → IfOk result (λ outcome. (standing : Standing)
+            × Happens old (armed_at self.old site) given outcome standing
+            × (self.new ≡ with_standing self.old site standing)) }
     {
         let armed = self.disarm(site);
         self.world.happen(site, armed, input)
@@ -169,15 +174,21 @@ impl Running {
     /// Sends the frame of a name that the record of a site that is up makes emittable, and returns its place among
     /// those sent.
     pub(crate) fn emit(&mut self, site: SiteNo, name: FrameName) -> Result<u64, AllocError>
-        ensures { (old : Record) (frame : Frame) → up_at self.old site ≡ Some old → frame_named old.engagement name ≡ Some frame
-            → IfOk result (λ at. (at ≡ length self.old.world.sent + 1) × (self.new ≡ with_frame self.old frame)) }
+        ensures { (old : Record) (frame : Frame) → up_at self.old site ≡ Some old
+            → frame_named old.engagement name ≡ Some frame
+            → IfOk result (λ at. (at ≡ length self.old.world.sent + 1)
+            × (self.new ≡ with_frame self.old frame)) }
     {
         self.world.send(site, name)
     }
 
     /// Opens a site that is down.
     pub(crate) fn open(&mut self, site: SiteNo) -> Result<(), AllocError>
-        ensures { (r : Record) → slice_get self.old.world.sites site ≡ Some (Down r) → OnOk result (self.new ≡ record self.old { world = with_site self.old.world site (Up r) }) }
+        ensures { (r : Record) → slice_get self.old.world.sites site ≡ Some (Down r)
+            → OnOk result (self.new ≡ record self.old {
+              world = with_site self.old.world site
+                  (Up r);
+            }) }
     {
         self.world.reopen(site)
     }

@@ -46,7 +46,8 @@ pub fn run_script<R: Read, W: Write>(
         IsDone input (W.contents writer.old) (W.contents writer.new) tally)) }
     // After a fault the answers before it were written.
     ensures fault { IfErr result (λ fault. IfSome (R.remaining reader.old) (λ input.
-        Leaves fault input (R.remaining reader.new) (W.contents writer.old) (W.contents writer.new))) }
+        Leaves fault input (R.remaining reader.new) (W.contents writer.old)
+        (W.contents writer.new))) }
 {
     let mut buffer = vec![in alloc; 0u8; PIECE]?;
     let session = Session::new(alloc, keys)?;
@@ -66,7 +67,8 @@ fn run_pieces<R: Read, W: Write>(
     ensures done { IfOk result (λ tally. IfSome (R.remaining reader.old) (λ input.
         IsDone input (W.contents writer.old) (W.contents writer.new) tally)) }
     ensures fault { IfErr result (λ fault. IfSome (R.remaining reader.old) (λ input.
-        Leaves fault input (R.remaining reader.new) (W.contents writer.old) (W.contents writer.new))) }
+        Leaves fault input (R.remaining reader.new) (W.contents writer.old)
+        (W.contents writer.new))) }
 {
     for _ in 0..MOST_READS {
         match read_once(reader, buffer)? {
@@ -81,11 +83,14 @@ fn run_pieces<R: Read, W: Write>(
 /// One read, and how many bytes it gave: 0 at the end, and `None` where it was interrupted.
 fn read_once<R: Read>(reader: &mut R, buffer: &mut [u8]) -> Result<Option<usize>, ScriptFault>
     requires { 0 < length buffer.old }
-    ensures ok { IfOk result (λ read. MatchOption read (Keeps (R.remaining reader.old) (R.remaining reader.new))
-        (λ n. Consumes (R.remaining reader.old) (R.remaining reader.new) (take n buffer.new))) }
+    ensures ok { IfOk result (λ read. MatchOption read
+        (Keeps (R.remaining reader.old) (R.remaining reader.new)) (λ n.
+        Consumes (R.remaining reader.old) (R.remaining reader.new) (take n buffer.new))) }
     ensures bound { IfOk result (λ read. IfSome read (λ n. n ≤ length buffer.new)) }
-    ensures end { IfOk result (λ read. IfSome read (λ n. n ≡ 0 → IsAtEnd (R.remaining reader.new))) }
-    ensures err { IfErr result (λ fault. (fault ≡ ScriptFault.Read) × Keeps (R.remaining reader.old) (R.remaining reader.new)) }
+    ensures end { IfOk result (λ read. IfSome read (λ n. n ≡ 0
+        → IsAtEnd (R.remaining reader.new))) }
+    ensures err { IfErr result (λ fault. (fault ≡ ScriptFault.Read)
+        × Keeps (R.remaining reader.old) (R.remaining reader.new)) }
 {
     match reader.read(buffer) {
         Ok(count) => Ok(Some(count)),

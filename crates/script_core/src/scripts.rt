@@ -46,7 +46,8 @@ impl Script {
         keys: RandomState,
         line: &[u8],
     ) -> Result<Answer, AllocError>
-        ensures ok { IfOk result (λ a. Takes (state_of self.old) line.now (answer_of a) (state_of self.new)) }
+        ensures ok { IfOk result (λ a. Takes (state_of self.old) line.now (answer_of a)
+            (state_of self.new)) }
         ensures err { IfErr result (λ _. TakesMemory (state_of self.old) line.now) }
     {
         match Line::read(line) {
@@ -59,7 +60,8 @@ impl Script {
 
     /// Adds a site, while sites are gathered.
     fn add_site(&mut self, alloc: Global, name: &str, addresses: &str) -> Result<Answer, AllocError>
-        ensures ok { IfOk result (λ a. (answer_of a, state_of self.new) ≡ site_outcome (state_of self.old) name.now (fields addresses.now)) }
+        ensures ok { IfOk result (λ a. (answer_of a, state_of self.new)
+            ≡ site_outcome (state_of self.old) name.now (fields addresses.now)) }
         ensures err { IfErr result (λ _. SiteTakesMemory (state_of self.old)) }
     {
         match self {
@@ -75,7 +77,8 @@ impl Script {
         keys: RandomState,
         task: Task<'_>,
     ) -> Result<Answer, AllocError>
-        ensures ok { IfOk result (λ a. Passes (begun (state_of self.old)) (task_of task.entry) (answer_of a) (state_of self.new)) }
+        ensures ok { IfOk result (λ a. Passes (begun (state_of self.old)) (task_of task.entry)
+            (answer_of a) (state_of self.new)) }
         ensures err { IfErr result (λ _. TaskTakesMemory (state_of self.old) (task_of task.entry)) }
     {
         self.begin(alloc, keys)?;

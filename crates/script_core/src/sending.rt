@@ -24,7 +24,8 @@ impl Running {
         name: &str,
         number: u64,
     ) -> Result<Answer, AllocError>
-        ensures { IfOk result (λ a. DoesTask self.old (send name.now number) (answer_of a) self.new) }
+        ensures { IfOk result (λ a. DoesTask self.old (send name.now number)
+            (answer_of a) self.new) }
     {
         let Some(site) = self.find(name) else {
             return Answer::no_site(alloc, name);
@@ -46,7 +47,8 @@ impl Running {
         sender: &str,
         number: u64,
     ) -> Result<Answer, AllocError>
-        ensures { IfOk result (λ a. DoesTask self.old (signal name.now sender.now number) (answer_of a) self.new) }
+        ensures { IfOk result (λ a. DoesTask self.old (signal name.now sender.now number)
+            (answer_of a) self.new) }
     {
         let Some(site) = self.find(name) else {
             return Answer::no_site(alloc, name);
@@ -65,7 +67,8 @@ impl Running {
 
     /// Sends the frame of a name that a site may send, and returns its place among those sent.
     fn post(&mut self, alloc: Global, site: SiteNo, name: FrameName) -> Result<Answer, AllocError>
-        ensures { (old : Record) (frame : Frame) → up_at self.old site ≡ Some old → frame_named old.engagement name ≡ Some frame
+        ensures { (old : Record) (frame : Frame) → up_at self.old site ≡ Some old
+            → frame_named old.engagement name ≡ Some frame
             → IfOk result (λ a. Sends self.old (Some frame) (answer_of a) self.new) }
     {
         let at = self.emit(site, name)?;

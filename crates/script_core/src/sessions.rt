@@ -51,8 +51,10 @@ impl Session {
     ) -> Result<(), ScriptFault>
         requires lines { self.old.lines + length piece.now < 2 ^ 63 }
         requires refused { self.old.refused ≤ self.old.lines }
-        ensures ok { OnOk result (GoesOn self.old piece.now self.new [] (W.contents writer.old) (W.contents writer.new)) }
-        ensures err { IfErr result (λ e. EndsEarly self.old piece.now e (W.contents writer.old) (W.contents writer.new)) }
+        ensures ok { OnOk result (GoesOn self.old piece.now self.new [] (W.contents writer.old)
+            (W.contents writer.new)) }
+        ensures err { IfErr result (λ e. EndsEarly self.old piece.now e (W.contents writer.old)
+            (W.contents writer.new)) }
         ensures lines { self.new.lines ≤ self.old.lines + length piece.now }
         ensures refused { self.new.refused ≤ self.new.lines }
     {
@@ -74,8 +76,10 @@ impl Session {
         requires lines { self.old.lines < 2 ^ 63 }
         requires refused { self.old.refused ≤ self.old.lines }
         requires within { IsWithinLine bytes.now }
-        ensures ok { OnOk result (GoesOn self.old (bytes.now ++ 10 ∷ []) self.new [] (W.contents writer.old) (W.contents writer.new)) }
-        ensures err { IfErr result (λ e. EndsEarly self.old (bytes.now ++ 10 ∷ []) e (W.contents writer.old) (W.contents writer.new)) }
+        ensures ok { OnOk result (GoesOn self.old (bytes.now ++ 10 ∷ []) self.new []
+            (W.contents writer.old) (W.contents writer.new)) }
+        ensures err { IfErr result (λ e. EndsEarly self.old (bytes.now ++ 10 ∷ []) e
+            (W.contents writer.old) (W.contents writer.new)) }
         ensures lines { self.new.lines ≤ self.old.lines + 1 }
         ensures refused { self.new.refused ≤ self.new.lines }
     {
@@ -86,8 +90,10 @@ impl Session {
     /// Keeps bytes of a line whose LF is still to come.
     fn hold(&mut self, bytes: &[u8]) -> Result<(), ScriptFault>
         requires within { IsWithinLine bytes.now }
-        ensures ok { OnOk result ((before : Option (List ℕ)) → GoesOn self.old bytes.now self.new [] before before) }
-        ensures err { IfErr result (λ e. (before : Option (List ℕ)) → EndsEarly self.old bytes.now e before before) }
+        ensures ok { OnOk result ((before : Option (List ℕ))
+            → GoesOn self.old bytes.now self.new [] before before) }
+        ensures err { IfErr result (λ e. (before : Option (List ℕ))
+            → EndsEarly self.old bytes.now e before before) }
         ensures lines { self.new.lines ≡ self.old.lines }
         ensures refused { self.new.refused ≡ self.old.refused }
     {
@@ -102,8 +108,10 @@ impl Session {
     ) -> Result<Tally, ScriptFault>
         requires lines { self.lines < 2 ^ 63 }
         requires refused { self.refused ≤ self.lines }
-        ensures ok { IfOk result (λ tally. Finishes self tally (W.contents writer.old) (W.contents writer.new)) }
-        ensures err { IfErr result (λ e. EndsInLast self e (W.contents writer.old) (W.contents writer.new)) }
+        ensures ok { IfOk result (λ tally. Finishes self tally (W.contents writer.old)
+            (W.contents writer.new)) }
+        ensures err { IfErr result (λ e. EndsInLast self e (W.contents writer.old)
+            (W.contents writer.new)) }
     {
         let end = self.pending.len();
         if end == 0 {
@@ -128,10 +136,11 @@ impl Session {
     fn end_line<W: Write>(&mut self, alloc: Global, writer: &mut W) -> Result<(), ScriptFault>
         requires lines { self.old.lines < 2 ^ 63 }
         requires refused { self.old.refused ≤ self.old.lines }
-        ensures ok { OnOk result (AnswersOne self.old (strip_carriage_return self.old.pending) self.new
-            (W.contents writer.old) (W.contents writer.new)) }
-        ensures err { IfErr result (λ e. FailsInOne self.old (strip_carriage_return self.old.pending) e
-            (W.contents writer.old) (W.contents writer.new)) }
+        ensures ok { OnOk result (AnswersOne self.old (strip_carriage_return self.old.pending)
+            self.new (W.contents writer.old) (W.contents writer.new)) }
+        ensures err { IfErr result (λ e. FailsInOne self.old
+            (strip_carriage_return self.old.pending) e (W.contents writer.old)
+            (W.contents writer.new)) }
         ensures lines { self.new.lines ≤ self.old.lines + 1 }
         ensures refused { self.new.refused ≤ self.new.lines }
     {
@@ -169,7 +178,8 @@ impl Session {
 
     /// Puts bytes without a LF behind the pending ones.
     fn grow(&mut self, bytes: &[u8]) -> Result<(), ScriptFault>
-        ensures ok { OnOk result ((length self.new.pending ≤ longest_line) × (self.new.pending ≡ self.old.pending ++ bytes.now)) }
+        ensures ok { OnOk result ((length self.new.pending ≤ longest_line)
+            × (self.new.pending ≡ self.old.pending ++ bytes.now)) }
         ensures err { IfErr result (λ e. FailsToGrow self.old.pending bytes.now e) }
         ensures script { self.new.script ≡ self.old.script }
         ensures lines { self.new.lines ≡ self.old.lines }

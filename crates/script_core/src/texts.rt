@@ -19,7 +19,8 @@ pub(crate) fn push_outcome(
     site: SiteNo,
     outcome: &Outcome,
 ) -> Result<(), AllocError>
-    ensures { OnOk result (string_bytes text.new ≡ string_bytes text.old ++ pump_text sites.now site outcome.now) }
+    ensures { OnOk result (string_bytes text.new
+        ≡ string_bytes text.old ++ pump_text sites.now site outcome.now) }
 {
     match outcome {
         Outcome::Did(Effects::Ended(recall)) => push_ended(alloc, text, sites, *recall),
@@ -37,7 +38,8 @@ fn push_ended(
     sites: &Sites,
     recall: RecallId,
 ) -> Result<(), AllocError>
-    ensures { OnOk result (string_bytes text.new ≡ string_bytes text.old ++ ended_text sites.now recall) }
+    ensures { OnOk result (string_bytes text.new
+        ≡ string_bytes text.old ++ ended_text sites.now recall) }
 {
     let recall = recall_text(alloc, sites, recall)?;
     let recall = recall.as_str();

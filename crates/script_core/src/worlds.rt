@@ -55,7 +55,8 @@ impl Model for MemoryWorld {
     ghost view = { λ w. record { sites = map standing_of w.world.keepers; sent = w.world.sent } };
 
     // No stop is armed at a keeper: the script keeps those that are.
-    ghost invariant = { λ w. All (λ k. k.armed ≡ None) w.world.keepers × (w.sent ≡ length w.world.sent) };
+    ghost invariant = { λ w. All (λ k. k.armed ≡ None) w.world.keepers
+        × (w.sent ≡ length w.world.sent) };
 }
 
 impl MemoryWorld {
@@ -118,8 +119,11 @@ impl MemoryWorld {
         armed: Option<Keep>,
         input: WorldInput,
     ) -> Result<Outcome, AllocError>
-        ensures does { (old : Record) (given : SiteInput) → up_in self.old.sites site ≡ Some old → input_at self.old.sent site input ≡ Some given
-            → IfOk result (λ outcome. (standing : Standing) × Happens old armed given outcome standing × (self.new ≡ with_site self.old site standing)) }
+        ensures does { (old : Record) (given : SiteInput) → up_in self.old.sites site ≡ Some old
+            → input_at self.old.sent site input ≡ Some given
+            → IfOk result (λ outcome. (standing : Standing)
+            × Happens old armed given outcome standing
+            × (self.new ≡ with_site self.old site standing)) }
         ensures count { length self.new.sites ≡ length self.old.sites }
     {
         match armed {
@@ -129,8 +133,11 @@ impl MemoryWorld {
     }
 
     fn step(&mut self, site: SiteNo, input: WorldInput) -> Result<Outcome, AllocError>
-        ensures does { (old : Record) (given : SiteInput) → up_in self.old.sites site ≡ Some old → input_at self.old.sent site input ≡ Some given
-            → IfOk result (λ outcome. (standing : Standing) × Happens old None given outcome standing × (self.new ≡ with_site self.old site standing)) }
+        ensures does { (old : Record) (given : SiteInput) → up_in self.old.sites site ≡ Some old
+            → input_at self.old.sent site input ≡ Some given
+            → IfOk result (λ outcome. (standing : Standing)
+            × Happens old None given outcome standing
+            × (self.new ≡ with_site self.old site standing)) }
         ensures count { length self.new.sites ≡ length self.old.sites }
     {
         match self.turn(WorldEvent::Step { site, input }) {
@@ -142,8 +149,11 @@ impl MemoryWorld {
     }
 
     fn stop(&mut self, site: SiteNo, input: WorldInput, keep: Keep) -> Result<Outcome, AllocError>
-        ensures does { (old : Record) (given : SiteInput) → up_in self.old.sites site ≡ Some old → input_at self.old.sent site input ≡ Some given
-            → IfOk result (λ outcome. (standing : Standing) × Happens old (Some keep) given outcome standing × (self.new ≡ with_site self.old site standing)) }
+        ensures does { (old : Record) (given : SiteInput) → up_in self.old.sites site ≡ Some old
+            → input_at self.old.sent site input ≡ Some given
+            → IfOk result (λ outcome. (standing : Standing)
+            × Happens old (Some keep) given outcome standing
+            × (self.new ≡ with_site self.old site standing)) }
         ensures count { length self.new.sites ≡ length self.old.sites }
     {
         match self.turn(WorldEvent::Stop { site, input, keep }) {
@@ -156,8 +166,10 @@ impl MemoryWorld {
     /// Sends the frame that the record of a site that is up makes emittable at a place, from 1, and returns its
     /// place among those sent.
     pub(crate) fn send(&mut self, site: SiteNo, name: FrameName) -> Result<u64, AllocError>
-        ensures does { (old : Record) (frame : Frame) → up_in self.old.sites site ≡ Some old → frame_named old.engagement name ≡ Some frame
-            → IfOk result (λ at. (at ≡ length self.old.sent + 1) × (self.new ≡ with_sent self.old frame)) }
+        ensures does { (old : Record) (frame : Frame) → up_in self.old.sites site ≡ Some old
+            → frame_named old.engagement name ≡ Some frame
+            → IfOk result (λ at. (at ≡ length self.old.sent + 1)
+            × (self.new ≡ with_sent self.old frame)) }
         ensures count { length self.new.sites ≡ length self.old.sites }
     {
         match self.post(site, name) {
@@ -169,7 +181,8 @@ impl MemoryWorld {
 
     /// The frame of a name is sent, and what that is answered.
     fn post(&mut self, site: SiteNo, name: FrameName) -> Answer
-        ensures { (place : ℕ) × IsPlaceOf (up_in self.old.sites site) name place × Turns self.old (WorldEvent.Send site place) result self.new
+        ensures { (place : ℕ) × IsPlaceOf (up_in self.old.sites site) name place
+            × Turns self.old (WorldEvent.Send site place) result self.new
             × (length self.new.sites ≡ length self.old.sites) }
     {
         let answer = self.world.post(site, name);
@@ -181,7 +194,8 @@ impl MemoryWorld {
 
     /// Opens a site where it is down.
     pub(crate) fn reopen(&mut self, site: SiteNo) -> Result<(), AllocError>
-        ensures does { (r : Record) → slice_get self.old.sites site ≡ Some (Down r) → OnOk result (self.new ≡ with_site self.old site (Up r)) }
+        ensures does { (r : Record) → slice_get self.old.sites site ≡ Some (Down r)
+            → OnOk result (self.new ≡ with_site self.old site (Up r)) }
         ensures count { length self.new.sites ≡ length self.old.sites }
     {
         match self.turn(WorldEvent::Reopen { site }) {

@@ -57,8 +57,10 @@ pub fn capture_all(
     quarantine: &Quarantine,
     given: Vec<Event>,
 ) -> Result<Added, CaptureFault>
-    ensures ok { IfOk result (λ added. IsCaptured captured.old quarantine.now given.items (record { events = captured.new.events; fresh = added.fresh; known = added.known })) }
-    ensures fault { IfErr result (λ fault. TellsRefusal captured.old quarantine.now given.items fault) }
+    ensures ok { IfOk result (λ added. IsCaptured captured.old quarantine.now given.items
+        (record { events = captured.new.events; fresh = added.fresh; known = added.known })) }
+    ensures fault { IfErr result (λ fault.
+        TellsRefusal captured.old quarantine.now given.items fault) }
     ensures unchanged { OnErr result (captured.new ≡ captured.old) }
     ensures same_site { captured.new.me ≡ captured.old.me }
 {
@@ -81,8 +83,10 @@ fn capture_each(
 ) -> Result<Added, CaptureFault>
     ensures front { take (length captured.old.events) captured.new.events ≡ captured.old.events }
     ensures same_site { captured.new.me ≡ captured.old.me }
-    ensures ok { IfOk result (λ added. IsCaptured captured.old quarantine.now given.items (record { events = captured.new.events; fresh = added.fresh; known = added.known })) }
-    ensures fault { IfErr result (λ fault. TellsRefusal captured.old quarantine.now given.items fault) }
+    ensures ok { IfOk result (λ added. IsCaptured captured.old quarantine.now given.items
+        (record { events = captured.new.events; fresh = added.fresh; known = added.known })) }
+    ensures fault { IfErr result (λ fault.
+        TellsRefusal captured.old quarantine.now given.items fault) }
 {
     let mut added = Added { fresh: 0, known: 0 };
     for event in given {
@@ -104,8 +108,10 @@ fn capture_event(
     number: u64,
 ) -> Result<Standing, CaptureFault>
     ensures passed { IfOk result (λ standing. Passes captured.old quarantine.now event standing) }
-    ensures ok { IfOk result (λ standing. captured.new ≡ record captured.old { events = with_fresh captured.old.events event standing }) }
-    ensures refused { IfErr result (λ fault. Refuses captured.old quarantine.now event number fault) }
+    ensures ok { IfOk result (λ standing. captured.new
+        ≡ record captured.old { events = with_fresh captured.old.events event standing }) }
+    ensures refused { IfErr result (λ fault.
+        Refuses captured.old quarantine.now event number fault) }
     ensures unchanged { OnErr result (captured.new ≡ captured.old) }
 {
     match captured.standing(&event) {
@@ -125,8 +131,10 @@ fn capture_fresh(
 ) -> Result<Standing, CaptureFault>
     requires { standing_among captured.old.events event ≡ Fresh }
     ensures passed { IfOk result (λ standing. Passes captured.old quarantine.now event standing) }
-    ensures ok { IfOk result (λ standing. captured.new ≡ record captured.old { events = with_fresh captured.old.events event standing }) }
-    ensures refused { IfErr result (λ fault. Refuses captured.old quarantine.now event number fault) }
+    ensures ok { IfOk result (λ standing. captured.new
+        ≡ record captured.old { events = with_fresh captured.old.events event standing }) }
+    ensures refused { IfErr result (λ fault.
+        Refuses captured.old quarantine.now event number fault) }
     ensures unchanged { OnErr result (captured.new ≡ captured.old) }
 {
     if is_making(event.body()) {
@@ -154,8 +162,10 @@ fn capture_made(
     requires fresh { standing_among captured.old.events event ≡ Fresh }
     requires making { IsMaking event.body }
     ensures passed { IfOk result (λ standing. Passes captured.old quarantine.now event standing) }
-    ensures ok { IfOk result (λ standing. captured.new ≡ record captured.old { events = with_fresh captured.old.events event standing }) }
-    ensures refused { IfErr result (λ fault. Refuses captured.old quarantine.now event number fault) }
+    ensures ok { IfOk result (λ standing. captured.new
+        ≡ record captured.old { events = with_fresh captured.old.events event standing }) }
+    ensures refused { IfErr result (λ fault.
+        Refuses captured.old quarantine.now event number fault) }
     ensures unchanged { OnErr result (captured.new ≡ captured.old) }
 {
     match first_block(alloc, captured, quarantine, &event) {
@@ -184,8 +194,10 @@ fn capture_sent(
     requires fresh { standing_among captured.old.events event ≡ Fresh }
     requires sending { IsMaking event.body → ⊥ }
     ensures passed { IfOk result (λ standing. Passes captured.old quarantine.now event standing) }
-    ensures ok { IfOk result (λ standing. captured.new ≡ record captured.old { events = with_fresh captured.old.events event standing }) }
-    ensures refused { IfErr result (λ fault. Refuses captured.old quarantine.now event number fault) }
+    ensures ok { IfOk result (λ standing. captured.new
+        ≡ record captured.old { events = with_fresh captured.old.events event standing }) }
+    ensures refused { IfErr result (λ fault.
+        Refuses captured.old quarantine.now event number fault) }
     ensures unchanged { OnErr result (captured.new ≡ captured.old) }
 {
     let before = captured.len();
@@ -215,8 +227,9 @@ fn sent_block(
     captured: &Captured,
     quarantine: &Quarantine,
 ) -> Result<Option<(RecallId, Epc)>, AllocError>
-    ensures { IfOk result (λ block. (before : List Content) (e : Content) → captured.now.events ≡ before ++ e ∷ []
-        → (IsMaking e.body → ⊥) → IsFirstBlockOf (record captured.now { events = before }) quarantine.now e block) }
+    ensures { IfOk result (λ block. (before : List Content) (e : Content)
+        → captured.now.events ≡ before ++ e ∷ [] → (IsMaking e.body → ⊥)
+        → IsFirstBlockOf (record captured.now { events = before }) quarantine.now e block) }
 {
     if quarantine.is_empty() {
         return Ok(None);
@@ -245,7 +258,8 @@ fn least_holder(
 /// The least of the quarantined items that the last event newly sent to another site.
 fn least_sent<'c>(captured: &'c Captured, quarantine: &Quarantine) -> Option<&'c Epc>
     ensures { (before : List Content) (e : Content) → captured.now.events ≡ before ++ e ∷ []
-        → IsLeastSent (record captured.now { events = before }) quarantine.now e (option_map (λ i. i.now) result) }
+        → IsLeastSent (record captured.now { events = before }) quarantine.now e
+        (option_map (λ i. i.now) result) }
 {
     let mut least = None;
     for sending in captured.last_sent() {
@@ -335,7 +349,8 @@ fn least_recall(
     item: &Epc,
 ) -> Result<Option<RecallId>, AllocError>
     requires { IsMaking event.now.body }
-    ensures { IfOk result (λ recall. IsLeastBlock captured.now quarantine.now event.now item.now recall) }
+    ensures { IfOk result (λ recall. IsLeastBlock captured.now quarantine.now event.now item.now
+        recall) }
 {
     let recalls = holders(alloc, quarantine, item)?;
     if recalls.is_empty() {
@@ -409,7 +424,8 @@ fn holds_all(quarantine: &Quarantine, recall: RecallId, items: &[Epc]) -> bool
 
 /// Whether one of the pairs isn't at this site and quarantined there under the recall.
 fn leads_out(me: SiteNo, quarantine: &Quarantine, recall: RecallId, targets: &[Pair]) -> bool
-    ensures { result ≡ list_any (λ p. not (p.site == me && held quarantine.now recall p.item)) targets.now }
+    ensures { result ≡ list_any (λ p. not (p.site == me && held quarantine.now recall p.item))
+        targets.now }
 {
     targets.iter().any(|pair| !(pair.site == me && quarantine.holds(recall, &pair.item)))
 }

@@ -18,7 +18,8 @@ pub fn note(
     item: &Epc,
 ) -> Result<(), AllocError>
     ensures ok { OnOk result (Sets (notes index.old) (notes index.new) item.now recall true) }
-    ensures err { OnErr result ((i : List ℕ) (r : Recall) → notes index.new i r ≡ notes index.old i r) }
+    ensures err { OnErr result ((i : List ℕ) (r : Recall)
+        → notes index.new i r ≡ notes index.old i r) }
 {
     if let Some(recalls) = index.get_mut(item) {
         return add(recalls, recall);

@@ -18,7 +18,8 @@ pub fn holders(
     item: &Epc,
 ) -> Result<Vec<RecallId>, AllocError>
     ensures ascending { IfOk result (λ recalls. IsStrictlySortedBy recall_cmp recalls.items) }
-    ensures exact { IfOk result (λ recalls. (r : Recall) → Contains recalls.items r ↔ IsTrue (held quarantine.now r item.now)) }
+    ensures exact { IfOk result (λ recalls. (r : Recall) → Contains recalls.items r
+        ↔ IsTrue (held quarantine.now r item.now)) }
 {
     match quarantine.recalls_of(item) {
         Some(recalls) => in_order(alloc, recalls),

@@ -14,8 +14,8 @@ use epc_core::Epc;
 use event_json::SiteNo;
 use frame_core::{Frame, MsgId, RecallId};
 
-/// What a step returns without memory and without a change, if it returns so. A keeper asks this first: what is answered
-/// here is neither tried on a copy nor written down. None says that the step allocates or changes the site.
+/// What a step returns without memory and without a change, if it returns so. A keeper asks this first: what is
+/// answered here is neither tried on a copy nor written down. None says that the step allocates or changes the site.
 pub fn look(state: &SiteState, input: &SiteInput) -> Option<Result<Effects, Refusal>>
     ensures { IsAnsweredBy state.now input.now result }
 {
@@ -53,7 +53,8 @@ fn look_at_message(
     recall: RecallId,
     _item: &Epc,
 ) -> Option<Result<Effects, Refusal>>
-    ensures { IsAnsweredBy state.now (SiteInput.Deliver (frames.Recall message dest recall _item.now)) result }
+    ensures { IsAnsweredBy state.now (SiteInput.Deliver
+        (frames.Recall message dest recall _item.now)) result }
 {
     if !is_for_site(state, message, dest, recall) {
         return Some(Err(Refusal::NotMine));

@@ -29,7 +29,8 @@ pub fn frame_named(state: &SiteState, name: FrameName) -> Option<FrameView<'_>>
 
 /// The message of a number, where it isn't signalled.
 fn message_named(state: &SiteState, number: u64) -> Option<FrameView<'_>>
-    ensures { option_map frame_of result ≡ frame_named state.now.engagement (FrameName.Message number) }
+    ensures { option_map frame_of result ≡ frame_named state.now.engagement
+        (FrameName.Message number) }
 {
     match state.row(number) {
         None => None,
@@ -47,7 +48,8 @@ fn message_named(state: &SiteState, number: u64) -> Option<FrameView<'_>>
 
 /// The signal of a message, where that was seen and is no parent.
 fn signal_named(state: &SiteState, message: MsgId) -> Option<FrameView<'_>>
-    ensures { option_map frame_of result ≡ frame_named state.now.engagement (FrameName.Signal message) }
+    ensures { option_map frame_of result ≡ frame_named state.now.engagement
+        (FrameName.Signal message) }
 {
     if state.seen_under(message).is_none() || is_parent(state, message) {
         return None;

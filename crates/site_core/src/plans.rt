@@ -36,7 +36,8 @@ pub fn plan_start(
     recall: RecallId,
     root: &Epc,
 ) -> Result<Plan, AllocError>
-    ensures { IfOk result (λ plan. IsStartPlanned captured.now quarantine.now recall root.now plan.new.items plan.out.items) }
+    ensures { IfOk result (λ plan. IsStartPlanned captured.now quarantine.now recall root.now
+        plan.new.items plan.out.items) }
 {
     let spread = spread_of(alloc, captured, root)?;
     let out = shipments(alloc, captured, &spread)?;
@@ -58,8 +59,10 @@ pub fn plan_message(
 ) -> Result<Plan, AllocError>
     requires closed { is_closed ≡ true → IsClosedInside captured.now quarantine.now }
     requires gives { GivesHeld captured.now quarantine.now recall seen.old }
-    ensures newly { IfOk result (λ plan. AreNewlyHeld captured.now quarantine.now recall item.now plan.new.items) }
-    ensures shipped { IfOk result (λ plan. AreShipments captured.now plan.new.items plan.out.items) }
+    ensures newly { IfOk result (λ plan.
+        AreNewlyHeld captured.now quarantine.now recall item.now plan.new.items) }
+    ensures shipped { IfOk result (λ plan.
+        AreShipments captured.now plan.new.items plan.out.items) }
     ensures seen { IfOk result (λ plan.
         GivesHeld captured.now (with_items quarantine.now recall plan.new.items) recall seen.new) }
 {
@@ -80,7 +83,8 @@ fn new_of_message(
 ) -> Result<Vec<Epc>, AllocError>
     requires closed { is_closed ≡ true → IsClosedInside captured.now quarantine.now }
     requires gives { GivesHeld captured.now quarantine.now recall seen.old }
-    ensures newly { IfOk result (λ items. AreNewlyHeld captured.now quarantine.now recall item.now items.items) }
+    ensures newly { IfOk result (λ items.
+        AreNewlyHeld captured.now quarantine.now recall item.now items.items) }
     ensures seen { IfOk result (λ items.
         GivesHeld captured.now (with_items quarantine.now recall items.items) recall seen.new) }
 {
@@ -100,11 +104,15 @@ pub fn begin_planned(
     plan: &Plan,
 ) -> Result<Began, NumberFault>
     ensures answer { IfOk result (λ answer. answer ≡ began diffusion.old plan.now.out.items) }
-    ensures held { OnOk result (quarantine.new ≡ with_items quarantine.old recall plan.now.new.items) }
+    ensures held { OnOk result (quarantine.new
+        ≡ with_items quarantine.old recall plan.now.new.items) }
     ensures begun { OnOk result (diffusion.new ≡ begun diffusion.old root plan.now.out.items) }
-    ensures enough { OnOk result ((diffusion.old.next_recall ≤ 2 ^ 62) × HaveNumbers diffusion.old plan.now.out.items) }
-    ensures spent { result ≡ Err NumberFault.NumbersSpent → (2 ^ 62 < diffusion.old.next_recall) ⊎ AreTooMany diffusion.old plan.now.out.items }
-    ensures unchanged { OnErr result ((quarantine.new ≡ quarantine.old) × (diffusion.new ≡ diffusion.old)) }
+    ensures enough { OnOk result ((diffusion.old.next_recall ≤ 2 ^ 62)
+        × HaveNumbers diffusion.old plan.now.out.items) }
+    ensures spent { result ≡ Err NumberFault.NumbersSpent → (2 ^ 62 < diffusion.old.next_recall)
+        ⊎ AreTooMany diffusion.old plan.now.out.items }
+    ensures unchanged { OnErr result ((quarantine.new ≡ quarantine.old)
+        × (diffusion.new ≡ diffusion.old)) }
 {
     let added = quarantine.hold_each(recall, &plan.new)?;
     match diffusion.begin(root, &plan.out) {
@@ -126,11 +134,15 @@ pub fn receive_planned(
     plan: &Plan,
 ) -> Result<bool, NumberFault>
     requires unseen { finite.get diffusion.old.seen message ≡ None }
-    ensures answer { IfOk result (λ owed. received diffusion.old message recall plan.now.out.items ≡ (diffusion.new, reply (length plan.now.out.items) owed)) }
-    ensures held { OnOk result (quarantine.new ≡ with_items quarantine.old recall plan.now.new.items) }
+    ensures answer { IfOk result (λ owed. received diffusion.old message recall plan.now.out.items
+        ≡ (diffusion.new, reply (length plan.now.out.items) owed)) }
+    ensures held { OnOk result (quarantine.new
+        ≡ with_items quarantine.old recall plan.now.new.items) }
     ensures enough { OnOk result (HaveNumbers diffusion.old plan.now.out.items) }
-    ensures spent { result ≡ Err NumberFault.NumbersSpent → AreTooMany diffusion.old plan.now.out.items }
-    ensures unchanged { OnErr result ((quarantine.new ≡ quarantine.old) × (diffusion.new ≡ diffusion.old)) }
+    ensures spent { result ≡ Err NumberFault.NumbersSpent
+        → AreTooMany diffusion.old plan.now.out.items }
+    ensures unchanged { OnErr result ((quarantine.new ≡ quarantine.old)
+        × (diffusion.new ≡ diffusion.old)) }
 {
     let new = quarantine.hold_each(recall, &plan.new)?;
     match diffusion.receive(message, recall, &plan.out) {

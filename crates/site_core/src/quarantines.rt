@@ -99,7 +99,8 @@ impl Quarantine {
         items: &'a [Epc],
     ) -> Result<Vec<&'a Epc>, AllocError>
         ensures ok { OnOk result (self.new ≡ with_items self.old recall items.now) }
-        ensures undone { IfOk result (λ added. without_items self.new recall (map (λ item. item.now) added.items) ≡ self.old) }
+        ensures undone { IfOk result (λ added.
+            without_items self.new recall (map (λ item. item.now) added.items) ≡ self.old) }
         ensures err { OnErr result (self.new ≡ self.old) }
     {
         let mut added = Vec::with_capacity(self.alloc, items.len())?;
@@ -135,7 +136,8 @@ impl Quarantine {
 
     /// Takes these items away from a recall, the last one first. Does not allocate.
     pub(crate) fn release_all(&mut self, recall: RecallId, mut items: Vec<&Epc>)
-        ensures { self.new ≡ without_items self.old recall (map (λ item. item.now) items.entry.items) }
+        ensures { self.new ≡ without_items self.old recall
+            (map (λ item. item.now) items.entry.items) }
     {
         while let Some(item) = items.pop() {
             self.release(recall, item);
@@ -180,7 +182,8 @@ impl Quarantine {
 
     /// The recalls under which an item is quarantined, ascending.
     pub(crate) fn recalls_of(&self, item: &Epc) -> Option<&BTreeSet<RecallId>>
-        ensures { (r : Recall) → has (option_map (λ recalls. recalls.now) result) r ≡ held self.now r item.now }
+        ensures { (r : Recall) → has (option_map (λ recalls. recalls.now) result) r
+            ≡ held self.now r item.now }
     {
         self.index.get(item)
     }
@@ -243,8 +246,10 @@ fn hold_in(
     recall: RecallId,
     item: Epc,
 ) -> Result<bool, AllocError>
-    ensures new { IfOk result (λ new. new ≡ not (held (as_map recall_cmp recalls.old) recall item)) }
-    ensures ok { OnOk result (as_map recall_cmp recalls.new ≡ with_item (as_map recall_cmp recalls.old) recall item) }
+    ensures new { IfOk result (λ new. new
+        ≡ not (held (as_map recall_cmp recalls.old) recall item)) }
+    ensures ok { OnOk result (as_map recall_cmp recalls.new
+        ≡ with_item (as_map recall_cmp recalls.old) recall item) }
     ensures err { OnErr result (as_map recall_cmp recalls.new ≡ as_map recall_cmp recalls.old) }
     ensures only_new { OnErr result (IsFalse (held (as_map recall_cmp recalls.old) recall item)) }
 {
@@ -259,7 +264,8 @@ fn hold_in(
 
 /// Removes an item from the set of a recall, and the recall with its last one. Does not allocate.
 fn release_in(recalls: &mut BTreeMap<RecallId, ItemSet>, recall: RecallId, item: &Epc)
-    ensures { as_map recall_cmp recalls.new ≡ without_item (as_map recall_cmp recalls.old) recall item.now }
+    ensures { as_map recall_cmp recalls.new
+        ≡ without_item (as_map recall_cmp recalls.old) recall item.now }
 {
     if remove_in(recalls, recall, item) {
         tables::take(recalls, recall);
@@ -268,9 +274,13 @@ fn release_in(recalls: &mut BTreeMap<RecallId, ItemSet>, recall: RecallId, item:
 
 /// Removes an item from the set of a recall, and returns whether the set is empty then. Does not allocate.
 fn remove_in(recalls: &mut BTreeMap<RecallId, ItemSet>, recall: RecallId, item: &Epc) -> bool
-    ensures left { (items : set.Items) → finite.get (as_map recall_cmp recalls.old) recall ≡ Some items → as_map recall_cmp recalls.new ≡ finite.insert (as_map recall_cmp recalls.old) recall (set.remove items item.now) }
-    ensures emptied { (items : set.Items) → finite.get (as_map recall_cmp recalls.old) recall ≡ Some items → result ≡ (set.len (set.remove items item.now) == 0) }
-    ensures none { finite.get (as_map recall_cmp recalls.old) recall ≡ None → (result ≡ false) × (as_map recall_cmp recalls.new ≡ as_map recall_cmp recalls.old) }
+    ensures left { (items : set.Items) → finite.get (as_map recall_cmp recalls.old) recall
+        ≡ Some items → as_map recall_cmp recalls.new
+        ≡ finite.insert (as_map recall_cmp recalls.old) recall (set.remove items item.now) }
+    ensures emptied { (items : set.Items) → finite.get (as_map recall_cmp recalls.old) recall
+        ≡ Some items → result ≡ (set.len (set.remove items item.now) == 0) }
+    ensures none { finite.get (as_map recall_cmp recalls.old) recall ≡ None → (result ≡ false)
+        × (as_map recall_cmp recalls.new ≡ as_map recall_cmp recalls.old) }
 {
     match recalls.get_mut(&recall) {
         Some(items) => {

@@ -30,8 +30,19 @@ impl SiteState {
         quarantine: Quarantine,
         diffusion: Diffusion,
     ) -> Option<SiteState>
-        ensures sound { IsSome result ↔ IsSound (record { sites = sites; captured = captured; quarantine = quarantine; engagement = diffusion }) }
-        ensures kept { (state : _) → result ≡ Some state → state ≡ record { sites = sites; captured = captured; quarantine = quarantine; engagement = diffusion } }
+        ensures sound { IsSome result ↔ IsSound (record {
+          sites = sites;
+          captured = captured;
+          quarantine = quarantine;
+          engagement = diffusion;
+        }) }
+        ensures kept { (state : _) → result ≡ Some state
+            → state ≡ record {
+              sites = sites;
+              captured = captured;
+              quarantine = quarantine;
+              engagement = diffusion;
+            } }
     {
         if is_sound(&sites, &captured, &quarantine, &diffusion) {
             Some(SiteState::restore(alloc, sites, captured, quarantine, diffusion))
@@ -48,7 +59,12 @@ fn is_sound(
     quarantine: &Quarantine,
     diffusion: &Diffusion,
 ) -> bool
-    ensures { IsTrue result ↔ IsSound (record { sites = sites.now; captured = captured.now; quarantine = quarantine.now; engagement = diffusion.now }) }
+    ensures { IsTrue result ↔ IsSound (record {
+      sites = sites.now;
+      captured = captured.now;
+      quarantine = quarantine.now;
+      engagement = diffusion.now;
+    }) }
 {
     let among = Among {
         sites: sites.len() as u64,
@@ -62,7 +78,8 @@ fn is_sound(
 
 /// Whether items are quarantined under recalls of the sites alone.
 fn is_quarantine_among(among: &Among, quarantine: &Quarantine) -> bool
-    ensures among { IsTrue result ↔ ((r : Recall) → IsSome (get quarantine.now r) → IsRecallAmong among.now.sites r) }
+    ensures among { IsTrue result ↔ ((r : Recall) → IsSome (get quarantine.now r)
+        → IsRecallAmong among.now.sites r) }
     ensures no_empty_set { HasNoEmptySet quarantine.now }
 {
     each_entry(quarantine.by_recall(), among)
@@ -83,25 +100,29 @@ fn is_engagement_among(among: &Among, diffusion: &Diffusion) -> bool
 }
 
 fn are_rows_among(among: &Among, diffusion: &Diffusion) -> bool
-    ensures { IsTrue result ↔ ((number : ℕ) (row : Row) → get diffusion.now.outbox number ≡ Some row → IsRowAmong among.now.sites number row) }
+    ensures { IsTrue result ↔ ((number : ℕ) (row : Row) → get diffusion.now.outbox number ≡ Some row
+        → IsRowAmong among.now.sites number row) }
 {
     each_entry(diffusion.outbox(), among)
 }
 
 fn are_seen_among(among: &Among, diffusion: &Diffusion) -> bool
-    ensures { IsTrue result ↔ ((m : Message) (r : Recall) → get diffusion.now.seen m ≡ Some r → IsMessageAmong among.now.sites m × IsRecallAmong among.now.sites r) }
+    ensures { IsTrue result ↔ ((m : Message) (r : Recall) → get diffusion.now.seen m ≡ Some r
+        → IsMessageAmong among.now.sites m × IsRecallAmong among.now.sites r) }
 {
     each_entry(diffusion.seen(), among)
 }
 
 fn are_parents_among(among: &Among, diffusion: &Diffusion) -> bool
-    ensures { IsTrue result ↔ ((r : Recall) (m : Message) → get diffusion.now.parents r ≡ Some m → IsRecallAmong among.now.sites r × IsMessageAmong among.now.sites m) }
+    ensures { IsTrue result ↔ ((r : Recall) (m : Message) → get diffusion.now.parents r ≡ Some m
+        → IsRecallAmong among.now.sites r × IsMessageAmong among.now.sites m) }
 {
     each_entry(diffusion.parents(), among)
 }
 
 fn are_own_among(among: &Among, diffusion: &Diffusion) -> bool
-    ensures { IsTrue result ↔ ((number : ℕ) → IsSome (get diffusion.now.own number) → IsNumber number) }
+    ensures { IsTrue result ↔ ((number : ℕ) → IsSome (get diffusion.now.own number)
+        → IsNumber number) }
 {
     each_entry(diffusion.own_recalls(), among)
 }
@@ -180,7 +201,8 @@ fn are_events_among(sites: u64, captured: &Captured) -> bool
 
 /// Whether what the event at a place ships goes to sites of the list.
 fn is_event_among(sites: u64, captured: &Captured, place: usize) -> bool
-    ensures { IsTrue result ↔ ((e : _) → slice_get captured.now.events place ≡ Some e → ShipsAmong sites e.body) }
+    ensures { IsTrue result ↔ ((e : _) → slice_get captured.now.events place ≡ Some e
+        → ShipsAmong sites e.body) }
 {
     match captured.event(place) {
         Some(event) => is_body_among(sites, event.body()),

@@ -40,7 +40,9 @@ fn add_shipments(
     item: &Epc,
     found: &mut BTreeSet<Shipment>,
 ) -> Result<(), AllocError>
-    ensures { OnOk result ((t : ℕ) (i : List ℕ) → IsTrue (is_in found.new t i) ↔ (IsTrue (is_in found.old t i) ⊎ ((item.now ≡ i) × IsShipped captured.now i (record { site = t; item = i })))) }
+    ensures { OnOk result ((t : ℕ) (i : List ℕ) → IsTrue (is_in found.new t i)
+        ↔ (IsTrue (is_in found.old t i)
+        ⊎ ((item.now ≡ i) × IsShipped captured.now i (record { site = t; item = i })))) }
 {
     for pair in captured.shipped(item)? {
         found.insert(Shipment {

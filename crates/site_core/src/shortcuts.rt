@@ -66,8 +66,8 @@ impl Shortcuts {
 
     /// Takes out the transformations that a recall's messages went through. Does not allocate.
     pub fn take_seen(&mut self, alloc: Global, recall: RecallId) -> Seen
-        ensures { (s : SiteEvents) (q : Held) → AreShortcuts s q self.old → AreShortcuts s q self.new
-            × GivesHeld s q recall result }
+        ensures { (s : SiteEvents) (q : Held) → AreShortcuts s q self.old
+            → AreShortcuts s q self.new × GivesHeld s q recall result }
     {
         match tables::take(&mut self.seen, recall) {
             Some(seen) => seen,
@@ -78,8 +78,8 @@ impl Shortcuts {
     /// Keeps the transformations that a recall's messages went through, unless memory runs out: then they
     /// are gone through again.
     pub fn keep_seen(&mut self, recall: RecallId, seen: Seen)
-        ensures { (s : SiteEvents) (q : Held) → AreShortcuts s q self.old → GivesHeld s q recall seen
-            → AreShortcuts s q self.new }
+        ensures { (s : SiteEvents) (q : Held) → AreShortcuts s q self.old
+            → GivesHeld s q recall seen → AreShortcuts s q self.new }
     {
         let _ = tables::put(&mut self.seen, recall, seen);
     }

@@ -26,8 +26,9 @@ pub fn sources(
 ) -> Result<Vec<Epc>, AllocError>
     requires { IsMaking event.now.body }
     ensures ascending { IfOk result (λ items. AreAscendingItems items.items) }
-    ensures all { IfOk result (λ items. (i : List ℕ) (r : Recall) (q : Pair) → IsTrue (held quarantine.now r i)
-        → IsNewTarget captured.now event.now i q → Contains items.items i) }
+    ensures all { IfOk result (λ items. (i : List ℕ) (r : Recall) (q : Pair)
+        → IsTrue (held quarantine.now r i) → IsNewTarget captured.now event.now i q
+        → Contains items.items i) }
 {
     let mut found = BTreeSet::new(alloc);
     add_inputs(alloc, event.body(), &mut found)?;
@@ -43,7 +44,8 @@ fn add_joined(
     body: &Body,
     found: &mut BTreeSet<Epc>,
 ) -> Result<(), AllocError>
-    ensures { OnOk result (FindsJoined captured.now.events quarantine.now body.now found.old found.new) }
+    ensures { OnOk result (FindsJoined captured.now.events quarantine.now body.now found.old
+        found.new) }
 {
     match part_id(body) {
         Some(id) => add_held_inputs(alloc, captured, quarantine, id, found),
@@ -60,7 +62,8 @@ fn add_held_inputs(
     id: &PlainText,
     found: &mut BTreeSet<Epc>,
 ) -> Result<(), AllocError>
-    ensures { OnOk result (FindsHeldInputs captured.now.events quarantine.now id.now found.old found.new) }
+    ensures { OnOk result (FindsHeldInputs captured.now.events quarantine.now id.now found.old
+        found.new) }
 {
     if quarantine.item_count() < captured.part_count(id) {
         add_inputs_held(alloc, captured, quarantine, id, found)
@@ -77,7 +80,8 @@ fn add_inputs_held(
     id: &PlainText,
     found: &mut BTreeSet<Epc>,
 ) -> Result<(), AllocError>
-    ensures { OnOk result (FindsHeldInputs captured.now.events quarantine.now id.now found.old found.new) }
+    ensures { OnOk result (FindsHeldInputs captured.now.events quarantine.now id.now found.old
+        found.new) }
 {
     for (item, _recalls) in quarantine.by_item() {
         add_if_input(alloc, captured, id, item, found)?;
@@ -124,7 +128,8 @@ fn add_inputs_at(
     place: usize,
     found: &mut BTreeSet<Epc>,
 ) -> Result<(), AllocError>
-    ensures { OnOk result (FindsInputsAt (slice_get captured.now.events place) found.old found.new) }
+    ensures { OnOk result (FindsInputsAt (slice_get captured.now.events place) found.old
+        found.new) }
 {
     match captured.event(place) {
         Some(event) => add_inputs(alloc, event.body(), found),

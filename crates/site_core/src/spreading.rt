@@ -21,7 +21,8 @@ pub(crate) fn spread_of(
     item: &Epc,
 ) -> Result<Vec<Epc>, AllocError>
     ensures ascending { IfOk result (λ items. AreAscendingItems items.items) }
-    ensures exact { IfOk result (λ items. (j : List ℕ) → Contains items.items j ↔ IsSpread captured.now (item.now ∷ []) j) }
+    ensures exact { IfOk result (λ items. (j : List ℕ) → Contains items.items j
+        ↔ IsSpread captured.now (item.now ∷ []) j) }
 {
     let mut starts = Vec::new(alloc);
     starts.push(item.copy(alloc)?)?;
@@ -35,7 +36,8 @@ pub(crate) fn not_held(
     recall: RecallId,
     given: Vec<Epc>,
 ) -> Result<Vec<Epc>, AllocError>
-    ensures { IfOk result (λ items. items.items ≡ filter (λ j. not (held quarantine.now recall j)) given.items) }
+    ensures { IfOk result (λ items. items.items
+        ≡ filter (λ j. not (held quarantine.now recall j)) given.items) }
 {
     let mut items = Vec::new(alloc);
     for found in given {
@@ -55,7 +57,8 @@ pub(crate) fn newly_held(
     recall: RecallId,
     item: &Epc,
 ) -> Result<Vec<Epc>, AllocError>
-    ensures { IfOk result (λ items. AreNewlyHeld captured.now quarantine.now recall item.now items.items) }
+    ensures { IfOk result (λ items. AreNewlyHeld captured.now quarantine.now recall item.now
+        items.items) }
 {
     let items = spread_of(alloc, captured, item)?;
     not_held(alloc, quarantine, recall, items)
@@ -74,7 +77,8 @@ pub(crate) fn newly_held_past(
 ) -> Result<Vec<Epc>, AllocError>
     requires closed { IsClosedInside captured.now quarantine.now }
     requires gives { GivesHeld captured.now quarantine.now recall seen.old }
-    ensures newly { IfOk result (λ items. AreNewlyHeld captured.now quarantine.now recall item.now items.items) }
+    ensures newly { IfOk result (λ items.
+        AreNewlyHeld captured.now quarantine.now recall item.now items.items) }
     ensures seen { IfOk result (λ items.
         GivesHeld captured.now (with_items quarantine.now recall items.items) recall seen.new) }
 {

@@ -57,10 +57,19 @@ impl Model for SiteState {
 
     ghost coded = { coded_record };
 
-    ghost view = { λ s. record { sites = s.sites; captured = s.captured; quarantine = s.quarantine; engagement = s.diffusion } };
+    ghost view = { λ s. record {
+      sites = s.sites;
+      captured = s.captured;
+      quarantine = s.quarantine;
+      engagement = s.diffusion;
+    } };
 
-    ghost invariant = { λ s. IsSound (record
-        { sites = s.sites; captured = s.captured; quarantine = s.quarantine; engagement = s.diffusion })
+    ghost invariant = { λ s. IsSound (record {
+      sites = s.sites;
+      captured = s.captured;
+      quarantine = s.quarantine;
+      engagement = s.diffusion;
+    })
         × AreShortcuts s.captured s.quarantine s.shortcuts };
 }
 
@@ -93,8 +102,18 @@ impl SiteState {
         quarantine: Quarantine,
         diffusion: Diffusion,
     ) -> SiteState
-        requires sound { IsSound (record { sites = sites; captured = captured; quarantine = quarantine; engagement = diffusion }) }
-        ensures { result ≡ record { sites = sites; captured = captured; quarantine = quarantine; engagement = diffusion } }
+        requires sound { IsSound (record {
+          sites = sites;
+          captured = captured;
+          quarantine = quarantine;
+          engagement = diffusion;
+        }) }
+        ensures { result ≡ record {
+          sites = sites;
+          captured = captured;
+          quarantine = quarantine;
+          engagement = diffusion;
+        } }
     {
         let shortcuts = Shortcuts::found(alloc, &captured, &quarantine);
         SiteState {

@@ -116,7 +116,8 @@ impl SiteState {
 
     /// Captures a document.
     fn capture(&mut self, bytes: &[u8]) -> Result<Effects, Refusal>
-        ensures done { IfOk result (λ effects. Does self.old (SiteInput.Capture bytes.now) effects self.new) }
+        ensures done { IfOk result (λ effects.
+            Does self.old (SiteInput.Capture bytes.now) effects self.new) }
         ensures refused { IfErr result (λ why. Refuses self.old (SiteInput.Capture bytes.now) why) }
         ensures unchanged { OnErr result (self.new ≡ self.old) }
     {
@@ -135,8 +136,10 @@ impl SiteState {
     /// Starts a recall of an item that the site knows, and returns the items that come under it.
     fn start(&mut self, root: &Epc) -> Result<(Effects, Vec<Epc>), Refusal>
         requires known { CopiesRecord self.old (SiteInput.Start root.now) }
-        ensures done { IfOk result (λ made. Does self.old (SiteInput.Start root.now) made.0 self.new) }
-        ensures held { IfOk result (λ made. NewlyHeldBy self.old (SiteInput.Start root.now) made.1.items) }
+        ensures done { IfOk result (λ made.
+            Does self.old (SiteInput.Start root.now) made.0 self.new) }
+        ensures held { IfOk result (λ made.
+            NewlyHeldBy self.old (SiteInput.Start root.now) made.1.items) }
         ensures refused { IfErr result (λ why. Refuses self.old (SiteInput.Start root.now) why) }
         ensures unchanged { OnErr result (self.new ≡ self.old) }
     {
@@ -170,10 +173,16 @@ impl SiteState {
         recall: RecallId,
         item: &Epc,
     ) -> Result<(Effects, Vec<Epc>), Refusal>
-        requires unseen { CopiesRecord self.old (SiteInput.Deliver (frames.Recall message dest recall item.now)) }
-        ensures done { IfOk result (λ made. Does self.old (SiteInput.Deliver (frames.Recall message dest recall item.now)) made.0 self.new) }
-        ensures held { IfOk result (λ made. NewlyHeldBy self.old (SiteInput.Deliver (frames.Recall message dest recall item.now)) made.1.items) }
-        ensures refused { IfErr result (λ why. Refuses self.old (SiteInput.Deliver (frames.Recall message dest recall item.now)) why) }
+        requires unseen { CopiesRecord self.old
+            (SiteInput.Deliver (frames.Recall message dest recall item.now)) }
+        ensures done { IfOk result (λ made.
+            Does self.old (SiteInput.Deliver (frames.Recall message dest recall item.now)) made.0
+            self.new) }
+        ensures held { IfOk result (λ made.
+            NewlyHeldBy self.old (SiteInput.Deliver (frames.Recall message dest recall item.now))
+            made.1.items) }
+        ensures refused { IfErr result (λ why.
+            Refuses self.old (SiteInput.Deliver (frames.Recall message dest recall item.now)) why) }
         ensures unchanged { OnErr result (self.new ≡ self.old) }
     {
         let mut seen = self.shortcuts.take_seen(self.alloc, recall);

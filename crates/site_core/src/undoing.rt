@@ -104,10 +104,11 @@ impl SiteState {
     /// out in finding out whether what is quarantined is closed inside the site: then that isn't known, and the
     /// answers stay the same.
     pub fn take_back(&mut self, input: &SiteInput, effects: &Effects, undo: StepUndo)
-        requires done { (old : Record) × Does old input.now effects.now self.old × IsUndoOf undo old input.now }
+        requires done { (old : Record) × Does old input.now effects.now self.old
+            × IsUndoOf undo old input.now }
         requires no_signal { IsSignal input.now → ⊥ }
-        ensures { (old : Record) → Does old input.now effects.now self.old → IsUndoOf undo old input.now
-            → self.new ≡ old }
+        ensures { (old : Record) → Does old input.now effects.now self.old
+            → IsUndoOf undo old input.now → self.new ≡ old }
     {
         let StepUndo {
             captured,
@@ -138,7 +139,8 @@ impl SiteState {
     /// Takes the start of a recall back.
     fn take_back_start(&mut self, next_message: u64, held: Vec<Epc>)
         requires { (old : Record) × StartedFrom old self.old next_message held.items }
-        ensures { (old : Record) → StartedFrom old self.old next_message held.items → self.new ≡ old }
+        ensures { (old : Record) → StartedFrom old self.old next_message held.items
+            → self.new ≡ old }
     {
         let recall = RecallId {
             site: self.diffusion.me(),
@@ -157,9 +159,10 @@ impl SiteState {
         next_message: u64,
         held: Vec<Epc>,
     )
-        requires { (old : Record) × TookFrame old self.old frame.now effects.now next_message held.items }
-        ensures { (old : Record) → TookFrame old self.old frame.now effects.now next_message held.items
-            → self.new ≡ old }
+        requires { (old : Record) × TookFrame old self.old frame.now effects.now next_message
+            held.items }
+        ensures { (old : Record) → TookFrame old self.old frame.now effects.now next_message
+            held.items → self.new ≡ old }
     {
         match frame {
             Frame::Recall { id, recall, .. } => {
@@ -178,9 +181,10 @@ impl SiteState {
         next_message: u64,
         held: Vec<Epc>,
     )
-        requires { (old : Record) × TookFrom old self.old message recall effects.now next_message held.items }
-        ensures { (old : Record) → TookFrom old self.old message recall effects.now next_message held.items
-            → self.new ≡ old }
+        requires { (old : Record) × TookFrom old self.old message recall effects.now next_message
+            held.items }
+        ensures { (old : Record) → TookFrom old self.old message recall effects.now next_message
+            held.items → self.new ≡ old }
     {
         if let Effects::Received { numbered, owed, .. } = effects {
             let answer = reply(*numbered, *owed);

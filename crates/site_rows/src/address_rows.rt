@@ -29,7 +29,8 @@ pub(crate) const ADDRESSES: u64 = MAX_ADDRESSES as u64;
 
 /// The name of the site of a number.
 pub(crate) fn name_at(sites: &Sites, number: u64) -> Option<&str>
-    ensures { option_map (λ t. t.now) result ≡ option_map (λ s. s.name) (slice_get sites.now number) }
+    ensures { option_map (λ t. t.now) result ≡ option_map (λ s. s.name)
+        (slice_get sites.now number) }
 {
     // There are at most 16 sites.
     let _few = sites.len();
@@ -41,7 +42,8 @@ pub(crate) fn name_at(sites: &Sites, number: u64) -> Option<&str>
 
 /// The address at a place, from 0, of the site of a number.
 pub(crate) fn address_at(sites: &Sites, number: u64, place: u64) -> Option<&str>
-    ensures { option_map (λ t. t.now) result ≡ option_and_then (λ s. slice_get s.addresses place) (slice_get sites.now number) }
+    ensures { option_map (λ t. t.now) result ≡ option_and_then (λ s. slice_get s.addresses place)
+        (slice_get sites.now number) }
 {
     let _few = sites.len();
     match SiteNo::of(number) {
@@ -79,7 +81,8 @@ fn put_address(
     text: Text,
     address: Address,
 ) -> Result<Option<Address>, AllocError>
-    ensures { OnOk result (as_map text_cmp addresses.new ≡ finite.insert (as_map text_cmp addresses.old) text address) }
+    ensures { OnOk result (as_map text_cmp addresses.new
+        ≡ finite.insert (as_map text_cmp addresses.old) text address) }
 {
     match addresses.insert(text, address) {
         Ok(old) => Ok(old),

@@ -51,7 +51,10 @@ pub fn numbered_rows(
     state: &SiteState,
     from: u64,
 ) -> Result<Sequence<OutboxRow>, AllocError>
-    ensures { (before : finite.FinMap nat_cmp Row) (r : Recall) (out : List (ℕ × List ℕ)) → state.now.engagement.outbox ≡ numbered before from r out → state.now.engagement.next_message ≡ from + length out → IfOk result (λ rows. rows ≡ map outbox_row (enumerate_from from (map (row_for r) out))) }
+    ensures { (before : finite.FinMap nat_cmp Row) (r : Recall) (out : List (ℕ × List ℕ))
+        → state.now.engagement.outbox ≡ numbered before from r out
+        → state.now.engagement.next_message ≡ from + length out
+        → IfOk result (λ rows. rows ≡ map outbox_row (enumerate_from from (map (row_for r) out))) }
 {
     let mut rows = Vec::new(alloc);
     for number in from..state.next_message() {
@@ -107,7 +110,8 @@ pub fn own_rows_at(
     state: &SiteState,
     number: u64,
 ) -> Result<Sequence<RecallRow>, AllocError>
-    ensures { (own : Own) → finite.get state.now.engagement.own number ≡ Some own → IfOk result (λ rows. rows ≡ recall_row (number, own) ∷ []) }
+    ensures { (own : Own) → finite.get state.now.engagement.own number ≡ Some own
+        → IfOk result (λ rows. rows ≡ recall_row (number, own) ∷ []) }
 {
     let mut rows = Vec::new(alloc);
     if let Some(own) = tables::get(state.own_recalls(), number) {
@@ -133,7 +137,8 @@ pub fn ended_rows_at(
     state: &SiteState,
     number: u64,
 ) -> Result<Sequence<RecallRow>, AllocError>
-    ensures { (own : Own) → finite.get state.now.engagement.own number ≡ Some own → IfOk result (λ rows. rows ≡ recall_row (number, with_end own) ∷ []) }
+    ensures { (own : Own) → finite.get state.now.engagement.own number ≡ Some own
+        → IfOk result (λ rows. rows ≡ recall_row (number, with_end own) ∷ []) }
 {
     let mut rows = Vec::new(alloc);
     if let Some(own) = tables::get(state.own_recalls(), number) {
@@ -157,7 +162,11 @@ pub fn recall_keys_at(
     state: &SiteState,
     number: u64,
 ) -> Result<Sequence<RecallKey>, AllocError>
-    ensures { (row : Row) → finite.get state.now.engagement.outbox number ≡ Some row → IfOk result (λ keys. keys ≡ record { site = pos row.recall.site; number = pos row.recall.number } ∷ []) }
+    ensures { (row : Row) → finite.get state.now.engagement.outbox number ≡ Some row
+        → IfOk result (λ keys. keys ≡ record {
+          site = pos row.recall.site;
+          number = pos row.recall.number;
+        } ∷ []) }
 {
     let mut keys = Vec::new(alloc);
     if let Some(row) = tables::get(state.outbox(), number) {
@@ -181,7 +190,8 @@ pub fn numbers_of(state: &SiteState) -> Result<Numbers, AllocError>
 
 /// The numbers that a site gives next, where its next message had this number and it numbered messages since.
 pub fn numbers_changed(next: u64, new: &SiteState) -> Result<Option<Numbers>, AllocError>
-    ensures { (old : Engagement) → next ≡ old.next_message → IfOk result (λ numbers. numbers ≡ numbers_changed old new.now.engagement) }
+    ensures { (old : Engagement) → next ≡ old.next_message
+        → IfOk result (λ numbers. numbers ≡ numbers_changed old new.now.engagement) }
 {
     if next < new.next_message() {
         Ok(Some(numbers_of(new)?))

@@ -145,7 +145,8 @@ fn push_sites(
     sites: &Sites,
     to: &[SiteNo],
 ) -> Result<(), AllocError>
-    ensures { OnOk result (rows.new.items ≡ rows.old.items ++ part_rows event 1 (map (name_of sites.now) to.now)) }
+    ensures { OnOk result (rows.new.items ≡ rows.old.items ++ part_rows event 1
+        (map (name_of sites.now) to.now)) }
 {
     for (place, site) in to.iter().enumerate() {
         let name = name_of(alloc, sites, *site)?;

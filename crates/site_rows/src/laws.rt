@@ -16,8 +16,8 @@ pub fn the_first_version_has_no_packs()
     ensures { FirstVersionHasNoPacks }
 {}
 
-/// No row of a record that a site may keep is a bad one where it stands in a table of the version, so `state_of` refuses none
-/// of them.
+/// No row of a record that a site may keep is a bad one where it stands in a table of the version, so `state_of`
+/// refuses none of them.
 pub fn rows_of_a_record_are_good()
     ensures { RowsOfRecordsAreGood }
 {}
@@ -27,8 +27,8 @@ pub fn rows_stand_for_the_record()
     ensures { RowsStandForTheRecord }
 {}
 
-/// A signal leaves a record that a site may keep as one, with the texts of items and sites: messages go, and own recalls
-/// end.
+/// A signal leaves a record that a site may keep as one, with the texts of items and sites: messages go, and own
+/// recalls end.
 pub fn signals_keep_items()
     ensures { SignalsKeepItems }
 {

@@ -66,7 +66,9 @@ pub fn state_of(alloc: Global, keys: RandomState, rows: &Rows) -> Result<SiteSta
     ensures bad { IfErr result (λ fault. IsStateFault rows.now fault) }
     ensures kept { IfOk result (λ state. IsKept state) }
     ensures items { IfOk result (λ state. HoldsItems state) }
-    ensures same { HasTables rows.now → (s : Record) → IsKept s → HoldsItems s → rows_under rows.now.version s ≡ rows.now → MatchResult result (λ state. state ≡ s) (λ fault. fault ≡ NoMemory) }
+    ensures same { HasTables rows.now → (s : Record) → IsKept s → HoldsItems s
+        → rows_under rows.now.version s ≡ rows.now
+        → MatchResult result (λ state. state ≡ s) (λ fault. fault ≡ NoMemory) }
 {
     read_state(alloc, keys, rows)
 }
@@ -106,9 +108,11 @@ fn in_table(table: Table, fault: TableFault) -> StateFault
 fn sites_of(alloc: Global, rows: &Rows) -> Result<Sites, StateFault>
     requires good { HaveNoBadRow rows.now (Table.Store ∷ []) }
     ensures site { IfOk result (λ sites. rows.now.site ≡ map site_row (enumerate_from 0 sites)) }
-    ensures address { IfOk result (λ sites. rows.now.address ≡ map address_row (entries (addresses_of sites))) }
+    ensures address { IfOk result (λ sites. rows.now.address
+        ≡ map address_row (entries (addresses_of sites))) }
     ensures texts { IfOk result (λ sites. All HasTexts sites) }
-    ensures good { IfOk result (λ _. HasNoBadRow rows.now Table.Site × HasNoBadRow rows.now Table.Address) }
+    ensures good { IfOk result (λ _. HasNoBadRow rows.now Table.Site
+        × HasNoBadRow rows.now Table.Address) }
     ensures bad { IfErr result (λ fault. IsStateFault rows.now fault) }
 {
     let names = match names_of(alloc, rows.site.as_slice()) {
@@ -135,11 +139,15 @@ fn events_of(
     requires good { HaveNoBadRow rows.now (Table.Store ∷ Table.Site ∷ Table.Address ∷ []) }
     ensures me { IfOk result (λ c. c.me ≡ me) }
     ensures event { IfOk result (λ c. rows.now.event ≡ map event_row (enumerate_from 1 c.events)) }
-    ensures part { IfOk result (λ c. rows.now.part ≡ flat_map (parts_of sites.now) (enumerate_from 1 c.events)) }
-    ensures pack { IfOk result (λ c. rows.now.pack ≡ flat_map packs_of (enumerate_from 1 c.events)) }
-    ensures packed { IfOk result (λ c. rows.now.packed ≡ flat_map children_of (enumerate_from 1 c.events)) }
+    ensures part { IfOk result (λ c. rows.now.part ≡ flat_map (parts_of sites.now)
+        (enumerate_from 1 c.events)) }
+    ensures pack { IfOk result (λ c. rows.now.pack
+        ≡ flat_map packs_of (enumerate_from 1 c.events)) }
+    ensures packed { IfOk result (λ c. rows.now.packed ≡ flat_map children_of
+        (enumerate_from 1 c.events)) }
     ensures among { IfOk result (λ c. All (IsEventAmong (length sites.now)) c.events) }
-    ensures good { IfOk result (λ _. HaveNoBadRow rows.now (Table.Event ∷ Table.Part ∷ Table.Pack ∷ Table.Packed ∷ [])) }
+    ensures good { IfOk result (λ _. HaveNoBadRow rows.now
+        (Table.Event ∷ Table.Part ∷ Table.Pack ∷ Table.Packed ∷ [])) }
     ensures bad { IfErr result (λ fault. IsStateFault rows.now fault) }
 {
     if let Err(fault) = check_events(rows.version.kinds(), rows.event.as_slice()) {
@@ -171,8 +179,11 @@ fn diffusion_of(
     requires count { sites ≡ length rows.now.site }
     requires next_message { IsNextNumber numbers.next_message }
     requires next_recall { IsNextNumber numbers.next_recall }
-    requires good { HaveNoBadRow rows.now (Table.Store ∷ Table.Site ∷ Table.Address ∷ Table.Event ∷ Table.Part ∷ Table.Pack ∷ Table.Packed ∷ Table.Quarantine ∷ []) }
-    ensures numbers { IfOk result (λ d. (d.me ≡ numbers.me) × (d.next_message ≡ numbers.next_message) × (d.next_recall ≡ numbers.next_recall)) }
+    requires good { HaveNoBadRow rows.now
+        (Table.Store ∷ Table.Site ∷ Table.Address ∷ Table.Event ∷ Table.Part ∷ Table.Pack
+        ∷ Table.Packed ∷ Table.Quarantine ∷ []) }
+    ensures numbers { IfOk result (λ d. (d.me ≡ numbers.me)
+        × (d.next_message ≡ numbers.next_message) × (d.next_recall ≡ numbers.next_recall)) }
     ensures outbox { IfOk result (λ d. rows.now.outbox ≡ map outbox_row (entries d.outbox)) }
     ensures seen { IfOk result (λ d. rows.now.seen ≡ map seen_row (entries d.seen)) }
     ensures parent { IfOk result (λ d. rows.now.parent ≡ map parent_row (entries d.parents)) }

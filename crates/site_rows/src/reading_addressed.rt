@@ -29,7 +29,8 @@ pub(crate) fn addressed(
     rows: &[AddressRow],
 ) -> Result<Sites, TableFault>
     ensures names { IfOk result (λ sites. map (λ s. s.name) sites ≡ map (λ s. s.name) names.now) }
-    ensures addresses { IfOk result (λ sites. rows.now ≡ map address_row (entries (addresses_of sites))) }
+    ensures addresses { IfOk result (λ sites.
+        rows.now ≡ map address_row (entries (addresses_of sites))) }
     ensures in_order { IfOk result AreSites }
     ensures texts { IfOk result (λ sites. All HasTexts sites) }
     ensures bad { IfErr result (λ fault. IsAddressFault (length names.now) rows.now fault) }
@@ -66,8 +67,10 @@ fn add_site(
     sites: &mut Sites,
 ) -> Result<(), AllocError>
     requires table { (sites : ℕ) × IsAddressTable sites rows.now }
-    requires free { (texts : List (List ℕ)) → AreTextsOf rows.now number texts → sites_fault sites.old name.now texts ≡ None }
-    ensures { OnOk result ((texts : List (List ℕ)) × AreTextsOf rows.now number texts × (sites.new ≡ sites.old ++ record { name = name.now; addresses = texts } ∷ [])) }
+    requires free { (texts : List (List ℕ)) → AreTextsOf rows.now number texts
+        → sites_fault sites.old name.now texts ≡ None }
+    ensures { OnOk result ((texts : List (List ℕ)) × AreTextsOf rows.now number texts
+        × (sites.new ≡ sites.old ++ record { name = name.now; addresses = texts } ∷ [])) }
 {
     let texts = texts_of(alloc, rows, number)?;
     match sites.add(name, texts.as_slice()) {

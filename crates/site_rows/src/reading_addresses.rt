@@ -19,8 +19,9 @@ const ADDRESSES: i64 = MAX_ADDRESSES as i64;
 /// Tests that the rows are those of addresses of so many sites. Does not allocate.
 ///
 /// # Errors
-/// The first row that is no address's: its text isn't plain and UTF-8 or doesn't come after the text before it, its site
-/// isn't one of these, its place is not 0 to 15, an earlier row is of the same place, or no row is of the place before it.
+/// The first row that is no address's: its text isn't plain and UTF-8 or doesn't come after the text before it, its
+/// site isn't one of these, its place is not 0 to 15, an earlier row is of the same place, or no row is of the place
+/// before it.
 pub(crate) fn check_addresses(sites: u64, rows: &[AddressRow]) -> Result<(), TableFault>
     requires few { sites ≤ MAX_SITES }
     ensures good { OnOk result (IsAddressTable sites rows.now) }
@@ -55,7 +56,8 @@ fn is_address(sites: u64, rows: &[AddressRow], place: usize, row: &AddressRow) -
 /// Whether the place of a row is the first one, or a row is of the place before it.
 fn has_place_before(rows: &[AddressRow], row: &AddressRow) -> bool
     requires placed { (p : ℕ) × IsPlace row.now.place p }
-    ensures { IsTrue result ↔ ((row.now.place ≡ pos 0) ⊎ Stands rows.now row.now.site (row.now.place -ℤ pos 1)) }
+    ensures { IsTrue result ↔ ((row.now.place ≡ pos 0)
+        ⊎ Stands rows.now row.now.site (row.now.place -ℤ pos 1)) }
 {
     row.place == 0 || stands(rows, row.site, row.place - 1)
 }
@@ -77,7 +79,8 @@ fn stands(rows: &[AddressRow], site: i64, place: i64) -> bool
 
 /// Whether the text of a row comes after that of the row before it.
 fn follows(rows: &[AddressRow], place: usize, row: &AddressRow) -> bool
-    ensures { IsTrue result ↔ ((j : ℕ) (before : _) → j + 1 ≡ place → slice_get rows.now j ≡ Some before → text_cmp before.text row.now.text ≡ Less) }
+    ensures { IsTrue result ↔ ((j : ℕ) (before : _) → j + 1 ≡ place
+        → slice_get rows.now j ≡ Some before → text_cmp before.text row.now.text ≡ Less) }
 {
     if place == 0 {
         return true;

@@ -22,7 +22,8 @@ pub(crate) fn note_at(
     event: u64,
 ) -> Result<Body, AllocError>
     requires within { at.old ≤ length rows.now }
-    ensures { IfOk result (λ body. IsBodyRead sites.now event (pos 0) None rows.now at.old at.new body) }
+    ensures { IfOk result (λ body. IsBodyRead sites.now event (pos 0) None rows.now at.old at.new
+        body) }
 {
     let items: Sequence<Epc> = list_at(alloc, sites, rows, at, list(event, ITEM, MEMBERS))?;
     Ok(Body::Note { items })
@@ -37,7 +38,8 @@ pub(crate) fn ship_at(
     event: u64,
 ) -> Result<Option<Body>, AllocError>
     requires within { at.old ≤ length rows.now }
-    ensures { IfOk result (λ body. IsBodyAnswer sites.now event (pos 1) None rows.now at.old at.new body) }
+    ensures { IfOk result (λ body. IsBodyAnswer sites.now event (pos 1) None rows.now at.old at.new
+        body) }
 {
     let items: Sequence<Epc> = list_at(alloc, sites, rows, at, list(event, ITEM, MEMBERS))?;
     let to: Sequence<SiteNo> = list_at(alloc, sites, rows, at, list(event, SITE, MEMBERS))?;
@@ -53,8 +55,8 @@ pub(crate) fn ship_at(
     }))
 }
 
-/// The items that were made in an event, and from what; `None` where it has no transformationID and lacks an input or an
-/// output.
+/// The items that were made in an event, and from what; `None` where it has no transformationID and lacks an input or
+/// an output.
 pub(crate) fn make_at(
     alloc: Global,
     sites: &Sites,
@@ -65,7 +67,8 @@ pub(crate) fn make_at(
 ) -> Result<Option<Body>, AllocError>
     requires within { at.old ≤ length rows.now }
     requires plain { IsIdentifier id }
-    ensures { IfOk result (λ body. IsBodyAnswer sites.now event (pos 2) id rows.now at.old at.new body) }
+    ensures { IfOk result (λ body. IsBodyAnswer sites.now event
+        (pos 2) id rows.now at.old at.new body) }
 {
     let ins: Sequence<Epc> = list_at(alloc, sites, rows, at, list(event, INPUT, MEMBERS))?;
     if id.is_none() && ins.is_empty() {

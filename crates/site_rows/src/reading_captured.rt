@@ -43,8 +43,8 @@ const PACK: i64 = 3;
 /// numbered. All three tables are gone through with the events; a fault of one is told where those before it have none.
 ///
 /// # Errors
-/// The first row with which the rows of the first such table are no longer those of these events, or the place behind the
-/// last row where one is missing; and out of memory.
+/// The first row with which the rows of the first such table are no longer those of these events, or the place behind
+/// the last row where one is missing; and out of memory.
 pub(crate) fn captured_of(
     alloc: Global,
     keys: RandomState,
@@ -58,11 +58,14 @@ pub(crate) fn captured_of(
     requires table { (kinds : ℕ) × (kinds ≤ 4) × IsEventTable kinds events.now }
     ensures me { IfOk result (λ c. c.me ≡ me) }
     ensures events { IfOk result (λ c. events.now ≡ map event_row (enumerate_from 1 c.events)) }
-    ensures parts { IfOk result (λ c. parts.now ≡ flat_map (parts_of sites.now) (enumerate_from 1 c.events)) }
+    ensures parts { IfOk result (λ c. parts.now ≡ flat_map (parts_of sites.now)
+        (enumerate_from 1 c.events)) }
     ensures packs { IfOk result (λ c. packs.now ≡ flat_map packs_of (enumerate_from 1 c.events)) }
-    ensures packed { IfOk result (λ c. packed.now ≡ flat_map children_of (enumerate_from 1 c.events)) }
+    ensures packed { IfOk result (λ c.
+        packed.now ≡ flat_map children_of (enumerate_from 1 c.events)) }
     ensures among { IfOk result (λ c. All (IsEventAmong (length sites.now)) c.events) }
-    ensures bad { IfErr result (λ fault. IsFaultOfLists sites.now events.now parts.now packs.now packed.now fault) }
+    ensures bad { IfErr result (λ fault.
+        IsFaultOfLists sites.now events.now parts.now packs.now packed.now fault) }
 {
     let mut captured = Captured::new(alloc, keys, me);
     let mut read = ListsRead {
@@ -119,9 +122,17 @@ fn event_at(
     requires room { place + 1 < 2 ^ 64 }
     requires event { (kinds : ℕ) × (kinds ≤ 4) × IsEvent kinds place row.now }
     ensures row { IfOk result (λ event. IfSome event (λ e. row.now ≡ event_row (place + 1, e))) }
-    ensures part { IfOk result (λ event. IsBodyAnswer sites.now (place + 1) row.now.kind row.now.make_id parts.now read.old.part read.new.part (option_map (λ e. e.body) event)) }
-    ensures pack { IfOk result (λ event. IfSome event (λ e. ArePacksRead (length sites.now) (place + 1) row.now.kind row.now.make_id packs.now read.old.pack.at read.new.pack.at read.old.pack.is_bad read.new.pack.is_bad e.body)) }
-    ensures packed { IfOk result (λ event. IfSome event (λ e. IsReadBy packed_event packed_rows (length sites.now) (place + 1) row.now.kind row.now.make_id packed.now read.old.packed read.new.packed e.body)) }
+    ensures part { IfOk result (λ event.
+        IsBodyAnswer sites.now (place + 1) row.now.kind row.now.make_id parts.now read.old.part
+        read.new.part (option_map (λ e. e.body) event)) }
+    ensures pack { IfOk result (λ event.
+        IfSome event (λ e. ArePacksRead (length sites.now) (place + 1) row.now.kind row.now.make_id
+        packs.now read.old.pack.at read.new.pack.at read.old.pack.is_bad read.new.pack.is_bad
+        e.body)) }
+    ensures packed { IfOk result (λ event.
+        IfSome event (λ e. IsReadBy packed_event packed_rows (length sites.now)
+        (place + 1) row.now.kind row.now.make_id packed.now read.old.packed read.new.packed
+        e.body)) }
 {
     let id = identifier(alloc, &row.id)?;
     let instant = instant_of(row.seconds, row.nanos);
@@ -158,7 +169,8 @@ fn body_at(
     requires kind { (n : ℕ) × IsBelow 3 row.now.kind n }
     requires make_id { IsTextOrNone row.now.make_id }
     requires of_make { (row.now.kind ≡ pos 2) ⊎ (row.now.make_id ≡ None) }
-    ensures { IfOk result (λ body. IsBodyAnswer sites.now event row.now.kind row.now.make_id parts.now at.old at.new body) }
+    ensures { IfOk result (λ body. IsBodyAnswer sites.now event row.now.kind row.now.make_id
+        parts.now at.old at.new body) }
 {
     match row.kind {
         0 => Ok(Some(note_at(alloc, sites, parts, at, event)?)),

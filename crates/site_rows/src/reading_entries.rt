@@ -46,7 +46,8 @@ pub(crate) trait EntryRow<K: Key, V: Drop> {
         entries: &mut BTreeMap<K, V>,
     ) -> Result<bool, AllocError>
         requires few { sites ≤ MAX_SITES }
-        ensures { IfOk result (λ added. IsAdded K.cmp (is sites self.now) entries.old.entries entries.new.entries added) };
+        ensures { IfOk result (λ added. IsAdded K.cmp (is sites self.now) entries.old.entries
+            entries.new.entries added) };
 }
 
 /// The map whose entries the rows are, by key.
@@ -79,7 +80,8 @@ pub(crate) fn append<K: Key, V: Drop>(
     key: K,
     value: V,
 ) -> Result<bool, AllocError>
-    ensures { IfOk result (λ added. IsAppended K.cmp entries.old.entries (key, value) entries.new.entries added) }
+    ensures { IfOk result (λ added. IsAppended K.cmp entries.old.entries
+        (key, value) entries.new.entries added) }
 {
     if !is_after(entries, key) {
         return Ok(false);

@@ -55,7 +55,8 @@ fn add_held(
     quarantine: &mut Quarantine,
 ) -> Result<bool, AllocError>
     requires few { sites ≤ MAX_SITES }
-    ensures { IfOk result (λ added. IsAdded held_cmp (IsHeldEntry sites row.now) (all_held quarantine.old) (all_held quarantine.new) added) }
+    ensures { IfOk result (λ added. IsAdded held_cmp (IsHeldEntry sites row.now)
+        (all_held quarantine.old) (all_held quarantine.new) added) }
 {
     let Some(held) = held_row(alloc, sites, row)? else {
         return Ok(false);
@@ -85,7 +86,8 @@ fn held_row(
 
 /// Quarantines an item that comes after all others, and returns whether it does.
 fn hold_last(quarantine: &mut Quarantine, recall: RecallId, item: Epc) -> Result<bool, AllocError>
-    ensures { IfOk result (λ added. IsAppended held_cmp (all_held quarantine.old) (held_of recall item) (all_held quarantine.new) added) }
+    ensures { IfOk result (λ added. IsAppended held_cmp (all_held quarantine.old)
+        (held_of recall item) (all_held quarantine.new) added) }
 {
     // The recalls show the proof that none of them is without items.
     let _recalls = quarantine.by_recall().len();
@@ -98,7 +100,8 @@ fn hold_last(quarantine: &mut Quarantine, recall: RecallId, item: Epc) -> Result
 
 /// Whether an item comes after all that are quarantined.
 fn comes_last(quarantine: &Quarantine, recall: RecallId, item: &Epc) -> bool
-    ensures { IsTrue result ↔ T (is_sorted held_cmp (all_held quarantine.now ++ held_of recall item.now ∷ [])) }
+    ensures { IsTrue result ↔ T (is_sorted held_cmp
+        (all_held quarantine.now ++ held_of recall item.now ∷ [])) }
 {
     match last_held(quarantine) {
         Some(last) => last.0.cmp(&recall).then(last.1.cmp(item)) == Ordering::Less,

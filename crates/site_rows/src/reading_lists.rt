@@ -26,7 +26,8 @@ pub(crate) trait Member: Drop + Sized {
 
     /// The member that a text stands for, where there is one.
     fn read(alloc: Global, sites: &Sites, text: &Text) -> Result<Option<Self>, AllocError>
-        ensures { IfOk result (λ member. Tells member (IsWritten (is sites.now) (written sites.now) text.now)) };
+        ensures { IfOk result (λ member. Tells member
+            (IsWritten (is sites.now) (written sites.now) text.now)) };
 }
 
 impl Member for Epc {
@@ -97,7 +98,8 @@ pub(crate) trait ListRow {
 
     /// Whether it is that of a place of a list.
     fn is_at(&self, list: ListKey, place: u64) -> bool
-        ensures { IsTrue result ↔ (self.now ≡ row_of list.event list.role (place, text_of self.now)) };
+        ensures { IsTrue result ↔ (self.now ≡ row_of list.event list.role
+            (place, text_of self.now)) };
 
     /// Its text.
     fn text(&self) -> &Text
@@ -153,7 +155,8 @@ pub(crate) fn list_at<M: Member, R: ListRow>(
     list: ListKey,
 ) -> Result<Sequence<M>, AllocError>
     requires within { at.old ≤ length rows.now }
-    ensures { IfOk result (λ members. IsListBy (R.row_of list.event list.role) (M.is sites.now) (M.written sites.now) list.most rows.now at.old at.new members) }
+    ensures { IfOk result (λ members. IsListBy (R.row_of list.event list.role) (M.is sites.now)
+        (M.written sites.now) list.most rows.now at.old at.new members) }
 {
     let mut members = Vec::new(alloc);
     for place in 0..list.most {
@@ -186,7 +189,8 @@ fn member_at<M: Member, R: ListRow>(
     list: ListKey,
     place: u64,
 ) -> Result<Option<M>, AllocError>
-    ensures { IfOk result (λ member. Tells member (IsMemberBy (R.row_of list.event list.role) (M.is sites.now) (M.written sites.now) place (slice_get rows.now at))) }
+    ensures { IfOk result (λ member. Tells member (IsMemberBy (R.row_of list.event list.role)
+        (M.is sites.now) (M.written sites.now) place (slice_get rows.now at))) }
 {
     let Some(row) = rows.get(at) else {
         return Ok(None);

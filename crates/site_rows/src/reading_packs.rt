@@ -38,8 +38,8 @@ pub(crate) struct Head {
     pub(crate) parent: Option<Epc>,
 }
 
-/// The pack of this number, from the rows that stand next. Where its row of `pack` is bad or wanting, that is noted, and any
-/// action stands in its place.
+/// The pack of this number, from the rows that stand next. Where its row of `pack` is bad or wanting, that is noted,
+/// and any action stands in its place.
 pub(crate) fn pack_at(
     alloc: Global,
     sites: &Sites,
@@ -51,9 +51,12 @@ pub(crate) fn pack_at(
 ) -> Result<Body, AllocError>
     requires packs { read.old.at ≤ length packs.now }
     requires packed { at.old ≤ length packed.now }
-    ensures part { IfOk result (λ body. (rows : List _) (place : ℕ) → place ≤ length rows → IsBodyRead sites.now event (pos 3) None rows place place body) }
-    ensures pack { IfOk result (λ body. ArePacksRead (length sites.now) event (pos 3) None packs.now read.old.at read.new.at read.old.is_bad read.new.is_bad body) }
-    ensures packed { IfOk result (λ body. IsReadBy packed_event packed_rows (length sites.now) event (pos 3) None packed.now at.old at.new body) }
+    ensures part { IfOk result (λ body. (rows : List _) (place : ℕ) → place ≤ length rows
+        → IsBodyRead sites.now event (pos 3) None rows place place body) }
+    ensures pack { IfOk result (λ body. ArePacksRead (length sites.now) event
+        (pos 3) None packs.now read.old.at read.new.at read.old.is_bad read.new.is_bad body) }
+    ensures packed { IfOk result (λ body. IsReadBy packed_event packed_rows (length sites.now) event
+        (pos 3) None packed.now at.old at.new body) }
 {
     let head = head_at(alloc, packs, read, event)?;
     let list = ListKey {
@@ -79,7 +82,10 @@ fn head_at(
 ) -> Result<Head, AllocError>
     requires within { read.old.at ≤ length rows.now }
     ensures head { IfOk result (λ head. IsHead head.action head.parent) }
-    ensures read { IfOk result (λ head. (sites : ℕ) (children : List (List ℕ)) → length children ≤ MAX_LIST_MEMBERS → All IsItemText children → ArePacksRead sites event (pos 3) None rows.now read.old.at read.new.at read.old.is_bad read.new.is_bad (Pack head.action head.parent children)) }
+    ensures read { IfOk result (λ head. (sites : ℕ) (children : List (List ℕ))
+        → length children ≤ MAX_LIST_MEMBERS → All IsItemText children
+        → ArePacksRead sites event (pos 3) None rows.now read.old.at read.new.at read.old.is_bad
+        read.new.is_bad (Pack head.action head.parent children)) }
 {
     if read.is_bad {
         return Ok(any_head());
@@ -113,7 +119,8 @@ fn head_of(
     at: usize,
     event: u64,
 ) -> Result<Option<Head>, AllocError>
-    ensures { IfOk result (λ head. Tells head (λ h. IsHeadOf event (slice_get rows.now at) h.action h.parent)) }
+    ensures { IfOk result (λ head. Tells head (λ h.
+        IsHeadOf event (slice_get rows.now at) h.action h.parent)) }
 {
     let Some(row) = rows.get(at) else {
         return Ok(None);

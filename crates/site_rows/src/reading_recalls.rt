@@ -175,7 +175,8 @@ pub(crate) fn outbox_of(
 ) -> Result<BTreeMap<u64, Row>, TableFault>
     requires few { sites ≤ MAX_SITES }
     ensures rows { IfOk result (λ m. rows.now ≡ map outbox_row (entries (as_map nat_cmp m))) }
-    ensures among { IfOk result (λ m. (n : ℕ) (row : Row) → get (as_map nat_cmp m) n ≡ Some row → IsRowAmong sites n row × IsItemText row.item) }
+    ensures among { IfOk result (λ m. (n : ℕ) (row : Row) → get (as_map nat_cmp m) n ≡ Some row
+        → IsRowAmong sites n row × IsItemText row.item) }
     ensures bad { IfErr result (λ fault. IsFaultOf (IsOutboxTable sites) rows.now fault) }
 {
     entries_of(alloc, sites, rows)
@@ -192,7 +193,8 @@ pub(crate) fn seen_of(
 ) -> Result<BTreeMap<MsgId, RecallId>, TableFault>
     requires few { sites ≤ MAX_SITES }
     ensures rows { IfOk result (λ m. rows.now ≡ map seen_row (entries (as_map message_cmp m))) }
-    ensures among { IfOk result (λ t. (m : Message) (r : Recall) → get (as_map message_cmp t) m ≡ Some r → IsMessageAmong sites m × IsRecallAmong sites r) }
+    ensures among { IfOk result (λ t. (m : Message) (r : Recall)
+        → get (as_map message_cmp t) m ≡ Some r → IsMessageAmong sites m × IsRecallAmong sites r) }
     ensures bad { IfErr result (λ fault. IsFaultOf (IsSeenTable sites) rows.now fault) }
 {
     entries_of(alloc, sites, rows)
@@ -209,7 +211,8 @@ pub(crate) fn parents_of(
 ) -> Result<BTreeMap<RecallId, MsgId>, TableFault>
     requires few { sites ≤ MAX_SITES }
     ensures rows { IfOk result (λ m. rows.now ≡ map parent_row (entries (as_map recall_cmp m))) }
-    ensures among { IfOk result (λ t. (r : Recall) (m : Message) → get (as_map recall_cmp t) r ≡ Some m → IsRecallAmong sites r × IsMessageAmong sites m) }
+    ensures among { IfOk result (λ t. (r : Recall) (m : Message)
+        → get (as_map recall_cmp t) r ≡ Some m → IsRecallAmong sites r × IsMessageAmong sites m) }
     ensures bad { IfErr result (λ fault. IsFaultOf (IsParentTable sites) rows.now fault) }
 {
     entries_of(alloc, sites, rows)
@@ -221,7 +224,8 @@ pub(crate) fn parents_of(
 /// The first row that is no such entry's, or whose key doesn't come after the key before it; and out of memory.
 pub(crate) fn own_of(alloc: Global, rows: &[RecallRow]) -> Result<BTreeMap<u64, Own>, TableFault>
     ensures rows { IfOk result (λ m. rows.now ≡ map recall_row (entries (as_map nat_cmp m))) }
-    ensures among { IfOk result (λ m. (n : ℕ) (own : Own) → get (as_map nat_cmp m) n ≡ Some own → IsNumber n × IsItemText own.root) }
+    ensures among { IfOk result (λ m. (n : ℕ) (own : Own) → get (as_map nat_cmp m) n ≡ Some own
+        → IsNumber n × IsItemText own.root) }
     ensures bad { IfErr result (λ fault. IsFaultOf IsRecallTable rows.now fault) }
 {
     entries_of(alloc, 0, rows)

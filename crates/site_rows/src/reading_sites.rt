@@ -36,7 +36,8 @@ pub(crate) fn store_of(
     rows: &[StoreRow],
 ) -> Result<StoreNumbers, TableFault>
     ensures read { IfOk result (λ numbers. IsStore version sites.now rows.now numbers) }
-    ensures bad { IfErr result (λ fault. IsFaultOf (IsStoreTable version sites.now) rows.now fault) }
+    ensures bad { IfErr result (λ fault.
+        IsFaultOf (IsStoreTable version sites.now) rows.now fault) }
 {
     let Some(row) = rows.first() else {
         return Err(TableFault::BadRow(1));

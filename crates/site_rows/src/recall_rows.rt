@@ -99,7 +99,8 @@ pub fn seen_rows(alloc: Global, state: &SiteState) -> Result<Sequence<SeenRow>, 
 
 /// The rows of the parents, by recall.
 pub fn parent_rows(alloc: Global, state: &SiteState) -> Result<Sequence<ParentRow>, AllocError>
-    ensures { IfOk result (λ rows. rows ≡ map parent_row (finite.entries state.now.engagement.parents)) }
+    ensures { IfOk result (λ rows. rows
+        ≡ map parent_row (finite.entries state.now.engagement.parents)) }
 {
     let mut rows = Vec::new(alloc);
     for (recall, message) in state.parents() {

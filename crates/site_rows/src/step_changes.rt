@@ -23,9 +23,9 @@ use frame_core::{Frame, MsgId, RecallId};
 use site_core::{Effects, SiteInput, SiteState, StepUndo};
 use std::alloc::{AllocError, Global};
 
-/// The rows that a step changed that is no signal: what it added, and what it put in place. They are found at the record
-/// after it and at what takes the step back. The effects count them, but for the members and the packs of events. A
-/// record that can be read back from its rows leads to one that can be, too. Fails where memory runs out.
+/// The rows that a step changed that is no signal: what it added, and what it put in place. They are found at the
+/// record after it and at what takes the step back. The effects count them, but for the members and the packs of
+/// events. A record that can be read back from its rows leads to one that can be, too. Fails where memory runs out.
 pub fn changes_of(
     alloc: Global,
     input: &SiteInput,
@@ -56,7 +56,8 @@ pub fn signal_changes_of(
     message: MsgId,
     effects: &Effects,
 ) -> Result<RowChanges, AllocError>
-    ensures { (by : ℕ) (new : Record) → Does old.now (SiteInput.Deliver (frames.Signal message by)) effects.now new → IfOk result (λ changes. AreChangesOf changes effects.now old.now new) }
+    ensures { (by : ℕ) (new : Record) → Does old.now (SiteInput.Deliver (frames.Signal message by))
+        effects.now new → IfOk result (λ changes. AreChangesOf changes effects.now old.now new) }
 {
     signalled_changes(alloc, old, message.number, effects)
 }
@@ -118,7 +119,9 @@ fn started_changes(
     undo: &StepUndo,
     new: &SiteState,
 ) -> Result<RowChanges, AllocError>
-    ensures { (old : Record) (root : List ℕ) → Does old (SiteInput.Start root) effects.now new.now → IsUndoOf undo.now old (SiteInput.Start root) → IfOk result (λ changes. AreChangesOf changes effects.now old new.now) }
+    ensures { (old : Record) (root : List ℕ) → Does old (SiteInput.Start root) effects.now new.now
+        → IsUndoOf undo.now old (SiteInput.Start root)
+        → IfOk result (λ changes. AreChangesOf changes effects.now old new.now) }
 {
     match effects {
         Effects::Started { recall, .. } => begun_changes(alloc, *recall, undo, new),
@@ -133,7 +136,11 @@ fn begun_changes(
     undo: &StepUndo,
     new: &SiteState,
 ) -> Result<RowChanges, AllocError>
-    ensures { (old : Record) (root : List ℕ) (quarantined numbered : ℕ) (ended : Bool) → Starts old root recall quarantined numbered ended new.now → IsUndoOf undo.now old (SiteInput.Start root) → IfOk result (λ changes. AreChangesOf changes (effects.Started recall quarantined numbered ended) old new.now) }
+    ensures { (old : Record) (root : List ℕ) (quarantined numbered : ℕ) (ended : Bool)
+        → Starts old root recall quarantined numbered ended new.now
+        → IsUndoOf undo.now old (SiteInput.Start root)
+        → IfOk result (λ changes. AreChangesOf changes
+        (effects.Started recall quarantined numbered ended) old new.now) }
 {
     let numbers = numbers_of(new)?;
     let quarantine = rows_held(alloc, recall, &undo.held)?;
@@ -194,7 +201,10 @@ fn taken_changes(
     undo: &StepUndo,
     new: &SiteState,
 ) -> Result<RowChanges, AllocError>
-    ensures { (old : Record) (dest : ℕ) (item : List ℕ) → Does old (SiteInput.Deliver (frames.Recall message dest recall item)) effects.now new.now → IsUndoOf undo.now old (SiteInput.Deliver (frames.Recall message dest recall item)) → IfOk result (λ changes. AreChangesOf changes effects.now old new.now) }
+    ensures { (old : Record) (dest : ℕ) (item : List ℕ)
+        → Does old (SiteInput.Deliver (frames.Recall message dest recall item)) effects.now new.now
+        → IsUndoOf undo.now old (SiteInput.Deliver (frames.Recall message dest recall item))
+        → IfOk result (λ changes. AreChangesOf changes effects.now old new.now) }
 {
     match effects {
         Effects::Received { owed, .. } => {
@@ -213,7 +223,11 @@ fn received_changes(
     undo: &StepUndo,
     new: &SiteState,
 ) -> Result<RowChanges, AllocError>
-    ensures { (old : Record) (dest : ℕ) (item : List ℕ) (quarantined numbered : ℕ) → Takes old message dest recall item quarantined numbered owed new.now → IsUndoOf undo.now old (SiteInput.Deliver (frames.Recall message dest recall item)) → IfOk result (λ changes. AreChangesOf changes (effects.Received quarantined numbered owed) old new.now) }
+    ensures { (old : Record) (dest : ℕ) (item : List ℕ) (quarantined numbered : ℕ)
+        → Takes old message dest recall item quarantined numbered owed new.now
+        → IsUndoOf undo.now old (SiteInput.Deliver (frames.Recall message dest recall item))
+        → IfOk result (λ changes. AreChangesOf changes (effects.Received quarantined numbered owed)
+        old new.now) }
 {
     let numbers = numbers_changed(undo.next_message, new)?;
     let quarantine = rows_held(alloc, recall, &undo.held)?;
@@ -243,7 +257,9 @@ fn signalled_changes(
     number: u64,
     effects: &Effects,
 ) -> Result<RowChanges, AllocError>
-    ensures { (m : Message) (by : ℕ) (new : Record) → m.number ≡ number → Does old.now (SiteInput.Deliver (frames.Signal m by)) effects.now new → IfOk result (λ changes. AreChangesOf changes effects.now old.now new) }
+    ensures { (m : Message) (by : ℕ) (new : Record) → m.number ≡ number
+        → Does old.now (SiteInput.Deliver (frames.Signal m by)) effects.now new
+        → IfOk result (λ changes. AreChangesOf changes effects.now old.now new) }
 {
     match effects {
         Effects::Cleared => {
@@ -268,7 +284,11 @@ fn cleared_changes(
     left: Sequence<RecallKey>,
     recall: Sequence<RecallRow>,
 ) -> Result<RowChanges, AllocError>
-    ensures { IfOk result (λ changes. changes ≡ record no_changes { signalled = pos number ∷ []; left = left; recall = recall }) }
+    ensures { IfOk result (λ changes. changes ≡ record no_changes {
+      signalled = pos number ∷ [];
+      left = left;
+      recall = recall;
+    }) }
 {
     let signalled = message_keys(alloc, number)?;
     Ok(RowChanges {

@@ -38,8 +38,8 @@ fn records(alloc: Global, keepers: &[MemoryKeeper]) -> Result<Vec<&SiteState>, A
     Ok(records)
 }
 
-/// How many pairs are quarantined under the first recall that the site of this place began, where they are just those in
-/// reach.
+/// How many pairs are quarantined under the first recall that the site of this place began, where they are just those
+/// in reach.
 fn equal_pairs(alloc: Global, records: &[&SiteState], place: u64) -> Option<u64> {
     let site = SiteNo::of(place)?;
     if !are_all_sites(records) {

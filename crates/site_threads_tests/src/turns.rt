@@ -21,7 +21,8 @@ use wire_core::{Seat, Wire};
 
 /// The wire between two sites whose records are consistent, and a seat that holds both.
 fn between(alloc: Global, first: &SiteState, second: &SiteState) -> Result<(Wire, Seat), Fail>
-    ensures wire { IfOk result (λ r. IsSeatOf r.0 r.1 × (r.0.sites ≡ 2) × (r.1.logs ≡ logs_from 0 (first.now ∷ second.now ∷ []))) }
+    ensures wire { IfOk result (λ r. IsSeatOf r.0 r.1 × (r.0.sites ≡ 2)
+        × (r.1.logs ≡ logs_from 0 (first.now ∷ second.now ∷ []))) }
     ensures numbers { OnOk result ((first.now.engagement.me ≡ 0) × (second.now.engagement.me ≡ 1)) }
 {
     let states = [first, second];
@@ -125,8 +126,8 @@ fn exchange<K: SiteKeeper, G: Gate>(
     counts && came && !lost && !uncopied && done
 }
 
-/// A turn of the one site, and then one of the other. Whether so many frames were taken and posted in each, and none was
-/// lost or had no memory for its copy.
+/// A turn of the one site, and then one of the other. Whether so many frames were taken and posted in each, and none
+/// was lost or had no memory for its copy.
 fn both_turn<K: SiteKeeper, G: Gate>(
     one: &mut RunningSite<'_, K, G>,
     two: &mut RunningSite<'_, K, G>,

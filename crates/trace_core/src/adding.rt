@@ -44,7 +44,8 @@ pub enum Standing {
 /// Adds the fresh ones among the given events. After a fault some of them may be there.
 pub fn append_fresh(events: &mut Book, given: Vec<Event>) -> Result<Added, AddFault>
     ensures front { take (length events.old) events.new ≡ events.old }
-    ensures ok { IfOk result (λ added. adding events.old given.items ≡ Ok (record { events = events.new; fresh = added.fresh; known = added.known })) }
+    ensures ok { IfOk result (λ added. adding events.old given.items
+        ≡ Ok (record { events = events.new; fresh = added.fresh; known = added.known })) }
     ensures fault { IfErr result (λ fault. FaultOf (adding events.old given.items) fault) }
 {
     let mut added = Added { fresh: 0, known: 0 };

@@ -29,6 +29,6 @@ pub trait Adjacency {
         pair: &Pair,
         seen: &mut Seen,
     ) -> Result<Vec<Pair>, AllocError>
-        ensures { IfOk result (λ targets.
-            AreUnseen (relates self.now pair.now) (gives self.now) seen.old seen.new targets.items) };
+        ensures { IfOk result (λ targets. AreUnseen (relates self.now pair.now)
+            (gives self.now) seen.old seen.new targets.items) };
 }

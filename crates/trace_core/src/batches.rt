@@ -20,7 +20,8 @@ use std::collections::BTreeMap;
 
 /// The pairs that nodes stand for. Those of a batch ascend where they are many.
 pub fn pairs_of(alloc: Global, sites: &[&Captured], nodes: &Nodes) -> Result<Vec<Pair>, AllocError>
-    ensures { IfOk result (λ pairs. (p : Pair) → Contains pairs.items p ↔ ((n : Node) × Contains nodes.now n × Stands (sites_at sites.now) n p)) }
+    ensures { IfOk result (λ pairs. (p : Pair) → Contains pairs.items p
+        ↔ ((n : Node) × Contains nodes.now n × Stands (sites_at sites.now) n p)) }
 {
     pairs_in(alloc, sites, nodes.batches())
 }
@@ -31,7 +32,8 @@ fn pairs_in(
     sites: &[&Captured],
     batches: &BTreeMap<Batch, Marks>,
 ) -> Result<Vec<Pair>, AllocError>
-    ensures { IfOk result (λ pairs. (p : Pair) → Contains pairs.items p ↔ ((n : Node) × IsInBatch batches.now n × Stands (sites_at sites.now) n p)) }
+    ensures { IfOk result (λ pairs. (p : Pair) → Contains pairs.items p
+        ↔ ((n : Node) × IsInBatch batches.now n × Stands (sites_at sites.now) n p)) }
 {
     let mut pairs = Vec::new(alloc);
     for (batch, numbers) in batches {
@@ -48,7 +50,8 @@ fn push_batch(
     numbers: &Marks,
     pairs: &mut Vec<Pair>,
 ) -> Result<(), AllocError>
-    ensures { OnOk result ((p : Pair) → Contains pairs.new.items p ↔ (Contains pairs.old.items p ⊎ Gives (sites_at sites.now) (batch, numbers.now) p)) }
+    ensures { OnOk result ((p : Pair) → Contains pairs.new.items p
+        ↔ (Contains pairs.old.items p ⊎ Gives (sites_at sites.now) (batch, numbers.now) p)) }
 {
     if sites.len() <= batch.site {
         return Ok(());
@@ -64,7 +67,8 @@ fn push_pairs(
     items: &[&Epc],
     pairs: &mut Vec<Pair>,
 ) -> Result<(), AllocError>
-    ensures { OnOk result ((p : Pair) → Contains pairs.new.items p ↔ (Contains pairs.old.items p ⊎ IsPairOf at (items_at items.now) p)) }
+    ensures { OnOk result ((p : Pair) → Contains pairs.new.items p
+        ↔ (Contains pairs.old.items p ⊎ IsPairOf at (items_at items.now) p)) }
 {
     pairs.reserve(items.len())?;
     for item in items {
@@ -83,7 +87,8 @@ pub fn push_items(
     nodes: &Nodes,
     found: &mut Vec<Epc>,
 ) -> Result<(), AllocError>
-    ensures { OnOk result ((i : List ℕ) → Contains found.new.items i ↔ (Contains found.old.items i ⊎ HasItem book.now nodes.now i)) }
+    ensures { OnOk result ((i : List ℕ) → Contains found.new.items i
+        ↔ (Contains found.old.items i ⊎ HasItem book.now nodes.now i)) }
 {
     push_items_in(alloc, book, nodes.batches(), found)
 }
@@ -95,7 +100,9 @@ fn push_items_in(
     batches: &BTreeMap<Batch, Marks>,
     found: &mut Vec<Epc>,
 ) -> Result<(), AllocError>
-    ensures { OnOk result ((i : List ℕ) → Contains found.new.items i ↔ (Contains found.old.items i ⊎ ((n : Node) × IsInBatch batches.now n × (slice_get (numbered book.now) n.item ≡ Some i)))) }
+    ensures { OnOk result ((i : List ℕ) → Contains found.new.items i
+        ↔ (Contains found.old.items i ⊎ ((n : Node) × IsInBatch batches.now n
+        × (slice_get (numbered book.now) n.item ≡ Some i)))) }
 {
     for (_, numbers) in batches {
         let items = items_of_numbers(alloc, book, numbers)?;
@@ -106,7 +113,8 @@ fn push_items_in(
 
 /// Adds copies of items.
 fn push_copies(alloc: Global, items: &[&Epc], found: &mut Vec<Epc>) -> Result<(), AllocError>
-    ensures { OnOk result ((i : List ℕ) → Contains found.new.items i ↔ (Contains found.old.items i ⊎ Contains (items_at items.now) i)) }
+    ensures { OnOk result ((i : List ℕ) → Contains found.new.items i
+        ↔ (Contains found.old.items i ⊎ Contains (items_at items.now) i)) }
 {
     found.reserve(items.len())?;
     for item in items {

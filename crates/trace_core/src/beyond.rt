@@ -44,7 +44,8 @@ fn items_beyond(
     stop: &BTreeSet<Epc>,
     seen: &mut Seen,
 ) -> Result<Vec<Epc>, AllocError>
-    ensures { IfOk result (λ found. IsSpreadBeyond site.now item.now stop.now seen.old seen.new found.items) }
+    ensures { IfOk result (λ found. IsSpreadBeyond site.now item.now stop.now seen.old seen.new
+        found.items) }
 {
     match site.book().number_of(item) {
         Some(number) => numbers_beyond(alloc, site, number, stop, seen),
@@ -69,8 +70,8 @@ fn numbers_beyond(
     stop: &BTreeSet<Epc>,
     seen: &mut Seen,
 ) -> Result<Vec<Epc>, AllocError>
-    ensures { IfOk result (λ found. (i : List ℕ) → slice_get (numbered site.now.events) number ≡ Some i
-        → IsSpreadBeyond site.now i stop.now seen.old seen.new found.items) }
+    ensures { IfOk result (λ found. (i : List ℕ) → slice_get (numbered site.now.events) number
+        ≡ Some i → IsSpreadBeyond site.now i stop.now seen.old seen.new found.items) }
 {
     let nodes = nodes_beyond(alloc, site, number, stop, seen)?;
     let mut found = Vec::new(alloc);
@@ -86,8 +87,8 @@ fn nodes_beyond(
     stop: &BTreeSet<Epc>,
     seen: &mut Seen,
 ) -> Result<Nodes, AllocError>
-    ensures { IfOk result (λ nodes. (i : List ℕ) → slice_get (numbered site.now.events) number ≡ Some i
-        → HasSearched site.now i stop.now seen.old seen.new nodes (length nodes)) }
+    ensures { IfOk result (λ nodes. (i : List ℕ) → slice_get (numbered site.now.events) number
+        ≡ Some i → HasSearched site.now i stop.now seen.old seen.new nodes (length nodes)) }
 {
     let mut nodes = Nodes::new(alloc);
     nodes.note(0, number, site.me(), site.book().item_count())?;

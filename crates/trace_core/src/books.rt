@@ -185,7 +185,8 @@ impl Book {
 
     /// The numbers of the known ones of some items.
     fn known_numbers(&self, items: &[Epc]) -> Result<Vec<usize>, AllocError>
-        ensures { IfOk result (λ numbers. AreNumbersOf (numbered self.now) items.now numbers.items) }
+        ensures { IfOk result (λ numbers. AreNumbersOf
+            (numbered self.now) items.now numbers.items) }
     {
         let mut numbers = Vec::new(self.alloc());
         for item in items {
@@ -219,7 +220,8 @@ impl Book {
 
     /// The places of the transformations that have an id, ascending; none where there is no id.
     pub fn parts_of(&self, id: Option<&PlainText>) -> &[usize]
-        ensures { result.now ≡ places_where (λ e. same_id (make_id e.body) (option_map (λ t. t.now) id.entry)) self.now }
+        ensures { result.now ≡ places_where (λ e.
+            same_id (make_id e.body) (option_map (λ t. t.now) id.entry)) self.now }
     {
         places_of_id(&self.index.parts, id)
     }
@@ -240,7 +242,8 @@ impl Book {
 
     /// Whether an equal event stands at one of the places.
     fn is_among(&self, places: &[usize], event: &Event) -> bool
-        ensures { result ≡ list_any (λ k. at_place (λ e. same_content e event.now) (slice_get self.now k)) places.now }
+        ensures { result ≡ list_any (λ k. at_place (λ e. same_content e event.now)
+            (slice_get self.now k)) places.now }
     {
         places.iter().any(|place| self.is_at(*place, event))
     }

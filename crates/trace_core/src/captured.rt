@@ -98,8 +98,10 @@ impl Captured {
     /// # Errors
     /// Out of memory. Nothing is changed then.
     pub fn add_event(&mut self, event: Event) -> Result<Standing, AllocError>
-        ensures standing { IfOk result (λ standing. standing ≡ standing_among self.old.events event) }
-        ensures ok { IfOk result (λ standing. self.new ≡ record self.old { events = with_fresh self.old.events event standing }) }
+        ensures standing { IfOk result (λ standing.
+            standing ≡ standing_among self.old.events event) }
+        ensures ok { IfOk result (λ standing.
+            self.new ≡ record self.old { events = with_fresh self.old.events event standing }) }
         ensures unchanged { OnErr result (self.new ≡ self.old) }
     {
         add_if_fresh(&mut self.book, event)
@@ -111,7 +113,8 @@ impl Captured {
     /// # Errors
     /// Out of memory. Nothing is changed then.
     pub fn restore_event(&mut self, event: Event) -> Result<(), AllocError>
-        ensures ok { OnOk result (self.new ≡ record self.old { events = self.old.events ++ event ∷ [] }) }
+        ensures ok { OnOk result (self.new
+            ≡ record self.old { events = self.old.events ++ event ∷ [] }) }
         ensures unchanged { OnErr result (self.new ≡ self.old) }
     {
         self.book.push(event)
@@ -154,7 +157,8 @@ impl Captured {
     /// took it in, or of one with the same transformationID (GS1 EPCIS 2.0, section 7.4).
     pub fn related(&self, item: &Epc) -> Result<Vec<Pair>, AllocError>
         ensures ascending { IfOk result (λ pairs. IsStrictlyAscending pairs.items) }
-        ensures exact { IfOk result (λ pairs. (p : Pair) → Contains pairs.items p ↔ IsRelated self.now item.now p) }
+        ensures exact { IfOk result (λ pairs. (p : Pair) → Contains pairs.items p
+            ↔ IsRelated self.now item.now p) }
     {
         let alloc = self.book.alloc();
         let pair = Pair {
@@ -188,7 +192,8 @@ impl Captured {
     /// The place that stands for the transformation of the event at a place: that of the first captured one with
     /// its transformationID, and its own where it has none. Does not allocate.
     pub fn first_part(&self, place: usize) -> Option<usize>
-        ensures { result ≡ option_map (λ e. first_of self.now.events place e.body) (slice_get self.now.events place) }
+        ensures { result ≡ option_map (λ e. first_of self.now.events place e.body)
+            (slice_get self.now.events place) }
     {
         let event = self.book.get(place)?;
         Some(first_part(&self.book, place, event.body()))
@@ -198,7 +203,8 @@ impl Captured {
     /// transformationID, ascending.
     pub fn parts_of(&self, id: &PlainText) -> Result<Vec<usize>, AllocError>
         ensures ascending { IfOk result (λ places. AllPairs (λ j k. j < k) places.items) }
-        ensures exact { IfOk result (λ places. (k : ℕ) → Contains places.items k ↔ IsPartAt self.now.events id.now k) }
+        ensures exact { IfOk result (λ places. (k : ℕ) → Contains places.items k
+            ↔ IsPartAt self.now.events id.now k) }
     {
         let alloc = self.book.alloc();
         copy_places(alloc, self.book.parts_of(Some(id)))

@@ -76,7 +76,10 @@ fn visit_at(
     looks: &mut u64,
 ) -> Result<(), AllocError>
     requires { number < length sites.now }
-    ensures gains { OnOk result ((p : Pair) → Stands (sites_at sites.now) node.now p → (s : SiteEvents) → slice_get (sites_at sites.now) number ≡ Some s → Gains (Stands (sites_at sites.now)) (IsGiven s number) (RelatesFrom s p) seen.old seen.new nodes.old nodes.new) }
+    ensures gains { OnOk result ((p : Pair) → Stands (sites_at sites.now) node.now p
+        → (s : SiteEvents) → slice_get (sites_at sites.now) number ≡ Some s
+        → Gains (Stands (sites_at sites.now)) (IsGiven s number) (RelatesFrom s p) seen.old seen.new
+        nodes.old nodes.new) }
     ensures only { OnOk result (SeesOnly number seen.old seen.new) }
     ensures looks { OnOk result (looks.old ≤ looks.new) }
 {
@@ -92,7 +95,9 @@ fn visit_at(
 /// The number that a node's item has at one of the sites, if it is known there.
 fn number_at(sites: &[&Captured], number: usize, node: &Node) -> Option<usize>
     requires { number < length sites.now }
-    ensures { (p : Pair) → Stands (sites_at sites.now) node.now p → (s : SiteEvents) → slice_get (sites_at sites.now) number ≡ Some s → result ≡ number_in (numbered s.events) p.item }
+    ensures { (p : Pair) → Stands (sites_at sites.now) node.now p → (s : SiteEvents)
+        → slice_get (sites_at sites.now) number ≡ Some s
+        → result ≡ number_in (numbered s.events) p.item }
 {
     if node.site == number {
         Some(node.item)
@@ -103,7 +108,8 @@ fn number_at(sites: &[&Captured], number: usize, node: &Node) -> Option<usize>
 
 /// A node's item.
 fn item_of<'a>(sites: &[&'a Captured], node: &Node) -> Option<&'a Epc>
-    ensures { (p : Pair) → Stands (sites_at sites.now) node.now p ↔ ((option_map (λ i. i.now) result ≡ Some p.item) × (p.site ≡ node.now.at)) }
+    ensures { (p : Pair) → Stands (sites_at sites.now) node.now p
+        ↔ ((option_map (λ i. i.now) result ≡ Some p.item) × (p.site ≡ node.now.at)) }
 {
     if node.site < sites.len() {
         sites[node.site].book().item(node.item)
@@ -118,7 +124,8 @@ fn item_of<'a>(sites: &[&'a Captured], node: &Node) -> Option<&'a Epc>
 /// further.
 pub fn reach(alloc: Global, sites: &[&Captured], root: &Pair) -> Result<Vec<Pair>, AllocError>
     ensures ascending { IfOk result (λ pairs. IsStrictlyAscending pairs.items) }
-    ensures reached { IfOk result (λ pairs. (p : Pair) → Contains pairs.items p ↔ Reaches (Related (sites_at sites.now)) root.now p) }
+    ensures reached { IfOk result (λ pairs. (p : Pair) → Contains pairs.items p
+        ↔ Reaches (Related (sites_at sites.now)) root.now p) }
 {
     let mut looks = 0;
     let starts = nodes_of(alloc, sites, root)?;
@@ -132,7 +139,8 @@ pub fn reach(alloc: Global, sites: &[&Captured], root: &Pair) -> Result<Vec<Pair
 
 /// The nodes that stand for a pair: one for each site that knows its item.
 fn nodes_of(alloc: Global, sites: &[&Captured], pair: &Pair) -> Result<Vec<Node>, AllocError>
-    ensures { IfOk result (λ nodes. (n : Node) → Contains nodes.items n ↔ Stands (sites_at sites.now) n pair.now) }
+    ensures { IfOk result (λ nodes. (n : Node) → Contains nodes.items n
+        ↔ Stands (sites_at sites.now) n pair.now) }
 {
     let mut nodes = Vec::new(alloc);
     for number in 0..sites.len() {

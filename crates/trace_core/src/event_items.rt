@@ -111,7 +111,8 @@ fn know_packed(
     children: &[Epc],
 ) -> Result<Numbers, AllocError>
     ensures ok { OnOk result (KnowsItems known.old known.new (parents parent.now ++ children.now)) }
-    ensures numbers { IfOk result (λ numbers. numbers ≡ numbers_of (names_of known.new) children.now) }
+    ensures numbers { IfOk result (λ numbers.
+        numbers ≡ numbers_of (names_of known.new) children.now) }
     ensures err { OnErr result (KnowsSomeItems known.old known.new) }
 {
     know_parent(alloc, known, parent)?;
@@ -126,8 +127,10 @@ fn note_some_of(
     body: &Body,
     place: usize,
 ) -> Result<Numbers, AllocError>
-    ensures ok { OnOk result (NotesItems known.old known.new place (items_of body.now) (ins_in body.now)) }
-    ensures numbers { IfOk result (λ numbers. numbers ≡ numbers_of (names_of known.new) (moved_in body.now)) }
+    ensures ok { OnOk result (NotesItems known.old known.new place (items_of body.now)
+        (ins_in body.now)) }
+    ensures numbers { IfOk result (λ numbers. numbers ≡ numbers_of (names_of known.new)
+        (moved_in body.now)) }
     ensures err { OnErr result (NotesSomeItems known.old known.new place (ins_in body.now)) }
 {
     match body {
@@ -152,8 +155,10 @@ pub fn note_items_of(
     body: &Body,
     place: usize,
 ) -> Result<Numbers, AllocError>
-    ensures ok { OnOk result (NotesItems known.old known.new place (items_of body.now) (ins_in body.now)) }
-    ensures numbers { IfOk result (λ numbers. numbers ≡ numbers_of (names_of known.new) (moved_in body.now)) }
+    ensures ok { OnOk result (NotesItems known.old known.new place (items_of body.now)
+        (ins_in body.now)) }
+    ensures numbers { IfOk result (λ numbers. numbers ≡ numbers_of (names_of known.new)
+        (moved_in body.now)) }
     ensures err { OnErr result (KeepsItems known.old known.new place) }
 {
     let before = known.len();

@@ -16,7 +16,8 @@ pub fn items_of_numbers<'a>(
     book: &'a Book,
     numbers: &Marks,
 ) -> Result<Vec<&'a Epc>, AllocError>
-    ensures { IfOk result (λ items. (i : List ℕ) → Contains (items_at items.items) i ↔ HasNumber book.now numbers.now i) }
+    ensures { IfOk result (λ items. (i : List ℕ) → Contains (items_at items.items) i
+        ↔ HasNumber book.now numbers.now i) }
 {
     match numbers.few() {
         Some(few) => items_in_turn(alloc, book, few),
@@ -30,7 +31,8 @@ fn items_in_order<'a>(
     book: &'a Book,
     numbers: &Marks,
 ) -> Result<Vec<&'a Epc>, AllocError>
-    ensures { IfOk result (λ items. (i : List ℕ) → Contains (items_at items.items) i ↔ HasNumber book.now numbers.now i) }
+    ensures { IfOk result (λ items. (i : List ℕ) → Contains (items_at items.items) i
+        ↔ HasNumber book.now numbers.now i) }
 {
     let mut items = Vec::new(alloc);
     for number in 0..book.item_count() {
@@ -47,7 +49,9 @@ fn push_if_marked<'a>(
     numbers: &Marks,
     items: &mut Vec<&'a Epc>,
 ) -> Result<(), AllocError>
-    ensures { OnOk result ((i : List ℕ) → Contains (items_at items.new.items) i ↔ (Contains (items_at items.old.items) i ⊎ (Contains numbers.now number × (slice_get (numbered book.now) number ≡ Some i)))) }
+    ensures { OnOk result ((i : List ℕ) → Contains (items_at items.new.items) i
+        ↔ (Contains (items_at items.old.items) i
+        ⊎ (Contains numbers.now number × (slice_get (numbered book.now) number ≡ Some i)))) }
 {
     if numbers.has(number) {
         push_numbered(book, number, items)?;
@@ -61,7 +65,8 @@ fn items_in_turn<'a>(
     book: &'a Book,
     numbers: &BTreeSet<usize>,
 ) -> Result<Vec<&'a Epc>, AllocError>
-    ensures { IfOk result (λ items. (i : List ℕ) → Contains (items_at items.items) i ↔ HasNumber book.now numbers.now.keys i) }
+    ensures { IfOk result (λ items. (i : List ℕ) → Contains (items_at items.items) i
+        ↔ HasNumber book.now numbers.now.keys i) }
 {
     let mut items = Vec::new(alloc);
     for number in numbers {
@@ -76,7 +81,9 @@ fn push_numbered<'a>(
     number: usize,
     items: &mut Vec<&'a Epc>,
 ) -> Result<(), AllocError>
-    ensures { OnOk result ((i : List ℕ) → Contains (items_at items.new.items) i ↔ (Contains (items_at items.old.items) i ⊎ (slice_get (numbered book.now) number ≡ Some i))) }
+    ensures { OnOk result ((i : List ℕ) → Contains (items_at items.new.items) i
+        ↔ (Contains (items_at items.old.items) i
+        ⊎ (slice_get (numbered book.now) number ≡ Some i))) }
 {
     if let Some(item) = book.item(number) {
         items.push(item)?;

@@ -29,7 +29,8 @@ pub fn gather_made(
     body: &Body,
     pairs: &mut BTreeSet<Pair>,
 ) -> Result<(), AllocError>
-    ensures { OnOk result ((p : Pair) → is_in pairs.new p ≡ (is_in pairs.old p || made_by me book.now item.now body.now p)) }
+    ensures { OnOk result ((p : Pair) → is_in pairs.new p
+        ≡ (is_in pairs.old p || made_by me book.now item.now body.now p)) }
 {
     let mut looks = 0;
     if takes_in(item, body) {
@@ -87,8 +88,11 @@ pub fn gather_joined(
     pairs: &mut BTreeSet<Pair>,
     looks: &mut u64,
 ) -> Result<(), AllocError>
-    ensures looks { OnOk result (LooksAtMost (sum_by (λ k. outputs_at (slice_get book.now k)) (parts_of book.now body.now)) looks.old looks.new) }
-    ensures added { OnOk result ((p : Pair) → is_in pairs.new p ≡ (is_in pairs.old p || (p.site == me && joined_by book.now body.now p.item))) }
+    ensures looks { OnOk result (LooksAtMost (sum_by (λ k. outputs_at (slice_get book.now k))
+        (parts_of book.now body.now)) looks.old looks.new) }
+    ensures added { OnOk result ((p : Pair)
+        → is_in pairs.new p ≡ (is_in pairs.old p ||
+        (p.site == me && joined_by book.now body.now p.item))) }
 {
     for place in book.parts_of(make_id(body)) {
         gather_outputs_at(alloc, me, book, *place, pairs, looks)?;
@@ -105,8 +109,11 @@ fn gather_outputs_at(
     pairs: &mut BTreeSet<Pair>,
     looks: &mut u64,
 ) -> Result<(), AllocError>
-    ensures looks { OnOk result (LooksAtMost (outputs_at (slice_get book.now place)) looks.old looks.new) }
-    ensures added { OnOk result ((p : Pair) → is_in pairs.new p ≡ (is_in pairs.old p || (p.site == me && at_place (λ e. gives_out p.item e.body) (slice_get book.now place)))) }
+    ensures looks { OnOk result (LooksAtMost (outputs_at (slice_get book.now place)) looks.old
+        looks.new) }
+    ensures added { OnOk result ((p : Pair)
+        → is_in pairs.new p ≡ (is_in pairs.old p ||
+        (p.site == me && at_place (λ e. gives_out p.item e.body) (slice_get book.now place)))) }
 {
     if let Some(event) = book.get(place) {
         gather_outputs(alloc, me, event.body(), pairs, looks)?;
@@ -123,7 +130,8 @@ pub fn gather_outputs(
     looks: &mut u64,
 ) -> Result<(), AllocError>
     ensures looks { OnOk result (LooksAtMost (output_count body.now) looks.old looks.new) }
-    ensures added { OnOk result ((p : Pair) → is_in pairs.new p ≡ (is_in pairs.old p || (p.site == me && gives_out p.item body.now))) }
+    ensures added { OnOk result ((p : Pair)
+        → is_in pairs.new p ≡ (is_in pairs.old p || (p.site == me && gives_out p.item body.now))) }
 {
     if let Body::Make { outs, .. } = body {
         gather_items(alloc, me, outs.as_slice(), pairs, looks)?;
@@ -140,7 +148,8 @@ fn gather_items(
     looks: &mut u64,
 ) -> Result<(), AllocError>
     ensures looks { OnOk result (LooksAtMost (length items.now) looks.old looks.new) }
-    ensures added { OnOk result ((p : Pair) → is_in pairs.new p ≡ (is_in pairs.old p || (p.site == me && lists items.now p.item))) }
+    ensures added { OnOk result ((p : Pair)
+        → is_in pairs.new p ≡ (is_in pairs.old p || (p.site == me && lists items.now p.item))) }
 {
     for item in items {
         look_at_output(alloc, me, item, pairs, looks)?;
@@ -157,7 +166,8 @@ fn look_at_output(
     looks: &mut u64,
 ) -> Result<(), AllocError>
     ensures looks { looks.new ≡ one_look looks.old }
-    ensures added { OnOk result ((p : Pair) → is_in pairs.new p ≡ (is_in pairs.old p || (p.site == me && same_item item.now p.item))) }
+    ensures added { OnOk result ((p : Pair)
+        → is_in pairs.new p ≡ (is_in pairs.old p || (p.site == me && same_item item.now p.item))) }
 {
     count_look(looks);
     pairs.insert(Pair {

@@ -21,7 +21,9 @@ pub struct Group {
 /// id, and its own where it has none.
 pub fn first_part(book: &Book, place: usize, body: &Body) -> usize
     ensures first { result ≡ first_of book.now place body.now }
-    ensures outputs { (e : Content) (j : List ℕ) → slice_get book.now place ≡ Some e → e.body ≡ body.now → at_place (λ f. outs_of book.now j f.body) (slice_get book.now result) ≡ outs_of book.now j body.now }
+    ensures outputs { (e : Content) (j : List ℕ) → slice_get book.now place ≡ Some e
+        → e.body ≡ body.now → at_place (λ f. outs_of book.now j f.body) (slice_get book.now result)
+        ≡ outs_of book.now j body.now }
 {
     match book.parts_of(make_id(body)).first() {
         Some(first) => *first,

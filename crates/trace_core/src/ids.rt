@@ -29,7 +29,8 @@ pub fn note_id(
     id: Option<&PlainText>,
     place: usize,
 ) -> Result<(), AllocError>
-    ensures ok { OnOk result (Notes (text_places index.old) (text_places index.new) place (λ i. same_id (option_map (λ t. t.now) id.entry) (Some i))) }
+    ensures ok { OnOk result (Notes (text_places index.old) (text_places index.new) place (λ i.
+        same_id (option_map (λ t. t.now) id.entry) (Some i))) }
     ensures err { OnErr result ((i : List ℕ) → text_places index.new i ≡ text_places index.old i) }
 {
     match id {
@@ -45,7 +46,8 @@ fn note_text(
     text: &str,
     place: usize,
 ) -> Result<(), AllocError>
-    ensures ok { OnOk result (Notes (text_places index.old) (text_places index.new) place (same_item text.now)) }
+    ensures ok { OnOk result (Notes (text_places index.old) (text_places index.new) place
+        (same_item text.now)) }
     ensures err { OnErr result ((i : List ℕ) → text_places index.new i ≡ text_places index.old i) }
 {
     if let Some(places) = index.get_mut(text) {
@@ -58,7 +60,8 @@ fn note_text(
 
 /// Takes a place away from the id of the event there, if it has one. Does not allocate.
 pub fn forget_id(index: &mut BTreeMap<String, Places>, id: Option<&PlainText>, place: usize)
-    ensures { Forgets (text_places index.old) (text_places index.new) place (λ i. same_id (option_map (λ t. t.now) id.entry) (Some i)) }
+    ensures { Forgets (text_places index.old) (text_places index.new) place (λ i.
+        same_id (option_map (λ t. t.now) id.entry) (Some i)) }
 {
     if let Some(text) = id {
         forget_text(index, text.as_str(), place);

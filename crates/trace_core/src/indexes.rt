@@ -62,8 +62,10 @@ impl Index {
     /// Notes the event that comes at a place, after all others. An `Err` changes nothing that can be looked
     /// up.
     pub fn note(&mut self, alloc: Global, event: &Event, place: usize) -> Result<(), AllocError>
-        ensures ok { OnOk result ((events : List Content) → place ≡ length events → HasPlaces self.old events → HasPlaces self.new (events ++ event.now ∷ [])) }
-        ensures err { OnErr result ((events : List Content) → place ≡ length events → HasPlaces self.old events → HasPlaces self.new events) }
+        ensures ok { OnOk result ((events : List Content) → place ≡ length events
+            → HasPlaces self.old events → HasPlaces self.new (events ++ event.now ∷ [])) }
+        ensures err { OnErr result ((events : List Content) → place ≡ length events
+            → HasPlaces self.old events → HasPlaces self.new events) }
     {
         let known = self.items.len();
         let before = self.sent.len();
@@ -117,7 +119,8 @@ impl Index {
 
     /// Takes away the last event, which stood at a place. Does not allocate.
     pub fn forget(&mut self, event: &Event, place: usize)
-        ensures { (events : List Content) → place ≡ length events → HasPlaces self.old (events ++ event.now ∷ []) → HasPlaces self.new events }
+        ensures { (events : List Content) → place ≡ length events
+            → HasPlaces self.old (events ++ event.now ∷ []) → HasPlaces self.new events }
     {
         let parent = parent_number(&self.items, event.body());
         self.packed.forget(parent, moved_count(event.body()));
@@ -130,7 +133,9 @@ impl Index {
 
 /// Takes away the members of the last event, which stood at a place. Does not allocate.
 fn forget_members(items: &mut Items, members: &mut Vec<Members>, event: &Event, place: usize)
-    ensures { (events : List Content) → place ≡ length events → HasItems items.old members.old.items (events ++ event.now ∷ []) → HasItems items.new members.new.items events }
+    ensures { (events : List Content) → place ≡ length events
+        → HasItems items.old members.old.items (events ++ event.now ∷ [])
+        → HasItems items.new members.new.items events }
 {
     if let Some(own) = members.pop() {
         forget_items_of(items, event.body(), place, own.known);
@@ -139,7 +144,8 @@ fn forget_members(items: &mut Items, members: &mut Vec<Members>, event: &Event, 
 
 /// Takes away what the last event sent. Does not allocate.
 fn forget_sent(sent: &mut Sent, counts: &mut Vec<usize>)
-    ensures { (events : List Content) (e : Content) → HasSent (events ++ e ∷ []) sent.old counts.old.items
+    ensures { (events : List Content) (e : Content)
+        → HasSent (events ++ e ∷ []) sent.old counts.old.items
         → HasSent events sent.new counts.new.items }
 {
     if let Some(before) = counts.pop() {
@@ -161,14 +167,14 @@ fn note_rest(
     numbers: &[usize],
     place: usize,
 ) -> Result<(), AllocError>
-    ensures sent { OnOk result (SendsOn (children_in packed.old) numbers.now (Goes sent.old event.now.body parent)
-        sent.old sent.new) }
+    ensures sent { OnOk result (SendsOn (children_in packed.old) numbers.now
+        (Goes sent.old event.now.body parent) sent.old sent.new) }
     ensures front { Extends sent.old sent.new }
     ensures packed { OnOk result ((n : ℕ)
         → children_in packed.new n ≡ children_in packed.old n ++ put_at parent numbers.now n) }
     ensures kept { OnErr result ((n : ℕ) → children_in packed.new n ≡ children_in packed.old n) }
-    ensures ok { OnOk result ((events : List Content) → place ≡ length events → HasIds ids.old parts.old events
-        → HasIds ids.new parts.new (events ++ event.now ∷ [])) }
+    ensures ok { OnOk result ((events : List Content) → place ≡ length events
+        → HasIds ids.old parts.old events → HasIds ids.new parts.new (events ++ event.now ∷ [])) }
     ensures err { OnErr result ((events : List Content) → place ≡ length events
         → HasIds ids.old parts.old events → HasIds ids.new parts.new events) }
 {
@@ -191,8 +197,8 @@ fn note_ids(
     event: &Event,
     place: usize,
 ) -> Result<(), AllocError>
-    ensures ok { OnOk result ((events : List Content) → place ≡ length events → HasIds ids.old parts.old events
-        → HasIds ids.new parts.new (events ++ event.now ∷ [])) }
+    ensures ok { OnOk result ((events : List Content) → place ≡ length events
+        → HasIds ids.old parts.old events → HasIds ids.new parts.new (events ++ event.now ∷ [])) }
     ensures err { OnErr result ((events : List Content) → place ≡ length events
         → HasIds ids.old parts.old events → HasIds ids.new parts.new events) }
 {

@@ -68,7 +68,8 @@ impl Items {
 
     /// The places of the item of a number.
     pub fn places_at(&self, number: usize) -> &[usize]
-        ensures { (i : List ℕ) → slice_get (names_of self.now) number ≡ Some i → result.now ≡ or_none (item_places self.now i) }
+        ensures { (i : List ℕ) → slice_get (names_of self.now) number ≡ Some i
+            → result.now ≡ or_none (item_places self.now i) }
     {
         match self.items.get_index(number) {
             Some((_, places)) => places.as_slice(),
@@ -89,7 +90,8 @@ impl Items {
     /// The number of an item, which gets the next one if it is new. An `Err` changes nothing.
     pub fn know(&mut self, alloc: Global, item: &Epc) -> Result<usize, AllocError>
         ensures ok { OnOk result (self.new ≡ known_too item.now self.old) }
-        ensures number { IfOk result (λ number. number_in (names_of self.new) item.now ≡ Some number) }
+        ensures number { IfOk result (λ number. number_in (names_of self.new) item.now
+            ≡ Some number) }
         ensures err { OnErr result (self.new ≡ self.old) }
     {
         match self.number(item) {
@@ -102,7 +104,8 @@ impl Items {
     /// returns its number. An `Err` changes nothing.
     pub fn note(&mut self, alloc: Global, item: &Epc, place: usize) -> Result<usize, AllocError>
         ensures ok { OnOk result (self.new ≡ noted place item.now self.old) }
-        ensures number { IfOk result (λ number. number_in (names_of self.new) item.now ≡ Some number) }
+        ensures number { IfOk result (λ number. number_in (names_of self.new) item.now
+            ≡ Some number) }
         ensures err { OnErr result (self.new ≡ self.old) }
     {
         match self.number(item) {

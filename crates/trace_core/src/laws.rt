@@ -89,14 +89,14 @@ pub fn joined_makes_relate()
     ensures { JoinedMakesRelate }
 {}
 
-/// Whatever an item is related to comes from a shipment of it or of what it lies in, from a transformation that takes it
-/// in, or from two transformations with one id, of which the first takes it in.
+/// Whatever an item is related to comes from a shipment of it or of what it lies in, from a transformation that takes
+/// it in, or from two transformations with one id, of which the first takes it in.
 pub fn related_pairs_come_from_events()
     ensures { RelatedPairsComeFromEvents }
 {}
 
-/// What adds no pair: a note, a shipment to the own site or out of the traced sites, a transformation without an id that
-/// lacks inputs or outputs, and an aggregation that observes or deletes, or has no children.
+/// What adds no pair: a note, a shipment to the own site or out of the traced sites, a transformation without an id
+/// that lacks inputs or outputs, and an aggregation that observes or deletes, or has no children.
 pub fn others_add_nothing()
     ensures { OthersAddNothing }
 {}

@@ -60,7 +60,8 @@ impl Marks {
 
     /// Marks a number, where there are so many in all. Tells whether it is new. An `Err` changes nothing.
     pub fn mark(&mut self, alloc: Global, number: usize, all: usize) -> Result<bool, AllocError>
-        ensures marked { OnOk result ((n : ℕ) → Contains self.new n ↔ (Contains self.old n ⊎ (number ≡ n))) }
+        ensures marked { OnOk result ((n : ℕ) → Contains self.new n
+            ↔ (Contains self.old n ⊎ (number ≡ n))) }
         ensures new { IfOk result (λ new. new ≡ false ↔ Contains self.old number) }
         ensures err { OnErr result ((n : ℕ) → Contains self.new n ↔ Contains self.old n) }
     {
@@ -85,7 +86,8 @@ impl Marks {
 
     /// Marks a number. Tells whether it is new. An `Err` changes nothing.
     fn set(&mut self, number: usize) -> Result<bool, AllocError>
-        ensures marked { OnOk result ((n : ℕ) → Contains self.new n ↔ (Contains self.old n ⊎ (number ≡ n))) }
+        ensures marked { OnOk result ((n : ℕ) → Contains self.new n
+            ↔ (Contains self.old n ⊎ (number ≡ n))) }
         ensures new { IfOk result (λ new. new ≡ false ↔ Contains self.old number) }
         ensures err { OnErr result ((n : ℕ) → Contains self.new n ↔ Contains self.old n) }
     {
@@ -105,7 +107,8 @@ fn marks_of_set(
     numbers: &BTreeSet<usize>,
 ) -> Result<Vec<bool>, AllocError>
     ensures len { IfOk result (λ marks. length marks.items ≡ len) }
-    ensures set { IfOk result (λ marks. (n : ℕ) → is_set marks.items n ≡ true ↔ ((n < len) × Contains numbers.now.keys n)) }
+    ensures set { IfOk result (λ marks. (n : ℕ) → is_set marks.items n ≡ true
+        ↔ ((n < len) × Contains numbers.now.keys n)) }
 {
     let mut marks = vec![in alloc; false; len]?;
     for number in numbers {
@@ -117,7 +120,8 @@ fn marks_of_set(
 /// Sets the mark at a number, if there is one.
 fn set_mark(marks: &mut [bool], number: usize)
     ensures count { length marks.new ≡ length marks.old }
-    ensures set { (n : ℕ) → is_set marks.new n ≡ true ↔ ((is_set marks.old n ≡ true) ⊎ ((n < length marks.old) × (number ≡ n))) }
+    ensures set { (n : ℕ) → is_set marks.new n ≡ true
+        ↔ ((is_set marks.old n ≡ true) ⊎ ((n < length marks.old) × (number ≡ n))) }
 {
     if number < marks.len() {
         marks[number] = true;

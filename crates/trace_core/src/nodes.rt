@@ -92,7 +92,11 @@ impl Nodes {
         at: SiteNo,
         all: usize,
     ) -> Result<(), AllocError>
-        ensures { OnOk result (NotesNodes self.old self.new (record { site = site; item = item; at = at } ∷ [])) }
+        ensures { OnOk result (NotesNodes self.old self.new (record {
+          site = site;
+          item = item;
+          at = at;
+        } ∷ [])) }
     {
         let alloc = *self.list.allocator();
         self.list.reserve(1)?;
@@ -121,7 +125,8 @@ impl Nodes {
         all: usize,
         sites: SiteSet,
     ) -> Result<(), AllocError>
-        ensures { OnOk result (NotesNodes self.old self.new (destinations me site item (sites_in sites))) }
+        ensures { OnOk result (NotesNodes self.old self.new
+            (destinations me site item (sites_in sites))) }
     {
         if sites.is_empty() {
             return Ok(());
@@ -178,8 +183,10 @@ fn mark_node(
     at: SiteNo,
     all: usize,
 ) -> Result<bool, AllocError>
-    ensures marked { OnOk result ((n : Node) → IsInBatch marks.new n ↔ (IsInBatch marks.old n ⊎ (record { site = site; item = item; at = at } ≡ n))) }
-    ensures new { IfOk result (λ new. new ≡ false ↔ IsInBatch marks.old (record { site = site; item = item; at = at })) }
+    ensures marked { OnOk result ((n : Node) → IsInBatch marks.new n
+        ↔ (IsInBatch marks.old n ⊎ (record { site = site; item = item; at = at } ≡ n))) }
+    ensures new { IfOk result (λ new. new ≡ false
+        ↔ IsInBatch marks.old (record { site = site; item = item; at = at })) }
     ensures err { OnErr result ((n : Node) → IsInBatch marks.new n ↔ IsInBatch marks.old n) }
 {
     let batch = Batch { at, site };

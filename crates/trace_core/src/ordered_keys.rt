@@ -18,7 +18,8 @@ pub fn keys_in_order<K: Ord + Drop>(alloc: Global, set: BTreeSet<K>) -> Result<V
 /// The keys, ascending and without repeats.
 pub fn in_order<K: Ord + Drop>(keys: Vec<K>) -> Result<Vec<K>, AllocError>
     ensures ascending { IfOk result (λ ordered. IsStrictlySortedBy K.cmp ordered.items) }
-    ensures same { IfOk result (λ ordered. ((a b : K) → K.cmp a b ≡ Equal → a ≡ b) → (k : K) → Contains ordered.items k ↔ Contains keys.items k) }
+    ensures same { IfOk result (λ ordered. ((a b : K) → K.cmp a b ≡ Equal → a ≡ b) → (k : K)
+        → Contains ordered.items k ↔ Contains keys.items k) }
     ensures fewer { IfOk result (λ ordered. length ordered.items ≤ length keys.items) }
 {
     let mut ordered = keys;

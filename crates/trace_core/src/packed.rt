@@ -56,8 +56,8 @@ impl Packed {
         number: usize,
         children: &[usize],
     ) -> Result<(), AllocError>
-        ensures ok { OnOk result ((n : ℕ)
-            → children_in self.new n ≡ children_in self.old n ++ cond (number == n) children.now []) }
+        ensures ok { OnOk result ((n : ℕ) → children_in self.new n ≡ children_in self.old n ++ cond
+            (number == n) children.now []) }
         ensures err { OnErr result ((n : ℕ) → children_in self.new n ≡ children_in self.old n) }
     {
         if let Some(own) = self.children.get_mut(&number) {
@@ -71,7 +71,8 @@ impl Packed {
     /// Takes away the last so many that were put into a parent, if there is one. Does not allocate.
     pub fn forget(&mut self, parent: Option<usize>, count: usize)
         ensures { (n : ℕ) → children_in self.new n
-            ≡ take (length (children_in self.old n) - cut_at parent count n) (children_in self.old n) }
+            ≡ take (length (children_in self.old n) - cut_at parent count n)
+            (children_in self.old n) }
     {
         if let Some(number) = parent {
             self.forget_at(number, count);
@@ -82,7 +83,8 @@ impl Packed {
     /// not allocate.
     fn forget_at(&mut self, number: usize, count: usize)
         ensures { (n : ℕ) → children_in self.new n
-            ≡ take (length (children_in self.old n) - cond (number == n) count 0) (children_in self.old n) }
+            ≡ take (length (children_in self.old n) - cond (number == n) count 0)
+            (children_in self.old n) }
     {
         if self.cut(number, count) {
             self.children.remove(&number);
@@ -93,7 +95,8 @@ impl Packed {
     /// not allocate.
     fn cut(&mut self, number: usize, count: usize) -> bool
         ensures cut { (n : ℕ) → children_in self.new n
-            ≡ take (length (children_in self.old n) - cond (number == n) count 0) (children_in self.old n) }
+            ≡ take (length (children_in self.old n) - cond (number == n) count 0)
+            (children_in self.old n) }
         ensures emptied { IsTrue result → children_in self.new number ≡ [] }
     {
         match self.children.get_mut(&number) {

@@ -31,8 +31,8 @@ impl Captured {
 
 /// Whether a part of the transformation stands at one of the places, and takes the item in.
 fn is_input_among(book: &Book, places: &[usize], id: &PlainText, item: &Epc) -> bool
-    ensures { result ≡ list_any (λ k.
-        at_place (λ e. has_part id.now e && takes_in item.now e.body) (slice_get book.now k)) places.now }
+    ensures { result ≡ list_any (λ k. at_place (λ e. has_part id.now e && takes_in item.now e.body)
+        (slice_get book.now k)) places.now }
 {
     places
         .iter()
@@ -41,7 +41,8 @@ fn is_input_among(book: &Book, places: &[usize], id: &PlainText, item: &Epc) -> 
 
 /// Whether a part of the transformation stands at a place, and takes the item in.
 fn is_input_at(book: &Book, place: usize, id: &PlainText, item: &Epc) -> bool
-    ensures { result ≡ at_place (λ e. has_part id.now e && takes_in item.now e.body) (slice_get book.now place) }
+    ensures { result ≡ at_place (λ e. has_part id.now e && takes_in item.now e.body)
+        (slice_get book.now place) }
 {
     match book.get(place) {
         Some(event) => is_part_of(event.body(), id) && takes_in(item, event.body()),

@@ -54,9 +54,13 @@ pub trait Relation {
         ensures all { OnOk result (bounds_looks self.now
             → (looks.old + 1 + unseen self.now seen.old ≤ looks.new + unseen self.now seen.new)
             ⊎ (2 ^ 64 - 1 ≤ looks.new)) }
-        ensures seen { OnOk result ((p : Pair) → stands self.now node.now p → has_seen self.now seen.new p) }
-        ensures stays { OnOk result ((p : Pair) → has_seen self.now seen.old p → has_seen self.now seen.new p) }
-        ensures visited { OnOk result ((p : Pair) → stands self.now node.now p → Gains (stands self.now) (gives self.now) (relates self.now p) seen.old seen.new nodes.old nodes.new) };
+        ensures seen { OnOk result ((p : Pair) → stands self.now node.now p
+            → has_seen self.now seen.new p) }
+        ensures stays { OnOk result ((p : Pair) → has_seen self.now seen.old p
+            → has_seen self.now seen.new p) }
+        ensures visited { OnOk result ((p : Pair) → stands self.now node.now p
+            → Gains (stands self.now) (gives self.now) (relates self.now p) seen.old seen.new
+            nodes.old nodes.new) };
 }
 
 /// Nodes for all that chains of a relation reach from some pairs, these among them. Each node is visited
@@ -70,12 +74,16 @@ pub fn closure<R: Relation>(
 ) -> Result<Nodes, AllocError>
     requires { (n : Node) → Contains starts.now n → (q : Pair) × R.stands relation.now n q }
     ensures once { IfOk result (λ nodes. AreOnce nodes) }
-    ensures stand { IfOk result (λ nodes. (n : Node) → Contains nodes n → (q : Pair) × R.stands relation.now n q) }
-    ensures reached { IfOk result (λ nodes. (q : Pair) → Had (R.stands relation.now) nodes q ↔ ReachedFromNodes (R.stands relation.now) (R.relates relation.now) starts.now q) }
-    ensures most { IfOk result (λ nodes. R.bounds_looks relation.now → looks.new ≤ looks.old + length nodes + R.outputs relation.now) }
+    ensures stand { IfOk result (λ nodes. (n : Node) → Contains nodes n → (q : Pair)
+        × R.stands relation.now n q) }
+    ensures reached { IfOk result (λ nodes. (q : Pair) → Had (R.stands relation.now) nodes q
+        ↔ ReachedFromNodes (R.stands relation.now) (R.relates relation.now) starts.now q) }
+    ensures most { IfOk result (λ nodes. R.bounds_looks relation.now
+        → looks.new ≤ looks.old + length nodes + R.outputs relation.now) }
     ensures all { IfOk result (λ nodes. R.bounds_looks relation.now
-        → LooksAtAll (λ seen n. (p : Pair) → R.stands relation.now n p → R.has_seen relation.now seen p)
-        (R.outputs relation.now) (R.unseen relation.now) nodes looks.old looks.new) }
+        → LooksAtAll (λ seen n. (p : Pair) → R.stands relation.now n p
+        → R.has_seen relation.now seen p) (R.outputs relation.now)
+        (R.unseen relation.now) nodes looks.old looks.new) }
 {
     let mut nodes = Nodes::new(alloc);
     let mut seen = relation.none_seen(alloc);

@@ -47,8 +47,12 @@ impl Seen {
 
     /// A transformation of a site that has so many events is seen now. Tells whether it is new.
     pub fn see(&mut self, site: usize, first: usize, all: usize) -> Result<bool, AllocError>
-        ensures seen { OnOk result (Sees self.old self.new (record { site = site; first = first })) }
-        ensures new { IfOk result (λ new. new ≡ not (contains group_cmp self.old (record { site = site; first = first }))) }
+        ensures seen { OnOk result (Sees self.old self.new (record {
+          site = site;
+          first = first;
+        })) }
+        ensures new { IfOk result (λ new. new
+            ≡ not (contains group_cmp self.old (record { site = site; first = first }))) }
     {
         let alloc = *self.sites.allocator();
         make_room(alloc, &mut self.sites, site)?;
@@ -59,7 +63,8 @@ impl Seen {
 /// Adds sites where nothing was seen, up to this one.
 fn make_room(alloc: Global, sites: &mut Vec<Marks>, site: usize) -> Result<(), AllocError>
     ensures room { OnOk result (site < vec_len sites.new) }
-    ensures same { OnOk result ((j : ℕ) → or_none (slice_get sites.new.items j) ≡ or_none (slice_get sites.old.items j)) }
+    ensures same { OnOk result ((j : ℕ)
+        → or_none (slice_get sites.new.items j) ≡ or_none (slice_get sites.old.items j)) }
 {
     while sites.len() <= site {
         sites.push(Marks::new(alloc))?;

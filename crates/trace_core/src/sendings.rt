@@ -60,7 +60,8 @@ impl Sent {
 
     /// The sites that the item of a number was sent to.
     pub fn sites_of(&self, item: usize) -> SiteSet
-        ensures { (t : ℕ) → has_site result t ≡ true ↔ Contains self.now (record { item = item; site = t }) }
+        ensures { (t : ℕ) → has_site result t ≡ true
+            ↔ Contains self.now (record { item = item; site = t }) }
     {
         match self.sites.get(item) {
             Some(own) => *own,
@@ -70,7 +71,10 @@ impl Sent {
 
     /// Notes that an item was sent to a site. An `Err` changes nothing.
     fn note(&mut self, item: usize, site: SiteNo) -> Result<(), AllocError>
-        ensures ok { OnOk result (NotesSendings self.old self.new (record { item = item; site = site } ∷ [])) }
+        ensures ok { OnOk result (NotesSendings self.old self.new (record {
+          item = item;
+          site = site;
+        } ∷ [])) }
         ensures err { OnErr result (self.new ≡ self.old) }
     {
         if self.sites_of(item).has(site) {
@@ -96,7 +100,8 @@ impl Sent {
 
     /// Notes that items were sent to each site of a set. After an `Err` some of that is noted.
     fn note_at_each(&mut self, items: &[usize], sites: SiteSet) -> Result<(), AllocError>
-        ensures ok { OnOk result (NotesSendings self.old self.new (flat_map (at_site items.now) (sites_in sites))) }
+        ensures ok { OnOk result (NotesSendings self.old self.new
+            (flat_map (at_site items.now) (sites_in sites))) }
         ensures front { Extends self.old self.new }
     {
         for number in 0..16 {
@@ -134,7 +139,8 @@ impl Sent {
         parent: Option<usize>,
         items: &[usize],
     ) -> Result<(), AllocError>
-        ensures ok { OnOk result (Starts items.now (Goes self.old body.now parent) self.old self.new) }
+        ensures ok { OnOk result (Starts items.now (Goes self.old body.now parent) self.old
+            self.new) }
         ensures front { Extends self.old self.new }
     {
         let sites = self.destinations(body, parent);
@@ -165,8 +171,8 @@ impl Sent {
         parent: Option<usize>,
         items: &[usize],
     ) -> Result<(), AllocError>
-        ensures ok { OnOk result (SendsOn (children_in packed.now) items.now (Goes self.old body.now parent)
-            self.old self.new) }
+        ensures ok { OnOk result (SendsOn (children_in packed.now) items.now
+            (Goes self.old body.now parent) self.old self.new) }
         ensures front { Extends self.old self.new }
     {
         let from = self.len();
@@ -226,7 +232,8 @@ fn add_site(sites: &mut Vec<SiteSet>, item: usize, site: SiteNo)
 /// Adds items without sites, up to this one.
 fn make_room(sites: &mut Vec<SiteSet>, item: usize) -> Result<(), AllocError>
     ensures room { OnOk result (item < vec_len sites.new) }
-    ensures same { (n t : ℕ) → has_site (set_at sites.new.items n) t ≡ has_site (set_at sites.old.items n) t }
+    ensures same { (n t : ℕ) → has_site (set_at sites.new.items n) t
+        ≡ has_site (set_at sites.old.items n) t }
 {
     while sites.len() <= item {
         sites.push(SiteSet::new())?;

@@ -34,7 +34,8 @@ impl Captured {
     /// ascending and without repeats.
     pub fn spread(&self, items: &[Epc]) -> Result<Vec<Epc>, AllocError>
         ensures ascending { IfOk result (λ found. AreAscendingItems found.items) }
-        ensures exact { IfOk result (λ found. (j : List ℕ) → Contains found.items j ↔ IsSpread self.now items.now j) }
+        ensures exact { IfOk result (λ found. (j : List ℕ) → Contains found.items j
+            ↔ IsSpread self.now items.now j) }
     {
         let (found, _) = self.spread_counted(items)?;
         Ok(found)
@@ -45,8 +46,10 @@ impl Captured {
     /// and each output member of what it goes into is looked at once. At 2^64 - 1 the count stays.
     pub fn spread_counted(&self, items: &[Epc]) -> Result<(Vec<Epc>, u64), AllocError>
         ensures ascending { IfOk result (λ counted. AreAscendingItems counted.0.items) }
-        ensures exact { IfOk result (λ counted. (j : List ℕ) → Contains counted.0.items j ↔ IsSpread self.now items.now j) }
-        ensures looks { IfOk result (λ counted. AreLooks self.now items.now counted.0.items counted.1) }
+        ensures exact { IfOk result (λ counted. (j : List ℕ) → Contains counted.0.items j
+            ↔ IsSpread self.now items.now j) }
+        ensures looks { IfOk result (λ counted.
+            AreLooks self.now items.now counted.0.items counted.1) }
     {
         let alloc = self.alloc();
         let mut looks = 0;
@@ -121,7 +124,8 @@ impl Relation for SitePairs<'_> {
 
 /// The nodes of those of the items that are known.
 fn nodes_of(alloc: Global, site: &Captured, items: &[Epc]) -> Result<Vec<Node>, AllocError>
-    ensures { IfOk result (λ nodes. (n : Node) → Contains nodes.items n ↔ IsKnownNode site.now items.now n) }
+    ensures { IfOk result (λ nodes. (n : Node) → Contains nodes.items n
+        ↔ IsKnownNode site.now items.now n) }
 {
     let mut nodes = Vec::new(alloc);
     for item in items {
@@ -143,8 +147,10 @@ fn unknown_items(
     items: &[Epc],
     looks: &mut u64,
 ) -> Result<Vec<Epc>, AllocError>
-    ensures unknown { IfOk result (λ found. (i : List ℕ) → Contains found.items i ↔ (Contains items.now i × (number_in (numbered book.now) i ≡ None))) }
-    ensures least { IfOk result (λ found. (looks.old + length found.items ≤ looks.new) ⊎ (2 ^ 64 - 1 ≤ looks.new)) }
+    ensures unknown { IfOk result (λ found. (i : List ℕ) → Contains found.items i
+        ↔ (Contains items.now i × (number_in (numbered book.now) i ≡ None))) }
+    ensures least { IfOk result (λ found. (looks.old + length found.items ≤ looks.new)
+        ⊎ (2 ^ 64 - 1 ≤ looks.new)) }
     ensures most { looks.new ≤ looks.old + length items.now }
 {
     let mut found = Vec::new(alloc);
@@ -189,7 +195,8 @@ fn gather_added(
     body: &Body,
     pairs: &mut BTreeSet<Pair>,
 ) -> Result<(), AllocError>
-    ensures { OnOk result ((p : Pair) → is_in pairs.new p ≡ (is_in pairs.old p || added_by me book.now item.now body.now p)) }
+    ensures { OnOk result ((p : Pair) → is_in pairs.new p
+        ≡ (is_in pairs.old p || added_by me book.now item.now body.now p)) }
 {
     let mut looks = 0;
     gather_made(alloc, me, book, item, body, pairs)?;
@@ -208,7 +215,8 @@ fn joins(book: &Book, item: &Epc, body: &Body) -> bool
 
 /// Whether a Make at one of the places has the item as an input.
 fn takes_in_at(book: &Book, places: &[usize], item: &Epc) -> bool
-    ensures { result ≡ list_any (λ k. at_place (λ e. takes_in item.now e.body) (slice_get book.now k)) places.now }
+    ensures { result ≡ list_any (λ k. at_place (λ e. takes_in item.now e.body)
+        (slice_get book.now k)) places.now }
 {
     places.iter().any(|place| is_taken_in(book, *place, item))
 }

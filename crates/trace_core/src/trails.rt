@@ -54,7 +54,8 @@ pub fn trails_to(
     root: &Pair,
     pairs: &[Pair],
 ) -> Result<Vec<Option<Sequence<Pair>>>, AllocError>
-    ensures { IfOk result (λ trails. AllZip (TellsTrail (sites_at sites.now) root.now) pairs.now trails.items) }
+    ensures { IfOk result (λ trails. AllZip (TellsTrail (sites_at sites.now) root.now) pairs.now
+        trails.items) }
 {
     trails_by(alloc, &Targets { sites }, root, pairs)
 }
@@ -97,8 +98,9 @@ pub fn trails_from<R: Adjacency>(
     ensures ascending { IfOk result (λ found. IsStrictlyAscending found.pairs) }
     ensures reached { IfOk result (λ found. (p : Pair)
         → Contains found.pairs p ↔ Reaches (R.relates relation.now) root.now p) }
-    ensures trails { IfOk result (λ found. AllZip
-        (λ p trail. TellsTrailBy (R.relates relation.now) root.now p (Some trail)) found.pairs found.trails) }
+    ensures trails { IfOk result (λ found.
+        AllZip (λ p trail. TellsTrailBy (R.relates relation.now) root.now p (Some trail))
+        found.pairs found.trails) }
 {
     let steps = steps_from(alloc, relation, root)?;
     let pairs = in_order(copies_of_pairs(alloc, steps.as_slice())?)?;
@@ -111,7 +113,8 @@ pub fn trails_from<R: Adjacency>(
 
 /// The steps of a search for all that chains of a relation reach from a root, nearest first.
 fn steps_from<R: Adjacency>(alloc: Global, relation: &R, root: &Pair) -> Result<Steps, AllocError>
-    ensures { IfOk result (λ steps. AreSteps (R.relates relation.now) root.now (length steps) steps) }
+    ensures { IfOk result (λ steps. AreSteps (R.relates relation.now) root.now
+        (length steps) steps) }
 {
     let mut seen = relation.none_seen(alloc);
     let mut steps = Steps::new(alloc);

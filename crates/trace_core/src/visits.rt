@@ -31,9 +31,10 @@ pub fn visit_item(
     looks: &mut u64,
 ) -> Result<(), AllocError>
     ensures gains { OnOk result ((sites : List SiteEvents) (i : List ℕ)
-        → slice_get sites number ≡ Some site.now → slice_get (numbered site.now.events) item ≡ Some i
-        → Gains (Stands sites) (λ groups q. IsGiven site.now number groups q)
-        (λ q. IsSought ships site.now i q) seen.old seen.new nodes.old nodes.new) }
+        → slice_get sites number ≡ Some site.now
+        → slice_get (numbered site.now.events) item ≡ Some i
+        → Gains (Stands sites) (λ groups q. IsGiven site.now number groups q) (λ q.
+        IsSought ships site.now i q) seen.old seen.new nodes.old nodes.new) }
     ensures only { OnOk result (SeesOnly number seen.old seen.new) }
     ensures stays { OnOk result (StaysSeen seen.old seen.new) }
     ensures takers { OnOk result ((i : List ℕ) → slice_get (numbered site.now.events) item ≡ Some i
@@ -79,12 +80,14 @@ fn visit_make(
 ) -> Result<(), AllocError>
     ensures gains { OnOk result ((sites : List SiteEvents)
         → slice_get sites number ≡ Some (record { me = me; events = book.now })
-        → Gains (Stands sites) (λ groups q. IsGiven (record { me = me; events = book.now }) number groups q)
-        (λ q. made_at me book.now place q ≡ true) seen.old seen.new nodes.old nodes.new) }
+        → Gains (Stands sites) (λ groups q.
+        IsGiven (record { me = me; events = book.now }) number groups q) (λ q.
+        made_at me book.now place q ≡ true) seen.old seen.new nodes.old nodes.new) }
     ensures only { OnOk result (SeesOnly number seen.old seen.new) }
     ensures stays { OnOk result (StaysSeen seen.old seen.new) }
     ensures seen { OnOk result (IsSeenAt number book.now seen.new place) }
-    ensures looks { OnOk result (LooksAtUnseen number book.now seen.old seen.new looks.old looks.new) }
+    ensures looks { OnOk result (LooksAtUnseen number book.now seen.old seen.new looks.old
+        looks.new) }
 {
     if let Some(event) = book.get(place) {
         let first = first_part(book, place, event.body());
@@ -106,9 +109,11 @@ fn note_group(
     nodes: &mut Nodes,
     looks: &mut u64,
 ) -> Result<(), AllocError>
-    ensures noted { OnOk result (NotesNodes nodes.old nodes.new (group_nodes me book.now number place body.now (make_id body.now))) }
-    ensures looks { OnOk result ((e : Content) → slice_get book.now place ≡ Some e → e.body ≡ body.now
-        → LooksAtEach (group_outputs book.now body.now (make_id body.now)) looks.old looks.new) }
+    ensures noted { OnOk result (NotesNodes nodes.old nodes.new
+        (group_nodes me book.now number place body.now (make_id body.now))) }
+    ensures looks { OnOk result ((e : Content) → slice_get book.now place ≡ Some e
+        → e.body ≡ body.now → LooksAtEach (group_outputs book.now body.now (make_id body.now))
+        looks.old looks.new) }
 {
     match make_id(body) {
         Some(_) => note_parts(me, book, number, book.parts_of(make_id(body)), nodes, looks),
@@ -128,9 +133,10 @@ fn note_parts(
     nodes: &mut Nodes,
     looks: &mut u64,
 ) -> Result<(), AllocError>
-    ensures noted { OnOk result (NotesNodes nodes.old nodes.new (flat_map (λ k. part_nodes me book.now number k) places.now)) }
-    ensures looks { OnOk result (
-        LooksAtEach (sum_by (λ k. outputs_at (slice_get book.now k)) places.now) looks.old looks.new) }
+    ensures noted { OnOk result (NotesNodes nodes.old nodes.new
+        (flat_map (λ k. part_nodes me book.now number k) places.now)) }
+    ensures looks { OnOk result (LooksAtEach
+        (sum_by (λ k. outputs_at (slice_get book.now k)) places.now) looks.old looks.new) }
 {
     for place in places {
         let outs = book.outs_at(*place, looks);

@@ -1,5 +1,5 @@
-//! Items by their printed keys and as a scanner gives them. Expected values were written by hand, by the tables of the GS1
-//! General Specifications.
+//! Items by their printed keys and as a scanner gives them. Expected values were written by hand, by the tables of the
+//! GS1 General Specifications.
 use epc_core::Epc;
 use item_spellings::{ScanFault, Spelled, Spelling, SpellingFault, read_item, read_key, read_scan};
 use std::alloc::Global;
@@ -60,8 +60,8 @@ fn is_key(alloc: Global, text: &str) -> Result<bool, Fail> {
 }
 
 // Brackets and as a bar code carries it; GTIN and serial number the other way round; a lot (10) and an expiry date (17)
-// beside them; FNC1 behind a value of no predefined length, and where it needn't be; each symbology identifier; a serial
-// number with a bracket; one AI twice with one value; an SSCC alone and with a GTIN.
+// beside them; FNC1 behind a value of no predefined length, and where it needn't be; each symbology identifier; a
+// serial number with a bracket; one AI twice with one value; an SSCC alone and with a GTIN.
 #[test]
 fn scans_that_spell_items(rt: HostRuntime) -> Result<(), Fail> {
     let rows = [
@@ -134,9 +134,9 @@ fn scans_that_spell_items(rt: HostRuntime) -> Result<(), Fail> {
     Ok(())
 }
 
-// A wrong check digit of either number; neither number; no serial number; one that is too long, or has a `#`; two numbers;
-// one AI with two values; and texts that are no element strings: empty AIs and values, an AI that there is none of, a value
-// too short, a letter among digits, brackets that don't close, an EPC URI.
+// A wrong check digit of either number; neither number; no serial number; one that is too long, or has a `#`; two
+// numbers; one AI with two values; and texts that are no element strings: empty AIs and values, an AI that there is
+// none of, a value too short, a letter among digits, brackets that don't close, an EPC URI.
 #[test]
 fn scans_that_are_refused(rt: HostRuntime) -> Result<(), Fail> {
     let rows = [
@@ -179,8 +179,8 @@ fn scans_that_are_refused(rt: HostRuntime) -> Result<(), Fail> {
     Ok(())
 }
 
-// What the program prints of a trade item, a logistic unit and an opaque item; and texts that it prints of none: a wrong check
-// digit, a space too many, an opaque key of what is an SGTIN, an EPC text, an element string.
+// What the program prints of a trade item, a logistic unit and an opaque item; and texts that it prints of none: a
+// wrong check digit, a space too many, an opaque key of what is an SGTIN, an EPC text, an element string.
 #[test]
 fn keys_are_read(rt: HostRuntime) -> Result<(), Fail> {
     let rows = [
