@@ -113,7 +113,9 @@ fn from_json(
     beside: Option<&Pair>,
 ) -> Result<Value, AllocError>
     ensures { IfOk result (λ v. view v
-        ≡ object (member (codes "from") (beside_json sites.now (option_map (λ p. p.now) beside.entry)) (pair_members sites.now pair.now no_members))) }
+        ≡ object (member (codes "from")
+        (beside_json sites.now (option_map (λ p. p.now) beside.entry))
+        (pair_members sites.now pair.now no_members))) }
 {
     let site = name_of(sites, pair.site);
     let item = pair.item.key(alloc)?;

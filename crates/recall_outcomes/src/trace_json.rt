@@ -156,7 +156,8 @@ fn to_json(
     beside: Option<&Pair>,
 ) -> Result<Value, AllocError>
     ensures { IfOk result (λ v. view v
-        ≡ object (pair_members sites.now pair.now (member (codes "to") (beside_json sites.now (option_map (λ p. p.now) beside.entry)) no_members))) }
+        ≡ object (pair_members sites.now pair.now (member (codes "to")
+        (beside_json sites.now (option_map (λ p. p.now) beside.entry)) no_members))) }
 {
     let site = name_of(sites, pair.site);
     let item = pair.item.key(alloc)?;
