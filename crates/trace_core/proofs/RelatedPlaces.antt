@@ -1,5 +1,5 @@
 -- Events that relate an item name it, and the places of ids lead to what is joined.
-use Rattle.std.proofs.Common.{◌≡◌, ◌&&◌, ◌<◌, ◌≤◌, ℕ, Bool, true, false, ◌||◌, List, take, length, get_or, slice_get, ◌↔◌, Option, Some, None, refl, sym, ap, subst, ◌∙◌, ⊎_elim}
+use Rattle.std.proofs.Common.{◌≡◌, ◌&&◌, ◌<◌, ◌≤◌, ℕ, true, ◌||◌, List, take, length, get_or, slice_get, ◌↔◌, Option, Some, None, refl, sym, ap, subst, ◌∙◌, ⊎_elim}
 use mathlib.Core.Bool.{false≢true}
 use Rattle.std.specs.List.{list_any, Any, Contains}
 use Rattle.std.proofs.lemmas.Bool.Decides.{same_from_decides}
@@ -11,7 +11,7 @@ use Rattle.event_json.specs.Events.{Content}
 use Rattle.event_json.specs.declared.bodies.Body.{Body}
 use Rattle.event_json.specs.declared.bodies.Body.TheVariants.{Note, Ship, Make, Pack}
 use Rattle.trace_core.specs.declared.pairs.Pair.{Pair}
-use Rattle.trace_core.specs.Gathering.{joined_by, joins}
+use Rattle.trace_core.specs.Gathering.{joined_by}
 use Rattle.trace_core.specs.PairTests.{lists, same_id, same_item, takes_in, gives_out}
 use Rattle.trace_core.specs.Pairs.{TakesIn, make_id, HaveOneId, IsRelated}
 use Rattle.trace_core.specs.Places.{places_where, at_place, IsPartAt}
@@ -61,12 +61,6 @@ same_id_either : (a b : Option (List ℕ)) → same_id a b ≡ same_id b a
 same_id_either a b = same_from_decides {P = HaveOneId a b} _ _ (same_id_decides a b)
     (λ h. let (id, first, second) = (same_id_decides b a).0 h in (id, second, first), λ (id, first, second). (same_id_decides b a).1 (id, second, first))
 
-and_either : (a b : Bool) → (a && b) ≡ (b && a)
-and_either true true = refl
-and_either true false = refl
-and_either false true = refl
-and_either false false = refl
-
 -- the places of the parts of a body's transformation
 pub parts_found : (events : List Content) (body : Body) (places : List ℕ) (o : Option (List ℕ)) → places ≡ places_where (λ e. same_id (make_id e.body) o) events → o ≡ make_id body
     → places ≡ places_where (λ e. same_id (make_id e.body) (make_id body)) events
@@ -84,15 +78,6 @@ pub joined_at_places : (events : List Content) (body : Body) (j : List ℕ) (pla
 joined_at_places events body j places n past are =
     ap (list_any (λ k. at_place (λ e. gives_out j e.body) (slice_get events k))) (take_all n places past ∙ are)
     ∙ joined_in_parts events body j
-
--- one of them takes the item in
-pub joins_at_places : (events : List Content) (item : List ℕ) (body : Body) (places : List ℕ) → places ≡ places_where (λ e. same_id (make_id e.body) (make_id body)) events
-    → list_any (λ k. at_place (λ e. takes_in item e.body) (slice_get events k)) places ≡ joins events item body
-joins_at_places events item body places are =
-    ap (list_any (λ k. at_place (λ e. takes_in item e.body) (slice_get events k))) are
-    ∙ any_at_places (λ e. same_id (make_id e.body) (make_id body)) (λ e. takes_in item e.body) events
-    ∙ list_any-same (λ e. same_id (make_id e.body) (make_id body) && takes_in item e.body) (λ e. takes_in item e.body && same_id (make_id e.body) (make_id body))
-    (λ e. and_either (same_id (make_id e.body) (make_id body)) (takes_in item e.body)) events
 
 -- the places of an id are those at which a part of its transformation stands
 pub parts_exact : (events : List Content) (id : List ℕ) (places : List ℕ) → places ≡ places_where (λ e. same_id (make_id e.body) (Some id)) events → (k : ℕ) → Contains places k ↔ IsPartAt events id k

@@ -8,7 +8,7 @@ ghost use Rattle.trace_core.specs.Places.{at_place, has_part, places_where};
 
 use crate::books::Book;
 use crate::captured::Captured;
-use crate::gathering::{make_id, takes_in};
+use crate::gathering::make_id;
 use epc_core::Epc;
 use event_json::{Body, PlainText};
 
@@ -24,28 +24,31 @@ impl Captured {
     pub fn is_part_input(&self, id: &PlainText, item: &Epc) -> bool
         ensures { IsTrue result ↔ TakesInAsPart self.now.events id.now item.now }
     {
-        let book = self.book();
-        is_input_among(book, book.takers_of(item), id, item)
+        is_input_of_part(self.book(), id, item)
     }
 }
 
-/// Whether a part of the transformation stands at one of the places, and takes the item in.
-fn is_input_among(book: &Book, places: &[usize], id: &PlainText, item: &Epc) -> bool
-    ensures { result ≡ list_any (λ k. at_place (λ e. has_part id.now e && takes_in item.now e.body)
-        (slice_get book.now k)) places.now }
+/// Whether a part of the transformation takes the item in. Each place of the item's takers takes it in, so that no
+/// list of inputs is gone through.
+pub fn is_input_of_part(book: &Book, id: &PlainText, item: &Epc) -> bool
+    ensures { result ≡ list_any (λ e. takes_in item.now e.body && has_part id.now e) book.now }
 {
-    places
-        .iter()
-        .any(|place| is_input_at(book, *place, id, item))
+    is_part_among(book, book.takers_of(item), id)
 }
 
-/// Whether a part of the transformation stands at a place, and takes the item in.
-fn is_input_at(book: &Book, place: usize, id: &PlainText, item: &Epc) -> bool
-    ensures { result ≡ at_place (λ e. has_part id.now e && takes_in item.now e.body)
-        (slice_get book.now place) }
+/// Whether a part of the transformation stands at one of the places.
+fn is_part_among(book: &Book, places: &[usize], id: &PlainText) -> bool
+    ensures { result ≡ list_any (λ k. at_place (has_part id.now) (slice_get book.now k)) places.now }
+{
+    places.iter().any(|place| is_part_at(book, *place, id))
+}
+
+/// Whether a part of the transformation stands at a place.
+fn is_part_at(book: &Book, place: usize, id: &PlainText) -> bool
+    ensures { result ≡ at_place (has_part id.now) (slice_get book.now place) }
 {
     match book.get(place) {
-        Some(event) => is_part_of(event.body(), id) && takes_in(item, event.body()),
+        Some(event) => is_part_of(event.body(), id),
         None => false,
     }
 }

@@ -1,14 +1,11 @@
 //! What is made of items inside one site, and what one more event would add.
-ghost use Rattle.std.specs.Prelude.{◌≡◌, ◌≤◌, ◌+◌, ◌-◌, ◌^◌, ◌⊎◌, ◌↔◌, ◌||◌, IfOk, OnOk, ℕ, List, None, Contains, length, slice_get};
-ghost use Rattle.std.specs.List.{list_any};
+ghost use Rattle.std.specs.Prelude.{◌≡◌, ◌≤◌, ◌+◌, ◌-◌, ◌^◌, ◌⊎◌, ◌↔◌, ◌||◌, IfOk, OnOk, ℕ, List, None, Contains, length};
 ghost use Rattle.trace_core.specs.declared.nodes.Node.{Node};
 ghost use Rattle.trace_core.specs.declared.pairs.Pair.{Pair};
 ghost use Rattle.trace_core.specs.Gathering.{is_in, added_by, joins};
 ghost use Rattle.trace_core.specs.Nodes.{IsKnownNode};
 ghost use Rattle.trace_core.specs.Numbers.{number_in, numbered};
 ghost use Rattle.trace_core.specs.Pairs.{pair_cmp, IsStrictlyAscending};
-ghost use Rattle.trace_core.specs.PairTests.{takes_in};
-ghost use Rattle.trace_core.specs.Places.{at_place};
 ghost use Rattle.trace_core.specs.Searches.{IsFound};
 ghost use Rattle.trace_core.specs.Spreads.{AreAscendingItems, IsSpread, AreLooks, IsNewlyMade};
 ghost use Rattle.event_json.specs.Events.{Content};
@@ -16,11 +13,12 @@ ghost use Rattle.event_json.specs.Events.{Content};
 use crate::batches::push_items;
 use crate::books::Book;
 use crate::captured::Captured;
-use crate::gathering::{gather_made, gather_outputs, make_id, takes_in};
+use crate::gathering::{gather_made, gather_outputs, make_id};
 use crate::looks::count_look;
 use crate::nodes::{Node, Nodes};
 use crate::ordered_keys::{in_order, keys_in_order};
 use crate::pairs::Pair;
+use crate::parts::is_input_of_part;
 use crate::searches::{Relation, closure};
 use crate::seen::Seen;
 use crate::visits::visit_item;
@@ -210,23 +208,8 @@ fn gather_added(
 fn joins(book: &Book, item: &Epc, body: &Body) -> bool
     ensures { result ≡ joins book.now item.now body.now }
 {
-    takes_in_at(book, book.parts_of(make_id(body)), item)
-}
-
-/// Whether a Make at one of the places has the item as an input.
-fn takes_in_at(book: &Book, places: &[usize], item: &Epc) -> bool
-    ensures { result ≡ list_any (λ k. at_place (λ e. takes_in item.now e.body)
-        (slice_get book.now k)) places.now }
-{
-    places.iter().any(|place| is_taken_in(book, *place, item))
-}
-
-/// Whether a Make at a place has the item as an input.
-fn is_taken_in(book: &Book, place: usize, item: &Epc) -> bool
-    ensures { result ≡ at_place (λ e. takes_in item.now e.body) (slice_get book.now place) }
-{
-    match book.get(place) {
-        Some(event) => takes_in(item, event.body()),
+    match make_id(body) {
+        Some(id) => is_input_of_part(book, id, item),
         None => false,
     }
 }
