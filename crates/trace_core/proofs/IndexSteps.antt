@@ -3,9 +3,7 @@ use Rattle.std.proofs.Common.{◌≡◌, ℕ, true, false, List, [], ◌∷◌, 
 use Rattle.std.specs.List.{Contains, list_any}
 use mathlib.Core.Bool.{false≢true}
 use Rattle.std.specs.Map.{lookup}
-use Rattle.std.specs.BTreeMap.{is_at}
-use Rattle.std.specs.Cmp.Lexicographic.{slice_cmp}
-use Rattle.std.specs.Ordering.{nat_cmp}
+use Rattle.std.specs.Str.{bytes_eq}
 use Rattle.std.specs.String.{string_bytes}
 use Rattle.std.proofs.lemmas.Bool.{cases_Bool}
 use Rattle.std.proofs.lemmas.List.{take-append-drop, take-append-le, take-map, take_at, length-map}
@@ -181,7 +179,7 @@ nothing_there index items members ids parts sent counts packed = record {
     members = record { count = ap length members; each = λ k e m at_e at_m. none_is e at_e };
   };
   ids = record {
-    ids = λ i. ap (λ es. lookup (is_at (λ k. slice_cmp nat_cmp i (string_bytes k))) es) ids;
-    parts = λ i. ap (λ es. lookup (is_at (λ k. slice_cmp nat_cmp i (string_bytes k))) es) parts;
+    ids = λ i. ap (λ es. lookup (λ k. bytes_eq i (string_bytes k)) es) ids;
+    parts = λ i. ap (λ es. lookup (λ k. bytes_eq i (string_bytes k)) es) parts;
   };
 }

@@ -9,9 +9,6 @@ use Rattle.std.proofs.lemmas.List.Kept.{AllPairs-filter}
 use Rattle.std.proofs.lemmas.List.Elements.{filter-append}
 use Rattle.std.proofs.lemmas.List.FromFn.{length-enumerate_from, get_or-enumerate_from}
 use mathlib.Core.Bool.{false≢true}
-use Rattle.std.specs.BTreeMap.{BTreeMap}
-use Rattle.std.specs.declared.string.String.{String}
-use Rattle.std.specs.declared.alloc.Global.{Global}
 use Rattle.std.specs.Prelude.{◌==◌}
 use Rattle.std.specs.Result.{is_err}
 use Rattle.event_json.specs.Events.{Content}
@@ -19,7 +16,7 @@ use Rattle.event_json.specs.declared.bodies.Body.{Body}
 use Rattle.trace_core.specs.PairTests.{lists, same_id}
 use Rattle.trace_core.specs.Pairs.{make_id}
 use Rattle.trace_core.specs.Spreads.{ins_in}
-use Rattle.trace_core.specs.Places.{places_where, kept, or_none, text_places, id_places, at_place, takes_item, IsIndex, IsNoted, AreEarlier, Notes, Forgets, KeepsNone}
+use Rattle.trace_core.specs.Places.{places_where, kept, or_none, TextIndex, text_places, id_places, at_place, takes_item, IsIndex, IsNoted, AreEarlier, Notes, Forgets, KeepsNone}
 use Rattle.trace_core.proofs.Members.{contains_here, contains_there, contains_cases, contains_none, contains-map, list_any_witness, list_any_member}
 use Rattle.trace_core.proofs.PlaceSteps.{kept_all}
 use Rattle.trace_core.proofs.SetMembers.{contains-from_map}
@@ -194,7 +191,7 @@ no_id None = refl
 no_id (Some a) = refl
 
 -- what is looked up under an id
-pub id_looked_up : (index : BTreeMap (String Global) (List ℕ)) (id_of : Content → Option (List ℕ)) (events : List Content) → IsIndex (text_places index) (λ i e. same_id (id_of e) (Some i)) events
+pub id_looked_up : (index : TextIndex) (id_of : Content → Option (List ℕ)) (events : List Content) → IsIndex (text_places index) (λ i e. same_id (id_of e) (Some i)) events
     → (o : Option (List ℕ)) → id_places index o ≡ places_where (λ e. same_id (id_of e) o) events
 id_looked_up index id_of events is None = sym (places_none (λ e. same_id (id_of e) None) events (λ e. no_id (id_of e)))
 id_looked_up index id_of events is (Some id) = ap or_none (is id) ∙ kept_all (places_where (λ e. same_id (id_of e) (Some id)) events)

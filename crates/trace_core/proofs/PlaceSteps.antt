@@ -1,27 +1,24 @@
 -- The places of keys, as events are noted and taken back.
 use Rattle.std.proofs.Common.{◌≡◌, ◌==◌, ◌<◌, ◌-◌, ◌+◌, ℕ, Bool, true, false, not, cond, ◌&&◌, ◌||◌, List, [], ◌∷◌, ◌++◌, Option, Some, None, length, take, drop, get_or, slice_get, Result, Ok, Err, OnErr, refl, sym, ap, ◌∙◌, ⊎_elim, append-nil, length-append, arith}
 use mathlib.Core.Bool.{false≢true}
-use Rattle.std.specs.BTreeMap.{BTreeMap, UpdatesBy}
-use Rattle.std.specs.Cmp.Lexicographic.{slice_cmp}
+use Rattle.std.specs.Str.{bytes_eq}
 use Rattle.std.specs.List.{Contains}
-use Rattle.std.specs.Ordering.{nat_cmp}
-use Rattle.std.specs.String.{string_bytes, string_cmp}
-use Rattle.std.specs.declared.string.String.{String}
-use Rattle.std.specs.declared.alloc.Global.{Global}
+use Rattle.std.specs.String.{string_bytes, string_eq}
+use Rattle.indexmap.specs.IndexMap.{UpdatesBy}
 use Rattle.std.proofs.Math.Seq.{get_or-append_seam}
 use Rattle.std.proofs.lemmas.Bool.{cases_Bool, cond-true, cond-false, eqb-true, eq-eqb}
 use Rattle.std.proofs.lemmas.List.{take_at, take-append-drop}
 use Rattle.std.proofs.lemmas.List.Folds.{list_any_more, list_any-append}
-use Rattle.std.proofs.lemmas.Map.Text.{btree_map_updates_text}
+use Rattle.std.proofs.lemmas.Map.Text.{hash_map_updates_text}
 use Rattle.std.proofs.lemmas.Option.{slice_get-get_or, slice_get_cases, get_or_from_slice_get}
 use Rattle.std.proofs.lemmas.Slice.Eq.{bytes_eq-Decides}
 use Rattle.trace_core.specs.PairTests.{lists, same_item}
-use Rattle.trace_core.specs.Places.{kept, or_none, is_place, ends_with, with_last, without_last, text_places, Notes, NotesSome, Forgets, ForgetsIn, KeepsNone, left_of, is_emptied}
+use Rattle.trace_core.specs.Places.{kept, or_none, is_place, ends_with, with_last, without_last, text_places, Notes, NotesSome, Forgets, ForgetsIn, KeepsNone, left_of, is_emptied, TextIndex}
 
 -- what a look-up of a text finds after a change at one
-pub text_found : (old new : BTreeMap (String Global) (List ℕ)) (bytes : List ℕ) (w : Option (List ℕ)) → UpdatesBy string_cmp (λ k. slice_cmp nat_cmp bytes (string_bytes k)) old new w
+pub text_found : (old new : TextIndex) (bytes : List ℕ) (w : Option (List ℕ)) → UpdatesBy string_eq (λ k. bytes_eq bytes (string_bytes k)) old new w
     → (i : List ℕ) → text_places new i ≡ cond (same_item bytes i) w (text_places old i)
-text_found old new bytes w upd i = btree_map_updates_text bytes old new w upd i
+text_found old new bytes w upd i = hash_map_updates_text bytes old new w upd i
 
 pub kept_all : (places : List ℕ) → or_none (kept places) ≡ places
 kept_all [] = refl

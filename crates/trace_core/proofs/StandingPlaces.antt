@@ -1,9 +1,6 @@
 -- How an event stands, by the places of its eventID.
 use Rattle.std.proofs.Common.{◌≡◌, ◌==◌, ℕ, Bool, true, false, not, ◌&&◌, if◌then◌else◌, List, Option, length, slice_get, refl, sym, ap, subst, ◌∙◌}
-use Rattle.std.specs.BTreeMap.{BTreeMap}
 use Rattle.std.specs.List.{list_any}
-use Rattle.std.specs.declared.alloc.Global.{Global}
-use Rattle.std.specs.declared.string.String.{String}
 use Rattle.std.proofs.lemmas.Bool.{and_parts}
 use Rattle.std.proofs.lemmas.Bool.Decides.{same_from_decides}
 use Rattle.event_json.specs.Events.{Content}
@@ -12,7 +9,7 @@ use Rattle.event_json.proofs.ContentLaws.{content_decides}
 use Rattle.trace_core.specs.declared.adding.Standing.TheVariants.{Fresh, Known, Taken}
 use Rattle.trace_core.specs.Adding.{standing_among}
 use Rattle.trace_core.specs.PairTests.{same_id}
-use Rattle.trace_core.specs.Places.{places_where, at_place, id_places, text_places, has_id, IsIndex}
+use Rattle.trace_core.specs.Places.{TextIndex, places_where, at_place, id_places, text_places, has_id, IsIndex}
 use Rattle.trace_core.proofs.Members.{list_any_witness, list_any_member}
 use Rattle.trace_core.proofs.PairTestsDecide.{same_id_decides}
 use Rattle.trace_core.proofs.PlaceLists.{any_at_places, no_places, id_looked_up}
@@ -22,7 +19,7 @@ own_id : (a b : Option (List ℕ)) → same_id a b ≡ true → same_id b b ≡ 
 own_id a b h = let (id, first, second) = (same_id_decides a b).0 h in (same_id_decides b b).1 (id, second, second)
 
 -- the places of an eventID
-pub id_found : (index : BTreeMap (String Global) (List ℕ)) (events : List Content) (places : List ℕ) (o id : Option (List ℕ)) → places ≡ id_places index o → o ≡ id → IsIndex (text_places index) has_id events
+pub id_found : (index : TextIndex) (events : List Content) (places : List ℕ) (o id : Option (List ℕ)) → places ≡ id_places index o → o ≡ id → IsIndex (text_places index) has_id events
     → places ≡ places_where (λ f. same_id f.id id) events
 id_found index events places o id found same is = found ∙ ap (id_places index) same ∙ id_looked_up index (λ e. e.id) events is id
 

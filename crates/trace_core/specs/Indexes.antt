@@ -1,8 +1,5 @@
 -- What the index of a list of events has, and how it changes with an event.
 use Rattle.std.specs.Prelude.{◌≡◌, ℕ, Bool, List, ◌++◌, length, take}
-use Rattle.std.specs.BTreeMap.{BTreeMap}
-use Rattle.std.specs.declared.string.String.{String}
-use Rattle.std.specs.declared.alloc.Global.{Global}
 use Rattle.event_json.specs.Events.{Content}
 use Rattle.trace_core.specs.declared.indexes.Index.{Index}
 use Rattle.trace_core.specs.declared.event_items.Members.{Members}
@@ -10,10 +7,10 @@ use Rattle.trace_core.specs.Numbers.{Named, numbered, with_names, names_of, item
 use Rattle.trace_core.specs.PairTests.{lists}
 use Rattle.trace_core.specs.PutIn.{children_in, HasPacked}
 use Rattle.trace_core.specs.Sendings.{HasSent}
-use Rattle.trace_core.specs.Places.{text_places, takes_item, has_id, has_part, IsIndex, Notes, NotesSome, Forgets, KeepsNone}
+use Rattle.trace_core.specs.Places.{TextIndex, text_places, takes_item, has_id, has_part, IsIndex, Notes, NotesSome, Forgets, KeepsNone}
 
 -- the places of eventIDs and of the ids of transformations are those of the events
-pub record HasIds (by_id by_part : BTreeMap (String Global) (List ℕ)) (events : List Content) : Type 0 where
+pub record HasIds (by_id by_part : TextIndex) (events : List Content) : Type 0 where
   pub ids : IsIndex (text_places by_id) has_id events
   pub parts : IsIndex (text_places by_part) has_part events
 

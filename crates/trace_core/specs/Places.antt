@@ -1,9 +1,10 @@
 -- At which places of a list of events keys are named, and what an index of that has.
 use Rattle.std.specs.Prelude.{◌≡◌, ◌==◌, ◌<◌, ◌-◌, ℕ, Bool, true, false, not, cond, ◌&&◌, ◌||◌, if◌then◌else◌, List, [], ◌∷◌, ◌++◌, Option, Some, None, Contains, length, take, slice_get, map, filter}
-use Rattle.std.specs.BTreeMap.{BTreeMap, get_by_text}
+use Rattle.indexmap.specs.IndexMap.{IndexMap, get_by_text}
 use Rattle.std.specs.List.{enumerate_from}
 use Rattle.std.specs.declared.string.String.{String}
 use Rattle.std.specs.declared.alloc.Global.{Global}
+use Rattle.std.specs.declared.hash.RandomState.{RandomState}
 use Rattle.event_json.specs.Events.{Content}
 use Rattle.trace_core.specs.PairTests.{lists, same_item, same_id}
 use Rattle.trace_core.specs.Pairs.{make_id}
@@ -40,8 +41,12 @@ with_last place places = if ends_with place places then places else places ++ pl
 abbrev pub without_last : ℕ → List ℕ → List ℕ
 without_last place places = if ends_with place places then take (length places - 1) places else places
 
+-- texts, each with the places of the events that have it
+abbrev pub TextIndex : Type 0
+TextIndex = IndexMap (String Global) (List ℕ) RandomState
+
 -- what is looked up in an index of texts
-abbrev pub text_places : BTreeMap (String Global) (List ℕ) → List ℕ → Option (List ℕ)
+abbrev pub text_places : TextIndex → List ℕ → Option (List ℕ)
 text_places index text = get_by_text index text
 
 -- the event names the item
@@ -61,7 +66,7 @@ abbrev pub has_part : List ℕ → Content → Bool
 has_part id e = same_id (make_id e.body) (Some id)
 
 -- what is looked up under an id, nothing where there is none
-abbrev pub id_places : BTreeMap (String Global) (List ℕ) → Option (List ℕ) → List ℕ
+abbrev pub id_places : TextIndex → Option (List ℕ) → List ℕ
 id_places index None = []
 id_places index (Some id) = or_none (text_places index id)
 

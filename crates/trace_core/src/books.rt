@@ -46,8 +46,8 @@ impl Model for Book {
 }
 
 impl Book {
-    /// No events, with the keys of the hash by which items are numbered, drawn at random, so that nobody can choose
-    /// texts that collide. Does not allocate.
+    /// No events, with the keys of the hash by which items and ids are looked up, drawn at random, so that nobody can
+    /// choose texts that collide. Does not allocate.
     pub fn new(alloc: Global, keys: RandomState) -> Book
         ensures { result ≡ [] }
     {

@@ -49,8 +49,8 @@ impl Model for Captured {
 }
 
 impl Captured {
-    /// A site without events, with the keys of the hash by which items are numbered, drawn at random, so that nobody
-    /// can choose texts that collide. Does not allocate.
+    /// A site without events, with the keys of the hash by which items and ids are looked up, drawn at random, so that
+    /// nobody can choose texts that collide. Does not allocate.
     pub fn new(alloc: Global, keys: RandomState, me: SiteNo) -> Captured
         ensures { result ≡ record { me = me; events = [] } }
     {

@@ -5,11 +5,16 @@ ghost use Rattle.trace_core.specs.Places.{text_places, id_places, is_emptied, Fo
 
 use crate::places::Places;
 use event_json::PlainText;
+use indexmap::IndexMap;
 use std::alloc::{AllocError, Global};
-use std::collections::BTreeMap;
+use std::hash::RandomState;
+
+/// Texts, each with the places of the events that have it. No choice of texts makes a look-up slow: the hash has random
+/// keys.
+pub type TextIndex = IndexMap<String, Places, RandomState>;
 
 /// The places of an id, none where there is no id.
-pub fn places_of_id<'a>(index: &'a BTreeMap<String, Places>, id: Option<&PlainText>) -> &'a [usize]
+pub fn places_of_id<'a>(index: &'a TextIndex, id: Option<&PlainText>) -> &'a [usize]
     ensures { result.now ≡ id_places index.now (option_map (λ t. t.now) id.entry) }
 {
     match id {
@@ -25,7 +30,7 @@ pub fn places_of_id<'a>(index: &'a BTreeMap<String, Places>, id: Option<&PlainTe
 /// changes nothing.
 pub fn note_id(
     alloc: Global,
-    index: &mut BTreeMap<String, Places>,
+    index: &mut TextIndex,
     id: Option<&PlainText>,
     place: usize,
 ) -> Result<(), AllocError>
@@ -42,7 +47,7 @@ pub fn note_id(
 /// Notes a place of a text. An `Err` changes nothing.
 fn note_text(
     alloc: Global,
-    index: &mut BTreeMap<String, Places>,
+    index: &mut TextIndex,
     text: &str,
     place: usize,
 ) -> Result<(), AllocError>
@@ -59,7 +64,7 @@ fn note_text(
 }
 
 /// Takes a place away from the id of the event there, if it has one. Does not allocate.
-pub fn forget_id(index: &mut BTreeMap<String, Places>, id: Option<&PlainText>, place: usize)
+pub fn forget_id(index: &mut TextIndex, id: Option<&PlainText>, place: usize)
     ensures { Forgets (text_places index.old) (text_places index.new) place (λ i.
         same_id (option_map (λ t. t.now) id.entry) (Some i)) }
 {
@@ -69,16 +74,16 @@ pub fn forget_id(index: &mut BTreeMap<String, Places>, id: Option<&PlainText>, p
 }
 
 /// Takes a place away from a text, if it is its last one, and the text with its only place. Does not allocate.
-fn forget_text(index: &mut BTreeMap<String, Places>, text: &str, place: usize)
+fn forget_text(index: &mut TextIndex, text: &str, place: usize)
     ensures { Forgets (text_places index.old) (text_places index.new) place (same_item text.now) }
 {
     if forget_in(index, text, place) {
-        index.remove(text);
+        index.swap_remove(text);
     }
 }
 
 /// Takes a place away from a text, if it is its last one, and returns whether none is left. Does not allocate.
-fn forget_in(index: &mut BTreeMap<String, Places>, text: &str, place: usize) -> bool
+fn forget_in(index: &mut TextIndex, text: &str, place: usize) -> bool
     ensures left { ForgetsIn (text_places index.old) (text_places index.new) place text.now }
     ensures emptied { result ≡ is_emptied place (text_places index.old text.now) }
 {

@@ -10,20 +10,19 @@ use crate::event_items::{
     Members, forget_items_of, kept_numbers, moved_count, note_items_of, parent_number,
 };
 use crate::gathering::make_id;
-use crate::ids::{forget_id, note_id};
+use crate::ids::{TextIndex, forget_id, note_id};
 use crate::items::Items;
 use crate::packed::Packed;
 use crate::places::Places;
 use crate::sendings::{Sending, Sent};
 use event_json::Event;
+use indexmap::IndexMap;
 use std::alloc::{AllocError, Global};
-use std::collections::BTreeMap;
 use std::hash::RandomState;
 
 /// Which items a list of events names, the transformations that take each of them in, what was put into it and the
 /// sites that it was sent to; at which places eventIDs and the ids of transformations stand, and which outputs each
-/// event has. No choice of texts makes a look-up slow: ids stand in ordered maps, and the hash by which items are
-/// numbered has random keys.
+/// event has. No choice of texts makes a look-up slow: the hash by which items and ids are looked up has random keys.
 #[derive(Debug, Drop)]
 pub struct Index {
     /// By item: its number, and the transformations that take it in.
@@ -31,9 +30,9 @@ pub struct Index {
     /// By event: its members.
     pub members: Vec<Members>,
     /// By eventID: the events that have it.
-    pub ids: BTreeMap<String, Places>,
+    pub ids: TextIndex,
     /// By transformationID: the transformations that have it.
-    pub parts: BTreeMap<String, Places>,
+    pub parts: TextIndex,
     /// What all events sent, by the numbers of items.
     pub sent: Sent,
     /// By event: how much was sent before it.
@@ -43,16 +42,16 @@ pub struct Index {
 }
 
 impl Index {
-    /// The index of no events, with the keys of the hash by which items are numbered, drawn at random, so that
-    /// nobody can choose texts that collide. Does not allocate.
+    /// The index of no events, with the keys of the hash by which items and ids are looked up, drawn at random, so
+    /// that nobody can choose texts that collide. Does not allocate.
     pub fn new(alloc: Global, keys: RandomState) -> Index
         ensures { HasPlaces result [] }
     {
         Index {
             items: Items::new(alloc, keys),
             members: Vec::new(alloc),
-            ids: BTreeMap::new(alloc),
-            parts: BTreeMap::new(alloc),
+            ids: IndexMap::with_hasher(alloc, keys),
+            parts: IndexMap::with_hasher(alloc, keys),
             sent: Sent::new(alloc),
             counts: Vec::new(alloc),
             packed: Packed::new(alloc),
@@ -160,8 +159,8 @@ fn note_rest(
     alloc: Global,
     sent: &mut Sent,
     packed: &mut Packed,
-    ids: &mut BTreeMap<String, Places>,
-    parts: &mut BTreeMap<String, Places>,
+    ids: &mut TextIndex,
+    parts: &mut TextIndex,
     event: &Event,
     parent: Option<usize>,
     numbers: &[usize],
@@ -192,8 +191,8 @@ fn note_rest(
 /// Notes the ids of the event that comes at a place. An `Err` changes nothing that can be looked up.
 fn note_ids(
     alloc: Global,
-    ids: &mut BTreeMap<String, Places>,
-    parts: &mut BTreeMap<String, Places>,
+    ids: &mut TextIndex,
+    parts: &mut TextIndex,
     event: &Event,
     place: usize,
 ) -> Result<(), AllocError>
