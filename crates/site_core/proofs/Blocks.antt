@@ -1,6 +1,7 @@
 -- By what an event is blocked, sought in ascending lists.
-use Rattle.std.proofs.Common.{◌≡◌, ◌≢◌, ◌↔◌, ◌==◌, Bool, true, false, not, ◌&&◌, ℕ, List, [], ◌∷◌, Some, refl, sym, ap, subst, ◌∙◌, ⊎_elim}
-use Rattle.std.specs.Prelude.{IsTrue}
+use Rattle.std.proofs.Common.{◌≡◌, ◌≢◌, ◌↔◌, ◌==◌, Bool, true, false, not, ◌&&◌, ℕ, List, [], ◌∷◌, Some, refl, sym, ap, subst, ◌∙◌, ⊎_elim, arith}
+use Rattle.std.specs.Prelude.{IsTrue, Any, length}
+use Rattle.std.specs.BTreeSet.{BTreeSet, Updates, contains}
 use mathlib.Core.Bool.{false≢true}
 use Rattle.std.specs.Bool.{Decides}
 use Rattle.std.specs.Cmp.{IsTotalOrder}
@@ -9,21 +10,28 @@ use Rattle.std.specs.List.{Contains, list_all, list_any}
 use Rattle.std.specs.List.Sorted.{IsStrictlySortedBy}
 use Rattle.std.specs.declared.cmp.Ordering.{Ordering}
 use Rattle.std.specs.declared.cmp.Ordering.TheVariants.{Greater}
+use Rattle.std.proofs.lemmas.Bool.{eqb-true, or_cases}
 use Rattle.std.proofs.lemmas.Bool.Decides.{Decides-and, Decides-eqb, Decides-not}
+use Rattle.std.proofs.lemmas.List.{nil_from_length}
 use Rattle.std.proofs.lemmas.List.Folds.{list_all_at}
 use Rattle.event_json.specs.Events.{Content}
 use Rattle.event_json.specs.declared.bodies.Body.{Body}
 use Rattle.event_json.specs.declared.bodies.Body.TheVariants.{Note, Ship, Make, Pack}
 use Rattle.frame_core.specs.Identifiers.{recall_cmp}
 use Rattle.frame_core.specs.Numbers.{Recall}
+use Rattle.frame_core.specs.Orders.{recall_total, recall_exact}
 use Rattle.trace_core.specs.declared.pairs.Pair.{Pair}
-use Rattle.trace_core.specs.Pairs.{GivesOut}
+use Rattle.trace_core.specs.Pairs.{GivesOut, make_id}
+use Rattle.trace_core.specs.Places.{places_where, has_part}
 use Rattle.trace_core.specs.Sites.{SiteEvents}
 use Rattle.trace_core.specs.Spreads.{IsNewTarget}
 use Rattle.trace_core.proofs.AddedPairs.{related_with}
 use Rattle.trace_core.proofs.Members.{contains_cases, contains_none, list_any_witness, list_any_member}
+use Rattle.trace_core.proofs.PairTestsDecide.{same_id_decides}
+use Rattle.trace_core.proofs.PlaceLists.{place_there}
+use Rattle.trace_core.proofs.SetMembers.{found-insert}
 use Rattle.site_core.specs.Capturing.{IsBlockedBy, IsFree, IsHeldHere}
-use Rattle.site_core.specs.Blocks.{IsMaking, IsBlockFrom, IsFirstBlockOf, JoinsAsPart, holds_outputs}
+use Rattle.site_core.specs.Blocks.{IsMaking, IsBlockFrom, IsFirstBlockOf, JoinsAsPart, holds_outputs, is_covered, CoverOutputs}
 use Rattle.site_core.specs.Quarantines.{Quarantine, held, item_cmp}
 use Rattle.site_core.proofs.Ascending.{head_least, tail_ascends}
 use Rattle.site_core.proofs.Held.{none_held}
@@ -100,19 +108,45 @@ outputs_alone s e i making joins p (related, new) = ⊎_elim
     (λ (other, (sends, same)). absurd (makes_only s.events e.body p.site making sends.0))
     (λ (here, (takes, gives)). ⊎_elim
     (λ out. (here, out))
-    (λ (k, f, lt, at, ((id, first, second), out)). absurd (new (parts_relate s id i p (joins id first) (k, f, lt, at, (second, out)) here)))
+    (λ (k, f, lt, at, ((id, first, second), out)). absurd (⊎_elim
+    (λ takes. new (parts_relate s id i p takes (k, f, lt, at, (second, out)) here))
+    (λ none. none (k, f, lt, at, second))
+    (joins id first)))
     gives)
     own)
     (λ (joined, inside). inside)
     added)
     (related_with s e i p related)
 
-pub stays_inside : (s : SiteEvents) (q : Quarantine) (e : Content) (b : Body) (i : List ℕ) (recalls : List Recall) → b ≡ e.body → IsMaking e.body → JoinsAsPart s b i
-    → list_all (λ r. holds_outputs q b r) recalls ≡ true → (r : Recall) → Contains recalls r → IsBlockedBy s q e i r → ⊥
-stays_inside s q e b i recalls is making joins all r there blocked =
+covered_held : (q : Quarantine) (b : Body) (found : BTreeSet Recall) (r : Recall) → CoverOutputs q b found → is_covered found b r ≡ true → holds_outputs q b r ≡ true
+covered_held q (Note items) found r cover h = refl
+covered_held q (Ship items sites outside) found r cover h = refl
+covered_held q (Pack action parent children) found r cover h = refl
+covered_held q (Make id ins []) found r cover h = refl
+covered_held q (Make id ins (j ∷ js)) found r cover h = ⊎_elim
+    (λ none. let no : length (j ∷ js) ≡ 0 = eqb-true (length (j ∷ js)) 0 none in absurd (omega (arith, no)))
+    (λ among. cover r among)
+    (or_cases (length (j ∷ js) == 0) (contains recall_cmp found r) h)
+
+pub stays_inside : (s : SiteEvents) (q : Quarantine) (e : Content) (b : Body) (i : List ℕ) (found : BTreeSet Recall) (recalls : List Recall) → b ≡ e.body → IsMaking e.body → JoinsAsPart s b i
+    → CoverOutputs q e.body found → list_all (is_covered found b) recalls ≡ true → (r : Recall) → Contains recalls r → IsBlockedBy s q e i r → ⊥
+stays_inside s q e b i found recalls is making joins cover all r there blocked =
     let (here, out) = outputs_alone s e i making (subst (λ (c : Body). JoinsAsPart s c i) is joins) blocked.target blocked.new in
-    let holds : holds_outputs q e.body r ≡ true = ap (λ (c : Body). holds_outputs q c r) (sym is) ∙ list_all_member (λ r. holds_outputs q b r) recalls r there all in
+    let holds : holds_outputs q e.body r ≡ true = covered_held q e.body found r cover (ap (λ (c : Body). is_covered found c r) (sym is) ∙ list_all_member (is_covered found b) recalls r there all) in
     blocked.leaves (here, gives_made q e.body r blocked.target.item holds out)
+
+-- one recall more was found
+pub cover_more : (q : Quarantine) (b : Body) (old new : BTreeSet Recall) (r : Recall) → CoverOutputs q b old → holds_outputs q b r ≡ true → Updates recall_cmp old new r true → CoverOutputs q b new
+cover_more q b old new r cover holds upd t found = ⊎_elim
+    (λ before. cover t before)
+    (λ same. subst (λ (u : Recall). holds_outputs q b u ≡ true) same holds)
+    ((found-insert recall_cmp recall_total recall_exact old new r upd t).0 found)
+
+-- without parts nothing is a part
+pub no_part : (events : List Content) (id : List ℕ) → length (places_where (has_part id) events) ≡ 0 → Any (λ e. make_id e.body ≡ Some id) events → ⊥
+no_part events id none (k, e, lt, at, is) =
+    let there = place_there (has_part id) events k e lt at ((same_id_decides (make_id e.body) (Some id)).1 (id, is, refl)) in
+    contains_none k (subst (λ (ks : List ℕ). Contains ks k) (nil_from_length (places_where (has_part id) events) none) there)
 
 -- no held item, no block
 pub nothing_blocks : (s : SiteEvents) (q : Quarantine) (e : Content) → q ≡ empty → IsFree s q e

@@ -1,5 +1,6 @@
 -- What becomes of one event, and by what it is blocked.
-use Rattle.std.specs.Prelude.{◌≡◌, ◌≢◌, ⊤, ℕ, Bool, true, List, Option, Some, None}
+use Rattle.std.specs.Prelude.{◌≡◌, ◌≢◌, ◌⊎◌, ◌==◌, ◌||◌, ⊤, ℕ, Bool, true, List, Option, Some, None, Any, length}
+use Rattle.std.specs.BTreeSet.{BTreeSet, contains}
 use Rattle.std.specs.declared.cmp.Ordering.TheVariants.{Greater}
 use Rattle.std.specs.List.{list_all}
 use Rattle.event_json.specs.Events.{Content}
@@ -10,6 +11,7 @@ use Rattle.frame_core.specs.Numbers.{Recall}
 use Rattle.trace_core.specs.Adding.{standing_among}
 use Rattle.trace_core.specs.Pairs.{make_id}
 use Rattle.trace_core.specs.Parts.{TakesInAsPart}
+use Rattle.trace_core.specs.Searches.{IsFound}
 use Rattle.trace_core.specs.Sites.{SiteEvents}
 use Rattle.trace_core.specs.declared.adding.Standing.{Standing}
 use Rattle.trace_core.specs.declared.adding.Standing.TheVariants.{Fresh, Known, Taken}
@@ -30,9 +32,13 @@ IsMaking (Ship items sites outside) = ⊥
 IsMaking (Make id ins outs) = ⊤
 IsMaking (Pack action parent children) = ⊥
 
--- where the body is a part of a transformation with an id, a captured part of it takes the item in
+-- a captured part of the transformation with this id takes the item in, or no part of it is captured
+abbrev pub IsOldInput : List Content → List ℕ → List ℕ → Type 0
+IsOldInput events id i = TakesInAsPart events id i ⊎ (Any (λ e. make_id e.body ≡ Some id) events → ⊥)
+
+-- so it is where the body is a part of a transformation with an id
 abbrev pub JoinsAsPart : SiteEvents → Body → List ℕ → Type 0
-JoinsAsPart s b i = (id : List ℕ) → make_id b ≡ Some id → TakesInAsPart s.events id i
+JoinsAsPart s b i = (id : List ℕ) → make_id b ≡ Some id → IsOldInput s.events id i
 
 -- whether all outputs of the body are quarantined under the recall
 abbrev pub holds_outputs : Quarantine → Body → Recall → Bool
@@ -40,6 +46,17 @@ holds_outputs q (Note items) r = true
 holds_outputs q (Ship items sites outside) r = true
 holds_outputs q (Make id ins outs) r = list_all (λ j. held q r j) outs
 holds_outputs q (Pack action parent children) r = true
+
+-- under each of these recalls they are
+abbrev pub CoverOutputs : Quarantine → Body → BTreeSet Recall → Type 0
+CoverOutputs q b found = (r : Recall) → IsFound recall_cmp found r → holds_outputs q b r ≡ true
+
+-- whether the body has no outputs, or the recall is one of these
+abbrev pub is_covered : BTreeSet Recall → Body → Recall → Bool
+is_covered found (Note items) r = true
+is_covered found (Ship items sites outside) r = true
+is_covered found (Make id ins outs) r = length outs == 0 || contains recall_cmp found r
+is_covered found (Pack action parent children) r = true
 
 -- the least recall by which it is blocked, with the item
 abbrev pub IsBlockFrom : SiteEvents → Quarantine → Content → List ℕ → Option (Recall × List ℕ) → Type 0

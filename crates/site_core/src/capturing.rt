@@ -2,22 +2,24 @@
 ghost use Rattle.std.specs.Prelude.{◌≡◌, ◌↔◌, ◌==◌, ◌++◌, ◌∷◌, [], ℕ, List, Some, IfOk, IfErr, OnErr, IsTrue, Contains, not, ◌&&◌, length, take, option_map};
 ghost use Rattle.event_json.specs.Events.{Content};
 ghost use Rattle.frame_core.specs.Numbers.{Recall};
-ghost use Rattle.std.specs.List.{list_all, list_any};
+ghost use Rattle.std.specs.List.{list_any};
 ghost use Rattle.site_core.specs.Quarantines.{held};
 ghost use Rattle.site_core.specs.Capturing.{IsCaptured, IsBlockedBy, TellsRefusal};
 ghost use Rattle.trace_core.specs.Adding.{standing_among, with_fresh};
 ghost use Rattle.trace_core.specs.declared.adding.Standing.TheVariants.{Fresh};
-ghost use Rattle.site_core.specs.Blocks.{IsMaking, IsLeastBlock, IsBlockFrom, IsFirstBlockOf, JoinsAsPart, holds_outputs, Passes, Refuses};
+ghost use Rattle.site_core.specs.Blocks.{IsMaking, IsLeastBlock, IsBlockFrom, IsFirstBlockOf, IsOldInput, JoinsAsPart, CoverOutputs, Passes, Refuses};
 ghost use Rattle.site_core.specs.SentBlocks.{IsHeldAway, IsLeastHolder, IsLeastSent, IsLesser};
 
+use crate::covering::{covering_recalls, each_is_covered};
 use crate::holding::{holders, is_held};
 use crate::quarantines::Quarantine;
 use crate::sources::{part_id, sources};
 use epc_core::Epc;
-use event_json::{Body, Event, SiteNo};
+use event_json::{Body, Event, PlainText, SiteNo};
 use frame_core::RecallId;
 use std::alloc::{AllocError, Global};
 use std::cmp::Ordering;
+use std::collections::BTreeSet;
 use thiserror::Error;
 use trace_core::{Added, Captured, Pair, Sending, Standing};
 
@@ -314,8 +316,9 @@ fn first_block(
     if quarantine.is_empty() {
         return Ok(None);
     }
+    let covering = covering_recalls(alloc, quarantine, event)?;
     for item in sources(alloc, captured, quarantine, event)? {
-        match block_from(alloc, captured, quarantine, event, item)? {
+        match block_from(alloc, captured, quarantine, event, &covering, item)? {
             Some(block) => return Ok(Some(block)),
             None => {}
         }
@@ -329,12 +332,14 @@ fn block_from(
     captured: &Captured,
     quarantine: &Quarantine,
     event: &Event,
+    covering: &BTreeSet<RecallId>,
     item: Epc,
 ) -> Result<Option<(RecallId, Epc)>, AllocError>
-    requires { IsMaking event.now.body }
+    requires making { IsMaking event.now.body }
+    requires covered { CoverOutputs quarantine.now event.now.body covering.now }
     ensures { IfOk result (λ block. IsBlockFrom captured.now quarantine.now event.now item block) }
 {
-    match least_recall(alloc, captured, quarantine, event, &item)? {
+    match least_recall(alloc, captured, quarantine, event, covering, &item)? {
         Some(recall) => Ok(Some((recall, item))),
         None => Ok(None),
     }
@@ -346,9 +351,11 @@ fn least_recall(
     captured: &Captured,
     quarantine: &Quarantine,
     event: &Event,
+    covering: &BTreeSet<RecallId>,
     item: &Epc,
 ) -> Result<Option<RecallId>, AllocError>
-    requires { IsMaking event.now.body }
+    requires making { IsMaking event.now.body }
+    requires covered { CoverOutputs quarantine.now event.now.body covering.now }
     ensures { IfOk result (λ recall. IsLeastBlock captured.now quarantine.now event.now item.now
         recall) }
 {
@@ -356,7 +363,7 @@ fn least_recall(
     if recalls.is_empty() {
         return Ok(None);
     }
-    if stays_inside(captured, quarantine, event, item, &recalls) {
+    if stays_inside(captured, quarantine, event, covering, item, &recalls) {
         return Ok(None);
     }
     let targets = captured.new_made(event, item)?;
@@ -374,52 +381,39 @@ fn stays_inside(
     captured: &Captured,
     quarantine: &Quarantine,
     event: &Event,
+    covering: &BTreeSet<RecallId>,
     item: &Epc,
     recalls: &[RecallId],
 ) -> bool
-    requires { IsMaking event.now.body }
+    requires making { IsMaking event.now.body }
+    requires covered { CoverOutputs quarantine.now event.now.body covering.now }
     ensures { IsTrue result → (r : Recall) → Contains recalls.now r
         → IsBlockedBy captured.now quarantine.now event.now item.now r → ⊥ }
 {
     let body = event.body();
-    joins_as_part(captured, body, item) && each_holds_outputs(quarantine, recalls, body)
+    joins_as_part(captured, body, item) && each_is_covered(covering, recalls, body)
 }
 
-/// Whether a captured part of the body's transformation takes the item in, if it has an id: then the outputs of those
-/// parts aren't new.
+/// Whether a captured part of the body's transformation takes the item in, or none is captured, if it has an id: then
+/// the outputs of those parts aren't new.
 fn joins_as_part(captured: &Captured, body: &Body, item: &Epc) -> bool
     ensures { IsTrue result → JoinsAsPart captured.now body.now item.now }
 {
     match part_id(body) {
-        Some(id) => captured.is_part_input(id, item),
+        Some(id) => is_old_input(captured, id, item),
         None => true,
     }
 }
 
-/// Whether all outputs of a body are quarantined under each of the recalls.
-fn each_holds_outputs(quarantine: &Quarantine, recalls: &[RecallId], body: &Body) -> bool
-    ensures { result ≡ list_all (λ r. holds_outputs quarantine.now body.now r) recalls.now }
+/// Whether a captured part of a transformation takes the item in, or none is captured.
+fn is_old_input(captured: &Captured, id: &PlainText, item: &Epc) -> bool
+    ensures { IsTrue result → IsOldInput captured.now.events id.now item.now }
 {
-    recalls
-        .iter()
-        .all(|recall| holds_outputs(quarantine, *recall, body))
-}
-
-/// Whether all outputs of a body are quarantined under a recall.
-fn holds_outputs(quarantine: &Quarantine, recall: RecallId, body: &Body) -> bool
-    ensures { result ≡ holds_outputs quarantine.now body.now recall }
-{
-    match body {
-        Body::Make { outs, .. } => holds_all(quarantine, recall, outs.as_slice()),
-        _ => true,
+    if captured.part_count(id) == 0 {
+        true
+    } else {
+        captured.is_part_input(id, item)
     }
-}
-
-/// Whether each of the items is quarantined under a recall.
-fn holds_all(quarantine: &Quarantine, recall: RecallId, items: &[Epc]) -> bool
-    ensures { result ≡ list_all (λ j. held quarantine.now recall j) items.now }
-{
-    items.iter().all(|item| quarantine.holds(recall, item))
 }
 
 /// Whether one of the pairs isn't at this site and quarantined there under the recall.

@@ -4,6 +4,7 @@
 mod capturing;
 pub mod capturing_laws;
 mod closing;
+mod covering;
 mod emitting;
 mod every;
 mod held_index;

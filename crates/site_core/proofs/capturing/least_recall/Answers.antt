@@ -18,7 +18,7 @@ returns-then-leads_out c =
     let xs = into_iter_items c.loop-recall.recall-iterator in
     let rest = into_iter_items c.next.new.self in
     let next : xs ≡ _ = c.in-Some.ensures.steps.0 in (
-      told_blocks c.args.captured.now c.args.quarantine.now c.args.event.now c.args.item.now c.in-Some.recall c.me.result c.deref-in-loop-recall.result.now c.in_ok-targets.targets.items c.me.ensures c.deref-in-loop-recall.ensures.value (made_listed c.args.captured.now c.args.event.now c.args.item.now c.in_ok-targets.targets.items c.requires c.in_ok-targets.ensures.exact)
+      told_blocks c.args.captured.now c.args.quarantine.now c.args.event.now c.args.item.now c.in-Some.recall c.me.result c.deref-in-loop-recall.result.now c.in_ok-targets.targets.items c.me.ensures c.deref-in-loop-recall.ensures.value (made_listed c.args.captured.now c.args.event.now c.args.item.now c.in_ok-targets.targets.items c.requires.making c.in_ok-targets.ensures.exact)
           (c.loop-recall.invariant.holds c.in-Some.recall (subst (λ ys. Contains ys c.in-Some.recall) (sym next) (contains_here c.in-Some.recall rest))) (sym c.leads_out.ensures ∙ c.if-leads_out.true),
       λ other b. next_least (λ r. IsBlockedBy c.args.captured.now c.args.quarantine.now c.args.event.now c.args.item.now r) xs rest c.in-Some.recall next recall_cmp recall_total c.loop-recall.invariant.ascend c.loop-recall.invariant.left other b,
     )
@@ -34,7 +34,7 @@ loop-recall-preserved c =
       ascend = next_ascends (λ r. IsBlockedBy c.args.captured.now c.args.quarantine.now c.args.event.now c.args.item.now r) xs rest c.in-Some.recall next recall_cmp c.loop-recall.invariant.ascend;
       holds = λ r there. c.loop-recall.invariant.holds r (subst (λ ys. Contains ys r) (sym next) (contains_there c.in-Some.recall r rest there));
       left = next_left (λ r. IsBlockedBy c.args.captured.now c.args.quarantine.now c.args.event.now c.args.item.now r) xs rest c.in-Some.recall next
-          (told_blocks_not c.args.captured.now c.args.quarantine.now c.args.event.now c.args.item.now c.in-Some.recall c.me.result c.deref-in-loop-recall.result.now c.in_ok-targets.targets.items c.me.ensures c.deref-in-loop-recall.ensures.value (made_listed c.args.captured.now c.args.event.now c.args.item.now c.in_ok-targets.targets.items c.requires c.in_ok-targets.ensures.exact) (sym c.leads_out.ensures ∙ c.if-leads_out.false))
+          (told_blocks_not c.args.captured.now c.args.quarantine.now c.args.event.now c.args.item.now c.in-Some.recall c.me.result c.deref-in-loop-recall.result.now c.in_ok-targets.targets.items c.me.ensures c.deref-in-loop-recall.ensures.value (made_listed c.args.captured.now c.args.event.now c.args.item.now c.in_ok-targets.targets.items c.requires.making c.in_ok-targets.ensures.exact) (sym c.leads_out.ensures ∙ c.if-leads_out.false))
           c.loop-recall.invariant.left;
     }
 
