@@ -1,6 +1,8 @@
 -- The sources of the pairs that an event adds, and what is found of them.
-use Rattle.std.proofs.Common.{◌≡◌, ◌⊎◌, inl, inr, ℕ, ◌+◌, ◌<◌, ◌≤◌, true, List, [], ◌∷◌, Option, Some, None, take, get_or, length, ◌↔◌, refl, sym, ap, subst, ◌∙◌, ⊎_elim}
+use Rattle.std.proofs.Common.{◌≡◌, ◌⊎◌, ◌==◌, inl, inr, ℕ, ◌+◌, ◌<◌, ◌≤◌, true, false, not, arith, List, [], ◌∷◌, Option, Some, None, take, get_or, length, ◌↔◌, refl, sym, ap, subst, ◌∙◌, ⊎_elim}
 use Rattle.std.specs.Prelude.{Any, IsTrue}
+use mathlib.Core.Bool.{false≢true}
+use Rattle.std.proofs.lemmas.Bool.{cases_Bool, eqb-true}
 use Rattle.std.specs.BTreeSet.{BTreeSet, Updates}
 use Rattle.std.specs.Cmp.Lexicographic.{slice_cmp}
 use Rattle.std.specs.List.{Contains, slice_get}
@@ -30,7 +32,7 @@ use Rattle.trace_core.proofs.SetMembers.{found-insert, contains_more}
 use Rattle.site_core.specs.HeldIndex.{Index, IsIndex}
 use Rattle.site_core.specs.Quarantines.{Quarantine, held, item_cmp}
 use Rattle.site_core.specs.Blocks.{IsMaking}
-use Rattle.site_core.specs.Sources.{FindsAlso, FindsInputsAt, FindsParts, FindsIfInput, FindsHeldInputs, FindsJoined}
+use Rattle.site_core.specs.Sources.{FindsAlso, FindsInputsAt, FindsParts, FindsIfInput, FindsHeldInputs, FindsJoined, FindsGiving, has_outputs}
 use Rattle.site_core.proofs.HeldIndex.{held_entry}
 
 pub taken_in : (i : List ℕ) (b : Body) → TakesIn i b → Contains (ins_in b) i
@@ -160,6 +162,24 @@ module _ (events : List Content) (q : Quarantine) (b : Body) (old : BTreeSet (Li
     all = λ other i r named h takes. finds.all i r h (subst (λ (x : List ℕ). TakesInAsPart events x i) (sym (one_id id other (make_id b) is named)) takes);
   }
 
+-- what gives something out has outputs
+gives_some : (b : Body) (j : List ℕ) → GivesOut j b → has_outputs b ≡ true
+gives_some (Note items) j h = absurd h
+gives_some (Ship items sites outside) j h = absurd h
+gives_some (Pack action parent children) j h = absurd h
+gives_some (Make id ins []) j h = absurd (contains_none j h)
+gives_some (Make id ins (k ∷ ks)) j h = ⊎_elim
+    (λ none. let no : length (k ∷ ks) ≡ 0 = eqb-true (length (k ∷ ks)) 0 none in absurd (omega (arith, no)))
+    (λ some. ap not some)
+    (cases_Bool (length (k ∷ ks) == 0))
+
+module _ (events : List Content) (q : Quarantine) (b : Body) (old new : BTreeSet (List ℕ)) where
+  pub giving_joined : FindsJoined events q b old new → FindsGiving events q b old new
+  giving_joined joined = record { stay = joined.stay; all = λ id i j r named gives h takes. joined.all id i r named h takes }
+
+  pub giving_nothing : has_outputs b ≡ false → FindsGiving events q b old old
+  giving_nothing none = record { stay = λ i h. h; all = λ id i j r named gives h takes. absurd (false≢true (sym none ∙ gives_some b j gives)) }
+
 -- a part takes the item in, another gives out the pair's item
 module _ (s : SiteEvents) (id i : List ℕ) (q : Pair) where
   pub parts_relate : TakesInAsPart s.events id i → Any (λ g. (make_id g.body ≡ Some id) × GivesOut q.item g.body) s.events → q.site ≡ s.me → IsRelated s i q
@@ -167,7 +187,7 @@ module _ (s : SiteEvents) (id i : List ℕ) (q : Pair) where
 
 -- a new pair of a transformation begins in an item that it takes in, or that another part of it does
 pub new_pair_source : (s : SiteEvents) (e : Content) (i : List ℕ) (q : Pair) → IsMaking e.body → IsNewTarget s e i q
-    → Contains (ins_in e.body) i ⊎ ((id : List ℕ) × (make_id e.body ≡ Some id) × TakesInAsPart s.events id i)
+    → Contains (ins_in e.body) i ⊎ ((id : List ℕ) × (make_id e.body ≡ Some id) × TakesInAsPart s.events id i × GivesOut q.item e.body)
 new_pair_source s e i q making (related, new) = ⊎_elim
     (λ before. absurd (new before))
     (λ added. ⊎_elim
@@ -176,16 +196,16 @@ new_pair_source s e i q making (related, new) = ⊎_elim
     (λ (here, (takes, gives)). inl (taken_in i e.body takes))
     own)
     (λ ((k, f, lt, at, (takes, (id, first, second))), (here, gives)).
-    inr (id, second, (k, f, lt, at, (first, takes))))
+    inr (id, second, (k, f, lt, at, (first, takes)), gives))
     added)
     (related_with s e i q related)
 
 -- the list has each quarantined source of a new pair
 pub sources_listed : (s : SiteEvents) (q : Quarantine) (e : Content) (b b' : Body) (first own all : BTreeSet (List ℕ)) (items : List (List ℕ)) → b ≡ e.body → b' ≡ e.body → FindsAlso first own (ins_in b)
-    → FindsJoined s.events q b' own all → items ≡ all.keys → (i : List ℕ) (r : Recall) (p : Pair) → IsMaking e.body → IsTrue (held q r i) → IsNewTarget s e i p → Contains items i
+    → FindsGiving s.events q b' own all → items ≡ all.keys → (i : List ℕ) (r : Recall) (p : Pair) → IsMaking e.body → IsTrue (held q r i) → IsNewTarget s e i p → Contains items i
 sources_listed s q e b b' first own all items is is' also joined keys i r p making h new =
     let found : IsFound item_cmp all i = ⊎_elim
     (λ takes. joined.stay i (also.all i (subst (λ c. Contains (ins_in c) i) (sym is) takes)))
-    (λ (id, named, takes). joined.all id i r (ap make_id is' ∙ named) h takes)
+    (λ (id, named, takes, gives). joined.all id i p.item r (ap make_id is' ∙ named) (subst (λ (c : Body). GivesOut p.item c) (sym is') gives) h takes)
     (new_pair_source s e i p making new) in
     subst (λ xs. Contains xs i) (sym keys) ((btree_set_contains_iff nat_list_cmp_total exact_bytes all i).0 found)

@@ -1,10 +1,11 @@
 -- Where a pair that one more event adds can begin.
-use Rattle.std.specs.Prelude.{◌≡◌, ℕ, List, [], Option, Some, None, Contains, IsTrue}
+use Rattle.std.specs.Prelude.{◌≡◌, ◌==◌, ℕ, Bool, false, not, length, List, [], Option, Some, None, Contains, IsTrue}
 use Rattle.std.specs.BTreeSet.{BTreeSet}
 use Rattle.event_json.specs.Events.{Content}
 use Rattle.event_json.specs.declared.bodies.Body.{Body}
+use Rattle.event_json.specs.declared.bodies.Body.TheVariants.{Note, Ship, Make, Pack}
 use Rattle.frame_core.specs.Numbers.{Recall}
-use Rattle.trace_core.specs.Pairs.{HaveOneId, make_id}
+use Rattle.trace_core.specs.Pairs.{GivesOut, HaveOneId, make_id}
 use Rattle.trace_core.specs.Parts.{TakesInAsPart}
 use Rattle.trace_core.specs.Searches.{IsFound}
 use Rattle.trace_core.specs.Spreads.{ins_in}
@@ -39,3 +40,15 @@ pub record FindsHeldInputs (events : List Content) (q : Quarantine) (id : List �
 pub record FindsJoined (events : List Content) (q : Quarantine) (b : Body) (old new : BTreeSet (List ℕ)) : Type 0 where
   pub stay : (i : List ℕ) → IsFound item_cmp old i → IsFound item_cmp new i
   pub all : (id i : List ℕ) (r : Recall) → make_id b ≡ Some id → IsTrue (held q r i) → TakesInAsPart events id i → IsFound item_cmp new i
+
+-- whether the event is a transformation with outputs
+abbrev pub has_outputs : Body → Bool
+has_outputs (Note items) = false
+has_outputs (Ship items sites outside) = false
+has_outputs (Make id ins outs) = not (length outs == 0)
+has_outputs (Pack action parent children) = false
+
+-- what was found is found, and so are the quarantined inputs of the body's transformation, if the body gives something out
+pub record FindsGiving (events : List Content) (q : Quarantine) (b : Body) (old new : BTreeSet (List ℕ)) : Type 0 where
+  pub stay : (i : List ℕ) → IsFound item_cmp old i → IsFound item_cmp new i
+  pub all : (id i j : List ℕ) (r : Recall) → make_id b ≡ Some id → GivesOut j b → IsTrue (held q r i) → TakesInAsPart events id i → IsFound item_cmp new i

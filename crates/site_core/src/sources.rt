@@ -6,7 +6,7 @@ ghost use Rattle.trace_core.specs.Pairs.{make_id};
 ghost use Rattle.trace_core.specs.Spreads.{AreAscendingItems, IsNewTarget, ins_in};
 ghost use Rattle.site_core.specs.Quarantines.{held};
 ghost use Rattle.site_core.specs.Blocks.{IsMaking};
-ghost use Rattle.site_core.specs.Sources.{FindsAlso, FindsInputsAt, FindsParts, FindsIfInput, FindsHeldInputs, FindsJoined};
+ghost use Rattle.site_core.specs.Sources.{FindsAlso, FindsInputsAt, FindsParts, FindsIfInput, FindsHeldInputs, FindsJoined, FindsGiving, has_outputs};
 
 use crate::quarantines::Quarantine;
 use epc_core::Epc;
@@ -16,8 +16,8 @@ use std::collections::BTreeSet;
 use trace_core::{Captured, keys_in_order};
 
 /// All quarantined items from which a transformation would give new pairs, and maybe others, ascending. Of a part of
-/// a transformation with an id they are looked for among what is quarantined, or among the inputs of the
-/// captured parts of the transformation, whichever are fewer.
+/// a transformation with an id that has outputs they are looked for among what is quarantined, or among the inputs of
+/// the captured parts of the transformation, whichever are fewer.
 pub fn sources(
     alloc: Global,
     captured: &Captured,
@@ -32,8 +32,37 @@ pub fn sources(
 {
     let mut found = BTreeSet::new(alloc);
     add_inputs(alloc, event.body(), &mut found)?;
-    add_joined(alloc, captured, quarantine, event.body(), &mut found)?;
+    add_if_giving(alloc, captured, quarantine, event.body(), &mut found)?;
     keys_in_order(alloc, found)
+}
+
+/// Adds the quarantined inputs of the captured parts of the body's transformation, and maybe others of them, where the
+/// body has outputs: without, it makes nothing of them.
+fn add_if_giving(
+    alloc: Global,
+    captured: &Captured,
+    quarantine: &Quarantine,
+    body: &Body,
+    found: &mut BTreeSet<Epc>,
+) -> Result<(), AllocError>
+    ensures { OnOk result (FindsGiving captured.now.events quarantine.now body.now found.old
+        found.new) }
+{
+    if has_outputs(body) {
+        add_joined(alloc, captured, quarantine, body, found)
+    } else {
+        Ok(())
+    }
+}
+
+/// Whether a transformation has outputs.
+fn has_outputs(body: &Body) -> bool
+    ensures { result ≡ has_outputs body.now }
+{
+    match body {
+        Body::Make { outs, .. } => !outs.is_empty(),
+        _ => false,
+    }
 }
 
 /// Adds the quarantined inputs of the captured parts of the body's transformation, and maybe others of them.
