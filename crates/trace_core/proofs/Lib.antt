@@ -9,6 +9,8 @@ pub mod ChainLaws
 pub mod Following
 pub mod FoundSteps
 pub mod GainSteps
+pub mod GapClosing
+pub mod GapSteps
 pub mod Gathered
 pub mod GatheringSteps
 pub mod GroupOrder

@@ -251,7 +251,7 @@ module _ (events : List Content) where
       (laid_from items x at)
 
   -- as many times as there are members that are put into others is enough
-  carried_decides : (items : List (List ℕ)) (c : List ℕ) → Decides (lists (carried_in events (length put) items) c) (ReachedFrom (Carries events) items c)
+  pub carried_decides : (items : List (List ℕ)) (c : List ℕ) → Decides (lists (carried_in events (length put) items) c) (ReachedFrom (Carries events) items c)
   carried_decides items c = Decides-like _
       (λ there. carried_from (length put) items c there)
       (λ (x, at, chain). reached_holds (Carries events) (Contains (carried_in events (length put) items))

@@ -1,6 +1,7 @@
 //! Laws of related pairs, of reach and of adding events, for proofs of the crates above. Each is a function with an
 //! empty body whose contract is the law.
 
+ghost use Rattle.trace_core.specs.Gaps.{ClosedReachesAll, ClosedSendsAll, KnownIsWhereItCame, HistoryIsKnown, CapturingIsClosing, WideStays, KnownIsLeast, KnownIsClosed, KnownStays, GapsOnlyClose, OneRoundCloses, KnownIsCapturedSomewhere, OwnIsNarrow, WideIsBetween, GapsAreMisses, WideReachIsTold, NoGapMissesNothing};
 ghost use Rattle.trace_core.specs.Laws.{ReachHasItsRoot, ReachIsClosed, ReachIsLeast, ReachIsInClosedList, ChainFormsAgree, AddingAppends, AddingKeepsAll, FirstTakenIsTold, AddingKeepsFresh, StandingIsRight, StandingByMembers, PackNames, ShipRelates, PackRelates, PackedFollow, MakeRelates, JoinedMakesRelate, RelatedPairsComeFromEvents, OthersAddNothing, PairTestsAgree, RelatedStays, ReachGrows, AscendingListsAgree, RelatedPairsAreOfTheirSite, PairsAreInOrder};
 
 /// A pair reaches itself.
@@ -129,4 +130,29 @@ pub fn related_pairs_are_of_their_site()
 /// Pairs are in order by their sites, and those of one site by the bytes of their items.
 pub fn pairs_are_in_order()
     ensures { PairsAreInOrder }
+{}
+
+/// What a wider reach misses.
+pub fn gaps_are_told()
+    ensures own { OwnIsNarrow }
+    ensures between { WideIsBetween }
+    ensures misses { GapsAreMisses }
+    ensures told { WideReachIsTold }
+    ensures nothing { NoGapMissesNothing }
+{}
+
+/// Capturing packings that are known closes gaps, and opens none.
+pub fn gaps_are_closed()
+    ensures source { KnownIsCapturedSomewhere }
+    ensures stays { KnownStays }
+    ensures fewer { GapsOnlyClose }
+    ensures closed { OneRoundCloses }
+    ensures wide { WideStays }
+    ensures least { KnownIsLeast }
+    ensures has { KnownIsClosed }
+    ensures came { KnownIsWhereItCame }
+    ensures history { HistoryIsKnown }
+    ensures capturing { CapturingIsClosing }
+    ensures all { ClosedReachesAll }
+    ensures sends { ClosedSendsAll }
 {}
