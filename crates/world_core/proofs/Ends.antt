@@ -100,7 +100,7 @@ answered_ends_stand s t (Deliver (frames.Signal m by)) recall h =
 
 -- ---- a start
 
-begun_here : (e : Engagement) (root : List ℕ) (out : List (ℕ × List ℕ)) → get (begun e root out).own e.next_recall ≡ Some (record { root = root; ended = length out == 0 })
+pub begun_here : (e : Engagement) (root : List ℕ) (out : List (ℕ × List ℕ)) → get (begun e root out).own e.next_recall ≡ Some (record { root = root; ended = length out == 0 })
 begun_here e root out = get_here nat_cmp_total nat_cmp-IsAntisymmetric e.own e.next_recall (record { root = root; ended = length out == 0 })
 
 pub starts_tell_the_end : StartsTellTheEnd

@@ -26,3 +26,6 @@ pub mod Going
 pub mod CanEnd
 pub mod Addressed
 pub mod Opened
+pub mod Parts
+pub mod Copies
+pub mod MorePins

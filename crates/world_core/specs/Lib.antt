@@ -1,4 +1,5 @@
 pub mod Answers
+pub mod Copies
 pub mod Counting
 pub mod EndingLaws
 pub mod Faults
@@ -7,6 +8,8 @@ pub mod Keepers
 pub mod KeptSteps
 pub mod Kinds
 pub mod Laws
+pub mod MorePins
+pub mod Parts
 pub mod PinLaws
 pub mod Posting
 pub mod Recalls

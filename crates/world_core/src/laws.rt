@@ -1,9 +1,12 @@
 //! Laws of runs. Each is a function with an empty body whose contract is the law.
 
+ghost use Rattle.world_core.specs.Copies.{LateCopiesAreExact};
 ghost use Rattle.world_core.specs.Counting.{MessagesAreCounted};
 ghost use Rattle.world_core.specs.EndingLaws.{EveryRecallCanEnd, FramesFindTheirSite, FreshSitesAreGoing, RunsKeepGoing};
 ghost use Rattle.world_core.specs.FormingLaws.{FreshSitesMakeAWorld, OnlyMemoryHindersAWorld};
 ghost use Rattle.world_core.specs.Laws.{EndedStays, WorldEndsAreExact, FramesStay, FreshSitesFit, QuarantinesAscend, RunsComeOut, RunsFromTheStartComeOut, RunsKeepTheFit, SitesStandAsKept, TurnsKeepTheFit};
+ghost use Rattle.world_core.specs.Parts.{PartsComeOut, PartsMakeARun};
+ghost use Rattle.world_core.specs.MorePins.{MomentsAreAll, SentFramesAreFound, StartsBegin};
 ghost use Rattle.world_core.specs.PinLaws.{AnsweredEndsStand, AnsweredStepsAreWhole, BrokenStepsAreEither, EndsAreTold, NothingElseEnds, OthersAreAbsent, RunsMakeAWorldAgain, StartsTellTheEnd};
 ghost use Rattle.world_core.specs.SendingLaws.{FramesWereEmittable};
 
@@ -92,4 +95,24 @@ pub fn a_recall_can_end()
 /// After every run from sites at which nothing happened yet, no frame that was sent is refused as not for its site.
 pub fn a_frame_finds_its_site()
     ensures { FramesFindTheirSite }
+{}
+
+/// What sites do in processes of their own is a run of the world, in whatever order it came, where each frame that came
+/// to a site is for it and was given before.
+pub fn parts_make_a_run()
+    ensures run { PartsMakeARun }
+    ensures out { PartsComeOut }
+{}
+
+/// Copies of all sites' records, each taken at whatever moment from the end of a recall on, hold under it just what its
+/// root reaches through the events that they captured.
+pub fn late_copies_are_exact()
+    ensures { LateCopiesAreExact }
+{}
+
+/// Words that stand in premises, or form conclusions, alone.
+pub fn words_are_pinned()
+    ensures moments { MomentsAreAll }
+    ensures places { SentFramesAreFound }
+    ensures begun { StartsBegin }
 {}
