@@ -14,3 +14,4 @@ pub mod Between
 pub mod CallsTold
 pub mod Standing
 pub mod Playing
+pub mod Out

@@ -46,7 +46,7 @@ found [] i a e = absurd (some-ne-none a (sym e))
 found (x ∷ xs) zero a e = ap Some (some-injective x a e)
 found (x ∷ xs) (suc i) a e = found xs i a e
 
-up_records : (rs : List Record) → map record_of (map (λ (r : Record). Up r) rs) ≡ rs
+pub up_records : (rs : List Record) → map record_of (map (λ (r : Record). Up r) rs) ≡ rs
 up_records [] = refl
 up_records (r ∷ rs) = ap (λ (l : List Record). r ∷ l) (up_records rs)
 

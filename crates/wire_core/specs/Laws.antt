@@ -9,7 +9,9 @@ use Rattle.site_core.specs.Records.{Record}
 use Rattle.site_core.specs.declared.inputs.SiteInput.{SiteInput}
 use Rattle.site_recovery.specs.Looks.{world_of}
 use Rattle.keeper_core.specs.Keeping.{IsAfter}
+use Rattle.world_core.specs.Faults.{AreOneWorld}
 use Rattle.world_core.specs.KeptSteps.{StandsAfter}
+use Rattle.world_core.specs.Laws.{ComesOut}
 use Rattle.world_core.specs.Turns.{addressee}
 use Rattle.wire_core.specs.declared.views.Log.{Log}
 use Rattle.wire_core.specs.declared.views.View.{View}
@@ -18,7 +20,7 @@ use Rattle.wire_core.specs.Changes.{AllBut, Level, OneMore, Sent as WasSent}
 use Rattle.wire_core.specs.Fitting.{RecordsFit}
 use Rattle.wire_core.specs.Frames.{DeliversOneOf, sender}
 use Rattle.wire_core.specs.Mailboxes.{slot_of, word_of}
-use Rattle.wire_core.specs.Rule.{IsRun, Ruled, frames, last_records}
+use Rattle.wire_core.specs.Rule.{IsRun, Ruled, frames, last_records, world_up}
 
 -- A mark: one step of one site, by an input that may deliver a frame that was sent.
 abbrev pub MarksKeepTheFit : Type 0
@@ -45,6 +47,12 @@ RunsFit = (start : List Record) (logs : List Log) → IsRun start logs → Recor
 -- There each record last marked stands as the steps marked.
 abbrev pub RunsStand : Type 0
 RunsStand = (start : List Record) (logs : List Log) (e : Log) → IsRun start logs → Contains logs e → StandsAfter IsAfter e.opening e.inputs e.last
+
+-- And what is proved of runs holds of them, at each moment: the headline.
+abbrev pub RunsOfSeatsComeOut : Type 0
+RunsOfSeatsComeOut =
+    (start : List Record) (logs : List Log) (run : IsRun start logs) → AreOneWorld start
+    → ComesOut (world_up start []) run.events run.answers (world_up (last_records logs) run.sent)
 
 -- Between any two steps.
 abbrev pub RuleHoldsBetween : Type 0

@@ -1,7 +1,7 @@
 //! Laws of the rule. Each is a function with an empty body whose contract is the law.
 
 ghost use Rattle.wire_core.specs.Standing.{OpeningRecordsStand, SplitsMarkNothing, JoinsMarkNothing, SentFramesMarkNothing, OfferedFramesMarkNothing, NotedFramesMarkNothing, AskedSitesMarkNothing, MarksPutTheRecord, MarksLeaveOtherSites};
-ghost use Rattle.wire_core.specs.Laws.{CallsTellTheMailbox, MarksKeepTheFit, PostsKeepTheFit, FewerSentFit, RuleHoldsBetween, RunsFit, RunsStand};
+ghost use Rattle.wire_core.specs.Laws.{CallsTellTheMailbox, MarksKeepTheFit, PostsKeepTheFit, FewerSentFit, RuleHoldsBetween, RunsFit, RunsOfSeatsComeOut, RunsStand};
 
 /// A step of one site, by whatever input, leaves all consistent, where a frame that it delivers was sent.
 pub fn a_mark_keeps_the_fit()
@@ -46,4 +46,9 @@ pub fn a_record_stands_until_its_site_is_marked()
     ensures asked { AskedSitesMarkNothing }
     ensures put { MarksPutTheRecord }
     ensures left { MarksLeaveOtherSites }
+{}
+
+/// What the sites did is a run of the world that comes out as the headline says, at each of its moments.
+pub fn runs_of_seats_come_out()
+    ensures { RunsOfSeatsComeOut }
 {}
