@@ -162,25 +162,33 @@ faults NotAStore 'damaged/plant.db: the table store is missing' audit damaged
 damaged
 truncate -s 8192 damaged/plant.db
 faults Device 'damaged/plant.db: damaged' audit damaged
+# a bit of each page, at another place in each
+for ((page = 0; page * 4096 < $(stat -c %s chain/plant.db); page++)); do
+    damaged
+    at=$((page * 4096 + (page * 1597 + 24) % 4096))
+    byte=$(od -An -tu1 -j "$at" -N 1 damaged/plant.db)
+    printf "\\x$(printf %x $((byte ^ 1 << page % 8)))" | dd of=damaged/plant.db bs=1 seek="$at" conv=notrunc status=none
+    faults Device 'damaged/plant.db: damaged' audit damaged
+done
 touch no-folder
 faults Read 'no-folder/sites: Not a directory (os error 20)' audit no-folder
 if command -v sqlite3 >/dev/null; then
     damaged
-    sqlite3 damaged/plant.db 'update store set version = 3' || failed=1
+    changes damaged/plant.db 'update store set version = 3' || failed=1
     faults Version 'damaged/plant.db: version 3' audit damaged
     damaged
-    sqlite3 damaged/plant.db 'update store set version = 1' || failed=1
+    changes damaged/plant.db 'update store set version = 1' || failed=1
     faults NotAStore 'damaged/plant.db: the table store has no row of the version of the tables' audit damaged
     damaged
-    sqlite3 damaged/plant.db "insert into packed values (1, 0, 'x')" || failed=1
+    changes damaged/plant.db "insert into packed values (1, 0, 'x')" || failed=1
     faults BadRow 'damaged/plant.db: row 1 of the table packed' audit damaged
     damaged
-    sqlite3 damaged/plant.db "update part set text = cast(x'ff' as text) where event = 1; update store set version = 7" || failed=1
+    changes damaged/plant.db "update part set text = cast(x'ff' as text) where event = 1; update store set version = 7" || failed=1
     faults Version 'damaged/plant.db: version 7' audit damaged
-    sqlite3 damaged/plant.db "update store set version = 2" || failed=1
+    changes damaged/plant.db "update store set version = 2" || failed=1
     faults BadRow 'damaged/plant.db: row 1 of the table part' audit damaged
     damaged
-    sqlite3 damaged/plant.db 'update event set kind = 9 where no = 2' || failed=1
+    changes damaged/plant.db 'update event set kind = 9 where no = 2' || failed=1
     faults BadRow 'damaged/plant.db: row 2 of the table event' audit damaged
     damaged
     printf 'begin exclusive;\n.shell touch held; sleep 2\n' | sqlite3 damaged/plant.db &
@@ -238,13 +246,13 @@ if command -v sqlite3 >/dev/null; then
     [ "$(sqlite3 first/A.db 'select count(*) from pack, packed')" = 0 ] || { echo "a migrated file has packs" >&2; failed=1; }
     # a bad row leaves a file as it is
     first
-    sqlite3 first/A.db 'update event set kind = 9 where no = 1' || failed=1
+    changes first/A.db 'update event set kind = 9 where no = 1' || failed=1
     cp first/A.db bad.db
     faults BadRow 'first/A.db: row 1 of the table event' audit first
     cmp first/A.db bad.db || failed=1
     # its version with the other's tables is nobody's
     first
-    sqlite3 first/C.db 'update store set version = 2' || failed=1
+    changes first/C.db 'update store set version = 2' || failed=1
     faults NotAStore 'first/C.db: the table store has no row of the version of the tables' audit first
 fi
 first

@@ -25,6 +25,8 @@ cd "$work" || exit 2
 failed=0
 ran=0
 
+. "$here/tests/means.sh"
+
 # complain WORD..: tells what is wrong
 complain() {
     printf '%s\n' "$*" >&2
@@ -169,9 +171,9 @@ rm -rf at && cp -r made at && cp before/shop-1.db before/shop-1.db-wal at
 tells 4 '{"misfit":2,"site":"shop-1"}' '' audit at
 tells 4 '{"misfit":2,"site":"shop-1"}' '' run at
 if command -v sqlite3 >/dev/null; then
-    rm -rf at && cp -r made at && sqlite3 at/plant.db 'update store set version = 7'
+    rm -rf at && cp -r made at && changes at/plant.db 'update store set version = 7'
     tells 3 '' "$(fault Version at/plant.db 'version 7' Version '"version":7')" audit at
-    rm -rf at && cp -r made at && sqlite3 at/plant.db 'update event set kind = 9 where no = 2'
+    rm -rf at && cp -r made at && changes at/plant.db 'update event set kind = 9 where no = 2'
     tells 3 '' "$(fault BadRow at/plant.db 'row 2 of the table event' Row '"row":2,"table":"event"')" audit at
 else
     echo "  sqlite3 isn't installed: no row is changed"

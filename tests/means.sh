@@ -19,6 +19,11 @@ meaning_of() {
     esac
 }
 
+# changes FILE SQL: sqlite3 changes rows or tables of a site's file. Its pages have no sums then, which sqlite3 would spoil.
+changes() {
+    sqlite3 "$1" .dump | sqlite3 "$1.new" && mv "$1.new" "$1" && rm -f "$1-wal" "$1-shm" && sqlite3 "$1" "$2"
+}
+
 # explained COMMAND OUTPUT ERRORS: the error stream of a command that prints this and has these lines of a fault, or notes; of
 # several inputs only a fault is explained
 explained() {

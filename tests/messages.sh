@@ -141,7 +141,7 @@ faults Device 'at/plant.db: damaged' "$recall" audit at
 # spoilt NAME WHAT SQL: what is told of the plant's file once the text has changed it
 spoilt() {
     fresh
-    sqlite3 at/plant.db "$3" || complain "sqlite3: $3"
+    changes at/plant.db "$3" || complain "sqlite3: $3"
     faults "$1" "at/plant.db: $2" "$recall" audit at
 }
 if command -v sqlite3 >/dev/null; then

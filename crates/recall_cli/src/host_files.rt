@@ -137,11 +137,12 @@ impl<'a> HostFiles<'a> {
         self.try_to_connect(path)
     }
 
-    /// Opens a database once, and makes it where there is no file or an empty one.
+    /// Opens a database once, and makes it where there is no file or an empty one. Each page of a file that is made ends
+    /// in a sum, which is kept from then on and tested whenever the file is opened; one that was made without goes on so.
     fn try_to_connect(&self, path: &str) -> Result<FileConnection, Trouble>
         ensures { IfOk result (λ conn. IsFound conn) }
     {
-        match Connection::open_from(self.runtime, path, false, Wary) {
+        match Connection::open_from(self.runtime, path, true, Wary) {
             Ok(conn) => Ok(conn),
             Err((error, left)) => {
                 if let Some(left) = left {
