@@ -1,9 +1,9 @@
-//! Sites kept in files on disks in memory that fail after so many calls: a stop at each call of the steps and
-//! reopenings of a recall, and at each call of an opening. What is left is opened again, and is the record before the
-//! step or the one after it.
+//! Sites kept in files on disks in memory. Where none fails they answer as sites in memory do, and write the rows of
+//! what they show. Else a disk fails after so many calls: a stop at each call of the steps and reopenings of a recall,
+//! and at each call of an opening. What is left is opened again, and is the record before the step or the one after it.
 //!
-//! The contracts of `site_store` say so of every disk. What only a run can show stands here: that each call that fails
-//! is reported, that what is left can be opened, and that the recall then ends.
+//! The contracts of `site_store` say so of every disk. What only a run can show stands here: that calls succeed, that
+//! each call that fails is reported, that what is left can be opened, and that the recall then ends.
 #![tactic(auto)]
 
 #[cfg(test)]
@@ -11,8 +11,12 @@ mod disks;
 #[cfg(test)]
 mod openings;
 #[cfg(test)]
+mod shown;
+#[cfg(test)]
 mod sites;
 #[cfg(test)]
 mod stops;
 #[cfg(test)]
 mod turns;
+#[cfg(test)]
+mod worlds;

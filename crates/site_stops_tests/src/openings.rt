@@ -1,26 +1,27 @@
 //! That an opening which fails at any call of a disk leaves the record as it was.
 use crate::disks::{Blow, Fused, NONE, copies, synced, written};
+use crate::shown::{Shown, rows_shown};
 use crate::sites::{Ended, Keeping, Site, files_of, made, opened};
-use crate::turns::{EVENTS, happens, rows_told};
+use crate::turns::{WITH_OPENINGS, happens};
 use keeper_core::SiteKeeper;
 use sqlite::Files;
 
 /// A after a recall.
 fn after_recall(keeping: &Keeping) -> Option<Site> {
     let mut both = made(keeping, &NONE).ok()?;
-    for place in 0..EVENTS {
-        let _ = happens(keeping.alloc, &mut both.world, place);
+    for turn in WITH_OPENINGS.iter() {
+        let _ = happens(keeping.alloc, &mut both.world, *turn);
     }
     let mut sites = both.into_sites();
     let _ = sites.pop();
     sites.pop()
 }
 
-/// Whether the site in these files shows this.
-fn shows(keeping: &Keeping, files: Files<Fused>, text: &str) -> bool {
-    match opened(keeping, files, "A").site() {
-        Ok(site) => match rows_told(keeping.alloc, site.view()) {
-            Some(now) => now.as_str() == text,
+/// Whether the site of a name is in these files, and shows this.
+pub fn shows(keeping: &Keeping, files: Files<Fused>, name: &str, shown: &Shown) -> bool {
+    match opened(keeping, files, name).site() {
+        Ok(site) => match rows_shown(keeping.alloc, site.view()) {
+            Some(now) => now.is(shown),
             None => false,
         },
         Err(_) => false,
@@ -28,11 +29,11 @@ fn shows(keeping: &Keeping, files: Files<Fused>, text: &str) -> bool {
 }
 
 /// The opening of files fails, and what is left shows what the site showed: all that was written, and what was synced.
-fn fails(keeping: &Keeping, files: Files<Fused>, text: &str) -> Ended {
+fn fails(keeping: &Keeping, files: Files<Fused>, shown: &Shown) -> Ended {
     match opened(keeping, files, "A").failed() {
         Ok(files) => {
-            if shows(keeping, written(keeping.alloc, &files), text)
-                && shows(keeping, synced(keeping.alloc, files), text)
+            if shows(keeping, written(keeping.alloc, &files), "A", shown)
+                && shows(keeping, synced(keeping.alloc, files), "A", shown)
             {
                 Ended::Stopped
             } else {
@@ -44,10 +45,15 @@ fn fails(keeping: &Keeping, files: Files<Fused>, text: &str) -> Ended {
 }
 
 /// At how many calls of a file the opening fails, from none on until it doesn't.
-fn failures(keeping: &Keeping, files: &Files<Fused>, text: &str, file: u64) -> Result<u64, Ended> {
+fn failures(
+    keeping: &Keeping,
+    files: &Files<Fused>,
+    shown: &Shown,
+    file: u64,
+) -> Result<u64, Ended> {
     for calls in 0..5_000 {
         let files = copies(keeping.alloc, files, &Blow { file, calls });
-        match fails(keeping, files, text) {
+        match fails(keeping, files, shown) {
             Ended::Stopped => {}
             Ended::Whole => return Ok(calls),
             ended => return Err(ended),
@@ -61,8 +67,8 @@ pub fn sweep(keeping: &Keeping, file: u64) -> Result<u64, Ended> {
     let Some(site) = after_recall(keeping) else {
         return Err(Ended::Wrong("no disk failed, and there were no sites"));
     };
-    let Some(text) = rows_told(keeping.alloc, site.view()) else {
-        return Err(Ended::Wrong("a site is closed"));
-    };
-    failures(keeping, &files_of(site), text.as_str(), file)
+    match rows_shown(keeping.alloc, site.view()) {
+        Some(shown) => failures(keeping, &files_of(site), &shown, file),
+        None => Err(Ended::Wrong("a site is closed")),
+    }
 }

@@ -130,9 +130,9 @@ impl Opening {
 }
 
 /// Site A or site B, that has captured nothing.
-fn fresh(keeping: &Keeping, is_second: bool) -> Option<SiteState> {
+pub fn fresh(keeping: &Keeping, is_second: bool) -> Option<SiteState> {
     let mut sites = Sites::new(keeping.alloc);
-    let a = sites.add("A", &["a"]).ok()?;
+    let a = sites.add("A", &["a", "z"]).ok()?;
     let b = sites.add("B", &["b"]).ok()?;
     let me = if is_second { b } else { a };
     Some(SiteState::new(keeping.alloc, keeping.keys, sites, me))

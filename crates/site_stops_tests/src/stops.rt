@@ -1,64 +1,56 @@
-//! That a disk which fails at any call of a recall's events leaves the record before the event or the one after it,
+//! That a disk which fails at any call of a recall's turns leaves the record before the turn or the one after it,
 //! with which the sites fit together, and from which the recall ends.
 use crate::disks::{Blow, NONE};
 use crate::openings;
+use crate::shown::{BothShown, both_shown};
 use crate::sites::{Both, Ended, Keeping, Left, Site, made};
-use crate::turns::{EVENTS, all_ended, happens, rounds, told};
+use crate::turns::{WITH_OPENINGS, all_ended, happens, rounds};
 use std::alloc::Global;
 use std::hash::RandomState;
 use std::test::Fail;
 use world_core::World;
 
-/// Adds what the sites show, where none is closed, and else nothing.
-fn add(alloc: Global, texts: &mut Vec<String>, world: &World<Site>) -> bool {
-    let text = told(alloc, world).unwrap_or(String::new(alloc));
-    texts.push(text).is_ok()
-}
-
-/// What the sites show before each event of a recall and after the last, where no disk fails.
-fn all_told(keeping: &Keeping) -> Option<Vec<String>> {
-    let mut texts = Vec::new(keeping.alloc);
+/// What the sites show before each turn of a recall and after the last, None where one is closed. No disk fails.
+fn all_shown(keeping: &Keeping) -> Option<Vec<Option<BothShown>>> {
+    let mut all = Vec::new(keeping.alloc);
     let mut both = made(keeping, &NONE).ok()?;
-    for place in 0..EVENTS {
-        if !add(keeping.alloc, &mut texts, &both.world) {
-            return None;
-        }
-        let _ = happens(keeping.alloc, &mut both.world, place);
+    for turn in WITH_OPENINGS.iter() {
+        all.push(both_shown(keeping.alloc, &both.world)).ok()?;
+        let _ = happens(keeping.alloc, &mut both.world, *turn);
     }
-    if add(keeping.alloc, &mut texts, &both.world) {
-        Some(texts)
-    } else {
-        None
-    }
+    all.push(both_shown(keeping.alloc, &both.world)).ok()?;
+    Some(all)
 }
 
-/// Makes the events until one fails, and returns how many were done.
-fn events_done(alloc: Global, world: &mut World<Site>) -> Result<u64, Ended> {
-    for place in 0..EVENTS {
-        match happens(alloc, world, place) {
+/// Makes the turns until one fails, and returns how many were done.
+fn turns_done(alloc: Global, world: &mut World<Site>) -> Result<usize, Ended> {
+    for (place, turn) in WITH_OPENINGS.iter().enumerate() {
+        match happens(alloc, world, *turn) {
             Ended::Whole => {}
             Ended::Stopped => return Ok(place),
             ended => return Err(ended),
         }
     }
-    Ok(EVENTS)
+    Ok(WITH_OPENINGS.len())
 }
 
-/// Whether the sites show what they showed before the event at this place, or after it.
-fn is_no_third(now: &str, texts: &[String], place: usize) -> bool {
-    match (texts.get(place), texts.get(place.saturating_add(1))) {
-        (Some(old), Some(new)) => now == old.as_str() || now == new.as_str(),
+/// Whether the sites show what they showed at this place.
+fn is_at(now: &BothShown, all: &[Option<BothShown>], place: usize) -> bool {
+    match all.get(place) {
+        Some(Some(then)) => now.is(then),
         _ => false,
     }
 }
 
-/// What is found in what is left of the sites' files, where so many events were done.
-fn look(alloc: Global, world: &mut World<Site>, texts: &[String], done: u64) -> Ended {
-    let Some(now) = told(alloc, world) else {
-        return Ended::Wrong("a site is closed");
-    };
-    if !is_no_third(now.as_str(), texts, done as usize) {
-        return Ended::Wrong("a third record");
+/// What is found in what is left of the sites' files, where so many turns were done.
+fn look(alloc: Global, world: &mut World<Site>, all: &[Option<BothShown>], done: usize) -> Ended {
+    match both_shown(alloc, world) {
+        Some(now) => {
+            if !is_at(&now, all, done) && !is_at(&now, all, done.saturating_add(1)) {
+                return Ended::Wrong("a third record");
+            }
+        }
+        None => return Ended::Wrong("a site is closed"),
     }
     rounds(alloc, world, done);
     if all_ended(alloc, world) {
@@ -69,39 +61,44 @@ fn look(alloc: Global, world: &mut World<Site>, texts: &[String], done: u64) -> 
 }
 
 /// A run in which a disk fails so.
-fn run(keeping: &Keeping, blow: &Blow, texts: &[String]) -> Result<Ended, Ended> {
+fn run(keeping: &Keeping, blow: &Blow, all: &[Option<BothShown>]) -> Result<Ended, Ended> {
     let mut both = made(keeping, blow)?;
-    let done = events_done(keeping.alloc, &mut both.world)?;
-    if done == EVENTS {
+    let done = turns_done(keeping.alloc, &mut both.world)?;
+    if done == WITH_OPENINGS.len() {
         return Ok(Ended::Whole);
     }
     match both.into_files() {
-        Some(left) => Ok(look_at(keeping, left, texts, done)),
+        Some(left) => Ok(look_at(keeping, left, all, done)),
         None => Ok(Ended::Wrong("a site is gone")),
     }
 }
 
 /// What is found where the process ended, and where the machine stopped.
-fn look_at(keeping: &Keeping, left: Left, texts: &[String], done: u64) -> Ended {
-    match look_in(keeping, left.written(keeping), texts, done) {
-        Ended::Stopped => look_in(keeping, left.synced(keeping), texts, done),
+fn look_at(keeping: &Keeping, left: Left, all: &[Option<BothShown>], done: usize) -> Ended {
+    match look_in(keeping, left.written(keeping), all, done) {
+        Ended::Stopped => look_in(keeping, left.synced(keeping), all, done),
         ended => ended,
     }
 }
 
 /// What is found in sites that were opened.
-fn look_in(keeping: &Keeping, both: Option<Both>, texts: &[String], done: u64) -> Ended {
+fn look_in(keeping: &Keeping, both: Option<Both>, all: &[Option<BothShown>], done: usize) -> Ended {
     match both {
-        Some(mut both) => look(keeping.alloc, &mut both.world, texts, done),
+        Some(mut both) => look(keeping.alloc, &mut both.world, all, done),
         None => Ended::Wrong("what is left can't be opened"),
     }
 }
 
-/// At how many calls of a file an event failed, from the least with which there are sites until none fails.
-fn stops(rt: &HostRuntime, keeping: &Keeping, file: u64, texts: &[String]) -> Result<u64, Fail> {
+/// At how many calls of a file a turn failed, from the least with which there are sites until none fails.
+fn stops(
+    rt: &HostRuntime,
+    keeping: &Keeping,
+    file: u64,
+    all: &[Option<BothShown>],
+) -> Result<u64, Fail> {
     let mut stops: u64 = 0;
     for calls in 0..5_000 {
-        let ended = match run(keeping, &Blow { file, calls }, texts) {
+        let ended = match run(keeping, &Blow { file, calls }, all) {
             Ok(ended) | Err(ended) => ended,
         };
         match ended {
@@ -114,10 +111,11 @@ fn stops(rt: &HostRuntime, keeping: &Keeping, file: u64, texts: &[String]) -> Re
             }
         }
     }
-    Err("an event failed in each run".into())
+    Err("a turn failed in each run".into())
 }
 
-fn keeping(rt: &HostRuntime, frames: usize) -> Result<Keeping, Fail> {
+/// How sites are kept whose logs grow to so many frames.
+pub fn keeping(rt: &HostRuntime, frames: usize) -> Result<Keeping, Fail> {
     Ok(Keeping {
         alloc: rt.alloc(),
         keys: RandomState::new(rt)?,
@@ -125,12 +123,12 @@ fn keeping(rt: &HostRuntime, frames: usize) -> Result<Keeping, Fail> {
     })
 }
 
-/// Whether an event failed at some call of each of two files.
+/// Whether a turn failed at some call of each of two files.
 fn both_stop(rt: &HostRuntime, frames: usize, first: u64, second: u64) -> Result<bool, Fail> {
     let keeping = keeping(rt, frames)?;
-    match all_told(&keeping) {
-        Some(texts) => Ok(
-            stops(rt, &keeping, first, &texts)? > 0 && stops(rt, &keeping, second, &texts)? > 0,
+    match all_shown(&keeping) {
+        Some(all) => Ok(
+            stops(rt, &keeping, first, &all)? > 0 && stops(rt, &keeping, second, &all)? > 0,
         ),
         None => Err("no disk failed, and there were no sites".into()),
     }

@@ -1,4 +1,4 @@
-//! The events of a recall in which each site is opened again, rounds of all frames, and what the sites show.
+//! The events of recalls over two sites, and rounds of all frames.
 ghost use Rattle.std.specs.Prelude.{◌<◌};
 
 use crate::sites::{Ended, Site};
@@ -9,72 +9,113 @@ use keeper_core::{Keep, KeepFault};
 use report_core::{Verdict, audit};
 use site_core::SiteState;
 use site_recovery::are_all_sites;
-use site_rows::rows_of;
 use std::alloc::Global;
 use world_core::{Answer, World, WorldEvent, WorldInput};
 
-/// A transformation of x into y, and a shipment of y to site B.
+/// A transformation of x into y, and a shipment of y to site B with an eventID.
 const DOCUMENT: &str = "{\"type\":\"EPCISDocument\",\"epcisBody\":{\"eventList\":[\
      {\"type\":\"TransformationEvent\",\"eventTime\":\"2024-05-01T08:00:00Z\",\
      \"eventTimeZoneOffset\":\"+00:00\",\"inputEPCList\":[\"x\"],\"outputEPCList\":[\"y\"]},\
      {\"type\":\"ObjectEvent\",\"eventTime\":\"2024-05-01T08:00:00Z\",\"eventTimeZoneOffset\":\"+00:00\",\
-     \"action\":\"OBSERVE\",\"epcList\":[\"y\"],\"destinationList\":[{\"destination\":\"b\"}]}]}}";
+     \"eventID\":\"e\",\"action\":\"OBSERVE\",\"epcList\":[\"y\"],\
+     \"destinationList\":[{\"destination\":\"b\"}]}]}}";
 
-/// How many events a recall has, from the capture of its document to its end.
-pub const EVENTS: u64 = 11;
+/// What happens.
+#[derive(Clone, Copy)]
+pub enum Turn {
+    /// A captures the document.
+    Captures,
+    /// A begins a recall of x.
+    Begins,
+    /// A sends its message.
+    Sends,
+    /// The frame that was sent at this place comes to B.
+    Comes(u64),
+    /// B sends its signal.
+    Signals,
+    /// The frame that was sent at this place comes to A.
+    Returns(u64),
+    /// A stops before it takes anything.
+    RestsA,
+    /// B stops before it takes anything.
+    RestsB,
+    /// B stops as it takes the frame that was sent first.
+    StopsB(Keep),
+    /// A is opened again.
+    OpensA,
+    /// B is opened again.
+    OpensB,
+}
 
 /// The site of a number, 0 for A.
-fn site(number: u64) -> SiteNo
+pub fn site(number: u64) -> SiteNo
     requires { number < 16 }
 {
     SiteNo::of(number).unwrap()
 }
 
-/// A captures the document.
-fn capture(alloc: Global) -> Option<WorldInput> {
+/// The document, to be captured.
+fn document(alloc: Global) -> Option<WorldInput> {
     let bytes = DOCUMENT.as_bytes().to_vec(alloc).ok()?;
     Some(WorldInput::Capture(Sequence::from_vec(bytes)))
 }
 
-/// A starts a recall of x.
-fn start(alloc: Global) -> Option<WorldInput> {
+/// A recall of x, to be begun.
+fn recall_of_x(alloc: Global) -> Option<WorldInput> {
     Some(WorldInput::Start(Epc::read(alloc, "x").ok()?))
 }
 
 /// A stop before the site takes anything.
-fn stop(alloc: Global, site: SiteNo) -> WorldEvent {
+fn rest(alloc: Global, site: SiteNo) -> WorldEvent {
     let input = WorldInput::Capture(Sequence::from_vec(Vec::new(alloc)));
     let keep = Keep::Old;
     WorldEvent::Stop { site, input, keep }
 }
 
-fn deliver(site: SiteNo, frame: u64) -> WorldEvent {
-    let input = WorldInput::Deliver(frame);
+fn step(site: SiteNo, input: WorldInput) -> WorldEvent {
     WorldEvent::Step { site, input }
 }
 
-/// The event at a place of a recall, from 0. Its message comes twice. Each site stops and is opened again.
-fn event_at(alloc: Global, place: u64) -> Option<WorldEvent> {
-    let (a, b) = (site(0), site(1));
-    match place {
-        0 => Some(WorldEvent::Step {
-            site: a,
-            input: capture(alloc)?,
-        }),
-        1 => Some(stop(alloc, a)),
-        2 => Some(WorldEvent::Reopen { site: a }),
-        3 => Some(WorldEvent::Step {
-            site: a,
-            input: start(alloc)?,
-        }),
-        4 => Some(WorldEvent::Send { site: a, place: 1 }),
-        5 | 8 => Some(deliver(b, 1)),
-        6 => Some(stop(alloc, b)),
-        7 => Some(WorldEvent::Reopen { site: b }),
-        9 => Some(WorldEvent::Send { site: b, place: 1 }),
-        _ => Some(deliver(a, 2)),
-    }
+fn deliver(site: SiteNo, frame: u64) -> WorldEvent {
+    step(site, WorldInput::Deliver(frame))
 }
+
+/// The event of a turn. None where there is no memory.
+pub fn event_of(alloc: Global, turn: Turn) -> Option<WorldEvent> {
+    let (a, b) = (site(0), site(1));
+    Some(match turn {
+        Turn::Captures => step(a, document(alloc)?),
+        Turn::Begins => step(a, recall_of_x(alloc)?),
+        Turn::Sends => WorldEvent::Send { site: a, place: 1 },
+        Turn::Comes(frame) => deliver(b, frame),
+        Turn::Signals => WorldEvent::Send { site: b, place: 1 },
+        Turn::Returns(frame) => deliver(a, frame),
+        Turn::RestsA => rest(alloc, a),
+        Turn::RestsB => rest(alloc, b),
+        Turn::StopsB(keep) => WorldEvent::Stop {
+            site: b,
+            input: WorldInput::Deliver(1),
+            keep,
+        },
+        Turn::OpensA => WorldEvent::Reopen { site: a },
+        Turn::OpensB => WorldEvent::Reopen { site: b },
+    })
+}
+
+/// A recall from the capture of its document to its end. Its message comes twice. Each site stops and is opened again.
+pub const WITH_OPENINGS: [Turn; 11] = [
+    Turn::Captures,
+    Turn::RestsA,
+    Turn::OpensA,
+    Turn::Begins,
+    Turn::Sends,
+    Turn::Comes(1),
+    Turn::RestsB,
+    Turn::OpensB,
+    Turn::Comes(1),
+    Turn::Signals,
+    Turn::Returns(2),
+];
 
 /// What became of an event.
 #[derive(Drop)]
@@ -96,9 +137,9 @@ fn given(world: &mut World<Site>, event: WorldEvent) -> Outcome {
     }
 }
 
-/// The event at a place happens. Where a disk fails, the site can't be opened again.
-pub fn happens(alloc: Global, world: &mut World<Site>, place: u64) -> Ended {
-    let Some(event) = event_at(alloc, place) else {
+/// A turn is made. Where a disk fails, the site can't be opened again.
+pub fn happens(alloc: Global, world: &mut World<Site>, turn: Turn) -> Ended {
+    let Some(event) = event_of(alloc, turn) else {
         return Ended::Wrong("out of memory");
     };
     let site = event.site();
@@ -112,13 +153,13 @@ pub fn happens(alloc: Global, world: &mut World<Site>, place: u64) -> Ended {
     }
 }
 
-/// The capture and the start happen again that had no answer, where so many events were done.
-fn repeat(alloc: Global, world: &mut World<Site>, done: u64) {
+/// The capture and the start happen again that had no answer, where so many turns were done.
+fn repeat(alloc: Global, world: &mut World<Site>, done: usize) {
     if done == 0 {
-        let _ = happens(alloc, world, 0);
+        let _ = happens(alloc, world, Turn::Captures);
     }
     if done <= 3 {
-        let _ = happens(alloc, world, 3);
+        let _ = happens(alloc, world, Turn::Begins);
     }
 }
 
@@ -132,7 +173,7 @@ fn all_pass(world: &mut World<Site>, from: SiteNo, to: SiteNo) {
 }
 
 /// Three rounds of all frames, after the capture and the start that had no answer.
-pub fn rounds(alloc: Global, world: &mut World<Site>, done: u64) {
+pub fn rounds(alloc: Global, world: &mut World<Site>, done: usize) {
     repeat(alloc, world, done);
     for _ in 0..3 {
         all_pass(world, site(0), site(1));
@@ -161,17 +202,4 @@ pub fn all_ended(alloc: Global, world: &World<Site>) -> bool {
         }
     }
     !a.own_recalls().is_empty()
-}
-
-/// The rows of a record, None where it is closed.
-pub fn rows_told(alloc: Global, state: Option<&SiteState>) -> Option<String> {
-    let rows = rows_of(alloc, state?).ok()?;
-    format!(in alloc; "{rows:?}").ok()
-}
-
-/// The rows of both sites' records, None where one is closed.
-pub fn told(alloc: Global, world: &World<Site>) -> Option<String> {
-    let a = rows_told(alloc, world.view(site(0)))?;
-    let b = rows_told(alloc, world.view(site(1)))?;
-    format!(in alloc; "{a} {b}").ok()
 }

@@ -1,4 +1,5 @@
-//! A site's engagement, steps and rows, worlds of sites, and sites that are consistent, by examples.
+//! A site's engagement, steps and rows, worlds of sites, sites that are consistent, and questions of items and of
+//! recalls, by examples.
 #![tactic(auto)]
 
 #[cfg(test)]
@@ -7,6 +8,8 @@ mod engagements;
 mod fitting;
 #[cfg(test)]
 mod numbers;
+#[cfg(test)]
+mod queries;
 #[cfg(test)]
 mod read_records;
 #[cfg(test)]

@@ -1,4 +1,5 @@
 //! The two sites, what they do, and what is expected of them.
+use crate::numbers::site;
 use epc_core::{Epc, EpcForm};
 use event_json::{Sequence, SiteNo, Sites};
 use frame_core::{Frame, MsgId, RecallId};
@@ -21,12 +22,12 @@ const SENT_BACK: &str =
 
 /// Site A.
 pub fn a() -> SiteNo {
-    SiteNo::of(0).unwrap()
+    site(0)
 }
 
 /// Site B.
 pub fn b() -> SiteNo {
-    SiteNo::of(1).unwrap()
+    site(1)
 }
 
 /// The recall A#1.

@@ -1,5 +1,5 @@
 //! Which items a site knows.
-use crate::sites::{is_item, recalling, recalling_twice, tell, untold};
+use crate::queries::sites::{is_item, recalling, recalling_twice, tell, untold};
 use query_core::{KnownItem, known_items_with};
 use std::alloc::Global;
 use std::hash::RandomState;

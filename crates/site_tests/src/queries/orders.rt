@@ -2,7 +2,7 @@
 ghost use Rattle.site_recovery.specs.Checking.{records_at};
 ghost use Rattle.site_recovery.specs.FittingAt.{AreAllSites};
 
-use crate::sites::{a, b, recall, recalling_too, recalling_twice};
+use crate::queries::sites::{a, b, recall, recalling_too, recalling_twice};
 use event_json::SiteNo;
 use frame_core::{MsgId, RecallId};
 use query_core::{RecallStatus, SiteStanding, WaitingMessage, recall_detail, recall_statuses};

@@ -2,7 +2,7 @@
 ghost use Rattle.site_recovery.specs.Checking.{records_at};
 ghost use Rattle.site_recovery.specs.FittingAt.{AreAllSites};
 
-use crate::sites::{a, b, is_item, message, recall, recalling, signal, tell, untold};
+use crate::queries::sites::{a, b, is_item, message, recall, recalling, signal, tell, untold};
 use event_json::SiteNo;
 use frame_core::RecallId;
 use query_core::{
