@@ -1,27 +1,14 @@
-//! Scripts, reports, commands on files and command lines, by what they print.
+//! What of scripts, commands and audits no run of the program shows: streams that fail, files in memory, and records
+//! that no run leads to. What the program prints is compared by `tests/scripts.sh`.
 #![tactic(auto)]
 
 #[cfg(test)]
-mod advice;
-#[cfg(test)]
-mod batches;
-#[cfg(test)]
-mod commands;
-#[cfg(test)]
-mod events;
-#[cfg(test)]
-mod forms;
-#[cfg(test)]
-mod lints;
+mod audits;
 #[cfg(test)]
 mod memory_files;
 #[cfg(test)]
 mod numbers;
 #[cfg(test)]
-mod reports;
-#[cfg(test)]
-mod runs;
+mod rows;
 #[cfg(test)]
 mod scripts;
-#[cfg(test)]
-mod words;

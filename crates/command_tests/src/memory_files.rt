@@ -1,7 +1,7 @@
 //! Files and sites in memory, over which the commands on files run.
 
 use folder_commands::Files;
-use keeper_core::{MemoryKeeper, SiteKeeper};
+use keeper_core::{Keep, MemoryKeeper, SiteKeeper};
 use recall_outcomes::{Failure, Fault};
 use site_core::SiteState;
 use std::alloc::{AllocError, Global};
@@ -13,9 +13,9 @@ const MADE: &str =
 
 /// The site of a file, and its keeper while the file is closed.
 #[derive(Drop)]
-pub(crate) struct Kept {
+struct Kept {
     path: String,
-    pub(crate) keeper: Option<MemoryKeeper>,
+    keeper: Option<MemoryKeeper>,
 }
 
 /// Files in memory.
@@ -25,7 +25,7 @@ pub(crate) struct MemoryFiles {
     texts: Vec<(String, Vec<u8>)>,
     /// How many lines of a text have been read.
     lines_read: usize,
-    pub(crate) sites: Vec<Kept>,
+    sites: Vec<Kept>,
 }
 
 impl MemoryFiles {
@@ -42,6 +42,16 @@ impl MemoryFiles {
         self.sites
             .iter()
             .position(|kept| kept.path.as_str() == path)
+    }
+
+    /// Makes the next step of the second site a failure of its device.
+    pub(crate) fn arm_second(&mut self) {
+        let Some(kept) = self.sites.get_mut(1) else {
+            return;
+        };
+        if let Some(keeper) = &mut kept.keeper {
+            keeper.arm(Keep::Old);
+        }
     }
 }
 
@@ -127,7 +137,7 @@ impl Files<MemoryKeeper> for MemoryFiles {
     }
 }
 
-/// A folder of two sites, with documents and lists beside it.
+/// A list of two sites, one that is refused, documents of which one is none, and a list of items.
 pub(crate) fn files(alloc: Global) -> Result<MemoryFiles, Fail> {
     let mut files = MemoryFiles {
         alloc,
@@ -136,11 +146,9 @@ pub(crate) fn files(alloc: Global) -> Result<MemoryFiles, Fail> {
         sites: Vec::new(alloc),
     };
     files.write_new("list", b"# two sites\r\nsite A a\n\nsite B b".as_slice())?;
-    files.write_new("bad", b"site A a\nreach A x\nsite A a".as_slice())?;
-    files.write_new("f/sites", b"site A a\n".as_slice())?;
+    files.write_new("bad", b"reach A x".as_slice())?;
     files.write_new("made", MADE.as_bytes())?;
     files.write_new("broken", b"{".as_slice())?;
-    files.write_new("lines", b"{\n \r\n{".as_slice())?;
     files.write_new("epcs", b"y \r\n\n\xff\n".as_slice())?;
     Ok(files)
 }

@@ -1,7 +1,4 @@
-//! Scripts with answers written by hand, faults of readers and writers, and limits.
+//! Scripts whose readers and writers fail, limits, and when an answer is written.
 
-mod answers;
 mod faults;
-mod recalls;
-mod stops;
 mod timing;
