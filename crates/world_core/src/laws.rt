@@ -6,7 +6,7 @@ ghost use Rattle.world_core.specs.EndingLaws.{EveryRecallCanEnd, FramesFindTheir
 ghost use Rattle.world_core.specs.FormingLaws.{FreshSitesMakeAWorld, OnlyMemoryHindersAWorld};
 ghost use Rattle.world_core.specs.Laws.{EndedStays, WorldEndsAreExact, FramesStay, FreshSitesFit, QuarantinesAscend, RunsComeOut, RunsFromTheStartComeOut, RunsKeepTheFit, SitesStandAsKept, TurnsKeepTheFit};
 ghost use Rattle.world_core.specs.Parts.{PartsComeOut, PartsMakeARun};
-ghost use Rattle.world_core.specs.MorePins.{MomentsAreAll, SentFramesAreFound, StartsBegin};
+ghost use Rattle.world_core.specs.MorePins.{FreshSitesHaveNumbers, MomentsAreAll, NumbersAreCounted, SentFramesAreFound, StartsBegin};
 ghost use Rattle.world_core.specs.PinLaws.{AnsweredEndsStand, AnsweredStepsAreWhole, BrokenStepsAreEither, EndsAreTold, NothingElseEnds, OthersAreAbsent, RunsMakeAWorldAgain, StartsTellTheEnd};
 ghost use Rattle.world_core.specs.SendingLaws.{FramesWereEmittable};
 
@@ -115,4 +115,6 @@ pub fn words_are_pinned()
     ensures moments { MomentsAreAll }
     ensures places { SentFramesAreFound }
     ensures begun { StartsBegin }
+    ensures numbers { NumbersAreCounted }
+    ensures fresh { FreshSitesHaveNumbers }
 {}
