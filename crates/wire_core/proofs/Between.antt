@@ -39,7 +39,7 @@ module _ (rs : List Record) (s : Table) (h : Ruled rs s) where
   place : (e : Log) → IsKnown s.views e → get_elem? h.0 e.site ≡ some e
   place e k = ((h.4.known k.0 k.1 k.2 e).0 k.3).1
 
-  known : (i : ℕ) (e : Log) → get_elem? h.0 i ≡ some e → IsKnown s.views e
+  pub known : (i : ℕ) (e : Log) → get_elem? h.0 i ≡ some e → IsKnown s.views e
   known i e at =
       let own = h.4.own i e at in
       let here : get_elem? h.0 e.site ≡ some e = ap (get_elem? h.0) own ∙ at in

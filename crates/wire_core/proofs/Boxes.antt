@@ -86,7 +86,7 @@ module _ (rs : List Record) (id : ℕ) (v : View) (i j : ℕ) (e : Log) (c : Con
         takes (slot_of i j) None,
         slot,
         Ruled_box rs s h id v at i e c same i j (subst (λ k. i < k) h.2 (within h.0 i e ei)) hj (does_writes j (offers o)) (λ x. refl) 1 none claim_like refl (λ f d. d) (λ f d. inl d) new
-            (run_same rs h.0 h.5.run i e (does_writes j (offers o) e) ei refl refl refl refl),
+            (run_same rs h.0 h.5.run i e (does_writes j (offers o) e) ei refl refl refl refl).longer,
         ((λ _. (refl, λ _. shows rs s h id v at i j e b (λ x y. way i j x.sent ≡ way i j y.noted) ei bj frames)), (λ z. absurd (z refl))),
       )
         where
@@ -174,7 +174,7 @@ module _ (rs : List Record) (id : ℕ) (v : View) (i j : ℕ) (e : Log) (c : Con
         takes (slot_of i j) (Some f),
         slot,
         Ruled_box rs s h id v at j e c same i j hi (subst (λ k. j < k) h.2 (within h.0 j e (ej s h at))) (does_receives i f) (λ x. refl) 3 none (note_like f f_is.1) refl (λ g d. d) news new
-            (run_same rs h.0 h.5.run j e (does_receives i f e) (ej s h at) refl refl refl refl),
+            (run_same rs h.0 h.5.run j e (does_receives i f e) (ej s h at) refl refl refl refl).longer,
         ((λ _. (f, refl, f_is.1, f_is.2, λ _. shows rs s h id v at i j b e (λ x y. way i j x.sent ≡ way i j y.noted ++ f ∷ []) bi (ej s h at) flow)), (λ z. absurd (z refl))),
       )
         where
@@ -220,7 +220,7 @@ module _ (rs : List Record) (id : ℕ) (v : View) (i j : ℕ) (e : Log) (c : Con
         gives,
         tt,
         Ruled_box rs s h id v at j e c same i j hi (subst (λ k. j < k) h.2 (within h.0 j e (ej s h at))) (does Nothing) (λ x. refl) 0 (some None) release_like refl (λ g d. d) (λ g d. inl d) new
-            (run_same rs h.0 h.5.run j e (does Nothing e) (ej s h at) refl refl refl refl),
+            (run_same rs h.0 h.5.run j e (does Nothing e) (ej s h at) refl refl refl refl).longer,
         refl,
       )
         where
@@ -260,7 +260,7 @@ module _ (rs : List Record) (id : ℕ) (v : View) (f : Frame) (e : Log) (c : Con
     ef = (held s.views h.1 h.0 h.4 id v at e (sender f) c same).1
 
     run : IsRun rs (set h.0 (sender f) (does_posts f e))
-    run = run_sent rs h.0 h.5.run (sender f) e (does_posts f e) ef refl f refl may refl refl refl
+    run = (run_sent rs h.0 h.5.run (sender f) e (does_posts f e) ef refl f refl may refl refl refl).longer
 
     publish_at : (p : Phase) → get_elem? s.words (word_of (sender f) (addressee f)) ≡ some (number p) → get_elem? s.homes (slot_of (sender f) (addressee f)) ≡ some (home p) → Between p (way (sender f) (addressee f) e.sent) (way (sender f) (addressee f) b.noted)
         → writes e.doing (addressee f) ≡ is_writing p → reads b.doing (sender f) ≡ is_reading p → PublishGoal s

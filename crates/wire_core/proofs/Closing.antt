@@ -15,7 +15,7 @@ use Rattle.wire_core.proofs.Lists.{there, within, one_there, at_Contains}
 use Rattle.wire_core.proofs.Boxes.{Table}
 
 module _ {A : Type 0} where
-  same_all : (l m : List A) → length l ≡ length m → ((k : ℕ) (a : A) → get_elem? l k ≡ some a → get_elem? m k ≡ some a) → l ≡ m
+  pub same_all : (l m : List A) → length l ≡ length m → ((k : ℕ) (a : A) → get_elem? l k ≡ some a → get_elem? m k ≡ some a) → l ≡ m
   same_all [] [] e f = refl
   same_all [] (y ∷ ys) e f = absurd (omega arith)
   same_all (x ∷ xs) [] e f = absurd (omega arith)

@@ -11,6 +11,7 @@ pub mod AtSeat
 pub mod Changes
 pub mod Closing
 pub mod Between
+pub mod Continuing
 pub mod CallsTold
 pub mod Standing
 pub mod Playing

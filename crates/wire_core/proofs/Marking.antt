@@ -68,7 +68,7 @@ module _ (rs : List Record) (id : ℕ) (v : View) (i : ℕ) (e : Log) (c : Conta
             like_kept Nowhere s.words (set s.words i ((slice_index s.words i + 1) % 2 ^ 64)) s.homes s.homes x y p.0 a q.0 b (h.5.mailbox x y p.0 q.0 p.1 q.1 apart) (λ z. z) p.2 q.2 (sym (set_else s.words i (word_of x y) _ (λ eq. omega arith))) refl
 
         run : IsRun rs (set h.0 i (marks input new e))
-        run = run_marked rs h.0 h.5.run i e (marks input new e) ei refl input ok.0 ok.1 (λ f is. let k = h.5.noted i e f ei (known f is) in (k.1, k.0)) refl refl
+        run = (run_marked rs h.0 h.5.run i e (marks input new e) ei refl input ok.0 ok.1 (λ f is. let k = h.5.noted i e f ei (known f is) in (k.1, k.0)) refl refl).longer
 
   pub marks_one : (slots : ℕ) → Allows (Ruled rs) slots id (v, []) i (λ x. (x + 1) % 2 ^ 64) (λ _. Marked i (marks input new) (v, []))
   marks_one slots s h len at small = (

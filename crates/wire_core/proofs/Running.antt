@@ -32,6 +32,7 @@ use Rattle.world_core.proofs.Fitting.{runs_keep_the_fit}
 use Rattle.world_core.proofs.KeptSteps.{frames_stay, sites_stand}
 use Rattle.world_core.proofs.Running.{run_more}
 use Rattle.wire_core.specs.declared.views.Log.{Log}
+use Rattle.wire_core.specs.Continuing.{GoesOnTo}
 use Rattle.wire_core.specs.Fitting.{RecordsFit}
 use Rattle.wire_core.specs.Frames.{sender}
 use Rattle.wire_core.specs.Laws.{RunsFit, RunsStand}
@@ -182,23 +183,33 @@ module _ (start : List Record) (logs : List Log) (R : IsRun start logs) where
     opened = map_set_same (λ (x : Log). x.opening) logs i e e' at opening ∙ R.openings
 
     -- nothing of the world changes
-    pub run_same : e'.last ≡ e.last → e'.sent ≡ e.sent → e'.inputs ≡ e.inputs → IsRun start (set logs i e')
+    pub run_same : e'.last ≡ e.last → e'.sent ≡ e.sent → e'.inputs ≡ e.inputs → GoesOnTo start logs R (set logs i e')
     run_same last sent added = record {
-      begun = R.begun;
-      openings = opened;
-      events = R.events;
-      answers = R.answers;
-      sent = R.sent;
-      happened = R.happened;
-      runs = subst (λ (l : List Record). Runs (world_up start []) R.events R.answers (world_up l R.sent)) (sym (map_set_same (λ (x : Log). x.last) logs i e e' at last)) R.runs;
-      handed = λ x b there. ⊎_elim
-          (λ (t : (x ≡ i) × (e' ≡ b)). subst (AreAnswered (handed_to x R.sent R.events R.answers)) (sym added ∙ ap (λ (z : Log). z.inputs) t.1) (R.handed x e (ap (get_elem? logs) t.0 ∙ at)))
-          (λ (t : (x ≢ i) × (get_elem? logs x ≡ some b)). R.handed x b t.1) (at_set logs i x e' b there);
-      from = λ x b there. ⊎_elim
-          (λ (t : (x ≡ i) × (e' ≡ b)). R.from x e (ap (get_elem? logs) t.0 ∙ at) ∙ sym sent ∙ ap (λ (z : Log). z.sent) t.1)
-          (λ (t : (x ≢ i) × (get_elem? logs x ≡ some b)). R.from x b t.1) (at_set logs i x e' b there);
-      senders = few;
+      longer = record {
+        begun = R.begun;
+        openings = opened;
+        events = R.events;
+        answers = R.answers;
+        sent = R.sent;
+        happened = R.happened;
+        runs = subst (λ (l : List Record). Runs (world_up start []) R.events R.answers (world_up l R.sent)) (sym lasts) R.runs;
+        handed = λ x b there. ⊎_elim
+            (λ (t : (x ≡ i) × (e' ≡ b)). subst (AreAnswered (handed_to x R.sent R.events R.answers)) (sym added ∙ ap (λ (z : Log). z.inputs) t.1) (R.handed x e (ap (get_elem? logs) t.0 ∙ at)))
+            (λ (t : (x ≢ i) × (get_elem? logs x ≡ some b)). R.handed x b t.1) (at_set logs i x e' b there);
+        from = λ x b there. ⊎_elim
+            (λ (t : (x ≡ i) × (e' ≡ b)). R.from x e (ap (get_elem? logs) t.0 ∙ at) ∙ sym sent ∙ ap (λ (z : Log). z.sent) t.1)
+            (λ (t : (x ≢ i) × (get_elem? logs x ≡ some b)). R.from x b t.1) (at_set logs i x e' b there);
+        senders = few;
+      };
+      events = [];
+      answers = [];
+      all_events = sym (append-nil R.events);
+      all_answers = sym (append-nil R.answers);
+      runs_on = ap (λ (l : List Record). world_up l R.sent) lasts;
     }
+      where
+        lasts : last_records (set logs i e') ≡ last_records logs
+        lasts = map_set_same (λ (x : Log). x.last) logs i e e' at last
 
     before : slice_get (world_up (last_records logs) R.sent).sites i ≡ Some (Up e.last)
     before = found (map (λ (r : Record). Up r) (last_records logs)) i (Up e.last) (at_map (λ (r : Record). Up r) (last_records logs) i e.last (at_map (λ (x : Log). x.last) logs i e at))
@@ -207,24 +218,31 @@ module _ (start : List Record) (logs : List Log) (R : IsRun start logs) where
     changed = ap (map (λ (r : Record). Up r)) (map-set (λ (x : Log). x.last) logs i e') ∙ map-set (λ (r : Record). Up r) (last_records logs) i e'.last
 
     -- a mark is a step that was done
-    pub run_marked : (input : SiteInput) (effects : Effects) → Does e.last input effects e'.last → ((f : Frame) → input ≡ inputs.Deliver f → Contains (frames logs) f × (addressee f ≡ i)) → e'.sent ≡ e.sent → e'.inputs ≡ e.inputs ++ input ∷ [] → IsRun start (set logs i e')
+    pub run_marked : (input : SiteInput) (effects : Effects) → Does e.last input effects e'.last → ((f : Frame) → input ≡ inputs.Deliver f → Contains (frames logs) f × (addressee f ≡ i)) → e'.sent ≡ e.sent → e'.inputs ≡ e.inputs ++ input ∷ [] → GoesOnTo start logs R (set logs i e')
     run_marked input effects does known sent added = record {
-      begun = R.begun;
-      openings = opened;
-      events = R.events ++ Step i w.0 ∷ [];
-      answers = R.answers ++ Done effects ∷ [];
-      sent = R.sent;
-      happened = happened_more R.events R.answers (Step i w.0) (Done effects) R.happened tt;
-      runs = run_more (world_up start []) old new R.events R.answers (Step i w.0) (Done effects) R.runs turn;
-      handed = λ x b there. subst (λ (l : List Handed). AreAnswered l b.inputs) (sym (handed_more R.events R.answers x R.sent (Step i w.0) (Done effects) R.happened)) (⊎_elim
-          (λ (t : (x ≡ i) × (e' ≡ b)). subst (λ (z : List Handed × List SiteInput). AreAnswered (handed_to x R.sent R.events R.answers ++ z.0) z.1) (λ k. (sym (here x (sym t.0)) k, (sym added ∙ ap (λ (z : Log). z.inputs) t.1) k))
-          (answered_more (handed_to x R.sent R.events R.answers) e.inputs input effects (R.handed x e (ap (get_elem? logs) t.0 ∙ at))))
-          (λ (t : (x ≢ i) × (get_elem? logs x ≡ some b)). subst (λ (l : List Handed). AreAnswered l b.inputs) (sym (ap (λ (l : List Handed). handed_to x R.sent R.events R.answers ++ l) (else x (λ q. t.0 (sym q))) ∙ append-nil (handed_to x R.sent R.events R.answers))) (R.handed x b t.1))
-          (at_set logs i x e' b there));
-      from = λ x b there. ⊎_elim
-          (λ (t : (x ≡ i) × (e' ≡ b)). R.from x e (ap (get_elem? logs) t.0 ∙ at) ∙ sym sent ∙ ap (λ (z : Log). z.sent) t.1)
-          (λ (t : (x ≢ i) × (get_elem? logs x ≡ some b)). R.from x b t.1) (at_set logs i x e' b there);
-      senders = few;
+      longer = record {
+        begun = R.begun;
+        openings = opened;
+        events = R.events ++ Step i w.0 ∷ [];
+        answers = R.answers ++ Done effects ∷ [];
+        sent = R.sent;
+        happened = happened_more R.events R.answers (Step i w.0) (Done effects) R.happened tt;
+        runs = run_more (world_up start []) old new R.events R.answers (Step i w.0) (Done effects) R.runs turn;
+        handed = λ x b there. subst (λ (l : List Handed). AreAnswered l b.inputs) (sym (handed_more R.events R.answers x R.sent (Step i w.0) (Done effects) R.happened)) (⊎_elim
+            (λ (t : (x ≡ i) × (e' ≡ b)). subst (λ (z : List Handed × List SiteInput). AreAnswered (handed_to x R.sent R.events R.answers ++ z.0) z.1) (λ k. (sym (here x (sym t.0)) k, (sym added ∙ ap (λ (z : Log). z.inputs) t.1) k))
+            (answered_more (handed_to x R.sent R.events R.answers) e.inputs input effects (R.handed x e (ap (get_elem? logs) t.0 ∙ at))))
+            (λ (t : (x ≢ i) × (get_elem? logs x ≡ some b)). subst (λ (l : List Handed). AreAnswered l b.inputs) (sym (ap (λ (l : List Handed). handed_to x R.sent R.events R.answers ++ l) (else x (λ q. t.0 (sym q))) ∙ append-nil (handed_to x R.sent R.events R.answers))) (R.handed x b t.1))
+            (at_set logs i x e' b there));
+        from = λ x b there. ⊎_elim
+            (λ (t : (x ≡ i) × (e' ≡ b)). R.from x e (ap (get_elem? logs) t.0 ∙ at) ∙ sym sent ∙ ap (λ (z : Log). z.sent) t.1)
+            (λ (t : (x ≢ i) × (get_elem? logs x ≡ some b)). R.from x b t.1) (at_set logs i x e' b there);
+        senders = few;
+      };
+      events = Step i w.0 ∷ [];
+      answers = Done effects ∷ [];
+      all_events = refl;
+      all_answers = refl;
+      runs_on = (new, turn, refl);
     }
       where
         w : (w : WorldInput) × (input_at R.sent i w ≡ Some input)
@@ -247,23 +265,30 @@ module _ (start : List Record) (logs : List Log) (R : IsRun start logs) where
         else x ne = ap (λ (t : Bool). cond t (handed (Done effects) (input_at R.sent i w.0)) []) (ne_eqb i x ne)
 
     -- a frame that is published is one that was sent
-    pub run_sent : (f : Frame) → sender f ≡ i → Contains (site.emittable e.last.engagement) f → e'.last ≡ e.last → e'.sent ≡ e.sent ++ f ∷ [] → e'.inputs ≡ e.inputs → IsRun start (set logs i e')
+    pub run_sent : (f : Frame) → sender f ≡ i → Contains (site.emittable e.last.engagement) f → e'.last ≡ e.last → e'.sent ≡ e.sent ++ f ∷ [] → e'.inputs ≡ e.inputs → GoesOnTo start logs R (set logs i e')
     run_sent f by may last sent added = record {
-      begun = R.begun;
-      openings = opened;
-      events = R.events ++ Send i place ∷ [];
-      answers = R.answers ++ WasSent number ∷ [];
-      sent = R.sent ++ f ∷ [];
-      happened = happened_more R.events R.answers (Send i place) (WasSent number) R.happened tt;
-      runs = run_more (world_up start []) old new R.events R.answers (Send i place) (WasSent number) R.runs turn;
-      handed = λ x b there. subst (λ (l : List Handed). AreAnswered l b.inputs) (sym (later x)) (⊎_elim
-          (λ (t : (x ≡ i) × (e' ≡ b)). subst (AreAnswered (handed_to x R.sent R.events R.answers)) (sym added ∙ ap (λ (z : Log). z.inputs) t.1) (R.handed x e (ap (get_elem? logs) t.0 ∙ at)))
-          (λ (t : (x ≢ i) × (get_elem? logs x ≡ some b)). R.handed x b t.1) (at_set logs i x e' b there));
-      from = λ x b there. ⊎_elim
-          (λ (t : (x ≡ i) × (e' ≡ b)). sent_more x R.sent f (by ∙ sym t.0) ∙ ap (λ (l : List Frame). l ++ f ∷ []) (R.from x e (ap (get_elem? logs) t.0 ∙ at)) ∙ sym sent ∙ ap (λ (z : Log). z.sent) t.1)
-          (λ (t : (x ≢ i) × (get_elem? logs x ≡ some b)). sent_else x R.sent f (λ q. t.0 (sym q ∙ by)) ∙ R.from x b t.1) (at_set logs i x e' b there);
-      senders = λ g c. ⊎_elim (λ (d : Contains R.sent g). few g d)
-          (λ (d : f ≡ g). subst (λ (k : ℕ × ℕ). k.0 < k.1) (λ q. ((sym by ∙ ap sender d) q, sym (length-set logs i e') q)) (within logs i e at)) (Contains-push_cases R.sent f g c);
+      longer = record {
+        begun = R.begun;
+        openings = opened;
+        events = R.events ++ Send i place ∷ [];
+        answers = R.answers ++ WasSent number ∷ [];
+        sent = R.sent ++ f ∷ [];
+        happened = happened_more R.events R.answers (Send i place) (WasSent number) R.happened tt;
+        runs = run_more (world_up start []) old new R.events R.answers (Send i place) (WasSent number) R.runs turn;
+        handed = λ x b there. subst (λ (l : List Handed). AreAnswered l b.inputs) (sym (later x)) (⊎_elim
+            (λ (t : (x ≡ i) × (e' ≡ b)). subst (AreAnswered (handed_to x R.sent R.events R.answers)) (sym added ∙ ap (λ (z : Log). z.inputs) t.1) (R.handed x e (ap (get_elem? logs) t.0 ∙ at)))
+            (λ (t : (x ≢ i) × (get_elem? logs x ≡ some b)). R.handed x b t.1) (at_set logs i x e' b there));
+        from = λ x b there. ⊎_elim
+            (λ (t : (x ≡ i) × (e' ≡ b)). sent_more x R.sent f (by ∙ sym t.0) ∙ ap (λ (l : List Frame). l ++ f ∷ []) (R.from x e (ap (get_elem? logs) t.0 ∙ at)) ∙ sym sent ∙ ap (λ (z : Log). z.sent) t.1)
+            (λ (t : (x ≢ i) × (get_elem? logs x ≡ some b)). sent_else x R.sent f (λ q. t.0 (sym q ∙ by)) ∙ R.from x b t.1) (at_set logs i x e' b there);
+        senders = λ g c. ⊎_elim (λ (d : Contains R.sent g). few g d)
+            (λ (d : f ≡ g). subst (λ (k : ℕ × ℕ). k.0 < k.1) (λ q. ((sym by ∙ ap sender d) q, sym (length-set logs i e') q)) (within logs i e at)) (Contains-push_cases R.sent f g c);
+      };
+      events = Send i place ∷ [];
+      answers = WasSent number ∷ [];
+      all_events = refl;
+      all_answers = refl;
+      runs_on = (new, turn, refl);
     }
       where
         emitted : (p : ℕ) × (get_elem? (site.emittable e.last.engagement) p ≡ some f)

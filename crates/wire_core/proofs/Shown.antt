@@ -120,7 +120,7 @@ module _ (start : List Record) (words : List ℕ) (homes : Homes) (logs : List L
         let p = was logs s e e' at Nowhere like x a ax in
         let q = was logs s e e' at Nowhere like y b by in
         like_kept Nowhere words words homes homes x y p.0 a q.0 b (W.mailbox x y p.0 q.0 p.1 q.1 apart) (λ z. z) p.2 q.2 refl refl;
-    run = run_same start logs W.run s e e' at (ap (λ (z : Log). z.opening) same) (ap (λ (z : Log). z.last) same) (ap (λ (z : Log). z.sent) same) (ap (λ (z : Log). z.inputs) same);
+    run = (run_same start logs W.run s e e' at (ap (λ (z : Log). z.opening) same) (ap (λ (z : Log). z.last) same) (ap (λ (z : Log). z.sent) same) (ap (λ (z : Log). z.inputs) same)).longer;
   }
     where
       like : Like Nowhere s e e'

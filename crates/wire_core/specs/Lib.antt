@@ -2,6 +2,7 @@ pub mod Answers
 pub mod Between
 pub mod Changes
 pub mod Codes
+pub mod Continuing
 pub mod Fitting
 pub mod Frames
 pub mod Laws

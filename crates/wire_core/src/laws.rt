@@ -1,6 +1,7 @@
 //! Laws of the rule. Each is a function with an empty body whose contract is the law.
 
 ghost use Rattle.wire_core.specs.Standing.{OpeningRecordsStand, SplitsMarkNothing, JoinsMarkNothing, SentFramesMarkNothing, OfferedFramesMarkNothing, NotedFramesMarkNothing, AskedSitesMarkNothing, MarksPutTheRecord, MarksLeaveOtherSites};
+ghost use Rattle.wire_core.specs.Continuing.{ChangesAreSteps, StepsExtendTheRun};
 ghost use Rattle.wire_core.specs.Laws.{CallsTellTheMailbox, MarksKeepTheFit, PostsKeepTheFit, FewerSentFit, RuleHoldsBetween, RunsFit, RunsOfSeatsComeOut, RunsStand};
 
 /// A step of one site, by whatever input, leaves all consistent, where a frame that it delivers was sent.
@@ -51,4 +52,12 @@ pub fn a_record_stands_until_its_site_is_marked()
 /// What the sites did is a run of the world that comes out as the headline says, at each of its moments.
 pub fn runs_of_seats_come_out()
     ensures { RunsOfSeatsComeOut }
+{}
+
+/// What the sites did by one moment is continued at the next: each run of the world that their logs are goes on, by the
+/// step that one of them was marked, or the frame that it sent, to one that the later logs are. Each step of the
+/// mailboxes changes a log so, or not at all.
+pub fn a_step_extends_the_run()
+    ensures changes { ChangesAreSteps }
+    ensures run { StepsExtendTheRun }
 {}
