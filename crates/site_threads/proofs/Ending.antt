@@ -20,7 +20,7 @@ use Rattle.site_threads.specs.declared.turns.TurnCause.{TurnCause}
 use Rattle.site_threads.specs.declared.turns.TurnCause.TheVariants as turns
 use Rattle.site_threads.specs.Beginning.{BeganIn, TookEnd}
 use Rattle.site_threads.specs.Ends.{takes, HasTold, IsOut, SameOut}
-use Rattle.site_threads.specs.Gathering.{AreInOrder, MayStandIn, KeepersFit, Began, FitsEnd, HasEnd, HasTurned, IsFirstCause, IsKept, IsLeft, AreOpenBefore, Explains, FitAfter, HindersRun, NoneEndedBefore, WasRefused}
+use Rattle.site_threads.specs.Gathering.{AreInOrder, KeepersFit, Began, FitsEnd, HasEnd, HasTurned, IsFirstCause, IsKept, IsLeft, AreOpenBefore, Explains, FitAfter, HindersRun, NoneEndedBefore, WasRefused}
 use Rattle.site_threads.specs.Jobs.{Enters, jobs_in, option_items, receipts_in, with_marks}
 use Rattle.site_threads.specs.Keepers.{shown_if, may_if}
 use Rattle.site_threads.specs.Parting.{HasKeeper, LeavesList, cause_of, first_cause}
@@ -28,7 +28,8 @@ use Rattle.site_threads.specs.Running.{Holding, inputs_in}
 use Rattle.site_threads.specs.Runs.{EndedBy, IsFresh, IsReady, Ran}
 use Rattle.site_threads.specs.Sites.{IsSite, Running, start_of}
 use Rattle.site_threads.proofs.Changing.{entered_so}
-use Rattle.site_threads.proofs.Gathering.{exact_when_fit}
+use Rattle.site_threads.proofs.Gathering.{fit_so}
+use Rattle.site_threads.proofs.OneList.{MayStandIn}
 use Rattle.site_threads.proofs.Continuing.{out_on}
 use Rattle.site_threads.proofs.Zips.{all_carried, as_long, zip_through}
 
@@ -356,7 +357,7 @@ only_shown shown may [] [] (q ∷ qs) a b = absurd b
 only_shown shown may (k ∷ ks) (r ∷ rs) [] a b = absurd b
 
 pub fit_before : {K : Type 0} (shown : K → Option Record) (may : K → Record → Type 0) (ks : List K) (rs : List Record) → AllZip (λ k r. shown k ≡ Some r) ks rs → MakeAWorld rs → KeepersFit shown may ks
-fit_before shown may ks rs a world qs b = let w = subst MakeAWorld (sym (only_shown shown may ks rs qs a b)) world in record { world = w; exact = exact_when_fit qs record { places = w.places; fits = w.fit } }
+fit_before shown may ks rs a world = fit_so shown may ks (λ qs b. subst MakeAWorld (sym (only_shown shown may ks rs qs a b)) world)
 
 -- What the keepers store.
 

@@ -1,6 +1,7 @@
 -- The records that the sites may stand in are consistent.
 use Rattle.std.proofs.Common.{◌≡◌, ◌⊎◌, ⊎_elim, inl, inr, ℕ, zero, suc, ◌+◌, ◌<◌, ◌≤◌, Option, Some, None, List, [], ◌∷◌, ◌++◌, map, flat_map, drop, length, get_or, set, All, Contains, refl, sym, ap, ◌∙◌, subst, append_assoc, zero-add, arith}
 use Rattle.std.proofs.lemmas.List.Elements.{All-head, All-tail}
+use Rattle.std.proofs.lemmas.Option.{same_Some}
 use Rattle.std.specs.List.{AllZip, range_with_len}
 use mathlib.Core.Option.{some}
 use lib.ListN.{get_elem?}
@@ -12,11 +13,12 @@ use Rattle.site_core.specs.declared.inputs.SiteInput.{SiteInput}
 use Rattle.site_recovery.specs.Fit.{Fits}
 use Rattle.site_recovery.specs.Laws.{AreInPlace}
 use Rattle.site_recovery.specs.Looks.{world_of}
-use Rattle.world_core.specs.Faults.{AreOneWorld}
+use Rattle.world_core.specs.Faults.{AreOneWorld, MakeAWorld}
+use Rattle.world_core.specs.Keepers.{StandsAs}
 use Rattle.world_core.specs.KeptSteps.{Handed, handed_to, StandsAfter}
 use Rattle.world_core.specs.Recalls.{AreExactOnceEnded, quarantined}
 use Rattle.world_core.specs.Worlds as world
-use Rattle.world_core.specs.Worlds.{Up, WorldState, WorldFits}
+use Rattle.world_core.specs.Worlds.{Down, Standing, Up, WorldState, WorldFits, record_of, records}
 use Rattle.world_core.proofs.EndedRecalls.{ended_is_exact}
 use Rattle.wire_core.specs.declared.views.Log.{Log}
 use Rattle.wire_core.specs.Answers.{Holds}
@@ -25,18 +27,19 @@ use Rattle.wire_core.specs.Frames.{DeliversOneOf}
 use Rattle.wire_core.specs.Rule.{AreAnswered, last_records, frames}
 use Rattle.wire_core.specs.Seats.{Line, HoldsAll, AreAllLogs, Gathered}
 use Rattle.wire_core.proofs.Fitting.{one_step, fewer_fit}
+use Rattle.wire_core.proofs.Out.{runs_of_seats_come_out}
 use Rattle.wire_core.proofs.Running.{run_fits}
 use Rattle.site_threads.proofs.Changing.{entered_alone}
 use Rattle.site_threads.specs.declared.jobs.Entry.{Entry}
 use Rattle.site_threads.specs.declared.lists.RunLog.{RunLog}
-use Rattle.site_threads.specs.Gathering.{AreStepsOf, AreTheirSteps, MayStandIn, EndedAreExact, KeepersFit, Lead, RanFrom}
+use Rattle.site_threads.specs.Gathering.{AreStepsOf, AreTheirSteps, EndedAreExact, KeepersFit, Lead, RanFrom}
 use Rattle.site_threads.specs.Keepers.{shown_if, may_if}
 use Rattle.site_threads.specs.Parting.{HasKeeper, LeavesList}
 use Rattle.site_threads.specs.Runs.{IsFresh}
 use Rattle.site_threads.specs.Jobs.{EntersMarked, WithMarks, with_marks}
 use Rattle.site_threads.specs.Running.{Holding}
 use Rattle.site_threads.specs.Sites.{IsSite, Running, start_of}
-use Rattle.site_threads.proofs.OneList.{IsSameSite, holding_same, one_again}
+use Rattle.site_threads.proofs.OneList.{IsSameSite, MayStandIn, holding_same, one_again}
 use Rattle.site_threads.proofs.Zips.{zip_through}
 
 -- the record last marked, or the one after a step that may be marked
@@ -116,6 +119,26 @@ exact_when_fit rs fit recall =
     let same : world.records w ≡ rs = same_records rs in
     let fits : WorldFits w = record { places = subst AreInPlace (sym same) fit.places; fits = subst (λ l. Fits (world_of l) []) (sym same) fit.fits } in
     subst (λ l. AreExactOnceEnded recall l (quarantined recall l)) same (ended_is_exact w recall fits)
+
+-- as the keepers may stand in a world, they may stand in its records
+one_stands : (o : Option Record) (may : Record → Type 0) (standing : Standing) → StandsAs o may standing → MayStandIn o may (record_of standing)
+one_stands (Some x) may (Up r) s = sym (same_Some x r s)
+one_stands None may (Up r) s = absurd (let e : None ≡ Some r = s in cc)
+one_stands o may (Down r) s = subst (λ z. MayStandIn z may r) (sym s.0) s.1
+
+module _ {K : Type 0} (shown : K → Option Record) (may : K → Record → Type 0) where
+  all_stand : (keepers : List K) (sites : List Standing) → AllZip (λ k s. StandsAs (shown k) (may k) s) keepers sites → AllZip (λ k r. MayStandIn (shown k) (may k) r) keepers (map record_of sites)
+  all_stand [] [] s = tt
+  all_stand (k ∷ ks) (x ∷ xs) s = (one_stands (shown k) (may k) x s.0, all_stand ks xs s.1)
+  all_stand [] (x ∷ xs) s = absurd s
+  all_stand (k ∷ ks) [] s = absurd s
+
+  -- where the records in which they may stand make a world, the keepers fit
+  pub fit_so : (keepers : List K) → ((rs : List Record) → AllZip (λ k r. MayStandIn (shown k) (may k) r) keepers rs → MakeAWorld rs) → KeepersFit shown may keepers
+  fit_so keepers make = record {
+    again = λ v stand. make (records v) (all_stand keepers v.sites stand.0);
+    exact = λ v stand. let w = make (records v) (all_stand keepers v.sites stand.0) in exact_when_fit (records v) record { places = w.places; fits = w.fit };
+  }
 
 -- what is known of a site at the end, beside its log
 record IsEnd {K G : Type 0} (shown : K → Option Record) (may : K → Record → Type 0) (run : Running K G) (log : Log) : Type 0 where
@@ -219,21 +242,22 @@ module _ {K G : Type 0} (shown : K → Option Record) (may : K → Record → Ty
     all_there = holds_all wire.sites logs sites_are
 
     pub keepers_fit : (everyone : List Log) → AreAllLogs wire.sites logs everyone → Gathered wire.start everyone → AreOneWorld (map (λ (r : Running K G). r.start) runs) → (keepers : List K) → AllZip HasKeeper runs keepers → KeepersFit shown may keepers
-    keepers_fit everyone are gathered one keepers have rs stand =
+    keepers_fit everyone are gathered one keepers have =
         let e = ends_of runs all in
         let same = all_held wire.sites logs everyone sites_are are ∙ joined ∙ e.1 in
+        fit_so shown may keepers (λ rs stand.
         let stands = runs_stand runs keepers rs have stand in
         let fit = all_fit wire.start runs e.0 rs (subst (Gathered wire.start) same gathered) e.2 stands in
         let again = one_again (map (λ (r : Running K G). r.start) runs) rs (all_same runs rs all stands) one in
-        record { world = record { one = again; places = fit.places; fit = fit.fits }; exact = exact_when_fit rs fit }
+        record { one = again; places = fit.places; fit = fit.fits })
 
-    pub keepers_ran : (everyone : List Log) → AreAllLogs wire.sites logs everyone → Gathered wire.start everyone → All IsFresh runs → (keepers : List K) (lists : List RunLog) → AllZip HasKeeper runs keepers → AllZip LeavesList runs lists → RanFrom shown may wire.start keepers lists
-    keepers_ran everyone are gathered fresh keepers lists have left =
+    pub keepers_ran : (everyone : List Log) → AreAllLogs wire.sites logs everyone → Gathered wire.start everyone → AreOneWorld wire.start → All IsFresh runs → (keepers : List K) (lists : List RunLog) → AllZip HasKeeper runs keepers → AllZip LeavesList runs lists → RanFrom shown may wire.start keepers lists
+    keepers_ran everyone are gathered one fresh keepers lists have left =
         let e = ends_of runs all in
         let same = all_held wire.sites logs everyone sites_are are ∙ joined ∙ e.1 in
         let run = (subst (Gathered wire.start) same gathered).run in
         record {
           after = last_records e.0;
-          leads = record { events = run.events; answers = run.answers; sent = run.sent; happened = run.happened; runs = run.runs };
+          leads = record { events = run.events; answers = run.answers; sent = run.sent; happened = run.happened; out = runs_of_seats_come_out wire.start e.0 run one };
           steps = steps_from (λ site. handed_to site run.sent run.events run.answers) 0 runs e.0 keepers lists (λ i x at. subst (λ n. AreAnswered (handed_to n run.sent run.events run.answers) x.inputs) (let z : i ≡ 0 + i = omega arith in z) (run.handed i x at)) e.2 have left fresh;
         }

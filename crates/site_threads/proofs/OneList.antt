@@ -12,12 +12,16 @@ use Rattle.wire_core.specs.declared.views.Log.{Log}
 use Rattle.site_threads.specs.declared.jobs.Entry.{Entry}
 use Rattle.site_threads.specs.declared.jobs.Reply.{Reply}
 use Rattle.site_threads.specs.declared.jobs.Reply.TheVariants.{Captured, Started, Frame, Refused, Stopped}
-use Rattle.site_threads.specs.Gathering.{MayStandIn}
 use Rattle.site_threads.specs.Jobs.{Enters, Keeps, WithMarks, with_marks}
 use Rattle.site_threads.specs.Running.{Holding}
 use Rattle.site_threads.proofs.Changing.{entered_so}
 use Rattle.site_threads.proofs.Stamping.{same_me}
 use Rattle.site_threads.proofs.Zips.{as_long}
+
+-- the site is open in this record, or closed and may be opened in it
+abbrev pub MayStandIn : Option Record → (Record → Type 0) → Record → Type 0
+MayStandIn (Some x) may r = r ≡ x
+MayStandIn None may r = may r
 
 -- the records are of one site
 pub record IsSameSite (old new : Record) : Type 0 where

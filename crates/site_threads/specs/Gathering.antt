@@ -7,10 +7,12 @@ use Rattle.keeper_core.specs.Keeping.{MayBeOldOrNew}
 use Rattle.keeper_core.specs.declared.faults.Unopened.{Unopened}
 use Rattle.site_core.specs.Records.{Record}
 use Rattle.world_core.specs.Faults.{HindersKeepers, MakeAWorld}
-use Rattle.world_core.specs.Keepers.{AllShow, IsFirstClosed}
+use Rattle.world_core.specs.Keepers.{AllShow, IsFirstClosed, MayBe, sites_of}
+use Rattle.world_core.specs.Laws.{ComesOut}
 use Rattle.world_core.specs.Recalls.{AreExactOnceEnded, quarantined}
 use Rattle.world_core.specs.KeptSteps.{Handed, StandsAfter, handed_to}
-use Rattle.world_core.specs.Turns.{Runs}
+use Rattle.world_core.specs.Restarting.{MakeAWorldAgain}
+use Rattle.world_core.specs.Worlds.{WorldState, records}
 use Rattle.world_core.specs.declared.events.Answer.{Answer}
 use Rattle.world_core.specs.declared.events.WorldEvent.{WorldEvent}
 use Rattle.site_core.specs.declared.inputs.SiteInput.{SiteInput}
@@ -29,11 +31,6 @@ use Rattle.site_threads.specs.Jobs.{Enters, EntersMarked, IsEntered, jobs_in, op
 use Rattle.site_threads.specs.Parting.{cause_of}
 use Rattle.site_threads.specs.Resting.{IsDone}
 
--- the site is open in this record, or closed and may be opened in it
-abbrev pub MayStandIn : Option Record → (Record → Type 0) → Record → Type 0
-MayStandIn (Some x) may r = r ≡ x
-MayStandIn None may r = may r
-
 -- what is quarantined under each recall that has ended is what its root reaches, neither more nor less
 abbrev pub EndedAreExact : List Record → Type 0
 EndedAreExact records = (recall : Recall) → AreExactOnceEnded recall records (quarantined recall records)
@@ -44,13 +41,13 @@ pub record StandTogether (records : List Record) : Type 0 where
   pub exact : EndedAreExact records
 
 -- Steps that were done, and frames that were sent, lead one after another from these records, with no frame sent, to
--- those.
+-- those; and what comes out of them is what the headline says, at each of their moments.
 pub record WorldLeadsTo (start last : List Record) : Type 0 where
   pub events : List WorldEvent
   pub answers : List Answer
   pub sent : List Frame
   pub happened : AllZip Happened events answers
-  pub runs : Runs (world_up start []) events answers (world_up last sent)
+  pub out : ComesOut (world_up start []) events answers (world_up last sent)
 
 -- The keeper is closed since the last of these steps, in which the site stopped. The steps before it lead to a record, and
 -- the keeper may be opened in that one or in the one after the last step, and in no other.
@@ -95,8 +92,9 @@ module _ {K : Type 0} (shown : K → Option Record) (may : K → Record → Type
 
 module _ {K : Type 0} (shown : K → Option Record) (may : K → Record → Type 0) where
   -- in whichever records the keepers are open, or may be opened, the sites stand together
-  abbrev pub KeepersFit : List K → Type 0
-  KeepersFit keepers = (records : List Record) → AllZip (λ k r. MayStandIn (shown k) (may k) r) keepers records → StandTogether records
+  pub record KeepersFit (keepers : List K) : Type 0 where
+    pub again : MakeAWorldAgain shown may (sites_of keepers [])
+    pub exact : (world : WorldState) → MayBe shown may (sites_of keepers []) world → EndedAreExact (records world)
 
 -- The jobs of the list, and then the one that was taken and not done, are those that were taken from the desk, in order;
 -- and the receipts of its jobs were sent.

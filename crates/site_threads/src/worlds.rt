@@ -247,9 +247,10 @@ fn run_sites<K: SiteKeeper + Send, G: Gate + Send, R: Threads + Wait + Clock + S
 /// message waits for a signal, and each recall that it began has ended. What the sites did together is a run of the
 /// world, as [`World::run`] makes them: steps that were done, and frames that were sent, lead one after another from
 /// the records that the keepers showed to those that they show; and what the run hands to a site are the steps of the
-/// site's list in which its record changed, in order. Whether the run has an answer or not, in whichever records the
-/// keepers are open, or may be opened, these make a world again, which [`World::new`] takes, and what is quarantined
-/// under each recall that has ended is just what its root reaches. What the keepers stored before, they store.
+/// site's list in which its record changed, in order. It comes out as that of [`World::run`] does: at each moment of it
+/// what is quarantined under a recall that has ended is just what its root reaches, and stays so. Whether the run has
+/// an answer or not, in whichever records the keepers are open, or may be opened, these make a world again, which
+/// [`World::new`] takes. What the keepers stored before, they store.
 ///
 /// # Errors
 /// All with the keepers. `NotAWorld`, with the keepers as they were. `NoMemory`: before the first turn, when nothing

@@ -1,5 +1,6 @@
 use Rattle.std.proofs.Common.{◌∙◌, sym, ap, subst, arith}
 use Rattle.std.specs.List.{range_with_len}
+use Rattle.world_core.specs.Faults.{AreOneWorld}
 use Rattle.wire_core.specs.Changes.{below, from}
 use Rattle.site_threads.specs.Beginning.{BeganIn}
 use Rattle.site_threads.specs.Gathering.{RanFrom}
@@ -83,7 +84,7 @@ returns g c =
       order = ordered_all K.shown K.reopens gives_up K.stored most olds runs ls ran p.lists placed;
       turns = λ none. turned_all K.shown K.reopens gives_up K.stored most olds runs ks ls ran p.keepers p.lists (sym p.cause ∙ none);
       fit = fit;
-      run = record { before = w.0; began = w.1; ran = subst (λ rs. RanFrom K.shown K.may rs ks ls) w.4 (keepers_ran K.shown K.may wire runs logs p.sites p.logs order all.0 all.1 all.2 fresh ks ls p.keepers p.lists) };
+      run = record { before = w.0; began = w.1; ran = subst (λ rs. RanFrom K.shown K.may rs ks ls) w.4 (keepers_ran K.shown K.may wire runs logs p.sites p.logs order all.0 all.1 all.2 (subst AreOneWorld (sym w.4) w.2.one) fresh ks ls p.keepers p.lists) };
       stored = stored_all K.shown K.reopens gives_up K.stored most c.args.keepers.items olds runs ks b.start ran p.keepers;
       back = as_long (HasKeeper {G = g.row.G.Denot}) runs ks p.keepers ∙ long;
       cause = hinders_all K.shown K.reopens gives_up K.stored most K.may c.args.keepers.items olds runs ks left.cause ran p.keepers placed p.cause fit;
