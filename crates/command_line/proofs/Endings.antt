@@ -26,7 +26,7 @@ module _ {F K G : Type 0} (does : F → FileCall K → F → Type 0) (knows : F 
       inr (inr (inr (inr (inl (record { bad = bad; text = text; uncalled = uncalled; unread = unread; unwritten = unwritten; told = told; status_is = refl })))))
 
   pub ends_files : (words : List (String Global)) (old new : F) (before after : Streams) (status : ℕ) (command : FileCommand) (form : Form) (came : Result Output Fault)
-      → AsksFiles (texts_of words) command form → IfOk came (λ output. Led does old new (LeadsTo (knows new) shown failed stored command output))
+      → AsksFiles (texts_of words) command form → IfOk came (λ output. Led does old new (LeadsTo (knows new) shown failed may stored command output))
       → IfErr came (λ fault. Led does old new (FailsBy shown failed may reopens gives_up stored command fault))
       → Keeps before.input after.input → TellsWhatCame fails form new came before.printed after.printed status
       → Ends does knows fails shown failed may reopens gives_up stored words old new before after status

@@ -236,7 +236,7 @@ module _ {F K G : Type 0} (does : F → FileCall K → F → Type 0) (knows : F 
     pub form : Form
     pub asked : AsksFiles words command form
     pub came : Result Output Fault
-    pub led : IfOk came (λ output. Led does old new (LeadsTo (knows new) shown failed stored command output))
+    pub led : IfOk came (λ output. Led does old new (LeadsTo (knows new) shown failed may stored command output))
     pub broke : IfErr came (λ fault. Led does old new (FailsBy shown failed may reopens gives_up stored command fault))
     pub unread : Keeps before.input after.input
     pub told : TellsWhatCame fails form new came before.printed after.printed status

@@ -17,7 +17,7 @@ use Rattle.command_line.specs.UnknownItems.{AndWho}
 use Rattle.command_line.specs.declared.command_lines.FileCommand.{FileCommand}
 use Rattle.command_line.specs.declared.command_lines.FileCommand.TheVariants.{Init, Capture, Start, Run, Report, Audit, Trace, Recalls, Recall, Items}
 
-module _ {K : Type 0} (knows : List ℕ → List ℕ → Type 0) (shown : K → Option Record) (failed : K → ℕ) (stored : K → Type 0) where
+module _ {K : Type 0} (knows : List ℕ → List ℕ → Type 0) (shown : K → Option Record) (failed : K → ℕ) (may : K → Record → Type 0) (stored : K → Type 0) where
   -- The calls of the command, which lead to this output. A capture and a run have notes, and so has a command on an item that the
   -- site doesn't know, behind which it is asked who does.
   abbrev pub LeadsTo : FileCommand → Output → List (FileCall K) → Type 0
@@ -27,7 +27,7 @@ module _ {K : Type 0} (knows : List ℕ → List ℕ → Type 0) (shown : K → 
       AndWho shown stored folder.now site.now item (StartsAt shown stored folder.now site.now item) output calls
   LeadsTo (Start folder site item true) output calls =
       AndWho shown stored folder.now site.now item (DryStartsAt shown stored folder.now site.now item) output calls
-  LeadsTo (Run folder turns) output calls = RunsAt knows shown failed stored folder.now turns output calls
+  LeadsTo (Run folder turns) output calls = RunsAt knows shown failed may stored folder.now turns output calls
   LeadsTo (Report folder recall ways events) output calls = ReportsAt shown stored folder.now recall.now ways events output calls
   LeadsTo (Audit folder) output calls = AuditsAt shown stored folder.now output calls
   LeadsTo (Trace folder site item back ways events) output calls =

@@ -149,7 +149,7 @@ fn on_files<
 ) -> Result<Output, Fault>
     requires { HasTurns command.now }
     ensures led { IfOk result (λ output. Led F.does files.old files.new
-        (LeadsTo (F.knows files.new) K.shown K.failed K.stored command.now output)) }
+        (LeadsTo (F.knows files.new) K.shown K.failed K.may K.stored command.now output)) }
     ensures failed { IfErr result (λ fault. Led F.does files.old files.new
         (FailsBy K.shown K.failed K.may K.reopens G.gives_up K.stored command.now fault)) }
 {

@@ -7,12 +7,15 @@ use Rattle.recall_outcomes.specs.declared.outcomes.Outcome.{Outcome}
 use Rattle.recall_outcomes.specs.declared.outcomes.StartedRecall.{StartedRecall}
 use Rattle.site_core.specs.Records.{Record}
 use Rattle.site_threads.proofs.NoJobs.{all_of_frames}
-use Rattle.site_threads.specs.Gathering.{Began, FitAfter, HasEnd, HasTurned, HindersRun, IsKept, KeepersFit, MayStandIn, StandTogether}
+use Rattle.site_threads.specs.Gathering.{Began, FitAfter, HasEnd, HasTurned, HindersRun, IsKept, KeepersFit, RanAsAWorld, StandTogether}
 use Rattle.site_threads.specs.declared.desks.DeskOut.{DeskOut}
 use Rattle.site_threads.specs.declared.gather.GatherCause.{GatherCause}
 use Rattle.site_threads.specs.declared.gather.GatherCause.TheVariants.{NotAWorld, NoMemory, SiteLost, GaveUp}
 use Rattle.site_threads.specs.declared.lists.RunLog.{RunLog}
-use Rattle.world_core.specs.Keepers.{AllShow}
+use Rattle.wire_core.specs.Rule.{world_up}
+use Rattle.wire_core.proofs.Running.{up_records}
+use Rattle.world_core.specs.Keepers.{AllShow, StandsAs}
+use Rattle.world_core.specs.Worlds.{Up}
 use Rattle.world_core.specs.declared.faults.WorldFault.TheVariants as worlds
 use Rattle.folder_commands.specs.Calls.{AreShown}
 use Rattle.folder_commands.proofs.CallsInTurn.{are_shown}
@@ -43,35 +46,38 @@ module _ {K : Type 0} (shown : K → Option Record) where
       record { few = omega (arith, many, back, few); befores = omega (arith, long, many, back); afters = length-map new failed ∙ many }
 
   -- what is reported after a run of sites whose desks take no jobs
-  pub came_to_its_end : (failed : K → ℕ) (turns : ℕ) (old new : List K) (ds : List DeskOut) (lists : List RunLog) (recalls : List StartedRecall) (notes : RunNotes) (before : List ℕ) → AllZip (Began shown) old lists → AllZip (IsKept shown) new lists
-      → All (λ (d : DeskOut). d.limit ≡ 0) ds → AllZip HasEnd ds lists → AllZip (HasTurned shown turns) new lists → before ≡ map failed old
-      → TellsRecalls shown new recalls → AreNotes before (map failed new) lists recalls notes → CameToItsEnd shown failed turns old new recalls notes
-  came_to_its_end failed turns old new ds lists recalls notes before began kept none ends turned counts told noted = record {
+  pub came_to_its_end : (failed : K → ℕ) (may : K → Record → Type 0) (turns : ℕ) (old new : List K) (ds : List DeskOut) (lists : List RunLog) (recalls : List StartedRecall) (notes : RunNotes) (before : List ℕ) → AllZip (Began shown) old lists → AllZip (IsKept shown) new lists
+      → All (λ (d : DeskOut). d.limit ≡ 0) ds → AllZip HasEnd ds lists → AllZip (HasTurned shown turns) new lists → RanAsAWorld shown may old new lists → before ≡ map failed old
+      → TellsRecalls shown new recalls → AreNotes before (map failed new) lists recalls notes → CameToItsEnd shown failed may turns old new recalls notes
+  came_to_its_end failed may turns old new ds lists recalls notes before began kept none ends turned run counts told noted = record {
     lists = lists;
     began = began;
     kept = kept;
     frames = all_of_frames shown ds new lists none ends kept;
     turned = turned;
+    run = run;
     told = told;
     noted = subst (λ bs. AreNotes bs (map failed new) lists recalls notes) counts noted;
   }
 
   module _ (may : K → Record → Type 0) where
-    all_open_in : (keepers : List K) (rs : List Record) → AllShow shown keepers rs → AllZip (λ k r. MayStandIn (shown k) (may k) r) keepers rs
-    all_open_in [] [] all = tt
-    all_open_in (k ∷ keepers) (r ∷ rs) all = (subst (λ o. MayStandIn o (may k) r) (sym all.0) refl, all_open_in keepers rs all.1)
-    all_open_in [] (r ∷ rs) all = absurd all
-    all_open_in (k ∷ keepers) [] all = absurd all
+    all_up : (keepers : List K) (rs : List Record) → AllShow shown keepers rs → AllZip (λ k standing. StandsAs (shown k) (may k) standing) keepers (map (λ r. Up r) rs)
+    all_up [] [] all = tt
+    all_up (k ∷ keepers) (r ∷ rs) all = (all.0, all_up keepers rs all.1)
+    all_up [] (r ∷ rs) all = absurd all
+    all_up (k ∷ keepers) [] all = absurd all
 
     -- records that are shown stand together
     pub shown_stand : (keepers : List K) (rs : List Record) → KeepersFit shown may keepers → AllShow shown keepers rs → StandTogether rs
-    shown_stand keepers rs fit all = fit rs (all_open_in keepers rs all)
+    shown_stand keepers rs fit all =
+        let up = all_up keepers rs all in
+        subst StandTogether (up_records rs) (record { world = fit.again (world_up rs []) (up, refl); exact = fit.exact (world_up rs []) (up, refl) })
 
     -- inconsistent records are the outcome, and nothing else that prevents a run
     pub misfit_told : (failed : K → ℕ) (turns : ℕ) (old new : List K) (cause : GatherCause) (outcome : Outcome) (notes : Option RunNotes) → HindersRun shown new cause → FitAfter shown may old cause new → TellsCause cause outcome → notes ≡ None
-        → AnswersRun shown failed turns old new outcome notes
+        → AnswersRun shown failed may turns old new outcome notes
     misfit_told failed turns old new (NotAWorld (worlds.Misfit misfit)) outcome notes (records, shows, dont) fit told none =
-        subst (λ o. AnswersRun shown failed turns old new o notes) (sym told) (
+        subst (λ o. AnswersRun shown failed may turns old new o notes) (sym told) (
           record {
             records = records;
             shows = subst (λ ks. AreShown shown ks records) fit (are_shown shown new records shows);

@@ -24,7 +24,7 @@ module _ {K G : Type 0} (shown : K → Option Record) (failed : K → ℕ) (may 
     pub after : List K
     pub came :
         FailsRun shown may reopens gives_up turns keepers after fault
-        ⊎ ((fault ≡ NoMemory) × (outcome : Outcome) × (notes : Option RunNotes) × AnswersRun shown failed turns keepers after outcome notes)
+        ⊎ ((fault ≡ NoMemory) × (outcome : Outcome) × (notes : Option RunNotes) × AnswersRun shown failed may turns keepers after outcome notes)
     pub lasts : All stored after
     pub calls_are : calls ≡ opens_from folder sites 0 keepers ++ closes_all after
 

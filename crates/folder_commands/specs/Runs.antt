@@ -12,7 +12,7 @@ use Rattle.site_core.specs.Records.{Record}
 use Rattle.site_recovery.specs.Looks.{world_of}
 use Rattle.site_recovery.specs.Misfits.{IsMisfit}
 use Rattle.site_recovery.specs.declared.checking.Misfit.{Misfit}
-use Rattle.site_threads.specs.Gathering.{Began, Explains, FitAfter, HasTurned, HindersRun, IsKept, StandTogether}
+use Rattle.site_threads.specs.Gathering.{Began, Explains, FitAfter, HasTurned, HindersRun, IsKept, RanAsAWorld, StandTogether}
 use Rattle.site_threads.specs.Jobs.{AreOfFrames}
 use Rattle.site_threads.specs.declared.gather.GatherCause.{GatherCause}
 use Rattle.site_threads.specs.declared.gather.GatherCause.TheVariants.{NotAWorld}
@@ -40,17 +40,18 @@ pub record TellsTheMisfit {K : Type 0} (shown : K → Option Record) (keepers : 
   pub shows : AreShown shown keepers records
   pub is_misfit : IsMisfit (length records) (world_of records) misfit.condition misfit.site
 
-module _ {K : Type 0} (shown : K → Option Record) (failed : K → ℕ) (turns : ℕ) where
+module _ {K : Type 0} (shown : K → Option Record) (failed : K → ℕ) (may : K → Record → Type 0) (turns : ℕ) where
   -- each keeper is open in the record to which its steps lead from the one that it began with, and these are the recalls in
   -- them; each step is that of a frame, and each site's gate was asked for just these turns, or for fewer where the site is
-  -- done. The notes are those of these steps, of how often the devices had failed before and have after, and of these
-  -- recalls
+  -- done. What the sites did is a run of the world, which comes out as the headline says. The notes are those of these
+  -- steps, of how often the devices had failed before and have after, and of these recalls
   pub record CameToItsEnd (old new : List K) (recalls : List StartedRecall) (notes : RunNotes) : Type 0 where
     pub lists : List RunLog
     pub began : AllZip (Began shown) old lists
     pub kept : AllZip (IsKept shown) new lists
     pub frames : All (λ l. AreOfFrames l.entries.items) lists
     pub turned : AllZip (HasTurned shown turns) new lists
+    pub run : RanAsAWorld shown may old new lists
     pub told : TellsRecalls shown new recalls
     pub noted : AreNotes (map failed old) (map failed new) lists recalls notes
 
@@ -79,7 +80,7 @@ pub record FailsRun {K G : Type 0} (shown : K → Option Record) (may : K → Re
   pub explained : Explains shown reopens gives_up turns new cause
   pub fault_is : gather_fault cause ≡ Some fault
 
-module _ {K : Type 0} (knows : List ℕ → List ℕ → Type 0) (shown : K → Option Record) (failed : K → ℕ) (stored : K → Type 0) (folder : List ℕ) where
+module _ {K : Type 0} (knows : List ℕ → List ℕ → Type 0) (shown : K → Option Record) (failed : K → ℕ) (may : K → Record → Type 0) (stored : K → Type 0) (folder : List ℕ) where
   -- the files of all sites were opened, the sites ran for at most so many turns, and the files were closed, on each of
   -- which a crash leaves the record that its keeper shows; then the notes were told, with what the files know of those of
   -- the sites that stopped
@@ -90,7 +91,7 @@ module _ {K : Type 0} (knows : List ℕ → List ℕ → Type 0) (shown : K → 
     pub number : length keepers ≡ length sites
     pub after : List K
     pub notes : Option RunNotes
-    pub told : AnswersRun shown failed turns keepers after output.outcome notes
+    pub told : AnswersRun shown failed may turns keepers after output.outcome notes
     pub lasts : All stored after
     pub noted : TellsOf knows folder sites notes output.notes
     pub calls_are : calls ≡ opens_from folder sites 0 keepers ++ closes_all after

@@ -52,7 +52,7 @@ pub fn run_sites<
 >(rt: &R, alloc: Global, files: &mut F, gate: G, folder: &str, turns: u64) -> Result<Output, Fault>
     requires turns { turns ≤ 1000000 }
     ensures calls { IfOk result (λ output. Led F.does files.old files.new
-        (RunsAt (F.knows files.new) K.shown K.failed K.stored folder.now turns output)) }
+        (RunsAt (F.knows files.new) K.shown K.failed K.may K.stored folder.now turns output)) }
     ensures failed { IfErr result (λ fault. Led F.does files.old files.new
         (RunFails K.shown K.failed K.may K.reopens G.gives_up K.stored folder.now turns fault)) }
 {
@@ -86,7 +86,8 @@ fn told<K: SiteKeeper, F: Files<K>>(
 }
 
 /// Runs the sites of these keepers, in the order of their numbers, for so many turns: at most 1,000,000. Each has a
-/// copy of the gate to its turns. The keepers are given back, open where there is an outcome.
+/// copy of the gate to its turns. The keepers are given back, open where there is an outcome; then what the sites did is
+/// a run of the world, which comes out as that of `World::run` does.
 ///
 /// # Errors
 /// `OtherSites` where the keepers aren't of one list of sites, in order, and `Closed` where one is closed: they are as
@@ -105,7 +106,8 @@ pub fn run_of<K: SiteKeeper + Send, G: Gate + Copy + Send, R: Threads + Wait + C
     requires count { (2 ≤ length keepers.items) × (length keepers.items ≤ 16) }
     requires turns { turns ≤ 1000000 }
     ensures answered { IfOk result.1 (λ ran.
-        AnswersRun K.shown K.failed turns keepers.items result.0.items ran.outcome ran.notes) }
+        AnswersRun K.shown K.failed K.may turns keepers.items result.0.items ran.outcome
+        ran.notes) }
     ensures stored { All K.stored keepers.items → All K.stored result.0.items }
     ensures failed { IfErr result.1 (FailsRun K.shown K.may K.reopens G.gives_up turns keepers.items
         result.0.items) }

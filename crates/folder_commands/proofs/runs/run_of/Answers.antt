@@ -27,7 +27,7 @@ returns-in-Ok-run_world-clause-answered g c =
     let ran = c.in-Ok-run_world.ensures.ran in
     let counts = c.as_slice-in-Ok-run_world.ensures.value ∙ (c.in-Ok.ensures.failures ∙ ap (map failed) c.as_slice.ensures.value) in
     elim c.match-tell_run.branch [
-      | in-Ok-tell_run w ↦ rw w.ran-is (came_to_its_end shown failed c.args.turns c.args.keepers.items run.keepers.items c.in-Ok.desks.items run.lists.items _ _ _ ran.began ran.kept c.in-Ok.ensures.limits ran.ends ran.turns counts w.in-Ok-tell_run.ensures.told w.in-Ok-tell_run.ensures.noted)
+      | in-Ok-tell_run w ↦ rw w.ran-is (came_to_its_end shown failed g.K.SiteKeeper.may c.args.turns c.args.keepers.items run.keepers.items c.in-Ok.desks.items run.lists.items _ _ _ ran.began ran.kept c.in-Ok.ensures.limits ran.ends ran.turns ran.run counts w.in-Ok-tell_run.ensures.told w.in-Ok-tell_run.ensures.noted)
       | in-Err-tell_run w ↦ rw w.ran-is tt
     ]
 

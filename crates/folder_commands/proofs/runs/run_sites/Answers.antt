@@ -52,7 +52,7 @@ returns-in_err-notes-clause-failed g c =
     let (records, keep) = c.in_ok-keepers.ensures.keep in
     let after = c.run_of-after.result.0.items in
     let Fails = RunFailsAt shown g.K.SiteKeeper.failed g.K.SiteKeeper.may g.K.SiteKeeper.reopens g.G.Gate.gives_up stored folder c.args.turns in
-    let told = subst (λ r. IfOk r (λ ran. AnswersRun shown g.K.SiteKeeper.failed c.args.turns keepers after ran.outcome ran.notes)) c.in_ok-outcome.was c.run_of-after.ensures.answered in
+    let told = subst (λ r. IfOk r (λ ran. AnswersRun shown g.K.SiteKeeper.failed g.K.SiteKeeper.may c.args.turns keepers after ran.outcome ran.notes)) c.in_ok-outcome.was c.run_of-after.ensures.answered in
     handed_on c.from_residual-in_err-notes.result _ _ c.from_residual-in_err-notes.ensures.1
     (failed_behind g.F.Files.does folder Fails _ _ _ sites _ c.in_ok-sites.ensures.read
     (record {
@@ -80,7 +80,7 @@ returns-clause-calls g c =
     let keepers = c.in_ok-keepers.keepers.items in
     let (records, keep) = c.in_ok-keepers.ensures.keep in
     let after = c.run_of-after.result.0.items in
-    behind_list g.F.Files.does folder (λ ss rest. (_ ≡ ss) × RunsAll (g.F.Files.knows c.close_all.new.files) shown failed stored folder ss c.args.turns _ rest) _ _ _ sites c.in_ok-sites.ensures.read
+    behind_list g.F.Files.does folder (λ ss rest. (_ ≡ ss) × RunsAll (g.F.Files.knows c.close_all.new.files) shown failed g.K.SiteKeeper.may stored folder ss c.args.turns _ rest) _ _ _ sites c.in_ok-sites.ensures.read
     (record {
       calls = opens_from folder sites 0 keepers ++ closes_all after;
       are = (
@@ -92,7 +92,7 @@ returns-clause-calls g c =
           number = c.in_ok-keepers.ensures.number;
           after = after;
           notes = c.in_ok-outcome.field-0.notes;
-          told = subst (λ r. IfOk r (λ ran. AnswersRun shown failed c.args.turns keepers after ran.outcome ran.notes)) c.in_ok-outcome.was c.run_of-after.ensures.answered;
+          told = subst (λ r. IfOk r (λ ran. AnswersRun shown failed g.K.SiteKeeper.may c.args.turns keepers after ran.outcome ran.notes)) c.in_ok-outcome.was c.run_of-after.ensures.answered;
           lasts = c.run_of-after.ensures.stored (kept_stored shown stored sites 0 keepers records keep);
           noted = c.in_ok-notes.ensures;
           calls_are = refl;
