@@ -1,12 +1,11 @@
 -- A run that the logs are at one moment goes on to one that they are a step later.
-use Rattle.std.proofs.Common.{◌≡◌, ◌≢◌, ◌⊎◌, inl, inr, ⊎_elim, ℕ, ◌<◌, List, [], ◌++◌, map, length, set, refl, sym, ap, ◌∙◌, subst, append-nil, append_assoc, length-set}
+use Rattle.std.proofs.Common.{◌≡◌, ◌≢◌, ◌⊎◌, inl, inr, ⊎_elim, ℕ, ◌<◌, ◌≤◌, List, [], ◌++◌, map, length, set, refl, sym, ap, ◌∙◌, subst, append-nil, append_assoc, length-set, arith}
 use Rattle.std.proofs.lemmas.List.{length-map}
-use Rattle.std.proofs.Math.Decide.{dec_lt}
-use mathlib.Core.Logic.{dite}
 use mathlib.Core.Option.{some, some-injective}
 use lib.ListN.{get_elem?}
 use Rattle.atomic_table.proofs.Lists.{at_map, at_set}
 use Rattle.site_core.specs.Records.{Record}
+use Rattle.site_recovery.proofs.Exact.{within_or_past}
 use Rattle.world_core.specs.KeptSteps.{handed_to}
 use Rattle.world_core.specs.Turns.{Runs}
 use Rattle.world_core.proofs.Opened.{runs_on as both_runs}
@@ -126,12 +125,13 @@ module _ (start : List Record) (s t : Table) (h : Ruled start s) (k : Ruled star
         (became site e n was is)
 
   goes_on : GoesOnTo start h.0 R k.0
-  goes_on = dite (dec_lt site (length h.0))
+  goes_on = ⊎_elim
       (λ (low : site < length h.0). let e = there h.0 site low in let n = there k.0 site (subst (λ m. site < m) (sym count) low) in here e.0 n.0 e.1 n.1)
-      (λ past. nowhere (λ i x y at now. ⊎_elim
+      (λ (past : length h.0 ≤ site). nowhere (λ i x y at now. ⊎_elim
       (λ (z : IsUnmoved x y). z)
-      (λ (z : (i ≡ site) × (IsMarked x y ⊎ HasSent x y)). absurd (past (subst (λ m. m < length h.0) z.0 (within h.0 i x at))))
+      (λ (z : (i ≡ site) × (IsMarked x y ⊎ HasSent x y)). let low = within h.0 i x at in let same = z.0 in absurd (omega (arith, past, low, same)))
       (became i x y at now)))
+      (within_or_past site (length h.0))
 
 pub steps_extend_the_run : StepsExtendTheRun
 steps_extend_the_run start s t old new site step run = goes_on start s t old new site step run
