@@ -27,7 +27,7 @@ use Rattle.trace_core.specs.declared.pairs.Pair.{Pair}
 use Rattle.recall_outcomes.specs.Json.{audited_json, back_json, beside_json, caused_members, created_json, detail_json, effects_json, engaged_json, event_json, fault_json, leading_json, leading_members, led_json, list_of, outside_json, pair_json, quarantined_json, quarantined_members, report_json, standing_json, status_json, step_json, text_or_null, trace_json, trail_json, verdict_json, waiting_json, why_json}
 use Rattle.recall_outcomes.specs.Steps.{each_with}
 use Rattle.recall_outcomes.specs.Faults.{fault_name}
-use Rattle.report_forms.specs.Steps.{before_last}
+use Rattle.trace_core.specs.Trails.{before_last}
 use Rattle.recall_outcomes.specs.declared.causes.Cause.{Cause}
 use Rattle.recall_outcomes.specs.declared.causes.Cause.TheVariants as causes
 use Rattle.recall_outcomes.specs.declared.causes.Failure.{Failure}

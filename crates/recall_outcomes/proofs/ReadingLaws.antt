@@ -39,7 +39,7 @@ use Rattle.trace_core.specs.declared.pairs.Pair.{Pair}
 use Rattle.recall_outcomes.specs.Json.{audited_json, back_json, beside_json, created_json, detail_json, effects_json, engaged_json, event_json, known_json, leading_json, leading_members, led_json, line_members, list_of, misfit_json, outcome_json, outside_json, pair_json, quarantined_json, quarantined_members, ran_json, report_json, root_json, standing_json, status_json, step_json, step_members, text_or_null, trace_json, trail_json, verdict_json, waiting_json, why_json, would_json}
 use Rattle.recall_outcomes.specs.Steps.{each_with, told_events}
 use Rattle.recall_outcomes.specs.Telling.{HasPlainNumber, HasPlainNumbers, ItemsHavePlainNumbers, MembersHavePlainNumbers, ValuesAreRead}
-use Rattle.report_forms.specs.Steps.{before_last}
+use Rattle.trace_core.specs.Trails.{before_last}
 use Rattle.recall_outcomes.specs.declared.outcomes.CommandRefusal.{CommandRefusal}
 use Rattle.recall_outcomes.specs.declared.outcomes.CommandRefusal.TheVariants as refusals
 use Rattle.recall_outcomes.specs.declared.outcomes.Outcome.{Outcome}

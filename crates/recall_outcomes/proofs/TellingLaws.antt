@@ -54,7 +54,7 @@ use Rattle.trace_core.specs.declared.pairs.Pair.{Pair}
 use Rattle.recall_outcomes.specs.Json.{audited_json, back_json, beside_json, detail_json, effects_json, engaged_json, event_json, known_json, leading_json, leading_members, led_json, line_members, list_of, misfit_json, outcome_json, outside_json, pair_json, quarantined_json, quarantined_members, ran_json, report_json, standing_json, status_json, step_json, step_members, text_or_null, trace_json, trail_json, verdict_json, waiting_json, why_json}
 use Rattle.recall_outcomes.specs.Telling.{AuditedIsOf, BackTraceIsOf, DetailIsOf, EffectsAreOf, MessageIsOf, OutsideIsOf, PairIsOf, RecallIsOf, ReportIsOf, SomeIsOf, StandingIsOf, StepIsOf, TellsBack, TellsReport, TellsTrace, TellsTrails, TellsWhy, TraceIsOf, ValuesTellKinds, ValuesTellOutcomes, VerdictIsOf, WaitingIsOf, WhyIsOf, kind_of}
 use Rattle.recall_outcomes.specs.Steps.{each_with}
-use Rattle.report_forms.specs.Steps.{before_last}
+use Rattle.trace_core.specs.Trails.{before_last}
 use Rattle.recall_outcomes.specs.declared.outcomes.AuditedRecall.{AuditedRecall}
 use Rattle.recall_outcomes.specs.declared.outcomes.CommandRefusal.{CommandRefusal}
 use Rattle.recall_outcomes.specs.declared.outcomes.CommandRefusal.TheVariants as refusals

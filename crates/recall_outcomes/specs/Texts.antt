@@ -22,7 +22,7 @@ use Rattle.report_core.specs.declared.traces.BackTrace.{BackTrace}
 use Rattle.report_core.specs.declared.traces.Trace.{Trace}
 use Rattle.recall_text.specs.SiteLists.{refused_line_words}
 use Rattle.recall_text.specs.Words.{name_at, recall_text, message_text, ended_word, effects_text, pair_text, refusal_text}
-use Rattle.report_forms.specs.Steps.{before_last}
+use Rattle.trace_core.specs.Trails.{before_last}
 use Rattle.site_recovery.specs.declared.checking.Misfit.{Misfit}
 use Rattle.trace_core.specs.declared.pairs.Pair.{Pair}
 use Rattle.recall_outcomes.specs.Steps.{each_with, told_events}

@@ -4,23 +4,22 @@ ghost use Rattle.std.specs.Prelude.{◌≡◌, Some, IfOk, codes, option_and_the
 ghost use Rattle.std.specs.List.{zip};
 ghost use Rattle.serde_json.specs.Data.{member, no_members, object};
 ghost use Rattle.serde_json.specs.View.{view};
-ghost use Rattle.report_forms.specs.Steps.{before_last};
+ghost use Rattle.trace_core.specs.Trails.{before_last};
 ghost use Rattle.recall_outcomes.specs.Json.{audited_json, beside_json, differs_json, list_of, misfit_json, outside_json, pair_json, pair_members, quarantined_json, report_json, reported_members, traced_members, trail_json};
 ghost use Rattle.recall_outcomes.specs.Steps.{each_with};
 
 use crate::outcome_json::list_value;
 use crate::outcomes::{AuditedRecall, Ways};
 use crate::step_json::put_events;
-use crate::told_events::next_steps;
+use crate::told_events::steps_at;
 use event_json::{Sequence, Sites};
 use frame_core::RecallId;
 use recall_text::telling::{name_of, recall_text};
 use report_core::{OutsideShipment, RecallReport, StepEvents, Verdict};
-use report_forms::before_last;
 use serde_json::{Value, json};
 use site_recovery::Misfit;
 use std::alloc::{AllocError, Global};
-use trace_core::Pair;
+use trace_core::{Pair, Trail, Trails};
 
 /// A pair.
 pub(crate) fn pair_json(alloc: Global, sites: &Sites, pair: &Pair) -> Result<Value, AllocError>
@@ -43,17 +42,13 @@ pub(crate) fn pairs_json(alloc: Global, sites: &Sites, pairs: &[Pair]) -> Result
 }
 
 /// A trail, where there is one.
-fn trail_json(
-    alloc: Global,
-    sites: &Sites,
-    trail: Option<&Sequence<Pair>>,
-) -> Result<Value, AllocError>
+fn trail_json(alloc: Global, sites: &Sites, trail: Option<&[Pair]>) -> Result<Value, AllocError>
     ensures { IfOk result (λ v. view v ≡ trail_json sites.now
         (option_map (λ t. t.now) trail.entry)) }
 {
     match trail {
         None => Ok(Value::Null),
-        Some(trail) => pairs_json(alloc, sites, trail.as_slice()),
+        Some(trail) => pairs_json(alloc, sites, trail),
     }
 }
 
@@ -62,7 +57,7 @@ pub(crate) fn traced_json(
     alloc: Global,
     sites: &Sites,
     pair: &Pair,
-    trail: Option<&Sequence<Pair>>,
+    trail: Option<&[Pair]>,
 ) -> Result<Value, AllocError>
     ensures { IfOk result (λ v. view v
         ≡ object (traced_members sites.now pair.now (option_map (λ t. t.now) trail.entry))) }
@@ -80,14 +75,14 @@ pub(crate) fn quarantined_json(
     sites: &Sites,
     ways: Ways,
     pair: &Pair,
-    trail: Option<&Sequence<Pair>>,
+    trail: Option<&Trail<'_>>,
     steps: Option<&[StepEvents]>,
 ) -> Result<Value, AllocError>
     ensures { IfOk result (λ v. view v ≡ quarantined_json sites.now ways
         (pair.now, (option_map (λ t. t.now) trail.entry, option_map (λ s. s.now) steps.entry))) }
 {
     let mut value = match ways {
-        Ways::Trails => traced_json(alloc, sites, pair, trail)?,
+        Ways::Trails => whole_json(alloc, sites, pair, trail)?,
         Ways::Steps => from_json(alloc, sites, pair, before_some_last(trail))?,
     };
     let Some(members) = value.as_object_mut() else {
@@ -97,12 +92,31 @@ pub(crate) fn quarantined_json(
     Ok(value)
 }
 
+/// A pair, and the whole of its trail, which is made for it alone.
+fn whole_json(
+    alloc: Global,
+    sites: &Sites,
+    pair: &Pair,
+    trail: Option<&Trail<'_>>,
+) -> Result<Value, AllocError>
+    ensures { IfOk result (λ v. view v
+        ≡ object (traced_members sites.now pair.now (option_map (λ t. t.now) trail.entry))) }
+{
+    match trail {
+        None => traced_json(alloc, sites, pair, None),
+        Some(trail) => {
+            let pairs = trail.pairs(alloc)?;
+            traced_json(alloc, sites, pair, Some(pairs.as_slice()))
+        }
+    }
+}
+
 /// The pair before the last one of a trail, where there is one.
-fn before_some_last(trail: Option<&Sequence<Pair>>) -> Option<&Pair>
+fn before_some_last<'a>(trail: Option<&'a Trail<'a>>) -> Option<&'a Pair>
     ensures { option_map (λ p. p.now) result ≡ option_and_then before_last
         (option_map (λ t. t.now) trail.entry) }
 {
-    before_last(trail?.as_slice())
+    trail?.before_last()
 }
 
 /// A pair, and the one before it on its trail, where there is one.
@@ -144,17 +158,19 @@ fn all_quarantined_json(
     sites: &Sites,
     ways: Ways,
     pairs: &[Pair],
-    trails: &[Option<Sequence<Pair>>],
+    trails: &Trails,
     events: &[Sequence<StepEvents>],
 ) -> Result<Value, AllocError>
     ensures { IfOk result (λ v. view v ≡ list_of (quarantined_json sites.now ways)
         (zip pairs.now (each_with trails.now events.now))) }
 {
     let mut list = Vec::new(alloc);
-    let mut events = events.iter();
-    for (pair, trail) in pairs.iter().zip(trails) {
-        let steps = next_steps(&mut events);
-        list.push(quarantined_json(alloc, sites, ways, pair, trail.as_ref(), steps)?)?;
+    for place in 0..pairs.len() {
+        let Some(trail) = trails.get(place) else {
+            return Ok(list_value(list));
+        };
+        let steps = steps_at(events, place);
+        list.push(quarantined_json(alloc, sites, ways, &pairs[place], trail.as_ref(), steps)?)?;
     }
     Ok(list_value(list))
 }
@@ -205,7 +221,7 @@ pub(crate) fn report_json(
         sites,
         ways,
         report.pairs.as_slice(),
-        report.trails.as_slice(),
+        &report.trails,
         events,
     )?;
     let recall = recall_text(alloc, sites, recall)?;

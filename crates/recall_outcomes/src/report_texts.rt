@@ -7,14 +7,13 @@ ghost use Rattle.recall_text.specs.Words.{pair_text};
 
 use crate::outcomes::Ways;
 use crate::step_texts::{push_all_by, push_led_by};
-use crate::told_events::next_steps;
+use crate::told_events::steps_at;
 use event_json::{Sequence, Sites};
 use frame_core::RecallId;
 use recall_text::telling::{ended_word, name_of, push_pair, recall_text};
 use report_core::{OutsideShipment, RecallReport, StepEvents};
-use report_forms::before_last;
 use std::alloc::{AllocError, Global};
-use trace_core::Pair;
+use trace_core::{Pair, Trail, Trails};
 
 /// The text of a report.
 pub(crate) fn report_text(
@@ -35,7 +34,7 @@ pub(crate) fn report_text(
         sites,
         ways,
         report.pairs.as_slice(),
-        report.trails.as_slice(),
+        &report.trails,
         events,
     )?;
     push_outsides(alloc, &mut text, sites, report.outside.as_slice())?;
@@ -85,16 +84,26 @@ fn push_pairs(
     sites: &Sites,
     ways: Ways,
     pairs: &[Pair],
-    trails: &[Option<Sequence<Pair>>],
+    trails: &Trails,
     events: &[Sequence<StepEvents>],
 ) -> Result<(), AllocError>
     ensures { OnOk result (string_bytes text.new ≡ string_bytes text.old
         ++ pairs_text sites.now ways pairs.now trails.now events.now) }
 {
-    let mut events = events.iter();
-    for (pair, trail) in pairs.iter().zip(trails) {
-        let steps = next_steps(&mut events);
-        push_quarantined(alloc, text, sites, ways, pair, trail.as_ref(), steps)?;
+    for place in 0..pairs.len() {
+        let Some(trail) = trails.get(place) else {
+            return Ok(());
+        };
+        let steps = steps_at(events, place);
+        push_quarantined(
+            alloc,
+            text,
+            sites,
+            ways,
+            &pairs[place],
+            trail.as_ref(),
+            steps,
+        )?;
     }
     Ok(())
 }
@@ -106,7 +115,7 @@ fn push_quarantined(
     sites: &Sites,
     ways: Ways,
     pair: &Pair,
-    trail: Option<&Sequence<Pair>>,
+    trail: Option<&Trail<'_>>,
     steps: Option<&[StepEvents]>,
 ) -> Result<(), AllocError>
     ensures { OnOk result (string_bytes text.new
@@ -117,7 +126,7 @@ fn push_quarantined(
         None => push_pair(alloc, text, sites, pair),
         Some(trail) => {
             let steps = steps.unwrap_or(&[]);
-            push_led(alloc, text, sites, ways, pair, trail.as_slice(), steps)
+            push_led(alloc, text, sites, ways, pair, trail, steps)
         }
     }
 }
@@ -129,16 +138,19 @@ pub(crate) fn push_led(
     sites: &Sites,
     ways: Ways,
     pair: &Pair,
-    trail: &[Pair],
+    trail: &Trail<'_>,
     steps: &[StepEvents],
 ) -> Result<(), AllocError>
     ensures { OnOk result (string_bytes text.new ≡ string_bytes text.old
         ++ led_text sites.now ways steps.now pair.now trail.now) }
 {
     match ways {
-        Ways::Trails => push_with_trail(alloc, text, sites, pair, trail, steps),
+        Ways::Trails => {
+            let pairs = trail.pairs(alloc)?;
+            push_with_trail(alloc, text, sites, pair, pairs.as_slice(), steps)
+        }
         Ways::Steps => {
-            push_beside(alloc, text, sites, " from ", pair, before_last(trail))?;
+            push_beside(alloc, text, sites, " from ", pair, trail.before_last())?;
             push_all_by(alloc, text, steps)
         }
     }

@@ -1,12 +1,11 @@
 //! The events behind the steps of trails, pair by pair.
 
-ghost use Rattle.std.specs.Prelude.{◌≡◌, drop, option_map, slice_get};
-ghost use Rattle.std.specs.Slice.Iter.{iter_rest};
+ghost use Rattle.std.specs.Prelude.{◌≡◌, [], option_map, slice_get};
+ghost use Rattle.std.specs.Option.{unwrap_or};
 ghost use Rattle.recall_outcomes.specs.Steps.{told_events};
 
 use event_json::Sequence;
 use report_core::StepEvents;
-use std::slice::Iter;
 
 /// The events of each pair's steps; none where they weren't asked for.
 pub(crate) fn told_events(events: &Option<Vec<Sequence<StepEvents>>>) -> &[Sequence<StepEvents>]
@@ -18,12 +17,19 @@ pub(crate) fn told_events(events: &Option<Vec<Sequence<StepEvents>>>) -> &[Seque
     }
 }
 
-/// The events of the next pair's steps, where they are told.
-pub(crate) fn next_steps<'a>(
-    events: &mut Iter<'a, Sequence<StepEvents>>,
-) -> Option<&'a [StepEvents]>
-    ensures first { option_map (λ s. s.now) result ≡ slice_get (iter_rest events.old) 0 }
-    ensures rest { iter_rest events.new ≡ drop 1 (iter_rest events.old) }
+/// The events of the steps of the pair at a place, where they are told.
+pub(crate) fn steps_at(events: &[Sequence<StepEvents>], place: usize) -> Option<&[StepEvents]>
+    ensures { option_map (λ s. s.now) result ≡ slice_get events.now place }
 {
-    Some(events.next()?.as_slice())
+    Some(events.get(place)?.as_slice())
+}
+
+/// So, but none where they aren't told.
+pub(crate) fn steps_told(events: &[Sequence<StepEvents>], place: usize) -> &[StepEvents]
+    ensures { result.now ≡ unwrap_or (slice_get events.now place) [] }
+{
+    match events.get(place) {
+        None => &[],
+        Some(steps) => steps.as_slice(),
+    }
 }

@@ -13,13 +13,13 @@ use crate::report_json::{
     beside_json, outsides_json, pair_json, pairs_json, quarantined_json, traced_json,
 };
 use crate::step_json::put_events;
-use crate::told_events::next_steps;
+use crate::told_events::steps_at;
 use event_json::{Sequence, Sites};
 use recall_text::telling::name_of;
-use report_core::{BackTrace, StepEvents, Trace};
+use report_core::{BackTrace, BackTrail, BackTrails, StepEvents, Trace};
 use serde_json::{Value, json};
 use std::alloc::{AllocError, Global};
-use trace_core::Pair;
+use trace_core::{AllTrails, Pair};
 
 /// A trace to where an item went.
 #[tactic(auto, unfolding(crate::specs::Json::trace_json))]
@@ -38,7 +38,7 @@ pub(crate) fn trace_json(
         sites,
         ways,
         trace.pairs.as_slice(),
-        trace.trails.as_slice(),
+        &trace.trails,
         events,
     )?;
     let root = pair_json(alloc, sites, &trace.root)?;
@@ -51,17 +51,19 @@ fn all_led_json(
     sites: &Sites,
     ways: Ways,
     pairs: &[Pair],
-    trails: &[Sequence<Pair>],
+    trails: &AllTrails,
     events: &[Sequence<StepEvents>],
 ) -> Result<Value, AllocError>
     ensures { IfOk result (λ v. view v ≡ list_of (led_json sites.now ways)
         (zip pairs.now (each_with trails.now events.now))) }
 {
     let mut list = Vec::new(alloc);
-    let mut events = events.iter();
-    for (pair, trail) in pairs.iter().zip(trails) {
-        let steps = next_steps(&mut events);
-        list.push(quarantined_json(alloc, sites, ways, pair, Some(trail), steps)?)?;
+    for place in 0..pairs.len() {
+        let Some(trail) = trails.get(place) else {
+            return Ok(list_value(list));
+        };
+        let steps = steps_at(events, place);
+        list.push(quarantined_json(alloc, sites, ways, &pairs[place], Some(&trail), steps)?)?;
     }
     Ok(list_value(list))
 }
@@ -83,7 +85,7 @@ pub(crate) fn back_json(
         sites,
         ways,
         trace.pairs.as_slice(),
-        trace.trails.as_slice(),
+        &trace.trails,
         events,
     )?;
     let root = pair_json(alloc, sites, &trace.root)?;
@@ -96,17 +98,19 @@ fn all_leading_json(
     sites: &Sites,
     ways: Ways,
     pairs: &[Pair],
-    trails: &[Sequence<Pair>],
+    trails: &BackTrails,
     events: &[Sequence<StepEvents>],
 ) -> Result<Value, AllocError>
     ensures { IfOk result (λ v. view v ≡ list_of (leading_json sites.now ways)
         (zip pairs.now (each_with trails.now events.now))) }
 {
     let mut list = Vec::new(alloc);
-    let mut events = events.iter();
-    for (pair, trail) in pairs.iter().zip(trails) {
-        let steps = next_steps(&mut events);
-        list.push(leading_json(alloc, sites, ways, pair, trail, steps)?)?;
+    for place in 0..pairs.len() {
+        let Some(trail) = trails.get(place) else {
+            return Ok(list_value(list));
+        };
+        let steps = steps_at(events, place);
+        list.push(leading_json(alloc, sites, ways, &pairs[place], &trail, steps)?)?;
     }
     Ok(list_value(list))
 }
@@ -117,7 +121,7 @@ fn leading_json(
     sites: &Sites,
     ways: Ways,
     pair: &Pair,
-    trail: &Sequence<Pair>,
+    trail: &BackTrail<'_>,
     steps: Option<&[StepEvents]>,
 ) -> Result<Value, AllocError>
     ensures { IfOk result (λ v. view v ≡ leading_json sites.now ways
@@ -137,14 +141,17 @@ fn led_from_json(
     sites: &Sites,
     ways: Ways,
     pair: &Pair,
-    trail: &Sequence<Pair>,
+    trail: &BackTrail<'_>,
 ) -> Result<Value, AllocError>
     ensures { IfOk result (λ v. view v
         ≡ object (leading_members sites.now ways pair.now trail.now)) }
 {
     match ways {
-        Ways::Trails => traced_json(alloc, sites, pair, Some(trail)),
-        Ways::Steps => to_json(alloc, sites, pair, trail.as_slice().get(1)),
+        Ways::Trails => {
+            let pairs = trail.pairs(alloc)?;
+            traced_json(alloc, sites, pair, Some(pairs.as_slice()))
+        }
+        Ways::Steps => to_json(alloc, sites, pair, trail.second()),
     }
 }
 

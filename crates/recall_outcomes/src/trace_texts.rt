@@ -8,12 +8,12 @@ ghost use Rattle.recall_outcomes.specs.Steps.{each_with};
 use crate::outcomes::Ways;
 use crate::report_texts::{push_beside, push_led, push_outsides, push_total, push_with_trail};
 use crate::step_texts::push_all_by;
-use crate::told_events::next_steps;
+use crate::told_events::steps_told;
 use event_json::{Sequence, Sites};
 use recall_text::telling::name_of;
-use report_core::{BackTrace, StepEvents, Trace};
+use report_core::{BackTrace, BackTrail, BackTrails, StepEvents, Trace};
 use std::alloc::{AllocError, Global};
-use trace_core::Pair;
+use trace_core::{AllTrails, Pair};
 
 /// The text of a trace to where an item went.
 pub(crate) fn trace_text(
@@ -33,7 +33,7 @@ pub(crate) fn trace_text(
         sites,
         ways,
         trace.pairs.as_slice(),
-        trace.trails.as_slice(),
+        &trace.trails,
         events,
     )?;
     push_outsides(alloc, &mut text, sites, trace.outside.as_slice())?;
@@ -59,7 +59,7 @@ pub(crate) fn back_text(
         sites,
         ways,
         trace.pairs.as_slice(),
-        trace.trails.as_slice(),
+        &trace.trails,
         events,
     )?;
     push_origins(alloc, &mut text, sites, trace.origins.as_slice())?;
@@ -99,16 +99,18 @@ fn push_all_led(
     sites: &Sites,
     ways: Ways,
     pairs: &[Pair],
-    trails: &[Sequence<Pair>],
+    trails: &AllTrails,
     events: &[Sequence<StepEvents>],
 ) -> Result<(), AllocError>
     ensures { OnOk result (string_bytes text.new ≡ string_bytes text.old ++ flat_map
         (led_pair_text sites.now ways) (zip pairs.now (each_with trails.now events.now))) }
 {
-    let mut events = events.iter();
-    for (pair, trail) in pairs.iter().zip(trails) {
-        let steps = next_steps(&mut events).unwrap_or(&[]);
-        push_led(alloc, text, sites, ways, pair, trail.as_slice(), steps)?;
+    for place in 0..pairs.len() {
+        let Some(trail) = trails.get(place) else {
+            return Ok(());
+        };
+        let steps = steps_told(events, place);
+        push_led(alloc, text, sites, ways, &pairs[place], &trail, steps)?;
     }
     Ok(())
 }
@@ -120,16 +122,18 @@ fn push_all_leading(
     sites: &Sites,
     ways: Ways,
     pairs: &[Pair],
-    trails: &[Sequence<Pair>],
+    trails: &BackTrails,
     events: &[Sequence<StepEvents>],
 ) -> Result<(), AllocError>
     ensures { OnOk result (string_bytes text.new ≡ string_bytes text.old ++ flat_map
         (leading_pair_text sites.now ways) (zip pairs.now (each_with trails.now events.now))) }
 {
-    let mut events = events.iter();
-    for (pair, trail) in pairs.iter().zip(trails) {
-        let steps = next_steps(&mut events).unwrap_or(&[]);
-        push_leading(alloc, text, sites, ways, pair, trail.as_slice(), steps)?;
+    for place in 0..pairs.len() {
+        let Some(trail) = trails.get(place) else {
+            return Ok(());
+        };
+        let steps = steps_told(events, place);
+        push_leading(alloc, text, sites, ways, &pairs[place], &trail, steps)?;
     }
     Ok(())
 }
@@ -141,16 +145,19 @@ fn push_leading(
     sites: &Sites,
     ways: Ways,
     pair: &Pair,
-    trail: &[Pair],
+    trail: &BackTrail<'_>,
     steps: &[StepEvents],
 ) -> Result<(), AllocError>
     ensures { OnOk result (string_bytes text.new ≡ string_bytes text.old
         ++ leading_text sites.now ways steps.now pair.now trail.now) }
 {
     match ways {
-        Ways::Trails => push_with_trail(alloc, text, sites, pair, trail, steps),
+        Ways::Trails => {
+            let pairs = trail.pairs(alloc)?;
+            push_with_trail(alloc, text, sites, pair, pairs.as_slice(), steps)
+        }
         Ways::Steps => {
-            push_beside(alloc, text, sites, " to ", pair, trail.get(1))?;
+            push_beside(alloc, text, sites, " to ", pair, trail.second())?;
             push_all_by(alloc, text, steps)
         }
     }

@@ -1,5 +1,5 @@
 -- What an item at a site reaches, whether or not it was recalled.
-use Rattle.std.specs.Prelude.{◌≡◌, ◌↔◌, ℕ, List, [], ◌∷◌, Option, None, Some, Contains}
+use Rattle.std.specs.Prelude.{◌≡◌, ◌↔◌, ℕ, List, Some, Contains}
 use Rattle.std.specs.List.{AllZip}
 use Rattle.trace_core.specs.Chains.{Related}
 use Rattle.trace_core.specs.Pairs.{IsStrictlyAscending}
@@ -56,9 +56,3 @@ pub record IsBackTrace (records : List Record) (site : ℕ) (item : List ℕ) (t
 abbrev pub TellsTraceFault : World → ℕ → List ℕ → TraceFault → Type 0
 TellsTraceFault W site item NoMemory = IsKnownAt W site item
 TellsTraceFault W site item UnknownItem = IsKnownAt W site item → ⊥
-
--- the values that are there, in order
-abbrev pub given : {X : Type 0} → List (Option X) → List X
-given [] = []
-given (None ∷ xs) = given xs
-given (Some x ∷ xs) = x ∷ given xs

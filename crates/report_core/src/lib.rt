@@ -3,6 +3,7 @@
 #![tactic(auto)]
 
 mod audits;
+mod back_trails;
 mod destinations;
 mod differences;
 mod event_times;
@@ -17,6 +18,7 @@ mod outside;
 mod relating;
 mod reports;
 mod roots;
+mod shown_trails;
 mod sources;
 mod traces;
 mod tracing;
@@ -25,6 +27,7 @@ mod trail_events;
 mod with_events;
 
 pub use audits::{Verdict, audit};
+pub use back_trails::{BackTrail, BackTrails};
 pub use destinations::Destination;
 pub use faults::{ReportFault, TraceFault};
 pub use outside::OutsideShipment;

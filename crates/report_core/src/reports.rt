@@ -12,7 +12,7 @@ use frame_core::RecallId;
 use site_core::SiteState;
 use site_recovery::{captured, own_recall, quarantined};
 use std::alloc::Global;
-use trace_core::{Pair, trails_to};
+use trace_core::{Pair, Trails, trails_to};
 
 /// What the records of all sites say of a recall.
 #[derive(Debug, Drop)]
@@ -25,7 +25,7 @@ pub struct RecallReport {
     pub pairs: Sequence<Pair>,
     /// For each of these pairs, in their order, a chain of related pairs from the root to it, without repeats and
     /// with as few pairs as any; None where no chain leads there.
-    pub trails: Sequence<Option<Sequence<Pair>>>,
+    pub trails: Trails,
     /// What of it was shipped to places outside the traced sites, by site, item and destination, and each once.
     pub outside: Sequence<OutsideShipment>,
 }
@@ -56,7 +56,7 @@ pub fn report(
         root,
         ended: own.ended,
         pairs: Sequence::from_vec(pairs),
-        trails: Sequence::from_vec(trails),
+        trails,
         outside: Sequence::from_vec(outside),
     })
 }

@@ -1,8 +1,9 @@
 //! What a trace of an item says.
 
+use crate::back_trails::BackTrails;
 use crate::outside::OutsideShipment;
 use event_json::Sequence;
-use trace_core::Pair;
+use trace_core::{AllTrails, Pair};
 
 /// What an item at a site reaches through the events that all sites captured, and what of it left the traced
 /// sites.
@@ -15,7 +16,7 @@ pub struct Trace {
     pub pairs: Sequence<Pair>,
     /// For each of these pairs, in their order, a chain of related pairs from the root to it, without repeats and
     /// with as few pairs as any.
-    pub trails: Sequence<Sequence<Pair>>,
+    pub trails: AllTrails,
     /// What of these pairs was shipped to places outside the traced sites, by site, item and destination, and each
     /// once.
     pub outside: Sequence<OutsideShipment>,
@@ -30,7 +31,7 @@ pub struct BackTrace {
     pub pairs: Sequence<Pair>,
     /// For each of these pairs, in their order, a chain of related pairs from it to the root, without repeats and with
     /// as few pairs as any.
-    pub trails: Sequence<Sequence<Pair>>,
+    pub trails: BackTrails,
     /// Those of these pairs that no pair is related to: by no event of the given sites were they made there or shipped
     /// there. By site, then by item, and each once.
     pub origins: Sequence<Pair>,

@@ -1,8 +1,8 @@
 //! The trace of an item, whether or not it was recalled.
-ghost use Rattle.std.specs.Prelude.{◌≡◌, ◌↔◌, IfOk, IfErr, IsTrue};
+ghost use Rattle.std.specs.Prelude.{◌↔◌, IfOk, IfErr, IsTrue};
 ghost use Rattle.site_recovery.specs.Checking.{records_at, world_at};
 ghost use Rattle.site_recovery.specs.FittingAt.{AreAllSites};
-ghost use Rattle.report_core.specs.Traces.{given, IsKnownAt, IsTrace, TellsTraceFault};
+ghost use Rattle.report_core.specs.Traces.{IsKnownAt, IsTrace, TellsTraceFault};
 
 use crate::faults::TraceFault;
 use crate::outside::shipped_from;
@@ -11,11 +11,11 @@ use epc_core::Epc;
 use event_json::{Sequence, SiteNo};
 use site_core::{SiteState, is_known};
 use site_recovery::captured;
-use std::alloc::{AllocError, Global};
-use trace_core::{Pair, reach, trails_to};
+use std::alloc::Global;
+use trace_core::{Pair, trails_out};
 
 /// Traces an item at a site through what all sites captured, by the records of all sites in the order of their
-/// numbers. No recall is needed, and none is begun.
+/// numbers. No recall is needed, and none is begun. One search finds the pairs and their trails.
 ///
 /// # Errors
 /// `UnknownItem` where no event of the site names the item and it isn't quarantined there, and also where there is
@@ -40,14 +40,12 @@ pub fn trace(
         item: item.copy(alloc)?,
     };
     let captured = captured(alloc, sites)?;
-    let pairs = reach(alloc, captured.as_slice(), &root)?;
-    let trails = trails_to(alloc, captured.as_slice(), &root, pairs.as_slice())?;
-    let trails = given_trails(alloc, trails)?;
-    let outside = shipped_from(alloc, sites, pairs.as_slice())?;
+    let found = trails_out(alloc, captured.as_slice(), &root)?;
+    let outside = shipped_from(alloc, sites, found.pairs.as_slice())?;
     Ok(Trace {
         root,
-        pairs: Sequence::from_vec(pairs),
-        trails: Sequence::from_vec(trails),
+        pairs: found.pairs,
+        trails: found.trails,
         outside: Sequence::from_vec(outside),
     })
 }
@@ -63,20 +61,4 @@ pub(crate) fn is_known_at(sites: &[&SiteState], site: SiteNo, item: &Epc) -> boo
     } else {
         false
     }
-}
-
-/// The trails that are there, in order.
-fn given_trails(
-    alloc: Global,
-    trails: Vec<Option<Sequence<Pair>>>,
-) -> Result<Vec<Sequence<Pair>>, AllocError>
-    ensures { IfOk result (λ there. there.items ≡ given trails.items) }
-{
-    let mut there = Vec::new(alloc);
-    for trail in trails {
-        if let Some(trail) = trail {
-            there.push(trail)?;
-        }
-    }
-    Ok(there)
 }

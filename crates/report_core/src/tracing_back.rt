@@ -1,9 +1,10 @@
 //! Where an item came from.
-ghost use Rattle.std.specs.Prelude.{◌≡◌, IfOk, IfErr, map, reverse};
+ghost use Rattle.std.specs.Prelude.{IfOk, IfErr};
 ghost use Rattle.site_recovery.specs.Checking.{records_at, world_at};
 ghost use Rattle.site_recovery.specs.FittingAt.{AreAllSites};
 ghost use Rattle.report_core.specs.Traces.{IsKnownAt, IsBackTrace, TellsTraceFault};
 
+use crate::back_trails::BackTrails;
 use crate::faults::TraceFault;
 use crate::origins::origins_of;
 use crate::sources::Sources;
@@ -13,7 +14,7 @@ use epc_core::Epc;
 use event_json::{Sequence, SiteNo};
 use site_core::SiteState;
 use site_recovery::captured;
-use std::alloc::{AllocError, Global};
+use std::alloc::Global;
 use trace_core::{Pair, trails_from};
 
 /// Traces an item at a site back through what all sites captured, by the records of all sites in the order of their
@@ -46,27 +47,10 @@ pub fn trace_back(
     let sources = Sources::of(alloc, captured.as_slice())?;
     let found = trails_from(alloc, &sources, &root)?;
     let origins = origins_of(alloc, captured.as_slice(), found.pairs.as_slice())?;
-    let trails = turned(alloc, found.trails)?;
     Ok(BackTrace {
         root,
         pairs: found.pairs,
-        trails: Sequence::from_vec(trails),
+        trails: BackTrails::of(found.trails),
         origins: Sequence::from_vec(origins),
     })
-}
-
-/// Each trail from its end to its beginning.
-fn turned(
-    alloc: Global,
-    trails: Sequence<Sequence<Pair>>,
-) -> Result<Vec<Sequence<Pair>>, AllocError>
-    ensures { IfOk result (λ turned. turned.items ≡ map reverse trails) }
-{
-    let mut turned = Vec::new(alloc);
-    for trail in trails.into_vec() {
-        let mut pairs = trail.into_vec();
-        pairs.reverse();
-        turned.push(Sequence::from_vec(pairs))?;
-    }
-    Ok(turned)
 }

@@ -1,11 +1,13 @@
 //! The captured events behind the steps of trails.
-ghost use Rattle.std.specs.Prelude.{◌≡◌, All, IfOk, OnOk, map};
+ghost use Rattle.std.specs.Prelude.{All, IfOk, OnOk, if◌then◌else◌};
 ghost use Rattle.std.specs.List.{AllZip};
 ghost use Rattle.trace_core.specs.Relations.{IsChain};
-ghost use Rattle.report_core.specs.TrailEvents.{AddsTold, AreToldAlong, IsRelatedStep, TellsStep, or_no_pairs, pairs_shown, steps_of};
+ghost use Rattle.report_core.specs.TrailEvents.{AddsTold, AreToldAlong, IsRelatedStep, TellsStep, steps_of};
+ghost use Rattle.report_core.specs.declared.trail_events.ShownSteps.TheVariants.{Each};
 
 use crate::event_times::time_of;
 use crate::relating::RelatingEvents;
+use crate::shown_trails::ShownTrails;
 use event_json::{Event, PlainText, Sequence};
 use std::alloc::{AllocError, Global};
 use trace_core::Pair;
@@ -48,74 +50,26 @@ pub enum ShownSteps {
     Last,
 }
 
-/// Of each of some trails the events of those steps that are shown, trail by trail, and step by step along each.
+/// Of each of some trails the events of each step, or in brief of one, trail by trail, and step by step along each.
 ///
 /// # Errors
 /// Out of memory.
-pub(crate) fn told_along(
+pub(crate) fn told_along<T: ShownTrails>(
     alloc: Global,
     relating: &RelatingEvents<'_>,
-    trails: &[Sequence<Pair>],
-    shown: ShownSteps,
+    trails: &T,
+    brief: bool,
 ) -> Result<Vec<Sequence<StepEvents>>, AllocError>
-    requires { All (IsChain (IsRelatedStep relating.now)) trails.now }
-    ensures { IfOk result (λ told. AreToldAlong relating.now shown trails.now told.items) }
+    requires { All (IsChain (IsRelatedStep relating.now)) (T.trails trails.now) }
+    ensures { IfOk result (λ told. AreToldAlong relating.now
+        (if brief then T.step trails.now else Each) (T.trails trails.now) told.items) }
 {
     let mut told = Vec::new(alloc);
-    for trail in trails {
-        let pairs = pairs_shown(trail.as_slice(), shown);
-        told.push(told_of(alloc, relating, pairs)?)?;
+    for place in 0..trails.count() {
+        let pairs = trails.pairs_at(alloc, place, brief)?;
+        told.push(told_of(alloc, relating, pairs.as_slice())?)?;
     }
     Ok(told)
-}
-
-/// So of trails of which some aren't there: no events of these.
-///
-/// # Errors
-/// Out of memory.
-pub(crate) fn told_along_those(
-    alloc: Global,
-    relating: &RelatingEvents<'_>,
-    trails: &[Option<Sequence<Pair>>],
-    shown: ShownSteps,
-) -> Result<Vec<Sequence<StepEvents>>, AllocError>
-    requires { All (IsChain (IsRelatedStep relating.now)) (map or_no_pairs trails.now) }
-    ensures { IfOk result (λ told. AreToldAlong relating.now shown
-        (map or_no_pairs trails.now) told.items) }
-{
-    let mut told = Vec::new(alloc);
-    for trail in trails {
-        let pairs = pairs_shown(pairs_there(trail), shown);
-        told.push(told_of(alloc, relating, pairs)?)?;
-    }
-    Ok(told)
-}
-
-/// The pairs of a trail, none where there is no trail.
-fn pairs_there(trail: &Option<Sequence<Pair>>) -> &[Pair]
-    ensures { result.now ≡ or_no_pairs trail.now }
-{
-    match trail {
-        Some(trail) => trail.as_slice(),
-        None => &[],
-    }
-}
-
-/// The pairs between which those steps of a trail lead that are shown.
-fn pairs_shown(trail: &[Pair], shown: ShownSteps) -> &[Pair]
-    ensures { result.now ≡ pairs_shown shown trail.now }
-{
-    match shown {
-        ShownSteps::Each => trail,
-        ShownSteps::First => { if trail.len() > 2 { &trail[..2] } else { trail } }
-        ShownSteps::Last => {
-            if trail.len() > 2 {
-                &trail[trail.len() - 2..]
-            } else {
-                trail
-            }
-        }
-    }
 }
 
 /// The events of the steps from each pair to the next.

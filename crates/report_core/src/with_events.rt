@@ -12,17 +12,17 @@ ghost use Rattle.report_core.specs.declared.trail_events.ShownSteps.TheVariants.
 use crate::faults::{ReportFault, TraceFault};
 use crate::relating::RelatingEvents;
 use crate::reports::{RecallReport, report};
+use crate::shown_trails::ShownTrails;
 use crate::traces::{BackTrace, Trace};
 use crate::tracing::trace;
 use crate::tracing_back::trace_back;
-use crate::trail_events::{ShownSteps, StepEvents, told_along, told_along_those};
+use crate::trail_events::{StepEvents, told_along};
 use epc_core::Epc;
 use event_json::{Sequence, SiteNo};
 use frame_core::RecallId;
 use site_core::SiteState;
 use site_recovery::captured;
 use std::alloc::{AllocError, Global};
-use trace_core::Pair;
 
 /// Reports a recall as `report` does, and tells along each trail the first captured events that relate the pairs of
 /// each of its steps, or in brief of its last step alone. Of a pair without a trail no events are told.
@@ -47,12 +47,7 @@ pub fn report_with_events(
 {
     match report(alloc, sites, recall) {
         Ok(report) => {
-            let shown = if brief {
-                ShownSteps::Last
-            } else {
-                ShownSteps::Each
-            };
-            let events = report_events(alloc, sites, report.trails.as_slice(), shown)?;
+            let events = events_along(alloc, sites, &report.trails, brief)?;
             Ok((report, events))
         }
         Err(fault) => Err(fault),
@@ -79,12 +74,7 @@ pub fn trace_with_events(
 {
     match trace(alloc, sites, site, item) {
         Ok(trace) => {
-            let shown = if brief {
-                ShownSteps::Last
-            } else {
-                ShownSteps::Each
-            };
-            let events = trace_events(alloc, sites, trace.trails.as_slice(), shown)?;
+            let events = events_along(alloc, sites, &trace.trails, brief)?;
             Ok((trace, events))
         }
         Err(fault) => Err(fault),
@@ -112,47 +102,26 @@ pub fn trace_back_with_events(
 {
     match trace_back(alloc, sites, site, item) {
         Ok(trace) => {
-            let shown = if brief {
-                ShownSteps::First
-            } else {
-                ShownSteps::Each
-            };
-            let events = trace_events(alloc, sites, trace.trails.as_slice(), shown)?;
+            let events = events_along(alloc, sites, &trace.trails, brief)?;
             Ok((trace, events))
         }
         Err(fault) => Err(fault),
     }
 }
 
-/// The events of the steps that are shown of a report's trails.
-fn report_events(
+/// The events of the steps that are shown of some trails.
+fn events_along<T: ShownTrails>(
     alloc: Global,
     sites: &[&SiteState],
-    trails: &[Option<Sequence<Pair>>],
-    shown: ShownSteps,
+    trails: &T,
+    brief: bool,
 ) -> Result<Vec<Sequence<StepEvents>>, AllocError>
     requires { All (IsChain (IsRelatedStep (captured_of (records_at sites.now))))
-        (map or_no_pairs trails.now) }
-    ensures { IfOk result (λ told. AreToldAlong (captured_of (records_at sites.now)) shown
-        (map or_no_pairs trails.now) told.items) }
+        (T.trails trails.now) }
+    ensures { IfOk result (λ told. AreToldAlong (captured_of (records_at sites.now))
+        (if brief then T.step trails.now else Each) (T.trails trails.now) told.items) }
 {
     let captured = captured(alloc, sites)?;
     let relating = RelatingEvents::of(alloc, captured.as_slice())?;
-    told_along_those(alloc, &relating, trails, shown)
-}
-
-/// So those of a trace's.
-fn trace_events(
-    alloc: Global,
-    sites: &[&SiteState],
-    trails: &[Sequence<Pair>],
-    shown: ShownSteps,
-) -> Result<Vec<Sequence<StepEvents>>, AllocError>
-    requires { All (IsChain (IsRelatedStep (captured_of (records_at sites.now)))) trails.now }
-    ensures { IfOk result (λ told.
-        AreToldAlong (captured_of (records_at sites.now)) shown trails.now told.items) }
-{
-    let captured = captured(alloc, sites)?;
-    let relating = RelatingEvents::of(alloc, captured.as_slice())?;
-    told_along(alloc, &relating, trails, shown)
+    told_along(alloc, &relating, trails, brief)
 }

@@ -1,12 +1,11 @@
 -- what the rows of reports and traces are
-use Rattle.std.proofs.Common.{◌≡◌, ◌∷◌, ◌++◌, ℕ, List, [], Option, Some, codes, length, map, refl, sym, ap, ap₂, ◌∙◌, arith}
+use Rattle.std.proofs.Common.{◌≡◌, ◌∷◌, ◌++◌, ℕ, List, [], codes, length, map, refl, ap, ap₂, ◌∙◌, arith}
 use Rattle.std.specs.Prelude.{All}
 use Rattle.std.specs.List.{zip}
 use Rattle.std.proofs.lemmas.List.{map-append}
 use Rattle.std.proofs.lemmas.List.Elements.{All-append, All-cons, All-nil}
-use Rattle.report_core.specs.declared.outside.OutsideShipment.{OutsideShipment}
 use Rattle.trace_core.specs.declared.pairs.Pair.{Pair}
-use Rattle.report_forms.specs.Csv.{Fields, back_csv, columns, csv_lines, report_csv, trace_csv}
+use Rattle.report_forms.specs.Csv.{Fields, back_csv, report_csv, trace_csv}
 use Rattle.report_forms.specs.Laws.{IsFull, PairsHaveRows, RowsAreFull, RowsReadBack, place_of}
 use Rattle.report_forms.proofs.RowLaws.{rows_read}
 

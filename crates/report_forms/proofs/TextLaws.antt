@@ -1,15 +1,14 @@
 -- the numbers in keys, and texts in quotes
-use Rattle.std.proofs.Common.{◌≡◌, ◌≢◌, ◌==◌, ◌<◌, ℕ, suc, Bool, true, false, List, [], ◌∷◌, ◌++◌, Option, Some, codes, get_or, length, option_map, refl, sym, ap, ◌∙◌, subst, append_assoc, inl, inr, arith}
-use Rattle.std.specs.Option.{option_and_then, option_map_or, unwrap_or}
+use Rattle.std.proofs.Common.{◌≡◌, ◌==◌, ℕ, false, List, [], ◌∷◌, ◌++◌, Option, Some, option_map, refl, sym, ap, ◌∙◌, subst, append_assoc, inl, inr}
+use Rattle.std.specs.Option.{option_map_or}
 use Rattle.std.proofs.lemmas.Bool.{cases_Bool, eqb-true}
-use Rattle.epc_core.specs.Items.{behind, parted, sgtin_key, sscc_key, uri_key, with_first}
-use Rattle.epc_core.specs.Numbers.{IsChecked}
+use Rattle.epc_core.specs.Items.{sgtin_key, with_first}
 use Rattle.epc_core.proofs.Cuts.{parted-append}
 use Rattle.epc_core.proofs.Spelled.{not_digit}
 use Rattle.report_forms.specs.Csv.{trade_numbers}
 use Rattle.report_forms.proofs.Replacing.{escaped_other}
 use Rattle.report_forms.specs.Dot.{dot_text, escaped, with_entities}
-use Rattle.report_forms.specs.Laws.{HasNumbers, ItemsHaveNumbers, TextsReadBack, first_text, up_to_quote}
+use Rattle.report_forms.specs.Laws.{ItemsHaveNumbers, TextsReadBack, first_text, up_to_quote}
 
 -- ---- texts in quotes
 

@@ -12,7 +12,7 @@ use Rattle.report_core.specs.declared.reports.RecallReport.{RecallReport}
 use Rattle.report_core.specs.declared.traces.BackTrace.{BackTrace}
 use Rattle.report_core.specs.declared.traces.Trace.{Trace}
 use Rattle.trace_core.specs.declared.pairs.Pair.{Pair}
-use Rattle.report_forms.specs.Steps.{before_last}
+use Rattle.trace_core.specs.Trails.{before_last}
 
 -- ---- the numbers of an item, by its key
 

@@ -1,5 +1,5 @@
 -- A report and a trace as a picture for Graphviz, in its language DOT.
-use Rattle.std.specs.Prelude.{◌==◌, ℕ, zero, suc, Bool, true, false, List, [], ◌∷◌, ◌++◌, Option, Some, None, codes, if◌then◌else◌, length, slice_get}
+use Rattle.std.specs.Prelude.{◌==◌, ℕ, zero, suc, Bool, List, [], ◌∷◌, ◌++◌, Option, Some, None, codes, if◌then◌else◌, length, slice_get}
 use Rattle.std.specs.List.{flat_map, zip}
 use Rattle.std.specs.Option.{option_and_then}
 use Rattle.event_json.specs.Sites.{Site}
@@ -10,7 +10,7 @@ use Rattle.report_core.specs.declared.reports.RecallReport.{RecallReport}
 use Rattle.report_core.specs.declared.traces.BackTrace.{BackTrace}
 use Rattle.report_core.specs.declared.traces.Trace.{Trace}
 use Rattle.trace_core.specs.declared.pairs.Pair.{Pair}
-use Rattle.report_forms.specs.Steps.{before_last}
+use Rattle.trace_core.specs.Trails.{before_last}
 
 -- ---- texts in quotes
 

@@ -2,4 +2,3 @@ pub mod Csv
 pub mod Dot
 pub mod Laws
 pub mod Pieces
-pub mod Steps

@@ -1,23 +1,21 @@
 //! A report and a trace as rows of comma-separated fields, for a spreadsheet.
 
-ghost use Rattle.std.specs.Prelude.{◌≡◌, ◌++◌, ◌<◌, [], IfOk, OnOk, length, option_map, slice_get, string_bytes};
-ghost use Rattle.std.specs.Option.{option_and_then, option_map_or};
+ghost use Rattle.std.specs.Prelude.{◌≡◌, ◌++◌, ◌<◌, [], IfOk, OnOk, length, option_map, string_bytes};
+ghost use Rattle.std.specs.Option.{option_map_or};
 ghost use Rattle.epc_core.specs.Items.{parted};
 ghost use Rattle.std.specs.List.{flat_map, list_any, zip};
 ghost use Rattle.csv.specs.Writing.{default_writer, escaped, needs_byte, needs_quotes, quoted};
 ghost use Rattle.report_forms.specs.Csv.{back_csv, csv_field, csv_line, csv_lines, gtin_of, held_row, item_beside, leading_row, led_row, name_beside, origin_row, outside_row, pair_row, report_csv, row_of, serial_of, sscc_of, trace_csv};
 ghost use Rattle.report_forms.specs.Pieces.{behind_comma, beside_text, end_text, held_line, leading_line, led_line, numbers_text, origin_line, outside_line, place_text};
-ghost use Rattle.report_forms.specs.Steps.{before_last};
 
 use crate::replaced::push_replaced;
-use crate::steps::before_last;
 use epc_core::Epc;
-use event_json::{Sequence, SiteNo, Sites};
+use event_json::{SiteNo, Sites};
 use frame_core::RecallId;
 use recall_text::telling::{name_of, recall_text};
-use report_core::{BackTrace, OutsideShipment, RecallReport, Trace};
+use report_core::{BackTrace, BackTrail, BackTrails, OutsideShipment, RecallReport, Trace};
 use std::alloc::{AllocError, Global};
-use trace_core::Pair;
+use trace_core::{AllTrails, Pair, Trail, Trails};
 
 /// The names of the columns, with the step before a pair.
 const FROM_COLUMNS: &str =
@@ -46,7 +44,7 @@ pub fn report_csv(
         sites,
         recall,
         report.pairs.as_slice(),
-        report.trails.as_slice(),
+        &report.trails,
     )?;
     push_outsides(alloc, &mut text, sites, recall, report.outside.as_slice())?;
     Ok(text)
@@ -63,7 +61,7 @@ pub fn trace_csv(alloc: Global, sites: &Sites, trace: &Trace) -> Result<String, 
         &mut text,
         sites,
         trace.pairs.as_slice(),
-        trace.trails.as_slice(),
+        &trace.trails,
     )?;
     push_outsides(alloc, &mut text, sites, "", trace.outside.as_slice())?;
     Ok(text)
@@ -80,7 +78,7 @@ pub fn back_csv(alloc: Global, sites: &Sites, trace: &BackTrace) -> Result<Strin
         &mut text,
         sites,
         trace.pairs.as_slice(),
-        trace.trails.as_slice(),
+        &trace.trails,
     )?;
     push_origins(alloc, &mut text, sites, trace.origins.as_slice())?;
     Ok(text)
@@ -93,13 +91,16 @@ fn push_held(
     sites: &Sites,
     recall: &str,
     pairs: &[Pair],
-    trails: &[Option<Sequence<Pair>>],
+    trails: &Trails,
 ) -> Result<(), AllocError>
     ensures { OnOk result (string_bytes text.new ≡ string_bytes text.old ++ flat_map
         (held_line sites.now recall.now) (zip pairs.now trails.now)) }
 {
-    for (pair, trail) in pairs.iter().zip(trails) {
-        push_held_pair(alloc, text, sites, recall, pair, trail)?;
+    for place in 0..pairs.len() {
+        let Some(trail) = trails.get(place) else {
+            return Ok(());
+        };
+        push_held_pair(alloc, text, sites, recall, &pairs[place], trail.as_ref())?;
     }
     Ok(())
 }
@@ -111,21 +112,22 @@ fn push_held_pair(
     sites: &Sites,
     recall: &str,
     pair: &Pair,
-    trail: &Option<Sequence<Pair>>,
+    trail: Option<&Trail<'_>>,
 ) -> Result<(), AllocError>
-    ensures { OnOk result (string_bytes text.new
-        ≡ string_bytes text.old ++ held_line sites.now recall.now (pair.now, trail.now)) }
-{
-    push_pair(alloc, text, sites, recall, "held", pair, step_before(trail))
-}
-
-/// The step before the last one of a trail, where there are both.
-fn step_before(trail: &Option<Sequence<Pair>>) -> Option<&Pair>
-    ensures { option_map (λ p. p.now) result ≡ option_and_then before_last trail.now }
+    ensures { OnOk result (string_bytes text.new ≡ string_bytes text.old
+        ++ held_line sites.now recall.now (pair.now, option_map (λ t. t.now) trail.entry)) }
 {
     match trail {
-        None => None,
-        Some(trail) => before_last(trail.as_slice()),
+        None => push_pair(alloc, text, sites, recall, "held", pair, None),
+        Some(trail) => push_pair(
+            alloc,
+            text,
+            sites,
+            recall,
+            "held",
+            pair,
+            trail.before_last(),
+        ),
     }
 }
 
@@ -135,13 +137,16 @@ fn push_led(
     text: &mut String,
     sites: &Sites,
     pairs: &[Pair],
-    trails: &[Sequence<Pair>],
+    trails: &AllTrails,
 ) -> Result<(), AllocError>
     ensures { OnOk result (string_bytes text.new ≡ string_bytes text.old ++ flat_map
         (led_line sites.now) (zip pairs.now trails.now)) }
 {
-    for (pair, trail) in pairs.iter().zip(trails) {
-        push_led_pair(alloc, text, sites, pair, trail.as_slice())?;
+    for place in 0..pairs.len() {
+        let Some(trail) = trails.get(place) else {
+            return Ok(());
+        };
+        push_led_pair(alloc, text, sites, &pairs[place], &trail)?;
     }
     Ok(())
 }
@@ -152,12 +157,12 @@ fn push_led_pair(
     text: &mut String,
     sites: &Sites,
     pair: &Pair,
-    trail: &[Pair],
+    trail: &Trail<'_>,
 ) -> Result<(), AllocError>
     ensures { OnOk result (string_bytes text.new ≡ string_bytes text.old ++ led_line sites.now
         (pair.now, trail.now)) }
 {
-    push_pair(alloc, text, sites, "", "found", pair, before_last(trail))
+    push_pair(alloc, text, sites, "", "found", pair, trail.before_last())
 }
 
 /// Adds a row for each pair that a trail to the root begins with.
@@ -166,13 +171,16 @@ fn push_leading(
     text: &mut String,
     sites: &Sites,
     pairs: &[Pair],
-    trails: &[Sequence<Pair>],
+    trails: &BackTrails,
 ) -> Result<(), AllocError>
     ensures { OnOk result (string_bytes text.new ≡ string_bytes text.old ++ flat_map
         (leading_line sites.now) (zip pairs.now trails.now)) }
 {
-    for (pair, trail) in pairs.iter().zip(trails) {
-        push_leading_pair(alloc, text, sites, pair, trail.as_slice())?;
+    for place in 0..pairs.len() {
+        let Some(trail) = trails.get(place) else {
+            return Ok(());
+        };
+        push_leading_pair(alloc, text, sites, &pairs[place], &trail)?;
     }
     Ok(())
 }
@@ -183,19 +191,12 @@ fn push_leading_pair(
     text: &mut String,
     sites: &Sites,
     pair: &Pair,
-    trail: &[Pair],
+    trail: &BackTrail<'_>,
 ) -> Result<(), AllocError>
     ensures { OnOk result (string_bytes text.new ≡ string_bytes text.old ++ leading_line sites.now
         (pair.now, trail.now)) }
 {
-    push_pair(alloc, text, sites, "", "found", pair, step_behind(trail))
-}
-
-/// The step behind the first one of a trail, where there is one.
-fn step_behind(trail: &[Pair]) -> Option<&Pair>
-    ensures { option_map (λ p. p.now) result ≡ slice_get trail.now 1 }
-{
-    trail.get(1)
+    push_pair(alloc, text, sites, "", "found", pair, trail.second())
 }
 
 /// Adds a row for each pair that no pair is related to.

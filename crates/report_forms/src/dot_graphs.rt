@@ -6,14 +6,13 @@ ghost use Rattle.std.specs.List.{flat_map, zip};
 ghost use Rattle.report_forms.specs.Dot.{back_dot, box_text, cluster_text, clusters_below, dot_text, edge_from, edge_text, edge_to, escaped, head_text, held_edge, label_text, leading_edge, led_edge, mark_text, node_at, node_text, origin_mark, outside_text, pair_node, place_node, place_text, report_dot, report_title, root_mark, step_text, trace_dot, with_entities};
 
 use crate::replaced::push_replaced;
-use crate::steps::before_last;
 use epc_core::Epc;
-use event_json::{Sequence, SiteNo, Sites};
+use event_json::{SiteNo, Sites};
 use frame_core::RecallId;
 use recall_text::telling::{ended_word, name_of, recall_text};
-use report_core::{BackTrace, OutsideShipment, RecallReport, Trace};
+use report_core::{BackTrace, BackTrails, OutsideShipment, RecallReport, Trace};
 use std::alloc::{AllocError, Global};
-use trace_core::Pair;
+use trace_core::{AllTrails, Pair, Trail, Trails};
 
 /// The picture of a report.
 #[tactic(auto, unfolding(crate::specs::Dot::report_dot))]
@@ -29,7 +28,7 @@ pub fn report_dot(
     let pairs = report.pairs.as_slice();
     let mut text = head_text(alloc, sites, title.as_str(), pairs)?;
     push_root(alloc, &mut text, sites, &report.root)?;
-    push_held(alloc, &mut text, sites, pairs, report.trails.as_slice())?;
+    push_held(alloc, &mut text, sites, pairs, &report.trails)?;
     push_outsides(alloc, &mut text, sites, report.outside.as_slice())?;
     text.push_str("}\n")?;
     Ok(text)
@@ -43,7 +42,7 @@ pub fn trace_dot(alloc: Global, sites: &Sites, trace: &Trace) -> Result<String, 
     let pairs = trace.pairs.as_slice();
     let mut text = head_text(alloc, sites, "trace forward", pairs)?;
     push_root(alloc, &mut text, sites, &trace.root)?;
-    push_led(alloc, &mut text, sites, pairs, trace.trails.as_slice())?;
+    push_led(alloc, &mut text, sites, pairs, &trace.trails)?;
     push_outsides(alloc, &mut text, sites, trace.outside.as_slice())?;
     text.push_str("}\n")?;
     Ok(text)
@@ -57,7 +56,7 @@ pub fn back_dot(alloc: Global, sites: &Sites, trace: &BackTrace) -> Result<Strin
     let pairs = trace.pairs.as_slice();
     let mut text = head_text(alloc, sites, "trace back", pairs)?;
     push_root(alloc, &mut text, sites, &trace.root)?;
-    push_leading(alloc, &mut text, sites, pairs, trace.trails.as_slice())?;
+    push_leading(alloc, &mut text, sites, pairs, &trace.trails)?;
     push_origins(alloc, &mut text, sites, trace.origins.as_slice())?;
     text.push_str("}\n")?;
     Ok(text)
@@ -267,17 +266,35 @@ fn push_held(
     text: &mut String,
     sites: &Sites,
     pairs: &[Pair],
-    trails: &[Option<Sequence<Pair>>],
+    trails: &Trails,
 ) -> Result<(), AllocError>
     ensures { OnOk result (string_bytes text.new ≡ string_bytes text.old ++ flat_map
         (held_edge sites.now) (zip pairs.now trails.now)) }
 {
-    for (pair, trail) in pairs.iter().zip(trails) {
-        if let Some(trail) = trail {
-            push_edge_to(alloc, text, sites, pair, before_last(trail.as_slice()))?;
-        }
+    for place in 0..pairs.len() {
+        let Some(trail) = trails.get(place) else {
+            return Ok(());
+        };
+        push_held_edge(alloc, text, sites, &pairs[place], trail.as_ref())?;
     }
     Ok(())
+}
+
+/// Adds an edge to a quarantined pair, where a trail leads to it.
+fn push_held_edge(
+    alloc: Global,
+    text: &mut String,
+    sites: &Sites,
+    pair: &Pair,
+    trail: Option<&Trail<'_>>,
+) -> Result<(), AllocError>
+    ensures { OnOk result (string_bytes text.new ≡ string_bytes text.old
+        ++ held_edge sites.now (pair.now, option_map (λ t. t.now) trail.entry)) }
+{
+    match trail {
+        None => Ok(()),
+        Some(trail) => push_edge_to(alloc, text, sites, pair, trail.before_last()),
+    }
 }
 
 /// Adds an edge to each pair from the step before it.
@@ -286,13 +303,16 @@ fn push_led(
     text: &mut String,
     sites: &Sites,
     pairs: &[Pair],
-    trails: &[Sequence<Pair>],
+    trails: &AllTrails,
 ) -> Result<(), AllocError>
     ensures { OnOk result (string_bytes text.new ≡ string_bytes text.old ++ flat_map
         (led_edge sites.now) (zip pairs.now trails.now)) }
 {
-    for (pair, trail) in pairs.iter().zip(trails) {
-        push_edge_to(alloc, text, sites, pair, before_last(trail.as_slice()))?;
+    for place in 0..pairs.len() {
+        let Some(trail) = trails.get(place) else {
+            return Ok(());
+        };
+        push_edge_to(alloc, text, sites, &pairs[place], trail.before_last())?;
     }
     Ok(())
 }
@@ -303,13 +323,16 @@ fn push_leading(
     text: &mut String,
     sites: &Sites,
     pairs: &[Pair],
-    trails: &[Sequence<Pair>],
+    trails: &BackTrails,
 ) -> Result<(), AllocError>
     ensures { OnOk result (string_bytes text.new ≡ string_bytes text.old ++ flat_map
         (leading_edge sites.now) (zip pairs.now trails.now)) }
 {
-    for (pair, trail) in pairs.iter().zip(trails) {
-        push_edge_from(alloc, text, sites, pair, trail.as_slice().get(1))?;
+    for place in 0..pairs.len() {
+        let Some(trail) = trails.get(place) else {
+            return Ok(());
+        };
+        push_edge_from(alloc, text, sites, &pairs[place], trail.second())?;
     }
     Ok(())
 }

@@ -6,8 +6,6 @@ mod csv_tables;
 mod dot_graphs;
 pub mod laws;
 mod replaced;
-mod steps;
 
 pub use csv_tables::{back_csv, report_csv, trace_csv};
 pub use dot_graphs::{back_dot, report_dot, trace_dot};
-pub use steps::before_last;

@@ -50,7 +50,9 @@ pub mod SiteSetSteps
 pub mod SpreadSteps
 pub mod StandingPlaces
 pub mod Standings
+pub mod TrailEnds
 pub mod TrailSteps
+pub mod TrailTrees
 pub mod VisitSteps
 pub mod Visiting
 pub mod Zips

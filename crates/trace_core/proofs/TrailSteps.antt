@@ -21,7 +21,7 @@ use Rattle.trace_core.specs.declared.steps.Step.{Step}
 use Rattle.trace_core.specs.Pairs.{pair_cmp}
 use Rattle.trace_core.specs.Relations.{IsChain, last_of, Reaches, Chain}
 use Rattle.trace_core.specs.Searches.{AreUnseen}
-use Rattle.trace_core.specs.Trails.{HaveNoRepeats, IsAt, pairs_of, IsPlaceOf, ArePlaces, GoBack, IsPath, IsTraced, IsTracedTo, NotesSteps, AreSteps, TellsTrailBy}
+use Rattle.trace_core.specs.Trails.{HaveNoRepeats, IsAt, pairs_of, IsPlaceOf, ArePlaces, GoBack, NotesSteps, AreSteps, TellsTrailBy}
 use Rattle.trace_core.proofs.ChainLaws.{reaches_itself, reaches_step, reached_holds}
 use Rattle.trace_core.proofs.Members.{contains_none, contains_cases, contains_here, contains-map}
 use Rattle.trace_core.proofs.PairOrder.{pairs_total, pairs_exact}
@@ -118,10 +118,23 @@ pub lacks_place : (steps : List Step) (q : Pair) (o : Option ℕ) → IsPlaceOf 
 lacks_place steps q None place none = place
 lacks_place steps q (Some k) place none = absurd (none refl)
 
+-- ---- the path to a step
+
+-- each step at its place, from one to the next, up to the last
+abbrev pub IsPath : List Step → List (ℕ × Step) → ℕ → Type 0
+IsPath steps [] last = ⊥
+IsPath steps (a ∷ []) last = IsAt steps a.0 a.1 × (a.0 ≡ last)
+IsPath steps (a ∷ b ∷ rest) last = IsAt steps a.0 a.1 × (b.1.from ≡ a.0) × (a.0 < b.0) × IsPath steps (b ∷ rest) last
+
+-- the pairs of the steps from a place to the last
+abbrev pub IsTraced : List Step → ℕ → ℕ → List Pair → Type 0
+IsTraced steps place last pairs =
+    (step : Step) × (rest : List (ℕ × Step)) × IsPath steps ((place, step) ∷ rest) last × (pairs ≡ map (λ a. a.1.pair) ((place, step) ∷ rest))
+
 pub one_at : (steps : List Step) (k : ℕ) (s t : Step) → IsAt steps k s → IsAt steps k t → s ≡ t
 one_at steps k s t (lt, at) (lt', at') = sym at ∙ get_or_default steps k s t lt ∙ at'
 
-element : {X : Type 0} (xs : List X) (i : ℕ) → i < length xs → (x : X) × (i < length xs) × (get_or xs i x ≡ x)
+pub element : {X : Type 0} (xs : List X) (i : ℕ) → i < length xs → (x : X) × (i < length xs) × (get_or xs i x ≡ x)
 element [] i lt = absurd (omega (arith, lt))
 element (x ∷ xs) zero lt = (x, lt, refl)
 element (x ∷ xs) (suc i) lt = let (y, lt', at) = element xs i (omega (arith, lt)) in (y, lt, at)
@@ -129,13 +142,6 @@ element (x ∷ xs) (suc i) lt = let (y, lt', at) = element xs i (omega (arith, l
 pub path_head : (steps : List Step) (a : ℕ × Step) (rest : List (ℕ × Step)) (last : ℕ) → IsPath steps (a ∷ rest) last → IsAt steps a.0 a.1
 path_head steps a [] last path = path.0
 path_head steps a (b ∷ rest) last path = path.0
-
--- the trail from the step before
-pub trace_back : (steps : List Step) (place last before : ℕ) (pairs pairs' : List Pair) (s t : Step) (copy : Pair) → IsTraced steps place last pairs → GoBack steps → place ≢ 0 → IsAt steps place s → s.from ≡ before → IsAt steps before t
-    → copy ≡ t.pair → pairs' ≡ copy ∷ pairs → IsTraced steps before last pairs'
-trace_back steps place last before pairs pairs' s t copy (a, rest, path, are) back later at from there same pushed =
-    let is : a ≡ s = one_at steps place a s (path_head steps (place, a) rest last path) at in
-    (t, (place, a) ∷ rest, (there, ap (λ (x : Step). x.from) is ∙ from, subst (λ n. n < place) from (back place s at later), path), pushed ∙ ap (λ p. p ∷ pairs) same ∙ ap (λ ps. t.pair ∷ ps) are)
 
 apart_at : (steps : List Step) → HaveNoRepeats (pairs_of steps) → (i j : ℕ) (s t : Step) → IsAt steps i s → IsAt steps j t → i < j → s.pair ≡ t.pair → ⊥
 apart_at steps apart i j s t (lt, at) (lt', at') below same = apart i j s.pair below (omega (arith, lt', length-map steps (λ (s : Step). s.pair)))
@@ -370,16 +376,12 @@ module _ (R : Pair → Pair → Type 0) (root : Pair) where
 
 -- the trail of a step leads to its pair, and where there is no step, nothing leads there
 module _ (R : Pair → Pair → Type 0) (root : Pair) (steps : List Step) (done : AreSteps R root (length steps) steps) (target : Pair) where
-  trail_told : (last : ℕ) (s : Step) (pairs : List Pair) → IsAt steps last s → s.pair ≡ target → IsTraced steps 0 last pairs → TellsTrailBy R root target (Some pairs)
+  pub trail_told : (last : ℕ) (s : Step) (pairs : List Pair) → IsAt steps last s → s.pair ≡ target → IsTraced steps 0 last pairs → TellsTrailBy R root target (Some pairs)
   trail_told last s pairs here found traced = (
     traced_chain R root steps done last s target pairs here found traced,
     traced_apart R root steps done last pairs traced,
     traced_shortest R root steps done last s target pairs here found traced,
   )
-
-  pub traced_told : (trail : Option (List Pair)) → IsTracedTo steps target trail → TellsTrailBy R root target trail
-  traced_told None missing = λ reaches. missing (reached_listed R root steps done target reaches)
-  traced_told (Some trail) (last, (s, here, found), traced) = trail_told last s trail here found traced
 
   -- just what has a step is reached
   pub listed_reached : Contains (pairs_of steps) target → Reaches R root target

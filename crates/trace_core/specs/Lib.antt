@@ -1,4 +1,5 @@
 pub mod Adding
+pub mod AllFound
 pub mod Beyond
 pub mod Carried
 pub mod Chains

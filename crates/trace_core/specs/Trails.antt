@@ -1,5 +1,5 @@
 -- A chain of related pairs between two pairs, and the steps of a search that leave one to each pair.
-use Rattle.std.specs.Prelude.{◌≡◌, ◌≢◌, ℕ, suc, ◌<◌, ◌≤◌, List, [], ◌∷◌, ◌++◌, Option, None, Some, map, length, get_or, All, AllPairs, Contains}
+use Rattle.std.specs.Prelude.{◌≡◌, ◌≢◌, ⊤, ℕ, zero, suc, ◌<◌, ◌≤◌, List, [], ◌∷◌, ◌++◌, Option, None, Some, map, length, get_or, slice_get, All, AllPairs, Contains}
 use Rattle.std.specs.BTreeMap.{BTreeMap, get}
 use Rattle.trace_core.specs.declared.pairs.Pair.{Pair}
 use Rattle.trace_core.specs.declared.steps.Step.{Step}
@@ -51,21 +51,32 @@ ArePlaces places steps = (q : Pair) → IsPlaceOf steps q (get pair_cmp places q
 abbrev pub GoBack : List Step → Type 0
 GoBack steps = (place : ℕ) (step : Step) → IsAt steps place step → place ≢ 0 → step.from < place
 
--- each step at its place, from one to the next, up to the last
-abbrev pub IsPath : List Step → List (ℕ × Step) → ℕ → Type 0
-IsPath steps [] last = ⊥
-IsPath steps (a ∷ []) last = IsAt steps a.0 a.1 × (a.0 ≡ last)
-IsPath steps (a ∷ b ∷ rest) last = IsAt steps a.0 a.1 × (b.1.from ≡ a.0) × (a.0 < b.0) × IsPath steps (b ∷ rest) last
+-- ---- the tree that the steps leave
 
--- the pairs of the steps from a place to the last
-abbrev pub IsTraced : List Step → ℕ → ℕ → List Pair → Type 0
-IsTraced steps place last pairs =
-    (step : Step) × (rest : List (ℕ × Step)) × IsPath steps ((place, step) ∷ rest) last × (pairs ≡ map (λ a. a.1.pair) ((place, step) ∷ rest))
+-- the trail to each step: that to the step before it, and then its own pair; the first one begins it
+abbrev pub trails_onto : List (List Pair) → List Step → List (List Pair)
+trails_onto trails [] = trails
+trails_onto trails (s ∷ steps) = trails_onto (trails ++ (get_or trails s.from [] ++ s.pair ∷ []) ∷ []) steps
 
--- the pairs of the steps that lead to the pair, none where it has no step
-abbrev pub IsTracedTo : List Step → Pair → Option (List Pair) → Type 0
-IsTracedTo steps q None = Contains (pairs_of steps) q → ⊥
-IsTracedTo steps q (Some trail) = (k : ℕ) × IsPlaceOf steps q (Some k) × IsTraced steps 0 k trail
+abbrev pub trail_at : List Step → ℕ → List Pair
+trail_at steps place = get_or (trails_onto [] steps) place []
+
+-- a step stands at the place; nothing is asked where there is none
+abbrev pub IsEnd : List Step → Option ℕ → Type 0
+IsEnd steps None = ⊤
+IsEnd steps (Some place) = place < length steps
+
+-- the one before the last of so many
+abbrev pub before_end : List Pair → ℕ → Option Pair
+before_end trail zero = None
+before_end trail (suc zero) = None
+before_end trail (suc (suc n)) = slice_get trail n
+
+-- the pair before the last one of a trail, where there is one
+abbrev pub before_last : List Pair → Option Pair
+before_last trail = before_end trail (length trail)
+
+-- ---- the search
 
 -- the targets are noted as steps from a place, those that have none
 pub record NotesSteps (old new : List Step) (from : ℕ) (targets : List Pair) : Type 0 where

@@ -36,6 +36,7 @@ mod site_sets;
 mod spreads;
 mod steps;
 mod targets;
+mod trail_trees;
 mod trails;
 mod visits;
 
@@ -48,4 +49,5 @@ pub use pairs::Pair;
 pub use seen::Seen;
 pub use sendings::Sending;
 pub use targets::unseen_targets;
-pub use trails::{FoundTrails, trails_by, trails_from, trails_to};
+pub use trail_trees::{AllTrails, Trail, Trails};
+pub use trails::{FoundTrails, trail, trails_from, trails_out, trails_to};

@@ -8,7 +8,7 @@ use std::collections::BTreeMap;
 use std::marker::Model;
 
 /// A pair that a search found, and the place of the step that found it.
-#[derive(Drop)]
+#[derive(Debug, Drop)]
 pub struct Step {
     /// The pair.
     pub pair: Pair,
@@ -58,6 +58,13 @@ impl Steps {
         ensures { result.now ≡ self.now }
     {
         self.list.as_slice()
+    }
+
+    /// The steps alone, without the places of their pairs.
+    pub fn into_list(self) -> Vec<Step>
+        ensures { result.items ≡ self }
+    {
+        self.list
     }
 
     /// The place of a pair's step, if there is one.

@@ -1,11 +1,10 @@
 //! Shortest chains of related pairs from a root to given pairs.
-ghost use Rattle.std.specs.Prelude.{◌≡◌, ◌<◌, ◌↔◌, IfOk, Some, Contains, length, map};
+ghost use Rattle.std.specs.Prelude.{◌≡◌, IfOk, Some, Contains, length};
 ghost use Rattle.std.specs.List.{AllZip};
 ghost use Rattle.trace_core.specs.declared.pairs.Pair.{Pair};
-ghost use Rattle.trace_core.specs.Chains.{sites_at};
-ghost use Rattle.trace_core.specs.Pairs.{IsStrictlyAscending};
-ghost use Rattle.trace_core.specs.Relations.{Reaches};
-ghost use Rattle.trace_core.specs.Trails.{AreSteps, GoBack, IsTraced, IsTracedTo, TellsTrail, TellsTrailBy, pairs_of};
+ghost use Rattle.trace_core.specs.Chains.{Related, sites_at};
+ghost use Rattle.trace_core.specs.AllFound.{AreAllFound};
+ghost use Rattle.trace_core.specs.Trails.{AreSteps, IsPlaceOf, TellsTrail, pairs_of};
 
 use crate::adjacency::Adjacency;
 use crate::captured::Captured;
@@ -14,9 +13,9 @@ use crate::pairs::Pair;
 use crate::seen::Seen;
 use crate::steps::{Step, Steps};
 use crate::targets::unseen_targets;
+use crate::trail_trees::{AllTrails, Trails, pairs_up_to};
 use event_json::Sequence;
 use std::alloc::{AllocError, Global};
-use std::collections::VecDeque;
 
 /// The related pairs of several sites.
 #[derive(Drop)]
@@ -46,37 +45,58 @@ impl Adjacency for Targets<'_> {
     }
 }
 
-/// For each of the pairs, in their order, a chain of related pairs from the root to it, as `reach` follows
-/// them, without repeats, such that no chain has fewer pairs. `None` exactly where it isn't reached.
+/// A chain of related pairs from the root to the target, as `reach` follows them, without repeats, such that no chain
+/// has fewer pairs. `None` exactly where the target isn't reached.
+///
+/// # Errors
+/// Out of memory.
+pub fn trail(
+    alloc: Global,
+    sites: &[&Captured],
+    root: &Pair,
+    target: &Pair,
+) -> Result<Option<Sequence<Pair>>, AllocError>
+    ensures { IfOk result (TellsTrail (sites_at sites.now) root.now target.now) }
+{
+    let steps = steps_from(alloc, &Targets { sites }, root)?;
+    match steps.place_of(target) {
+        Some(place) => {
+            let pairs = pairs_up_to(alloc, steps.as_slice(), place)?;
+            Ok(Some(Sequence::from_vec(pairs)))
+        }
+        None => Ok(None),
+    }
+}
+
+/// For each of the pairs, in their order, such a chain to it, all by one search.
+///
+/// # Errors
+/// Out of memory.
 pub fn trails_to(
     alloc: Global,
     sites: &[&Captured],
     root: &Pair,
     pairs: &[Pair],
-) -> Result<Vec<Option<Sequence<Pair>>>, AllocError>
-    ensures { IfOk result (λ trails. AllZip (TellsTrail (sites_at sites.now) root.now) pairs.now
-        trails.items) }
+) -> Result<Trails, AllocError>
+    ensures { IfOk result (AllZip (TellsTrail (sites_at sites.now) root.now) pairs.now) }
 {
-    trails_by(alloc, &Targets { sites }, root, pairs)
+    let steps = steps_from(alloc, &Targets { sites }, root)?;
+    let ends = ends_at(alloc, &steps, pairs)?;
+    Ok(Trails::of(steps.into_list(), ends))
 }
 
-/// For each of the pairs, in their order, a chain of the relation from the root to it, without repeats, such
-/// that no chain has fewer pairs. `None` exactly where it isn't reached.
-pub fn trails_by<R: Adjacency>(
+/// All that the related pairs of several sites lead to from a root, itself among it, each with a shortest chain.
+///
+/// # Errors
+/// Out of memory.
+pub fn trails_out(
     alloc: Global,
-    relation: &R,
+    sites: &[&Captured],
     root: &Pair,
-    pairs: &[Pair],
-) -> Result<Vec<Option<Sequence<Pair>>>, AllocError>
-    ensures { IfOk result (λ trails.
-        AllZip (TellsTrailBy (R.relates relation.now) root.now) pairs.now trails.items) }
+) -> Result<FoundTrails, AllocError>
+    ensures { IfOk result (AreAllFound (Related (sites_at sites.now)) root.now) }
 {
-    let steps = steps_from(alloc, relation, root)?;
-    let mut trails = Vec::new(alloc);
-    for pair in pairs {
-        trails.push(trail_to(alloc, &steps, pair)?)?;
-    }
-    Ok(trails)
+    trails_from(alloc, &Targets { sites }, root)
 }
 
 /// What chains of a relation reach from a pair, and how.
@@ -86,28 +106,26 @@ pub struct FoundTrails {
     pub pairs: Sequence<Pair>,
     /// For each of these pairs, in their order, a chain from the root to it, without repeats and with as few
     /// pairs as any.
-    pub trails: Sequence<Sequence<Pair>>,
+    pub trails: AllTrails,
 }
 
 /// All that chains of a relation reach from a root, itself among it, each with a shortest chain.
+///
+/// # Errors
+/// Out of memory.
 pub fn trails_from<R: Adjacency>(
     alloc: Global,
     relation: &R,
     root: &Pair,
 ) -> Result<FoundTrails, AllocError>
-    ensures ascending { IfOk result (λ found. IsStrictlyAscending found.pairs) }
-    ensures reached { IfOk result (λ found. (p : Pair)
-        → Contains found.pairs p ↔ Reaches (R.relates relation.now) root.now p) }
-    ensures trails { IfOk result (λ found.
-        AllZip (λ p trail. TellsTrailBy (R.relates relation.now) root.now p (Some trail))
-        found.pairs found.trails) }
+    ensures { IfOk result (AreAllFound (R.relates relation.now) root.now) }
 {
     let steps = steps_from(alloc, relation, root)?;
     let pairs = in_order(copies_of_pairs(alloc, steps.as_slice())?)?;
-    let trails = trails_of(alloc, &steps, pairs.as_slice())?;
+    let ends = places_at(alloc, &steps, pairs.as_slice())?;
     Ok(FoundTrails {
         pairs: Sequence::from_vec(pairs),
-        trails: Sequence::from_vec(trails),
+        trails: AllTrails::of(steps.into_list(), ends),
     })
 }
 
@@ -140,53 +158,29 @@ fn copies_of_pairs(alloc: Global, steps: &[Step]) -> Result<Vec<Pair>, AllocErro
     Ok(pairs)
 }
 
-/// The trails to pairs that have steps.
-fn trails_of(
-    alloc: Global,
-    steps: &Steps,
-    pairs: &[Pair],
-) -> Result<Vec<Sequence<Pair>>, AllocError>
-    requires back { GoBack steps.now }
-    requires listed { (p : Pair) → Contains pairs.now p → Contains (pairs_of steps.now) p }
-    ensures { IfOk result (λ trails.
-        AllZip (λ p trail. IsTracedTo steps.now p (Some trail)) pairs.now trails.items) }
+/// The places of the steps of some pairs, none of a pair that has no step.
+fn ends_at(alloc: Global, steps: &Steps, pairs: &[Pair]) -> Result<Vec<Option<usize>>, AllocError>
+    ensures { IfOk result (λ ends. AllZip (IsPlaceOf steps.now) pairs.now ends.items) }
 {
-    let mut trails = Vec::new(alloc);
+    let mut ends = Vec::new(alloc);
     for pair in pairs {
-        match trail_to(alloc, steps, pair)? {
-            Some(trail) => trails.push(trail)?,
+        ends.push(steps.place_of(pair))?;
+    }
+    Ok(ends)
+}
+
+/// The places of the steps of pairs that have steps.
+fn places_at(alloc: Global, steps: &Steps, pairs: &[Pair]) -> Result<Vec<usize>, AllocError>
+    requires { (p : Pair) → Contains pairs.now p → Contains (pairs_of steps.now) p }
+    ensures { IfOk result (λ places.
+        AllZip (λ p place. IsPlaceOf steps.now p (Some place)) pairs.now places.items) }
+{
+    let mut places = Vec::new(alloc);
+    for pair in pairs {
+        match steps.place_of(pair) {
+            Some(place) => places.push(place)?,
             None => {}
         }
     }
-    Ok(trails)
-}
-
-/// The trail to a pair by the steps of a search, None where it has no step.
-fn trail_to(alloc: Global, steps: &Steps, pair: &Pair) -> Result<Option<Sequence<Pair>>, AllocError>
-    requires { GoBack steps.now }
-    ensures { IfOk result (λ trail. IsTracedTo steps.now pair.now trail) }
-{
-    match steps.place_of(pair) {
-        Some(place) => {
-            let pairs = traced(alloc, steps.as_slice(), place)?;
-            Ok(Some(Sequence::from_vec(pairs)))
-        }
-        None => Ok(None),
-    }
-}
-
-/// The pairs of the steps that lead to a place.
-fn traced(alloc: Global, steps: &[Step], last: usize) -> Result<Vec<Pair>, AllocError>
-    requires within { last < length steps.now }
-    requires back { GoBack steps.now }
-    ensures { IfOk result (λ pairs. IsTraced steps.now 0 last pairs.items) }
-{
-    let mut pairs = VecDeque::new(alloc);
-    let mut place = last;
-    pairs.push_front(steps[place].pair.copy(alloc)?)?;
-    while place != 0 {
-        place = steps[place].from;
-        pairs.push_front(steps[place].pair.copy(alloc)?)?;
-    }
-    pairs.into_iter().collect(alloc)
+    Ok(places)
 }

@@ -15,14 +15,13 @@ returns-clause-ok c =
     let places = λ (s : ℕ) (below : s < length records). (c.requires.all s below).place in
     let root = c.in_ok-root.root in
     let listed : sites_at c.as_slice.result.now ≡ captured_of records = ap sites_at c.as_slice.ensures.value ∙ c.in_ok-captured.ensures in
-    let trails = subst (λ s. AllZip (TellsTrail s root) c.as_slice-2.result.now c.in_ok-trails.trails.items) listed c.in_ok-trails.ensures in
+    let trails = subst (λ s. AllZip (TellsTrail s root) c.as_slice-2.result.now c.in_ok-trails.trails) listed c.in_ok-trails.ensures in
     record {
       entry = c.in-Some.own.now;
       begun = sym (sym (ap (option_map (λ o. o.now)) c.in-Some.is) ∙ c.own_recall.ensures);
       root = c.in_ok-root.ensures;
       ended = refl;
       pairs = subst (AreHeld records c.args.recall) (sym c.from_vec.ensures) (record { all = c.in_ok-pairs.ensures.list; ascending = c.in_ok-pairs.ensures.ascending places; exact = c.in_ok-pairs.ensures.held places });
-      trails = subst (AllZip (TellsTrail (captured_of records) root) c.from_vec.result) (sym c.from_vec-2.ensures)
-          (subst (λ ps. AllZip (TellsTrail (captured_of records) root) ps c.in_ok-trails.trails.items) (c.as_slice-2.ensures.value ∙ sym c.from_vec.ensures) trails);
-      outside = subst (AreOutside (world_at c.args.sites.now) c.args.recall) (sym c.from_vec-3.ensures) c.in_ok-outside.ensures;
+      trails = subst (λ ps. AllZip (TellsTrail (captured_of records) root) ps c.in_ok-trails.trails) (c.as_slice-2.ensures.value ∙ sym c.from_vec.ensures) trails;
+      outside = subst (AreOutside (world_at c.args.sites.now) c.args.recall) (sym c.from_vec-2.ensures) c.in_ok-outside.ensures;
     }

@@ -38,8 +38,8 @@ returns-clause-ok c =
       root = (λ k. record { site = c.args.site; item = c.in_ok-copy.ensures k });
       ascending = c.in_ok-found.ensures.ascending;
       exact = leads;
-      trails = subst (AllZip (λ p t. TellsTrail sites p root (Some t)) found.pairs) (sym (c.from_vec.ensures ∙ c.in_ok-trails.ensures)) (all_back (Related sites) root found.pairs found.trails told);
-      first_ones = subst IsStrictlyAscending (sym c.from_vec-2.ensures) first_ones;
-      origins = λ p. subst (λ (ps : List Pair). Contains ps p ↔ (Contains found.pairs p × HasNoSource records p)) (sym c.from_vec-2.ensures)
+      trails = subst (AllZip (λ p t. TellsTrail sites p root (Some t)) found.pairs) (sym c.of-2.ensures) (all_back (Related sites) root found.pairs found.trails told);
+      first_ones = subst IsStrictlyAscending (sym c.from_vec.ensures) first_ones;
+      origins = λ p. subst (λ (ps : List Pair). Contains ps p ↔ (Contains found.pairs p × HasNoSource records p)) (sym c.from_vec.ensures)
           (let none = no_source (Related sites) root found.pairs leads p in (λ h. none.0 ((left p).0 h), λ h. (left p).1 (none.1 h)));
     }

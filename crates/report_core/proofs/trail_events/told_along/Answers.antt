@@ -1,25 +1,47 @@
-use Rattle.std.proofs.Common.{◌+◌, ◌∙◌, List, ap, subst, sym, take}
+use Rattle.std.proofs.Common.{◌≡◌, ℕ, ◌+◌, ◌∙◌, ◌<◌, List, [], ap, arith, get_or, if◌then◌else◌, length, slice_get, subst, sym, take}
 use Rattle.std.specs.List.{AllZip}
+use Rattle.std.proofs.lemmas.List.{get_or_default, take_all}
+use Rattle.std.proofs.lemmas.Option.{slice_get-get_or}
 use Rattle.trace_core.specs.Relations.{IsChain}
 use Rattle.trace_core.specs.declared.pairs.Pair.{Pair}
 use Rattle.trace_core.proofs.Zips.{zip_more}
-use Rattle.report_core.specs.TrailEvents.{IsRelatedStep, TellsStep, pairs_shown, steps_of}
+use Rattle.report_core.specs.TrailEvents.{AreToldAlong, IsRelatedStep, TellsStep, or_no_pairs, pairs_shown, steps_of}
+use Rattle.report_core.specs.declared.trail_events.ShownSteps.TheVariants.{Each}
 use Rattle.report_core.specs.declared.trail_events.StepEvents.{StepEvents}
 use Rattle.report_core.proofs.StepsAlong.{chain_shown}
 use Rattle.report_core.proofs.trail_events.told_along.Goals as goal
 
-pub told_of-requires : goal.told_of-requires
-told_of-requires c =
-    let related = IsRelatedStep c.args.relating.now in
-    let chain : IsChain related c.trail-item.result = subst (IsChain related) (sym c.trail-item.is) (c.requires c.loop-trail.trail-index c.trail-item.result c.loop-trail-test.true) in
-    let shown = c.pairs_shown-pairs.ensures ∙ ap (pairs_shown c.args.shown) c.as_slice.ensures in
-    subst (IsChain related) (sym shown) (chain_shown related c.args.shown c.trail-item.result chain)
+-- the pairs of the trail at a place
+there : (all : List (List Pair)) (place : ℕ) → place < length all → or_no_pairs (slice_get all place) ≡ get_or all place []
+there all place below = ap or_no_pairs (slice_get-get_or all place [] below)
 
-pub loop-trail-preserved : goal.loop-trail-preserved
-loop-trail-preserved c =
+pub told_of-requires : goal.told_of-requires
+told_of-requires g c =
+    let related = IsRelatedStep c.args.relating.now in
+    let all = g.T.ShownTrails.trails c.args.trails.now in
+    let place = c.loop-place.place in
+    let shown = if c.args.brief then g.T.ShownTrails.step c.args.trails.now else Each in
+    let below : place < length all = omega (arith, c.loop-place-test.true, c.count-place-end.ensures) in
+    let pairs = c.as_slice.ensures.value ∙ c.in_ok-pairs.ensures ∙ ap (pairs_shown shown) (there all place below) in
+    subst (IsChain related) (sym pairs) (chain_shown related shown (get_or all place []) (c.requires place [] below))
+
+pub loop-place-preserved : goal.loop-place-preserved
+loop-place-preserved g c =
     let tells = λ (steps : List (Pair × Pair)) (events : List StepEvents). AllZip (λ step. TellsStep c.args.relating.now step.0 step.1) steps events in
-    let told = λ (trail : List Pair) (events : List StepEvents). tells (steps_of (pairs_shown c.args.shown trail)) events in
-    let shown = c.pairs_shown-pairs.ensures ∙ ap (pairs_shown c.args.shown) c.as_slice.ensures in
-    subst (AllZip told (take (c.loop-trail.trail-index + 1) c.args.trails.now)) (sym {A = List (List StepEvents)} c.in_ok-push.ensures.items)
-    (zip_more told c.args.trails.now c.loop-trail.told.items c.loop-trail.trail-index c.trail-item.result c.in_ok-told_of.field-0 c.loop-trail-test.true c.trail-item.is c.loop-trail.invariant
-    (subst (λ (pairs : List Pair). tells (steps_of pairs) c.in_ok-told_of.field-0) shown c.in_ok-told_of.ensures))
+    let all = g.T.ShownTrails.trails c.args.trails.now in
+    let place = c.loop-place.place in
+    let shown = if c.args.brief then g.T.ShownTrails.step c.args.trails.now else Each in
+    let told = λ (trail : List Pair) (events : List StepEvents). tells (steps_of (pairs_shown shown trail)) events in
+    let below : place < length all = omega (arith, c.loop-place-test.true, c.count-place-end.ensures) in
+    let trail = get_or all place [] in
+    let pairs = c.as_slice.ensures.value ∙ c.in_ok-pairs.ensures ∙ ap (pairs_shown shown) (there all place below) in
+    subst (AllZip told (take (place + 1) all)) (sym {A = List (List StepEvents)} c.in_ok-push.ensures.items)
+    (zip_more told all c.loop-place.told.items place trail c.in_ok-told_of.field-0 below (get_or_default all place [] trail below) c.loop-place.invariant
+    (subst (λ (ps : List Pair). tells (steps_of ps) c.in_ok-told_of.field-0) pairs c.in_ok-told_of.ensures))
+
+pub returns : goal.returns
+returns g c =
+    let all = g.T.ShownTrails.trails c.args.trails.now in
+    let shown = if c.args.brief then g.T.ShownTrails.step c.args.trails.now else Each in
+    subst (λ (trails : List (List Pair)). AreToldAlong c.args.relating.now shown trails c.loop-place.told.items)
+    (take_all c.loop-place.place all (omega (arith, c.loop-place-test.false, c.count-place-end.ensures))) c.loop-place.invariant

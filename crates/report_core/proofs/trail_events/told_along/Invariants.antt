@@ -1,7 +1,9 @@
-use Rattle.std.proofs.Common.{take}
+use Rattle.std.proofs.Common.{if◌then◌else◌, take}
 use Rattle.report_core.specs.TrailEvents.{AreToldAlong}
+use Rattle.report_core.specs.declared.trail_events.ShownSteps.TheVariants.{Each}
 use Rattle.report_core.proofs.trail_events.told_along.Given as goal
 
 -- the events of the trails so far
-abbrev pub invariant-loop-trail : goal.invariant-loop-trail
-invariant-loop-trail l = AreToldAlong l.relating l.shown (take l.trail-index l.trails) l.told.items
+abbrev pub invariant-loop-place : goal.invariant-loop-place
+invariant-loop-place g l =
+    AreToldAlong l.relating (if l.brief then g.T.ShownTrails.step l.trails else Each) (take l.place (g.T.ShownTrails.trails l.trails)) l.told.items

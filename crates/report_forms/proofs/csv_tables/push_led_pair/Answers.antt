@@ -1,4 +1,4 @@
-use Rattle.std.proofs.Common.{◌≡◌, List, ◌++◌, [], Option, codes, string_bytes, ap, ◌∙◌}
+use Rattle.std.proofs.Common.{◌++◌, [], Option, codes, string_bytes, ap, ◌∙◌}
 use Rattle.std.proofs.lemmas.Result.{on_ok_weaker}
 use Rattle.trace_core.specs.declared.pairs.Pair.{Pair}
 use Rattle.report_forms.specs.Csv.{csv_line, pair_row}
