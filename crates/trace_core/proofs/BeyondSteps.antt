@@ -10,7 +10,7 @@ use Rattle.trace_core.specs.declared.groups.Group.{Group}
 use Rattle.trace_core.specs.declared.nodes.Node.{Node}
 use Rattle.trace_core.specs.declared.pairs.Pair.{Pair}
 use Rattle.trace_core.specs.Beyond.{IsStop, IsSpreadBeyond, GoesOn, HasSearched}
-use Rattle.trace_core.specs.Groups.{SeeksFrom, IsGiven}
+use Rattle.trace_core.specs.Groups.{SeeksFrom, SeesTakers, IsGiven}
 use Rattle.trace_core.specs.Nodes.{Stands, Had, Gains, NotesNodes, HasItem}
 use Rattle.trace_core.specs.Numbers.{number_in, numbered}
 use Rattle.trace_core.specs.Relations.{Reaches}
@@ -66,12 +66,14 @@ module _ (s : SiteEvents) (stop : BTreeSet (List ℕ)) where
               (one_stands (s ∷ []) n (here s i) q (subst (λ m. S m (here s i)) (only n found) stands) stood) (reaches_itself (SeeksFrom false s) (here s i));
           followed = λ n p q h stood r. absurd (contains_none n h);
           given = λ q h. inl h;
+          taken = λ first h. inl h;
           within = omega arith;
         }
 
     pub goes_on : (now new : BTreeSet Group) (nodes nodes' : List Node) (place : ℕ) (node : Node) → place < length nodes → node ≡ get_or nodes place node → HasSearched s i stop seen now nodes place
-        → ((p : Pair) → S node p → Gains S (IsGiven s 0) (GoesOn s stop p) now new nodes nodes') → HasSearched s i stop seen new nodes' (place + 1)
-    goes_on now new nodes nodes' place node below at so_far visited =
+        → ((p : Pair) → S node p → Gains S (IsGiven s 0) (GoesOn s stop p) now new nodes nodes')
+        → ((p : Pair) → S node p → SeesTakers 0 s.events now new p.item) → HasSearched s i stop seen new nodes' (place + 1)
+    goes_on now new nodes nodes' place node below at so_far visited takers =
         let at_node : Contains nodes node = (place, below, sym at) in
         let (p, stands) = so_far.stand node at_node in
         let gains = visited p stands in
@@ -97,6 +99,10 @@ module _ (s : SiteEvents) (stop : BTreeSet (List ℕ)) where
               (λ before. ⊎_elim (λ old. inl old) (λ there. inr (gains.added.stay q there)) (so_far.given q before))
               (λ there. inr there)
               (gains.added.given q h);
+          taken = λ first h. ⊎_elim
+              (λ before. ⊎_elim (λ old. inl old) (λ (q, had, into). inr (q, gains.added.stay q had, into)) (so_far.taken first before))
+              (λ into. inr (p, gains.added.stay p (node, at_node, stands), into))
+              (takers p stands first h);
           within = omega (arith, below, ap length gains.noted.appended, length-append nodes gains.noted.more);
         }
 
@@ -127,6 +133,10 @@ module _ (s : SiteEvents) (stop : BTreeSet (List ℕ)) where
               (λ given. inr given)
               (searched.followed n q (here s k) (subst (λ xs. Contains xs n) (sym (take_all (length nodes) nodes (omega arith))) there) stands (λ stopped. free (subst (IsStop stop) its stopped), seeks));
           given = λ k h. ⊎_elim (λ before. inl before) (λ found. inr (had k found)) (searched.given (here s k) h);
+          taken = λ first h. ⊎_elim
+              (λ old. inl old)
+              (λ (q, (n, there, stands), into). inr (q.item, (are q.item).1 (inr (n, there, its_item s n q stands)), into))
+              (searched.taken first h);
         }
 
   -- an item that no event names
@@ -138,6 +148,7 @@ module _ (s : SiteEvents) (stop : BTreeSet (List ℕ)) where
         sound = λ j h. (i, contains_here i [], subst (Reaches (Inside s) i) (same j h) (reaches_itself (Inside s) i));
         followed = λ j k h free related. absurd (unrelated s i (sym unknown) (here s k) (subst (λ (m : List ℕ). Inside s m k) (sym (same j h)) related));
         given = λ k h. inl h;
+        taken = λ first h. inl h;
       }
 
   -- the same items in another order
@@ -147,4 +158,5 @@ module _ (s : SiteEvents) (stop : BTreeSet (List ℕ)) where
     sound = λ j h. beyond.sound j ((same j).0 h);
     followed = λ j k h free related. ⊎_elim (λ there. inl ((same k).1 there)) (λ given. inr given) (beyond.followed j k ((same j).0 h) free related);
     given = λ k h. ⊎_elim (λ before. inl before) (λ there. inr ((same k).1 there)) (beyond.given k h);
+    taken = λ first h. ⊎_elim (λ old. inl old) (λ (j, there, into). inr (j, (same j).1 there, into)) (beyond.taken first h);
   }

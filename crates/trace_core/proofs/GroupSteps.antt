@@ -13,7 +13,7 @@ use Rattle.event_json.specs.declared.bodies.Body.{Body}
 use Rattle.trace_core.specs.declared.groups.Group.{Group}
 use Rattle.trace_core.specs.declared.pairs.Pair.{Pair}
 use Rattle.trace_core.specs.Gathering.{made_by, joined_by}
-use Rattle.trace_core.specs.Groups.{group_cmp, IsSeen, Sees, outs_of, Gives, IsGiven, AddsUnseen, SeesOnly, IsSeenAt, HasSeenTakers, StaysSeen, first_of, made_at, IsSought}
+use Rattle.trace_core.specs.Groups.{group_cmp, IsSeen, Sees, outs_of, Gives, IsGiven, AddsUnseen, SeesOnly, IsSeenAt, HasSeenTakers, SeesAt, SeesTakers, IsPartOf, StaysSeen, first_of, made_at, IsSought}
 use Rattle.trace_core.specs.Pairs.{make_id, IsShipped, IsMade}
 use Rattle.trace_core.specs.PairTests.{same_id, gives_out}
 use Rattle.trace_core.specs.Places.{at_place, places_where, takes_item}
@@ -149,7 +149,39 @@ seen_now site first place events e seen seen' stands is upd f at =
     let same : e ≡ f = some_is e f (sym stands ∙ at) in
     subst (λ n. IsSeen seen' site n) (is ∙ ap (λ (g : Content). first_of events place g.body) same) ((upd (record { site = site; first = first })).1 (inr refl))
 
+-- no other is new
+pub one_new : (site first place : ℕ) (events : List Content) (e : Content) (seen seen' : BTreeSet Group) → slice_get events place ≡ Some e → first ≡ first_of events place e.body → Sees seen seen' (record { site = site; first = first }) → SeesAt site events seen seen' place
+one_new site first place events e seen seen' stands is upd other there = ⊎_elim
+    (λ before. inl before)
+    (λ same. inr (e, stands, sym is ∙ ap (λ (g : Group). g.first) same))
+    ((upd (record { site = site; first = other })).0 there)
+
 module _ (site : ℕ) (events : List Content) (places : List ℕ) where
+  -- no others are new than those at the first so many places
+  abbrev pub NewSoFar : BTreeSet Group → BTreeSet Group → ℕ → Type 0
+  NewSoFar seen seen' n = (first : ℕ) → IsSeen seen' site first → IsSeen seen site first ⊎ ((k : ℕ) × Contains (take n places) k × IsPartOf events k first)
+
+  pub none_new : (seen : BTreeSet Group) → NewSoFar seen seen 0
+  none_new seen first there = inl there
+
+  pub one_place_new : (n place : ℕ) (a b c : BTreeSet Group) → n < length places → place ≡ get_or places n place → NewSoFar a b n → SeesAt site events b c place → NewSoFar a c (n + 1)
+  one_place_new n place a b c below at so_far now first there = ⊎_elim
+      (λ before. ⊎_elim
+      (λ old. inl old)
+      (λ (k, among, is). inr (k, (contains_more places n place below at k).1 (inl among), is))
+      (so_far first before))
+      (λ is. inr (place, (contains_more places n place below at place).1 (inr refl), is))
+      (now first there)
+
+  pub all_places_new : (n : ℕ) (i : List ℕ) (a b : BTreeSet Group) → length places ≤ n → places ≡ places_where (takes_item i) events → NewSoFar a b n → SeesTakers site events a b i
+  all_places_new n i a b past are so_far first there = ⊎_elim
+      (λ old. inl old)
+      (λ (k, among, (e, stands, is)).
+      let (f, below, at, takes) = place_passes (takes_item i) events k (subst (λ ps. Contains ps k) (take_all n places past ∙ are) among) in
+      let same : f ≡ e = some_is f e (sym (slice_get-get_or events k f below ∙ ap Some at) ∙ stands) in
+      inr (k, e, stands, subst (λ (g : Content). takes_item i g ≡ true) same takes, is))
+      (so_far first there)
+
   -- the transformations at the first so many places were seen
   abbrev pub SeenSoFar : BTreeSet Group → ℕ → Type 0
   SeenSoFar seen n = (k : ℕ) → Contains (take n places) k → IsSeenAt site events seen k

@@ -97,6 +97,22 @@ pub record LooksAtUnseen (site : ℕ) (events : List Content) (seen seen' : BTre
 abbrev pub IsSeenAt : ℕ → List Content → BTreeSet Group → ℕ → Type 0
 IsSeenAt site events seen place = (e : Content) → slice_get events place ≡ Some e → IsSeen seen site (first_of events place e.body)
 
+-- the event at the place is a part of the transformation whose first part stands at `first`
+abbrev pub IsPartOf : List Content → ℕ → ℕ → Type 0
+IsPartOf events place first = (e : Content) × (slice_get events place ≡ Some e) × (first_of events place e.body ≡ first)
+
+-- the item goes into the transformation whose first part stands at `first`
+abbrev pub GoesInto : List Content → List ℕ → ℕ → Type 0
+GoesInto events i first = (place : ℕ) × (e : Content) × (slice_get events place ≡ Some e) × (takes_item i e ≡ true) × (first_of events place e.body ≡ first)
+
+-- of the site's transformations no other is new than that of the event at a place
+abbrev pub SeesAt : ℕ → List Content → BTreeSet Group → BTreeSet Group → ℕ → Type 0
+SeesAt site events seen seen' place = (first : ℕ) → IsSeen seen' site first → IsSeen seen site first ⊎ IsPartOf events place first
+
+-- of the site's transformations no others are new than those that the item goes into
+abbrev pub SeesTakers : ℕ → List Content → BTreeSet Group → BTreeSet Group → List ℕ → Type 0
+SeesTakers site events seen seen' i = (first : ℕ) → IsSeen seen' site first → IsSeen seen site first ⊎ GoesInto events i first
+
 -- each transformation was seen that takes the item in
 abbrev pub HasSeenTakers : ℕ → List Content → BTreeSet Group → List ℕ → Type 0
 HasSeenTakers site events seen i =

@@ -2,7 +2,7 @@
 ghost use Rattle.std.specs.Prelude.{◌≡◌, ◌↔◌, ◌∷◌, [], ℕ, List, Some, IfOk, IsTrue, OnOk, length, slice_get};
 ghost use Rattle.trace_core.specs.declared.pairs.Pair.{Pair};
 ghost use Rattle.trace_core.specs.Beyond.{GoesOn, HasSearched, IsSpreadBeyond, IsStop};
-ghost use Rattle.trace_core.specs.Groups.{IsGiven};
+ghost use Rattle.trace_core.specs.Groups.{IsGiven, SeesTakers};
 ghost use Rattle.trace_core.specs.Nodes.{Gains, Stands};
 ghost use Rattle.trace_core.specs.Numbers.{numbered};
 ghost use Rattle.trace_core.specs.Spreads.{AreAscendingItems};
@@ -20,7 +20,7 @@ use std::collections::BTreeSet;
 impl Captured {
     /// The item, and what chains of related pairs lead to from it inside this site, ascending and without
     /// repeats; but chains end at items of `stop`, and transformations that were seen before are left out.
-    /// Those that the search comes to are seen afterwards.
+    /// Those that the search comes to are seen afterwards; into each of them one of these items goes.
     pub fn spread_beyond(
         &self,
         item: &Epc,
@@ -109,9 +109,11 @@ fn visit_beyond(
     seen: &mut Seen,
     nodes: &mut Nodes,
 ) -> Result<(), AllocError>
-    ensures { OnOk result ((p : Pair) → Stands (site.now ∷ []) node.now p
+    ensures gains { OnOk result ((p : Pair) → Stands (site.now ∷ []) node.now p
         → Gains (Stands (site.now ∷ [])) (IsGiven site.now 0) (GoesOn site.now stop.now p)
         seen.old seen.new nodes.old nodes.new) }
+    ensures new { OnOk result ((p : Pair) → Stands (site.now ∷ []) node.now p
+        → SeesTakers 0 site.now.events seen.old seen.new p.item) }
 {
     if node.at != site.me() {
         return Ok(());

@@ -2,7 +2,7 @@
 ghost use Rattle.std.specs.Prelude.{◌≡◌, ℕ, List, true, Some, OnOk, slice_get, sum_by};
 ghost use Rattle.std.specs.List.{flat_map};
 ghost use Rattle.event_json.specs.Events.{Content};
-ghost use Rattle.trace_core.specs.Groups.{IsGiven, SeesOnly, StaysSeen, HasSeenTakers, IsSeenAt, outputs_at, group_outputs, LooksAtUnseen, made_at, IsSought};
+ghost use Rattle.trace_core.specs.Groups.{IsGiven, SeesOnly, StaysSeen, HasSeenTakers, IsSeenAt, SeesAt, SeesTakers, outputs_at, group_outputs, LooksAtUnseen, made_at, IsSought};
 ghost use Rattle.trace_core.specs.Looks.{one_look, LooksAtEach};
 ghost use Rattle.trace_core.specs.Nodes.{NotesNodes, NotesSent, part_nodes, group_nodes, Stands, Gains};
 ghost use Rattle.trace_core.specs.Numbers.{numbered};
@@ -39,6 +39,8 @@ pub fn visit_item(
     ensures stays { OnOk result (StaysSeen seen.old seen.new) }
     ensures takers { OnOk result ((i : List ℕ) → slice_get (numbered site.now.events) item ≡ Some i
         → HasSeenTakers number site.now.events seen.new i) }
+    ensures new { OnOk result ((i : List ℕ) → slice_get (numbered site.now.events) item ≡ Some i
+        → SeesTakers number site.now.events seen.old seen.new i) }
     ensures looks { OnOk result (
         LooksAtUnseen number site.now.events seen.old seen.new (one_look looks.old) looks.new) }
 {
@@ -86,6 +88,7 @@ fn visit_make(
     ensures only { OnOk result (SeesOnly number seen.old seen.new) }
     ensures stays { OnOk result (StaysSeen seen.old seen.new) }
     ensures seen { OnOk result (IsSeenAt number book.now seen.new place) }
+    ensures new { OnOk result (SeesAt number book.now seen.old seen.new place) }
     ensures looks { OnOk result (LooksAtUnseen number book.now seen.old seen.new looks.old
         looks.new) }
 {

@@ -9,7 +9,7 @@ loop-place-init c i at = begins c.args.site.now c.args.stop.now i c.args.seen.no
 
 pub loop-place-preserved : goal.loop-place-preserved
 loop-place-preserved c i at = goes_on c.args.site.now c.args.stop.now i c.args.seen.now c.loop-place.seen c.visit_beyond.new.seen c.loop-place.nodes c.visit_beyond.new.nodes c.loop-place.place
-    c.index-as_slice-place.result (omega (arith, c.len.ensures, c.loop-place-test.true)) (c.index-as_slice-place.is ∙ ap (λ (ns : List Node). get_or ns c.loop-place.place c.index-as_slice-place.result) c.as_slice.ensures) (c.loop-place.invariant i at) c.in_ok-visit_beyond.ensures
+    c.index-as_slice-place.result (omega (arith, c.len.ensures, c.loop-place-test.true)) (c.index-as_slice-place.is ∙ ap (λ (ns : List Node). get_or ns c.loop-place.place c.index-as_slice-place.result) c.as_slice.ensures) (c.loop-place.invariant i at) c.in_ok-visit_beyond.ensures.gains c.in_ok-visit_beyond.ensures.new
 
 pub returns : goal.returns
 returns c i at = all_visited c.args.site.now c.args.stop.now i c.args.seen.now c.loop-place.seen c.loop-place.nodes c.loop-place.place (omega (arith, c.len.ensures, c.loop-place-test.false)) (c.loop-place.invariant i at)

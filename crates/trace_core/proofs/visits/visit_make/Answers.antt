@@ -4,7 +4,7 @@ use Rattle.trace_core.specs.Groups.{outs_of, first_of, group_outputs}
 use Rattle.trace_core.specs.Looks.{LooksAtEach}
 use Rattle.trace_core.specs.Pairs.{make_id}
 use Rattle.trace_core.proofs.GainSteps.{gains_group, gains_again}
-use Rattle.trace_core.proofs.GroupSteps.{was_seen, wasnt_seen, stays_seen, seen_now}
+use Rattle.trace_core.proofs.GroupSteps.{was_seen, wasnt_seen, stays_seen, seen_now, one_new}
 use Rattle.trace_core.proofs.LookSteps.{group_looked, group_passed}
 use Rattle.trace_core.proofs.visits.visit_make.Goals as goal
 
@@ -30,6 +30,10 @@ pub returns-in_ok-note_group-clause-seen : goal.returns-in_ok-note_group-clause-
 returns-in_ok-note_group-clause-seen c = seen_now c.args.number c.first_part-first.result c.args.place c.args.book.now c.in-Some.event.now c.args.seen.now c.see.new.self (sym c.in-Some.ensures)
     (c.first_part-first.ensures.first ∙ ap (λ (b : Body). first_of c.args.book.now c.args.place b) c.body.ensures.value) c.in_ok-see.ensures.seen
 
+pub returns-in_ok-note_group-clause-new : goal.returns-in_ok-note_group-clause-new
+returns-in_ok-note_group-clause-new c = one_new c.args.number c.first_part-first.result c.args.place c.args.book.now c.in-Some.event.now c.args.seen.now c.see.new.self (sym c.in-Some.ensures)
+    (c.first_part-first.ensures.first ∙ ap (λ (b : Body). first_of c.args.book.now c.args.place b) c.body.ensures.value) c.in_ok-see.ensures.seen
+
 -- it was seen before
 pub returns-else-branch-clause-gains : goal.returns-else-branch-clause-gains
 returns-else-branch-clause-gains c =
@@ -45,4 +49,8 @@ returns-else-branch-clause-stays c = stays_seen _ c.args.seen.now c.see.new.self
 
 pub returns-else-branch-clause-seen : goal.returns-else-branch-clause-seen
 returns-else-branch-clause-seen c = seen_now c.args.number c.first_part-first.result c.args.place c.args.book.now c.in-Some.event.now c.args.seen.now c.see.new.self (sym c.in-Some.ensures)
+    (c.first_part-first.ensures.first ∙ ap (λ (b : Body). first_of c.args.book.now c.args.place b) c.body.ensures.value) c.in_ok-see.ensures.seen
+
+pub returns-else-branch-clause-new : goal.returns-else-branch-clause-new
+returns-else-branch-clause-new c = one_new c.args.number c.first_part-first.result c.args.place c.args.book.now c.in-Some.event.now c.args.seen.now c.see.new.self (sym c.in-Some.ensures)
     (c.first_part-first.ensures.first ∙ ap (λ (b : Body). first_of c.args.book.now c.args.place b) c.body.ensures.value) c.in_ok-see.ensures.seen
