@@ -47,4 +47,5 @@ pub mod Stepping
 pub mod Taking
 pub mod TakenBack
 pub mod Takings
+pub mod Transformations
 pub mod WaysFix

@@ -4,7 +4,7 @@ ghost use Rattle.std.specs.FinMap as finite;
 ghost use Rattle.scholten_core.specs.Changes.{began, begun, received};
 ghost use Rattle.site_core.specs.Quarantines.{with_items};
 ghost use Rattle.site_core.specs.Shipments.{AreShipments};
-ghost use Rattle.site_core.specs.Shortcuts.{GivesHeld, IsClosedInside};
+ghost use Rattle.site_core.specs.Shortcuts.{IsClosedInside, TakeHeld};
 ghost use Rattle.site_core.specs.Spreading.{AreNewlyHeld};
 ghost use Rattle.site_core.specs.Plans.{IsStartPlanned};
 ghost use Rattle.site_core.specs.Steps.{HaveNumbers, AreTooMany, reply};
@@ -58,13 +58,13 @@ pub fn plan_message(
     seen: &mut Seen,
 ) -> Result<Plan, AllocError>
     requires closed { is_closed ≡ true → IsClosedInside captured.now quarantine.now }
-    requires gives { GivesHeld captured.now quarantine.now recall seen.old }
+    requires held { TakeHeld captured.now quarantine.now recall seen.old }
     ensures newly { IfOk result (λ plan.
         AreNewlyHeld captured.now quarantine.now recall item.now plan.new.items) }
     ensures shipped { IfOk result (λ plan.
         AreShipments captured.now plan.new.items plan.out.items) }
     ensures seen { IfOk result (λ plan.
-        GivesHeld captured.now (with_items quarantine.now recall plan.new.items) recall seen.new) }
+        TakeHeld captured.now (with_items quarantine.now recall plan.new.items) recall seen.new) }
 {
     let new = new_of_message(alloc, captured, quarantine, is_closed, recall, item, seen)?;
     let out = shipments(alloc, captured, &new)?;
@@ -82,11 +82,11 @@ fn new_of_message(
     seen: &mut Seen,
 ) -> Result<Vec<Epc>, AllocError>
     requires closed { is_closed ≡ true → IsClosedInside captured.now quarantine.now }
-    requires gives { GivesHeld captured.now quarantine.now recall seen.old }
+    requires held { TakeHeld captured.now quarantine.now recall seen.old }
     ensures newly { IfOk result (λ items.
         AreNewlyHeld captured.now quarantine.now recall item.now items.items) }
     ensures seen { IfOk result (λ items.
-        GivesHeld captured.now (with_items quarantine.now recall items.items) recall seen.new) }
+        TakeHeld captured.now (with_items quarantine.now recall items.items) recall seen.new) }
 {
     if is_closed {
         newly_held_past(alloc, captured, quarantine, recall, item, seen)

@@ -3,7 +3,7 @@ ghost use Rattle.std.specs.Prelude.{◌≡◌, true};
 ghost use Rattle.std.specs.FinMap as finite;
 ghost use Rattle.trace_core.specs.Sites.{SiteEvents};
 ghost use Rattle.site_core.specs.Quarantines.{Quarantine as Held};
-ghost use Rattle.site_core.specs.Shortcuts.{AreShortcuts, GivesHeld, IsClosedInside};
+ghost use Rattle.site_core.specs.Shortcuts.{AreShortcuts, IsClosedInside, TakeHeld};
 
 use crate::closing::is_found_closed;
 use crate::quarantines::Quarantine;
@@ -14,9 +14,11 @@ use trace_core::{Captured, Seen};
 
 /// Whether what is quarantined is known to be closed inside its site: what is made there of a quarantined
 /// item is quarantined under the same recall. And by recall the transformations that its messages went
-/// through: all that these make is quarantined under it.
+/// through: an item that is quarantined under it goes into each of them, so that all that they give out is
+/// quarantined under it, too, and a part that is captured later and gave out more would be refused.
 ///
 /// A record that begins empty is closed, and each step keeps it so. Of one that was read back it is found out.
+/// A capture keeps all that is known.
 #[derive(Debug, Drop)]
 pub struct Shortcuts {
     is_closed: bool,
@@ -67,7 +69,7 @@ impl Shortcuts {
     /// Takes out the transformations that a recall's messages went through. Does not allocate.
     pub fn take_seen(&mut self, alloc: Global, recall: RecallId) -> Seen
         ensures { (s : SiteEvents) (q : Held) → AreShortcuts s q self.old
-            → AreShortcuts s q self.new × GivesHeld s q recall result }
+            → AreShortcuts s q self.new × TakeHeld s q recall result }
     {
         match tables::take(&mut self.seen, recall) {
             Some(seen) => seen,
@@ -79,7 +81,7 @@ impl Shortcuts {
     /// are gone through again.
     pub fn keep_seen(&mut self, recall: RecallId, seen: Seen)
         ensures { (s : SiteEvents) (q : Held) → AreShortcuts s q self.old
-            → GivesHeld s q recall seen → AreShortcuts s q self.new }
+            → TakeHeld s q recall seen → AreShortcuts s q self.new }
     {
         let _ = tables::put(&mut self.seen, recall, seen);
     }

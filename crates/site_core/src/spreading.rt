@@ -2,7 +2,7 @@
 ghost use Rattle.std.specs.Prelude.{◌≡◌, ◌↔◌, ◌∷◌, [], ℕ, List, IfOk, IsTrue, Contains, filter, not};
 ghost use Rattle.trace_core.specs.Spreads.{AreAscendingItems, IsSpread};
 ghost use Rattle.site_core.specs.Quarantines.{held, with_items};
-ghost use Rattle.site_core.specs.Shortcuts.{GivesHeld, IsClosedInside, IsSpreadPast};
+ghost use Rattle.site_core.specs.Shortcuts.{IsClosedInside, IsSpreadPast, TakeHeld};
 ghost use Rattle.site_core.specs.Spreading.{AreNewlyHeld, IsKnownItem};
 
 use crate::holding::is_held;
@@ -76,11 +76,11 @@ pub(crate) fn newly_held_past(
     seen: &mut Seen,
 ) -> Result<Vec<Epc>, AllocError>
     requires closed { IsClosedInside captured.now quarantine.now }
-    requires gives { GivesHeld captured.now quarantine.now recall seen.old }
+    requires held { TakeHeld captured.now quarantine.now recall seen.old }
     ensures newly { IfOk result (λ items.
         AreNewlyHeld captured.now quarantine.now recall item.now items.items) }
     ensures seen { IfOk result (λ items.
-        GivesHeld captured.now (with_items quarantine.now recall items.items) recall seen.new) }
+        TakeHeld captured.now (with_items quarantine.now recall items.items) recall seen.new) }
 {
     let found = spread_past(alloc, captured, quarantine, recall, item, seen)?;
     not_held(alloc, quarantine, recall, found)

@@ -10,7 +10,6 @@ use crate::inputs::SiteInput;
 use crate::looks::look;
 use crate::outcomes::{Effects, Refusal};
 use crate::plans::{begin_planned, plan_message, plan_start, receive_planned};
-use crate::shortcuts::Shortcuts;
 use crate::states::SiteState;
 use epc_core::Epc;
 use event_json::{SiteNo, read_document};
@@ -125,7 +124,6 @@ impl SiteState {
         let skipped = doc.skipped;
         let events = doc.events.into_vec();
         let added = capture_all(self.alloc, &mut self.captured, &self.quarantine, events)?;
-        self.shortcuts = Shortcuts::begun(self.alloc, &self.shortcuts);
         Ok(Effects::Captured {
             fresh: added.fresh,
             known: added.known,

@@ -4,7 +4,7 @@ use Rattle.site_core.specs.declared.inputs.SiteInput.TheVariants.{Capture}
 use Rattle.site_core.specs.Records.{Record}
 use Rattle.site_core.specs.Steps.{Captures, Refuses}
 use Rattle.site_core.specs.Told.{told_capture, told_reading}
-use Rattle.site_core.proofs.Closed.{closed_captured}
+use Rattle.site_core.proofs.Closed.{shortcuts_captured}
 use Rattle.site_core.proofs.Documents.{read_as, unread, captured, refused}
 use Rattle.site_core.proofs.Results.{of_fault}
 use Rattle.site_core.proofs.Soundness.{captures_sound}
@@ -15,9 +15,8 @@ invariant_of-self-2 c =
     let s : Record = record { sites = c.self.inside.sites; captured = c.self.inside.captured; quarantine = c.self.inside.quarantine; engagement = c.self.inside.diffusion } in (
       captures_sound s c.args.bytes.now c.in_ok-added.added.fresh c.in_ok-added.added.known c.in_ok-doc.doc.skipped (record s { captured = c.capture_all.new.captured }) c.self.invariant.0 (captured s c.args.bytes.now c.in_ok-doc.doc c.into_vec-events.result.items c.capture_all.new.captured c.in_ok-added.added.fresh c.in_ok-added.added.known
           (read_as s.sites c.args.bytes.now (Ok c.in_ok-doc.doc) c.in_ok-doc.ensures.text c.in_ok-doc.ensures.bytes) c.into_vec-events.ensures c.in_ok-added.ensures.ok c.capture_all.ensures.same_site),
-      c.begun.ensures c.capture_all.new.captured s.quarantine
-          (closed_captured s.captured s.quarantine c.self.inside.shortcuts c.self.invariant.1 c.into_vec-events.result.items (record { events = c.capture_all.new.captured.events; fresh = c.in_ok-added.added.fresh; known = c.in_ok-added.added.known }) c.capture_all.new.captured
-          (ap (λ (n : ℕ). record { me = n; events = c.capture_all.new.captured.events }) c.capture_all.ensures.same_site) c.in_ok-added.ensures.ok),
+      shortcuts_captured s.captured s.quarantine c.self.inside.shortcuts c.self.invariant.1 c.into_vec-events.result.items (record { events = c.capture_all.new.captured.events; fresh = c.in_ok-added.added.fresh; known = c.in_ok-added.added.known }) c.capture_all.new.captured
+          (ap (λ (n : ℕ). record { me = n; events = c.capture_all.new.captured.events }) c.capture_all.ensures.same_site) c.in_ok-added.ensures.ok,
     )
 
 pub returns-clause-done : goal.returns-clause-done

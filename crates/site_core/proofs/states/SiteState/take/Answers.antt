@@ -3,7 +3,7 @@ use Rattle.std.specs.FinMap.{get}
 use Rattle.site_core.specs.Records.{Record}
 use Rattle.site_core.specs.Steps.{IsForSite}
 use Rattle.site_core.specs.Quarantines.{Quarantine}
-use Rattle.site_core.specs.Shortcuts.{GivesHeld}
+use Rattle.site_core.specs.Shortcuts.{TakeHeld}
 use Rattle.site_core.proofs.Closed.{shortcuts_with}
 use Rattle.site_core.proofs.Soundness.{takes_sound}
 use Rattle.site_core.proofs.Taking.{taken}
@@ -22,5 +22,5 @@ invariant_of-self-2 c =
       sound,
       c.keep_seen.ensures s.captured q
           (shortcuts_with s.captured s.quarantine c.take_seen-seen.new.self taken.0 c.args.recall c.args.item.now c.in_ok-plan.plan.new.items q c.in_ok-owed.ensures.held c.in_ok-plan.ensures.newly)
-          (subst (λ (p : Quarantine). GivesHeld s.captured p c.args.recall c.plan_message.new.seen) (sym c.in_ok-owed.ensures.held) c.in_ok-plan.ensures.seen),
+          (subst (λ (p : Quarantine). TakeHeld s.captured p c.args.recall c.plan_message.new.seen) (sym c.in_ok-owed.ensures.held) c.in_ok-plan.ensures.seen),
     )
