@@ -1,5 +1,5 @@
 -- By what an event is blocked, sought in ascending lists.
-use Rattle.std.proofs.Common.{◌≡◌, ◌≢◌, ◌↔◌, ◌==◌, Bool, true, false, not, ◌&&◌, ℕ, List, [], ◌∷◌, Some, refl, sym, ap, subst, ◌∙◌, ⊎_elim, arith}
+use Rattle.std.proofs.Common.{◌≡◌, ◌≢◌, ◌⊎◌, ◌↔◌, ◌==◌, Bool, true, false, not, ◌&&◌, ℕ, List, [], ◌∷◌, Some, slice_get, inl, refl, sym, ap, subst, ◌∙◌, ⊎_elim, arith}
 use Rattle.std.specs.Prelude.{IsTrue, Any, length}
 use Rattle.std.specs.BTreeSet.{BTreeSet, Updates, contains}
 use mathlib.Core.Bool.{false≢true}
@@ -11,9 +11,10 @@ use Rattle.std.specs.List.Sorted.{IsStrictlySortedBy}
 use Rattle.std.specs.declared.cmp.Ordering.{Ordering}
 use Rattle.std.specs.declared.cmp.Ordering.TheVariants.{Greater}
 use Rattle.std.proofs.lemmas.Bool.{eqb-true, or_cases}
-use Rattle.std.proofs.lemmas.Bool.Decides.{Decides-and, Decides-eqb, Decides-not}
+use Rattle.std.proofs.lemmas.Bool.Decides.{Decides-and, Decides-eqb, Decides-not, Decides-or}
 use Rattle.std.proofs.lemmas.List.{nil_from_length}
 use Rattle.std.proofs.lemmas.List.Folds.{list_all_at}
+use Rattle.std.proofs.lemmas.Option.{slice_get-get_or}
 use Rattle.event_json.specs.Events.{Content}
 use Rattle.event_json.specs.declared.bodies.Body.{Body}
 use Rattle.event_json.specs.declared.bodies.Body.TheVariants.{Note, Ship, Make, Pack}
@@ -21,17 +22,18 @@ use Rattle.frame_core.specs.Identifiers.{recall_cmp}
 use Rattle.frame_core.specs.Numbers.{Recall}
 use Rattle.frame_core.specs.Orders.{recall_total, recall_exact}
 use Rattle.trace_core.specs.declared.pairs.Pair.{Pair}
-use Rattle.trace_core.specs.Pairs.{GivesOut, make_id}
-use Rattle.trace_core.specs.Places.{places_where, has_part}
+use Rattle.trace_core.specs.Groups.{outs_of}
+use Rattle.trace_core.specs.Pairs.{GivesOut, HaveOneId, make_id}
+use Rattle.trace_core.specs.Places.{IsPartAt, places_where, has_part}
 use Rattle.trace_core.specs.Sites.{SiteEvents}
 use Rattle.trace_core.specs.Spreads.{IsNewTarget}
 use Rattle.trace_core.proofs.AddedPairs.{related_with}
 use Rattle.trace_core.proofs.Members.{contains_cases, contains_none, list_any_witness, list_any_member}
-use Rattle.trace_core.proofs.PairTestsDecide.{same_id_decides}
+use Rattle.trace_core.proofs.PairTestsDecide.{any_decides, gives_decides, same_id_decides}
 use Rattle.trace_core.proofs.PlaceLists.{place_there}
 use Rattle.trace_core.proofs.SetMembers.{found-insert}
 use Rattle.site_core.specs.Capturing.{IsBlockedBy, IsFree, IsHeldHere}
-use Rattle.site_core.specs.Blocks.{IsMaking, IsBlockFrom, IsFirstBlockOf, JoinsAsPart, holds_outputs, is_covered, CoverOutputs}
+use Rattle.site_core.specs.Blocks.{IsMaking, IsBlockFrom, IsFirstBlockOf, JoinsAsPart, holds_at, holds_outputs, is_covered, CoverOutputs, CoverParts, HasAllParts}
 use Rattle.site_core.specs.Quarantines.{Quarantine, held, item_cmp}
 use Rattle.site_core.proofs.Ascending.{head_least, tail_ascends}
 use Rattle.site_core.proofs.Held.{none_held}
@@ -134,6 +136,46 @@ stays_inside s q e b i found recalls is making joins cover all r there blocked =
     let (here, out) = outputs_alone s e i making (subst (λ (c : Body). JoinsAsPart s c i) is joins) blocked.target blocked.new in
     let holds : holds_outputs q e.body r ≡ true = covered_held q e.body found r cover (ap (λ (c : Body). is_covered found c r) (sym is) ∙ list_all_member (is_covered found b) recalls r there all) in
     blocked.leaves (here, gives_made q e.body r blocked.target.item holds out)
+
+-- An event leads on to its own outputs, and to those of the captured parts of its transformation.
+outs_decide : (events : List Content) (j : List ℕ) (b : Body) → Decides (outs_of events j b) (GivesOut j b ⊎ Any (λ f. HaveOneId (make_id b) (make_id f.body) × GivesOut j f.body) events)
+outs_decide events j b = Decides-or _ _ (gives_decides j b) (any_decides _ _ (λ f. Decides-and _ _ (same_id_decides (make_id b) (make_id f.body)) (gives_decides j f.body)) events)
+
+outputs_of_parts : (s : SiteEvents) (e : Content) (i : List ℕ) → IsMaking e.body → (p : Pair) → IsNewTarget s e i p → (p.site ≡ s.me) × (outs_of s.events p.item e.body ≡ true)
+outputs_of_parts s e i making p (related, new) = ⊎_elim
+    (λ before. absurd (new before))
+    (λ added. ⊎_elim
+    (λ own. ⊎_elim
+    (λ (other, (sends, same)). absurd (makes_only s.events e.body p.site making sends.0))
+    (λ (here, (takes, gives)). (here, (outs_decide s.events p.item e.body).1 gives))
+    own)
+    (λ (joined, (here, out)). (here, (outs_decide s.events p.item e.body).1 (inl out)))
+    added)
+    (related_with s e i p related)
+
+pub stays_joined : (s : SiteEvents) (q : Quarantine) (e : Content) (i : List ℕ) (found : BTreeSet Recall) (recalls : List Recall) → IsMaking e.body → CoverParts s.events q e.body found
+    → list_all (λ r. contains recall_cmp found r) recalls ≡ true → (r : Recall) → Contains recalls r → IsBlockedBy s q e i r → ⊥
+stays_joined s q e i found recalls making cover all r there blocked =
+    let (here, outs) = outputs_of_parts s e i making blocked.target blocked.new in
+    blocked.leaves (here, cover r (list_all_member (λ t. contains recall_cmp found t) recalls r there all) blocked.target.item outs)
+
+pub has_all_parts : (events : List Content) (b : Body) (id : List ℕ) (places : List ℕ) → make_id b ≡ Some id → ((k : ℕ) → Contains places k ↔ IsPartAt events id k) → HasAllParts events b places
+has_all_parts events b id places is exact k e stands (other, own, its) = (exact k).1 (e, stands, its ∙ sym own ∙ is)
+
+module _ (events : List Content) (q : Quarantine) (b : Body) (r : Recall) (places : List ℕ) (all : HasAllParts events b places) (own : holds_outputs q b r ≡ true) (each : list_all (λ k. holds_at q (slice_get events k) r) places ≡ true) where
+  parts_held : (j : List ℕ) → outs_of events j b ≡ true → IsTrue (held q r j)
+  parts_held j gives = ⊎_elim
+      (λ out. gives_made q b r j own out)
+      (λ (k, f, lt, at, (same, out)).
+      let stands : slice_get events k ≡ Some f = slice_get-get_or events k f lt ∙ ap Some at in
+      gives_made q f.body r j (ap (λ o. holds_at q o r) (sym stands) ∙ list_all_member (λ n. holds_at q (slice_get events n) r) places k (all k f stands same) each) out)
+      ((outs_decide events j b).0 gives)
+
+  pub parts_cover : (old new : BTreeSet Recall) → Updates recall_cmp old new r true → CoverParts events q b old → CoverParts events q b new
+  parts_cover old new upd cover t found j gives = ⊎_elim
+      (λ before. cover t before j gives)
+      (λ same. subst (λ (u : Recall). IsTrue (held q u j)) same (parts_held j gives))
+      ((found-insert recall_cmp recall_total recall_exact old new r upd t).0 found)
 
 -- one recall more was found
 pub cover_more : (q : Quarantine) (b : Body) (old new : BTreeSet Recall) (r : Recall) → CoverOutputs q b old → holds_outputs q b r ≡ true → Updates recall_cmp old new r true → CoverOutputs q b new

@@ -1,5 +1,5 @@
 -- What becomes of one event, and by what it is blocked.
-use Rattle.std.specs.Prelude.{◌≡◌, ◌≢◌, ◌⊎◌, ◌==◌, ◌||◌, ⊤, ℕ, Bool, true, List, Option, Some, None, Any, length}
+use Rattle.std.specs.Prelude.{◌≡◌, ◌≢◌, ◌⊎◌, ◌==◌, ◌||◌, ⊤, ℕ, Bool, true, List, Option, Some, None, Any, Contains, IsTrue, length, slice_get}
 use Rattle.std.specs.BTreeSet.{BTreeSet, contains}
 use Rattle.std.specs.declared.cmp.Ordering.TheVariants.{Greater}
 use Rattle.std.specs.List.{list_all}
@@ -9,7 +9,8 @@ use Rattle.event_json.specs.declared.bodies.Body.TheVariants.{Note, Ship, Make, 
 use Rattle.frame_core.specs.Identifiers.{recall_cmp}
 use Rattle.frame_core.specs.Numbers.{Recall}
 use Rattle.trace_core.specs.Adding.{standing_among}
-use Rattle.trace_core.specs.Pairs.{make_id}
+use Rattle.trace_core.specs.Groups.{outs_of}
+use Rattle.trace_core.specs.Pairs.{HaveOneId, make_id}
 use Rattle.trace_core.specs.Parts.{TakesInAsPart}
 use Rattle.trace_core.specs.Searches.{IsFound}
 use Rattle.trace_core.specs.Sites.{SiteEvents}
@@ -17,6 +18,7 @@ use Rattle.trace_core.specs.declared.adding.Standing.{Standing}
 use Rattle.trace_core.specs.declared.adding.Standing.TheVariants.{Fresh, Known, Taken}
 use Rattle.site_core.specs.declared.capturing.CaptureFault.{CaptureFault}
 use Rattle.site_core.specs.declared.capturing.CaptureFault.TheVariants as faults
+use Rattle.site_core.specs.declared.covering.Covering.{Covering}
 use Rattle.site_core.specs.Quarantines.{Quarantine, held}
 use Rattle.site_core.specs.Capturing.{IsBlockedBy, IsFirstBlock, IsFree, IsReason, taken, blocked}
 
@@ -50,6 +52,24 @@ holds_outputs q (Pack action parent children) r = true
 -- under each of these recalls they are
 abbrev pub CoverOutputs : Quarantine → Body → BTreeSet Recall → Type 0
 CoverOutputs q b found = (r : Recall) → IsFound recall_cmp found r → holds_outputs q b r ≡ true
+
+-- so it is of the outputs of the event at a place, if one stands there
+abbrev pub holds_at : Quarantine → Option Content → Recall → Bool
+holds_at q None r = true
+holds_at q (Some e) r = holds_outputs q e.body r
+
+-- the places are those of all captured parts of the body's transformation, and maybe others
+abbrev pub HasAllParts : List Content → Body → List ℕ → Type 0
+HasAllParts events b places = (k : ℕ) (e : Content) → slice_get events k ≡ Some e → HaveOneId (make_id b) (make_id e.body) → Contains places k
+
+-- under each of these recalls all outputs of the body's transformation are quarantined: its own, and those of its captured parts
+abbrev pub CoverParts : List Content → Quarantine → Body → BTreeSet Recall → Type 0
+CoverParts events q b found = (r : Recall) → IsFound recall_cmp found r → (j : List ℕ) → outs_of events j b ≡ true → IsTrue (held q r j)
+
+-- what was found of the body's transformation: recalls of its own outputs, and of the outputs of all its parts
+pub record Covers (events : List Content) (q : Quarantine) (b : Body) (covering : Covering) : Type 0 where
+  pub own : CoverOutputs q b covering.own
+  pub all : CoverParts events q b covering.all
 
 -- whether the body has no outputs, or the recall is one of these
 abbrev pub is_covered : BTreeSet Recall → Body → Recall → Bool

@@ -1,19 +1,58 @@
 //! The recalls under which all outputs of a transformation are quarantined, found once for each event.
-ghost use Rattle.std.specs.Prelude.{◌≡◌, IfOk, OnOk};
+ghost use Rattle.std.specs.Prelude.{◌≡◌, IfOk, OnOk, Some, slice_get};
+ghost use Rattle.std.specs.BTreeSet.{contains};
 ghost use Rattle.std.specs.List.{list_all};
-ghost use Rattle.site_core.specs.Blocks.{holds_outputs, is_covered, CoverOutputs};
+ghost use Rattle.frame_core.specs.Identifiers.{recall_cmp};
+ghost use Rattle.trace_core.specs.Pairs.{make_id};
+ghost use Rattle.site_core.specs.Blocks.{holds_at, holds_outputs, is_covered, CoverOutputs, CoverParts, Covers, HasAllParts};
 ghost use Rattle.site_core.specs.Quarantines.{held};
 
 use crate::holding::holders;
 use crate::quarantines::Quarantine;
+use crate::sources::part_id;
 use epc_core::Epc;
-use event_json::{Body, Event};
+use event_json::{Body, Event, PlainText};
 use frame_core::RecallId;
 use std::alloc::{AllocError, Global};
 use std::collections::BTreeSet;
+use trace_core::Captured;
+
+/// Recalls under which all outputs of a transformation are quarantined.
+#[derive(Drop)]
+pub struct Covering {
+    /// All outputs of the event itself: each such recall, where it has outputs.
+    pub own: BTreeSet<RecallId>,
+    /// Those, and all outputs of the captured parts of its id: each such recall that holds a source which none of
+    /// these parts takes in. From such a source the event leads to the outputs of all parts.
+    pub all: BTreeSet<RecallId>,
+}
+
+impl Covering {
+    /// The recalls of an event that leads from these items on, and maybe others of them.
+    pub fn of(
+        alloc: Global,
+        captured: &Captured,
+        quarantine: &Quarantine,
+        event: &Event,
+        items: &[Epc],
+    ) -> Result<Covering, AllocError>
+        ensures { IfOk result (Covers captured.now.events quarantine.now event.now.body) }
+    {
+        let own = covering_recalls(alloc, quarantine, event)?;
+        let all = covering_all(alloc, captured, quarantine, event, items)?;
+        Ok(Covering { own, all })
+    }
+
+    /// Whether under each of the recalls all outputs of all parts are found to be quarantined.
+    pub fn has_each(&self, recalls: &[RecallId]) -> bool
+        ensures { result ≡ list_all (λ r. contains recall_cmp self.now.all r) recalls.now }
+    {
+        recalls.iter().all(|recall| self.all.contains(recall))
+    }
+}
 
 /// Recalls under which all outputs of a transformation are quarantined: all such recalls, where it has outputs.
-pub fn covering_recalls(
+fn covering_recalls(
     alloc: Global,
     quarantine: &Quarantine,
     event: &Event,
@@ -67,6 +106,141 @@ fn first_output(body: &Body) -> Option<&Epc> {
     match body {
         Body::Make { outs, .. } => outs.as_slice().first(),
         _ => None,
+    }
+}
+
+/// Recalls under which all outputs of all parts of a transformation are quarantined: of those that hold an item which
+/// no captured part takes in.
+fn covering_all(
+    alloc: Global,
+    captured: &Captured,
+    quarantine: &Quarantine,
+    event: &Event,
+    items: &[Epc],
+) -> Result<BTreeSet<RecallId>, AllocError>
+    ensures { IfOk result (CoverParts captured.now.events quarantine.now event.now.body) }
+{
+    let body = event.body();
+    match part_id(body) {
+        Some(id) => {
+            let recalls = new_holders(alloc, captured, quarantine, id, items)?;
+            covering_parts(alloc, captured, quarantine, id, body, &recalls)
+        }
+        None => Ok(BTreeSet::new(alloc)),
+    }
+}
+
+/// The recalls that hold one of the items which no captured part of a transformation takes in; none where no part is
+/// captured.
+fn new_holders(
+    alloc: Global,
+    captured: &Captured,
+    quarantine: &Quarantine,
+    id: &PlainText,
+    items: &[Epc],
+) -> Result<BTreeSet<RecallId>, AllocError> {
+    let mut found = BTreeSet::new(alloc);
+    if captured.part_count(id) == 0 {
+        return Ok(found);
+    }
+    for item in items {
+        add_new_holders(captured, quarantine, id, item, &mut found)?;
+    }
+    Ok(found)
+}
+
+/// Adds the recalls that hold an item, unless a captured part of the transformation takes it in.
+fn add_new_holders(
+    captured: &Captured,
+    quarantine: &Quarantine,
+    id: &PlainText,
+    item: &Epc,
+    found: &mut BTreeSet<RecallId>,
+) -> Result<(), AllocError> {
+    match quarantine.recalls_of(item) {
+        Some(recalls) if !captured.is_part_input(id, item) => add_recalls(recalls, found),
+        _ => Ok(()),
+    }
+}
+
+/// Adds recalls.
+fn add_recalls(
+    recalls: &BTreeSet<RecallId>,
+    found: &mut BTreeSet<RecallId>,
+) -> Result<(), AllocError> {
+    for recall in recalls {
+        found.insert(*recall)?;
+    }
+    Ok(())
+}
+
+/// Those of the recalls under which all outputs of a body, and of the captured parts of its id, are quarantined.
+fn covering_parts(
+    alloc: Global,
+    captured: &Captured,
+    quarantine: &Quarantine,
+    id: &PlainText,
+    body: &Body,
+    recalls: &BTreeSet<RecallId>,
+) -> Result<BTreeSet<RecallId>, AllocError>
+    requires { make_id body.now ≡ Some id.now }
+    ensures { IfOk result (CoverParts captured.now.events quarantine.now body.now) }
+{
+    let mut found = BTreeSet::new(alloc);
+    if recalls.is_empty() {
+        return Ok(found);
+    }
+    let places = captured.parts_of(id)?;
+    for recall in recalls {
+        add_if_held_at(captured, quarantine, *recall, body, &places, &mut found)?;
+    }
+    Ok(found)
+}
+
+/// Adds a recall if all outputs of a body, and of the events at the places, are quarantined under it.
+fn add_if_held_at(
+    captured: &Captured,
+    quarantine: &Quarantine,
+    recall: RecallId,
+    body: &Body,
+    places: &[usize],
+    found: &mut BTreeSet<RecallId>,
+) -> Result<(), AllocError>
+    ensures { OnOk result (HasAllParts captured.now.events body.now places.now
+        → CoverParts captured.now.events quarantine.now body.now found.old
+        → CoverParts captured.now.events quarantine.now body.now found.new) }
+{
+    if holds_outputs(quarantine, recall, body) {
+        if holds_at_each(captured, quarantine, recall, places) {
+            found.insert(recall)?;
+        }
+    }
+    Ok(())
+}
+
+/// Whether all outputs of the events at the places are quarantined under a recall.
+fn holds_at_each(
+    captured: &Captured,
+    quarantine: &Quarantine,
+    recall: RecallId,
+    places: &[usize],
+) -> bool
+    ensures { result
+        ≡ list_all (λ k. holds_at quarantine.now (slice_get captured.now.events k) recall)
+        places.now }
+{
+    places
+        .iter()
+        .all(|place| holds_at(captured, quarantine, recall, *place))
+}
+
+/// Whether all outputs of the event at a place are quarantined under a recall.
+fn holds_at(captured: &Captured, quarantine: &Quarantine, recall: RecallId, place: usize) -> bool
+    ensures { result ≡ holds_at quarantine.now (slice_get captured.now.events place) recall }
+{
+    match captured.event(place) {
+        Some(event) => holds_outputs(quarantine, recall, event.body()),
+        None => true,
     }
 }
 

@@ -1,6 +1,6 @@
 use Rattle.std.proofs.Common.{inl, inr, sym, ◌∙◌}
 use Rattle.site_core.proofs.Blocks.{no_part}
-use Rattle.site_core.proofs.capturing.is_old_input.Goals as goal
+use Rattle.site_core.proofs.made_blocks.is_old_input.Goals as goal
 
 pub returns-then-part_count-eq0 : goal.returns-then-part_count-eq0
 returns-then-part_count-eq0 c = λ yes. inr (no_part c.args.captured.now.events c.args.id.now (sym c.part_count.ensures ∙ c.if-part_count-eq0.true))

@@ -5,7 +5,7 @@ use Rattle.std.specs.Vec.Iter.{into_iter_items}
 use Rattle.frame_core.specs.Numbers.{Recall}
 use Rattle.site_core.specs.Capturing.{IsBlockedBy}
 use Rattle.site_core.specs.Quarantines.{item_cmp}
-use Rattle.site_core.proofs.capturing.first_block.Given as goal
+use Rattle.site_core.proofs.made_blocks.first_block.Given as goal
 
 -- the items that are left are all from which the event is blocked
 abbrev pub invariant-loop-item : goal.invariant-loop-item

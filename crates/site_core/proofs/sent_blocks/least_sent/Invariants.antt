@@ -1,6 +1,6 @@
 use Rattle.std.specs.Prelude.{option_map, take}
 use Rattle.site_core.proofs.SentBlocks.{IsLeastAway}
-use Rattle.site_core.proofs.capturing.least_sent.Given as goal
+use Rattle.site_core.proofs.sent_blocks.least_sent.Given as goal
 
 -- the least of those so far
 abbrev pub invariant-loop-sending : goal.invariant-loop-sending

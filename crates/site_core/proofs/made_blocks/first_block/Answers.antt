@@ -9,19 +9,19 @@ use Rattle.site_core.specs.Blocks.{IsBlockFrom}
 use Rattle.site_core.specs.Capturing.{IsBlockedBy}
 use Rattle.site_core.specs.Quarantines.{item_cmp}
 use Rattle.site_core.proofs.Blocks.{next_left, next_least, next_ascends, none_left, nothing_blocks, first_found}
-use Rattle.site_core.proofs.capturing.first_block.Goals as goal
+use Rattle.site_core.proofs.made_blocks.first_block.Goals as goal
 
 pub returns-then-is_empty : goal.returns-then-is_empty
 returns-then-is_empty c = nothing_blocks c.args.captured.now c.args.quarantine.now c.args.event.now (c.is_empty.ensures.0 c.if-is_empty.true)
 
 pub loop-item-init : goal.loop-item-init
 loop-item-init c =
-    let gives : into_iter_items c.into_iter-item-iterator.result ≡ c.in_ok-item-items.item-items.items = c.into_iter-item-iterator.ensures.into_iter_gives.0 in
+    let gives : into_iter_items c.into_iter-item-iterator.result ≡ c.in_ok-items.items.items = c.into_iter-item-iterator.ensures.into_iter_gives.0 in
     record {
       can = tt;
       finite = tt;
-      ascend = subst (IsStrictlySortedBy item_cmp) (sym gives) c.in_ok-item-items.ensures.ascending;
-      left = λ i r b. subst (λ xs. Contains xs i) (sym gives) (c.in_ok-item-items.ensures.all i r b.target b.source b.new);
+      ascend = subst (IsStrictlySortedBy item_cmp) (sym gives) c.in_ok-items.ensures.ascending;
+      left = λ i r b. subst (λ xs. Contains xs i) (sym gives) (c.in_ok-items.ensures.all i r b.target b.source b.new);
     }
 
 pub returns-in-Some-2 : goal.returns-in-Some-2

@@ -1,7 +1,7 @@
 use Rattle.std.proofs.Common.{refl, sym, subst, ◌∙◌, option_map}
 use Rattle.site_core.specs.SentBlocks.{IsLesser}
 use Rattle.site_core.proofs.SentBlocks.{item_lesser, other_lesser}
-use Rattle.site_core.proofs.capturing.lesser.Goals as goal
+use Rattle.site_core.proofs.sent_blocks.lesser.Goals as goal
 
 pub returns-in-Greater : goal.returns-in-Greater
 returns-in-Greater c = subst (λ o. IsLesser (option_map (λ i. i.now) o) c.args.item.now c.args.item.now) (sym c.in-Some.is)

@@ -1,7 +1,7 @@
 use Rattle.std.proofs.lemmas.Result.{IfOk-weaker}
 use Rattle.site_core.proofs.Blocks.{nothing_blocks}
 use Rattle.site_core.proofs.SentBlocks.{first_away, nothing_away}
-use Rattle.site_core.proofs.capturing.sent_block.Goals as goal
+use Rattle.site_core.proofs.sent_blocks.sent_block.Goals as goal
 
 pub returns-then-is_empty : goal.returns-then-is_empty
 returns-then-is_empty c before e are others = nothing_blocks (record c.args.captured.now { events = before }) c.args.quarantine.now e (c.is_empty.ensures.0 c.if-is_empty.true)

@@ -6,7 +6,7 @@ use Rattle.frame_core.specs.Identifiers.{recall_cmp}
 use Rattle.frame_core.specs.Numbers.{Recall}
 use Rattle.site_core.specs.Capturing.{IsBlockedBy}
 use Rattle.site_core.specs.Quarantines.{held}
-use Rattle.site_core.proofs.capturing.least_recall.Given as goal
+use Rattle.site_core.proofs.made_blocks.least_recall.Given as goal
 
 -- the recalls that are left hold the item, and are all that block
 abbrev pub invariant-loop-recall : goal.invariant-loop-recall

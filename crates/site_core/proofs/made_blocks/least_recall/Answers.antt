@@ -6,12 +6,16 @@ use Rattle.frame_core.specs.Identifiers.{recall_cmp}
 use Rattle.frame_core.specs.Orders.{recall_total}
 use Rattle.trace_core.proofs.Members.{contains_here, contains_there}
 use Rattle.site_core.specs.Capturing.{IsBlockedBy}
-use Rattle.site_core.proofs.Blocks.{next_left, next_least, next_ascends, none_left, told_blocks, told_blocks_not}
+use Rattle.site_core.proofs.Blocks.{next_left, next_least, next_ascends, none_left, stays_joined, told_blocks, told_blocks_not}
 use Rattle.site_core.proofs.SentBlocks.{made_listed}
-use Rattle.site_core.proofs.capturing.least_recall.Goals as goal
+use Rattle.site_core.proofs.made_blocks.least_recall.Goals as goal
 
 pub returns-then-stays_inside : goal.returns-then-stays_inside
 returns-then-stays_inside c = λ r b. c.stays_inside.ensures c.if-stays_inside.true r (subst (λ rs. Contains rs r) (sym c.deref.ensures.value) ((c.in_ok-recalls.ensures.exact r).1 b.source)) b
+
+pub returns-then-has_each : goal.returns-then-has_each
+returns-then-has_each c = λ r b. stays_joined c.args.captured.now c.args.quarantine.now c.args.event.now c.args.item.now c.args.covering.now.all c.deref-2.result.now c.requires.making c.requires.covers.all
+    (sym c.has_each.ensures ∙ c.if-has_each.true) r (subst (λ rs. Contains rs r) (sym c.deref-2.ensures.value) ((c.in_ok-recalls.ensures.exact r).1 b.source)) b
 
 pub returns-then-leads_out : goal.returns-then-leads_out
 returns-then-leads_out c =

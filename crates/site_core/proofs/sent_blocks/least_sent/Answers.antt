@@ -1,8 +1,8 @@
 use Rattle.std.proofs.Common.{◌+◌, option_map, sym, subst, take, arith}
 use Rattle.site_core.specs.SentBlocks.{IsHeldAway}
 use Rattle.site_core.proofs.SentBlocks.{IsLeastAway, none_yet, passed_over, one_more_away, all_of_them, least_away}
-use Rattle.site_core.proofs.capturing.least_sent.Goals.{in-Some, in_default}
-use Rattle.site_core.proofs.capturing.least_sent.Goals as goal
+use Rattle.site_core.proofs.sent_blocks.least_sent.Goals.{in-Some, in_default}
+use Rattle.site_core.proofs.sent_blocks.least_sent.Goals as goal
 
 pub loop-sending-init : goal.loop-sending-init
 loop-sending-init c = none_yet c.args.captured.now c.args.quarantine.now

@@ -1,6 +1,6 @@
 use Rattle.std.proofs.Common.{◌∙◌, slice_get, ap, sym}
 use Rattle.site_core.proofs.SentBlocks.{first_holder}
-use Rattle.site_core.proofs.capturing.least_holder.Goals as goal
+use Rattle.site_core.proofs.sent_blocks.least_holder.Goals as goal
 
 pub returns-in-Some : goal.returns-in-Some
 returns-in-Some c =
