@@ -16,12 +16,18 @@ usage: scripts.py SHAPE N [--random] [--asks N] [--documents SITE]
   repeats            N items in cartons on a pallet, and a thousand shipments of the pallet to one site
   packs              a chain of N items, each put into the one before, of which the first is shipped
   cycle              the same, with the first put into the last
+  between            N messages of a recall into a transformation of N inputs and N outputs, a capture behind each
+  held               a recall that holds N inputs of a transformation in parts, and then 2N parts more
+  late-inputs        a recall that holds N outputs of a transformation and 100 inputs, which come into it in one part
+  reworked           N days of one item each, made of the one of the day before, and a recall of the first
 
 --random gives the items serial numbers in no order, as tags have them, in place of i0, i1, ..
---asks N asks N times what the first item reaches. --documents SITE prints the documents of a site alone, one a line.
+--ids gives each event an eventID, a random UUID. --asks N asks N times what the first item reaches. --documents SITE prints the documents of a site alone, one a line.
 """
 import argparse
 import random
+import re
+import uuid
 
 TIMES = '"eventTime":"2024-05-01T08:00:00Z","eventTimeZoneOffset":"+00:00"'
 MOST = 1000  # members of a list, and events of a document
@@ -125,7 +131,31 @@ def lines_of(shape, n, name):
         chain = [packed(one, [next]) for one, next in zip(inputs, inputs[1:])]
         closed = [packed(inputs[-1], inputs[:1])] if shape == "cycle" else []
         return at("A", chain + closed + [shipped(inputs[:1], "b")])
+    if shape == "between":
+        lines = at("A", split + ships) + at("B", joined(inputs, outputs, "t")) + [f"recall A {name(2 * n)}"]
+        for i in range(1, n + 1):
+            lines += [f"send A {i}", f"deliver {i}"] + at("B", [seen([name(3 * n)])])
+        return lines
+    if shape == "held":
+        more = (made([name(3 * n + i)], [], "t") for i in range(2 * n))
+        return (at("A", split) + [f"recall A {name(2 * n)}"] + at("A", (made(piece, [], "t") for piece in in_pieces(inputs)))
+                + at("A", more))
+    if shape == "late-inputs":
+        late = [name(3 * n + i) for i in range(100)]
+        of_one = joined([name(2 * n)], outputs + late, "s")
+        return (at("A", of_one) + [f"recall A {name(2 * n)}"] + at("A", (made([], piece, "t") for piece in in_pieces(outputs)))
+                + at("A", [made(late, [], "t")]))
+    if shape == "reworked":
+        return at("A", (made([name(i)], [name(i + 1)]) for i in range(n))) + [f"recall A {name(0)}"]
     raise SystemExit(f"no such shape: {shape}")
+
+
+def with_ids(document, pick):
+    """The document with an eventID in each of its events."""
+    def named(found):
+        return f'{found[0]}"eventID":"urn:uuid:{uuid.UUID(int=pick.getrandbits(128), version=4)}",'
+
+    return re.sub('"type":"[A-Za-z]*Event",', named, document)
 
 
 def main():
@@ -133,6 +163,7 @@ def main():
     parser.add_argument("shape")
     parser.add_argument("n", type=int)
     parser.add_argument("--random", action="store_true")
+    parser.add_argument("--ids", action="store_true")
     parser.add_argument("--asks", type=int, default=0)
     parser.add_argument("--documents")
     words = parser.parse_args()
@@ -147,6 +178,8 @@ def main():
         return serials[i]
 
     lines = lines_of(words.shape, words.n, name)
+    if words.ids:
+        lines = [line if isinstance(line, str) else (line[0], with_ids(line[1], pick)) for line in lines]
     if words.documents:
         print("\n".join(line[1] for line in lines if isinstance(line, tuple) and line[0] == words.documents))
         return
