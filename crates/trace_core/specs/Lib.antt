@@ -4,7 +4,6 @@ pub mod Beyond
 pub mod Carried
 pub mod Chains
 pub mod Found
-pub mod GapLines
 pub mod Gaps
 pub mod Gathering
 pub mod Groups
