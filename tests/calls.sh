@@ -19,7 +19,7 @@ command -v strace >/dev/null || {
 chain="$here/examples/dairy"
 first="$here/tests/data/first-version"
 tank=urn:epc:id:sgtin:9521321.000011.tank-7
-calls=write,pwrite64,fsync,fdatasync,ftruncate,rename,renameat,renameat2,unlink,unlinkat
+calls=write,pwrite64,fsync,fdatasync,ftruncate,link,linkat,rename,renameat,renameat2,unlink,unlinkat
 step=${STEP:-1}
 workers=${WORKERS:-$(nproc)}
 work=$(mktemp -d) || exit 2
@@ -174,5 +174,15 @@ cp "$first"/sites "$first"/*.db "$first"/*.db-wal first
 chmod -R u+w first
 tries first looks_migrated report @ 'A#1'
 echo "  $cases cases with those of a report that makes files of the first version those of the second"
+
+# lacks CALLS ERROR WORDS: a file system that refuses these calls is named so
+lacks() {
+    rm -rf at && cp -r made at
+    strace -f -qq -o trace -e "trace=$1" -e "inject=$1:error=$2" "$recall" audit at >out 2>err </dev/null
+    [ $? = 3 ] && [ "$(sed -n 2p err)" = "file at/dairy.db: $3" ] || complain "a file system without that: $(cat out err)"
+    cases=$((cases + 1))
+}
+lacks fsync EINVAL "its folder can't be synced"
+lacks fcntl,flock ENOLCK "its file system has no locks"
 [ "$failed" = 0 ] && echo "all as it should be"
 exit "$failed"

@@ -24,8 +24,10 @@ stops=${STOPS:-50}
 # wants STATUS OUTPUT ERRORS WORD..: the program ends so on these words; sentences stand behind refusals and faults
 wants() {
     local status=$1 output=$2 errors ended
-    # Of several inputs no refusal is explained.
-    if [ "$4" = capture ] && [ "$#" -gt 7 ]; then
+    # Of several inputs no refusal is explained, but one of them all.
+    if [[ $2 == 'refused NoSite '* ]]; then
+        errors=$(explained "$4" "$2" "$3")
+    elif [ "$4" = capture ] && [ "$#" -gt 7 ]; then
         errors=$(explained capture 'documents ' "$3")
     elif [ "$4" = start ] && [ "$#" -gt 7 ] && [[ " $* " != *' --key '* && " $* " != *' --scan '* && " $* " != *' --dry-run '* ]]; then
         errors=$(explained start 'items ' "$3")
@@ -219,6 +221,35 @@ wants 4 'misfit 2 shop-1' '' run damaged
 damaged
 "$recall" report damaged 'dairy#1' >/dev/full 2>err
 [ $? = 3 ] && [ "$(cat err)" = "$(explained report '' 'fault Write')" ] || { echo "a full output: $(cat err)" >&2; failed=1; }
+
+echo "other things in the place of a file"
+echo precious >victim
+for thing in 'ln -s ../victim' 'ln -s nobody' mkfifo mkdir; do
+    rm -rf ways && mkdir ways
+    $thing ways/sites.new
+    faults Write 'ways/sites.new: not a regular file' init ways "$chain/sites"
+    [ ! -e ways/sites ] && [ "$(cat victim)" = precious ] && [ -e ways/sites.new -o -L ways/sites.new ] || { echo "a list was written through $thing" >&2; failed=1; }
+done
+rm -rf ways && mkdir ways && ln victim ways/sites.new
+wants 0 '' '' init ways "$chain/sites"
+[ "$(cat victim)" = precious ] && [ ! -e ways/sites.new ] && cmp ways/sites "$chain/sites" || { echo "a list was written over another name of a file" >&2; failed=1; }
+damaged
+rm damaged/sites && mkfifo damaged/sites
+faults Read 'damaged/sites: not a regular file' audit damaged
+rm damaged/sites && ln -s /dev/zero damaged/sites
+faults Read 'damaged/sites: not a regular file' start damaged dairy "$tank"
+rm damaged/sites && head -c 1048577 /dev/zero | tr '\0' '#' >damaged/sites
+faults Read 'damaged/sites: longer than 1 MiB' audit damaged
+truncate -s 1048576 damaged/sites
+rm -rf ways && mkdir ways
+wants 1 'refused NoWorld' '' init ways damaged/sites
+truncate -s 1073741825 long.json
+faults Read 'long.json: longer than 1 GiB' capture chain dairy long.json
+rm long.json
+mkfifo pipe
+cat "$chain/shop-2.json" >pipe &
+wants 0 'captured 0 known 2 skipped 0' '' capture chain shop-2 pipe
+wait
 
 echo "files of the first version"
 data=$here/tests/data/first-version

@@ -1,21 +1,25 @@
 # What the error stream of a command on files has behind its results: a sentence for each refusal and each fault, as the
-# definitions have them. Read by the scripts beside it, which set `here`.
+# sources have them. Read by the scripts beside it, which set `here`.
 
-# meaning NAME: the sentence of a constructor of faults, of refusals, or of what is wrong with a document
+# meaning KIND::NAME: the sentence of a fault, of a refusal, or of what is wrong with a document
 meaning() {
-    cat "$here"/crates/recall_outcomes/specs/{Faults,Sentences}.antt |
-        sed -nE "s/^[a-z_]*_sentence \(?$1( [a-z ]*)?\)? = codes \"(.*)\"\$/\2/p"
+    awk -v arm="$1" '
+        /fn [a-z_]*_sentence\(/ { inside = 1 }
+        /^}/ { inside = 0 }
+        inside && $1 ~ "^" arm "(\\(.*)?$" { found = 1 }
+        found && match($0, /".*"/) { print substr($0, RSTART + 1, RLENGTH - 2); exit }
+    ' "$here"/crates/outcome_forms/src/{fault_texts,sentences}.rt
 }
 
 # meaning_of COMMAND WORD..: the sentence of a refusal with these words
 meaning_of() {
     case $2 in
-    Doc) meaning "kinds\.$3" ;;
-    BadSite) meaning "sites\.$3" ;;
-    BadScan) meaning "scans\.$3" ;;
-    Blocked | IdTaken | NumbersSpent | UnknownItem) meaning "steps\.$2" ;;
-    BadLine) if [ "$1" = report ]; then meaning 'refusals\.BadRecall'; else meaning BadLine; fi ;;
-    *) meaning "refusals\.$2" ;;
+    Doc) meaning "DocFaultKind::$3" ;;
+    BadSite) meaning "SitesFault::$3" ;;
+    BadScan) meaning "ScanFault::$3" ;;
+    Blocked | IdTaken | NumbersSpent | UnknownItem) meaning "Refusal::$2" ;;
+    BadLine) if [ "$1" = report ]; then meaning CommandRefusal::BadRecall; else meaning LineRefusal::BadLine; fi ;;
+    *) meaning "CommandRefusal::$2" ;;
     esac
 }
 
@@ -31,7 +35,7 @@ explained() {
     case $errors in
     'fault '*)
         line=${errors%%$'\n'*}
-        printf '%s\n%s\n' "$errors" "$(meaning "faults\.${line#fault }")"
+        printf '%s\n%s\n' "$errors" "$(meaning "Fault::${line#fault }")"
         return
         ;;
     esac

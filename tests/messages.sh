@@ -195,7 +195,7 @@ if command -v strace >/dev/null; then
     fresh
     faults Device 'at/plant.db: no space left' breaks pwrite64 EDQUOT capture at plant "$chain/shop-1.json"
     mkdir new
-    faults Write 'new/sites: Input/output error (os error 5)' breaks rename EIO init new "$chain/sites"
+    faults Write 'new/sites: Input/output error (os error 5)' breaks link EIO init new "$chain/sites"
 else
     echo "  strace isn't installed: no call fails"
 fi

@@ -1,10 +1,11 @@
 #!/usr/bin/env bash
-# Prints what the contract of a function stands on, in reading order: the definitions of specs and the types that its
+# Prints what the contract of a function stands on, or a definition of specs, in reading order: the definitions of specs and the types that its
 # clauses and its signature name first, and then what those name, depth first, each once, with its place and lines. The
 # last line says how many they are. It reads the sources alone. Of a type that has a model it takes what the model shows;
 # what the type keeps as its invariant, what the kit defines, and what a caller chooses with a type aren't counted.
 #
 #     tests/statement.sh [--count | --text] [--limit N] CRATE::MODULE::[TYPE::]FUNCTION ..
+#     tests/statement.sh [--count | --text] [--limit N] CRATE.specs.MODULE.DEFINITION ..
 #
 # --count prints the last line alone, --text the definitions themselves. Exit 1 where a function isn't found, has no
 # clause, or stands on more than N definitions of specs; 2 for a bad command line.
@@ -324,6 +325,17 @@ def block_around(text, at):
     return heads[-1].group(0) if heads else ''
 
 
+def statement(name):
+    """What a function's contract names first; or a definition of specs itself."""
+    if '.specs.' not in name:
+        return contract(name)
+    place, _, last = name.rpartition('.')
+    found = resolve(place, last)
+    if found is None:
+        fail(f'{name}: not found')
+    return [found]
+
+
 def contract(path_of_function):
     path, text, start, indent, owner, head = find(path_of_function)
     body = re.compile(rf'(?m)^{indent}\{{|^{indent}\S.*(?:\{{|;)$').search(text, start)
@@ -389,7 +401,7 @@ def main(arguments):
         fail('name a function, as in tests/statement.sh world_core::worlds::World::run', 2)
     status = 0
     for name in names:
-        order = reading_order(contract(name))
+        order = reading_order(statement(name))
         for definition in order:
             if form == '--text':
                 print(source(definition.path)[definition.first:definition.end].rstrip() + '\n')

@@ -12,17 +12,17 @@ use Rattle.clap.specs.Words.{IsAmong, Row, Text, first_of, is_simple, is_simple_
 use Rattle.clap.specs.declared.error.ErrorKind.{ErrorKind}
 use Rattle.clap.specs.declared.error.ErrorKind.TheVariants.{DisplayHelp, DisplayVersion, OutOfMemory}
 use Rattle.clap.proofs.OnLiterals.{clap_on_literals}
-use Rattle.recall_outcomes.specs.declared.outcomes.Form.{Form}
 use Rattle.command_line.specs.declared.command_lines.Asked.{Asked}
 use Rattle.command_line.specs.declared.command_lines.Asked.TheVariants as asked
 use Rattle.command_line.specs.declared.command_lines.Batch.{Batch}
+use Rattle.command_line.specs.declared.command_lines.Terms.{Terms}
 use Rattle.item_spellings.specs.declared.spellings.Spelling.{Spelling}
-use Rattle.folder_commands.specs.declared.batches.WordKind.{WordKind}
-use Rattle.folder_commands.specs.declared.batches.WordKind.TheVariants as kinds
+use Rattle.folder_commands.specs.declared.words.WordKind.{WordKind}
+use Rattle.folder_commands.specs.declared.words.WordKind.TheVariants as kinds
 use Rattle.command_line.specs.declared.command_lines.FileCommand.{FileCommand}
 use Rattle.command_line.specs.declared.lint_commands.LintFiles.{LintFiles}
 use Rattle.command_line.specs.declared.command_lines.FileCommand.TheVariants.{Init, Capture, Start, Run, Report, Audit, Trace, Recalls, Recall, Items}
-use Rattle.command_line.specs.CommandLines.{recall, faults_of, named, AsksBatch, AsksDryBatch, AsksSim, AsksFiles, AsksHelp, AsksLinesAndEvents, AsksLint, AsksNamed, AsksTwo, AsksTwoForms, Contradicts, GivesDocuments, GivesEpcs, GivesFiles, GivesSpelling, GivesWords, IsBad, IsBatch, IsCapture, IsCommand, IsContradiction, IsLintCommand, IsMistake, IsSet, IsShown, IsStart, AsksFor, IsToldAs, IsUnset, epcs_kind, has_many, words_of}
+use Rattle.command_line.specs.CommandLines.{recall, faults_of, named, AsksBatch, AsksDryBatch, AsksSim, AsksFiles, AsksHelp, AsksLinesAndEvents, AsksLint, AsksNamed, AsksOf, AsksTwo, AsksTwoForms, Contradicts, GivesDocuments, GivesEpcs, GivesFiles, GivesSpelling, GivesWords, IsBad, IsBatch, IsCapture, IsCommand, IsContradiction, IsLintCommand, IsMistake, IsSet, IsShown, IsStart, AsksFor, IsToldAs, IsUnset, epcs_kind, has_many, words_of}
 use mathlib.Core.Logic.{◌⊎◌}
 
 -- `clap`'s contract says which errors the command gives
@@ -42,10 +42,6 @@ sim_faults name = refl
 sim_named : (name : List ℕ) → named (name ∷ codes "sim" ∷ []) ≡ Some (codes "sim", [])
 unfolding clap_on_literals
 sim_named name = refl
-
-help_faults : (name : List ℕ) → faults_of (name ∷ codes "--help" ∷ []) ≡ DisplayHelp ∷ []
-unfolding clap_on_literals
-help_faults name = refl
 
 -- no command on files has the name `sim`
 sim_is_no_command : (command : FileCommand) (rows : List Row) → IsCommand command (codes "sim") rows → ⊥
@@ -96,9 +92,9 @@ module _ (words : List (List ℕ)) (name : List ℕ) where
   sim_is_not_bad (inl (kind, among, other)) e = subst (λ kinds. IsAmong kind kinds) (ap faults_of e ∙ sim_faults name) among
   sim_is_not_bad (inr (none, two)) e = no_contradiction (subst IsContradiction (ap named e ∙ sim_named name) two)
 
-  pub sim_is_no_files : (command : FileCommand) (form : Form) → AsksFiles words command form → words ≡ name ∷ codes "sim" ∷ [] → ⊥
-  sim_is_no_files command form asks e =
-      let is : AsksNamed (Some (codes "sim", [])) (asked.Files command form) = subst (λ found. AsksNamed found (asked.Files command form)) (ap named e ∙ sim_named name) asks.1 in
+  pub sim_is_no_files : (command : FileCommand) (terms : Terms) → AsksFiles words command terms → words ≡ name ∷ codes "sim" ∷ [] → ⊥
+  sim_is_no_files command terms asks e =
+      let is : AsksNamed (Some (codes "sim", [])) (asked.Files command terms) = subst (λ found. AsksNamed found (asked.Files command terms)) (ap named e ∙ sim_named name) asks.1 in
       sim_is_no_command command [] is.0
 
   pub sim_is_no_batch : (batch : Batch) → AsksBatch words batch → words ≡ name ∷ codes "sim" ∷ [] → ⊥
@@ -111,26 +107,6 @@ module _ (words : List (List ℕ)) (name : List ℕ) where
       let is : AsksNamed (Some (codes "sim", [])) (asked.Lint files) = subst (λ found. AsksNamed found (asked.Lint files)) (ap named e ∙ sim_named name) asks.1 in
       let bad : ◌≡◌ {A = ℕ} 115 108 = ap (λ (text : List ℕ). get_or text 0 0) is.0 in absurd (omega arith)
 
-  help_is_faulty : (kinds : List ErrorKind) → kinds ≡ [] → kinds ≡ DisplayHelp ∷ [] → ⊥
-  help_is_faulty kinds none some = cc
-
-  pub help_is_no_sim : AsksSim words → words ≡ name ∷ codes "--help" ∷ [] → ⊥
-  help_is_no_sim asks e = help_is_faulty (faults_of words) asks.0 (ap faults_of e ∙ help_faults name)
-
-  pub help_is_no_files : (command : FileCommand) (form : Form) → AsksFiles words command form → words ≡ name ∷ codes "--help" ∷ [] → ⊥
-  help_is_no_files command form asks e = help_is_faulty (faults_of words) asks.0 (ap faults_of e ∙ help_faults name)
-
-  pub help_is_no_batch : (batch : Batch) → AsksBatch words batch → words ≡ name ∷ codes "--help" ∷ [] → ⊥
-  help_is_no_batch batch asks e = help_is_faulty (faults_of words) asks.0 (ap faults_of e ∙ help_faults name)
-
-  pub help_is_no_lint : (files : LintFiles) → AsksLint words files → words ≡ name ∷ codes "--help" ∷ [] → ⊥
-  help_is_no_lint files asks e = help_is_faulty (faults_of words) asks.0 (ap faults_of e ∙ help_faults name)
-
-  pub help_is_not_bad : IsBad words → words ≡ name ∷ codes "--help" ∷ [] → ⊥
-  help_is_not_bad (inr (none, two)) e = help_is_faulty (faults_of words) none (ap faults_of e ∙ help_faults name)
-  help_is_not_bad (inl (kind, among, other)) e =
-      ⊎_elim (λ same. other (inl same)) (λ none. none) (subst (λ kinds. IsAmong kind kinds) (ap faults_of e ∙ help_faults name) among)
-
 memory_is_not_shown : IsShown OutOfMemory → ⊥
 memory_is_not_shown (inl help) = let bad : OutOfMemory ≡ DisplayHelp = help in let no : true ≡ false = cc in absurd (true≢false no)
 memory_is_not_shown (inr version) = let bad : OutOfMemory ≡ DisplayVersion = version in let no : true ≡ false = cc in absurd (true≢false no)
@@ -138,7 +114,7 @@ memory_is_not_shown (inr version) = let bad : OutOfMemory ≡ DisplayVersion = v
 -- an error is reported as what it says of the words
 pub asks_told : (words : List (List ℕ)) (kind : ErrorKind) (told_as : Asked) → (kind ≡ OutOfMemory) ⊎ IsAmong kind (faults_of words) → IsToldAs kind told_as → AsksFor words told_as
 asks_told words kind asked.Sim has told = absurd told
-asks_told words kind (asked.Files command form) has told = absurd told
+asks_told words kind (asked.Files command terms) has told = absurd told
 asks_told words kind (asked.Batch batch) has told = absurd told
 asks_told words kind (asked.Lint files) has told = absurd told
 asks_told words kind (asked.Help text) has told =
@@ -148,7 +124,7 @@ asks_told words kind (asked.Mistake text) has told = ⊎_elim (λ memory. absurd
 -- a command that was met is asked for, where nothing is wrong with the words
 pub asks_named : (words : List (List ℕ)) (told_as : Asked) → faults_of words ≡ [] → AsksNamed (named words) told_as → AsksFor words told_as
 asks_named words asked.Sim none is = (none, is)
-asks_named words (asked.Files command form) none is = (none, is)
+asks_named words (asked.Files command terms) none is = (none, is)
 asks_named words (asked.Batch batch) none is = (none, is)
 asks_named words (asked.Lint files) none is = (none, is)
 asks_named words (asked.Help text) none is = absurd (no_help (named words) is)
@@ -169,30 +145,30 @@ asks_some words None result error e none is = subst (λ (r : Result Asked AllocE
 asks_some words (Some told_as) result error e none is = subst (λ (r : Result Asked AllocError). IfOk r (AsksFor words)) (sym e) (asks_named words told_as none is)
 
 -- what `capture` asks for is asked for by that name
-pub capture_named : (name : Text) (rows : List Row) (result : Option Asked) → name ≡ codes "capture" → IfSome result (IsCapture rows) → IfSome result (AsksNamed (Some (name, rows)))
+pub capture_named : (name : Text) (rows : List Row) (result : Option Asked) → name ≡ codes "capture" → IfSome result (IsCapture rows) → IfSome result (AsksOf name rows)
 capture_named name rows None e is = tt
 capture_named name rows (Some asked.Sim) e is = absurd is
-capture_named name rows (Some (asked.Files command form)) e is = (subst (λ (n : Text). IsCommand command n rows) (sym e) is.0, is.1)
+capture_named name rows (Some (asked.Files command terms)) e is = (subst (λ (n : Text). IsCommand command n rows) (sym e) is.0, is.1)
 capture_named name rows (Some (asked.Batch batch)) e is = subst (λ (n : Text). IsBatch batch n rows) (sym e) is
 capture_named name rows (Some (asked.Lint files)) e is = absurd is
 capture_named name rows (Some (asked.Help text)) e is = absurd is
 capture_named name rows (Some (asked.Mistake text)) e is = inr (inl (e, is))
 
 -- and what `start` asks for, by its name
-pub start_named : (name : Text) (rows : List Row) (result : Option Asked) → name ≡ codes "start" → IfSome result (IsStart rows) → IfSome result (AsksNamed (Some (name, rows)))
+pub start_named : (name : Text) (rows : List Row) (result : Option Asked) → name ≡ codes "start" → IfSome result (IsStart rows) → IfSome result (AsksOf name rows)
 start_named name rows None e is = tt
 start_named name rows (Some asked.Sim) e is = absurd is
-start_named name rows (Some (asked.Files command form)) e is = (subst (λ (n : Text). IsCommand command n rows) (sym e) is.0, is.1)
+start_named name rows (Some (asked.Files command terms)) e is = (subst (λ (n : Text). IsCommand command n rows) (sym e) is.0, is.1)
 start_named name rows (Some (asked.Batch batch)) e is = subst (λ (n : Text). IsBatch batch n rows) (sym e) is
 start_named name rows (Some (asked.Lint files)) e is = absurd is
 start_named name rows (Some (asked.Help text)) e is = absurd is
 start_named name rows (Some (asked.Mistake text)) e is = inr (inr (e, is))
 
 -- what `lint` asks for is asked for by that name
-pub lint_named : (name : Text) (rows : List Row) (result : Option Asked) → name ≡ codes "lint" → IfSome result (IsLintCommand rows) → IfSome result (AsksNamed (Some (name, rows)))
+pub lint_named : (name : Text) (rows : List Row) (result : Option Asked) → name ≡ codes "lint" → IfSome result (IsLintCommand rows) → IfSome result (AsksOf name rows)
 lint_named name rows None e is = tt
 lint_named name rows (Some asked.Sim) e is = absurd is
-lint_named name rows (Some (asked.Files command form)) e is = absurd is
+lint_named name rows (Some (asked.Files command terms)) e is = absurd is
 lint_named name rows (Some (asked.Batch batch)) e is = absurd is
 lint_named name rows (Some (asked.Lint files)) e is = (e, is)
 lint_named name rows (Some (asked.Help text)) e is = absurd is
@@ -202,7 +178,7 @@ lint_named name rows (Some (asked.Mistake text)) e is = absurd is
 pub mistake_named : (found : Option (Text × List Row)) (result : Option Asked) → IsContradiction found → IfSome result IsMistake → IfSome result (AsksNamed found)
 mistake_named found None two is = tt
 mistake_named found (Some asked.Sim) two is = absurd is
-mistake_named found (Some (asked.Files command form)) two is = absurd is
+mistake_named found (Some (asked.Files command terms)) two is = absurd is
 mistake_named found (Some (asked.Batch batch)) two is = absurd is
 mistake_named found (Some (asked.Lint files)) two is = absurd is
 mistake_named found (Some (asked.Help text)) two is = absurd is
@@ -271,7 +247,7 @@ one_text_alone (t ∷ u ∷ texts) d one = absurd (omega (arith, one))
 pub mistake_there : (rows : List Row) (result : Result Asked AllocError) (told : Option Asked) → told ≡ result_ok result → IfOk result IsMistake → AsksDryBatch rows → IfSome told (IsStart rows)
 mistake_there rows (Err e) told is mistakes dry = subst (λ o. IfSome o (IsStart rows)) (sym is) tt
 mistake_there rows (Ok asked.Sim) told is mistakes dry = absurd mistakes
-mistake_there rows (Ok (asked.Files command form)) told is mistakes dry = absurd mistakes
+mistake_there rows (Ok (asked.Files command terms)) told is mistakes dry = absurd mistakes
 mistake_there rows (Ok (asked.Batch batch)) told is mistakes dry = absurd mistakes
 mistake_there rows (Ok (asked.Lint files)) told is mistakes dry = absurd mistakes
 mistake_there rows (Ok (asked.Help text)) told is mistakes dry = absurd mistakes
@@ -282,7 +258,7 @@ pub lines_and_events : (rows : List Row) (result : Result Asked AllocError) (tol
     → IfSome told (IsCapture rows)
 lines_and_events rows (Err e) told is mistakes both = subst (λ o. IfSome o (IsCapture rows)) (sym is) tt
 lines_and_events rows (Ok asked.Sim) told is mistakes both = absurd mistakes
-lines_and_events rows (Ok (asked.Files command form)) told is mistakes both = absurd mistakes
+lines_and_events rows (Ok (asked.Files command terms)) told is mistakes both = absurd mistakes
 lines_and_events rows (Ok (asked.Batch batch)) told is mistakes both = absurd mistakes
 lines_and_events rows (Ok (asked.Lint files)) told is mistakes both = absurd mistakes
 lines_and_events rows (Ok (asked.Help text)) told is mistakes both = absurd mistakes

@@ -9,19 +9,20 @@ use Rattle.clap.specs.declared.builder.action.ArgAction.TheVariants.{Append, Set
 use Rattle.clap.specs.declared.builder.value_parser.ValueParser.TheVariants.{NonEmptyString, Unsigned}
 use Rattle.clap.specs.declared.error.ErrorKind.{ErrorKind}
 use Rattle.clap.specs.declared.error.ErrorKind.TheVariants.{DisplayHelp, DisplayVersion, OutOfMemory}
-use Rattle.folder_commands.specs.declared.batches.WordKind.{WordKind}
-use Rattle.folder_commands.specs.declared.batches.WordKind.TheVariants as kinds
+use Rattle.folder_commands.specs.declared.words.WordKind.{WordKind}
+use Rattle.folder_commands.specs.declared.words.WordKind.TheVariants as kinds
 use Rattle.item_spellings.specs.declared.spellings.Spelled.{Spelled}
 use Rattle.item_spellings.specs.declared.spellings.Spelling.{Spelling}
 use Rattle.item_spellings.specs.declared.spellings.Spelling.TheVariants as spellings
-use Rattle.recall_outcomes.specs.declared.outcomes.Form.{Form}
-use Rattle.recall_outcomes.specs.declared.outcomes.Form.TheVariants as forms
+use Rattle.outcome_forms.specs.declared.forms.Form.{Form}
+use Rattle.outcome_forms.specs.declared.forms.Form.TheVariants as forms
 use Rattle.recall_outcomes.specs.declared.outcomes.Ways.{Ways}
 use Rattle.recall_outcomes.specs.declared.outcomes.Ways.TheVariants.{Trails, Steps}
 use Rattle.command_line.specs.declared.command_lines.Asked.{Asked}
 use Rattle.command_line.specs.declared.command_lines.Asked.TheVariants as asked
 use Rattle.command_line.specs.declared.command_lines.Batch.{Batch}
 use Rattle.command_line.specs.declared.command_lines.FileCommand.{FileCommand}
+use Rattle.command_line.specs.declared.command_lines.Terms.{Terms}
 use Rattle.command_line.specs.declared.lint_commands.LintFiles.{LintFiles}
 use Rattle.command_line.specs.declared.command_lines.FileCommand.TheVariants.{Init, Capture, Start, Run, Report, Audit, Trace, Recalls, Recall, Items}
 
@@ -189,15 +190,6 @@ Gives rows name value = first_of name rows ≡ Some value
 abbrev pub GivesNumber : List Row → Text → ℕ → Type 0
 GivesNumber rows name n = (text : Text) × (one_of name rows ≡ Some text) × (n ≡ digits_value 10 (without_leading_plus text))
 
--- nothing is waited for, or for so many seconds, which the command's option says
-abbrev pub WaitsNamed : Option (Text × List Row) → ℕ → Type 0
-WaitsNamed None n = n ≡ 0
-WaitsNamed (Some (name, rows)) n = (n ≡ 0) ⊎ GivesNumber rows (codes "wait") n
-
--- bad words, and those of help, wait for nothing
-abbrev pub WaitsFor : List (List ℕ) → ℕ → Type 0
-WaitsFor words n = (n ≡ 0) ⊎ ((faults_of words ≡ []) × WaitsNamed (named words) n)
-
 -- the option of this name is there
 abbrev pub IsSet : List Row → Text → Type 0
 IsSet rows name = Gives rows name (codes "true")
@@ -221,6 +213,10 @@ GivesForm rows forms.Text = IsUnset rows (codes "json") × IsUnset rows (codes "
 GivesForm rows forms.Json = IsSet rows (codes "json") × IsUnset rows (codes "csv") × IsUnset rows (codes "dot")
 GivesForm rows forms.Csv = IsUnset rows (codes "json") × IsSet rows (codes "csv") × IsUnset rows (codes "dot")
 GivesForm rows forms.Dot = IsUnset rows (codes "json") × IsUnset rows (codes "csv") × IsSet rows (codes "dot")
+
+-- in this form, and a file that is in use is waited for so many seconds
+abbrev pub GivesTerms : List Row → Terms → Type 0
+GivesTerms rows terms = GivesForm rows terms.form × GivesNumber rows (codes "wait") terms.wait
 
 -- two forms are asked for
 abbrev pub AsksTwoForms : List Row → Type 0
@@ -308,7 +304,7 @@ pub record IsBatch (batch : Batch) (name : Text) (rows : List Row) : Type 0 wher
   pub folder : Gives rows (codes "dir") batch.folder.now
   pub site : Gives rows (codes "site") batch.site.now
   pub words : GivesWords name rows batch.kind (words_of batch)
-  pub form : GivesForm rows batch.form
+  pub terms : GivesTerms rows batch.terms
 
 -- what several starts would do is asked for, which nobody tells
 pub record AsksDryBatch (rows : List Row) : Type 0 where
@@ -332,14 +328,14 @@ IsLintCommand rows other = ⊥
 
 -- what `capture` with these arguments asks for
 abbrev pub IsCapture : List Row → Asked → Type 0
-IsCapture rows (asked.Files command form) = IsCommand command (codes "capture") rows × GivesForm rows form
+IsCapture rows (asked.Files command terms) = IsCommand command (codes "capture") rows × GivesTerms rows terms
 IsCapture rows (asked.Batch batch) = IsBatch batch (codes "capture") rows
 IsCapture rows (asked.Mistake text) = AsksLinesAndEvents rows
 IsCapture rows other = ⊥
 
 -- and what `start` with them asks for
 abbrev pub IsStart : List Row → Asked → Type 0
-IsStart rows (asked.Files command form) = IsCommand command (codes "start") rows × GivesForm rows form
+IsStart rows (asked.Files command terms) = IsCommand command (codes "start") rows × GivesTerms rows terms
 IsStart rows (asked.Batch batch) = IsBatch batch (codes "start") rows
 IsStart rows (asked.Mistake text) = AsksDryBatch rows
 IsStart rows other = ⊥
@@ -358,22 +354,27 @@ HasTurns command = ⊤
 abbrev pub Contradicts : Text → List Row → Type 0
 Contradicts name rows = AsksTwo rows ⊎ (((name ≡ codes "capture") × AsksLinesAndEvents rows) ⊎ ((name ≡ codes "start") × AsksDryBatch rows))
 
+-- the command of this name, with these arguments, is asked for
+abbrev pub AsksOf : Text → List Row → Asked → Type 0
+AsksOf name rows asked.Sim = name ≡ codes "sim"
+AsksOf name rows (asked.Files command terms) = IsCommand command name rows × GivesTerms rows terms
+AsksOf name rows (asked.Batch batch) = IsBatch batch name rows
+AsksOf name rows (asked.Lint files) = (name ≡ codes "lint") × IsLint files rows
+AsksOf name rows (asked.Mistake text) = Contradicts name rows
+AsksOf name rows (asked.Help text) = ⊥
+
 -- the named command is asked for
 abbrev pub AsksNamed : Option (Text × List Row) → Asked → Type 0
-AsksNamed (Some (name, rows)) asked.Sim = name ≡ codes "sim"
-AsksNamed (Some (name, rows)) (asked.Files command form) = IsCommand command name rows × GivesForm rows form
-AsksNamed (Some (name, rows)) (asked.Batch batch) = IsBatch batch name rows
-AsksNamed (Some (name, rows)) (asked.Lint files) = (name ≡ codes "lint") × IsLint files rows
-AsksNamed (Some (name, rows)) (asked.Mistake text) = Contradicts name rows
-AsksNamed named other = ⊥
+AsksNamed (Some (name, rows)) what = AsksOf name rows what
+AsksNamed None what = ⊥
 
 -- nothing is wrong with the words: a script is to be run
 abbrev pub AsksSim : List (List ℕ) → Type 0
 AsksSim words = (faults_of words ≡ []) × AsksNamed (named words) asked.Sim
 
--- or a command on files, in this form
-abbrev pub AsksFiles : List (List ℕ) → FileCommand → Form → Type 0
-AsksFiles words command form = (faults_of words ≡ []) × AsksNamed (named words) (asked.Files command form)
+-- or a command on files, on these terms
+abbrev pub AsksFiles : List (List ℕ) → FileCommand → Terms → Type 0
+AsksFiles words command terms = (faults_of words ≡ []) × AsksNamed (named words) (asked.Files command terms)
 
 -- or several inputs are to be taken
 abbrev pub AsksBatch : List (List ℕ) → Batch → Type 0
@@ -402,7 +403,7 @@ IsBad words = HasFault words ⊎ ((faults_of words ≡ []) × IsContradiction (n
 -- the words ask for this
 abbrev pub AsksFor : List (List ℕ) → Asked → Type 0
 AsksFor words asked.Sim = AsksSim words
-AsksFor words (asked.Files command form) = AsksFiles words command form
+AsksFor words (asked.Files command terms) = AsksFiles words command terms
 AsksFor words (asked.Batch batch) = AsksBatch words batch
 AsksFor words (asked.Lint files) = AsksLint words files
 AsksFor words (asked.Help text) = AsksHelp words
@@ -411,7 +412,7 @@ AsksFor words (asked.Mistake text) = IsBad words
 -- what an error of this kind is reported as
 abbrev pub IsToldAs : ErrorKind → Asked → Type 0
 IsToldAs kind asked.Sim = ⊥
-IsToldAs kind (asked.Files command form) = ⊥
+IsToldAs kind (asked.Files command terms) = ⊥
 IsToldAs kind (asked.Batch batch) = ⊥
 IsToldAs kind (asked.Lint asked_for) = ⊥
 IsToldAs kind (asked.Help text) = IsShown kind

@@ -1,265 +1,203 @@
--- How a command ends: with which status, and what it leaves on its streams.
-use Rattle.std.specs.Prelude.{◌≡◌, ◌⊎◌, ◌==◌, ℕ, List, [], ◌∷◌, Option, Some, None, Result, Ok, Err, IfErr, IfOk, IfSome, codes, map, option_map, string_bytes, if◌then◌else◌}
+-- How a command line ends: with which status, and what it leaves on the standard output. What it leaves on the error stream, and how texts
+-- are worded, is for tests on the program.
+use Rattle.std.specs.Prelude.{◌≡◌, ◌⊎◌, ◌==◌, ◌≤◌, ℕ, List, [], ◌∷◌, Option, Result, Ok, Err, IfErr, IfOk, IfSome, codes, map, option_map, if◌then◌else◌}
 use Rattle.std.specs.Global.{Global}
 use Rattle.std.specs.declared.string.String.{String}
-use Rattle.std.specs.Io.KnownBytes.{Appends, Keeps}
+use Rattle.std.specs.Io.KnownBytes.{Keeps}
 use Rattle.keeper_core.specs.declared.faults.Unopened.{Unopened}
 use Rattle.script_core.specs.Runs.{IsDone, Leaves}
-use Rattle.recall_outcomes.specs.Faults.{fault_line}
-use Rattle.recall_outcomes.specs.Notes.{untraced_text}
-use Rattle.recall_outcomes.specs.Advice.{advice}
-use Rattle.recall_outcomes.specs.Places.{place_notes}
-use Rattle.recall_outcomes.specs.Printing.{bare_line, fault_lines, note_lines, outcome_lines}
-use Rattle.recall_outcomes.specs.Sentences.{outcome_sentences}
-use Rattle.recall_outcomes.specs.Statuses.{outcome_status}
-use Rattle.recall_outcomes.specs.declared.causes.Failure.{Failure}
-use Rattle.recall_outcomes.specs.declared.faults.Fault.{Fault}
-use Rattle.recall_outcomes.specs.declared.faults.Fault.TheVariants.{NoMemory, Write}
-use Rattle.recall_outcomes.specs.declared.outcomes.Form.{Form}
-use Rattle.recall_outcomes.specs.declared.outcomes.Form.TheVariants.{Json}
-use Rattle.recall_outcomes.specs.declared.outcomes.Outcome.{Outcome}
-use Rattle.recall_text.specs.Writing.{AppendsBeginning}
-use Rattle.recall_text.specs.declared.faults.ScriptFault.{ScriptFault}
-use Rattle.recall_text.specs.declared.faults.ScriptFault.TheVariants as faults
 use Rattle.script_core.specs.declared.tallies.Tally.{Tally}
+use Rattle.recall_text.specs.declared.faults.ScriptFault.{ScriptFault}
 use Rattle.site_core.specs.Records.{Record}
+use Rattle.document_lint.specs.Lines.{json_line as lint_line, lint_json, totals_json as lint_totals, totals_status as lint_status}
+use Rattle.document_lint.specs.declared.findings.Lint.{Lint}
+use Rattle.document_lint.specs.declared.totals.LintTotals.{LintTotals}
+use Rattle.event_json.specs.Sites.{Site}
+use Rattle.recall_outcomes.specs.Batches.{totals_status}
+use Rattle.recall_outcomes.specs.Statuses.{outcome_status}
+use Rattle.recall_outcomes.specs.declared.batches.InputOutcome.{InputOutcome}
+use Rattle.recall_outcomes.specs.declared.batches.Task.{Task}
+use Rattle.recall_outcomes.specs.declared.faults.Fault.{Fault}
+use Rattle.recall_outcomes.specs.declared.outcomes.Outcome.{Outcome}
+use Rattle.recall_outcomes.specs.declared.outcomes.Output.{Output}
+use Rattle.site_folders.specs.FileCalls.{FileCall, Led}
+use Rattle.folder_commands.specs.Batches.{BatchFails, TakesAll}
+use Rattle.folder_commands.specs.Lints.{LintFails, Lints}
+use Rattle.folder_commands.specs.Words.{task_of}
+use Rattle.folder_commands.specs.declared.batches.BatchCame.{BatchCame}
+use Rattle.folder_commands.specs.declared.batches.BatchCame.TheVariants as batches
+use Rattle.folder_commands.specs.declared.batches.BatchOutput.{BatchOutput}
+use Rattle.folder_commands.specs.declared.lints.LintCame.{LintCame}
+use Rattle.folder_commands.specs.declared.lints.LintCame.TheVariants as lints
+use Rattle.folder_commands.specs.declared.lints.LintOutput.{LintOutput}
+use Rattle.outcome_forms.specs.Json.{input_json, json_line, totals_json}
+use Rattle.outcome_forms.specs.Writing.{Writes, WritesLines}
+use Rattle.outcome_forms.specs.declared.forms.Form.{Form}
 use Rattle.command_line.specs.CommandLines.{AsksBatch, AsksFiles, AsksHelp, AsksLint, AsksSim, IsBad, texts_of, words_of}
 use Rattle.command_line.specs.Leads.{FailsBy, LeadsTo}
-use Rattle.folder_commands.specs.declared.batches.BatchSummary.{BatchSummary}
-use Rattle.folder_commands.specs.declared.outputs.Output.{Output}
-use Rattle.folder_commands.specs.Batches.{DoesAll, EndsEarly, task_of}
-use Rattle.folder_commands.specs.Lints.{LintEndsEarly, Lints}
-use Rattle.folder_commands.specs.declared.lints.LintSummary.{LintSummary}
-use Rattle.folder_commands.specs.FileCalls.{Began, FileCall, Led}
 use Rattle.command_line.specs.declared.command_lines.Batch.{Batch}
 use Rattle.command_line.specs.declared.command_lines.FileCommand.{FileCommand}
+use Rattle.command_line.specs.declared.command_lines.Terms.{Terms}
 use Rattle.command_line.specs.declared.lint_commands.LintFiles.{LintFiles}
 
--- what the output and the error stream hold, where they report it
-pub record Printed : Type 0 where
-  pub output : Option (List ℕ)
-  pub errors : Option (List ℕ)
-
--- and what the input still has
-pub record Streams : Type 0 where
+-- an input by what it still has, where it reports it, and an output
+pub record Streams (W : Type 0) : Type 0 where
   pub input : Option (List ℕ)
-  pub printed : Printed
+  pub output : W
 
--- of an output and an error stream, by what their kinds say that they hold
-abbrev pub printed_on : {W E : Type 0} → (W → Option (List ℕ)) → (E → Option (List ℕ)) → W → E → Printed
-printed_on contents told output errors = record { output = contents output; errors = told errors }
+abbrev pub streams : {I W : Type 0} → (I → Option (List ℕ)) → I → W → Streams W
+streams remaining input output = record { input = remaining input; output = output }
 
--- and of an input, by what its kind says that it still has
-abbrev pub streams : {I W E : Type 0} → (I → Option (List ℕ)) → (W → Option (List ℕ)) → (E → Option (List ℕ)) → I → W → E → Streams
-streams remaining contents told input output errors = record { input = remaining input; printed = printed_on contents told output errors }
+-- ---- a script
 
--- the line that reports a fault of a script
-abbrev pub script_fault_line : ScriptFault → List ℕ
-script_fault_line faults.NoMemory = codes "fault NoMemory\n"
-script_fault_line faults.Read = codes "fault Read\n"
-script_fault_line faults.Write = codes "fault Write\n"
-script_fault_line faults.LineTooLong = codes "fault LineTooLong\n"
-script_fault_line faults.TurnsSpent = codes "fault TurnsSpent\n"
+module _ {W : Type 0} (contents : W → Option (List ℕ)) (before after : Streams W) (status : ℕ) where
+  -- the script was answered to its end: status 0 where nothing was refused, else 1
+  pub record ScriptDone (script : List ℕ) : Type 0 where
+    pub tally : Tally
+    pub done : IsDone script (contents before.output) (contents after.output) tally
+    pub status_is : status ≡ (if tally.refused == 0 then 0 else 1)
 
--- the script was answered to its end: status 0 where nothing was refused, else 1
-pub record ScriptDone (script : List ℕ) (before after : Streams) (status : ℕ) : Type 0 where
-  pub tally : Tally
-  pub done : IsDone script before.printed.output after.printed.output tally
-  pub silent : Keeps before.printed.errors after.printed.errors
-  pub status_is : status ≡ (if tally.refused == 0 then 0 else 1)
-
--- a fault ended it: status 3, and its line on the error stream, as far as that takes it
-pub record ScriptFailed (script : List ℕ) (before after : Streams) (status : ℕ) : Type 0 where
-  pub fault : ScriptFault
-  pub leaves : Leaves fault script after.input before.printed.output after.printed.output
-  pub told : AppendsBeginning before.printed.errors after.printed.errors (script_fault_line fault)
-  pub status_is : status ≡ 3
-
--- a script was run
-abbrev pub RunsScript : Streams → Streams → ℕ → Type 0
-RunsScript before after status = IfSome before.input (λ script. ScriptDone script before after status ⊎ ScriptFailed script before after status)
-
--- a text was printed: status 0; or printing failed: status 3, and the fault's line on the error stream
-abbrev pub TextEnds : List ℕ → Printed → Printed → ℕ → Type 0
-TextEnds text before after status =
-    ((status ≡ 0) × Appends before.output after.output text × Keeps before.errors after.errors)
-    ⊎ ((status ≡ 3) × AppendsBeginning before.output after.output text × AppendsBeginning before.errors after.errors (fault_line Write))
-
--- a fault is printed, as far as the error stream takes it: with what these files know of the last failure; or, where memory
--- ran out for that, by its name alone
-pub record TellsFault {F : Type 0} (fails : F → Option Failure → Type 0) (form : Form) (files : F) (fault : Fault) (errors errors_after : Option (List ℕ)) : Type 0 where
-  pub failure : Option Failure
-  pub known : fails files failure
-  pub told : AppendsBeginning errors errors_after (fault_lines form fault failure) ⊎ AppendsBeginning errors errors_after (bare_line form fault)
-
--- but in JSON, a sentence says of each refusal what it means, as far as the error stream takes it and there is memory for it
-abbrev pub Explains : Form → Outcome → Option (List ℕ) → Option (List ℕ) → Type 0
-Explains Json outcome errors errors_after = Keeps errors errors_after
-Explains other outcome errors errors_after = AppendsBeginning errors errors_after (outcome_sentences outcome)
-
--- notes go to the error stream, as far as that takes them and there is memory for it
-abbrev pub TellsNotes : Form → Option (String Global) → Option (List ℕ) → Option (List ℕ) → Type 0
-TellsNotes form None errors errors_after = Keeps errors errors_after
-TellsNotes form (Some notes) errors errors_after = AppendsBeginning errors errors_after (note_lines form (string_bytes notes))
-
--- so does what is advised after an outcome, if anything
-abbrev pub Advises : Form → Option (List ℕ) → Option (List ℕ) → Option (List ℕ) → Type 0
-Advises form None errors errors_after = Keeps errors errors_after
-Advises form (Some text) errors errors_after = AppendsBeginning errors errors_after (note_lines form text)
-
--- the outcome was printed, then what a refusal means, then the notes, then what is advised, and then which places outside may be
--- a site, as far as the error stream takes that and there is memory for it; the status is the outcome's
-pub record OutputTold (form : Form) (told : Output) (before after : Printed) (status : ℕ) : Type 0 where
-  pub status_is : status ≡ outcome_status told.outcome
-  pub printed : Appends before.output after.output (outcome_lines form told.sites told.outcome)
-  pub meant : Option (List ℕ)
-  pub explained : Explains form told.outcome before.errors meant
-  pub noted_there : Option (List ℕ)
-  pub noted : TellsNotes form told.notes meant noted_there
-  pub advised_there : Option (List ℕ)
-  pub advised : Advises form (advice told.outcome) noted_there advised_there
-  pub placed : AppendsBeginning advised_there after.errors (note_lines form (place_notes told.sites told.outcome))
-
-module _ {F : Type 0} (fails : F → Option Failure → Type 0) (form : Form) (files : F) where
-  -- an output was printed; or printing failed, or memory ran out for it: status 3, and that fault
-  abbrev pub OutputEnds : Output → Printed → Printed → ℕ → Type 0
-  OutputEnds told before after status =
-      OutputTold form told before after status
-      ⊎ (((status ≡ 3) × AppendsBeginning before.output after.output (outcome_lines form told.sites told.outcome)
-      × TellsFault fails form files Write before.errors after.errors)
-      ⊎ ((status ≡ 3) × Keeps before.output after.output × TellsFault fails form files NoMemory before.errors after.errors))
-
-  -- what a command on files came to is printed; or its fault, with status 3, and nothing on the standard output
-  abbrev pub TellsWhatCame : Result Output Fault → Printed → Printed → ℕ → Type 0
-  TellsWhatCame (Ok told) before after status = OutputEnds told before after status
-  TellsWhatCame (Err fault) before after status =
-      (status ≡ 3) × Keeps before.output after.output × TellsFault fails form files fault before.errors after.errors
-
--- ---- without a call of the files
-
-module _ {F : Type 0} (old new : F) (before after : Streams) (status : ℕ) where
-  -- a script was asked for, and it was run
-  abbrev pub RunsAsked : List (List ℕ) → Type 0
-  RunsAsked words = AsksSim words × RunsScript before after status × (new ≡ old)
-
-  -- help was asked for, and that was the answer
-  pub record Helps (words : List (List ℕ)) : Type 0 where
-    pub asked : AsksHelp words
-    pub text : List ℕ
-    pub uncalled : new ≡ old
-    pub unread : Keeps before.input after.input
-    pub ends : TextEnds text before.printed after.printed status
-
-  -- the command line is bad: status 2, and what is wrong with it on the error stream
-  pub record IsMistaken (words : List (List ℕ)) : Type 0 where
-    pub bad : IsBad words
-    pub text : List ℕ
-    pub uncalled : new ≡ old
-    pub unread : Keeps before.input after.input
-    pub unwritten : Keeps before.printed.output after.printed.output
-    pub told : AppendsBeginning before.printed.errors after.printed.errors text
-    pub status_is : status ≡ 2
-
-  -- memory ran out before the command was known: status 3, and that line on the error stream
-  pub record LacksMemory : Type 0 where
-    pub uncalled : new ≡ old
-    pub unread : Keeps before.input after.input
-    pub unwritten : Keeps before.printed.output after.printed.output
-    pub told : AppendsBeginning before.printed.errors after.printed.errors (fault_line NoMemory)
+  -- a fault ended it: status 3
+  pub record ScriptFailed (script : List ℕ) : Type 0 where
+    pub fault : ScriptFault
+    pub leaves : Leaves fault script after.input (contents before.output) (contents after.output)
     pub status_is : status ≡ 3
 
--- `recall sim` runs the script, or memory ran out before
-abbrev pub SimRuns : {F : Type 0} → List (String Global) → F → F → Streams → Streams → ℕ → Type 0
-SimRuns words old new before after status =
-    (name : List ℕ) → texts_of words ≡ name ∷ codes "sim" ∷ [] → RunsScript before after status ⊎ LacksMemory old new before after status
+  -- a script was run
+  abbrev pub RunsScript : Type 0
+  RunsScript = IfSome before.input (λ script. ScriptDone script ⊎ ScriptFailed script)
 
--- `recall --help` gives help, or memory ran out before
-abbrev pub HelpHelps : {F : Type 0} → List (String Global) → F → F → Streams → Streams → ℕ → Type 0
-HelpHelps words old new before after status =
-    (name : List ℕ) → texts_of words ≡ name ∷ codes "--help" ∷ []
-    → Helps old new before after status (texts_of words) ⊎ LacksMemory old new before after status
+-- ---- a command on the sites' files
+
+-- an outcome was written, and the status is its own; or writing failed, or memory ran out for it: status 3
+abbrev pub OutcomeEnds : Form → List Site → Outcome → Option (List ℕ) → Option (List ℕ) → ℕ → Type 0
+OutcomeEnds form sites outcome before after status = (Writes form sites outcome before after × (status ≡ outcome_status outcome)) ⊎ (status ≡ 3)
+
+-- what a command on files came to is written; or its fault is reported, with status 3, and nothing is written
+abbrev pub CommandEnds : Form → Result Output Fault → Option (List ℕ) → Option (List ℕ) → ℕ → Type 0
+CommandEnds form (Ok told) before after status = OutcomeEnds form told.sites told.outcome before after status
+CommandEnds form (Err fault) before after status = Keeps before after × (status ≡ 3)
 
 -- ---- several inputs
 
--- a fault ended a batch: status 3, the fault, and what was written before
-pub record BreaksOff {F : Type 0} (fails : F → Option Failure → Type 0) (form : Form) (files : F) (Early : Type 0) (errors errors_after : Option (List ℕ)) (status : ℕ) : Type 0 where
-  pub fault : Fault
-  pub early : Early
-  pub told : TellsFault fails form files fault errors errors_after
-  pub status_is : status ≡ 3
+-- the line of what came of an input, which is written as soon as that is kept
+abbrev pub InputLine : {W : Type 0} → (W → Option (List ℕ)) → Form → Task → W → List Site → List ℕ → InputOutcome → W → Type 0
+InputLine contents form task before sites source came after =
+    WritesLines form (json_line (input_json task sites source came)) (contents before) (contents after)
 
--- the inputs were taken or refused, each answered on its own, and then what isn't traced of them is told
-pub record BatchTold (Does : BatchSummary → Type 0) (form : Form) (errors errors_after : Option (List ℕ)) (status : ℕ) : Type 0 where
-  pub summary : BatchSummary
-  pub done : Does summary
-  pub noted : AppendsBeginning errors errors_after (note_lines form (untraced_text summary.untraced))
-  pub status_is : status ≡ summary.status
+-- behind the lines of the inputs, that of the totals; or the refusal of the site; or writing failed
+abbrev pub BatchEnds : Form → List Site → BatchCame → Option (List ℕ) → Option (List ℕ) → ℕ → Type 0
+BatchEnds form sites (batches.NoSite outcome) before after status = OutcomeEnds form sites outcome before after status
+BatchEnds form sites (batches.Taken totals untraced) before after status =
+    (WritesLines form (json_line (totals_json totals)) before after × (status ≡ totals_status totals)) ⊎ (status ≡ 3)
 
-module _ {F K : Type 0} (does : F → FileCall K → F → Type 0) (fails : F → Option Failure → Type 0) (shown : K → Option Record) (stored : K → Type 0) (batch : Batch) where
-  -- the inputs were taken; or a fault ended it
-  abbrev pub BatchEnds : F → F → Printed → Printed → ℕ → Type 0
-  BatchEnds old new before after status =
-      BatchTold
-      (λ summary. Led does old new
-      (DoesAll shown stored batch.form batch.folder.now batch.site.now batch.kind (words_of batch) before.output after.output summary))
-      batch.form before.errors after.errors status
-      ⊎ BreaksOff fails batch.form new
-      (Began does old (EndsEarly shown stored batch.form batch.folder.now (task_of batch.kind) batch.site.now before.output after.output)) before.errors after.errors status
+-- ---- documents that are looked through
 
--- ---- a lint
+-- the lines of what is found in a document
+abbrev pub LintLine : {W : Type 0} → (W → Option (List ℕ)) → Form → W → List ℕ → Lint → W → Type 0
+LintLine contents form before path found after = WritesLines form (lint_json path found) (contents before) (contents after)
 
--- documents were looked through, and the error stream was left as it was
-pub record LintTold (Linted : LintSummary → Type 0) (errors errors_after : Option (List ℕ)) (status : ℕ) : Type 0 where
-  pub summary : LintSummary
-  pub linted : Linted summary
-  pub silent : Keeps errors errors_after
-  pub status_is : status ≡ summary.status
+abbrev pub LintEnds : Form → List Site → LintCame → Option (List ℕ) → Option (List ℕ) → ℕ → Type 0
+LintEnds form sites (lints.Refused outcome) before after status = OutcomeEnds form sites outcome before after status
+LintEnds form sites (lints.Looked totals) before after status =
+    (WritesLines form (lint_line (lint_totals totals)) before after × (status ≡ lint_status totals)) ⊎ (status ≡ 3)
 
-module _ {F K : Type 0} (does : F → FileCall K → F → Type 0) (fails : F → Option Failure → Type 0) (asked : LintFiles) where
-  -- documents were looked through; or a fault ended it
-  abbrev pub LintEnds : F → F → Printed → Printed → ℕ → Type 0
-  LintEnds old new before after status =
-      LintTold
-      (λ summary. Led does old new (Lints asked.form asked.list.now (option_map (λ t. t.now) asked.site) (map (λ path. path.now) asked.paths.items) before.output after.output summary))
-      before.errors after.errors status
-      ⊎ BreaksOff fails asked.form new
-      (Began does old (LintEndsEarly asked.form asked.list.now (option_map (λ t. t.now) asked.site) (map (λ path. path.now) asked.paths.items) before.output after.output))
-      before.errors after.errors status
+-- ---- without a call of the files
+
+module _ {F W : Type 0} (contents : W → Option (List ℕ)) (old new : F) (before after : Streams W) (status : ℕ) where
+  -- a script was asked for, and it was run
+  abbrev pub RunsAsked : List (List ℕ) → Type 0
+  RunsAsked words = AsksSim words × RunsScript contents before after status × (new ≡ old)
+
+  -- help was asked for, which was the answer, or couldn't be written
+  abbrev pub Helps : List (List ℕ) → Type 0
+  Helps words = AsksHelp words × (new ≡ old) × Keeps before.input after.input × ((status ≡ 0) ⊎ (status ≡ 3))
+
+  -- the command line is bad: status 2, and nothing is written
+  abbrev pub IsMistaken : List (List ℕ) → Type 0
+  IsMistaken words = IsBad words × (new ≡ old) × Keeps before.input after.input × Keeps (contents before.output) (contents after.output) × (status ≡ 2)
+
+  -- memory ran out before the command was known: status 3, and nothing is written
+  abbrev pub LacksMemory : Type 0
+  LacksMemory = (new ≡ old) × Keeps before.input after.input × Keeps (contents before.output) (contents after.output) × (status ≡ 3)
+
+  -- `recall sim` runs the script, or memory ran out before
+  abbrev pub SimRuns : List (String Global) → Type 0
+  SimRuns words = (name : List ℕ) → texts_of words ≡ name ∷ codes "sim" ∷ [] → RunsScript contents before after status ⊎ LacksMemory
 
 -- ---- the whole
 
-module _ {F K G : Type 0} (does : F → FileCall K → F → Type 0) (knows : F → List ℕ → List ℕ → Type 0) (fails : F → Option Failure → Type 0) (shown : K → Option Record) (failed : K → ℕ) (may : K → Record → Type 0) (reopens : K → Result K (Unopened K) → Type 0) (gives_up : G → ℕ → ℕ → Type 0) (stored : K → Type 0) where
-  -- A command on files was asked for, and what it came to was printed in the form that was asked for: an output, which is
-  -- that of these calls of the files; or a fault, which is.
-  pub record DoesFiles (words : List (List ℕ)) (old new : F) (before after : Streams) (status : ℕ) : Type 0 where
-    pub command : FileCommand
-    pub form : Form
-    pub asked : AsksFiles words command form
-    pub came : Result Output Fault
-    pub led : IfOk came (λ output. Led does old new (LeadsTo (knows new) shown failed may stored command output))
-    pub broke : IfErr came (λ fault. Led does old new (FailsBy shown failed may reopens gives_up stored command fault))
-    pub unread : Keeps before.input after.input
-    pub told : TellsWhatCame fails form new came before.printed after.printed status
+module _ {F K W : Type 0} (does : F → FileCall K → F → Type 0) (shown : K → Option Record) (may : K → Record → Type 0) (stored : K → Type 0) (contents : W → Option (List ℕ)) where
+  -- of these words, what came of each was written as soon as it was kept, up to these lines; or a fault broke that off
+  abbrev pub TakesBatch : Batch → F → F → W → W → Result BatchOutput Fault → Type 0
+  TakesBatch batch old new before lines (Ok output) =
+      Led does old new
+      (TakesAll shown stored (InputLine contents batch.terms.form (task_of batch.kind)) batch.folder.now batch.site.now batch.kind (words_of batch) before lines output)
+  TakesBatch batch old new before lines (Err fault) =
+      Led does old new
+      (BatchFails shown stored (InputLine contents batch.terms.form (task_of batch.kind)) batch.folder.now batch.site.now batch.kind (words_of batch) may before lines fault)
 
-  -- several inputs were asked to be taken, and what came of it was reported
-  pub record DoesBatch (words : List (List ℕ)) (old new : F) (before after : Streams) (status : ℕ) : Type 0 where
+module _ {F K W : Type 0} (does : F → FileCall K → F → Type 0) (waits : F → ℕ → F → Type 0) (shown : K → Option Record) (may : K → Record → Type 0) (stored : K → Type 0) (contents : W → Option (List ℕ)) where
+  -- and then what they came to, or the fault was reported
+  pub record TellsBatch (batch : Batch) (old new : F) (before after : W) (status : ℕ) : Type 0 where
+    pub mid : F
+    pub waited : waits old batch.terms.wait mid
+    pub lines : W
+    pub came : Result BatchOutput Fault
+    pub taken : TakesBatch does shown may stored contents batch mid new before lines came
+    pub ends : IfOk came (λ output. BatchEnds batch.terms.form output.sites output.came (contents lines) (contents after) status)
+    pub fails : IfErr came (λ fault. (after ≡ lines) × (status ≡ 3))
+
+module _ {F K W : Type 0} (does : F → FileCall K → F → Type 0) (contents : W → Option (List ℕ)) where
+  -- what was found in each document was written, up to these lines; or a fault broke that off
+  abbrev pub LintsFiles : LintFiles → F → F → W → W → Result LintOutput Fault → Type 0
+  LintsFiles asked old new before lines (Ok output) =
+      Led does old new
+      (Lints (LintLine contents asked.form) asked.list.now (option_map (λ t. t.now) asked.site) (map (λ path. path.now) asked.paths.items) before lines output)
+  LintsFiles asked old new before lines (Err fault) = Led does old new (LintFails fault)
+
+  -- and then the totals, or the fault was reported
+  pub record TellsLint (asked : LintFiles) (old new : F) (before after : W) (status : ℕ) : Type 0 where
+    pub lines : W
+    pub came : Result LintOutput Fault
+    pub looked : LintsFiles asked old new before lines came
+    pub ends : IfOk came (λ output. LintEnds asked.form output.sites output.came (contents lines) (contents after) status)
+    pub fails : IfErr came (λ fault. (after ≡ lines) × (status ≡ 3))
+
+module _ {F K G W : Type 0} (does : F → FileCall K → F → Type 0) (waits : F → ℕ → F → Type 0) (knows : F → List ℕ → List ℕ → Type 0) (shown : K → Option Record) (failed : K → ℕ) (may : K → Record → Type 0) (reopens : K → Result K (Unopened K) → Type 0) (gives_up : G → ℕ → ℕ → Type 0) (stored : K → Type 0) (contents : W → Option (List ℕ)) where
+  -- A command on files was asked for, and what it came to was written in the form that was asked for: an output, which is that of
+  -- these calls of the files; or a fault, which is. Files that are in use were waited for as long as was asked for.
+  pub record DoesFiles (words : List (List ℕ)) (old new : F) (before after : Streams W) (status : ℕ) : Type 0 where
+    pub command : FileCommand
+    pub terms : Terms
+    pub asked : AsksFiles words command terms
+    pub mid : F
+    pub waited : waits old terms.wait mid
+    pub came : Result Output Fault
+    pub led : IfOk came (λ output. Led does mid new (LeadsTo (knows new) shown failed may stored command output))
+    pub broke : IfErr came (λ fault. Led does mid new (FailsBy shown failed may reopens gives_up stored command fault))
+    pub unread : Keeps before.input after.input
+    pub ends : CommandEnds terms.form came (contents before.output) (contents after.output) status
+
+  -- several inputs were asked to be taken
+  pub record DoesBatch (words : List (List ℕ)) (old new : F) (before after : Streams W) (status : ℕ) : Type 0 where
     pub batch : Batch
     pub asked : AsksBatch words batch
     pub unread : Keeps before.input after.input
-    pub ends : BatchEnds does fails shown stored batch old new before.printed after.printed status
+    pub ends : TellsBatch does waits shown may stored contents batch old new before.output after.output status
 
-  -- documents were asked to be looked through, and what was found was reported
-  pub record DoesLint (words : List (List ℕ)) (old new : F) (before after : Streams) (status : ℕ) : Type 0 where
+  -- documents were asked to be looked through
+  pub record DoesLint (words : List (List ℕ)) (old new : F) (before after : Streams W) (status : ℕ) : Type 0 where
     pub files : LintFiles
     pub asked : AsksLint words files
     pub unread : Keeps before.input after.input
-    pub ends : LintEnds does fails files old new before.printed after.printed status
+    pub ends : TellsLint does contents files old new before.output after.output status
 
   -- how a command line ends, from old files to new ones
-  abbrev pub Ends : List (String Global) → F → F → Streams → Streams → ℕ → Type 0
+  abbrev pub Ends : List (String Global) → F → F → Streams W → Streams W → ℕ → Type 0
   Ends words old new before after status =
-      RunsAsked old new before after status (texts_of words)
+      RunsAsked contents old new before after status (texts_of words)
       ⊎ (DoesFiles (texts_of words) old new before after status
       ⊎ ((DoesBatch (texts_of words) old new before after status ⊎ DoesLint (texts_of words) old new before after status)
-      ⊎ (Helps old new before after status (texts_of words)
-      ⊎ (IsMistaken old new before after status (texts_of words) ⊎ LacksMemory old new before after status))))
+      ⊎ (Helps contents old new before after status (texts_of words)
+      ⊎ (IsMistaken contents old new before after status (texts_of words) ⊎ LacksMemory contents old new before after status))))

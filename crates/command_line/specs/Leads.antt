@@ -1,52 +1,119 @@
--- Which calls of the files lead to the answer of a command, or to its fault. What a keeper shows is stated by its kind, and what the
--- files know of the sites by them.
-use Rattle.std.specs.Prelude.{ℕ, true, false, List, Option, Result}
+-- What each command on a folder does, a row a command: what the calls of the files that lead to its output say of the records and of
+-- what it comes to; and which calls lead to a fault. What a keeper shows is stated by its kind.
+use Rattle.std.specs.Prelude.{◌≡◌, ⊤, ℕ, Bool, true, false, List, Option, None, Some, Result}
+use Rattle.event_json.specs.Sites.{Site, named}
+use Rattle.frame_core.specs.Numbers.{Recall}
+use Rattle.item_spellings.specs.declared.spellings.Spelled.{Spelled}
 use Rattle.keeper_core.specs.declared.faults.Unopened.{Unopened}
 use Rattle.recall_outcomes.specs.declared.faults.Fault.{Fault}
+use Rattle.recall_outcomes.specs.declared.notes.Notes.TheVariants.{Nothing}
+use Rattle.recall_outcomes.specs.declared.outcomes.Outcome.{Outcome}
+use Rattle.recall_outcomes.specs.declared.outcomes.Output.{Output}
+use Rattle.recall_outcomes.specs.declared.outcomes.Ways.{Ways}
 use Rattle.site_core.specs.Records.{Record}
-use Rattle.folder_commands.specs.Calls.{AuditsAt, CapturesAt, DryStartsAt, ItemsAt, RecallsStandAt, RecallStandsAt, ReportsAt, StartsAt, TracesAt}
-use Rattle.folder_commands.specs.Failing.{CaptureFails, StartFails}
-use Rattle.folder_commands.specs.FailingToAsk.{AllFails, DryStartFails, ItemsFail, RecallFails, TraceFails}
-use Rattle.folder_commands.specs.FailingToMake.{InitFails}
-use Rattle.folder_commands.specs.FailingToRun.{RunFails}
-use Rattle.folder_commands.specs.FileCalls.{FileCall}
-use Rattle.folder_commands.specs.Making.{InitsAt}
-use Rattle.folder_commands.specs.Runs.{RunsAt}
-use Rattle.folder_commands.specs.declared.outputs.Output.{Output}
+use Rattle.site_core.specs.declared.inputs.SiteInput.TheVariants as inputs
+use Rattle.site_folders.specs.Faults.{EndsInVain}
+use Rattle.site_folders.specs.FileCalls.{FileCall}
+use Rattle.site_folders.specs.Questions.{AsksAll, AsksSite}
+use Rattle.site_folders.specs.Refusals.{IsNoSite}
+use Rattle.folder_questions.specs.Asked.{AsksItem, AsksRecall, RefusesItem, RefusesRecall}
+use Rattle.folder_questions.specs.Audits.{AnswersAudit}
+use Rattle.folder_questions.specs.DryStarts.{AnswersDryStart}
+use Rattle.folder_questions.specs.Reports.{AnswersReport}
+use Rattle.folder_questions.specs.SiteItems.{AnswersItems}
+use Rattle.folder_questions.specs.Standings.{AnswersRecall, AnswersRecalls}
+use Rattle.folder_questions.specs.Traces.{AnswersTrace}
+use Rattle.folder_commands.specs.Making.{InitFails, InitsAt}
+use Rattle.folder_commands.specs.Runs.{RunFails, RunsAt}
+use Rattle.folder_commands.specs.Steps.{CaptureFails, CapturesAt, StartFails, StartsAt}
 use Rattle.command_line.specs.UnknownItems.{AndWho}
 use Rattle.command_line.specs.declared.command_lines.FileCommand.{FileCommand}
-use Rattle.command_line.specs.declared.command_lines.FileCommand.TheVariants.{Init, Capture, Start, Run, Report, Audit, Trace, Recalls, Recall, Items}
+use Rattle.command_line.specs.declared.command_lines.FileCommand.TheVariants.{Init, Capture, Start, Run, Report, Audit, Trace, Recalls, Recall as OneRecall, Items}
+
+-- an outcome beside which nothing is noted
+abbrev pub Plainly : {K : Type 0} → (List Site → Outcome → List (FileCall K) → Type 0) → Output → List (FileCall K) → Type 0
+Plainly Tells output calls = Tells output.sites output.outcome calls × (output.notes ≡ Nothing)
+
+-- ---- the questions
+
+module _ {K : Type 0} (shown : K → Option Record) (stored : K → Type 0) (folder : List ℕ) where
+  -- whether the records are consistent, and how each recall's quarantine compares with what its root reaches
+  abbrev pub Audits : Output → List (FileCall K) → Type 0
+  Audits = Plainly (AsksAll {Q = ⊤} shown stored folder (λ sites outcome. ⊥) (λ sites asked. ⊤) (λ asked rs outcome. AnswersAudit rs outcome))
+
+  -- how all recalls stand
+  abbrev pub AllStand : Bool → Output → List (FileCall K) → Type 0
+  AllStand coded =
+      Plainly (AsksAll {Q = ⊤} shown stored folder (λ sites outcome. ⊥) (λ sites asked. ⊤) (λ asked rs outcome. AnswersRecalls rs coded outcome))
+
+  -- how the recall of a text stands, and what it waits for
+  abbrev pub OneStands : List ℕ → Bool → Output → List (FileCall K) → Type 0
+  OneStands recall coded =
+      Plainly
+      (AsksAll {Q = Recall} shown stored folder (λ sites outcome. RefusesRecall recall sites outcome) (λ sites r. AsksRecall recall sites r)
+      (λ r rs outcome. AnswersRecall rs r coded outcome))
+
+  -- what is quarantined for the recall of a text, how it got there, and what left
+  abbrev pub Reports : List ℕ → Ways → Bool → Output → List (FileCall K) → Type 0
+  Reports recall ways events =
+      Plainly
+      (AsksAll {Q = Recall} shown stored folder (λ sites outcome. RefusesRecall recall sites outcome) (λ sites r. AsksRecall recall sites r)
+      (λ r rs outcome. AnswersReport rs r ways events outcome))
+
+  -- where the item at the site of a name went, or came from
+  abbrev pub Traces : List ℕ → Spelled → Bool → Ways → Bool → Output → List (FileCall K) → Type 0
+  Traces name item back ways events =
+      Plainly
+      (AsksAll {Q = ℕ × List ℕ} shown stored folder (λ sites outcome. RefusesItem name item sites outcome)
+      (λ sites asked. AsksItem name item sites asked.0 asked.1)
+      (λ asked rs outcome. AnswersTrace rs asked.0 asked.1 back ways events outcome))
+
+  -- what the start of a recall of the item would do at the site of a name
+  abbrev pub DryStarts : List ℕ → Spelled → Output → List (FileCall K) → Type 0
+  DryStarts name item =
+      Plainly
+      (AsksSite {Q = List ℕ} shown stored folder (λ sites outcome. RefusesItem name item sites outcome) (λ sites site key. AsksItem name item sites site key)
+      (λ key r outcome. AnswersDryStart r (inputs.Start key) outcome))
+
+  -- which items the site of a name knows whose keys contain the text
+  abbrev pub KnownItems : List ℕ → List ℕ → Output → List (FileCall K) → Type 0
+  KnownItems name text =
+      Plainly
+      (AsksSite {Q = ⊤} shown stored folder (λ sites outcome. (named sites name ≡ None) × IsNoSite name outcome)
+      (λ sites site asked. named sites name ≡ Some site)
+      (λ asked r outcome. AnswersItems text r outcome))
+
+-- ---- all commands
 
 module _ {K : Type 0} (knows : List ℕ → List ℕ → Type 0) (shown : K → Option Record) (failed : K → ℕ) (may : K → Record → Type 0) (stored : K → Type 0) where
-  -- The calls of the command, which lead to this output. A capture and a run have notes, and so has a command on an item that the
-  -- site doesn't know, behind which it is asked who does.
+  -- The calls of the command, which lead to this output. Behind a command on an item that the site doesn't know it is asked who does.
   abbrev pub LeadsTo : FileCommand → Output → List (FileCall K) → Type 0
   LeadsTo (Init folder list) output calls = InitsAt folder.now list.now output calls
   LeadsTo (Capture folder site file) output calls = CapturesAt shown stored folder.now site.now file.now output calls
   LeadsTo (Start folder site item false) output calls =
-      AndWho shown stored folder.now site.now item (StartsAt shown stored folder.now site.now item) output calls
+      AndWho shown stored folder.now (record { site = site; item = item }) (StartsAt shown stored folder.now site.now item) output calls
   LeadsTo (Start folder site item true) output calls =
-      AndWho shown stored folder.now site.now item (DryStartsAt shown stored folder.now site.now item) output calls
+      AndWho shown stored folder.now (record { site = site; item = item }) (DryStarts shown stored folder.now site.now item) output calls
   LeadsTo (Run folder turns) output calls = RunsAt knows shown failed may stored folder.now turns output calls
-  LeadsTo (Report folder recall ways events) output calls = ReportsAt shown stored folder.now recall.now ways events output calls
-  LeadsTo (Audit folder) output calls = AuditsAt shown stored folder.now output calls
+  LeadsTo (Report folder recall ways events) output calls = Reports shown stored folder.now recall.now ways events output calls
+  LeadsTo (Audit folder) output calls = Audits shown stored folder.now output calls
   LeadsTo (Trace folder site item back ways events) output calls =
-      AndWho shown stored folder.now site.now item (TracesAt shown stored folder.now site.now item back ways events) output calls
-  LeadsTo (Recalls folder coded) output calls = RecallsStandAt shown stored folder.now coded output calls
-  LeadsTo (Recall folder recall coded) output calls = RecallStandsAt shown stored folder.now recall.now coded output calls
-  LeadsTo (Items folder site text) output calls = ItemsAt shown stored folder.now site.now text.now output calls
+      AndWho shown stored folder.now (record { site = site; item = item }) (Traces shown stored folder.now site.now item back ways events) output calls
+  LeadsTo (Recalls folder coded) output calls = AllStand shown stored folder.now coded output calls
+  LeadsTo (OneRecall folder recall coded) output calls = OneStands shown stored folder.now recall.now coded output calls
+  LeadsTo (Items folder site text) output calls = KnownItems shown stored folder.now site.now text.now output calls
 
 module _ {K G : Type 0} (shown : K → Option Record) (failed : K → ℕ) (may : K → Record → Type 0) (reopens : K → Result K (Unopened K) → Type 0) (gives_up : G → ℕ → ℕ → Type 0) (stored : K → Type 0) where
-  -- the calls of the command, which lead to this fault; nothing is asked behind it
+  -- the calls of the command, which lead to this fault: a question changed nothing
   abbrev pub FailsBy : FileCommand → Fault → List (FileCall K) → Type 0
-  FailsBy (Init folder list) fault calls = InitFails folder.now list.now fault calls
+  FailsBy (Init folder list) fault calls = InitFails folder.now shown list.now fault calls
   FailsBy (Capture folder site file) fault calls = CaptureFails shown may failed stored folder.now site.now file.now fault calls
   FailsBy (Start folder site item false) fault calls = StartFails shown may failed stored folder.now site.now item fault calls
-  FailsBy (Start folder site item true) fault calls = DryStartFails shown stored folder.now site.now item fault calls
+  FailsBy (Start folder site item true) fault calls = EndsInVain shown folder.now fault calls
   FailsBy (Run folder turns) fault calls = RunFails shown failed may reopens gives_up stored folder.now turns fault calls
-  FailsBy (Report folder recall ways events) fault calls = RecallFails shown stored folder.now recall.now fault calls
-  FailsBy (Audit folder) fault calls = AllFails shown stored folder.now fault calls
-  FailsBy (Trace folder site item back ways events) fault calls = TraceFails shown stored folder.now site.now item fault calls
-  FailsBy (Recalls folder coded) fault calls = AllFails shown stored folder.now fault calls
-  FailsBy (Recall folder recall coded) fault calls = RecallFails shown stored folder.now recall.now fault calls
-  FailsBy (Items folder site text) fault calls = ItemsFail shown stored folder.now site.now fault calls
+  FailsBy (Report folder recall ways events) fault calls = EndsInVain shown folder.now fault calls
+  FailsBy (Audit folder) fault calls = EndsInVain shown folder.now fault calls
+  FailsBy (Trace folder site item back ways events) fault calls = EndsInVain shown folder.now fault calls
+  FailsBy (Recalls folder coded) fault calls = EndsInVain shown folder.now fault calls
+  FailsBy (OneRecall folder recall coded) fault calls = EndsInVain shown folder.now fault calls
+  FailsBy (Items folder site text) fault calls = EndsInVain shown folder.now fault calls

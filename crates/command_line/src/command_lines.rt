@@ -2,7 +2,7 @@
 
 ghost use Rattle.std.specs.Prelude.{◌≡◌, ◌↔◌, false, IfNone, IfOk, IfSome, IsTrue, codes, length};
 ghost use Rattle.clap.specs.Words.{found_of, kind_of, rows_of, subcommand_rows_of};
-ghost use Rattle.command_line.specs.CommandLines.{texts_of, AsksDryBatch, AsksFor, AsksLinesAndEvents, AsksNamed, AsksTwoForms, AsksTwoSpellings, AsksUntoldEvents, Gives, GivesDocuments, GivesForm, GivesItem, GivesNumber, GivesOrNone, GivesSpelling, GivesWays, IsCapture, IsCommand, IsMistake, IsSet, IsStart, IsToldAs, epcs_kind, has_many};
+ghost use Rattle.command_line.specs.CommandLines.{texts_of, AsksDryBatch, AsksFor, AsksLinesAndEvents, AsksNamed, AsksOf, AsksTwoForms, AsksTwoSpellings, AsksUntoldEvents, Gives, GivesDocuments, GivesForm, GivesItem, GivesNumber, GivesOrNone, GivesSpelling, GivesTerms, GivesWays, IsCapture, IsCommand, IsMistake, IsSet, IsStart, IsToldAs, epcs_kind, has_many};
 
 use crate::grammar::recall;
 use crate::helps;
@@ -11,7 +11,8 @@ use clap::error::ErrorKind;
 use clap::{ArgMatches, Error};
 use folder_commands::WordKind;
 use item_spellings::{Spelled, Spelling};
-use recall_outcomes::{Form, Ways};
+use outcome_forms::Form;
+use recall_outcomes::Ways;
 use std::alloc::{AllocError, Global};
 
 /// What a command line asks for.
@@ -19,8 +20,8 @@ use std::alloc::{AllocError, Global};
 pub(crate) enum Asked<'a> {
     /// A script from the standard input.
     Sim,
-    /// Something of the sites' files, which is printed in this form.
-    Files(FileCommand<'a>, Form),
+    /// Something of the sites' files, on these terms.
+    Files(FileCommand<'a>, Terms),
     /// Several documents are captured at a site, or several recalls started.
     Batch(Batch<'a>),
     /// Documents of files are looked through.
@@ -29,6 +30,15 @@ pub(crate) enum Asked<'a> {
     Help(String),
     /// A bad command line, with what is wrong with it.
     Mistake(String),
+}
+
+/// On which terms a command on the sites' files is done.
+#[derive(Clone, Copy, Debug)]
+pub(crate) struct Terms {
+    /// How what it comes to is printed.
+    pub(crate) form: Form,
+    /// For how many seconds it waits for a site's file that another program has open.
+    pub(crate) wait: u64,
 }
 
 /// What a site of a folder does one after another: the documents that it captures, or the items whose recall it starts,
@@ -40,8 +50,7 @@ pub(crate) struct Batch<'a> {
     pub(crate) words: Vec<&'a str>,
     /// What each of the words is.
     pub(crate) kind: WordKind,
-    /// How it is printed.
-    pub(crate) form: Form,
+    pub(crate) terms: Terms,
 }
 
 /// A command on the sites' files in a folder.
@@ -139,15 +148,31 @@ fn named<'a>(alloc: Global, matches: &ArgMatches<'a>) -> Option<Asked<'a>>
     }
     if name == "sim" {
         Some(Asked::Sim)
-    } else if name == "capture" {
-        capture_command(alloc, given, form)
-    } else if name == "start" {
-        start_command(alloc, given, form)
     } else if name == "lint" {
         lint_command(alloc, given, form)
     } else {
+        let wait = number(given, "wait")?;
+        on_folder(alloc, name, given, Terms { form, wait })
+    }
+}
+
+/// What a subcommand on a folder asks for.
+fn on_folder<'a>(
+    alloc: Global,
+    name: &str,
+    given: &ArgMatches<'a>,
+    terms: Terms,
+) -> Option<Asked<'a>>
+    requires { GivesTerms (rows_of (found_of given.now)) terms }
+    ensures { IfSome result (AsksOf name.now (rows_of (found_of given.now))) }
+{
+    if name == "capture" {
+        capture_command(alloc, given, terms)
+    } else if name == "start" {
+        start_command(alloc, given, terms)
+    } else {
         let command = file_command(name, given)?;
-        Some(Asked::Files(command, form))
+        Some(Asked::Files(command, terms))
     }
 }
 
@@ -161,8 +186,8 @@ fn mistake<'a>(alloc: Global, what: &str) -> Result<Asked<'a>, AllocError>
 }
 
 /// The command to capture documents: that of one file, or a batch.
-fn capture_command<'a>(alloc: Global, given: &ArgMatches<'a>, form: Form) -> Option<Asked<'a>>
-    requires { GivesForm (rows_of (found_of given.now)) form }
+fn capture_command<'a>(alloc: Global, given: &ArgMatches<'a>, terms: Terms) -> Option<Asked<'a>>
+    requires { GivesTerms (rows_of (found_of given.now)) terms }
     ensures { IfSome result (IsCapture (rows_of (found_of given.now))) }
 {
     let folder = argument(given, "dir")?;
@@ -174,7 +199,7 @@ fn capture_command<'a>(alloc: Global, given: &ArgMatches<'a>, form: Form) -> Opt
     if is_one_input(paths, has_many(kind)) {
         let file = paths[0];
         let command = FileCommand::Capture { folder, site, file };
-        return Some(Asked::Files(command, form));
+        return Some(Asked::Files(command, terms));
     }
     let words = copied(alloc, paths).ok()?;
     Some(Asked::Batch(Batch {
@@ -182,13 +207,13 @@ fn capture_command<'a>(alloc: Global, given: &ArgMatches<'a>, form: Form) -> Opt
         site,
         words,
         kind,
-        form,
+        terms,
     }))
 }
 
 /// The command to start a recall of an item, or a batch.
-fn start_command<'a>(alloc: Global, given: &ArgMatches<'a>, form: Form) -> Option<Asked<'a>>
-    requires { GivesForm (rows_of (found_of given.now)) form }
+fn start_command<'a>(alloc: Global, given: &ArgMatches<'a>, terms: Terms) -> Option<Asked<'a>>
+    requires { GivesTerms (rows_of (found_of given.now)) terms }
     ensures { IfSome result (IsStart (rows_of (found_of given.now))) }
 {
     let folder = argument(given, "dir")?;
@@ -206,7 +231,7 @@ fn start_command<'a>(alloc: Global, given: &ArgMatches<'a>, form: Form) -> Optio
             item,
             dry,
         };
-        return Some(Asked::Files(command, form));
+        return Some(Asked::Files(command, terms));
     }
     if dry {
         return mistake(alloc, helps::ONE_DRY_START).ok();
@@ -218,7 +243,7 @@ fn start_command<'a>(alloc: Global, given: &ArgMatches<'a>, form: Form) -> Optio
         site,
         words,
         kind,
-        form,
+        terms,
     }))
 }
 
@@ -450,7 +475,7 @@ pub(crate) fn argument<'a>(given: &ArgMatches<'a>, name: &str) -> Option<&'a str
 }
 
 /// The number that the argument of a name gives.
-pub(crate) fn number(given: &ArgMatches<'_>, name: &str) -> Option<u64>
+fn number(given: &ArgMatches<'_>, name: &str) -> Option<u64>
     ensures { IfSome result (λ n. GivesNumber (rows_of (found_of given.now)) name.now n) }
 {
     given.get_one::<u64>(name)

@@ -1,30 +1,20 @@
-//! What each command does.
+//! How a command line ends: what it asks for is done, and printed.
 
-ghost use Rattle.std.specs.Prelude.{◌≡◌, ◌==◌, if◌then◌else◌, IfErr, IfOk};
-ghost use Rattle.recall_outcomes.specs.Advice.{advice};
-ghost use Rattle.recall_outcomes.specs.Faults.{fault_line};
-ghost use Rattle.recall_outcomes.specs.Notes.{untraced_text};
-ghost use Rattle.recall_outcomes.specs.Places.{place_notes};
-ghost use Rattle.recall_outcomes.specs.Printing.{note_lines};
-ghost use Rattle.recall_text.specs.Writing.{AppendsBeginning};
-ghost use Rattle.command_line.specs.CommandLines.{HasTurns};
-ghost use Rattle.command_line.specs.Ends.{Advises, BatchEnds, Ends, Explains, HelpHelps, OutputEnds, RunsScript, SimRuns, TellsFault, TellsNotes, TellsWhatCame, TextEnds, printed_on, script_fault_line, streams};
-ghost use Rattle.command_line.specs.Leads.{FailsBy, LeadsTo};
-ghost use Rattle.folder_commands.specs.FileCalls.{Led};
+ghost use Rattle.std.specs.Prelude.{◌≡◌, ◌⊎◌, ◌==◌, if◌then◌else◌};
+ghost use Rattle.command_line.specs.Ends.{CommandEnds, Ends, OutcomeEnds, RunsScript, SimRuns, streams};
 
-use crate::command_lines::{self, Asked, Batch, FileCommand};
-use crate::item_commands::{dry_start_known, start_known, trace_known};
+use crate::batch_commands::take_batch;
+use crate::command_lines::{self, Asked};
+use crate::folder_tasks::do_command;
 use crate::lint_commands::lint_files;
+use crate::sinks::print;
 use crate::statuses;
-use event_json::Untraced;
-use folder_commands::{
-    Files, Output, audit_sites, capture, do_batch, init, items_of_site, recall_standing,
-    recalls_standing, report_recall, run_sites,
-};
 use keeper_core::SiteKeeper;
-use recall_outcomes::{Fault, Form, Outcome, note_lines, untraced_text};
+use outcome_forms::{Form, fault_line, write_beside, write_fault, write_outcome};
+use recall_outcomes::{Fault, Output};
 use recall_text::{ScriptFault, write_text};
 use script_core::{Tally, run_script};
+use site_folders::Files;
 use site_threads::Gate;
 use std::alloc::Global;
 use std::hash::RandomState;
@@ -38,10 +28,10 @@ use std::time::Clock;
 /// memory too, 4 an audit found a discrepancy, 5 a recall is open, where that was asked for.
 ///
 /// The words begin with the program's name. Answers, refusals and help go to `output`, faults and what is wrong with a
-/// command line to `errors`, and so do the notes of a run. What a command on the sites' files says is that of the calls
-/// of `files` that lead to it, as text or in the form that the words ask for; without such a command `files` isn't
-/// asked. What stands in the files no contract says. In a run each site has a copy of the gate to its turns. The keys
-/// are those of the hash by which items are numbered, drawn at random, so that nobody can choose texts that collide.
+/// command line to `errors`, and so do the notes of a run. What a command on the sites' files comes to is that of the
+/// calls of `files` that lead to it; without such a command `files` isn't asked. In a run each site has a copy of the
+/// gate to its turns. The keys are those of the hash by which items are numbered, drawn at random, so that nobody can
+/// choose texts that collide.
 pub fn run_command<
     R: Threads + Wait + Clock + Sync,
     K: SiteKeeper + Send,
@@ -61,26 +51,23 @@ pub fn run_command<
     output: &mut W,
     errors: &mut E,
 ) -> u8
-    ensures ends { Ends F.does F.knows F.fails K.shown K.failed K.may K.reopens G.gives_up K.stored
-        words.now files.old files.new
-        (streams I.remaining W.contents E.contents input.old output.old errors.old)
-        (streams I.remaining W.contents E.contents input.new output.new errors.new) result }
-    ensures sim { SimRuns words.now files.old files.new
-        (streams I.remaining W.contents E.contents input.old output.old errors.old)
-        (streams I.remaining W.contents E.contents input.new output.new errors.new) result }
-    ensures help { HelpHelps words.now files.old files.new
-        (streams I.remaining W.contents E.contents input.old output.old errors.old)
-        (streams I.remaining W.contents E.contents input.new output.new errors.new) result }
+    ensures ends { Ends F.does F.waits F.knows K.shown K.failed K.may K.reopens G.gives_up K.stored
+        W.contents words.now files.old files.new (streams I.remaining input.old output.old)
+        (streams I.remaining input.new output.new) result }
+    ensures sim { SimRuns W.contents files.old files.new
+        (streams I.remaining input.old output.old) (streams I.remaining input.new output.new)
+        result words.now }
 {
     match command_lines::read(alloc, words) {
         Ok(Asked::Sim) => sim(alloc, keys, input, output, errors),
-        Ok(Asked::Files(command, form)) => {
-            let came = on_files(rt, alloc, keys, files, gate, &command);
-            tell(alloc, form, files, &came, output, errors)
+        Ok(Asked::Files(command, terms)) => {
+            files.wait_for(terms.wait);
+            let came = do_command(rt, alloc, keys, files, gate, &command);
+            tell(alloc, terms.form, files, &came, output, errors)
         }
         Ok(Asked::Batch(batch)) => take_batch(alloc, files, &batch, output, errors),
         Ok(Asked::Lint(asked)) => lint_files(alloc, files, &asked, output, errors),
-        Ok(Asked::Help(text)) => print(text.as_str(), output, errors),
+        Ok(Asked::Help(text)) => help(text.as_str(), output, errors),
         Ok(Asked::Mistake(text)) => {
             say(errors, text.as_str());
             statuses::BAD_COMMAND_LINE
@@ -97,8 +84,8 @@ fn sim<I: Read, W: Write, E: Write>(
     output: &mut W,
     errors: &mut E,
 ) -> u8
-    ensures { RunsScript (streams I.remaining W.contents E.contents input.old output.old errors.old)
-        (streams I.remaining W.contents E.contents input.new output.new errors.new) result }
+    ensures { RunsScript W.contents (streams I.remaining input.old output.old)
+        (streams I.remaining input.new output.new) result }
 {
     match run_script(alloc, keys, input, output) {
         Ok(tally) => status_of(tally),
@@ -121,121 +108,13 @@ fn status_of(tally: Tally) -> u8
 }
 
 /// The line that reports a fault of a script.
-fn script_fault_line(cause: ScriptFault) -> &'static str
-    ensures { result.now ≡ script_fault_line cause }
-{
+fn script_fault_line(cause: ScriptFault) -> &'static str {
     match cause {
         ScriptFault::NoMemory => "fault NoMemory\n",
         ScriptFault::Read => "fault Read\n",
         ScriptFault::Write => "fault Write\n",
         ScriptFault::LineTooLong => "fault LineTooLong\n",
         ScriptFault::TurnsSpent => "fault TurnsSpent\n",
-    }
-}
-
-/// Does a command on the sites' files.
-fn on_files<
-    R: Threads + Wait + Clock + Sync,
-    K: SiteKeeper + Send,
-    F: Files<K>,
-    G: Gate + Copy + Send,
->(
-    rt: &R,
-    alloc: Global,
-    keys: RandomState,
-    files: &mut F,
-    gate: G,
-    command: &FileCommand<'_>,
-) -> Result<Output, Fault>
-    requires { HasTurns command.now }
-    ensures led { IfOk result (λ output. Led F.does files.old files.new
-        (LeadsTo (F.knows files.new) K.shown K.failed K.may K.stored command.now output)) }
-    ensures failed { IfErr result (λ fault. Led F.does files.old files.new
-        (FailsBy K.shown K.failed K.may K.reopens G.gives_up K.stored command.now fault)) }
-{
-    match command {
-        FileCommand::Run { folder, turns } => run_sites(rt, alloc, files, gate, folder, *turns),
-        FileCommand::Init { folder, list } => init(alloc, keys, files, folder, list),
-        FileCommand::Capture { folder, site, file } => capture(alloc, files, folder, site, file),
-        FileCommand::Start {
-            folder,
-            site,
-            item,
-            dry,
-        } => {
-            if *dry {
-                dry_start_known(alloc, files, folder, site, item)
-            } else {
-                start_known(alloc, files, folder, site, item)
-            }
-        }
-        FileCommand::Report {
-            folder,
-            recall,
-            ways,
-            events,
-        } => report_recall(alloc, files, folder, recall, *ways, *events),
-        FileCommand::Audit { folder } => audit_sites(alloc, files, folder),
-        FileCommand::Trace {
-            folder,
-            site,
-            item,
-            back,
-            ways,
-            events,
-        } => trace_known(alloc, files, folder, site, item, *back, *ways, *events),
-        FileCommand::Recalls { folder, coded } => recalls_standing(alloc, files, folder, *coded),
-        FileCommand::Recall {
-            folder,
-            recall,
-            coded,
-        } => recall_standing(alloc, files, folder, recall, *coded),
-        FileCommand::Items { folder, site, text } => items_of_site(
-            alloc, files, folder, site, text,
-        ),
-    }
-}
-
-/// Captures several documents, or starts several recalls, each of which is answered once it is kept.
-fn take_batch<K: SiteKeeper, F: Files<K>, W: Write, E: Write>(
-    alloc: Global,
-    files: &mut F,
-    batch: &Batch<'_>,
-    output: &mut W,
-    errors: &mut E,
-) -> u8
-    ensures { BatchEnds F.does F.fails K.shown K.stored batch.now files.old files.new
-        (printed_on W.contents E.contents output.old errors.old)
-        (printed_on W.contents E.contents output.new errors.new) result }
-{
-    let inputs = folder_commands::Batch {
-        words: batch.words.as_slice(),
-        kind: batch.kind,
-    };
-    match do_batch(
-        alloc,
-        files,
-        batch.folder,
-        batch.site,
-        &inputs,
-        batch.form,
-        output,
-    ) {
-        Ok(summary) => {
-            note_untraced(alloc, batch.form, &summary.untraced, errors);
-            summary.status
-        }
-        Err(cause) => fault(alloc, batch.form, files, cause, errors),
-    }
-}
-
-/// Tells what the documents of a capture said that isn't traced, where there is memory for it.
-fn note_untraced<E: Write>(alloc: Global, form: Form, untraced: &Untraced, errors: &mut E)
-    ensures { AppendsBeginning (E.contents errors.old) (E.contents errors.new)
-        (note_lines form (untraced_text untraced.now)) }
-{
-    if let Ok(text) = untraced_text(alloc, untraced) {
-        note(alloc, form, text.as_str(), errors);
     }
 }
 
@@ -248,9 +127,7 @@ fn tell<K: SiteKeeper, F: Files<K>, W: Write, E: Write>(
     output: &mut W,
     errors: &mut E,
 ) -> u8
-    ensures { TellsWhatCame F.fails form files.now came.now
-        (printed_on W.contents E.contents output.old errors.old)
-        (printed_on W.contents E.contents output.new errors.new) result }
+    ensures { CommandEnds form came.now (W.contents output.old) (W.contents output.new) result }
 {
     match came {
         Ok(told) => tell_output(alloc, form, files, told, output, errors),
@@ -258,9 +135,8 @@ fn tell<K: SiteKeeper, F: Files<K>, W: Write, E: Write>(
     }
 }
 
-/// Prints an outcome, and behind it on the error stream what it means, its notes, what is advised, and which places
-/// outside may be a traced site.
-fn tell_output<K: SiteKeeper, F: Files<K>, W: Write, E: Write>(
+/// Prints an outcome, and behind it on the error stream what stands beside it.
+pub(crate) fn tell_output<K: SiteKeeper, F: Files<K>, W: Write, E: Write>(
     alloc: Global,
     form: Form,
     files: &F,
@@ -268,92 +144,29 @@ fn tell_output<K: SiteKeeper, F: Files<K>, W: Write, E: Write>(
     output: &mut W,
     errors: &mut E,
 ) -> u8
-    ensures { OutputEnds F.fails form files.now told.now
-        (printed_on W.contents E.contents output.old errors.old)
-        (printed_on W.contents E.contents output.new errors.new) result }
+    ensures { OutcomeEnds form told.now.sites told.now.outcome (W.contents output.old)
+        (W.contents output.new) result }
 {
-    let Ok(text) = told.outcome.lines(alloc, form, &told.sites) else {
-        return fault(alloc, form, files, Fault::NoMemory, errors);
-    };
-    match write_text(output, text.as_bytes()) {
+    match write_outcome(alloc, form, &told.sites, &told.outcome, output) {
         Ok(()) => {
-            explain(alloc, form, &told.outcome, errors);
-            note_some(alloc, form, &told.notes, errors);
-            advise(alloc, form, &told.outcome, errors);
-            note_places(alloc, form, told, errors);
+            write_beside(alloc, form, told, errors);
             told.outcome.status()
         }
-        Err(_) => fault(alloc, form, files, Fault::Write, errors),
-    }
-}
-
-/// Tells in a sentence what a refusal means and what to do, where that isn't printed as JSON and there is memory for
-/// it.
-fn explain<E: Write>(alloc: Global, form: Form, outcome: &Outcome, errors: &mut E)
-    ensures { Explains form outcome.now (E.contents errors.old) (E.contents errors.new) }
-{
-    match form {
-        Form::Text | Form::Csv | Form::Dot => {
-            if let Ok(text) = outcome.sentences(alloc) {
-                say(errors, text.as_str());
-            }
-        }
-        Form::Json => {}
-    }
-}
-
-/// Tells notes, if there are any and there is memory for it.
-fn note_some<E: Write>(alloc: Global, form: Form, notes: &Option<String>, errors: &mut E)
-    ensures { TellsNotes form notes.now (E.contents errors.old) (E.contents errors.new) }
-{
-    if let Some(notes) = notes {
-        note(alloc, form, notes.as_str(), errors);
-    }
-}
-
-/// Tells what to do next or what should be known after an outcome, if anything, and if there is memory for it.
-fn advise<E: Write>(alloc: Global, form: Form, outcome: &Outcome, errors: &mut E)
-    ensures { Advises form (advice outcome.now) (E.contents errors.old) (E.contents errors.new) }
-{
-    if let Some(text) = outcome.advice() {
-        note(alloc, form, text, errors);
-    }
-}
-
-/// Tells which places outside may be a traced site, where there is memory for it.
-fn note_places<E: Write>(alloc: Global, form: Form, told: &Output, errors: &mut E)
-    ensures { AppendsBeginning (E.contents errors.old) (E.contents errors.new)
-        (note_lines form (place_notes told.now.sites told.now.outcome)) }
-{
-    if let Ok(text) = told.outcome.place_notes(alloc, &told.sites) {
-        note(alloc, form, text.as_str(), errors);
-    }
-}
-
-/// Tells a note, where there is memory for it.
-fn note<E: Write>(alloc: Global, form: Form, text: &str, errors: &mut E)
-    ensures { AppendsBeginning (E.contents errors.old) (E.contents errors.new)
-        (note_lines form text.now) }
-{
-    if let Ok(lines) = note_lines(alloc, form, text) {
-        say(errors, lines.as_str());
+        Err(cause) => fault(alloc, form, files, cause, errors),
     }
 }
 
 /// Prints help.
-fn print<W: Write, E: Write>(text: &str, output: &mut W, errors: &mut E) -> u8
-    ensures { TextEnds text.now
-        (printed_on W.contents E.contents output.old errors.old)
-        (printed_on W.contents E.contents output.new errors.new) result }
+fn help<W: Write, E: Write>(text: &str, output: &mut W, errors: &mut E) -> u8
+    ensures { (result ≡ 0) ⊎ (result ≡ 3) }
 {
-    match write_text(output, text.as_bytes()) {
+    match print(output, text) {
         Ok(()) => statuses::DONE,
-        Err(_) => bare_fault(Fault::Write, errors),
+        Err(cause) => bare_fault(cause, errors),
     }
 }
 
-/// Prints a fault of a command on the sites' files: its line, the file that it is about and what is known of that, and
-/// what it means. Its name alone, where memory runs out for the rest.
+/// Prints a fault of a command on the sites' files.
 pub(crate) fn fault<K: SiteKeeper, F: Files<K>, E: Write>(
     alloc: Global,
     form: Form,
@@ -361,30 +174,21 @@ pub(crate) fn fault<K: SiteKeeper, F: Files<K>, E: Write>(
     cause: Fault,
     errors: &mut E,
 ) -> u8
-    ensures status { result ≡ 3 }
-    ensures told { TellsFault F.fails form files.now cause (E.contents errors.old)
-        (E.contents errors.new) }
+    ensures { result ≡ 3 }
 {
-    match cause.lines(alloc, form, files.failure()) {
-        Ok(text) => say(errors, text.as_str()),
-        Err(_) => say(errors, cause.bare_line(form)),
-    }
+    write_fault(alloc, form, cause, files.failure(), errors);
     statuses::FAULT
 }
 
 /// Prints the name of a fault.
 fn bare_fault<E: Write>(cause: Fault, errors: &mut E) -> u8
-    ensures status { result ≡ 3 }
-    ensures told { AppendsBeginning (E.contents errors.old) (E.contents errors.new)
-        (fault_line cause) }
+    ensures { result ≡ 3 }
 {
-    say(errors, cause.line());
+    say(errors, fault_line(cause));
     statuses::FAULT
 }
 
 /// Writes to the error stream. Where that fails there is nobody left to report it to.
-fn say<E: Write>(errors: &mut E, text: &str)
-    ensures { AppendsBeginning (E.contents errors.old) (E.contents errors.new) text.now }
-{
+fn say<E: Write>(errors: &mut E, text: &str) {
     let _ = write_text(errors, text.as_bytes());
 }

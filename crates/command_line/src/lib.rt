@@ -1,15 +1,15 @@
 //! What the words of a command line of `recall` ask for, and how it ends.
 #![tactic(auto)]
 
+mod batch_commands;
 mod command_lines;
 mod commands;
+mod folder_tasks;
 mod grammar;
 mod helps;
-mod item_commands;
 mod lint_commands;
+mod sinks;
 mod statuses;
-mod waits;
 
 pub use commands::run_command;
 pub use statuses::{BAD_COMMAND_LINE, FAULT};
-pub use waits::patience;

@@ -1,16 +1,22 @@
 //! `lint`: what its words ask for, and how it ends.
 
-ghost use Rattle.std.specs.Prelude.{IfSome};
+ghost use Rattle.std.specs.Prelude.{IfSome, OnOk};
 ghost use Rattle.clap.specs.Words.{found_of, rows_of};
+ghost use Rattle.document_lint.specs.Lines.{json_line, totals_json};
+ghost use Rattle.outcome_forms.specs.Writing.{WritesLines};
 ghost use Rattle.command_line.specs.CommandLines.{GivesForm, IsLintCommand};
-ghost use Rattle.command_line.specs.Ends.{LintEnds, printed_on};
+ghost use Rattle.command_line.specs.Ends.{LintEnds, LintsFiles, TellsLint};
 
 use crate::command_lines::{Asked, argument, copied};
-use crate::commands::fault;
+use crate::commands::{fault, tell_output};
+use crate::sinks::{LintLines, print};
 use clap::ArgMatches;
-use folder_commands::{Files, lint_documents};
+use document_lint::LintTotals;
+use folder_commands::{LintCame, LintOutput, lint_documents};
 use keeper_core::SiteKeeper;
-use recall_outcomes::Form;
+use outcome_forms::Form;
+use recall_outcomes::{Fault, Notes, Output};
+use site_folders::Files;
 use std::alloc::Global;
 use std::io::Write;
 
@@ -55,20 +61,74 @@ pub(crate) fn lint_files<K: SiteKeeper, F: Files<K>, W: Write, E: Write>(
     output: &mut W,
     errors: &mut E,
 ) -> u8
-    ensures { LintEnds F.does F.fails asked.now files.old files.new
-        (printed_on W.contents E.contents output.old errors.old)
-        (printed_on W.contents E.contents output.new errors.new) result }
+    ensures { TellsLint F.does W.contents asked.now files.old files.new output.old output.new
+        result }
 {
-    match lint_documents(
-        alloc,
-        files,
-        asked.list,
-        asked.site,
-        asked.paths.as_slice(),
-        asked.form,
-        output,
-    ) {
-        Ok(summary) => summary.status,
+    match look(alloc, files, asked, output) {
+        Ok(told) => tell_lint(alloc, files, asked.form, told, output, errors),
         Err(cause) => fault(alloc, asked.form, files, cause, errors),
+    }
+}
+
+/// Looks through the documents.
+fn look<K: SiteKeeper, F: Files<K>, W: Write>(
+    alloc: Global,
+    files: &mut F,
+    asked: &LintFiles<'_>,
+    output: &mut W,
+) -> Result<LintOutput, Fault>
+    ensures { LintsFiles F.does W.contents asked.now files.old files.new output.old output.new
+        result }
+{
+    let lines = LintLines {
+        alloc,
+        form: asked.form,
+    };
+    let paths = asked.paths.as_slice();
+    lint_documents(alloc, files, asked.list, asked.site, paths, &lines, output)
+}
+
+/// Prints what was found in all documents.
+fn tell_lint<K: SiteKeeper, F: Files<K>, W: Write, E: Write>(
+    alloc: Global,
+    files: &F,
+    form: Form,
+    told: LintOutput,
+    output: &mut W,
+    errors: &mut E,
+) -> u8
+    ensures { LintEnds form told.sites told.came (W.contents output.old) (W.contents output.new)
+        result }
+{
+    let LintOutput { sites, came } = told;
+    match came {
+        LintCame::Refused(outcome) => {
+            let refused = Output {
+                sites,
+                outcome,
+                notes: Notes::Nothing,
+            };
+            tell_output(alloc, form, files, &refused, output, errors)
+        }
+        LintCame::Looked(totals) => match write_lint_totals(alloc, form, totals, output) {
+            Ok(()) => totals.status(),
+            Err(cause) => fault(alloc, form, files, cause, errors),
+        },
+    }
+}
+
+/// Writes the line of the totals.
+fn write_lint_totals<W: Write>(
+    alloc: Global,
+    form: Form,
+    totals: LintTotals,
+    output: &mut W,
+) -> Result<(), Fault>
+    ensures { OnOk result (WritesLines form (json_line (totals_json totals)) (W.contents output.old)
+        (W.contents output.new)) }
+{
+    match form {
+        Form::Json => print(output, totals.json(alloc)?.as_str()),
+        Form::Text | Form::Csv | Form::Dot => print(output, totals.text(alloc)?.as_str()),
     }
 }

@@ -1,9 +1,9 @@
 //! Files and sites in memory, over which the commands on files run.
 
-use folder_commands::Files;
 use keeper_core::{Keep, MemoryKeeper, SiteKeeper};
 use recall_outcomes::{Failure, Fault};
 use site_core::SiteState;
+use site_folders::Files;
 use std::alloc::{AllocError, Global};
 use std::test::Fail;
 
@@ -61,9 +61,11 @@ impl Files<MemoryKeeper> for MemoryFiles {
     // The texts that the tests read say what the calls did.
     ghost does = { λ _ _ _. ⊤ };
 
-    ghost fails = { λ _ _. ⊤ };
+    ghost waits = { λ _ _ _. ⊤ };
 
     ghost knows = { λ _ _ _. ⊤ };
+
+    fn wait_for(&mut self, _: u64) {}
 
     fn read(&mut self, alloc: Global, path: &str) -> Result<Vec<u8>, Fault> {
         match self.text_at(path) {

@@ -5,7 +5,6 @@ use Rattle.std.proofs.lemmas.Option.{same_Some}
 use Rattle.std.specs.List.{AllZip}
 use Rattle.std.specs.Ordering.{match_ordering}
 use Rattle.std.specs.Prelude.{⊤, IfOk}
-use Rattle.serde_json.proofs.Nesting.{depth-read}
 use Rattle.serde_json.specs.Data.{Data, null, boolean, number, string, array, object, Items, no_items, item, Members, no_members, member, depth, items_depth, members_depth}
 use Rattle.serde_json.specs.Find.{as_array, as_null, get, get_member}
 use Rattle.serde_json.specs.Read.{read, max_depth}
@@ -20,7 +19,7 @@ use Rattle.event_json.specs.declared.doc_faults.DocFault.{DocFault}
 use Rattle.event_json.specs.declared.doc_faults.DocField.TheVariants as fields
 use Rattle.event_json.specs.declared.doc_faults.DocFaultKind.TheVariants as kinds
 use Rattle.document_lint.specs.Findings.{alone}
-use Rattle.document_lint.specs.Splitting.{AreEventsOf, IsAlone, IsUnlisted, Lists}
+use Rattle.document_lint.specs.Splitting.{AreEventsOf, IsAlone, IsUnlisted}
 
 -- ---- how deep they nest
 

@@ -1,12 +1,10 @@
 -- Documents of single events are read as these are read in their document.
-use Rattle.std.proofs.Common.{◌≡◌, ◌+◌, ℕ, suc, List, [], ◌∷◌, ◌++◌, filter, filter_map, length, Option, Some, None, Result, Ok, Err, refl, sym, ap, ◌∙◌, subst, arith}
+use Rattle.std.proofs.Common.{◌≡◌, ◌+◌, ℕ, suc, List, [], ◌∷◌, filter, length, Option, Some, None, Result, Ok, Err, refl, sym, ap, ◌∙◌, subst, arith}
 use Rattle.std.specs.Prelude.{⊤, is_none, sum_by}
-use Rattle.std.specs.List.{AllZip, flat_map}
+use Rattle.std.specs.List.{AllZip}
 use Rattle.std.proofs.lemmas.List.Sums.{sum_by-cons}
-use Rattle.std.proofs.lemmas.Option.{same_Some}
 use Rattle.serde_json.specs.Data.{Data, Items, no_items, item}
-use Rattle.serde_json.specs.Read.{read}
-use Rattle.event_json.specs.Documents.{doc_of, document_of, event_list, events_of, few_events, numbered_event, text_document}
+use Rattle.event_json.specs.Documents.{doc_of, document_of, events_of, few_events, numbered_event, text_document}
 use Rattle.event_json.specs.EventReading.{event_of}
 use Rattle.event_json.specs.Events.{Content}
 use Rattle.event_json.specs.Faults.{◌>>=◌, at_event}
@@ -17,7 +15,7 @@ use Rattle.event_json.specs.declared.doc_faults.DocFault.{DocFault}
 use Rattle.event_json.specs.declared.doc_faults.Flaw.{Flaw}
 use Rattle.event_json.specs.declared.documents.Doc.{Doc}
 use Rattle.document_lint.specs.Laws.{AloneIsRead, EventsMakeTheDocument, together}
-use Rattle.document_lint.specs.Splitting.{AreEventsOf, IsAlone, Lists}
+use Rattle.document_lint.specs.Splitting.{IsAlone, Lists}
 
 -- what is read of a document of this list
 read_listed : (sites : List Site) (bytes : List ℕ) (items : Items) → Lists bytes items → text_document sites bytes ≡ (few_events items >>= λ _. events_of sites items)

@@ -1,9 +1,9 @@
 -- What a linter finds in a document: of each event its fault, or what is strange about it.
-use Rattle.std.specs.Prelude.{◌≡◌, ℕ, Bool, IsUtf8, if◌then◌else◌, List, [], ◌∷◌, ◌++◌, Option, Some, None, Result, Ok, Err, codes, bytes_eq, map, ⊤}
+use Rattle.std.specs.Prelude.{◌≡◌, ℕ, Bool, IsUtf8, if◌then◌else◌, List, [], ◌∷◌, ◌++◌, Option, Some, None, Result, Ok, Err, codes, bytes_eq, map, option_and_then, is_some, ⊤}
 use Rattle.std.specs.List.{enumerate_from, flat_map}
 use Rattle.serde_json.specs.Data.{Data, Items, array, item, member, no_items, no_members, object, string}
 use Rattle.serde_json.specs.Read.{read}
-use Rattle.event_json.specs.Checks.{type_text}
+use Rattle.event_json.specs.Checks.{type_named, type_text}
 use Rattle.event_json.specs.Documents.{event_list, few_events, numbered_event, whole}
 use Rattle.event_json.specs.Events.{Content}
 use Rattle.event_json.specs.Members.{count_of}
@@ -65,6 +65,10 @@ abbrev pub strange : List Site → Option ℕ → Data → Content → List What
 strange sites here d e = aims (is_aimless d) ++ (map Outside (outside_of e.body) ++ (names e.id ++ (nears e.body ++ other_places sites here d)))
 
 -- ---- an event
+
+-- it is one by its type
+abbrev pub is_event : Data → Bool
+is_event d = is_some (option_and_then type_named (type_text d))
 
 -- its fault, that it is skipped, or what is strange about it
 abbrev pub found_of : List Site → Option ℕ → Data → Result (Option Content) DocFault → List What

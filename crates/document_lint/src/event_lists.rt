@@ -7,6 +7,7 @@ ghost use Rattle.event_json.specs.Checks.{type_named, type_text};
 ghost use Rattle.event_json.specs.Documents.{event_list, listed, whole};
 ghost use Rattle.event_json.specs.Faults.{Shows};
 ghost use Rattle.event_json.specs.Members.{member_named};
+ghost use Rattle.document_lint.specs.Findings.{is_event};
 
 use event_json::{DocFault, DocFaultKind, DocField};
 use serde_json::Value;
@@ -49,6 +50,16 @@ fn is_event_type(text: &str) -> bool
         || text == "TransactionEvent"
         || text == "TransformationEvent"
         || text == "AssociationEvent"
+}
+
+/// Whether a value is an event by its type.
+pub(crate) fn is_event(value: &Value) -> bool
+    ensures { result ≡ is_event (view value.now) }
+{
+    match type_text(value) {
+        Some(text) => is_event_type(text),
+        None => false,
+    }
 }
 
 /// The event list of an EPCISDocument.

@@ -1,22 +1,23 @@
 //! Linting a document.
 
-ghost use Rattle.std.specs.Prelude.{◌≡◌, ◌≤◌, ◌++◌, IfOk, OnOk, length, option_to_list};
+ghost use Rattle.std.specs.Prelude.{◌≡◌, ◌≤◌, ◌++◌, false, List, Err, IfOk, OnOk, length, option_to_list};
 ghost use Rattle.std.specs.List.{enumerate_from, flat_map};
 ghost use Rattle.event_json.specs.Untraced.{in_order};
 ghost use Rattle.serde_json.specs.View.{items_view, view};
 ghost use Rattle.event_json.specs.Documents.{few_events, numbered_event, whole};
+ghost use Rattle.event_json.specs.Sites.{Site};
 ghost use Rattle.event_json.specs.declared.doc_faults.DocField.TheVariants as fields;
 ghost use Rattle.event_json.specs.declared.doc_faults.DocFaultKind.TheVariants as kinds;
-ghost use Rattle.document_lint.specs.Findings.{IsLint, alone, at_number, event_findings, fault_finding, found_of, length_findings, text_lint, value_lint, without_list};
+ghost use Rattle.document_lint.specs.Findings.{IsLint, at_number, event_findings, fault_finding, found_of, is_event, length_findings, text_lint, value_lint, without_list};
 
-use crate::event_lists::{event_list, whole};
+use crate::event_lists::{event_list, is_event, whole};
 use crate::findings::{Finding, Lint, Listing, What};
 use crate::strange_events::{push_strange, skipped_type};
 use event_json::{
     Doc, DocFault, DocFaultKind, DocField, Event, MAX_EVENTS, ReadFault, Sequence, Sites,
     read_value,
 };
-use serde_json::{Value, json};
+use serde_json::Value;
 use std::alloc::{AllocError, Global};
 
 /// What is wrong with a document in the JSON form of GS1 EPCIS 2.0, an EPCISDocument or one bare event, and what is
@@ -174,7 +175,8 @@ fn found_of(alloc: Global, listing: &Listing<'_>, value: &Value) -> Result<Vec<W
     Ok(found)
 }
 
-/// The event that a document of this event alone has, None where it is skipped, or its fault.
+/// The event that a document of this event alone has, None where it is skipped, or its fault. An event is read where it
+/// lies, since a bare event is a document, too.
 fn read_alone(
     alloc: Global,
     sites: &Sites,
@@ -182,11 +184,34 @@ fn read_alone(
 ) -> Result<Result<Option<Event>, DocFault>, AllocError>
     ensures { IfOk result (λ read. read ≡ numbered_event sites.now 1 (view value.now)) }
 {
-    let document = alone(alloc, value)?;
-    match read_value(alloc, &document, sites) {
-        Ok(doc) => Ok(Ok(only_event(doc))),
-        Err(ReadFault::Doc(fault)) => Ok(Err(fault)),
-        Err(ReadFault::NoMemory) => Err(AllocError),
+    if is_event(value) {
+        match read_value(alloc, value, sites) {
+            Ok(doc) => Ok(Ok(only_event(doc))),
+            Err(ReadFault::Doc(fault)) => Ok(Err(fault)),
+            Err(ReadFault::NoMemory) => Err(AllocError),
+        }
+    } else {
+        Ok(Err(type_fault(value)))
+    }
+}
+
+/// The fault of a value that is no event by its type.
+fn type_fault(value: &Value) -> DocFault
+    requires { is_event (view value.now) ≡ false }
+    ensures { (sites : List Site) → Err result ≡ numbered_event sites 1 (view value.now) }
+{
+    if value.is_object() {
+        DocFault {
+            event: 1,
+            field: DocField::Type,
+            kind: DocFaultKind::NoType,
+        }
+    } else {
+        DocFault {
+            event: 1,
+            field: DocField::Event,
+            kind: DocFaultKind::WrongShape,
+        }
     }
 }
 
@@ -196,14 +221,4 @@ fn only_event(doc: Doc) -> Option<Event>
     ensures { option_to_list result ≡ doc.events }
 {
     doc.events.into_vec().pop()
-}
-
-/// A document of this event alone.
-pub(crate) fn alone(alloc: Global, value: &Value) -> Result<Value, AllocError>
-    ensures { IfOk result (λ document. view document ≡ alone (view value.now)) }
-{
-    let mut events = Vec::new(alloc);
-    events.push(value.clone()?)?;
-    let list = Value::Array(events);
-    json!(in alloc; {"epcisBody": {"eventList": list}, "type": "EPCISDocument"})
 }

@@ -7,11 +7,11 @@ ghost use Rattle.serde_json.specs.Read.{max_depth};
 ghost use Rattle.serde_json.specs.View.{items_view, view};
 ghost use Rattle.event_json.specs.Checks.{type_text};
 ghost use Rattle.event_json.specs.Untraced.{in_order, is_text};
+ghost use Rattle.document_lint.specs.Findings.{alone};
 ghost use Rattle.document_lint.specs.Splitting.{IsAlone, IsSplit};
 
 use crate::event_lists::{event_list, type_text};
-use crate::linting::alone;
-use serde_json::Value;
+use serde_json::{Value, json};
 use std::alloc::{AllocError, Global};
 
 /// A document, taken apart.
@@ -84,4 +84,14 @@ fn document_of(alloc: Global, value: &Value) -> Result<Vec<u8>, AllocError>
     ensures { IfOk result (λ document. IsAlone (view value.now) document.items) }
 {
     alone(alloc, value)?.to_vec(alloc)
+}
+
+/// A document of this event alone.
+fn alone(alloc: Global, value: &Value) -> Result<Value, AllocError>
+    ensures { IfOk result (λ document. view document ≡ alone (view value.now)) }
+{
+    let mut events = Vec::new(alloc);
+    events.push(value.clone()?)?;
+    let list = Value::Array(events);
+    json!(in alloc; {"epcisBody": {"eventList": list}, "type": "EPCISDocument"})
 }

@@ -1,12 +1,10 @@
-pub mod AskingLemmas
-pub mod CallsInTurn
 pub mod BatchLemmas
+pub mod DocumentLemmas
+pub mod InputLemmas
 pub mod LintLemmas
 pub mod MakingLemmas
 pub mod NoteLaws
 pub mod NoteLemmas
 pub mod RunLemmas
 pub mod StepLemmas
-pub mod UntoldLemmas
-pub mod DryStartLemmas
-pub mod KnowerLemmas
+pub mod WordLemmas

@@ -2,21 +2,24 @@
 use Rattle.std.proofs.Common.{◌≡◌, ◌⊎◌, ℕ, ◌+◌, ◌<◌, ◌≤◌, zero, suc, Bool, true, false, List, [], ◌∷◌, ◌++◌, codes, inl, inr, length, length-append, refl, sym, ap, ◌∙◌, subst, arith, append_assoc, append-nil}
 use Rattle.std.specs.List.{AllZip}
 use Rattle.event_json.specs.Sites.{Site}
+use Rattle.recall_text.specs.SiteLists.{IsSiteList}
 use Rattle.recall_text.specs.Words.{name_at}
 use Rattle.recall_outcomes.specs.declared.outcomes.CommandRefusal.{CommandRefusal}
 use Rattle.recall_outcomes.specs.declared.outcomes.Outcome.{Outcome}
 use Rattle.recall_outcomes.specs.declared.outcomes.Outcome.TheVariants.{Created}
 use Rattle.site_core.specs.Records.{fresh}
-use Rattle.folder_commands.specs.Folders.{file_path, list_path}
-use Rattle.folder_commands.specs.FileCalls.{Calls, Failed, FileCall, Led, LookedFor, MadeSite}
-use Rattle.folder_commands.specs.Making.{LooksForList, MakesListed, MakesWhere, existing, looks_from, makes_all, makes_from, name_where, refused_lines, too_few}
-use Rattle.folder_commands.specs.Refusals.{AreRefused, IsExists}
+use Rattle.site_folders.specs.Paths.{file_path, list_path}
+use Rattle.site_folders.specs.FileCalls.{Calls, Failed, FileCall, Led, LookedFor, MadeSite, ReadFile}
+use Rattle.folder_commands.specs.Making.{InitFails, LooksForList, MakesListed, MakesSome, MakesThen, MakesWhere, existing, looks_from, makes_all, makes_from, name_where, refused_lines, too_few}
+use Rattle.site_folders.specs.Refusals.{AreRefused, IsExists}
 use Rattle.recall_text.specs.declared.site_lists.SiteList.{SiteList}
 use Rattle.recall_outcomes.specs.declared.faults.Fault.{Fault}
 use Rattle.recall_outcomes.specs.declared.faults.Fault.TheVariants.{NoMemory}
-use Rattle.folder_commands.specs.Failing.{RunsOut}
-use Rattle.folder_commands.specs.FailingToMake.{IsFree, LookFails, LooksForSome, MakeFails, MakesSome}
-use Rattle.folder_commands.proofs.CallsInTurn.{calls_then}
+use Rattle.site_core.specs.Records.{Record}
+use Rattle.site_folders.specs.Faults.{EndsInVain, OnlyAsks}
+use Rattle.site_folders.proofs.VainLemmas.{asks_first, asks_then, none_asks, ran_out, vain_behind}
+use Rattle.std.specs.Prelude.{Option}
+use Rattle.site_folders.proofs.CallsInTurn.{calls_then}
 
 -- one site more has a file, or not
 pub existing_more : (sites : List Site) (site : ℕ) (found : List Bool) (one : Bool)
@@ -109,15 +112,22 @@ none_exist : (names : List (List ℕ)) (refused : List CommandRefusal) → refus
 none_exist [] refused none all = refl
 none_exist (name ∷ names) refused none all = absurd (subst (λ rs. AllZip IsExists (name ∷ names) rs) none all)
 
-pub is_free : (listed : SiteList) (found : List Bool) (exist : List CommandRefusal) → (refused_lines listed ++ too_few listed.sites) ++ exist ≡ [] → AllZip IsExists (existing listed.sites 0 found) exist → IsFree listed found
-is_free listed found exist none named =
-    let parts = nil_parts (refused_lines listed ++ too_few listed.sites) exist none in
-    let first = nil_parts (refused_lines listed) (too_few listed.sites) parts.0 in
-    record { lines = first.0; enough = first.1; none = none_exist (existing listed.sites 0 found) exist parts.1 named }
+-- looks change nothing
+pub looks_ask : {K : Type 0} (folder : List ℕ) (sites : List Site) (site : ℕ) (found : List Bool) → OnlyAsks {K = K} (looks_from folder sites site found)
+looks_ask folder sites site [] = none_asks
+looks_ask folder sites site (f ∷ found) = asks_first (LookedFor (file_path folder (name_at sites site)) f) (looks_from folder sites (site + 1) found) tt (looks_ask folder sites (site + 1) found)
 
 module _ {F K : Type 0} (does : F → FileCall K → F → Type 0) (folder : List ℕ) where
+  -- a fault behind calls that change nothing, or memory ran out behind them
+  pub vain_then : (shown : K → Option Record) (fault : Fault) (old mid new : F) (calls : List (FileCall K)) → OnlyAsks calls → Calls does old calls mid → Led does mid new (EndsInVain shown folder fault)
+      → Led does old new (EndsInVain shown folder fault)
+  vain_then shown fault old mid new calls asks led vain = record { calls = calls ++ vain.calls; are = vain_behind shown folder fault calls vain.calls asks vain.are; led = calls_then does old mid new calls vain.calls led vain.led }
+
+  pub out_then : (shown : K → Option Record) (old new : F) (calls : List (FileCall K)) → OnlyAsks calls → Calls does old calls new → Led does old new (EndsInVain shown folder NoMemory)
+  out_then shown old new calls asks led = record { calls = calls; are = ran_out shown folder NoMemory calls refl asks; led = led }
+
   -- the folder's list was looked for and not found, where nothing is refused then
-  pub list_free : (before refused : List CommandRefusal) (old new : F) → refused ≡ [] → Led does old new (LooksForList folder before refused)
+  list_free : (before refused : List CommandRefusal) (old new : F) → refused ≡ [] → Led does old new (LooksForList folder before refused)
       → (before ≡ []) × Calls does old (LookedFor (list_path folder) false ∷ []) new
   list_free [] refused old new none led = (refl, by_found led.are.0 led.are.1 led.are.2) where
     by_found : (found : Bool) → AllZip IsExists (name_where found (codes "sites")) refused → led.calls ≡ LookedFor (list_path folder) found ∷ []
@@ -126,61 +136,47 @@ module _ {F K : Type 0} (does : F → FileCall K → F → Type 0) (folder : Lis
     by_found true named is = absurd (subst (λ rs. AllZip IsExists (codes "sites" ∷ []) rs) none named)
   list_free (why ∷ whys) refused old new none led = let bad = sym led.are.0 ∙ none in absurd (let no : ⊥ = cc in no)
 
-  module _ (sites : List Site) where
-    -- some were looked for, and memory ran out
-    pub some_looked : (old new : F) (found : List Bool) → Calls does old (looks_from folder sites 0 found) new → length found ≤ length sites → Led does old new (LooksForSome folder sites NoMemory)
-    some_looked old new found led few = record {
-      calls = looks_from folder sites 0 found ++ [];
-      are = record { found = found; few = few; rest = []; came = inr (refl, refl); calls_are = refl };
-      led = calls_then does old new new (looks_from folder sites 0 found) [] led refl;
-    }
+  -- some were made, and then this
+  pub made_then : (sites : List Site) (old mid new : F) (made : ℕ) (fault : Fault) (rest : List (FileCall K)) → Calls does old (makes_from folder sites 0 made) mid → made ≤ length sites
+      → ((made < length sites) × (rest ≡ Failed (file_path folder (name_at sites made)) fault ∷ [])) ⊎ (((made ≡ length sites) × (rest ≡ Failed (list_path folder) fault ∷ [])) ⊎ ((fault ≡ NoMemory) × (rest ≡ [])))
+      → Calls does mid rest new → Led does old new (MakesSome folder sites fault)
+  made_then sites old mid new made fault rest led few came more = record {
+    calls = makes_from folder sites 0 made ++ rest;
+    are = record { made = made; few = few; rest = rest; came = came; calls_are = refl };
+    led = calls_then does old mid new (makes_from folder sites 0 made) rest led more;
+  }
 
-    -- some were looked for, and the next one could not be, or memory ran out behind it
-    pub next_look_failed : (old mid new : F) (found : List Bool) (fault : Fault) → Calls does old (looks_from folder sites 0 found) mid → length found < length sites
-        → Led does mid new (LookFails (file_path folder (name_at sites (length found))) fault) → Led does old new (LooksForSome folder sites fault)
-    next_look_failed old mid new found fault led below more = by more.are where
-      by : LookFails (file_path folder (name_at sites (length found))) fault more.calls → Led does old new (LooksForSome folder sites fault)
-      by (inl is) = record {
-        calls = looks_from folder sites 0 found ++ more.calls;
-        are = record { found = found; few = omega (arith, below); rest = more.calls; came = inl (below, is); calls_are = refl };
-        led = calls_then does old mid new (looks_from folder sites 0 found) more.calls led more.led;
+  -- nothing is refused, and what is made failed
+  pub making_failed : (listed : SiteList) (old first second new : F) (found : List Bool) (exist before refused : List CommandRefusal) (fault : Fault) → Calls does old (looks_from folder listed.sites 0 found) first → length found ≡ length listed.sites
+      → AllZip IsExists (existing listed.sites 0 found) exist → before ≡ (refused_lines listed ++ too_few listed.sites) ++ exist → refused ≡ [] → Led does first second (LooksForList folder before refused)
+      → Led does second new (MakesSome folder listed.sites fault) → Led does old new (MakesThen folder listed fault)
+  making_failed listed old first second new found exist before refused fault led number named is none look more =
+      let free = list_free before refused first second none look in
+      let parts = nil_parts (refused_lines listed ++ too_few listed.sites) exist (sym is ∙ free.0) in
+      let both = nil_parts (refused_lines listed) (too_few listed.sites) parts.0 in
+      record {
+        calls = looks_from folder listed.sites 0 found ++ LookedFor (list_path folder) false ∷ more.calls;
+        are = record {
+          lines = both.0;
+          enough = both.1;
+          found = found;
+          number = number;
+          none = none_exist (existing listed.sites 0 found) exist parts.1 named;
+          rest = more.calls;
+          made = more.are;
+          calls_are = refl;
+        };
+        led =
+            calls_then does old first new (looks_from folder listed.sites 0 found) (LookedFor (list_path folder) false ∷ more.calls) led
+            (calls_then does first second new (LookedFor (list_path folder) false ∷ []) more.calls free.1 more.led);
       }
-      by (inr (out, is)) =
-          let here : 0 + length found ≡ length found = omega arith in
-          let path : file_path folder (name_at sites (length found)) ≡ file_path folder (name_at sites (0 + length found)) = ap (λ (n : ℕ). file_path folder (name_at sites n)) (sym here) in
-          let one = subst (λ p. Calls does mid (LookedFor p true ∷ []) new) path (subst (λ cs. Calls does mid cs new) is more.led) in
-          let all = subst (λ cs. Calls does old cs new) (sym (looks_more folder sites 0 found true))
-          (calls_then does old mid new (looks_from folder sites 0 found) (LookedFor (file_path folder (name_at sites (0 + length found))) true ∷ []) led one) in
-          let counted = length-append found (true ∷ []) in
-          subst (λ f. Led does old new (LooksForSome folder sites f)) (sym out) (some_looked old new (found ++ true ∷ []) all (omega (arith, below, counted)))
 
-    -- some were made, and then this
-    pub made_then : (old mid new : F) (made : ℕ) (fault : Fault) (rest : List (FileCall K)) → Calls does old (makes_from folder sites 0 made) mid → made ≤ length sites
-        → ((made < length sites) × (rest ≡ Failed (file_path folder (name_at sites made)) fault ∷ [])) ⊎ (((made ≡ length sites) × (rest ≡ Failed (list_path folder) fault ∷ [])) ⊎ RunsOut fault rest)
-        → Calls does mid rest new → Led does old new (MakesSome folder sites fault)
-    made_then old mid new made fault rest led few came more = record {
-      calls = makes_from folder sites 0 made ++ rest;
-      are = record { made = made; few = few; rest = rest; came = came; calls_are = refl };
-      led = calls_then does old mid new (makes_from folder sites 0 made) rest led more;
-    }
-
-  module _ (listed : SiteList) where
-    -- all were looked for, and the folder's list could not be
-    pub list_look_failed : (old mid new : F) (found : List Bool) (fault : Fault) → Calls does old (looks_from folder listed.sites 0 found) mid → length found ≡ length listed.sites → IsFree listed found
-        → Led does mid new (λ calls. LookFails (list_path folder) fault calls ⊎ RunsOut fault calls) → Led does old new (MakeFails folder listed fault)
-    list_look_failed old mid new found fault led number free more = record {
-      calls = looks_from folder listed.sites 0 found ++ more.calls;
-      are = inr (inr (inl (record { found = found; number = number; free = free; rest = more.calls; came = more.are; calls_are = refl })));
-      led = calls_then does old mid new (looks_from folder listed.sites 0 found) more.calls led more.led;
-    }
-
-    -- nothing is refused, and what is made failed
-    pub making_failed : (old first second new : F) (found : List Bool) (fault : Fault) → Calls does old (looks_from folder listed.sites 0 found) first → length found ≡ length listed.sites → IsFree listed found
-        → Calls does first (LookedFor (list_path folder) false ∷ []) second → Led does second new (MakesSome folder listed.sites fault) → Led does old new (MakeFails folder listed fault)
-    making_failed old first second new found fault led number free look more = record {
-      calls = looks_from folder listed.sites 0 found ++ LookedFor (list_path folder) false ∷ more.calls;
-      are = inr (inr (inr (record { found = found; number = number; free = free; rest = more.calls; came = more.are; calls_are = refl })));
-      led =
-          calls_then does old first new (looks_from folder listed.sites 0 found) (LookedFor (list_path folder) false ∷ more.calls) led
-          (calls_then does first second new (LookedFor (list_path folder) false ∷ []) more.calls look more.led);
-    }
+  -- so behind the list
+  pub init_failed : (shown : K → Option Record) (list : List ℕ) (fault : Fault) (old mid new : F) (text : List ℕ) (listed : SiteList) → IsSiteList text listed → does old (ReadFile list text) mid
+      → Led does mid new (λ calls. EndsInVain shown folder fault calls ⊎ MakesThen folder listed fault calls) → Led does old new (InitFails folder shown list fault)
+  init_failed shown list fault old mid new text listed is read fails =
+      record { calls = ReadFile list text ∷ fails.calls; are = by fails.are; led = (mid, read, fails.led) }
+    where
+      by : EndsInVain shown folder fault fails.calls ⊎ MakesThen folder listed fault fails.calls → InitFails folder shown list fault (ReadFile list text ∷ fails.calls)
+      by (inl vain) = inl (vain_behind shown folder fault (ReadFile list text ∷ []) fails.calls (asks_first (ReadFile list text) [] tt none_asks) vain)
+      by (inr made) = inr (record { text = text; listed = listed; is_list = is; rest = fails.calls; made = made; calls_are = refl })

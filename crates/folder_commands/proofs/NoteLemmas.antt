@@ -1,13 +1,10 @@
--- the sites that stopped, one after another
-use Rattle.std.proofs.Common.{◌≡◌, ℕ, ◌+◌, ◌<◌, List, [], ◌∷◌, ◌++◌, drop, get_or, length, refl, sym, ap, ◌∙◌, append_assoc, append-nil}
-use Rattle.std.proofs.lemmas.List.{drop_more}
-use Rattle.event_json.specs.Sites.{Site}
-use Rattle.recall_text.specs.Words.{name_at}
+-- the sites that stopped, one after another, and what is noted of them
+use Rattle.std.proofs.Common.{◌≡◌, ℕ, ◌+◌, ◌<◌, List, [], ◌∷◌, ◌++◌, drop, get_or, length, refl, sym, ap, subst, take, ◌∙◌, append_assoc, append-nil}
+use Rattle.std.specs.List.{AllZip}
+use Rattle.std.proofs.lemmas.List.{drop_more, take_more}
 use Rattle.site_threads.specs.Jobs.{stops_in}
 use Rattle.site_threads.specs.declared.lists.RunLog.{RunLog}
-use Rattle.folder_commands.specs.Folders.{file_path}
-use Rattle.folder_commands.specs.Notes.{TellsStops, cause_of, stop_at, stop_line, stops_from}
-use Rattle.folder_commands.specs.declared.notes.Stop.{Stop}
+use Rattle.folder_commands.specs.Notes.{cause_of, stop_at, stops_from}
 
 -- those from a site on are itself, if it stopped, and those of the sites behind it
 pub stops_next : (i : ℕ) (befores afters : List ℕ) (lists : List RunLog) (b a : ℕ) (l : RunLog) → i < length befores → i < length afters → i < length lists
@@ -19,23 +16,14 @@ stops_next i befores afters lists b a l x y z = λ j. stops_from i (drop_more be
 pub stops_none : (i : ℕ) (befores afters : List ℕ) (lists : List RunLog) → drop i befores ≡ [] → stops_from i (drop i befores) (drop i afters) (drop i lists) ≡ []
 stops_none i befores afters lists none = ap (λ bs. stops_from i bs (drop i afters) (drop i lists)) none
 
--- a line of seven parts, one behind another
-pub seven_parts : (a b c d e f g : List ℕ) → a ++ (b ++ (c ++ (d ++ (e ++ (f ++ g))))) ≡ a ++ b ++ c ++ d ++ e ++ f ++ g
-seven_parts a b c d e f g = sym
-    (append_assoc (a ++ b ++ c ++ d ++ e) f g ∙ (append_assoc (a ++ b ++ c ++ d) e (f ++ g) ∙ (append_assoc (a ++ b ++ c) d (e ++ (f ++ g))
-    ∙ (append_assoc (a ++ b) c (d ++ (e ++ (f ++ g))) ∙ append_assoc a b (c ++ (d ++ (e ++ (f ++ g))))))))
+module _ {X Y : Type 0} (R : X → Y → Type 0) where
+  -- one more pair behind lists that agree element by element
+  pairs_push : (xs : List X) (ys : List Y) (x : X) (y : Y) → AllZip R xs ys → R x y → AllZip R (xs ++ x ∷ []) (ys ++ y ∷ [])
+  pairs_push [] [] x y h r = (r, tt)
+  pairs_push [] (v ∷ ys) x y h r = absurd h
+  pairs_push (u ∷ xs) [] x y h r = absurd h
+  pairs_push (u ∷ xs) (v ∷ ys) x y h r = (h.0, pairs_push xs ys x y h.1 r)
 
-module _ (knows : List ℕ → List ℕ → Type 0) (folder : List ℕ) (sites : List Site) where
-  -- one site more
-  pub tells_more : (stops : List Stop) (text : List ℕ) (stop : Stop) (known : List ℕ) → TellsStops knows folder sites stops text
-      → knows (file_path folder (name_at sites stop.site)) known → TellsStops knows folder sites (stops ++ stop ∷ []) (text ++ stop_line sites stop ++ known)
-  tells_more [] text stop known none one =
-      (known, [], one, refl, ap (λ t. t ++ stop_line sites stop ++ known) none ∙ sym (append-nil (stop_line sites stop ++ known)))
-  tells_more (s ∷ stops) text stop known (first, rest, knows_first, tells, is) one = (
-    first,
-    rest ++ stop_line sites stop ++ known,
-    knows_first,
-    tells_more stops rest stop known tells one,
-    ap (λ t. t ++ stop_line sites stop ++ known) is ∙ ap (λ t. t ++ known) (append_assoc (stop_line sites s ++ first) rest (stop_line sites stop))
-        ∙ append_assoc (stop_line sites s ++ first) (rest ++ stop_line sites stop) known,
-  )
+  -- the next element of a list, beside its own
+  pub pairs_more : (xs : List X) (ys : List Y) (i : ℕ) (x : X) (y : Y) → i < length xs → x ≡ get_or xs i x → AllZip R (take i xs) ys → R x y → AllZip R (take (i + 1) xs) (ys ++ y ∷ [])
+  pairs_more xs ys i x y lt is h r = subst (λ l. AllZip R l (ys ++ y ∷ [])) (ap (λ z. take i xs ++ z ∷ []) is ∙ sym (take_more xs i x lt)) (pairs_push (take i xs) ys x y h r)

@@ -17,11 +17,11 @@ use Rattle.wire_core.proofs.Running.{up_records}
 use Rattle.world_core.specs.Keepers.{AllShow, StandsAs}
 use Rattle.world_core.specs.Worlds.{Up}
 use Rattle.world_core.specs.declared.faults.WorldFault.TheVariants as worlds
-use Rattle.folder_commands.specs.Calls.{AreShown}
-use Rattle.folder_commands.proofs.CallsInTurn.{are_shown}
+use Rattle.site_folders.specs.Keepers.{AreShown}
+use Rattle.site_folders.proofs.CallsInTurn.{are_shown}
 use Rattle.folder_commands.specs.Runs.{AnswersRun, CameToItsEnd, TellsCause, TellsRecalls}
-use Rattle.folder_commands.specs.Notes.{AreNotes, AreOfSites}
-use Rattle.folder_commands.specs.declared.notes.RunNotes.{RunNotes}
+use Rattle.folder_commands.specs.Notes.{AreOfSites, EndsSo}
+use Rattle.folder_commands.specs.declared.notes.RunEnd.{RunEnd}
 
 module _ {K : Type 0} (shown : K → Option Record) where
   -- a keeper that stands where its list leads is open
@@ -46,10 +46,10 @@ module _ {K : Type 0} (shown : K → Option Record) where
       record { few = omega (arith, many, back, few); befores = omega (arith, long, many, back); afters = length-map new failed ∙ many }
 
   -- what is reported after a run of sites whose desks take no jobs
-  pub came_to_its_end : (failed : K → ℕ) (may : K → Record → Type 0) (turns : ℕ) (old new : List K) (ds : List DeskOut) (lists : List RunLog) (recalls : List StartedRecall) (notes : RunNotes) (before : List ℕ) → AllZip (Began shown) old lists → AllZip (IsKept shown) new lists
+  pub came_to_its_end : (failed : K → ℕ) (may : K → Record → Type 0) (turns : ℕ) (old new : List K) (ds : List DeskOut) (lists : List RunLog) (recalls : List StartedRecall) (end : RunEnd) (before : List ℕ) → AllZip (Began shown) old lists → AllZip (IsKept shown) new lists
       → All (λ (d : DeskOut). d.limit ≡ 0) ds → AllZip HasEnd ds lists → AllZip (HasTurned shown turns) new lists → RanAsAWorld shown may old new lists → before ≡ map failed old
-      → TellsRecalls shown new recalls → AreNotes before (map failed new) lists recalls notes → CameToItsEnd shown failed may turns old new recalls notes
-  came_to_its_end failed may turns old new ds lists recalls notes before began kept none ends turned run counts told noted = record {
+      → TellsRecalls shown new recalls → EndsSo before (map failed new) lists recalls end → CameToItsEnd shown failed may turns old new recalls end
+  came_to_its_end failed may turns old new ds lists recalls end before began kept none ends turned run counts told noted = record {
     lists = lists;
     began = began;
     kept = kept;
@@ -57,7 +57,7 @@ module _ {K : Type 0} (shown : K → Option Record) where
     turned = turned;
     run = run;
     told = told;
-    noted = subst (λ bs. AreNotes bs (map failed new) lists recalls notes) counts noted;
+    noted = subst (λ bs. EndsSo bs (map failed new) lists recalls end) counts noted;
   }
 
   module _ (may : K → Record → Type 0) where
@@ -74,10 +74,10 @@ module _ {K : Type 0} (shown : K → Option Record) where
         subst StandTogether (up_records rs) (record { world = fit.again (world_up rs []) (up, refl); exact = fit.exact (world_up rs []) (up, refl) })
 
     -- inconsistent records are the outcome, and nothing else that prevents a run
-    pub misfit_told : (failed : K → ℕ) (turns : ℕ) (old new : List K) (cause : GatherCause) (outcome : Outcome) (notes : Option RunNotes) → HindersRun shown new cause → FitAfter shown may old cause new → TellsCause cause outcome → notes ≡ None
-        → AnswersRun shown failed may turns old new outcome notes
-    misfit_told failed turns old new (NotAWorld (worlds.Misfit misfit)) outcome notes (records, shows, dont) fit told none =
-        subst (λ o. AnswersRun shown failed may turns old new o notes) (sym told) (
+    pub misfit_told : (failed : K → ℕ) (turns : ℕ) (old new : List K) (cause : GatherCause) (outcome : Outcome) (end : Option RunEnd) → HindersRun shown new cause → FitAfter shown may old cause new → TellsCause cause outcome → end ≡ None
+        → AnswersRun shown failed may turns old new outcome end
+    misfit_told failed turns old new (NotAWorld (worlds.Misfit misfit)) outcome end (records, shows, dont) fit told none =
+        subst (λ o. AnswersRun shown failed may turns old new o end) (sym told) (
           record {
             records = records;
             shows = subst (λ ks. AreShown shown ks records) fit (are_shown shown new records shows);
@@ -86,9 +86,9 @@ module _ {K : Type 0} (shown : K → Option Record) where
           fit,
           none,
         )
-    misfit_told failed turns old new (NotAWorld worlds.NoMemory) outcome notes hinders fit told none = absurd told
-    misfit_told failed turns old new (NotAWorld (worlds.OtherSites place)) outcome notes hinders fit told none = absurd told
-    misfit_told failed turns old new (NotAWorld (worlds.Closed place)) outcome notes hinders fit told none = absurd told
-    misfit_told failed turns old new NoMemory outcome notes hinders fit told none = absurd told
-    misfit_told failed turns old new (SiteLost site) outcome notes hinders fit told none = absurd told
-    misfit_told failed turns old new (GaveUp site) outcome notes hinders fit told none = absurd told
+    misfit_told failed turns old new (NotAWorld worlds.NoMemory) outcome end hinders fit told none = absurd told
+    misfit_told failed turns old new (NotAWorld (worlds.OtherSites place)) outcome end hinders fit told none = absurd told
+    misfit_told failed turns old new (NotAWorld (worlds.Closed place)) outcome end hinders fit told none = absurd told
+    misfit_told failed turns old new NoMemory outcome end hinders fit told none = absurd told
+    misfit_told failed turns old new (SiteLost site) outcome end hinders fit told none = absurd told
+    misfit_told failed turns old new (GaveUp site) outcome end hinders fit told none = absurd told

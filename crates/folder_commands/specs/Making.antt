@@ -1,20 +1,23 @@
 -- Which calls of the files `init` makes, and what it returns.
-use Rattle.std.specs.Prelude.{◌≡◌, ◌+◌, ℕ, zero, suc, Bool, true, false, List, [], ◌∷◌, ◌++◌, codes, length, map, nat_le, if◌then◌else◌}
+use Rattle.std.specs.Prelude.{◌≡◌, ◌⊎◌, ◌≤◌, ◌<◌, ◌+◌, ℕ, zero, suc, Bool, true, false, List, [], ◌∷◌, ◌++◌, codes, length, map, nat_le, Option, if◌then◌else◌}
 use Rattle.std.specs.List.{AllZip}
 use Rattle.event_json.specs.Sites.{Site}
+use Rattle.recall_outcomes.specs.declared.faults.Fault.{Fault}
+use Rattle.recall_outcomes.specs.declared.faults.Fault.TheVariants.{NoMemory}
+use Rattle.recall_outcomes.specs.declared.notes.Notes.TheVariants.{Nothing}
 use Rattle.recall_outcomes.specs.declared.outcomes.CommandRefusal.{CommandRefusal}
 use Rattle.recall_outcomes.specs.declared.outcomes.CommandRefusal.TheVariants.{Line, NoWorld}
 use Rattle.recall_outcomes.specs.declared.outcomes.Outcome.{Outcome}
 use Rattle.recall_outcomes.specs.declared.outcomes.Outcome.TheVariants.{Created}
+use Rattle.recall_outcomes.specs.declared.outcomes.Output.{Output}
 use Rattle.recall_text.specs.SiteLists.{IsSiteList}
 use Rattle.recall_text.specs.Words.{name_at}
 use Rattle.recall_text.specs.declared.site_lists.SiteList.{SiteList}
-use Rattle.site_core.specs.Records.{fresh}
-use Rattle.folder_commands.specs.Calls.{IsPlain}
-use Rattle.folder_commands.specs.FileCalls.{FileCall, LookedFor, MadeSite, ReadFile, WroteFile}
-use Rattle.folder_commands.specs.Folders.{file_path, list_path}
-use Rattle.folder_commands.specs.Refusals.{AreRefused, IsExists}
-use Rattle.folder_commands.specs.declared.outputs.Output.{Output}
+use Rattle.site_core.specs.Records.{Record, fresh}
+use Rattle.site_folders.specs.Faults.{EndsInVain}
+use Rattle.site_folders.specs.FileCalls.{FileCall, Failed, LookedFor, MadeSite, ReadFile, WroteFile}
+use Rattle.site_folders.specs.Paths.{file_path, list_path}
+use Rattle.site_folders.specs.Refusals.{AreRefused, IsExists}
 
 -- ---- what is refused
 
@@ -86,7 +89,45 @@ module _ {K : Type 0} (folder : List ℕ) where
     pub text : List ℕ
     pub listed : SiteList
     pub is_list : IsSiteList text listed
-    pub plain : IsPlain listed.sites output
+    pub same : output.sites ≡ listed.sites
+    pub noted : output.notes ≡ Nothing
     pub rest : List (FileCall K)
     pub made : MakesListed listed text output.outcome rest
     pub calls_are : calls ≡ ReadFile list text ∷ rest
+
+  -- ---- where it has no outcome
+
+  -- the files of the first sites were made, in the order of their numbers; then that of the next one could not be, or behind all
+  -- of them the folder's list; or memory ran out
+  pub record MakesSome (sites : List Site) (fault : Fault) (calls : List (FileCall K)) : Type 0 where
+    pub made : ℕ
+    pub few : made ≤ length sites
+    pub rest : List (FileCall K)
+    pub came :
+        ((made < length sites) × (rest ≡ Failed (file_path folder (name_at sites made)) fault ∷ []))
+        ⊎ (((made ≡ length sites) × (rest ≡ Failed (list_path folder) fault ∷ [])) ⊎ ((fault ≡ NoMemory) × (rest ≡ [])))
+    pub calls_are : calls ≡ makes_from folder sites 0 made ++ rest
+
+  -- no line is refused, there are sites enough, neither a site nor the folder was found to have a file, and then some were made
+  pub record MakesThen (listed : SiteList) (fault : Fault) (calls : List (FileCall K)) : Type 0 where
+    pub lines : refused_lines listed ≡ []
+    pub enough : too_few listed.sites ≡ []
+    pub found : List Bool
+    pub number : length found ≡ length listed.sites
+    pub none : existing listed.sites 0 found ≡ []
+    pub rest : List (FileCall K)
+    pub made : MakesSome listed.sites fault rest
+    pub calls_are : calls ≡ looks_from folder listed.sites 0 found ++ LookedFor (list_path folder) false ∷ rest
+
+  -- so of the list that was read
+  pub record ListMakesThen (list : List ℕ) (fault : Fault) (calls : List (FileCall K)) : Type 0 where
+    pub text : List ℕ
+    pub listed : SiteList
+    pub is_list : IsSiteList text listed
+    pub rest : List (FileCall K)
+    pub made : MakesThen listed fault rest
+    pub calls_are : calls ≡ ReadFile list text ∷ rest
+
+  -- nothing was made, or some files were
+  abbrev pub InitFails : (K → Option Record) → List ℕ → Fault → List (FileCall K) → Type 0
+  InitFails shown list fault calls = EndsInVain shown folder fault calls ⊎ ListMakesThen list fault calls

@@ -1,12 +1,14 @@
 -- What a run of all sites comes to.
-use Rattle.std.specs.Prelude.{◌≡◌, ◌++◌, ℕ, List, All, length, map, Option, Some, None, Result}
+use Rattle.std.specs.Prelude.{◌≡◌, ◌⊎◌, ◌++◌, ℕ, List, All, length, map, Option, Some, None, Result}
 use Rattle.std.specs.List.{AllZip}
 use Rattle.event_json.specs.Sites.{Site}
 use Rattle.keeper_core.specs.declared.faults.Unopened.{Unopened}
 use Rattle.recall_outcomes.specs.declared.faults.Fault.{Fault}
+use Rattle.recall_outcomes.specs.declared.faults.Fault.TheVariants as faults
 use Rattle.recall_outcomes.specs.declared.outcomes.Outcome.{Outcome}
 use Rattle.recall_outcomes.specs.declared.outcomes.Outcome.TheVariants.{Inconsistent}
 use Rattle.recall_outcomes.specs.declared.outcomes.Outcome.TheVariants as outcomes
+use Rattle.recall_outcomes.specs.declared.outcomes.Output.{Output}
 use Rattle.recall_outcomes.specs.declared.outcomes.StartedRecall.{StartedRecall}
 use Rattle.site_core.specs.Records.{Record}
 use Rattle.site_recovery.specs.Looks.{world_of}
@@ -16,16 +18,17 @@ use Rattle.site_threads.specs.Gathering.{Began, Explains, FitAfter, HasTurned, H
 use Rattle.site_threads.specs.Jobs.{AreOfFrames}
 use Rattle.site_threads.specs.declared.gather.GatherCause.{GatherCause}
 use Rattle.site_threads.specs.declared.gather.GatherCause.TheVariants.{NotAWorld}
+use Rattle.site_threads.specs.declared.gather.GatherCause.TheVariants as gathering
 use Rattle.site_threads.specs.declared.lists.RunLog.{RunLog}
 use Rattle.world_core.specs.declared.faults.WorldFault.{WorldFault}
 use Rattle.world_core.specs.declared.faults.WorldFault.TheVariants as worlds
-use Rattle.folder_commands.specs.Audits.{begun}
-use Rattle.folder_commands.specs.Calls.{AfterList, AreShown, KeepFrom, closes_all, opens_from}
-use Rattle.folder_commands.specs.Faults.{gather_fault}
-use Rattle.folder_commands.specs.FileCalls.{FileCall}
-use Rattle.folder_commands.specs.Notes.{AreNotes, TellsOf}
-use Rattle.folder_commands.specs.declared.notes.RunNotes.{RunNotes}
-use Rattle.folder_commands.specs.declared.outputs.Output.{Output}
+use Rattle.site_folders.specs.Begun.{begun}
+use Rattle.site_folders.specs.Faults.{EndsInVain}
+use Rattle.site_folders.specs.FileCalls.{FileCall}
+use Rattle.site_folders.specs.Keepers.{AreShown, KeepFrom, closes_all, opens_from}
+use Rattle.site_folders.specs.Lists.{AfterList}
+use Rattle.folder_commands.specs.Notes.{EndsSo, NotesEnd}
+use Rattle.folder_commands.specs.declared.notes.RunEnd.{RunEnd}
 
 -- the keepers show records that stand together, and these are the recalls that sites have begun in them, in order
 pub record TellsRecalls {K : Type 0} (shown : K → Option Record) (keepers : List K) (recalls : List StartedRecall) : Type 0 where
@@ -45,7 +48,7 @@ module _ {K : Type 0} (shown : K → Option Record) (failed : K → ℕ) (may : 
   -- them; each step is that of a frame, and each site's gate was asked for just these turns, or for fewer where the site is
   -- done. What the sites did is a run of the world, which comes out as the headline says. The notes are those of these
   -- steps, of how often the devices had failed before and have after, and of these recalls
-  pub record CameToItsEnd (old new : List K) (recalls : List StartedRecall) (notes : RunNotes) : Type 0 where
+  pub record CameToItsEnd (old new : List K) (recalls : List StartedRecall) (end : RunEnd) : Type 0 where
     pub lists : List RunLog
     pub began : AllZip (Began shown) old lists
     pub kept : AllZip (IsKept shown) new lists
@@ -53,13 +56,13 @@ module _ {K : Type 0} (shown : K → Option Record) (failed : K → ℕ) (may : 
     pub turned : AllZip (HasTurned shown turns) new lists
     pub run : RanAsAWorld shown may old new lists
     pub told : TellsRecalls shown new recalls
-    pub noted : AreNotes (map failed old) (map failed new) lists recalls notes
+    pub noted : EndsSo (map failed old) (map failed new) lists recalls end
 
   -- the run came to its end; or there was none, since the records aren't consistent, and the keepers are as they were
-  abbrev pub AnswersRun : List K → List K → Outcome → Option RunNotes → Type 0
-  AnswersRun old new (outcomes.Ran recalls) (Some notes) = CameToItsEnd old new recalls.items notes
-  AnswersRun old new (Inconsistent misfit) notes = TellsTheMisfit shown old misfit × (new ≡ old) × (notes ≡ None)
-  AnswersRun old new other notes = ⊥
+  abbrev pub AnswersRun : List K → List K → Outcome → Option RunEnd → Type 0
+  AnswersRun old new (outcomes.Ran recalls) (Some end) = CameToItsEnd old new recalls.items end
+  AnswersRun old new (Inconsistent misfit) end = TellsTheMisfit shown old misfit × (new ≡ old) × (end ≡ None)
+  AnswersRun old new other end = ⊥
 
 -- of the causes that prevent a run, the misfit alone is an outcome
 abbrev pub TellsWorldFault : WorldFault → Outcome → Type 0
@@ -69,6 +72,19 @@ TellsWorldFault fault outcome = ⊥
 abbrev pub TellsCause : GatherCause → Outcome → Type 0
 TellsCause (NotAWorld fault) outcome = TellsWorldFault fault outcome
 TellsCause cause outcome = ⊥
+
+-- the faults of the causes; a misfit is none
+abbrev pub world_fault : WorldFault → Option Fault
+world_fault worlds.NoMemory = Some faults.NoMemory
+world_fault (worlds.OtherSites place) = Some faults.OtherSites
+world_fault (worlds.Misfit misfit) = None
+world_fault (worlds.Closed place) = Some faults.Closed
+
+abbrev pub gather_fault : GatherCause → Option Fault
+gather_fault (gathering.NotAWorld fault) = world_fault fault
+gather_fault gathering.NoMemory = Some faults.NoMemory
+gather_fault (gathering.SiteLost site) = Some faults.SiteLost
+gather_fault (gathering.GaveUp site) = Some faults.GaveUp
 
 -- The run has no outcome: the fault is that of a cause which prevents it, and a gate that is named gave up, a keeper that
 -- is named was refused. The keepers are as they were where they make no world, and else the sites stand together in
@@ -90,12 +106,33 @@ module _ {K : Type 0} (knows : List ℕ → List ℕ → Type 0) (shown : K → 
     pub opened : KeepFrom shown stored sites 0 keepers records
     pub number : length keepers ≡ length sites
     pub after : List K
-    pub notes : Option RunNotes
-    pub told : AnswersRun shown failed may turns keepers after output.outcome notes
+    pub end : Option RunEnd
+    pub told : AnswersRun shown failed may turns keepers after output.outcome end
     pub lasts : All stored after
-    pub noted : TellsOf knows folder sites notes output.notes
+    pub noted : NotesEnd knows folder sites end output.notes
     pub calls_are : calls ≡ opens_from folder sites 0 keepers ++ closes_all after
 
   -- all sites of a folder ran for at most so many turns
   abbrev pub RunsAt : ℕ → Output → List (FileCall K) → Type 0
   RunsAt turns output calls = AfterList folder (λ sites rest. (output.sites ≡ sites) × RunsAll sites turns output rest) calls
+
+-- ---- where it has no outcome
+
+module _ {K G : Type 0} (shown : K → Option Record) (failed : K → ℕ) (may : K → Record → Type 0) (reopens : K → Result K (Unopened K) → Type 0) (gives_up : G → ℕ → ℕ → Type 0) (stored : K → Type 0) (folder : List ℕ) (turns : ℕ) where
+  -- the files of all sites were opened, and closed after the run, on each of which a crash leaves what its keeper shows, or may
+  -- be opened in: the fault is that of the run; or the run is done, and memory ran out for what is noted of it
+  pub record BreaksRun (fault : Fault) (sites : List Site) (calls : List (FileCall K)) : Type 0 where
+    pub keepers : List K
+    pub records : List Record
+    pub opened : KeepFrom shown stored sites 0 keepers records
+    pub number : length keepers ≡ length sites
+    pub after : List K
+    pub came :
+        FailsRun shown may reopens gives_up turns keepers after fault
+        ⊎ ((fault ≡ faults.NoMemory) × (outcome : Outcome) × (end : Option RunEnd) × AnswersRun shown failed may turns keepers after outcome end)
+    pub lasts : All stored after
+    pub calls_are : calls ≡ opens_from folder sites 0 keepers ++ closes_all after
+
+  -- a run has no outcome: nothing was changed, or it broke off
+  abbrev pub RunFails : Fault → List (FileCall K) → Type 0
+  RunFails fault calls = EndsInVain shown folder fault calls ⊎ AfterList folder (BreaksRun fault) calls

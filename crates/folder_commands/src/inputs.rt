@@ -1,25 +1,25 @@
 //! What comes of an input at a site: a document that it captures, or a text that spells an item of which it starts a
 //! recall.
 
-ghost use Rattle.std.specs.Prelude.{◌≡◌, Ok, Some, IfOk};
+ghost use Rattle.std.specs.Prelude.{◌≡◌, Ok, Result, Some, IfErr, IfOk, MatchResult};
 ghost use Rattle.event_json.specs.Untraced.{text_untraced};
 ghost use Rattle.event_json.specs.declared.documents.Doc.{Doc};
-ghost use Rattle.event_json.specs.declared.untraced.Untraced.{Untraced};
-ghost use Rattle.recall_outcomes.specs.declared.batches.InputOutcome.{InputOutcome};
 ghost use Rattle.site_core.specs.Records.{Record};
 ghost use Rattle.site_core.specs.Steps.{IsReadAs};
-ghost use Rattle.folder_commands.specs.Batches.{ComesTo, ReadsAs, StartComesTo, came_of, done_as, unread};
-ghost use Rattle.folder_commands.specs.declared.inputs.Doing.TheVariants as doings;
-ghost use Rattle.folder_commands.specs.Untold.{PassesOver};
+ghost use Rattle.site_core.specs.declared.outcomes.Effects.{Effects};
+ghost use Rattle.site_core.specs.declared.outcomes.Refusal.{Refusal};
+ghost use Rattle.folder_commands.specs.Inputs.{ComesTo, FailsInput, PassesOver, ReadsAs, TellsInput, came_of, unread};
+ghost use Rattle.folder_commands.specs.Steps.{FailsStep, Steps};
 
-use crate::outputs::refusal_of;
-use crate::untold::{untraced_of, with_untraced};
+use crate::steps::step;
+use crate::untraced::{untraced_of, with_untraced};
 use epc_core::Epc;
 use event_json::{Sequence, Untraced};
 use item_spellings::{ScanFault, Spelled, Spelling, SpellingFault, read_item};
-use keeper_core::{KeepFault, SiteKeeper};
-use recall_outcomes::{CommandRefusal, Fault, InputOutcome, Task};
+use keeper_core::SiteKeeper;
+use recall_outcomes::{CommandRefusal, Fault, InputOutcome};
 use site_core::{Effects, SiteInput};
+use site_folders::refusal_of;
 use std::alloc::{AllocError, Global};
 use std::str;
 
@@ -32,14 +32,12 @@ pub(crate) enum Doing {
     Start(Spelling),
 }
 
-/// As what that counts, and is told.
-pub(crate) fn done_as(doing: Doing) -> Task
-    ensures { result ≡ done_as doing }
-{
-    match doing {
-        Doing::Capture => Task::Capture,
-        Doing::Start(_) => Task::Start,
-    }
+/// An input: what is done with it, and where it comes from.
+#[derive(Debug, Drop)]
+pub(crate) struct Given {
+    pub(crate) doing: Doing,
+    pub(crate) source: String,
+    pub(crate) bytes: Vec<u8>,
 }
 
 /// What comes of an input at a site, and what was passed over then.
@@ -51,8 +49,10 @@ pub(crate) fn done_with<K: SiteKeeper>(
     passed: Untraced,
 ) -> Result<(InputOutcome, Untraced), Fault>
     ensures came { (old : Record) → K.shown keeper.old ≡ Some old
-        → IfOk result (λ r. (new : Record) × (K.shown keeper.new ≡ Some new)
-        × ComesTo doing old bytes.items r.0 new × PassesOver old.sites bytes.items r.0 passed r.1) }
+        → MatchResult result (λ r. (new : Record) × (K.shown keeper.new ≡ Some new)
+        × ComesTo doing old bytes.items r.0 new
+        × PassesOver doing old.sites bytes.items r.0 passed r.1)
+        (FailsInput doing old bytes.items (K.shown keeper.new) (K.may keeper.new)) }
     ensures stored { K.stored keeper.old → K.stored keeper.new }
 {
     match doing {
@@ -72,39 +72,27 @@ fn captured<K: SiteKeeper>(
     passed: Untraced,
 ) -> Result<(InputOutcome, Untraced), Fault>
     ensures came { (old : Record) → K.shown keeper.old ≡ Some old
-        → IfOk result (λ r. (new : Record) × (K.shown keeper.new ≡ Some new)
-        × ComesTo doings.Capture old document.items r.0 new
-        × PassesOver old.sites document.items r.0 passed r.1) }
+        → MatchResult result (λ r. (new : Record) × (K.shown keeper.new ≡ Some new)
+        × ComesTo Doing.Capture old document.items r.0 new
+        × PassesOver Doing.Capture old.sites document.items r.0 passed r.1)
+        (FailsInput Doing.Capture old document.items (K.shown keeper.new) (K.may keeper.new)) }
     ensures stored { K.stored keeper.old → K.stored keeper.new }
 {
     let untraced = untraced_at(alloc, keeper, document.as_slice())?;
-    match keeper.apply(SiteInput::Capture(Sequence::from_vec(document))) {
-        Ok(effects) => {
-            let Some(untraced) = untraced else {
-                unreachable!()
-            };
-            Ok((came_of(effects), with_untraced(passed, untraced)))
-        }
-        Err(KeepFault::Refused(why)) => {
-            Ok((InputOutcome::Refused(CommandRefusal::Step(why)), passed))
-        }
-        Err(KeepFault::NoMemory) => Err(Fault::NoMemory),
-        Err(KeepFault::Device) => Err(Fault::Device),
-        Err(KeepFault::Store) => Err(Fault::Store),
-        Err(KeepFault::Closed) => Err(Fault::Closed),
+    let done = step(keeper, SiteInput::Capture(Sequence::from_vec(document)))?;
+    match done {
+        Ok(effects) => Ok((came_of(effects), with_untraced(passed, untraced))),
+        Err(why) => Ok((InputOutcome::Refused(CommandRefusal::Step(why)), passed)),
     }
 }
 
-/// What a document says that isn't traced by the sites of the record that a keeper shows; `None` where it is refused as
-/// a document.
-fn untraced_at<K: SiteKeeper>(
-    alloc: Global,
-    keeper: &K,
-    document: &[u8],
-) -> Result<Option<Untraced>, Fault>
-    ensures { (old : Record) → K.shown keeper.now ≡ Some old → (doc : Doc)
-        → IsReadAs old.sites document.now (Ok doc) → IfOk result (λ found. (untraced : Untraced)
-        × (found ≡ Some untraced) × (text_untraced old.sites document.now ≡ Ok untraced)) }
+/// What a document says that isn't traced by the sites of the record that a keeper shows.
+fn untraced_at<K: SiteKeeper>(alloc: Global, keeper: &K, document: &[u8]) -> Result<Untraced, Fault>
+    ensures found { (old : Record) → K.shown keeper.now ≡ Some old → (doc : Doc)
+        → IsReadAs old.sites document.now (Ok doc)
+        → IfOk result (λ untraced. text_untraced old.sites document.now ≡ Ok untraced) }
+    ensures failed { (old : Record) → K.shown keeper.now ≡ Some old
+        → IfErr result (λ fault. fault ≡ Fault.NoMemory) }
 {
     match keeper.view() {
         Some(state) => untraced_of(alloc, document, state.sites()),
@@ -112,7 +100,7 @@ fn untraced_at<K: SiteKeeper>(
     }
 }
 
-/// What comes of the start of a recall of the item of an EPC at a site.
+/// What comes of the start of a recall of the item that a text spells.
 fn started<K: SiteKeeper>(
     alloc: Global,
     keeper: &mut K,
@@ -120,16 +108,31 @@ fn started<K: SiteKeeper>(
     text: &[u8],
 ) -> Result<InputOutcome, Fault>
     ensures came { (old : Record) → K.shown keeper.old ≡ Some old
-        → IfOk result (λ came. (new : Record) × (K.shown keeper.new ≡ Some new)
-        × ComesTo (doings.Start spelling) old text.now came new) }
+        → MatchResult result (λ came. (new : Record) × (K.shown keeper.new ≡ Some new)
+        × ComesTo (Doing.Start spelling) old text.now came new)
+        (FailsInput (Doing.Start spelling) old text.now (K.shown keeper.new) (K.may keeper.new)) }
     ensures stored { K.stored keeper.old → K.stored keeper.new }
 {
-    match item_in(alloc, spelling, text)? {
+    let read = item_in(alloc, spelling, text)?;
+    match read {
         Ok(item) => started_of(keeper, item),
-        Err(fault) => match keeper.view() {
-            Some(_) => Ok(InputOutcome::Refused(refusal_of(fault))),
-            None => Err(Fault::Closed),
-        },
+        Err(fault) => Ok(InputOutcome::Refused(refusal_of(fault))),
+    }
+}
+
+/// What comes of the start of a recall of an item.
+fn started_of<K: SiteKeeper>(keeper: &mut K, item: Epc) -> Result<InputOutcome, Fault>
+    ensures came { (old : Record) → K.shown keeper.old ≡ Some old
+        → MatchResult result (λ came. (new : Record) × (K.shown keeper.new ≡ Some new)
+        × (done : Result Effects Refusal) × Steps old (SiteInput.Start item) (Some new) done
+        × TellsInput done came)
+        (FailsStep old (SiteInput.Start item) (K.shown keeper.new) (K.may keeper.new)) }
+    ensures stored { K.stored keeper.old → K.stored keeper.new }
+{
+    let done = step(keeper, SiteInput::Start(item))?;
+    match done {
+        Ok(effects) => Ok(came_of(effects)),
+        Err(why) => Ok(InputOutcome::Refused(CommandRefusal::Step(why))),
     }
 }
 
@@ -155,23 +158,6 @@ fn unread(spelling: Spelling) -> SpellingFault
         Spelling::Epc => SpellingFault::NoEpc,
         Spelling::Key => SpellingFault::NoKey,
         Spelling::Scan => SpellingFault::NoScan(ScanFault::NoElements),
-    }
-}
-
-/// What comes of the start of a recall of an item at a site.
-fn started_of<K: SiteKeeper>(keeper: &mut K, item: Epc) -> Result<InputOutcome, Fault>
-    ensures came { (old : Record) → K.shown keeper.old ≡ Some old
-        → IfOk result (λ came. (new : Record) × (K.shown keeper.new ≡ Some new)
-        × StartComesTo old (Ok item) came new) }
-    ensures stored { K.stored keeper.old → K.stored keeper.new }
-{
-    match keeper.apply(SiteInput::Start(item)) {
-        Ok(effects) => Ok(came_of(effects)),
-        Err(KeepFault::Refused(why)) => Ok(InputOutcome::Refused(CommandRefusal::Step(why))),
-        Err(KeepFault::NoMemory) => Err(Fault::NoMemory),
-        Err(KeepFault::Device) => Err(Fault::Device),
-        Err(KeepFault::Store) => Err(Fault::Store),
-        Err(KeepFault::Closed) => Err(Fault::Closed),
     }
 }
 

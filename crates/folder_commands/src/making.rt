@@ -1,25 +1,21 @@
 //! `init`: a file for each site of a list.
 
-ghost use Rattle.std.specs.Prelude.{◌≡◌, ◌⊎◌, ◌++◌, Bool, List, [], IfErr, IfOk, OnOk, length, map};
+ghost use Rattle.std.specs.Prelude.{◌≡◌, ◌⊎◌, ◌++◌, ℕ, Bool, List, IfErr, IfOk, OnOk, length, map};
 ghost use Rattle.std.specs.List.{AllZip};
 ghost use Rattle.recall_outcomes.specs.declared.outcomes.CommandRefusal.{CommandRefusal};
 ghost use Rattle.recall_outcomes.specs.declared.outcomes.CommandRefusal.TheVariants.{Line};
-ghost use Rattle.recall_text.specs.Words.{name_at};
-ghost use Rattle.folder_commands.specs.Failing.{RunsOut};
-ghost use Rattle.folder_commands.specs.FailingToMake.{InitFails, LookFails, LooksForSome, MakeFails, MakesSome};
-ghost use Rattle.folder_commands.specs.FileCalls.{Calls, Led, LookedFor};
-ghost use Rattle.folder_commands.specs.Folders.{list_path};
-ghost use Rattle.folder_commands.specs.Making.{InitsAt, LooksForList, MakesListed, existing, looks_from, makes_all, makes_from, name_where, too_few};
-ghost use Rattle.folder_commands.specs.Refusals.{IsExists};
+ghost use Rattle.site_folders.specs.Faults.{EndsInVain};
+ghost use Rattle.site_folders.specs.FileCalls.{Calls, Led, LookedFor};
+ghost use Rattle.site_folders.specs.Refusals.{IsExists};
+ghost use Rattle.folder_commands.specs.Making.{InitFails, InitsAt, LooksForList, MakesListed, MakesSome, MakesThen, existing, looks_from, makes_all, makes_from, name_where, too_few};
 
-use crate::folders::{Files, file_path, list_path};
-use crate::outputs::Output;
 use event_json::{SiteNo, Sites};
 use keeper_core::SiteKeeper;
-use recall_outcomes::{CommandRefusal, Fault, Outcome};
+use recall_outcomes::{CommandRefusal, Fault, Notes, Outcome, Output};
 use recall_text::telling::name_of;
 use recall_text::{RefusedLine, SiteList, read_sites};
 use site_core::SiteState;
+use site_folders::{Files, file_path, list_path};
 use std::alloc::{AllocError, Global};
 use std::hash::RandomState;
 
@@ -42,7 +38,7 @@ pub fn init<K: SiteKeeper, F: Files<K>>(
     ensures calls { IfOk result (λ output.
         Led F.does files.old files.new (InitsAt folder.now list.now output)) }
     ensures failed { IfErr result (λ fault.
-        Led F.does files.old files.new (InitFails folder.now list.now fault)) }
+        Led F.does files.old files.new (InitFails folder.now K.shown list.now fault)) }
 {
     let text = files.read(alloc, list)?;
     let list = read_sites(alloc, text.as_slice())?;
@@ -50,7 +46,7 @@ pub fn init<K: SiteKeeper, F: Files<K>>(
     Ok(Output {
         sites: list.sites,
         outcome,
-        notes: None,
+        notes: Notes::Nothing,
     })
 }
 
@@ -66,7 +62,8 @@ fn make_listed<K: SiteKeeper, F: Files<K>>(
     ensures calls { IfOk result (λ outcome.
         Led F.does files.old files.new (MakesListed folder.now list.now text.now outcome)) }
     ensures failed { IfErr result (λ fault.
-        Led F.does files.old files.new (MakeFails folder.now list.now fault)) }
+        Led F.does files.old files.new (λ calls. EndsInVain K.shown folder.now fault calls
+        ⊎ MakesThen folder.now list.now fault calls)) }
 {
     let sites = &list.sites;
     let mut refusals = Vec::new(alloc);
@@ -119,7 +116,7 @@ fn push_existing<K: SiteKeeper, F: Files<K>>(
         × AllZip IsExists (existing sites.now 0 found) more
         × (refusals.new.items ≡ refusals.old.items ++ more)) }
     ensures failed { IfErr result (λ fault.
-        Led F.does files.old files.new (LooksForSome folder.now sites.now fault)) }
+        Led F.does files.old files.new (EndsInVain K.shown folder.now fault)) }
 {
     for number in 0..sites.len() {
         let Some(site) = SiteNo::of(number) else {
@@ -140,9 +137,8 @@ fn push_list<K: SiteKeeper, F: Files<K>>(
 ) -> Result<(), Fault>
     ensures looked { OnOk result (Led F.does files.old files.new
         (LooksForList folder.now refusals.old.items refusals.new.items)) }
-    ensures failed { IfErr result (λ fault. (refusals.old.items ≡ [])
-        × Led F.does files.old files.new (λ calls. LookFails (list_path folder.now) fault calls
-        ⊎ RunsOut fault calls)) }
+    ensures failed { IfErr result (λ fault.
+        Led F.does files.old files.new (EndsInVain K.shown folder.now fault)) }
 {
     if refusals.is_empty() {
         let path = list_path(alloc, folder)?;
@@ -163,8 +159,8 @@ fn push_where<K: SiteKeeper, F: Files<K>>(
         × F.does files.old (LookedFor path.now found) files.new × (more : List CommandRefusal)
         × AllZip IsExists (name_where found name.now) more
         × (refusals.new.items ≡ refusals.old.items ++ more)) }
-    ensures failed { IfErr result (λ fault.
-        Led F.does files.old files.new (LookFails path.now fault)) }
+    ensures failed { (folder : List ℕ) → IfErr result (λ fault.
+        Led F.does files.old files.new (EndsInVain K.shown folder fault)) }
 {
     if files.exists(path)? {
         let name = String::from_str(alloc, name)?;

@@ -1,45 +1,35 @@
-//! What is told of a run beside its recalls: which sites stopped in it, and that a further run goes on.
+//! What is noted of a run beside its recalls: which sites stopped in it, and that a further run goes on.
 
-ghost use Rattle.std.specs.Prelude.{◌≡◌, ◌++◌, IfOk, OnOk, map, not, string_bytes};
-ghost use Rattle.std.specs.List.{list_any};
-ghost use Rattle.folder_commands.specs.Notes.{AreNotes, AreOfSites, TellsNotes, TellsStops, cause_of, cause_word, open_note, shared_note, stop_at, stop_line, stops_from, times_text};
+ghost use Rattle.std.specs.Prelude.{◌≡◌, ◌++◌, IfOk, OnOk, map, not};
+ghost use Rattle.std.specs.List.{AllZip, list_any};
+ghost use Rattle.folder_commands.specs.Notes.{AreOfSites, EndsSo, NotesEnd, NotesStop, cause_of, stop_at, stops_from};
 
-use crate::folders::{Files, file_path};
 use event_json::{SiteNo, Sites};
 use keeper_core::SiteKeeper;
-use recall_outcomes::StartedRecall;
-use recall_text::telling::name_of;
+use recall_outcomes::{Notes, RunNotes, StartedRecall, Stop, StopCause};
+use site_folders::{Files, file_path};
 use site_threads::RunLog;
 use std::alloc::{AllocError, Global};
 
-/// Why a site stopped.
-#[derive(Clone, Copy, Debug, PartialEq, Eq)]
-pub enum StopCause {
-    /// Its device failed.
-    Device,
-    /// The database refused for a cause of its own.
-    Store,
-}
-
 /// A site that stopped in steps of a run, after each of which it was opened again.
-#[derive(Clone, Copy, Debug, PartialEq, Eq)]
-pub struct Stop {
-    pub site: SiteNo,
+#[derive(Clone, Copy, Debug)]
+pub(crate) struct Stopped {
+    pub(crate) site: SiteNo,
     /// In how many steps.
-    pub times: usize,
+    pub(crate) times: usize,
     /// `Device` where its device failed at least once in the run.
-    pub cause: StopCause,
+    pub(crate) cause: StopCause,
 }
 
-/// What is known of a run beside its recalls.
+/// What a run ended with beside its recalls.
 #[derive(Debug, Drop)]
-pub struct RunNotes {
+pub(crate) struct RunEnd {
     /// The sites that stopped in a step of it, in the order of their numbers.
-    pub stops: Vec<Stop>,
+    pub(crate) stops: Vec<Stopped>,
     /// Whether the system gave fewer threads than sites, so that sites shared threads.
-    pub shared: bool,
+    pub(crate) shared: bool,
     /// Whether a recall is open after it.
-    pub unended: bool,
+    pub(crate) unended: bool,
 }
 
 /// How often the device of each keeper has failed.
@@ -56,20 +46,20 @@ pub(crate) fn failures_of<K: SiteKeeper>(
     Ok(counts)
 }
 
-/// The notes of a run, before and after which the devices had failed so often, and after which sites have begun these
+/// What a run ended with, before and after which the devices had failed so often, and after which sites have begun these
 /// recalls.
-pub(crate) fn notes_of(
+pub(crate) fn end_of(
     alloc: Global,
     before: &[u64],
     after: &[u64],
     lists: &[RunLog],
     shared: bool,
     recalls: &[StartedRecall],
-) -> Result<RunNotes, AllocError>
+) -> Result<RunEnd, AllocError>
     requires { AreOfSites before.now after.now lists.now }
-    ensures { IfOk result (AreNotes before.now after.now lists.now recalls.now) }
+    ensures { IfOk result (EndsSo before.now after.now lists.now recalls.now) }
 {
-    Ok(RunNotes {
+    Ok(RunEnd {
         stops: stops_of(alloc, before, after, lists)?,
         shared,
         unended: is_one_open(recalls),
@@ -82,7 +72,7 @@ fn stops_of(
     before: &[u64],
     after: &[u64],
     lists: &[RunLog],
-) -> Result<Vec<Stop>, AllocError>
+) -> Result<Vec<Stopped>, AllocError>
     requires { AreOfSites before.now after.now lists.now }
     ensures { IfOk result (λ stops. stops.items ≡ stops_from 0 before.now after.now lists.now) }
 {
@@ -110,7 +100,7 @@ fn cause_of(before: u64, after: u64) -> StopCause
 
 /// Adds a site that stopped so often, if it did.
 fn push_stop(
-    stops: &mut Vec<Stop>,
+    stops: &mut Vec<Stopped>,
     site: SiteNo,
     times: usize,
     cause: StopCause,
@@ -120,7 +110,7 @@ fn push_stop(
     if times == 0 {
         return Ok(());
     }
-    stops.push(Stop { site, times, cause })?;
+    stops.push(Stopped { site, times, cause })?;
     Ok(())
 }
 
@@ -131,94 +121,47 @@ fn is_one_open(recalls: &[StartedRecall]) -> bool
     recalls.iter().any(|recall| !recall.ended)
 }
 
-/// The notes of a run as they are told, once the sites' files are closed.
-pub(crate) fn notes_text<K: SiteKeeper, F: Files<K>>(
+/// The notes of a run, where there was one, once the sites' files are closed.
+pub(crate) fn notes_of<K: SiteKeeper, F: Files<K>>(
     alloc: Global,
     files: &F,
     folder: &str,
     sites: &Sites,
-    notes: &RunNotes,
-) -> Result<String, AllocError>
-    ensures { IfOk result (λ t. TellsNotes (F.knows files.now) folder.now sites.now notes.now
-        (string_bytes t)) }
+    end: &Option<RunEnd>,
+) -> Result<Notes, AllocError>
+    ensures { IfOk result (NotesEnd (F.knows files.now) folder.now sites.now end.now) }
 {
-    let mut text = stops_text(alloc, files, folder, sites, notes.stops.as_slice())?;
-    text.push_str(shared_note(notes.shared))?;
-    text.push_str(open_note(notes.unended))?;
-    Ok(text)
+    match end {
+        Some(end) => Ok(Notes::Run(RunNotes {
+            stops: known_stops(alloc, files, folder, sites, end.stops.as_slice())?,
+            shared: end.shared,
+            unended: end.unended,
+        })),
+        None => Ok(Notes::Nothing),
+    }
 }
 
-/// A line for each of these sites, and what is known of its file.
-fn stops_text<K: SiteKeeper, F: Files<K>>(
+/// The sites that stopped, each with what is known of the failures that its file met.
+fn known_stops<K: SiteKeeper, F: Files<K>>(
     alloc: Global,
     files: &F,
     folder: &str,
     sites: &Sites,
-    stops: &[Stop],
-) -> Result<String, AllocError>
-    ensures { IfOk result (λ t. TellsStops (F.knows files.now) folder.now sites.now stops.now
-        (string_bytes t)) }
+    stops: &[Stopped],
+) -> Result<Vec<Stop>, AllocError>
+    ensures { IfOk result (λ all.
+        AllZip (NotesStop (F.knows files.now) folder.now sites.now) stops.now all.items) }
 {
-    let mut text = String::new(alloc);
+    let mut all = Vec::new(alloc);
     for stop in stops {
         let path = file_path(alloc, folder, sites, stop.site)?;
         let known = files.known_of(alloc, path.as_str())?;
-        let line = stop_line(alloc, sites, stop)?;
-        text.push_str(line.as_str())?;
-        text.push_str(known.as_str())?;
+        all.push(Stop {
+            site: stop.site,
+            times: stop.times,
+            cause: stop.cause,
+            known,
+        })?;
     }
-    Ok(text)
-}
-
-/// The line of a site that stopped.
-fn stop_line(alloc: Global, sites: &Sites, stop: &Stop) -> Result<String, AllocError>
-    ensures { IfOk result (λ t. string_bytes t ≡ stop_line sites.now stop.now) }
-{
-    let name = name_of(sites, stop.site);
-    let times = times_text(alloc, stop.times)?;
-    let times = times.as_str();
-    let cause = cause_word(stop.cause);
-    format!(in alloc; "site {name} stopped {times}: {cause}\n")
-}
-
-/// How often, in words.
-fn times_text(alloc: Global, times: usize) -> Result<String, AllocError>
-    ensures { IfOk result (λ t. string_bytes t ≡ times_text times) }
-{
-    if times == 1 {
-        String::from_str(alloc, "once")
-    } else {
-        format!(in alloc; "{times} times")
-    }
-}
-
-fn cause_word(cause: StopCause) -> &'static str
-    ensures { result.now ≡ cause_word cause }
-{
-    match cause {
-        StopCause::Device => "Device",
-        StopCause::Store => "Store",
-    }
-}
-
-/// That sites shared threads, where they did.
-fn shared_note(shared: bool) -> &'static str
-    ensures { result.now ≡ shared_note shared }
-{
-    if shared {
-        "the system gave fewer threads than sites, so sites took turns\n"
-    } else {
-        ""
-    }
-}
-
-/// That a further run goes on, where a recall is open.
-fn open_note(unended: bool) -> &'static str
-    ensures { result.now ≡ open_note unended }
-{
-    if unended {
-        "a further `recall run` goes on with the recalls that are open\n"
-    } else {
-        ""
-    }
+    Ok(all)
 }

@@ -3,20 +3,14 @@
 ghost use Rattle.std.specs.Prelude.{◌≡◌, ◌≤◌, None, Some, All, IfErr, IfOk, IsSome, length, map};
 ghost use Rattle.site_threads.specs.Ends.{IsUnused};
 ghost use Rattle.site_threads.specs.Gathering.{KeepersFit};
-ghost use Rattle.folder_commands.specs.FailingToRun.{RunFails};
-ghost use Rattle.folder_commands.specs.Faults.{gather_fault};
-ghost use Rattle.folder_commands.specs.FileCalls.{Led};
-ghost use Rattle.folder_commands.specs.Notes.{AreNotes, AreOfSites, TellsOf};
-ghost use Rattle.folder_commands.specs.Runs.{AnswersRun, FailsRun, RunsAt, TellsCause, TellsRecalls};
+ghost use Rattle.site_folders.specs.FileCalls.{Led};
+ghost use Rattle.folder_commands.specs.Notes.{AreOfSites, EndsSo};
+ghost use Rattle.folder_commands.specs.Runs.{AnswersRun, FailsRun, RunFails, RunsAt, TellsCause, TellsRecalls, gather_fault};
 
-use crate::audits::begun;
-use crate::folders::{Files, close_all, open_all, open_records, sites_of};
-use crate::notes::{RunNotes, failures_of, notes_of, notes_text};
-use crate::outputs::Output;
-use event_json::Sites;
+use crate::notes::{RunEnd, end_of, failures_of, notes_of};
 use keeper_core::SiteKeeper;
-use recall_outcomes::{Fault, Outcome, StartedRecall};
-use site_core::SiteState;
+use recall_outcomes::{Fault, Outcome, Output, StartedRecall};
+use site_folders::{Files, begun, close_all, open_all, open_records, sites_of};
 use site_threads::{DeskOut, Gate, GatherCause, GatherFault, Gathered, run_world};
 use std::alloc::{AllocError, Global};
 use std::sync::Wait;
@@ -24,11 +18,11 @@ use std::thread::Threads;
 use std::time::Clock;
 use world_core::WorldFault;
 
-/// A run of all sites: what it came to, and its notes, where there was one.
+/// A run of all sites: what it came to, and what it ended with, where there was one.
 #[derive(Debug, Drop)]
-pub struct Ran {
-    pub outcome: Outcome,
-    pub notes: Option<RunNotes>,
+struct Ran {
+    outcome: Outcome,
+    end: Option<RunEnd>,
 }
 
 /// Runs all sites of a folder, each in a thread of its own, where one can be made, for so many turns: at most
@@ -42,7 +36,7 @@ pub struct Ran {
 /// site has a copy of the gate to its turns.
 ///
 /// # Errors
-/// In this order: those of the folder's list, those of opening the sites' files, and those of [`run_of`]; after these
+/// In this order: those of the folder's list, those of opening the sites' files, and those of `run_of`; after these
 /// the files are closed. Then `NoMemory`, after which the run is done and not reported.
 pub fn run_sites<
     K: SiteKeeper + Send,
@@ -60,29 +54,13 @@ pub fn run_sites<
     let keepers = open_all(alloc, files, folder, &sites)?;
     let (after, ran) = run_of(rt, alloc, keepers, gate, turns);
     close_all(files, after);
-    let Ran { outcome, notes } = ran?;
-    let notes = told(alloc, files, folder, &sites, &notes)?;
+    let Ran { outcome, end } = ran?;
+    let notes = notes_of(alloc, files, folder, &sites, &end)?;
     Ok(Output {
         sites,
         outcome,
         notes,
     })
-}
-
-/// The notes of a run, where there was one.
-fn told<K: SiteKeeper, F: Files<K>>(
-    alloc: Global,
-    files: &F,
-    folder: &str,
-    sites: &Sites,
-    notes: &Option<RunNotes>,
-) -> Result<Option<String>, AllocError>
-    ensures { IfOk result (TellsOf (F.knows files.now) folder.now sites.now notes.now) }
-{
-    match notes {
-        Some(notes) => Ok(Some(notes_text(alloc, files, folder, sites, notes)?)),
-        None => Ok(None),
-    }
 }
 
 /// Runs the sites of these keepers, in the order of their numbers, for so many turns: at most 1,000,000. Each has a
@@ -96,7 +74,7 @@ fn told<K: SiteKeeper, F: Files<K>>(
 /// changed.
 ///
 /// What the keepers stored before, they store after it, also where it has no outcome.
-pub fn run_of<K: SiteKeeper + Send, G: Gate + Copy + Send, R: Threads + Wait + Clock + Sync>(
+fn run_of<K: SiteKeeper + Send, G: Gate + Copy + Send, R: Threads + Wait + Clock + Sync>(
     rt: &R,
     alloc: Global,
     keepers: Vec<K>,
@@ -107,7 +85,7 @@ pub fn run_of<K: SiteKeeper + Send, G: Gate + Copy + Send, R: Threads + Wait + C
     requires turns { turns ≤ 1000000 }
     ensures answered { IfOk result.1 (λ ran.
         AnswersRun K.shown K.failed K.may turns keepers.items result.0.items ran.outcome
-        ran.notes) }
+        ran.end) }
     ensures stored { All K.stored keepers.items → All K.stored result.0.items }
     ensures failed { IfErr result.1 (FailsRun K.shown K.may K.reopens G.gives_up turns keepers.items
         result.0.items) }
@@ -118,9 +96,9 @@ pub fn run_of<K: SiteKeeper + Send, G: Gate + Copy + Send, R: Threads + Wait + C
     match run_world(rt, alloc, keepers, desks, gates, turns) {
         Ok(run) => {
             let ran = match tell_run(alloc, before.as_slice(), &run) {
-                Ok((recalls, notes)) => Ok(Ran {
+                Ok((recalls, end)) => Ok(Ran {
                     outcome: Outcome::Ran(recalls),
-                    notes: Some(notes),
+                    end: Some(end),
                 }),
                 Err(_) => Err(Fault::NoMemory),
             };
@@ -170,13 +148,13 @@ fn unused<G: Gate + Copy>(
 
 /// What comes of a cause that prevents a run.
 fn tell_cause(cause: GatherCause) -> Result<Ran, Fault>
-    ensures answered { IfOk result (λ ran. TellsCause cause ran.outcome × (ran.notes ≡ None)) }
+    ensures answered { IfOk result (λ ran. TellsCause cause ran.outcome × (ran.end ≡ None)) }
     ensures failed { IfErr result (λ fault. gather_fault cause ≡ Some fault) }
 {
     match cause {
         GatherCause::NotAWorld(WorldFault::Misfit(misfit)) => Ok(Ran {
             outcome: Outcome::Inconsistent(misfit),
-            notes: None,
+            end: None,
         }),
         GatherCause::NotAWorld(WorldFault::OtherSites(_)) => Err(Fault::OtherSites),
         GatherCause::NotAWorld(WorldFault::Closed(_)) => Err(Fault::Closed),
@@ -189,24 +167,24 @@ fn tell_cause(cause: GatherCause) -> Result<Ran, Fault>
 }
 
 /// What is told of a run that has come to its end, before which the devices had failed so often: the recalls in the
-/// records that the keepers show, and the notes.
+/// records that the keepers show, and what the run ended with.
 fn tell_run<K: SiteKeeper>(
     alloc: Global,
     before: &[u64],
     run: &Gathered<K>,
-) -> Result<(Vec<StartedRecall>, RunNotes), AllocError>
+) -> Result<(Vec<StartedRecall>, RunEnd), AllocError>
     requires open { All (λ k. IsSome (K.shown k)) run.now.keepers.items }
     requires fit { KeepersFit K.shown K.may run.now.keepers.items }
     requires all { AreOfSites before.now (map K.failed run.now.keepers.items) run.now.lists.items }
     ensures told { IfOk result (λ r. TellsRecalls K.shown run.now.keepers.items r.0.items) }
-    ensures noted { IfOk result (λ r. AreNotes before.now (map K.failed run.now.keepers.items)
+    ensures noted { IfOk result (λ r. EndsSo before.now (map K.failed run.now.keepers.items)
         run.now.lists.items r.0.items r.1) }
 {
     let keepers = run.keepers.as_slice();
     let records = open_records(alloc, keepers)?;
     let recalls = begun(alloc, records.as_slice())?;
     let after = failures_of(alloc, keepers)?;
-    let notes = notes_of(
+    let end = end_of(
         alloc,
         before,
         after.as_slice(),
@@ -214,5 +192,5 @@ fn tell_run<K: SiteKeeper>(
         run.shared,
         recalls.as_slice(),
     )?;
-    Ok((recalls, notes))
+    Ok((recalls, end))
 }

@@ -5,24 +5,25 @@ ghost use Rattle.site_store.specs.Leavings.{KeepsOwn};
 ghost use Rattle.site_store.specs.Opened.{IsFound};
 
 use crate::causes::{Trouble, failure_of};
-use crate::line_files::{INPUT, LineFile};
+use crate::line_files::LineFile;
 use crate::stores::{
     FileConnection, FileSite, cause_of_step, close, close_connection, unfound, unmade, unopened,
 };
-use folder_commands::Files;
+use crate::whole_files;
 use keeper_core::SiteKeeper;
+use outcome_forms::failure_line;
 use recall_outcomes::{Cause, Failure, Fault};
 use site_core::SiteState;
+use site_folders::Files;
 use site_store::StoredSite;
 use sqlite::{Connection, Options, Wary};
 use sqlite_disk::Tally;
 use std::alloc::{AllocError, Global};
 use std::collections::VecDeque;
-use std::fs::{self, File};
 use std::hash::{BuildHasher, RandomState};
-use std::io::{self, Error, ErrorKind, Read, Write};
-use std::thread;
+use std::io::{self, Error};
 use std::time::Duration;
+use std::{fs, thread};
 
 /// The files of the machine on which the program runs.
 pub(crate) struct HostFiles<'a> {
@@ -31,6 +32,8 @@ pub(crate) struct HostFiles<'a> {
     keys: RandomState,
     /// For how many seconds a site's file is waited for that is in use.
     seconds: u64,
+    /// Whether the command has read its list of sites, which it reads before any other file.
+    has_list: bool,
     /// The file of which lines are read, until its end.
     lines: Option<LineFile>,
     /// The paths of the sites that are open, in the order in which they were opened, in which they are closed, too.
@@ -48,6 +51,7 @@ impl Drop for HostFiles<'_> {
             runtime: _,
             keys: _,
             seconds: _,
+            has_list: _,
             lines: _,
             opened: _,
             failure: _,
@@ -57,13 +61,13 @@ impl Drop for HostFiles<'_> {
 }
 
 impl<'a> HostFiles<'a> {
-    /// The files that a runtime gives, with the keys of the hash by which sites number items, and for how many seconds
-    /// a site's file is waited for that is in use.
-    pub(crate) fn new(runtime: &'a HostRuntime, keys: RandomState, seconds: u64) -> HostFiles<'a> {
+    /// The files that a runtime gives, with the keys of the hash by which sites number items.
+    pub(crate) fn new(runtime: &'a HostRuntime, keys: RandomState) -> HostFiles<'a> {
         HostFiles {
             runtime,
             keys,
-            seconds,
+            seconds: 0,
+            has_list: false,
             lines: None,
             opened: VecDeque::new(runtime.alloc()),
             failure: None,
@@ -95,14 +99,43 @@ impl<'a> HostFiles<'a> {
         }
     }
 
-    /// The bytes of a file, or of the standard input to its end.
-    fn bytes(&self, path: &str) -> io::Result<Vec<u8>> {
-        if path != INPUT {
-            return fs::read(self.runtime, path);
+    /// The bytes of a file, or of the standard input to its end. The first file that a command reads whole is its list
+    /// of sites, and all others are documents.
+    fn bytes(&mut self, path: &str) -> Result<Vec<u8>, Trouble> {
+        if self.has_list {
+            return whole_files::read_document(self.runtime, path);
         }
-        let mut bytes = Vec::new(self.runtime.alloc());
-        self.runtime.stdin().read_to_end(&mut bytes)?;
-        Ok(bytes)
+        self.has_list = true;
+        whole_files::read_list(self.runtime, path)
+    }
+
+    /// Makes a file of these bytes, whole or not at all, where there is none: it is written under another name, which
+    /// is `.new` behind its own, and synced; then it gets its name, and its folder is synced. After a crash the other
+    /// name may be left over, which the next call takes away.
+    fn make_whole(&mut self, path: &str, bytes: &[u8]) -> Result<(), Fault> {
+        let alloc = self.runtime.alloc();
+        let Ok(new_path) = format!(in alloc; "{path}.new") else {
+            return Err(Fault::NoMemory);
+        };
+        let folder = match whole_files::hold_folder(self.runtime, path) {
+            Ok(folder) => folder,
+            Err(error) => return Err(self.note_unwritten(path, &error)),
+        };
+        if let Err(trouble) = whole_files::write_beside(self.runtime, new_path.as_str(), bytes) {
+            return Err(self.note(new_path.as_str(), trouble));
+        }
+        match whole_files::put_in_place(self.runtime, &folder, new_path.as_str(), path) {
+            Ok(()) => Ok(()),
+            Err(error) => Err(self.note_unwritten(path, &error)),
+        }
+    }
+
+    /// Keeps the path of a file that couldn't be written, and returns the fault.
+    fn note_unwritten(&mut self, path: &str, error: &Error) -> Fault {
+        self.note(
+            path,
+            Trouble::of_error(self.runtime.alloc(), error, Fault::Write),
+        )
     }
 
     /// The next line of a file, which is opened where its lines aren't being read.
@@ -226,15 +259,16 @@ impl Files<FileSite> for HostFiles<'_> {
 
     ghost knows = { λ _ _ _. ⊤ };
 
-    ghost fails = { λ _ _. ⊤ };
+    ghost waits = { λ _ _ _. ⊤ };
+
+    fn wait_for(&mut self, seconds: u64) {
+        self.seconds = seconds;
+    }
 
     fn read(&mut self, _: Global, path: &str) -> Result<Vec<u8>, Fault> {
         match self.bytes(path) {
             Ok(bytes) => Ok(bytes),
-            Err(error) => Err(self.note(
-                path,
-                Trouble::of_error(self.runtime.alloc(), &error, Fault::Read),
-            )),
+            Err(trouble) => Err(self.note(path, trouble)),
         }
     }
 
@@ -292,19 +326,13 @@ impl Files<FileSite> for HostFiles<'_> {
             .iter()
             .find(|failure| failure.file.as_str() == path)
         {
-            Some(failure) => failure.line(alloc),
+            Some(failure) => failure_line(alloc, failure),
             None => Ok(String::new(alloc)),
         }
     }
 
     fn write_new(&mut self, path: &str, bytes: &[u8]) -> Result<(), Fault> {
-        match written(self.runtime, path, bytes) {
-            Ok(()) => Ok(()),
-            Err(error) => Err(self.note(
-                path,
-                Trouble::of_error(self.runtime.alloc(), &error, Fault::Write),
-            )),
-        }
+        self.make_whole(path, bytes)
     }
 
     // The last file of which a call failed, where there was memory to keep what is known of it.
@@ -314,30 +342,5 @@ impl Files<FileSite> for HostFiles<'_> {
 
     fn blame(&mut self, path: &str) {
         self.keep(path, false, None);
-    }
-}
-
-/// Makes a file of these bytes, whole or not at all: it is written under another name, which is `.new` behind its own,
-/// synced, renamed, and then its folder is synced. An error comes where one of this path exists. After a crash the
-/// other name may be left over, which the next call writes over.
-fn written(runtime: &HostRuntime, path: &str, bytes: &[u8]) -> io::Result<()> {
-    if fs::exists(runtime, path)? {
-        return Err(Error::from(ErrorKind::AlreadyExists));
-    }
-    let mut new_path = String::from_str(runtime.alloc(), path)?;
-    new_path.push_str(".new")?;
-    let mut file = File::create(runtime, new_path.as_str())?;
-    file.write_all(bytes)?;
-    file.sync_all()?;
-    fs::rename(runtime, new_path.as_str(), path)?;
-    File::open(runtime, folder_of(path))?.sync_all()
-}
-
-/// The folder that a path leads into.
-fn folder_of(path: &str) -> &str {
-    match path.rsplit_once('/') {
-        Some((folder, _)) if !folder.is_empty() => folder,
-        Some(_) => "/",
-        None => ".",
     }
 }

@@ -1,9 +1,10 @@
 //! Looks at the files of a database that wasn't opened, for what the database's error doesn't tell.
 
 use crate::causes::{Trouble, cause_of_database, cause_of_error};
+use crate::whole_files::folder_of;
 use recall_outcomes::{Cause, Fault};
 use sqlite::{Error as DatabaseError, ErrorCode};
-use std::fs::{self, File, OpenOptions};
+use std::fs::{self, File, OpenOptions, TryLockError};
 use std::io::{self, ErrorKind, Read};
 use std::os::unix::fs::MetadataExt;
 
@@ -25,7 +26,10 @@ pub(crate) fn hindrance(rt: &HostRuntime, path: &str) -> Trouble {
 /// The first of the files beside which a database lies that can't be opened, where a look finds one.
 fn found_hindrance(rt: &HostRuntime, path: &str) -> io::Result<Option<Trouble>> {
     let Ok(real) = fs::canonicalize(rt, path) else {
-        return at_file(rt, path, false);
+        return match at_file(rt, path, false)? {
+            Some(trouble) => Ok(Some(trouble)),
+            None => lack_of_system(rt, path),
+        };
     };
     let real = real.as_str();
     if let Some(trouble) = at_file(rt, real, false)? {
@@ -36,7 +40,25 @@ fn found_hindrance(rt: &HostRuntime, path: &str) -> io::Result<Option<Trouble>> 
         return Ok(Some(Trouble::new(Fault::Device, Cause::Journal)));
     }
     let log = format!(in rt.alloc(); "{real}-wal")?;
-    at_file(rt, log.as_str(), true)
+    if let Some(trouble) = at_file(rt, log.as_str(), true)? {
+        return Ok(Some(trouble));
+    }
+    lack_of_system(rt, real)
+}
+
+/// What the file system under a database lacks without which none is kept there: a folder that can be synced, and
+/// locks.
+fn lack_of_system(rt: &HostRuntime, path: &str) -> io::Result<Option<Trouble>> {
+    let folder = File::open(rt, folder_of(path))?;
+    let lack = if folder.sync_all().is_err() {
+        "its folder can't be synced"
+    } else if let Err(TryLockError::Error(_)) = folder.try_lock() {
+        "its file system has no locks"
+    } else {
+        return Ok(None);
+    };
+    let text = String::from_str(rt.alloc(), lack)?;
+    Ok(Some(Trouble::new(Fault::Device, Cause::Other(text))))
 }
 
 /// What keeps a file from being opened or made.

@@ -11,8 +11,9 @@ mod looks;
 mod progress;
 mod schemas;
 mod stores;
+mod whole_files;
 
-use command_line::{BAD_COMMAND_LINE, FAULT, patience, run_command};
+use command_line::{BAD_COMMAND_LINE, FAULT, run_command};
 use host_files::HostFiles;
 use progress::{Progress, TellingGate};
 use std::env;
@@ -37,11 +38,7 @@ fn main(rt: HostRuntime) -> ExitCode {
         let _ = rt.eprintln("fault Device");
         return ExitCode::from(FAULT);
     };
-    let Ok(seconds) = patience(alloc, words.as_slice()) else {
-        let _ = rt.eprintln("fault NoMemory");
-        return ExitCode::from(FAULT);
-    };
-    let mut files = HostFiles::new(&rt, keys, seconds);
+    let mut files = HostFiles::new(&rt, keys);
     let progress = Progress::new(&rt);
     let status = run_command(
         &rt,

@@ -1,12 +1,2 @@
 pub mod BatchLaws
-pub mod RefusalLaws
-pub mod Floats
-pub mod SentenceLaws
-pub mod SentenceLemmas
-pub mod WordLemmas
-pub mod ValueLaws
-pub mod TellingLaws
-pub mod ReadingLaws
-pub mod JsonLists
-pub mod ZipLemmas
-pub mod AdviceLaws
+pub mod StatusLaws

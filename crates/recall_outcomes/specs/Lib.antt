@@ -1,14 +1,3 @@
-pub mod Advice
-pub mod Causes
 pub mod Batches
-pub mod Faults
-pub mod Json
 pub mod Laws
-pub mod Notes
-pub mod Places
-pub mod Printing
-pub mod Sentences
 pub mod Statuses
-pub mod Steps
-pub mod Telling
-pub mod Texts

@@ -1,10 +1,5 @@
 //! What is known of the cause of a fault, and of the file that the fault is about.
 
-ghost use Rattle.std.specs.Prelude.{◌≡◌, IfOk, string_bytes};
-ghost use Rattle.recall_outcomes.specs.Causes.{cause_words, kind_name, row_words};
-
-use std::alloc::{AllocError, Global};
-
 /// What is known of the cause of a fault.
 #[derive(Debug)]
 pub enum Cause {
@@ -78,86 +73,6 @@ impl Drop for Cause {
             Cause::Other(_) => {}
         }
     }
-}
-
-impl Cause {
-    /// The name of its kind, as `NoSpace`.
-    pub fn kind(&self) -> &'static str
-        ensures { result.now ≡ kind_name self.now }
-    {
-        match self {
-            Cause::InUse => "InUse",
-            Cause::NoPermission => "NoPermission",
-            Cause::NoSpace => "NoSpace",
-            Cause::Missing => "Missing",
-            Cause::Exists => "Exists",
-            Cause::NotAFile => "NotAFile",
-            Cause::HardLink => "HardLink",
-            Cause::Journal => "Journal",
-            Cause::Damaged => "Damaged",
-            Cause::NoDatabase => "NoDatabase",
-            Cause::Unsound => "Unsound",
-            Cause::TableMissing(_) => "TableMissing",
-            Cause::Foreign(_) => "Foreign",
-            Cause::OtherTables => "OtherTables",
-            Cause::NoStoreRow => "NoStoreRow",
-            Cause::Row { table: _, row: _ } => "Row",
-            Cause::Version(_) => "Version",
-            Cause::Site(_) => "Site",
-            Cause::Other(_) => "Other",
-        }
-    }
-
-    /// It in words, as `no space left`: what is told behind the file's path.
-    pub fn words(&self, alloc: Global) -> Result<String, AllocError>
-        ensures { IfOk result (λ t. string_bytes t ≡ cause_words self.now) }
-    {
-        match self {
-            Cause::InUse => String::from_str(alloc, "in use by another program"),
-            Cause::NoPermission => String::from_str(alloc, "no permission"),
-            Cause::NoSpace => String::from_str(alloc, "no space left"),
-            Cause::Missing => String::from_str(alloc, "no such file or folder"),
-            Cause::Exists => String::from_str(alloc, "there already"),
-            Cause::NotAFile => String::from_str(alloc, "not a regular file"),
-            Cause::HardLink => String::from_str(alloc, "a hard link"),
-            Cause::Journal => {
-                String::from_str(
-                    alloc,
-                    "sqlite left a journal of it, which sqlite3 plays back",
-                )
-            }
-            Cause::Damaged => String::from_str(alloc, "damaged"),
-            Cause::NoDatabase => String::from_str(alloc, "no sqlite database"),
-            Cause::Unsound => String::from_str(
-                alloc,
-                "a row breaks a rule of its table, or a declaration isn't read",
-            ),
-            Cause::TableMissing(table) => format!(in alloc; "the table {table} is missing"),
-            Cause::Foreign(name) => {
-                let name = name.as_str();
-                format!(in alloc; "{name} isn't of a site")
-            }
-            Cause::OtherTables => String::from_str(alloc, "a table is declared otherwise"),
-            Cause::NoStoreRow => String::from_str(
-                alloc,
-                "the table store has no row of the version of the tables",
-            ),
-            Cause::Row { table, row } => row_words(alloc, table, *row),
-            Cause::Version(version) => format!(in alloc; "version {version}"),
-            Cause::Site(name) => {
-                let name = name.as_str();
-                format!(in alloc; "the file of {name}")
-            }
-            Cause::Other(text) => String::from_str(alloc, text.as_str()),
-        }
-    }
-}
-
-/// A row of a table, in words.
-fn row_words(alloc: Global, table: &str, row: u64) -> Result<String, AllocError>
-    ensures { IfOk result (λ t. string_bytes t ≡ row_words table.now row) }
-{
-    format!(in alloc; "row {row} of the table {table}")
 }
 
 /// A file that a fault is about, and what is known of the cause.

@@ -1,66 +1,68 @@
-//! What a capture passed over, in lines of the error stream.
+//! What is told beside an outcome.
 
-ghost use Rattle.std.specs.Prelude.{◌≡◌, ◌++◌, IfOk, OnOk, string_bytes};
-ghost use Rattle.recall_outcomes.specs.Notes.{note_line, untraced_text};
+use epc_core::Epc;
+use event_json::{SiteNo, Untraced};
 
-use event_json::Untraced;
-use std::alloc::{AllocError, Global};
-
-/// A line for each count of what a document says and isn't traced, but for those that are 0. `read_untraced` of
-/// `event_json` counts it. Each line ends with LF.
-///
-/// # Errors
-/// Where memory runs out.
-pub fn untraced_text(alloc: Global, untraced: &Untraced) -> Result<String, AllocError>
-    ensures { IfOk result (λ t. string_bytes t ≡ untraced_text untraced.now) }
-{
-    let mut text = String::new(alloc);
-    push_note(
-        alloc,
-        &mut text,
-        untraced.skipped,
-        "event was skipped: TransactionEvent and AssociationEvent aren't traced",
-        "events were skipped: TransactionEvent and AssociationEvent aren't traced",
-    )?;
-    push_note(
-        alloc,
-        &mut text,
-        untraced.aimless,
-        "event of bizStep shipping has no destination: nothing is traced past it",
-        "events of bizStep shipping have no destination: nothing is traced past them",
-    )?;
-    push_note(
-        alloc,
-        &mut text,
-        untraced.outside,
-        "destination is no traced site: what went there counts as outside",
-        "destinations are no traced site: what went there counts as outside",
-    )?;
-    push_note(
-        alloc,
-        &mut text,
-        untraced.unnamed,
-        "event has no eventID: captured again, it counts again",
-        "events have no eventID: captured again, they count again",
-    )?;
-    Ok(text)
+/// What is told beside an outcome.
+#[derive(Debug, Drop)]
+pub enum Notes {
+    /// Nothing.
+    Nothing,
+    /// What a document that was captured says and isn't traced.
+    Untraced(Untraced),
+    /// What is known of a run beside its recalls.
+    Run(RunNotes),
+    /// Who knows an item that the site that was asked doesn't know.
+    Knowers(Knowers),
 }
 
-/// Adds the line of a count that isn't 0, with the words for one and those for more.
-fn push_note(
-    alloc: Global,
-    text: &mut String,
-    count: u64,
-    one: &str,
-    more: &str,
-) -> Result<(), AllocError>
-    ensures { OnOk result (string_bytes text.new
-        ≡ string_bytes text.old ++ note_line count one.now more.now) }
-{
-    if count == 0 {
-        return Ok(());
-    }
-    let what = if count == 1 { one } else { more };
-    let line = format!(in alloc; "note: {count} {what}\n")?;
-    text.push_str(line.as_str())
+/// Why a site stopped.
+#[derive(Clone, Copy, Debug, PartialEq, Eq)]
+pub enum StopCause {
+    /// Its device failed.
+    Device,
+    /// The database refused for a cause of its own.
+    Store,
+}
+
+/// A site that stopped in steps of a run, after each of which it was opened again.
+#[derive(Debug, Drop)]
+pub struct Stop {
+    pub site: SiteNo,
+    /// In how many steps.
+    pub times: usize,
+    /// `Device` where its device failed at least once in the run.
+    pub cause: StopCause,
+    /// What is known of the failures that its file met: whole lines, or nothing.
+    pub known: String,
+}
+
+/// What is known of a run beside its recalls.
+#[derive(Debug, Drop)]
+pub struct RunNotes {
+    /// The sites that stopped in a step of it, in the order of their numbers.
+    pub stops: Vec<Stop>,
+    /// Whether the system gave fewer threads than sites, so that sites shared threads.
+    pub shared: bool,
+    /// Whether a recall is open after it.
+    pub unended: bool,
+}
+
+/// What is known of an item that the site that was asked doesn't know.
+#[derive(Debug, Drop)]
+pub struct Knowers {
+    pub item: Epc,
+    /// The text that was given for it.
+    pub text: String,
+    /// Who knows it, and what that site knows in its place, by the numbers of the sites.
+    pub found: Vec<Knower>,
+}
+
+/// A site that knows the item, or an item that may have been meant.
+#[derive(Debug, Drop)]
+pub enum Knower {
+    /// This site knows the item.
+    Knows(SiteNo),
+    /// The site that was asked knows this item, which ends in the text that was given.
+    Has { site: SiteNo, item: Epc },
 }

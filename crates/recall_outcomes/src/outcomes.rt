@@ -4,7 +4,8 @@ ghost use Rattle.std.specs.Prelude.{◌≡◌};
 ghost use Rattle.std.specs.List.{list_any};
 ghost use Rattle.recall_outcomes.specs.Statuses.{is_amiss, is_open, outcome_status};
 
-use event_json::{Sequence, SiteNo};
+use crate::notes::Notes;
+use event_json::{Sequence, SiteNo, Sites};
 use frame_core::RecallId;
 use item_spellings::ScanFault;
 use query_core::{KnownItem, RecallDetail, RecallStatus};
@@ -12,19 +13,6 @@ use recall_text::RefusedLine;
 use report_core::{BackTrace, RecallReport, StepEvents, Trace, Verdict};
 use site_core::{Effects, Refusal};
 use site_recovery::Misfit;
-
-/// How a command prints what it came to.
-#[derive(Clone, Copy, Debug, PartialEq, Eq)]
-pub enum Form {
-    /// Lines of words.
-    Text,
-    /// Lines that are a JSON object each.
-    Json,
-    /// A report or a trace as rows of comma-separated fields; any other outcome as text.
-    Csv,
-    /// A report or a trace as a picture for Graphviz; any other outcome as text.
-    Dot,
-}
 
 /// How it is told how each pair of a report or a trace is reached.
 #[derive(Clone, Copy, Debug, PartialEq, Eq)]
@@ -137,6 +125,18 @@ pub enum CommandRefusal {
     Step(Refusal),
 }
 
+/// What a command on the sites' files returns.
+#[derive(Debug, Drop)]
+pub struct Output {
+    /// The sites by which the outcome is told: those of the folder's list, and of `init` those of the list that was
+    /// read.
+    pub sites: Sites,
+    /// What was done, or why it was refused.
+    pub outcome: Outcome,
+    /// What is told beside it.
+    pub notes: Notes,
+}
+
 impl Outcome {
     /// The status of a program that ends with it: 0 done, 1 refused, 4 a discrepancy, and where it was asked for, 5 for
     /// a recall that is open.
@@ -213,14 +213,14 @@ fn is_amiss(audited: &AuditedRecall) -> bool
 }
 
 /// Whether some recall is open.
-pub(crate) fn some_open(recalls: &[RecallStatus]) -> bool
+fn some_open(recalls: &[RecallStatus]) -> bool
     ensures { result ≡ list_any is_open recalls.now }
 {
     recalls.iter().any(|recall| is_open(recall))
 }
 
 /// Whether a recall is open: the site that began it hasn't recorded the end.
-pub(crate) fn is_open(status: &RecallStatus) -> bool
+fn is_open(status: &RecallStatus) -> bool
     ensures { result ≡ is_open status.now }
 {
     !status.ended

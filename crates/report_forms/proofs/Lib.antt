@@ -1,6 +1,6 @@
+pub mod Parts
 pub mod Replacing
+pub mod Drawing
 pub mod RowLaws
 pub mod TableLaws
 pub mod TextLaws
-pub mod Written
-pub mod ZipLemmas

@@ -11,7 +11,10 @@ use Rattle.csv.specs.Writing.{default_writer, field_text, fields_text, needs_byt
 use Rattle.csv.specs.declared.parser.State.TheVariants as st
 use Rattle.csv.proofs.RoundTrip.{field-run, record-same}
 use Rattle.report_forms.specs.Csv.{Fields, csv_field, csv_line, csv_lines, csv_rest}
-use Rattle.report_forms.specs.Laws.{IsFull}
+
+-- it has a field for each column
+abbrev pub IsFull : Fields → Type 0
+IsFull row = length row ≡ 10
 
 -- ---- one row
 

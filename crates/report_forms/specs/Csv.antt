@@ -1,18 +1,16 @@
 -- A report and a trace as rows of comma-separated fields, as RFC 4180 has them.
-use Rattle.std.specs.Prelude.{ℕ, List, [], ◌∷◌, ◌++◌, Option, Some, None, codes, map, slice_get}
-use Rattle.std.specs.List.{flat_map, zip}
+use Rattle.std.specs.Prelude.{ℕ, List, [], ◌∷◌, ◌++◌, Option, Some, None, codes, map}
+use Rattle.std.specs.List.{flat_map}
 use Rattle.std.specs.Option.{option_and_then, option_map_or, unwrap_or}
 use Rattle.csv.specs.Writing.{default_writer, field_text}
 use Rattle.epc_core.specs.Items.{behind, parted}
 use Rattle.event_json.specs.Sites.{Site}
-use Rattle.frame_core.specs.Numbers.{Recall}
 use Rattle.recall_text.specs.Words.{name_at, recall_text}
 use Rattle.report_core.specs.declared.outside.OutsideShipment.{OutsideShipment}
-use Rattle.report_core.specs.declared.reports.RecallReport.{RecallReport}
-use Rattle.report_core.specs.declared.traces.BackTrace.{BackTrace}
-use Rattle.report_core.specs.declared.traces.Trace.{Trace}
 use Rattle.trace_core.specs.declared.pairs.Pair.{Pair}
-use Rattle.trace_core.specs.Trails.{before_last}
+use Rattle.report_forms.specs.Accounts.{Account, Part, way_beside}
+use Rattle.report_forms.specs.declared.accounts.Title.{Title}
+use Rattle.report_forms.specs.declared.accounts.Title.TheVariants as titles
 
 -- ---- the numbers of an item, by its key
 
@@ -54,44 +52,40 @@ abbrev pub row_of : List Site → List ℕ → ℕ → List ℕ → Option Pair 
 row_of sites recall site item beside kind destination =
     recall ∷ name_at sites site ∷ item ∷ gtin_of item ∷ serial_of item ∷ sscc_of item ∷ name_beside sites beside ∷ item_beside beside ∷ kind ∷ destination ∷ []
 
--- a pair, and the pair beside it
-abbrev pub pair_row : List Site → List ℕ → List ℕ → Pair → Option Pair → Fields
-pair_row sites recall kind p beside = row_of sites recall p.site p.item beside kind []
+-- a pair, and the pair beside it on its trail
+abbrev pub part_row : List Site → List ℕ → List ℕ → Part → Fields
+part_row sites recall kind part = row_of sites recall part.pair.site part.pair.item (way_beside part.way) kind []
 
 -- a shipment to a place that is no traced site
 abbrev pub outside_row : List Site → List ℕ → OutsideShipment → Fields
 outside_row sites recall x = row_of sites recall x.site x.item None (codes "outside") x.destination
 
--- a quarantined pair, and the step before it, where a trail leads to it
-abbrev pub held_row : List Site → List ℕ → Pair × Option (List Pair) → Fields
-held_row sites recall (p, trail) = pair_row sites recall (codes "held") p (option_and_then before_last trail)
-
-abbrev pub report_rows : List Site → Recall → RecallReport → List Fields
-report_rows sites r report =
-    columns (codes "from_site") (codes "from_item")
-    ∷ map (held_row sites (recall_text sites r)) (zip report.pairs report.trails) ++ map (outside_row sites (recall_text sites r)) report.outside
-
--- a pair that a trail from the root ends with
-abbrev pub led_row : List Site → Pair × List Pair → Fields
-led_row sites (p, trail) = pair_row sites [] (codes "found") p (before_last trail)
-
--- where an item went
-abbrev pub trace_rows : List Site → Trace → List Fields
-trace_rows sites trace =
-    columns (codes "from_site") (codes "from_item") ∷ map (led_row sites) (zip trace.pairs trace.trails) ++ map (outside_row sites []) trace.outside
-
--- a pair that a trail to the root begins with, and the step behind it
-abbrev pub leading_row : List Site → Pair × List Pair → Fields
-leading_row sites (p, trail) = pair_row sites [] (codes "found") p (slice_get trail 1)
-
 -- a pair that no pair is related to
-abbrev pub origin_row : List Site → Pair → Fields
-origin_row sites p = pair_row sites [] (codes "origin") p None
+abbrev pub origin_row : List Site → List ℕ → Pair → Fields
+origin_row sites recall p = row_of sites recall p.site p.item None (codes "origin") []
 
--- where an item came from
-abbrev pub back_rows : List Site → BackTrace → List Fields
-back_rows sites trace =
-    columns (codes "to_site") (codes "to_item") ∷ map (leading_row sites) (zip trace.pairs trace.trails) ++ map (origin_row sites) trace.origins
+-- the columns; those of the pair beside it are named by its place on the trail
+abbrev pub columns_of : Title → Fields
+columns_of (titles.Recall r ended) = columns (codes "from_site") (codes "from_item")
+columns_of titles.Forward = columns (codes "from_site") (codes "from_item")
+columns_of titles.Back = columns (codes "to_site") (codes "to_item")
+
+-- the recall of a report
+abbrev pub recall_field : List Site → Title → List ℕ
+recall_field sites (titles.Recall r ended) = recall_text sites r
+recall_field sites other = []
+
+-- what its pairs are
+abbrev pub kind_of : Title → List ℕ
+kind_of (titles.Recall r ended) = codes "held"
+kind_of other = codes "found"
+
+-- Behind the columns' names each pair has a row, in order, and then each shipment that left, and each origin.
+abbrev pub account_rows : List Site → Account → List Fields
+account_rows sites a =
+    columns_of a.title
+    ∷ map (part_row sites (recall_field sites a.title) (kind_of a.title)) a.parts
+    ++ (map (outside_row sites (recall_field sites a.title)) a.outside ++ map (origin_row sites (recall_field sites a.title)) a.origins)
 
 -- ---- as text
 
@@ -111,12 +105,3 @@ csv_line (field ∷ fields) = csv_field field ++ csv_rest fields
 
 abbrev pub csv_lines : List Fields → List ℕ
 csv_lines rows = flat_map csv_line rows
-
-unfoldable pub report_csv : List Site → Recall → RecallReport → List ℕ
-report_csv sites r report = csv_lines (report_rows sites r report)
-
-unfoldable pub trace_csv : List Site → Trace → List ℕ
-trace_csv sites trace = csv_lines (trace_rows sites trace)
-
-unfoldable pub back_csv : List Site → BackTrace → List ℕ
-back_csv sites trace = csv_lines (back_rows sites trace)

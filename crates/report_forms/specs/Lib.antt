@@ -1,4 +1,4 @@
+pub mod Accounts
 pub mod Csv
 pub mod Dot
 pub mod Laws
-pub mod Pieces

@@ -1,231 +1,133 @@
 //! A report and a trace as rows of comma-separated fields, for a spreadsheet.
 
-ghost use Rattle.std.specs.Prelude.{◌≡◌, ◌++◌, ◌<◌, [], IfOk, OnOk, length, option_map, string_bytes};
+ghost use Rattle.std.specs.Prelude.{◌≡◌, ◌++◌, ◌<◌, [], ◌∷◌, IfOk, OnOk, length, map, option_map, string_bytes};
 ghost use Rattle.std.specs.Option.{option_map_or};
 ghost use Rattle.epc_core.specs.Items.{parted};
-ghost use Rattle.std.specs.List.{flat_map, list_any, zip};
+ghost use Rattle.std.specs.List.{flat_map, list_any};
+ghost use Rattle.csv.specs.Reading.{default_config, records};
 ghost use Rattle.csv.specs.Writing.{default_writer, escaped, needs_byte, needs_quotes, quoted};
-ghost use Rattle.report_forms.specs.Csv.{back_csv, csv_field, csv_line, csv_lines, gtin_of, held_row, item_beside, leading_row, led_row, name_beside, origin_row, outside_row, pair_row, report_csv, row_of, serial_of, sscc_of, trace_csv};
-ghost use Rattle.report_forms.specs.Pieces.{behind_comma, beside_text, end_text, held_line, leading_line, led_line, numbers_text, origin_line, outside_line, place_text};
+ghost use Rattle.report_forms.specs.Accounts.{part_of};
+ghost use Rattle.report_forms.specs.Csv.{account_rows, columns_of, csv_field, csv_line, csv_lines, gtin_of, item_beside, kind_of, name_beside, origin_row, outside_row, part_row, recall_field, row_of, serial_of, sscc_of};
 
+use crate::accounts::{Account, Part, Title};
 use crate::replaced::push_replaced;
 use epc_core::Epc;
 use event_json::{SiteNo, Sites};
-use frame_core::RecallId;
 use recall_text::telling::{name_of, recall_text};
-use report_core::{BackTrace, BackTrail, BackTrails, OutsideShipment, RecallReport, Trace};
+use report_core::OutsideShipment;
 use std::alloc::{AllocError, Global};
-use trace_core::{AllTrails, Pair, Trail, Trails};
+use trace_core::Pair;
 
-/// The names of the columns, with the step before a pair.
-const FROM_COLUMNS: &str =
-    "recall,site,item,gtin,serial,sscc,from_site,from_item,kind,destination\r\n";
-
-/// The names of the columns, with the step behind a pair.
-const TO_COLUMNS: &str = "recall,site,item,gtin,serial,sscc,to_site,to_item,kind,destination\r\n";
-
-/// A report as rows: a first one of the columns' names, one for each pair, and one for each shipment out of the traced
-/// sites.
-#[tactic(auto, using(crate::proofs::Written::report_written))]
-pub fn report_csv(
-    alloc: Global,
-    sites: &Sites,
-    recall: RecallId,
-    report: &RecallReport,
-) -> Result<String, AllocError>
-    ensures { IfOk result (λ t. string_bytes t ≡ report_csv sites.now recall report.now) }
+/// A report or a trace as rows, in which a reader of RFC 4180 finds just these: a first one of the columns' names, one
+/// for each pair, and one for each shipment out of the traced sites, or for each pair that no pair is related to.
+pub fn csv_table(alloc: Global, sites: &Sites, account: &Account<'_>) -> Result<String, AllocError>
+    ensures { IfOk result (λ t. records default_config (string_bytes t)
+        ≡ account_rows sites.now account.now) }
 {
-    let recall = recall_text(alloc, sites, recall)?;
+    table_text(alloc, sites, account)
+}
+
+/// The text of these rows.
+fn table_text(alloc: Global, sites: &Sites, account: &Account<'_>) -> Result<String, AllocError>
+    ensures { IfOk result (λ t. string_bytes t
+        ≡ csv_lines (account_rows sites.now account.now)) }
+{
+    let recall = recall_field(alloc, sites, account.title())?;
     let recall = recall.as_str();
-    let mut text = String::from_str(alloc, FROM_COLUMNS)?;
-    push_held(
+    let mut text = String::from_str(alloc, columns(account.title()))?;
+    push_parts(alloc, &mut text, sites, recall, account)?;
+    push_outsides(alloc, &mut text, sites, recall, account.outside())?;
+    push_origins(alloc, &mut text, sites, recall, account.origins())?;
+    Ok(text)
+}
+
+/// The names of the columns, as a line.
+#[tactic(auto, unfolding(crate::specs::Csv::csv_line, crate::specs::Csv::csv_field))]
+fn columns(title: Title) -> &'static str
+    ensures { result.now ≡ csv_line (columns_of title) }
+{
+    match title {
+        Title::Recall {
+            recall: _,
+            ended: _,
+        } => "recall,site,item,gtin,serial,sscc,from_site,from_item,kind,destination\r\n",
+        Title::Forward => {
+            "recall,site,item,gtin,serial,sscc,from_site,from_item,kind,destination\r\n"
+        }
+        Title::Back => "recall,site,item,gtin,serial,sscc,to_site,to_item,kind,destination\r\n",
+    }
+}
+
+/// The recall of a report; empty for a trace.
+fn recall_field(alloc: Global, sites: &Sites, title: Title) -> Result<String, AllocError>
+    ensures { IfOk result (λ t. string_bytes t ≡ recall_field sites.now title) }
+{
+    match title {
+        Title::Recall { recall, ended: _ } => recall_text(alloc, sites, recall),
+        Title::Forward => Ok(String::new(alloc)),
+        Title::Back => Ok(String::new(alloc)),
+    }
+}
+
+/// What the pairs of a report or of a trace are.
+fn kind_of(title: Title) -> &'static str
+    ensures { result.now ≡ kind_of title }
+{
+    match title {
+        Title::Recall {
+            recall: _,
+            ended: _,
+        } => "held",
+        Title::Forward => "found",
+        Title::Back => "found",
+    }
+}
+
+/// Adds a row for each pair.
+fn push_parts(
+    alloc: Global,
+    text: &mut String,
+    sites: &Sites,
+    recall: &str,
+    account: &Account<'_>,
+) -> Result<(), AllocError>
+    ensures { OnOk result (string_bytes text.new ≡ string_bytes text.old ++ csv_lines
+        (map (part_row sites.now recall.now (kind_of account.now.title)) account.now.parts)) }
+{
+    let kind = kind_of(account.title());
+    for place in 0..account.len() {
+        let Some(part) = account.part(place) else {
+            unreachable!()
+        };
+        push_part(alloc, text, sites, recall, kind, &part)?;
+    }
+    Ok(())
+}
+
+/// Adds the row of a pair, with the pair beside it.
+fn push_part(
+    alloc: Global,
+    text: &mut String,
+    sites: &Sites,
+    recall: &str,
+    kind: &str,
+    part: &Part<'_>,
+) -> Result<(), AllocError>
+    ensures { OnOk result (string_bytes text.new ≡ string_bytes text.old ++ csv_line
+        (part_row sites.now recall.now kind.now (part_of part.now))) }
+{
+    let pair = part.pair;
+    push_row(
         alloc,
-        &mut text,
+        text,
         sites,
         recall,
-        report.pairs.as_slice(),
-        &report.trails,
-    )?;
-    push_outsides(alloc, &mut text, sites, recall, report.outside.as_slice())?;
-    Ok(text)
-}
-
-/// A trace to where an item went as rows.
-#[tactic(auto, using(crate::proofs::Written::trace_written))]
-pub fn trace_csv(alloc: Global, sites: &Sites, trace: &Trace) -> Result<String, AllocError>
-    ensures { IfOk result (λ t. string_bytes t ≡ trace_csv sites.now trace.now) }
-{
-    let mut text = String::from_str(alloc, FROM_COLUMNS)?;
-    push_led(
-        alloc,
-        &mut text,
-        sites,
-        trace.pairs.as_slice(),
-        &trace.trails,
-    )?;
-    push_outsides(alloc, &mut text, sites, "", trace.outside.as_slice())?;
-    Ok(text)
-}
-
-/// A trace to where an item came from as rows.
-#[tactic(auto, using(crate::proofs::Written::back_written))]
-pub fn back_csv(alloc: Global, sites: &Sites, trace: &BackTrace) -> Result<String, AllocError>
-    ensures { IfOk result (λ t. string_bytes t ≡ back_csv sites.now trace.now) }
-{
-    let mut text = String::from_str(alloc, TO_COLUMNS)?;
-    push_leading(
-        alloc,
-        &mut text,
-        sites,
-        trace.pairs.as_slice(),
-        &trace.trails,
-    )?;
-    push_origins(alloc, &mut text, sites, trace.origins.as_slice())?;
-    Ok(text)
-}
-
-/// Adds a row for each quarantined pair.
-fn push_held(
-    alloc: Global,
-    text: &mut String,
-    sites: &Sites,
-    recall: &str,
-    pairs: &[Pair],
-    trails: &Trails,
-) -> Result<(), AllocError>
-    ensures { OnOk result (string_bytes text.new ≡ string_bytes text.old ++ flat_map
-        (held_line sites.now recall.now) (zip pairs.now trails.now)) }
-{
-    for place in 0..pairs.len() {
-        let Some(trail) = trails.get(place) else {
-            return Ok(());
-        };
-        push_held_pair(alloc, text, sites, recall, &pairs[place], trail.as_ref())?;
-    }
-    Ok(())
-}
-
-/// Adds the row of a quarantined pair, with the step before it, where a trail leads to it.
-fn push_held_pair(
-    alloc: Global,
-    text: &mut String,
-    sites: &Sites,
-    recall: &str,
-    pair: &Pair,
-    trail: Option<&Trail<'_>>,
-) -> Result<(), AllocError>
-    ensures { OnOk result (string_bytes text.new ≡ string_bytes text.old
-        ++ held_line sites.now recall.now (pair.now, option_map (λ t. t.now) trail.entry)) }
-{
-    match trail {
-        None => push_pair(alloc, text, sites, recall, "held", pair, None),
-        Some(trail) => push_pair(
-            alloc,
-            text,
-            sites,
-            recall,
-            "held",
-            pair,
-            trail.before_last(),
-        ),
-    }
-}
-
-/// Adds a row for each pair that a trail from the root ends with.
-fn push_led(
-    alloc: Global,
-    text: &mut String,
-    sites: &Sites,
-    pairs: &[Pair],
-    trails: &AllTrails,
-) -> Result<(), AllocError>
-    ensures { OnOk result (string_bytes text.new ≡ string_bytes text.old ++ flat_map
-        (led_line sites.now) (zip pairs.now trails.now)) }
-{
-    for place in 0..pairs.len() {
-        let Some(trail) = trails.get(place) else {
-            return Ok(());
-        };
-        push_led_pair(alloc, text, sites, &pairs[place], &trail)?;
-    }
-    Ok(())
-}
-
-/// Adds the row of a pair, with the step before it on its trail.
-fn push_led_pair(
-    alloc: Global,
-    text: &mut String,
-    sites: &Sites,
-    pair: &Pair,
-    trail: &Trail<'_>,
-) -> Result<(), AllocError>
-    ensures { OnOk result (string_bytes text.new ≡ string_bytes text.old ++ led_line sites.now
-        (pair.now, trail.now)) }
-{
-    push_pair(alloc, text, sites, "", "found", pair, trail.before_last())
-}
-
-/// Adds a row for each pair that a trail to the root begins with.
-fn push_leading(
-    alloc: Global,
-    text: &mut String,
-    sites: &Sites,
-    pairs: &[Pair],
-    trails: &BackTrails,
-) -> Result<(), AllocError>
-    ensures { OnOk result (string_bytes text.new ≡ string_bytes text.old ++ flat_map
-        (leading_line sites.now) (zip pairs.now trails.now)) }
-{
-    for place in 0..pairs.len() {
-        let Some(trail) = trails.get(place) else {
-            return Ok(());
-        };
-        push_leading_pair(alloc, text, sites, &pairs[place], &trail)?;
-    }
-    Ok(())
-}
-
-/// Adds the row of a pair, with the step behind it on its trail.
-fn push_leading_pair(
-    alloc: Global,
-    text: &mut String,
-    sites: &Sites,
-    pair: &Pair,
-    trail: &BackTrail<'_>,
-) -> Result<(), AllocError>
-    ensures { OnOk result (string_bytes text.new ≡ string_bytes text.old ++ leading_line sites.now
-        (pair.now, trail.now)) }
-{
-    push_pair(alloc, text, sites, "", "found", pair, trail.second())
-}
-
-/// Adds a row for each pair that no pair is related to.
-fn push_origins(
-    alloc: Global,
-    text: &mut String,
-    sites: &Sites,
-    origins: &[Pair],
-) -> Result<(), AllocError>
-    ensures { OnOk result (string_bytes text.new ≡ string_bytes text.old ++ flat_map
-        (origin_line sites.now) origins.now) }
-{
-    for origin in origins {
-        push_origin(alloc, text, sites, origin)?;
-    }
-    Ok(())
-}
-
-/// Adds the row of a pair that no pair is related to.
-fn push_origin(
-    alloc: Global,
-    text: &mut String,
-    sites: &Sites,
-    origin: &Pair,
-) -> Result<(), AllocError>
-    ensures { OnOk result (string_bytes text.new
-        ≡ string_bytes text.old ++ origin_line sites.now origin.now) }
-{
-    push_pair(alloc, text, sites, "", "origin", origin, None)
+        pair.site,
+        &pair.item,
+        part.way.beside(),
+        kind,
+        "",
+    )
 }
 
 /// Adds a row for each shipment out of the traced sites.
@@ -236,55 +138,50 @@ fn push_outsides(
     recall: &str,
     outside: &[OutsideShipment],
 ) -> Result<(), AllocError>
-    ensures { OnOk result (string_bytes text.new ≡ string_bytes text.old ++ flat_map
-        (outside_line sites.now recall.now) outside.now) }
+    ensures { OnOk result (string_bytes text.new ≡ string_bytes text.old ++ csv_lines
+        (map (outside_row sites.now recall.now) outside.now)) }
 {
     for shipment in outside {
-        push_outside(alloc, text, sites, recall, shipment)?;
+        push_row(
+            alloc,
+            text,
+            sites,
+            recall,
+            shipment.site,
+            &shipment.item,
+            None,
+            "outside",
+            shipment.destination.as_str(),
+        )?;
     }
     Ok(())
 }
 
-/// Adds the row of a shipment out of the traced sites.
-fn push_outside(
+/// Adds a row for each pair that no pair is related to.
+fn push_origins(
     alloc: Global,
     text: &mut String,
     sites: &Sites,
     recall: &str,
-    shipment: &OutsideShipment,
+    origins: &[Pair],
 ) -> Result<(), AllocError>
-    ensures { OnOk result (string_bytes text.new
-        ≡ string_bytes text.old ++ outside_line sites.now recall.now shipment.now) }
+    ensures { OnOk result (string_bytes text.new ≡ string_bytes text.old ++ csv_lines
+        (map (origin_row sites.now recall.now) origins.now)) }
 {
-    push_row(
-        alloc,
-        text,
-        sites,
-        recall,
-        shipment.site,
-        &shipment.item,
-        None,
-        "outside",
-        shipment.destination.as_str(),
-    )
-}
-
-/// Adds the row of a pair, with the pair beside it.
-fn push_pair(
-    alloc: Global,
-    text: &mut String,
-    sites: &Sites,
-    recall: &str,
-    kind: &str,
-    pair: &Pair,
-    beside: Option<&Pair>,
-) -> Result<(), AllocError>
-    ensures { OnOk result (string_bytes text.new ≡ string_bytes text.old ++ csv_line
-        (pair_row sites.now recall.now kind.now pair.now (option_map (λ p. p.now) beside.entry))) }
-{
-    push_row(
-        alloc, text, sites, recall, pair.site, &pair.item, beside, kind, "",
-    )
+    for origin in origins {
+        push_row(
+            alloc,
+            text,
+            sites,
+            recall,
+            origin.site,
+            &origin.item,
+            None,
+            "origin",
+            "",
+        )?;
+    }
+    Ok(())
 }
 
 /// Adds the row of an item at a site, with the pair beside it and where it went.
@@ -304,64 +201,60 @@ fn push_row(
         destination.now)) }
 {
     let key = item.key(alloc)?;
-    push_place(text, sites, recall, site, key.as_str())?;
-    push_numbers(text, key.as_str())?;
-    push_beside(alloc, text, sites, beside)?;
-    push_end(text, kind, destination)
+    let other = item_beside(alloc, beside)?;
+    push_fields(
+        text,
+        recall,
+        name_of(sites, site),
+        key.as_str(),
+        name_beside(sites, beside),
+        other.as_str(),
+        kind,
+        destination,
+    )
 }
 
-/// Adds the first fields of a row: the recall, the site and the item.
-#[tactic(auto, unfolding(crate::specs::Pieces::place_text))]
-fn push_place(
+/// Adds the row of these fields, and of the item's numbers behind its key.
+fn push_fields<'a>(
     text: &mut String,
-    sites: &Sites,
     recall: &str,
-    site: SiteNo,
-    key: &str,
+    site: &'a str,
+    key: &'a str,
+    other_site: &'a str,
+    other_key: &'a str,
+    kind: &'a str,
+    destination: &'a str,
 ) -> Result<(), AllocError>
-    ensures { OnOk result (string_bytes text.new
-        ≡ string_bytes text.old ++ place_text sites.now recall.now site key.now) }
-{
-    push_field(text, recall)?;
-    push_next(text, name_of(sites, site))?;
-    push_next(text, key)
-}
-
-/// Adds the item's numbers.
-#[tactic(auto, unfolding(crate::specs::Pieces::numbers_text))]
-fn push_numbers(text: &mut String, key: &str) -> Result<(), AllocError>
-    ensures { OnOk result (string_bytes text.new ≡ string_bytes text.old ++ numbers_text key.now) }
+    ensures { OnOk result (string_bytes text.new ≡ string_bytes text.old ++ csv_line
+        (recall.now ∷ site.now ∷ key.now ∷ gtin_of key.now ∷ serial_of key.now ∷ sscc_of key.now
+        ∷ other_site.now ∷ other_key.now ∷ kind.now ∷ destination.now ∷ [])) }
 {
     let (gtin, serial) = trade_numbers(key);
-    push_next(text, gtin)?;
-    push_next(text, serial)?;
-    push_next(text, sscc_of(key))
+    let rest = [
+        site,
+        key,
+        gtin,
+        serial,
+        sscc_of(key),
+        other_site,
+        other_key,
+        kind,
+        destination,
+    ];
+    push_line(text, recall, &rest)
 }
 
-/// Adds the pair beside it, or nothing.
-#[tactic(auto, unfolding(crate::specs::Pieces::beside_text))]
-fn push_beside(
-    alloc: Global,
-    text: &mut String,
-    sites: &Sites,
-    beside: Option<&Pair>,
-) -> Result<(), AllocError>
-    ensures { OnOk result (string_bytes text.new ≡ string_bytes text.old ++ beside_text sites.now
-        (option_map (λ p. p.now) beside.entry)) }
+/// Adds a line of a field and others.
+#[tactic(auto, unfolding(crate::specs::Csv::csv_line))]
+fn push_line(text: &mut String, first: &str, rest: &[&str]) -> Result<(), AllocError>
+    ensures { OnOk result (string_bytes text.new ≡ string_bytes text.old ++ csv_line
+        (first.now ∷ map (λ f. f.now) rest.now)) }
 {
-    let item = item_beside(alloc, beside)?;
-    push_next(text, name_beside(sites, beside))?;
-    push_next(text, item.as_str())
-}
-
-/// Adds the last fields of a row, and the line's end.
-#[tactic(auto, unfolding(crate::specs::Pieces::end_text))]
-fn push_end(text: &mut String, kind: &str, destination: &str) -> Result<(), AllocError>
-    ensures { OnOk result (string_bytes text.new
-        ≡ string_bytes text.old ++ end_text kind.now destination.now) }
-{
-    push_next(text, kind)?;
-    push_next(text, destination)?;
+    push_field(text, first)?;
+    for field in rest {
+        text.push(',')?;
+        push_field(text, field)?;
+    }
     text.push_str("\r\n")
 }
 
@@ -416,15 +309,6 @@ fn item_beside(alloc: Global, beside: Option<&Pair>) -> Result<String, AllocErro
         None => Ok(String::new(alloc)),
         Some(pair) => pair.item.key(alloc),
     }
-}
-
-/// Adds a comma and a field.
-fn push_next(text: &mut String, field: &str) -> Result<(), AllocError>
-    ensures { OnOk result (string_bytes text.new
-        ≡ string_bytes text.old ++ behind_comma field.now) }
-{
-    text.push(',')?;
-    push_field(text, field)
 }
 
 /// Adds a field, in quotes where it has a quote, a comma or a line's end.

@@ -1,11 +1,14 @@
-//! Reports and traces in forms that other programs read: as rows of comma-separated fields (RFC 4180), and as a picture
-//! for Graphviz.
+//! Reports and traces in parts, and in forms that other programs read: as rows of comma-separated fields (RFC 4180), and
+//! as a picture for Graphviz.
 #![tactic(auto)]
 
+mod accounts;
 mod csv_tables;
 mod dot_graphs;
 pub mod laws;
+mod pictures;
 mod replaced;
 
-pub use csv_tables::{back_csv, report_csv, trace_csv};
-pub use dot_graphs::{back_dot, report_dot, trace_dot};
+pub use accounts::{Account, Part, Title, Way};
+pub use csv_tables::csv_table;
+pub use dot_graphs::dot_graph;

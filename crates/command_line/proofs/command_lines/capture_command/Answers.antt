@@ -31,5 +31,5 @@ returns c =
       folder = c.in_ok-folder.ensures;
       site = c.in_ok-site.ensures;
       words = gives_documents (rows_of (found_of c.args.given.now)) _ c.in-Some.kind (paths ∙ ap Some texts, c.in-Some.ensures.one);
-      form = c.requires;
+      terms = c.requires;
     }

@@ -4,7 +4,7 @@ use mathlib.Core.Logic.{◌⊎◌}
 use Rattle.std.proofs.lemmas.List.{length-map}
 use Rattle.clap.specs.Words.{found_of, rows_of}
 use Rattle.clap.proofs.WalkLemmas.{raw_values-rows}
-use Rattle.folder_commands.specs.declared.batches.WordKind.{WordKind}
+use Rattle.folder_commands.specs.declared.words.WordKind.{WordKind}
 use Rattle.command_line.specs.CommandLines.{GivesWords, has_many}
 use Rattle.command_line.proofs.Words.{are_several, epcs_have_lines, gives_epcs, mistake_there, not_set, ok_there, one_text_alone, several_of}
 use Rattle.command_line.proofs.command_lines.start_command.Goals as goal
@@ -55,5 +55,5 @@ returns c =
           subst (λ (k : WordKind). GivesWords (codes "start") (rows_of (found_of c.args.given.now)) k (map (λ p. p.now) c.in_ok-words.words.items)) (sym kind)
           (gives_epcs (rows_of (found_of c.args.given.now)) _ c.is_set-by_lines.result c.in_ok-spelling.spelling (epcs ∙ ap Some texts, c.is_set-by_lines.ensures)
           (λ set. false≢true (sym c.if-dry.false ∙ c.is_set-dry.ensures.1 set)) c.in_ok-spelling.ensures.one);
-      form = c.requires;
+      terms = c.requires;
     }

@@ -1,4 +1,4 @@
-use Rattle.std.proofs.Common.{◌≡◌, ◌≤◌, ◌+◌, drop, map, take}
+use Rattle.std.proofs.Common.{◌≤◌, ◌+◌, drop, map, take}
 use Rattle.std.specs.List.{AllZip}
 use Rattle.serde_json.specs.Data.{items_depth}
 use Rattle.serde_json.specs.Read.{max_depth}

@@ -1,40 +1,59 @@
-use Rattle.std.proofs.Common.{ap, ◌∙◌, string_bytes, subst}
-use Rattle.std.specs.Io.KnownBytes.{Appends}
-use Rattle.recall_text.specs.Writing.{AppendsBeginning}
-use Rattle.recall_outcomes.specs.Printing.{input_line}
-use Rattle.folder_commands.specs.Batches.{input_of, standing}
-use Rattle.folder_commands.proofs.BatchLemmas.{on_err, takes_less, takes_none}
+use Rattle.std.proofs.Common.{ap, sym, ◌∙◌, inl, inr, refl, subst, string_bytes}
+use Rattle.recall_outcomes.specs.Batches.{with_one}
+use Rattle.recall_outcomes.specs.declared.batches.Totals.{Totals}
+use Rattle.event_json.specs.declared.untraced.Untraced.{Untraced}
+use Rattle.folder_commands.specs.Batches.{standing}
+use Rattle.folder_commands.specs.Inputs.{PassesOver, input_of}
+use Rattle.folder_commands.proofs.BatchLemmas.{breaks_one}
+use Rattle.folder_commands.proofs.StepLemmas.{match_err}
 use Rattle.folder_commands.proofs.batches.take.Goals as goal
 
-pub returns-in_err-came-clause-early : goal.returns-in_err-came-clause-early
-returns-in_err-came-clause-early g c = λ old shows. on_err c.from_residual.result (takes_none c.args.form c.args.sites.now (standing old (g.W.Write.contents c.args.output.now) c.args.counts))
+pub returns-in_err-came : goal.returns-in_err-came
+returns-in_err-came g c =
+    record {
+      lasts = c.done_with.ensures.stored;
+      came = λ start at.
+          match_err c.from_residual.result _ _ _ c.from_residual.ensures.1
+          (breaks_one (g.S.InputSink.takes c.args.sink.now) c.args.run.now.sites g.K.SiteKeeper.shown g.K.SiteKeeper.may start (input_of c.args.input) _ _ _ (inl (c.in_err-came.ensures.came start.site at.shows, sym at.hears)));
+    }
 
-pub returns-in_err-line-clause-early : goal.returns-in_err-line-clause-early
-returns-in_err-line-clause-early g c = λ old shows. on_err c.from_residual-in_err-line.result (takes_none c.args.form c.args.sites.now (standing old (g.W.Write.contents c.args.output.now) c.args.counts))
+pub returns-in_err-take : goal.returns-in_err-take
+returns-in_err-take g c =
+    record {
+      lasts = c.done_with.ensures.stored;
+      came = λ start at.
+          let (new, shows, comes, passed) = c.in_ok-came.ensures.came start.site at.shows in
+          match_err c.from_residual-in_err-take.result _ _ _ c.from_residual-in_err-take.ensures.1
+          (breaks_one (g.S.InputSink.takes c.args.sink.now) c.args.run.now.sites g.K.SiteKeeper.shown g.K.SiteKeeper.may start (input_of c.args.input) _ _ _
+          (inr (record { came = c.in_ok-came.came; new = new; comes = comes; shows = shows; cause = c.in_err-take.ensures.failed })));
+    }
 
-pub returns-in_err-write_lines-clause-early : goal.returns-in_err-write_lines-clause-early
-returns-in_err-write_lines-clause-early g c = λ old shows.
-    let came = c.in_ok-came.ensures.came old shows in
-    let line = c.as_str-2.ensures.value ∙ c.in_ok-line.ensures ∙ ap (λ source. input_line c.args.form c.done_as.result c.args.sites.now source c.in_ok-came.came) c.as_str.ensures.value
-    ∙ ap (λ task. input_line c.args.form task c.args.sites.now (string_bytes c.args.given.source) c.in_ok-came.came) c.done_as.ensures in
-    let output = g.W.Write.contents c.args.output.now in
-    let after = g.W.Write.contents c.write_lines.new.output in
-    on_err c.from_residual-in_err-write_lines.result
-    (takes_less c.args.form c.args.sites.now (standing old output c.args.counts) (input_of c.args.given) c.in_ok-came.came came.0 after came.2
-    (subst (λ text. AppendsBeginning output after text) line c.in_err-write_lines.ensures.err))
-
-pub returns-clause-taken : goal.returns-clause-taken
-returns-clause-taken g c = λ old shows.
-    let came = c.in_ok-came.ensures.came old shows in
-    let line = c.as_str-2.ensures.value ∙ c.in_ok-line.ensures ∙ ap (λ source. input_line c.args.form c.done_as.result c.args.sites.now source c.in_ok-came.came) c.as_str.ensures.value
-    ∙ ap (λ task. input_line c.args.form task c.args.sites.now (string_bytes c.args.given.source) c.in_ok-came.came) c.done_as.ensures in (
-      came.0,
-      came.1,
-      record {
-        came = c.in_ok-came.came;
-        comes = came.2;
-        written = subst (λ text. Appends (g.W.Write.contents c.args.output.now) (g.W.Write.contents c.write_lines.new.output) text) line c.in_ok-write_lines.ensures.ok;
-        counted = c.with.ensures;
-        passed = came.3;
-      },
-    )
+pub returns : goal.returns
+returns g c =
+    record {
+      lasts = c.done_with.ensures.stored;
+      came = λ start at.
+          let (new, shows, comes, passed) = c.in_ok-came.ensures.came start.site at.shows in
+          let takes = (g.S.InputSink.takes c.args.sink.now) in
+          let sites = c.args.run.now.sites in
+          let source = string_bytes c.args.input.source in
+          let came = c.in_ok-came.came in
+          let told = subst (λ s. takes c.args.output.now sites s came c.take.new.output) c.as_str.ensures.value c.in_ok-take.ensures.taken in
+          let counts = sym (ap (λ x. x.totals) at.counts) in
+          let before = ap (λ x. x.untraced) at.counts in
+          let end = standing new c.take.new.output (record { totals = c.with.result; untraced = c.in_ok-came.untraced }) in (
+            end,
+            record { shows = shows; hears = refl; counts = refl; lists = refl },
+            (
+              end,
+              record {
+                came = came;
+                comes = comes;
+                told = subst (λ s. takes s sites source came c.take.new.output) (sym at.hears) told;
+                counted = c.with.ensures ∙ ap (λ (t : Totals). with_one t came) counts;
+                passed = subst (λ (u : Untraced). PassesOver c.args.input.doing start.site.sites c.args.input.bytes.items came u c.in_ok-came.untraced) (sym before) passed;
+              },
+              refl,
+            ),
+          );
+    }

@@ -1,43 +1,42 @@
-use Rattle.std.proofs.Common.{ℕ, List, Err, refl, sym, ◌∙◌, subst}
-use Rattle.keeper_core.specs.Keeping.{Applies}
-use Rattle.keeper_core.specs.declared.faults.KeepFault.TheVariants as keeping
+use Rattle.std.proofs.Common.{ℕ, List, Ok, Err, refl, ◌∙◌, ap, subst, inl, inr}
 use Rattle.site_core.specs.declared.inputs.SiteInput.TheVariants.{Capture}
-use Rattle.folder_commands.proofs.BatchLemmas.{comes_of, is_capture, refusal_comes}
-use Rattle.folder_commands.proofs.UntoldLemmas.{Finds, captured_found, passes_over}
+use Rattle.folder_commands.specs.Steps.{FailsStep, Steps}
+use Rattle.folder_commands.proofs.InputLemmas.{comes_of_step, passes_over, steps_to}
+use Rattle.folder_commands.proofs.StepLemmas.{Finds, captured_found, match_err}
 use Rattle.folder_commands.proofs.inputs.captured.Goals as goal
+
+pub returns-in_err-untraced-clause-came : goal.returns-in_err-untraced-clause-came
+returns-in_err-untraced-clause-came g c = λ old shows. match_err c.from_residual.result _ _ _ c.from_residual.ensures.1 (inl (c.in_err-untraced.ensures.failed old shows, shows))
+
+pub returns-in_err-done-clause-came : goal.returns-in_err-done-clause-came
+returns-in_err-done-clause-came g c = λ old shows.
+    match_err c.from_residual-in_err-done.result _ _ _ c.from_residual-in_err-done.ensures.1
+    (inr (_, refl, subst (λ (d : List ℕ). FailsStep old (Capture d) (g.K.SiteKeeper.shown c.step.new.keeper) (g.K.SiteKeeper.may c.step.new.keeper) c.in_err-done.field-0.0) c.from_vec.ensures (c.in_err-done.ensures.answered old shows)))
 
 pub came_of-requires : goal.came_of-requires
 came_of-requires g c =
-    is_capture (g.K.SiteKeeper.shown c.args.keeper.now) (g.K.SiteKeeper.shown c.apply.new.self) (g.K.SiteKeeper.may c.apply.new.self) c.args.document.items c.in-Ok.effects c.apply.result c.in-Ok.is
-    (λ old shows. rw c.from_vec.ensures at (c.apply.ensures.open old shows)) (λ shut. (c.apply.ensures.closed shut).0)
+    let shown = g.K.SiteKeeper.shown in
+    comes_of_step (shown c.args.keeper.now) (shown c.step.new.keeper) _ c.in-Ok.effects c.step.result (c.in_ok-done.was ∙ ap Ok c.in-Ok.is) (inl (_, refl))
+    (λ old shows. rw c.in-Ok.is at (c.in_ok-done.ensures.answered old shows)) c.step.ensures.closed
 
-pub returns-in-Err-Refused-clause-came : goal.returns-in-Err-Refused-clause-came
-returns-in-Err-Refused-clause-came g c = λ old shows.
-    let shown = g.K.SiteKeeper.shown c.apply.new.self in
-    let may = g.K.SiteKeeper.may c.apply.new.self in
-    let answer = keeping.Refused c.in-Err-Refused.why in
-    let comes = refusal_comes old shown may c.args.document.items c.in-Err-Refused.why
-    (subst (λ d. Applies old (Capture d) (Err answer) shown may) c.from_vec.ensures (rw c.in-Err-Refused.field-0-is at (c.in-Err-Refused.ensures.open old shows))) in
-    rw c.in-Err-Refused.field-0-is (comes.0, comes.1, comes.2, refl)
-
-pub returns-in-Some-clause-came : goal.returns-in-Some-clause-came
-returns-in-Some-clause-came g c = λ old shows.
-    let shown = g.K.SiteKeeper.shown c.apply.new.self in
-    let may = g.K.SiteKeeper.may c.apply.new.self in
-    let does = rw c.from_vec.ensures at (c.in-Ok.ensures.open old shows) in
-    let comes = comes_of old shown may c.args.document.items c.in-Ok.effects c.came_of.result does c.came_of.ensures in
-    let finds = subst (λ (b : List ℕ). Finds old.sites b c.in_ok-untraced.untraced) c.as_slice.ensures.value (c.in_ok-untraced.ensures old shows) in (
-      comes.0,
-      comes.1,
-      comes.2,
-      passes_over old shown may c.args.document.items c.in-Ok.effects c.came_of.result c.in_ok-untraced.untraced c.in-Some.untraced c.args.passed c.with_untraced.result does c.came_of.ensures finds c.in-Some.is c.with_untraced.ensures,
+pub returns-in-Ok-clause-came : goal.returns-in-Ok-clause-came
+returns-in-Ok-clause-came g c = λ old shows.
+    let shown = g.K.SiteKeeper.shown in
+    let document = c.args.document.items in
+    let steps = subst (λ (d : List ℕ). Steps old (Capture d) (shown c.step.new.keeper) (Ok c.in-Ok.effects)) c.from_vec.ensures (rw c.in-Ok.is at (c.in_ok-done.ensures.answered old shows)) in
+    let (new, is, leads) = steps_to old (shown c.step.new.keeper) (Capture document) (Ok c.in-Ok.effects) steps in
+    let finds : Finds old.sites document c.in_ok-untraced.untraced = subst (λ (b : List ℕ). Finds old.sites b c.in_ok-untraced.untraced) c.as_slice.ensures.value (c.in_ok-untraced.ensures.found old shows) in
+    let found = captured_found old (shown c.step.new.keeper) document (Ok c.in-Ok.effects) c.in_ok-untraced.untraced steps finds in (
+      new,
+      is,
+      inl (record { input = Capture document; asks = refl; done = Ok c.in-Ok.effects; stepped = leads; told = c.came_of.ensures }),
+      passes_over old.sites document c.in-Ok.effects c.came_of.result c.in_ok-untraced.untraced c.args.passed c.with_untraced.result c.came_of.ensures found c.with_untraced.ensures old new leads,
     )
 
-pub unreachable-requires : goal.unreachable-requires
-unreachable-requires g c =
+pub returns-in-Err-clause-came : goal.returns-in-Err-clause-came
+returns-in-Err-clause-came g c = λ old shows.
     let shown = g.K.SiteKeeper.shown in
-    let found = captured_found (shown c.args.keeper.now) (shown c.apply.new.self) (g.K.SiteKeeper.may c.apply.new.self) c.args.document.items c.in-Ok.effects c.apply.result c.in_ok-untraced.untraced c.in-Ok.is
-    (λ old shows. rw c.from_vec.ensures at (c.apply.ensures.open old shows)) (λ shut. (c.apply.ensures.closed shut).0)
-    (λ old shows. subst (λ (b : List ℕ). Finds old.sites b c.in_ok-untraced.untraced) c.as_slice.ensures.value (c.in_ok-untraced.ensures old shows)) in
-    let bad = sym found.1 ∙ c.in_default.is in
-    absurd (let none : ⊥ = cc in none)
+    let document = c.args.document.items in
+    let steps = subst (λ (d : List ℕ). Steps old (Capture d) (shown c.step.new.keeper) (Err c.in-Err.why)) c.from_vec.ensures (rw c.in-Err.is at (c.in_ok-done.ensures.answered old shows)) in
+    let (new, is, leads) = steps_to old (shown c.step.new.keeper) (Capture document) (Err c.in-Err.why) steps in
+    (new, is, inl (record { input = Capture document; asks = refl; done = Err c.in-Err.why; stepped = leads; told = refl }), refl)

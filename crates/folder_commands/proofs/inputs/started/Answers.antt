@@ -1,13 +1,20 @@
-use Rattle.std.proofs.Common.{Ok, Err, refl}
-use Rattle.std.proofs.lemmas.Result.{IfOk-weaker}
+use Rattle.std.proofs.Common.{ap, refl, inl, inr}
+use Rattle.recall_outcomes.specs.declared.batches.InputOutcome.TheVariants.{Refused}
+use Rattle.site_core.specs.declared.inputs.SiteInput.TheVariants.{Start}
+use Rattle.folder_commands.proofs.StepLemmas.{match_err, match_so}
 use Rattle.folder_commands.proofs.inputs.started.Goals as goal
+
+pub returns-in_err-read-clause-came : goal.returns-in_err-read-clause-came
+returns-in_err-read-clause-came g c = λ old shows. match_err c.from_residual.result _ _ _ c.from_residual.ensures.1 (inl (refl, shows))
 
 pub returns-in-Ok-clause-came : goal.returns-in-Ok-clause-came
 returns-in-Ok-clause-came g c = λ old shows.
-    IfOk-weaker c.started_of.result _ _
-    (λ came (new, shown, comes). (new, shown, (Ok c.in-Ok.item, rw c.in-Ok.is at c.in_ok-item.ensures, comes)))
+    let item = c.in-Ok.item in
+    let read = rw c.in-Ok.is at c.in_ok-read.ensures in
+    match_so c.started_of.result
+    (λ came (new, is, done, steps, tells). (new, is, inl (record { input = Start item; asks = (item, read, refl); done = done; stepped = steps; told = tells })))
+    (λ fault fails. inr (Start item, (item, read, refl), fails))
     (c.started_of.ensures.came old shows)
 
-pub returns-in-Some-clause-came : goal.returns-in-Some-clause-came
-returns-in-Some-clause-came g c = λ old shows.
-    (old, shows, (Err c.in-Err.fault, rw c.in-Err.is at c.in_ok-item.ensures, (c.refusal_of.ensures, refl)))
+pub returns-in-Err-clause-came : goal.returns-in-Err-clause-came
+returns-in-Err-clause-came g c = λ old shows. (old, shows, inr (c.in-Err.fault, rw c.in-Err.is at c.in_ok-read.ensures, ap Refused c.refusal_of.ensures, refl))

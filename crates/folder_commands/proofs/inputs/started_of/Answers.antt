@@ -1,16 +1,24 @@
-use Rattle.folder_commands.proofs.BatchLemmas.{is_start, start_comes, start_refused}
+use Rattle.std.proofs.Common.{Ok, Err, refl, ◌∙◌, ap, inr}
+use Rattle.site_core.specs.declared.inputs.SiteInput.TheVariants.{Start}
+use Rattle.folder_commands.proofs.InputLemmas.{comes_of_step, steps_to}
+use Rattle.folder_commands.proofs.StepLemmas.{match_err}
 use Rattle.folder_commands.proofs.inputs.started_of.Goals as goal
+
+pub returns-in_err-done-clause-came : goal.returns-in_err-done-clause-came
+returns-in_err-done-clause-came g c = λ old shows. match_err c.from_residual.result _ _ _ c.from_residual.ensures.1 (c.in_err-done.ensures.answered old shows)
 
 pub came_of-requires : goal.came_of-requires
 came_of-requires g c =
-    is_start (g.K.SiteKeeper.shown c.args.keeper.now) (g.K.SiteKeeper.shown c.apply.new.self) (g.K.SiteKeeper.may c.apply.new.self) c.args.item c.in-Ok.effects c.apply.result c.in-Ok.is
-    (λ old shows. c.apply.ensures.open old shows) (λ shut. (c.apply.ensures.closed shut).0)
+    let shown = g.K.SiteKeeper.shown in
+    comes_of_step (shown c.args.keeper.now) (shown c.step.new.keeper) _ c.in-Ok.effects c.step.result (c.in_ok-done.was ∙ ap Ok c.in-Ok.is) (inr (_, refl))
+    (λ old shows. rw c.in-Ok.is at (c.in_ok-done.ensures.answered old shows)) c.step.ensures.closed
 
 pub returns-in-Ok-clause-came : goal.returns-in-Ok-clause-came
 returns-in-Ok-clause-came g c = λ old shows.
-    start_comes old (g.K.SiteKeeper.shown c.apply.new.self) (g.K.SiteKeeper.may c.apply.new.self) c.args.item c.in-Ok.effects c.came_of.result (c.in-Ok.ensures.open old shows) c.came_of.ensures
+    let (new, is, leads) = steps_to old (g.K.SiteKeeper.shown c.step.new.keeper) (Start c.args.item) (Ok c.in-Ok.effects) (rw c.in-Ok.is at (c.in_ok-done.ensures.answered old shows)) in
+    (new, is, Ok c.in-Ok.effects, leads, c.came_of.ensures)
 
-pub returns-in-Err-Refused-clause-came : goal.returns-in-Err-Refused-clause-came
-returns-in-Err-Refused-clause-came g c = λ old shows.
-    start_refused old (g.K.SiteKeeper.shown c.apply.new.self) (g.K.SiteKeeper.may c.apply.new.self) c.args.item c.in-Err-Refused.why
-    (rw c.in-Err-Refused.field-0-is at (c.in-Err-Refused.ensures.open old shows))
+pub returns-in-Err-clause-came : goal.returns-in-Err-clause-came
+returns-in-Err-clause-came g c = λ old shows.
+    let (new, is, leads) = steps_to old (g.K.SiteKeeper.shown c.step.new.keeper) (Start c.args.item) (Err c.in-Err.why) (rw c.in-Err.is at (c.in_ok-done.ensures.answered old shows)) in
+    (new, is, Err c.in-Err.why, leads, refl)

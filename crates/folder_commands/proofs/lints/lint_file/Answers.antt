@@ -1,51 +1,34 @@
-use Rattle.std.proofs.Common.{[], ◌∷◌, inl, inr, refl, subst, ◌∙◌}
-use Rattle.std.proofs.KnownBytes.{Appends-nil}
-use Rattle.std.specs.Io.KnownBytes.{Appends}
-use Rattle.recall_text.specs.Writing.{AppendsBeginning}
-use Rattle.folder_commands.specs.FileCalls.{ReadFile}
-use Rattle.folder_commands.proofs.CallsInTurn.{began_none}
-use Rattle.folder_commands.proofs.BatchLemmas.{on_err}
-use Rattle.folder_commands.proofs.LintLemmas.{one_are}
+use Rattle.std.proofs.Common.{[], ◌∷◌, inr, refl, subst}
+use Rattle.document_lint.specs.Findings.{IsLint}
+use Rattle.site_folders.specs.FileCalls.{ReadFile}
+use Rattle.site_folders.proofs.CallsInTurn.{handed_on}
+use Rattle.folder_commands.proofs.LintLemmas.{lint_broke, lint_unread}
 use Rattle.folder_commands.proofs.lints.lint_file.Goals as goal
 
-pub returns-in_err-bytes-clause-early : goal.returns-in_err-bytes-clause-early
-returns-in_err-bytes-clause-early g c = on_err c.from_residual.result (began_none g.F.Files.does c.args.files.now _ (inl (refl, Appends-nil (g.W.Write.contents c.args.output.now))))
+pub returns-in_err-bytes-clause-failed : goal.returns-in_err-bytes-clause-failed
+returns-in_err-bytes-clause-failed g c = handed_on c.from_residual.result _ _ c.from_residual.ensures.1 (lint_unread g.F.Files.does _ c.args.path.now _ _ c.in_err-bytes.ensures.failed)
 
-pub returns-in_err-found-clause-early : goal.returns-in_err-found-clause-early
-returns-in_err-found-clause-early g c = on_err c.from_residual-in_err-found.result (began_none g.F.Files.does c.args.files.now _ (inl (refl, Appends-nil (g.W.Write.contents c.args.output.now))))
+pub returns-in_err-found-clause-failed : goal.returns-in_err-found-clause-failed
+returns-in_err-found-clause-failed g c =
+    handed_on c.from_residual-in_err-found.result _ _ c.from_residual-in_err-found.ensures.1 (lint_broke g.F.Files.does _ c.args.path.now _ _ _ c.in_ok-bytes.ensures.read (inr refl))
 
-pub returns-in_err-lines-clause-early : goal.returns-in_err-lines-clause-early
-returns-in_err-lines-clause-early g c = on_err c.from_residual-in_err-lines.result (began_none g.F.Files.does c.args.files.now _ (inl (refl, Appends-nil (g.W.Write.contents c.args.output.now))))
-
-pub returns-in_err-write_lines-clause-early : goal.returns-in_err-write_lines-clause-early
-returns-in_err-write_lines-clause-early g c =
-    let before = g.W.Write.contents c.args.output.now in
-    let after = g.W.Write.contents c.write_lines.new.output in
-    on_err c.from_residual-in_err-write_lines.result
-    (record {
-      mid = c.read.new.self;
-      begun = record {
-        calls = ReadFile c.args.path.now c.in_ok-bytes.bytes.items ∷ [];
-        are = inr (record {
-          document = record { path = c.args.path.now; bytes = c.in_ok-bytes.bytes.items; lint = c.in_ok-found.found };
-          are = one_are c.args.listing.now.sites.now c.args.listing.now.here c.args.path.now c.in_ok-bytes.bytes.items _ c.in_ok-found.found c.as_slice.ensures.value c.in_ok-found.ensures;
-          told = subst (λ text. AppendsBeginning before after text) (c.as_str.ensures.value ∙ c.in_ok-lines.ensures) c.in_err-write_lines.ensures.err;
-        });
-        led = (c.read.new.self, c.in_ok-bytes.ensures.read, refl);
-      };
-    })
+pub returns-in_err-take-clause-failed : goal.returns-in_err-take-clause-failed
+returns-in_err-take-clause-failed g c =
+    handed_on c.from_residual-in_err-take.result _ _ c.from_residual-in_err-take.ensures.1 (lint_broke g.F.Files.does _ c.args.path.now _ _ _ c.in_ok-bytes.ensures.read c.in_err-take.ensures.failed)
 
 pub returns-clause-all : goal.returns-clause-all
 returns-clause-all g c =
-    let before = g.W.Write.contents c.args.output.now in
-    let after = g.W.Write.contents c.write_lines.new.output in
+    let bytes = c.in_ok-bytes.bytes.items in
+    let found = c.in_ok-found.found in
     record {
-      calls = ReadFile c.args.path.now c.in_ok-bytes.bytes.items ∷ [];
+      calls = ReadFile c.args.path.now bytes ∷ [];
       are = record {
-        document = record { path = c.args.path.now; bytes = c.in_ok-bytes.bytes.items; lint = c.in_ok-found.found };
-        are = one_are c.args.listing.now.sites.now c.args.listing.now.here c.args.path.now c.in_ok-bytes.bytes.items _ c.in_ok-found.found c.as_slice.ensures.value c.in_ok-found.ensures;
-        told = subst (λ text. Appends before after text) (c.as_str.ensures.value ∙ c.in_ok-lines.ensures) c.in_ok-write_lines.ensures.ok;
+        bytes = bytes;
+        lint = found;
+        found = subst (λ b. IsLint c.args.listing.now.sites.now c.args.listing.now.here b found) c.as_slice.ensures.value c.in_ok-found.ensures;
+        told = c.in_ok-take.ensures.taken;
         counted = c.with.ensures;
+        calls_are = refl;
       };
       led = (c.read.new.self, c.in_ok-bytes.ensures.read, refl);
     }

@@ -1,10 +1,10 @@
 use Rattle.std.proofs.Common.{◌≡◌, ◌<◌, ◌≤◌, ◌+◌, ℕ, suc, [], ◌∷◌, length, refl, sym, ap, ap₂, ◌∙◌, subst, arith, inl, inr}
 use Rattle.recall_text.specs.Words.{name_at}
 use Rattle.site_core.specs.Records.{Record, fresh}
-use Rattle.folder_commands.specs.FileCalls.{Calls, Failed, MadeSite}
-use Rattle.folder_commands.specs.Folders.{file_path}
+use Rattle.site_folders.specs.FileCalls.{Calls, Failed, MadeSite}
+use Rattle.site_folders.specs.Paths.{file_path}
 use Rattle.folder_commands.specs.Making.{makes_from}
-use Rattle.folder_commands.proofs.CallsInTurn.{call_more, failed_at, handed_on}
+use Rattle.site_folders.proofs.CallsInTurn.{call_more, failed_at, handed_on}
 use Rattle.folder_commands.proofs.MakingLemmas.{made_then, makes_more}
 use Rattle.folder_commands.proofs.making.make_all.Goals as goal
 

@@ -1,5 +1,5 @@
 use Rattle.std.proofs.Common.{◌≤◌}
-use Rattle.folder_commands.specs.FileCalls.{Calls}
+use Rattle.site_folders.specs.FileCalls.{Calls}
 use Rattle.folder_commands.specs.Making.{makes_from}
 use Rattle.folder_commands.proofs.making.make_all.Given as goal
 

@@ -1,8 +1,8 @@
 use Rattle.std.proofs.Common.{◌≤◌, [], ◌∷◌, length, refl, ◌∙◌, subst, arith, inl, inr}
-use Rattle.folder_commands.specs.FileCalls.{Failed, WroteFile}
-use Rattle.folder_commands.specs.Folders.{list_path}
+use Rattle.site_folders.specs.FileCalls.{Failed, WroteFile}
+use Rattle.site_folders.specs.Paths.{list_path}
 use Rattle.folder_commands.specs.Making.{makes_from}
-use Rattle.folder_commands.proofs.CallsInTurn.{calls_then, err_so, failed_at, handed_on, on_ok_so}
+use Rattle.site_folders.proofs.CallsInTurn.{calls_then, err_so, failed_at, handed_on, on_ok_so}
 use Rattle.folder_commands.proofs.MakingLemmas.{made_then}
 use Rattle.folder_commands.proofs.making.make_folder.Goals as goal
 

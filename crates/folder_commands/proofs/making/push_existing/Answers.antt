@@ -1,14 +1,12 @@
 use Rattle.std.proofs.Common.{◌≡◌, ◌<◌, ◌+◌, ℕ, [], ◌∷◌, ◌++◌, length, length-append, append_assoc, append-nil, refl, sym, ap, ◌∙◌, subst, arith}
 use Rattle.std.specs.List.{AllZip}
 use Rattle.recall_text.specs.Words.{name_at}
-use Rattle.folder_commands.specs.FailingToMake.{LookFails}
-use Rattle.folder_commands.specs.Folders.{file_path}
-use Rattle.folder_commands.specs.FileCalls.{Calls, LookedFor}
+use Rattle.site_folders.specs.Paths.{file_path}
+use Rattle.site_folders.specs.FileCalls.{Calls, LookedFor}
 use Rattle.folder_commands.specs.Making.{existing, looks_from, name_where}
-use Rattle.folder_commands.specs.Refusals.{IsExists}
-use Rattle.folder_commands.proofs.CallsInTurn.{call_more, handed_on}
-use Rattle.folder_commands.proofs.MakingLemmas.{existing_more, looks_more, next_look_failed, some_looked, zip_both}
-use Rattle.folder_commands.proofs.AskingLemmas.{led_so}
+use Rattle.site_folders.specs.Refusals.{IsExists}
+use Rattle.site_folders.proofs.CallsInTurn.{call_more, handed_on}
+use Rattle.folder_commands.proofs.MakingLemmas.{existing_more, looks_ask, looks_more, out_then, vain_then, zip_both}
 use Rattle.folder_commands.proofs.making.push_existing.Goals as goal
 
 pub loop-number-init : goal.loop-number-init
@@ -50,17 +48,13 @@ loop-number-preserved g c =
 pub returns-in_err-path-clause-failed : goal.returns-in_err-path-clause-failed
 returns-in_err-path-clause-failed g c =
     let before = c.loop-number.invariant.0 in
+    let looks = looks_from c.args.folder.now c.args.sites.now 0 before.0 in
     handed_on c.from_residual.result _ _ c.from_residual.ensures.1
-    (some_looked g.F.Files.does c.args.folder.now c.args.sites.now _ _ before.0 before.1 (omega (arith, before.2, c.loop-number-test.true, c.len-number-end.ensures.count)))
+    (out_then g.F.Files.does c.args.folder.now g.K.SiteKeeper.shown _ _ looks (looks_ask c.args.folder.now c.args.sites.now 0 before.0) before.1)
 
 pub returns-in_err-push_where-clause-failed : goal.returns-in_err-push_where-clause-failed
 returns-in_err-push_where-clause-failed g c =
-    let folder = c.args.folder.now in
-    let sites = c.args.sites.now in
     let before = c.loop-number.invariant.0 in
-    let below : length before.0 < length sites = omega (arith, before.2, c.loop-number-test.true, c.len-number-end.ensures.count) in
-    let place = ap (λ (n : ℕ). file_path folder (name_at sites n)) (c.in-Some.ensures.value ∙ sym before.2) in
-    let path = c.as_str.ensures.value ∙ c.in_ok-path.ensures ∙ place in
+    let looks = looks_from c.args.folder.now c.args.sites.now 0 before.0 in
     handed_on c.from_residual-in_err-push_where.result _ _ c.from_residual-in_err-push_where.ensures.1
-    (next_look_failed g.F.Files.does folder sites _ _ _ before.0 _ before.1 below
-    (led_so g.F.Files.does _ _ (λ calls fails. subst (λ p. LookFails p c.in_err-push_where.field-0.0 calls) path fails) c.in_err-push_where.ensures.failed))
+    (vain_then g.F.Files.does c.args.folder.now g.K.SiteKeeper.shown _ _ _ _ looks (looks_ask c.args.folder.now c.args.sites.now 0 before.0) before.1 (c.in_err-push_where.ensures.failed c.args.folder.now))

@@ -1,9 +1,9 @@
 use Rattle.std.proofs.Common.{◌≡◌, ◌≤◌, ◌++◌, Bool, List, length}
 use Rattle.std.specs.List.{AllZip}
 use Rattle.recall_outcomes.specs.declared.outcomes.CommandRefusal.{CommandRefusal}
-use Rattle.folder_commands.specs.FileCalls.{Calls}
+use Rattle.site_folders.specs.FileCalls.{Calls}
 use Rattle.folder_commands.specs.Making.{existing, looks_from}
-use Rattle.folder_commands.specs.Refusals.{IsExists}
+use Rattle.site_folders.specs.Refusals.{IsExists}
 use Rattle.folder_commands.proofs.making.push_existing.Given as goal
 
 -- the sites so far were looked for

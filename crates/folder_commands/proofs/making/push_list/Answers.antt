@@ -1,14 +1,14 @@
-use Rattle.std.proofs.Common.{◌≡◌, List, [], ◌∷◌, ◌++◌, codes, eqb-true, refl, sym, ap, ◌∙◌, subst, arith, inl, inr}
+use Rattle.std.proofs.Common.{◌≡◌, List, [], ◌∷◌, ◌++◌, codes, eqb-true, refl, sym, ap, ◌∙◌, subst, arith}
 use Rattle.std.proofs.lemmas.List.{nil_from_length}
 use Rattle.std.specs.List.{AllZip}
 use Rattle.recall_outcomes.specs.declared.outcomes.CommandRefusal.{CommandRefusal}
-use Rattle.folder_commands.specs.FileCalls.{Led, LookedFor}
-use Rattle.folder_commands.specs.FailingToMake.{LookFails}
-use Rattle.folder_commands.specs.Folders.{list_path}
+use Rattle.site_folders.specs.FileCalls.{Led, LookedFor}
+use Rattle.site_folders.specs.Paths.{list_path}
 use Rattle.folder_commands.specs.Making.{LooksForList, name_where}
-use Rattle.folder_commands.specs.Refusals.{IsExists}
-use Rattle.folder_commands.proofs.AskingLemmas.{led_so, ran_out}
-use Rattle.folder_commands.proofs.CallsInTurn.{handed_on}
+use Rattle.site_folders.specs.Refusals.{IsExists}
+use Rattle.site_folders.proofs.VainLemmas.{none_asks}
+use Rattle.folder_commands.proofs.MakingLemmas.{out_then}
+use Rattle.site_folders.proofs.CallsInTurn.{handed_on}
 use Rattle.folder_commands.proofs.making.push_list.Goals as goal
 
 pub returns-in_ok-push_where-clause-looked : goal.returns-in_ok-push_where-clause-looked
@@ -32,15 +32,8 @@ returns-in_ok-push_where-clause-looked g c =
 
 pub returns-in_err-path-clause-failed : goal.returns-in_err-path-clause-failed
 returns-in_err-path-clause-failed g c =
-    let zero = eqb-true _ 0 (sym c.is_empty.ensures ∙ c.if-is_empty.true) in
-    handed_on c.from_residual.result _ _ c.from_residual.ensures.1
-    (nil_from_length c.args.refusals.now.items (omega (arith, zero)), led_so g.F.Files.does _ _ (λ calls out. inr out) (ran_out g.F.Files.does _))
+    handed_on c.from_residual.result _ _ c.from_residual.ensures.1 (out_then g.F.Files.does c.args.folder.now g.K.SiteKeeper.shown _ _ [] none_asks refl)
 
 pub returns-in_err-push_where-clause-failed : goal.returns-in_err-push_where-clause-failed
 returns-in_err-push_where-clause-failed g c =
-    let zero = eqb-true _ 0 (sym c.is_empty.ensures ∙ c.if-is_empty.true) in
-    let path = c.as_str.ensures.value ∙ c.in_ok-path.ensures in
-    handed_on c.from_residual-in_err-push_where.result _ _ c.from_residual-in_err-push_where.ensures.1 (
-      nil_from_length c.args.refusals.now.items (omega (arith, zero)),
-      led_so g.F.Files.does _ _ (λ calls fails. inl (subst (λ p. LookFails p c.in_err-push_where.field-0.0 calls) path fails)) c.in_err-push_where.ensures.failed,
-    )
+    handed_on c.from_residual-in_err-push_where.result _ _ c.from_residual-in_err-push_where.ensures.1 (c.in_err-push_where.ensures.failed c.args.folder.now)

@@ -1,7 +1,7 @@
 use Rattle.std.proofs.Common.{map, ap, refl, ◌∙◌}
 use Rattle.site_threads.specs.declared.gather.GatherCause.TheVariants.{NotAWorld}
 use Rattle.world_core.specs.declared.faults.WorldFault.TheVariants as worlds
-use Rattle.folder_commands.proofs.CallsInTurn.{ok_so}
+use Rattle.site_folders.proofs.CallsInTurn.{ok_so}
 use Rattle.folder_commands.proofs.RunLemmas.{all_kept_open, came_to_its_end, misfit_told, of_sites}
 use Rattle.folder_commands.proofs.runs.run_of.Goals as goal
 use Rattle.folder_commands.proofs.runs.run_of.Goals.{in-Ok-tell_run, in-Err-tell_run}
@@ -36,7 +36,7 @@ returns-clause-answered g c =
     let left = c.in-Err.field-0 in
     let why = c.in-Err.ensures.fault.err in
     ok_so c.tell_cause.result
-    (λ r told. misfit_told g.K.SiteKeeper.shown g.K.SiteKeeper.may g.K.SiteKeeper.failed c.args.turns c.args.keepers.items left.keepers.items left.cause r.outcome r.notes why.0 why.1 told.0 told.1)
+    (λ r told. misfit_told g.K.SiteKeeper.shown g.K.SiteKeeper.may g.K.SiteKeeper.failed c.args.turns c.args.keepers.items left.keepers.items left.cause r.outcome r.end why.0 why.1 told.0 told.1)
     c.tell_cause.ensures.answered
 
 pub returns-in-Ok-run_world-clause-stored : goal.returns-in-Ok-run_world-clause-stored

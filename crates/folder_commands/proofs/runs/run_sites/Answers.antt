@@ -1,19 +1,17 @@
 use Rattle.std.proofs.Common.{◌≡◌, ◌++◌, IfErr, IfOk, refl, subst, inl, inr}
-use Rattle.folder_commands.specs.Calls.{closes_all, opens_from}
-use Rattle.folder_commands.specs.FailingToRun.{RunFailsAt}
-use Rattle.folder_commands.specs.Runs.{AnswersRun, FailsRun, RunsAll}
-use Rattle.folder_commands.proofs.AskingLemmas.{behind_list, failed_behind, led_so}
-use Rattle.folder_commands.proofs.CallsInTurn.{calls_then, handed_on, kept_stored}
+use Rattle.site_folders.specs.Keepers.{closes_all, opens_from}
+use Rattle.site_folders.proofs.CallsInTurn.{behind_list, calls_then, handed_on, kept_stored, led_so}
+use Rattle.folder_commands.specs.Runs.{AnswersRun, BreaksRun, FailsRun, RunsAll}
+use Rattle.folder_commands.proofs.StepLemmas.{vain_led}
 use Rattle.folder_commands.proofs.runs.run_sites.Goals as goal
 
 pub returns-in_err-sites-clause-failed : goal.returns-in_err-sites-clause-failed
-returns-in_err-sites-clause-failed g c = handed_on c.from_residual.result _ _ c.from_residual.ensures.1 (let fails = c.in_err-sites.ensures.failed in record { calls = fails.calls; are = inl fails.are; led = fails.led })
+returns-in_err-sites-clause-failed g c = handed_on c.from_residual.result _ _ c.from_residual.ensures.1 (led_so g.F.Files.does _ _ (λ calls vain. inl vain) c.in_err-sites.ensures.failed)
 
 pub returns-in_err-keepers-clause-failed : goal.returns-in_err-keepers-clause-failed
 returns-in_err-keepers-clause-failed g c =
-    let Fails = RunFailsAt g.K.SiteKeeper.shown g.K.SiteKeeper.failed g.K.SiteKeeper.may g.K.SiteKeeper.reopens g.G.Gate.gives_up g.K.SiteKeeper.stored c.args.folder.now c.args.turns in
     handed_on c.from_residual-in_err-keepers.result _ _ c.from_residual-in_err-keepers.ensures.1
-    (failed_behind g.F.Files.does c.args.folder.now Fails _ _ _ c.in_ok-sites.sites _ c.in_ok-sites.ensures.read (led_so g.F.Files.does _ _ (λ calls fails. inl fails) c.in_err-keepers.ensures.failed))
+    (led_so g.F.Files.does _ _ (λ calls vain. inl vain) (vain_led g.F.Files.does g.K.SiteKeeper.shown c.args.folder.now _ _ _ _ c.in_ok-sites.sites c.in_ok-sites.ensures.read c.in_err-keepers.ensures.failed))
 
 pub returns-in_err-outcome-clause-failed : goal.returns-in_err-outcome-clause-failed
 returns-in_err-outcome-clause-failed g c =
@@ -24,12 +22,12 @@ returns-in_err-outcome-clause-failed g c =
     let keepers = c.in_ok-keepers.keepers.items in
     let (records, keep) = c.in_ok-keepers.ensures.keep in
     let after = c.run_of-after.result.0.items in
-    let Fails = RunFailsAt shown g.K.SiteKeeper.failed g.K.SiteKeeper.may g.K.SiteKeeper.reopens g.G.Gate.gives_up stored folder c.args.turns in
     handed_on c.from_residual-in_err-outcome.result _ _ c.from_residual-in_err-outcome.ensures.1
-    (failed_behind g.F.Files.does folder Fails _ _ _ sites _ c.in_ok-sites.ensures.read
+    (led_so g.F.Files.does _ _ (λ calls is. inr is)
+    (behind_list g.F.Files.does folder (BreaksRun shown g.K.SiteKeeper.failed g.K.SiteKeeper.may g.K.SiteKeeper.reopens g.G.Gate.gives_up stored folder c.args.turns _) _ _ _ sites c.in_ok-sites.ensures.read
     (record {
       calls = opens_from folder sites 0 keepers ++ closes_all after;
-      are = inr (record {
+      are = record {
         keepers = keepers;
         records = records;
         opened = keep;
@@ -38,9 +36,9 @@ returns-in_err-outcome-clause-failed g c =
         came = inl (subst (λ r. IfErr r (FailsRun shown g.K.SiteKeeper.may g.K.SiteKeeper.reopens g.G.Gate.gives_up c.args.turns keepers after)) c.in_err-outcome.was c.run_of-after.ensures.failed);
         lasts = c.run_of-after.ensures.stored (kept_stored shown stored sites 0 keepers records keep);
         calls_are = refl;
-      });
+      };
       led = calls_then g.F.Files.does _ _ _ (opens_from folder sites 0 keepers) (closes_all after) c.in_ok-keepers.ensures.opened c.close_all.ensures;
-    }))
+    })))
 
 pub returns-in_err-notes-clause-failed : goal.returns-in_err-notes-clause-failed
 returns-in_err-notes-clause-failed g c =
@@ -51,24 +49,23 @@ returns-in_err-notes-clause-failed g c =
     let keepers = c.in_ok-keepers.keepers.items in
     let (records, keep) = c.in_ok-keepers.ensures.keep in
     let after = c.run_of-after.result.0.items in
-    let Fails = RunFailsAt shown g.K.SiteKeeper.failed g.K.SiteKeeper.may g.K.SiteKeeper.reopens g.G.Gate.gives_up stored folder c.args.turns in
-    let told = subst (λ r. IfOk r (λ ran. AnswersRun shown g.K.SiteKeeper.failed g.K.SiteKeeper.may c.args.turns keepers after ran.outcome ran.notes)) c.in_ok-outcome.was c.run_of-after.ensures.answered in
     handed_on c.from_residual-in_err-notes.result _ _ c.from_residual-in_err-notes.ensures.1
-    (failed_behind g.F.Files.does folder Fails _ _ _ sites _ c.in_ok-sites.ensures.read
+    (led_so g.F.Files.does _ _ (λ calls is. inr is)
+    (behind_list g.F.Files.does folder (BreaksRun shown g.K.SiteKeeper.failed g.K.SiteKeeper.may g.K.SiteKeeper.reopens g.G.Gate.gives_up stored folder c.args.turns _) _ _ _ sites c.in_ok-sites.ensures.read
     (record {
       calls = opens_from folder sites 0 keepers ++ closes_all after;
-      are = inr (record {
+      are = record {
         keepers = keepers;
         records = records;
         opened = keep;
         number = c.in_ok-keepers.ensures.number;
         after = after;
-        came = inr (refl, c.in_ok-outcome.field-0.outcome, c.in_ok-outcome.field-0.notes, told);
+        came = inr (refl, c.in_ok-outcome.field-0.outcome, c.in_ok-outcome.field-0.end, subst (λ r. IfOk r (λ ran. AnswersRun shown g.K.SiteKeeper.failed g.K.SiteKeeper.may c.args.turns keepers after ran.outcome ran.end)) c.in_ok-outcome.was c.run_of-after.ensures.answered);
         lasts = c.run_of-after.ensures.stored (kept_stored shown stored sites 0 keepers records keep);
         calls_are = refl;
-      });
+      };
       led = calls_then g.F.Files.does _ _ _ (opens_from folder sites 0 keepers) (closes_all after) c.in_ok-keepers.ensures.opened c.close_all.ensures;
-    }))
+    })))
 
 pub returns-clause-calls : goal.returns-clause-calls
 returns-clause-calls g c =
@@ -91,8 +88,8 @@ returns-clause-calls g c =
           opened = keep;
           number = c.in_ok-keepers.ensures.number;
           after = after;
-          notes = c.in_ok-outcome.field-0.notes;
-          told = subst (λ r. IfOk r (λ ran. AnswersRun shown failed g.K.SiteKeeper.may c.args.turns keepers after ran.outcome ran.notes)) c.in_ok-outcome.was c.run_of-after.ensures.answered;
+          end = c.in_ok-outcome.field-0.end;
+          told = subst (λ r. IfOk r (λ ran. AnswersRun shown failed g.K.SiteKeeper.may c.args.turns keepers after ran.outcome ran.end)) c.in_ok-outcome.was c.run_of-after.ensures.answered;
           lasts = c.run_of-after.ensures.stored (kept_stored shown stored sites 0 keepers records keep);
           noted = c.in_ok-notes.ensures;
           calls_are = refl;

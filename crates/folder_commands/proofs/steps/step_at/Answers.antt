@@ -1,36 +1,43 @@
-use Rattle.std.proofs.Common.{[], ◌∷◌, Err, refl, ap, ◌∙◌, inr}
-use Rattle.folder_commands.specs.Calls.{opens_site}
-use Rattle.folder_commands.specs.FileCalls.{ClosedSite}
-use Rattle.folder_commands.proofs.CallsInTurn.{err_was, ok_so}
+use Rattle.std.specs.Prelude.{⊤}
+use Rattle.std.proofs.Common.{[], ◌∷◌, Err, refl, ap, ◌∙◌, inl, inr}
+use Rattle.site_folders.specs.FileCalls.{ClosedSite}
+use Rattle.site_folders.specs.Keepers.{opens_site}
+use Rattle.site_folders.proofs.CallsInTurn.{err_was, handed_on, led_so}
+use Rattle.folder_commands.proofs.StepLemmas.{match_so}
 use Rattle.folder_commands.proofs.steps.step_at.Goals as goal
+
+pub returns-in_err-keeper-clause-failed : goal.returns-in_err-keeper-clause-failed
+returns-in_err-keeper-clause-failed g c =
+    handed_on c.from_residual.result _ _ c.from_residual.ensures.1 (led_so g.F.Files.does _ _ (λ calls vain. inl vain) c.in_err-keeper.ensures.failed)
 
 pub returns-clause-calls : goal.returns-clause-calls
 returns-clause-calls g c =
     let keeper = c.in_ok-keeper.keeper in
-    let after = c.step-outcome.new.keeper in
+    let after = c.step-done.new.keeper in
     let (before, opened) = c.in_ok-keeper.ensures.keeps in
-    ok_so c.step-outcome.result
-    (λ o told. record {
+    match_so {Q' = λ f. ⊤} c.step-done.result
+    (λ done stepped. record {
       calls = opens_site c.args.folder.now c.args.sites.now c.args.site keeper ∷ ClosedSite after ∷ [];
       are = record {
         keeper = keeper;
         before = before;
         opened = opened;
         after = after;
-        answered = told;
-        lasts = c.step-outcome.ensures.stored opened.lasts;
+        stepped = stepped;
+        lasts = c.step-done.ensures.stored opened.lasts;
         calls_are = refl;
       };
       led = (c.open_site.new.files, c.in_ok-keeper.ensures.opened, (c.close_site.new.self, c.close_site.ensures, refl));
     })
-    (c.step-outcome.ensures.answered before opened.shows.shows)
+    (λ f fails. tt)
+    (c.step-done.ensures.answered before opened.shows.shows)
 
 pub returns-clause-failed : goal.returns-clause-failed
 returns-clause-failed g c =
     let keeper = c.in_ok-keeper.keeper in
-    let after = c.step-outcome.new.keeper in
+    let after = c.step-done.new.keeper in
     let (before, opened) = c.in_ok-keeper.ensures.keeps in
-    err_was c.step-outcome.result
+    err_was c.step-done.result
     (λ f was fails. record {
       calls = opens_site c.args.folder.now c.args.sites.now c.args.site keeper ∷ ClosedSite after ∷ [];
       are = inr (record {
@@ -39,10 +46,10 @@ returns-clause-failed g c =
         opened = opened;
         after = after;
         broke = fails;
-        caused = λ device. c.step-outcome.ensures.cause (was ∙ ap Err device);
-        lasts = c.step-outcome.ensures.stored opened.lasts;
+        caused = λ device. c.step-done.ensures.cause (was ∙ ap Err device);
+        lasts = c.step-done.ensures.stored opened.lasts;
         calls_are = refl;
       });
       led = (c.open_site.new.files, c.in_ok-keeper.ensures.opened, (c.close_site.new.self, c.close_site.ensures, refl));
     })
-    (c.step-outcome.ensures.failed before opened.shows.shows)
+    (match_so {P' = λ d. ⊤} c.step-done.result (λ d stepped. tt) (λ f fails. fails) (c.step-done.ensures.answered before opened.shows.shows))

@@ -1,8 +1,7 @@
-use Rattle.std.proofs.Common.{◌≡◌, ◌++◌, take, string_bytes}
-use Rattle.std.specs.List.{flat_map}
-use Rattle.report_forms.specs.Pieces.{outside_line}
+use Rattle.std.proofs.Common.{◌≡◌, ◌++◌, map, string_bytes, take}
+use Rattle.report_forms.specs.Csv.{csv_lines, outside_row}
 use Rattle.report_forms.proofs.csv_tables.push_outsides.Given as goal
 
--- the rows so far are those of the first ones
+-- the rows so far
 abbrev pub invariant-loop-shipment : goal.invariant-loop-shipment
-invariant-loop-shipment l = string_bytes l.text ≡ string_bytes l.fn.text ++ flat_map (outside_line l.sites l.recall) (take l.shipment-index l.outside)
+invariant-loop-shipment l = string_bytes l.text ≡ string_bytes l.fn.text ++ csv_lines (map (outside_row l.sites l.recall) (take l.shipment-index l.outside))

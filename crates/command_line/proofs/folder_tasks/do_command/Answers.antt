@@ -1,0 +1,103 @@
+use Rattle.std.proofs.Common.{◌≡◌, ℕ, List, true, false, None, Some}
+use Rattle.std.specs.Prelude.{⊤}
+use Rattle.event_json.specs.Sites.{named}
+use Rattle.frame_core.specs.Numbers.{Recall}
+use Rattle.site_core.specs.declared.inputs.SiteInput.TheVariants as inputs
+use Rattle.site_folders.specs.FileCalls.{Led}
+use Rattle.site_folders.specs.Questions.{AsksAll, AsksSite}
+use Rattle.site_folders.specs.Refusals.{IsNoSite}
+use Rattle.folder_questions.specs.Asked.{AsksItem, AsksRecall, RefusesItem, RefusesRecall}
+use Rattle.folder_questions.specs.DryStarts.{AnswersDryStart}
+use Rattle.folder_questions.specs.Reports.{AnswersReport}
+use Rattle.folder_questions.specs.SiteItems.{AnswersItems}
+use Rattle.folder_questions.specs.Standings.{AnswersRecall}
+use Rattle.folder_questions.specs.Traces.{AnswersTrace}
+use Rattle.command_line.specs.Leads.{Traces}
+use Rattle.command_line.proofs.Behind.{and_who}
+use Rattle.command_line.proofs.Starts.{Firsts, first_led, plainly_led, start_led}
+use Rattle.command_line.proofs.folder_tasks.do_command.Goals.{then-dry+in_ok-ask_site-in-Start, else-dry+in_ok-first-in-Start}
+use Rattle.command_line.proofs.folder_tasks.do_command.Goals as goal
+
+pub returns-in-Run-clause-failed : goal.returns-in-Run-clause-failed
+returns-in-Run-clause-failed g c = rw c.in-Run.is c.run_sites.ensures.failed
+
+pub returns-in-Init-clause-failed : goal.returns-in-Init-clause-failed
+returns-in-Init-clause-failed g c = rw c.in-Init.is c.init.ensures.failed
+
+pub returns-in-Capture-clause-failed : goal.returns-in-Capture-clause-failed
+returns-in-Capture-clause-failed g c = rw c.in-Capture.is c.capture.ensures.failed
+
+pub returns-after-dry-clause-led : goal.returns-after-dry-clause-led
+returns-after-dry-clause-led g c =
+    let does = g.F.Files.does in
+    let knows = g.F.Files.knows c.with_knowers.new.files in
+    let shown = g.K.SiteKeeper.shown in
+    let failed = g.K.SiteKeeper.failed in
+    let may = g.K.SiteKeeper.may in
+    let stored = g.K.SiteKeeper.stored in
+    let folder = c.in-Start.folder in
+    let site = c.in-Start.site in
+    let item = c.in-Start.item in
+    let dry = c.in-Start.dry in
+    let files = c.args.files.now in
+    let first : Led does files c.if-dry.files (Firsts does knows shown failed may stored folder site item dry c.if-dry.first) =
+    elim c.if-dry.branch [
+      | then-dry+in_ok-ask_site-in-Start w ↦
+          first_led does knows shown failed may stored folder site item dry true files c.if-dry.files w.ask_site.new.files c.if-dry.first w.plain-first.result w.if-dry.true w.files-is w.first-is
+          (plainly_led does
+          (AsksSite {Q = List ℕ} shown stored folder.now (λ sites outcome. RefusesItem site.now item sites outcome) (λ sites s key. AsksItem site.now item sites s key)
+          (λ key r outcome. AnswersDryStart r (inputs.Start key) outcome))
+          files w.ask_site.new.files w.in_ok-ask_site-in-Start.field-0 w.plain-first.result w.plain-first.ensures.sites w.plain-first.ensures.outcome w.plain-first.ensures.silent w.in_ok-ask_site-in-Start.ensures.answered)
+      | else-dry+in_ok-first-in-Start w ↦
+          first_led does knows shown failed may stored folder site item dry false files c.if-dry.files w.start.new.files c.if-dry.first w.in_ok-first-in-Start.first w.if-dry.false w.files-is w.first-is w.in_ok-first-in-Start.ensures.calls
+    ] in
+    rw c.in-Start.is (start_led does knows shown failed may stored folder site item dry files c.if-dry.files c.with_knowers.new.files c.if-dry.first c.with_knowers.result first c.with_knowers.ensures)
+
+pub returns-in_ok-ask-in-Report-clause-led : goal.returns-in_ok-ask-in-Report-clause-led
+returns-in_ok-ask-in-Report-clause-led g c =
+    let recall = c.in-Report.recall.now in
+    rw c.in-Report.is
+    (plainly_led g.F.Files.does
+    (AsksAll {Q = Recall} g.K.SiteKeeper.shown g.K.SiteKeeper.stored c.in-Report.folder.now (λ sites outcome. RefusesRecall recall sites outcome) (λ sites r. AsksRecall recall sites r)
+    (λ r rs outcome. AnswersReport rs r c.in-Report.ways c.in-Report.events outcome))
+    c.args.files.now c.ask.new.files c.in_ok-ask-in-Report.field-0 c.plain.result c.plain.ensures.sites c.plain.ensures.outcome c.plain.ensures.silent c.in_ok-ask-in-Report.ensures.answered)
+
+pub returns-in_ok-ask-in-Trace-clause-led : goal.returns-in_ok-ask-in-Trace-clause-led
+returns-in_ok-ask-in-Trace-clause-led g c =
+    let does = g.F.Files.does in
+    let shown = g.K.SiteKeeper.shown in
+    let stored = g.K.SiteKeeper.stored in
+    let folder = c.in-Trace.folder.now in
+    let site = c.in-Trace.site in
+    let item = c.in-Trace.item in
+    let back = c.in-Trace.back in
+    let ways = c.in-Trace.ways in
+    let events = c.in-Trace.events in
+    rw c.in-Trace.is
+    (and_who does shown stored folder (record { site = site; item = item }) (Traces shown stored folder site.now item back ways events) c.args.files.now c.ask-in-Trace.new.files c.with_knowers-in-Trace.new.files c.plain-first-in-Trace.result c.with_knowers-in-Trace.result
+    (plainly_led does
+    (AsksAll {Q = ℕ × List ℕ} shown stored folder (λ sites outcome. RefusesItem site.now item sites outcome) (λ sites asked. AsksItem site.now item sites asked.0 asked.1)
+    (λ asked rs outcome. AnswersTrace rs asked.0 asked.1 back ways events outcome))
+    c.args.files.now c.ask-in-Trace.new.files c.in_ok-ask-in-Trace.field-0 c.plain-first-in-Trace.result c.plain-first-in-Trace.ensures.sites c.plain-first-in-Trace.ensures.outcome c.plain-first-in-Trace.ensures.silent
+    c.in_ok-ask-in-Trace.ensures.answered)
+    c.with_knowers-in-Trace.ensures)
+
+pub returns-in_ok-ask-in-Recall-clause-led : goal.returns-in_ok-ask-in-Recall-clause-led
+returns-in_ok-ask-in-Recall-clause-led g c =
+    let recall = c.in-Recall.recall.now in
+    rw c.in-Recall.is
+    (plainly_led g.F.Files.does
+    (AsksAll {Q = Recall} g.K.SiteKeeper.shown g.K.SiteKeeper.stored c.in-Recall.folder.now (λ sites outcome. RefusesRecall recall sites outcome) (λ sites r. AsksRecall recall sites r)
+    (λ r rs outcome. AnswersRecall rs r c.in-Recall.coded outcome))
+    c.args.files.now c.ask-in-Recall.new.files c.in_ok-ask-in-Recall.field-0 c.plain-in-Recall.result c.plain-in-Recall.ensures.sites c.plain-in-Recall.ensures.outcome c.plain-in-Recall.ensures.silent
+    c.in_ok-ask-in-Recall.ensures.answered)
+
+pub returns-in_ok-ask_site-in-Items-clause-led : goal.returns-in_ok-ask_site-in-Items-clause-led
+returns-in_ok-ask_site-in-Items-clause-led g c =
+    let name = c.in-Items.site.now in
+    rw c.in-Items.is
+    (plainly_led g.F.Files.does
+    (AsksSite {Q = ⊤} g.K.SiteKeeper.shown g.K.SiteKeeper.stored c.in-Items.folder.now (λ sites outcome. (named sites name ≡ None) × IsNoSite name outcome) (λ sites site asked. named sites name ≡ Some site)
+    (λ asked r outcome. AnswersItems c.in-Items.text.now r outcome))
+    c.args.files.now c.ask_site-in-Items.new.files c.in_ok-ask_site-in-Items.field-0 c.plain-in-Items.result c.plain-in-Items.ensures.sites c.plain-in-Items.ensures.outcome c.plain-in-Items.ensures.silent
+    c.in_ok-ask_site-in-Items.ensures.answered)

@@ -1,0 +1,98 @@
+//! How several documents are captured, or several recalls started.
+
+ghost use Rattle.std.specs.Prelude.{◌≡◌, IfErr, IfOk};
+ghost use Rattle.folder_commands.specs.Words.{task_of};
+ghost use Rattle.command_line.specs.Ends.{BatchEnds, InputLine, TakesBatch, TellsBatch};
+
+use crate::command_lines::Batch;
+use crate::commands::{fault, tell_output};
+use crate::sinks::InputLines;
+use folder_commands::{BatchCame, BatchOutput, take_inputs, task_of};
+use keeper_core::SiteKeeper;
+use outcome_forms::{write_totals, write_untraced};
+use recall_outcomes::{Fault, Notes, Output};
+use site_folders::Files;
+use std::alloc::Global;
+use std::io::Write;
+
+/// Captures several documents, or starts several recalls, each of which is answered once it is kept, and returns the
+/// status to end with.
+pub(crate) fn take_batch<K: SiteKeeper, F: Files<K>, W: Write, E: Write>(
+    alloc: Global,
+    files: &mut F,
+    batch: &Batch<'_>,
+    output: &mut W,
+    errors: &mut E,
+) -> u8
+    ensures { TellsBatch F.does F.waits K.shown K.may K.stored W.contents batch.now files.old
+        files.new output.old output.new result }
+{
+    files.wait_for(batch.terms.wait);
+    match take_all(alloc, files, batch, output) {
+        Ok(told) => tell_batch(alloc, files, batch, told, output, errors),
+        Err(cause) => fault(alloc, batch.terms.form, files, cause, errors),
+    }
+}
+
+/// Takes the inputs.
+fn take_all<K: SiteKeeper, F: Files<K>, W: Write>(
+    alloc: Global,
+    files: &mut F,
+    batch: &Batch<'_>,
+    output: &mut W,
+) -> Result<BatchOutput, Fault>
+    ensures { TakesBatch F.does K.shown K.may K.stored W.contents batch.now files.old files.new
+        output.old output.new result }
+{
+    let lines = InputLines {
+        alloc,
+        form: batch.terms.form,
+        task: task_of(batch.kind),
+    };
+    let inputs = folder_commands::Batch {
+        words: batch.words.as_slice(),
+        kind: batch.kind,
+    };
+    take_inputs(
+        alloc,
+        files,
+        batch.folder,
+        batch.site,
+        &inputs,
+        &lines,
+        output,
+    )
+}
+
+/// Prints what the inputs came to.
+fn tell_batch<K: SiteKeeper, F: Files<K>, W: Write, E: Write>(
+    alloc: Global,
+    files: &F,
+    batch: &Batch<'_>,
+    told: BatchOutput,
+    output: &mut W,
+    errors: &mut E,
+) -> u8
+    ensures { BatchEnds batch.now.terms.form told.sites told.came (W.contents output.old)
+        (W.contents output.new) result }
+{
+    let form = batch.terms.form;
+    let BatchOutput { sites, came } = told;
+    match came {
+        BatchCame::NoSite(outcome) => {
+            let refused = Output {
+                sites,
+                outcome,
+                notes: Notes::Nothing,
+            };
+            tell_output(alloc, form, files, &refused, output, errors)
+        }
+        BatchCame::Taken { totals, untraced } => match write_totals(alloc, form, totals, output) {
+            Ok(()) => {
+                write_untraced(alloc, form, &untraced, errors);
+                totals.status()
+            }
+            Err(cause) => fault(alloc, form, files, cause, errors),
+        },
+    }
+}

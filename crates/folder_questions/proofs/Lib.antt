@@ -1,0 +1,2 @@
+mod DryStartLemmas
+mod KnowerLemmas

@@ -1,0 +1,32 @@
+-- What an audit of all sites comes to.
+use Rattle.std.specs.Prelude.{◌≡◌, Bool, true, false, List, [], length, Option, Some, None}
+use Rattle.std.specs.List.{AllZip}
+use Rattle.frame_core.specs.Numbers.{Recall}
+use Rattle.recall_outcomes.specs.declared.outcomes.AuditedRecall.{AuditedRecall}
+use Rattle.recall_outcomes.specs.declared.outcomes.Outcome.{Outcome}
+use Rattle.recall_outcomes.specs.declared.outcomes.Outcome.TheVariants.{Audited, Inconsistent}
+use Rattle.recall_outcomes.specs.declared.outcomes.StartedRecall.{StartedRecall}
+use Rattle.report_core.specs.Verdicts.{IsVerdict}
+use Rattle.report_core.specs.declared.audits.Verdict.{Verdict}
+use Rattle.site_core.specs.Records.{Record}
+use Rattle.site_recovery.specs.Fit.{Fits}
+use Rattle.site_recovery.specs.Looks.{world_of}
+use Rattle.site_recovery.specs.Misfits.{IsMisfit}
+use Rattle.site_folders.specs.Begun.{begun}
+
+-- a recall that hasn't ended has no verdict; of one that has ended, what is quarantined is compared with what its root reaches
+abbrev pub HasVerdict : List Record → Recall → Bool → Option Verdict → Type 0
+HasVerdict records r false verdict = verdict ≡ None
+HasVerdict records r true (Some verdict) = IsVerdict records r verdict
+HasVerdict records r true None = ⊥
+
+-- the recall was audited
+abbrev pub AuditsRecall : List Record → StartedRecall → AuditedRecall → Type 0
+AuditsRecall records begun audited = (audited.recall ≡ begun.recall) × HasVerdict records begun.recall begun.ended audited.verdict
+
+-- The records are consistent, and each recall that a site began was audited, one for one and in order; or the records aren't
+-- consistent, and that is the outcome.
+abbrev pub AnswersAudit : List Record → Outcome → Type 0
+AnswersAudit records (Audited recalls) = Fits (world_of records) [] × AllZip (AuditsRecall records) (begun records) recalls.items
+AnswersAudit records (Inconsistent misfit) = IsMisfit (length records) (world_of records) misfit.condition misfit.site
+AnswersAudit records other = ⊥

@@ -1,0 +1,9 @@
+pub mod Asked
+pub mod Audits
+pub mod DryStarts
+pub mod Knowers
+pub mod Reports
+pub mod SiteItems
+pub mod Standings
+pub mod Traces
+pub mod TrailEvents

@@ -1,0 +1,92 @@
+//! `audit`: whether the records of the sites are consistent, and whether each ended recall quarantined what it is to.
+
+ghost use Rattle.std.specs.Prelude.{IfOk};
+ghost use Rattle.std.specs.List.{AllZip};
+ghost use Rattle.site_recovery.specs.Checking.{records_at};
+ghost use Rattle.site_recovery.specs.FittingAt.{AreAllSites};
+ghost use Rattle.site_folders.specs.Begun.{begun};
+ghost use Rattle.folder_questions.specs.Audits.{AuditsRecall};
+
+use event_json::Sites;
+use recall_outcomes::{AuditedRecall, Outcome, StartedRecall};
+use report_core::{ReportFault, audit};
+use site_core::SiteState;
+use site_folders::{Question, begun};
+use site_recovery::{CheckFault, check_world};
+use std::alloc::{AllocError, Global};
+
+/// Whether the records are consistent, and how the quarantine of each recall that ended compares with what it is to be.
+#[derive(Drop)]
+pub struct Audit {}
+
+impl Question for Audit {
+    ghost use Rattle.std.specs.Prelude.{⊤};
+    ghost use Rattle.folder_questions.specs.Audits.{AnswersAudit};
+
+    type Asked = ();
+
+    type Answer = Outcome;
+
+    ghost refuses = { λ q sites outcome. ⊥ };
+
+    ghost asks = { λ q sites asked. ⊤ };
+
+    ghost answers = { λ q asked rs outcome. AnswersAudit rs outcome };
+
+    fn read(&self, _alloc: Global, _sites: &Sites) -> Result<Result<(), Outcome>, AllocError> {
+        Ok(Ok(()))
+    }
+
+    fn answer(
+        &self,
+        alloc: Global,
+        _asked: (),
+        records: &[&SiteState],
+    ) -> Result<Outcome, AllocError> {
+        match check_world(alloc, records) {
+            Ok(()) => Ok(Outcome::Audited(audit_recalls(alloc, records)?)),
+            Err(CheckFault::Misfit(misfit)) => Ok(Outcome::Inconsistent(misfit)),
+            Err(CheckFault::NoMemory) => Err(AllocError),
+        }
+    }
+}
+
+/// Audits each recall that a site began, by site, then by number.
+fn audit_recalls(alloc: Global, records: &[&SiteState]) -> Result<Vec<AuditedRecall>, AllocError>
+    requires { AreAllSites (records_at records.now) }
+    ensures { IfOk result (λ v. AllZip (AuditsRecall (records_at records.now))
+        (begun (records_at records.now)) v.items) }
+{
+    let mut audited = Vec::new(alloc);
+    let recalls = begun(alloc, records)?;
+    for recall in &recalls {
+        audited.push(audit_recall(alloc, records, recall)?)?;
+    }
+    Ok(audited)
+}
+
+/// Audits a recall.
+fn audit_recall(
+    alloc: Global,
+    records: &[&SiteState],
+    begun: &StartedRecall,
+) -> Result<AuditedRecall, AllocError>
+    requires { AreAllSites (records_at records.now) }
+    ensures { IfOk result (AuditsRecall (records_at records.now) begun.now) }
+{
+    let recall = begun.recall;
+    if !begun.ended {
+        return Ok(AuditedRecall {
+            recall,
+            verdict: None,
+        });
+    }
+    match audit(alloc, records, recall) {
+        Ok(verdict) => Ok(AuditedRecall {
+            recall,
+            verdict: Some(verdict),
+        }),
+        // The recall is among those that a site began.
+        Err(ReportFault::UnknownRecall | ReportFault::NoMemory) => Err(AllocError),
+    }
+}

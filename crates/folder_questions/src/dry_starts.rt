@@ -1,0 +1,93 @@
+//! `start --dry-run`: what the start of a recall would do at its site.
+
+ghost use Rattle.std.specs.Prelude.{◌≢◌, IfOk};
+ghost use Rattle.recall_outcomes.specs.declared.outcomes.CommandRefusal.TheVariants.{Step};
+ghost use Rattle.site_folders.specs.Refusals.{IsRefusal};
+ghost use Rattle.folder_questions.specs.DryStarts.{TellsStart, effects_of};
+
+use crate::asked::item_at;
+use epc_core::Epc;
+use event_json::{SiteNo, Sites};
+use item_spellings::Spelled;
+use recall_outcomes::{CommandRefusal, Outcome};
+use site_core::{Effects, Refusal, SiteInput, SiteState, Stepped, step};
+use site_folders::{SiteQuestion, refusal};
+use std::alloc::{AllocError, Global};
+
+/// How many items of the site of a name the start of a recall would quarantine there, and how many messages it would
+/// have for other sites. The step is made on a copy of the record.
+#[derive(Drop)]
+pub struct DryStart<'a> {
+    pub site: &'a str,
+    pub item: Spelled<'a>,
+}
+
+impl SiteQuestion for DryStart<'_> {
+    ghost use Rattle.folder_questions.specs.Asked.{AsksItem, RefusesItem};
+    ghost use Rattle.folder_questions.specs.DryStarts.{AnswersDryStart};
+    ghost use Rattle.site_core.specs.declared.inputs.SiteInput.TheVariants.{Start};
+
+    type Asked = Epc;
+
+    type Answer = Outcome;
+
+    ghost refuses = { λ q sites outcome. RefusesItem q.site.now q.item sites outcome };
+
+    ghost asks = { λ q sites site item. AsksItem q.site.now q.item sites site item };
+
+    ghost answers = { λ q item r outcome. AnswersDryStart r (Start item) outcome };
+
+    fn read(
+        &self,
+        alloc: Global,
+        sites: &Sites,
+    ) -> Result<Result<(SiteNo, Epc), Outcome>, AllocError> {
+        item_at(alloc, sites, self.site, &self.item)
+    }
+
+    fn answer(&self, alloc: Global, item: Epc, state: &SiteState) -> Result<Outcome, AllocError> {
+        match step(alloc, state, &SiteInput::Start(item)) {
+            Ok(stepped) => would_of(&stepped),
+            Err(why) => refused(alloc, why),
+        }
+    }
+}
+
+/// Why a start would be refused, for which memory alone is no reason.
+fn refused(alloc: Global, why: Refusal) -> Result<Outcome, AllocError>
+    ensures answered { IfOk result (λ outcome. (why ≢ Refusal.NoMemory)
+        × IsRefusal (Step why) outcome) }
+{
+    match &why {
+        Refusal::NoMemory => Err(AllocError),
+        _ => refusal(alloc, CommandRefusal::Step(why)),
+    }
+}
+
+/// What is told of a step.
+fn would_of(stepped: &Stepped) -> Result<Outcome, AllocError>
+    ensures answered { IfOk result (TellsStart (effects_of stepped.now)) }
+{
+    match stepped {
+        Stepped::Same(effects) => would(effects),
+        Stepped::Next(_, effects) => would(effects),
+    }
+}
+
+/// What is told of the effects of a start.
+fn would(effects: &Effects) -> Result<Outcome, AllocError>
+    ensures answered { IfOk result (TellsStart effects.now) }
+{
+    match effects {
+        Effects::Started {
+            quarantined,
+            numbered,
+            ..
+        } => Ok(Outcome::WouldStart {
+            quarantined: *quarantined,
+            messages: *numbered,
+        }),
+        // A start has no other effects.
+        _ => Err(AllocError),
+    }
+}

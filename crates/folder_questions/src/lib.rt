@@ -1,0 +1,21 @@
+//! What a folder of sites is asked: what its records say of recalls and items. Each question is a value, which
+//! `site_folders` asks of the sites' files; nothing is begun or changed by it.
+#![tactic(auto)]
+
+mod asked;
+mod audits;
+mod dry_starts;
+mod knowers;
+mod reports;
+mod site_items;
+mod standings;
+mod traces;
+mod trail_events;
+
+pub use audits::Audit;
+pub use dry_starts::DryStart;
+pub use knowers::KnowersOf;
+pub use reports::ReportOf;
+pub use site_items::ItemsOf;
+pub use standings::{StatusOf, Statuses};
+pub use traces::TraceOf;

@@ -1,0 +1,86 @@
+//! `report`: what is quarantined under a recall, how it came there, and what left the traced sites.
+
+ghost use Rattle.std.specs.Prelude.{IfOk, IfErr, map};
+ghost use Rattle.report_core.specs.Reports.{IsReport, TellsFault};
+ghost use Rattle.report_core.specs.TrailEvents.{or_no_pairs};
+ghost use Rattle.site_recovery.specs.Checking.{records_at, world_at};
+ghost use Rattle.site_recovery.specs.FittingAt.{AreAllSites};
+ghost use Rattle.folder_questions.specs.TrailEvents.{TellsEvents, steps_to};
+
+use crate::asked::recall_at;
+use crate::trail_events::is_brief;
+use event_json::{Sequence, Sites};
+use frame_core::RecallId;
+use recall_outcomes::{CommandRefusal, Outcome, Ways};
+use report_core::{RecallReport, ReportFault, StepEvents, report, report_with_events};
+use site_core::SiteState;
+use site_folders::{Question, refusal};
+use std::alloc::{AllocError, Global};
+
+/// The report of the recall that a text names.
+#[derive(Drop)]
+pub struct ReportOf<'a> {
+    pub recall: &'a str,
+    pub ways: Ways,
+    /// Whether the events behind the steps are told.
+    pub events: bool,
+}
+
+impl Question for ReportOf<'_> {
+    ghost use Rattle.folder_questions.specs.Asked.{AsksRecall, RefusesRecall};
+    ghost use Rattle.folder_questions.specs.Reports.{AnswersReport};
+
+    type Asked = RecallId;
+
+    type Answer = Outcome;
+
+    ghost refuses = { λ q sites outcome. RefusesRecall q.recall.now sites outcome };
+
+    ghost asks = { λ q sites recall. AsksRecall q.recall.now sites recall };
+
+    ghost answers = { λ q recall rs outcome. AnswersReport rs recall q.ways q.events outcome };
+
+    fn read(&self, alloc: Global, sites: &Sites) -> Result<Result<RecallId, Outcome>, AllocError> {
+        recall_at(alloc, sites, self.recall)
+    }
+
+    fn answer(
+        &self,
+        alloc: Global,
+        recall: RecallId,
+        records: &[&SiteState],
+    ) -> Result<Outcome, AllocError> {
+        match told_report(alloc, records, recall, self.ways, self.events) {
+            Ok((report, events)) => Ok(Outcome::Reported {
+                recall,
+                report,
+                ways: self.ways,
+                events,
+            }),
+            Err(ReportFault::UnknownRecall) => refusal(alloc, CommandRefusal::UnknownRecall),
+            Err(ReportFault::NoMemory) => Err(AllocError),
+        }
+    }
+}
+
+/// A report, and the events behind its steps, where these are asked for.
+fn told_report(
+    alloc: Global,
+    records: &[&SiteState],
+    recall: RecallId,
+    ways: Ways,
+    events: bool,
+) -> Result<(RecallReport, Option<Vec<Sequence<StepEvents>>>), ReportFault>
+    requires all { AreAllSites (records_at records.now) }
+    ensures report { IfOk result (λ told. IsReport (records_at records.now) recall told.0) }
+    ensures events { IfOk result (λ told. TellsEvents (records_at records.now) events
+        (steps_to ways) (map or_no_pairs told.0.trails) told.1) }
+    ensures fault { IfErr result (TellsFault (world_at records.now) recall) }
+{
+    if events {
+        let (report, events) = report_with_events(alloc, records, recall, is_brief(ways))?;
+        Ok((report, Some(events)))
+    } else {
+        Ok((report(alloc, records, recall)?, None))
+    }
+}

@@ -1,0 +1,5 @@
+pub mod Accounts
+pub mod AccountTexts
+pub mod Json
+pub mod Telling
+pub mod Writing

@@ -1,0 +1,123 @@
+//! What is written to the error stream: what refusals mean, notes, advice and faults. What memory or the stream doesn't
+//! allow is left out.
+
+ghost use Rattle.outcome_forms.specs.Writing.{AppendsText};
+
+use crate::advice::advice;
+use crate::fault_json::{fault_json, note_lines};
+use crate::fault_texts::{bare_line, fault_text};
+use crate::forms::Form;
+use crate::notes::{notes_text, places_text, untraced_text};
+use crate::sentences::sentences;
+use event_json::Untraced;
+use recall_outcomes::{Failure, Fault, Outcome, Output};
+use recall_text::write_text;
+use std::alloc::{AllocError, Global};
+use std::io::Write;
+
+/// Writes what is told beside an outcome: what its refusals mean (not in JSON), its notes, what is advised, and which
+/// places outside may be a traced site.
+pub fn write_beside<E: Write>(alloc: Global, form: Form, output: &Output, errors: &mut E)
+    ensures { AppendsText (E.contents errors.old) (E.contents errors.new) }
+{
+    explain(alloc, form, &output.outcome, errors);
+    let sites = &output.sites;
+    note(alloc, form, notes_text(alloc, sites, &output.notes), errors);
+    note(alloc, form, advice_of(alloc, &output.outcome), errors);
+    note(
+        alloc,
+        form,
+        places_text(alloc, sites, &output.outcome),
+        errors,
+    );
+}
+
+/// Writes what refusals mean, where that isn't printed as JSON.
+fn explain<E: Write>(alloc: Global, form: Form, outcome: &Outcome, errors: &mut E)
+    ensures { AppendsText (E.contents errors.old) (E.contents errors.new) }
+{
+    match form {
+        Form::Text | Form::Csv | Form::Dot => say(errors, sentences_of(alloc, outcome)),
+        Form::Json => {}
+    }
+}
+
+/// Writes what a batch of documents says and isn't traced.
+pub fn write_untraced<E: Write>(alloc: Global, form: Form, untraced: &Untraced, errors: &mut E)
+    ensures { AppendsText (E.contents errors.old) (E.contents errors.new) }
+{
+    note(alloc, form, untraced_text(alloc, untraced), errors);
+}
+
+/// Writes a fault: its name, the file that it is about and what is known of that, and what it means. Its name alone,
+/// where memory runs out for the rest.
+pub fn write_fault<E: Write>(
+    alloc: Global,
+    form: Form,
+    fault: Fault,
+    failure: Option<&Failure>,
+    errors: &mut E,
+)
+    ensures { AppendsText (E.contents errors.old) (E.contents errors.new) }
+{
+    match fault_lines(alloc, form, fault, failure) {
+        Ok(text) => say(errors, Ok(text)),
+        Err(_) => say_str(errors, bare_line(form, fault)),
+    }
+}
+
+fn fault_lines(
+    alloc: Global,
+    form: Form,
+    fault: Fault,
+    failure: Option<&Failure>,
+) -> Result<String, AllocError> {
+    match form {
+        Form::Text | Form::Csv | Form::Dot => fault_text(alloc, fault, failure),
+        Form::Json => {
+            let mut line = fault_json(alloc, fault, failure)?.to_string(alloc)?;
+            line.push_str("\n")?;
+            Ok(line)
+        }
+    }
+}
+
+fn sentences_of(alloc: Global, outcome: &Outcome) -> Result<String, AllocError> {
+    match outcome {
+        Outcome::Refused(whys) => sentences(alloc, whys.as_slice()),
+        _ => Ok(String::new(alloc)),
+    }
+}
+
+fn advice_of(alloc: Global, outcome: &Outcome) -> Result<String, AllocError> {
+    String::from_str(alloc, advice(outcome).unwrap_or(""))
+}
+
+/// Writes lines of notes, as JSON a value for each.
+fn note<E: Write>(alloc: Global, form: Form, text: Result<String, AllocError>, errors: &mut E)
+    ensures { AppendsText (E.contents errors.old) (E.contents errors.new) }
+{
+    match form {
+        Form::Text | Form::Csv | Form::Dot => say(errors, text),
+        Form::Json => {
+            if let Ok(text) = text {
+                say(errors, note_lines(alloc, text.as_str()));
+            }
+        }
+    }
+}
+
+fn say<E: Write>(errors: &mut E, text: Result<String, AllocError>)
+    ensures { AppendsText (E.contents errors.old) (E.contents errors.new) }
+{
+    if let Ok(text) = text {
+        say_str(errors, text.as_str());
+    }
+}
+
+/// Writes to the error stream. Where that fails there is nobody left to report it to.
+fn say_str<E: Write>(errors: &mut E, text: &str)
+    ensures { AppendsText (E.contents errors.old) (E.contents errors.new) }
+{
+    let _ = write_text(errors, text.as_bytes());
+}

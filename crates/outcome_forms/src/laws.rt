@@ -1,0 +1,24 @@
+//! Laws of the JSON of outcomes, each named by a function with an empty body whose contract is the law.
+
+ghost use Rattle.outcome_forms.specs.Telling.{LinesTellValues, ValuesAreRead, ValuesTellKinds, ValuesTellOutcomes};
+
+/// The same lines of JSON are those of the same values, where numbers have 64 bits.
+pub fn lines_tell_values()
+    ensures { LinesTellValues }
+{}
+
+/// What is printed of an outcome as JSON, read by serde_json, is its values, where numbers have 64 bits.
+pub fn values_are_read()
+    ensures { ValuesAreRead }
+{}
+
+/// Where a value is printed, it tells which outcome it is of.
+pub fn values_tell_kinds()
+    ensures { ValuesTellKinds }
+{}
+
+/// Two outcomes of one kind whose values are the same have the same contents, where the sites that they name are
+/// listed.
+pub fn values_tell_outcomes()
+    ensures { ValuesTellOutcomes }
+{}

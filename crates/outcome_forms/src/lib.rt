@@ -1,0 +1,30 @@
+//! How an outcome is printed: as text, as JSON, as rows and as a picture.
+//!
+//! Of JSON it is proved that the lines are those of the values of the outcome, that they are read back as these, and
+//! that no member of an outcome is lost in them; of rows, that they are read back; of a picture, that no text of others
+//! becomes a part of its language. Texts are plain code: tests on the program say what they are.
+#![tactic(auto)]
+
+mod account_json;
+mod account_texts;
+mod accounts;
+mod advice;
+mod beside;
+mod fault_json;
+mod fault_texts;
+mod forms;
+mod json_lines;
+pub mod laws;
+mod notes;
+mod outcome_json;
+mod outcome_texts;
+mod query_json;
+mod sentences;
+mod step_json;
+mod values;
+mod writing;
+
+pub use beside::{write_beside, write_fault, write_untraced};
+pub use fault_texts::{failure_line, fault_line};
+pub use forms::Form;
+pub use writing::{write_input, write_outcome, write_totals};

@@ -1,0 +1,177 @@
+//! What is told beside an outcome, in lines of the error stream.
+
+use event_json::{MAX_ADDRESSES, SiteNo, Sites, Untraced};
+use item_spellings::are_one_place;
+use recall_outcomes::{Knower, Knowers, Notes, Outcome, RunNotes, Stop, StopCause};
+use recall_text::telling::name_of;
+use report_core::OutsideShipment;
+use std::alloc::{AllocError, Global};
+
+/// The notes beside an outcome.
+pub(crate) fn notes_text(
+    alloc: Global,
+    sites: &Sites,
+    notes: &Notes,
+) -> Result<String, AllocError> {
+    match notes {
+        Notes::Nothing => Ok(String::new(alloc)),
+        Notes::Untraced(untraced) => untraced_text(alloc, untraced),
+        Notes::Run(run) => run_text(alloc, sites, run),
+        Notes::Knowers(knowers) => knowers_text(alloc, sites, knowers),
+    }
+}
+
+/// What a document says and isn't traced: a line for each count that isn't 0.
+pub(crate) fn untraced_text(alloc: Global, untraced: &Untraced) -> Result<String, AllocError> {
+    let counts = [
+        (
+            untraced.skipped,
+            "event was skipped: TransactionEvent and AssociationEvent aren't traced",
+            "events were skipped: TransactionEvent and AssociationEvent aren't traced",
+        ),
+        (
+            untraced.aimless,
+            "event of bizStep shipping has no destination: nothing is traced past it",
+            "events of bizStep shipping have no destination: nothing is traced past them",
+        ),
+        (
+            untraced.outside,
+            "destination is no traced site: what went there counts as outside",
+            "destinations are no traced site: what went there counts as outside",
+        ),
+        (
+            untraced.unnamed,
+            "event has no eventID: captured again, it counts again",
+            "events have no eventID: captured again, they count again",
+        ),
+    ];
+    let mut text = String::new(alloc);
+    for (count, one, more) in counts {
+        if count > 0 {
+            let what = if count == 1 { one } else { more };
+            text.push_str(format!(in alloc; "note: {count} {what}\n")?.as_str())?;
+        }
+    }
+    Ok(text)
+}
+
+/// What is known of a run beside its recalls.
+fn run_text(alloc: Global, sites: &Sites, run: &RunNotes) -> Result<String, AllocError> {
+    let mut text = String::new(alloc);
+    for stop in &run.stops {
+        push_stop(alloc, &mut text, sites, stop)?;
+    }
+    if run.shared {
+        text.push_str("the system gave fewer threads than sites, so sites took turns\n")?;
+    }
+    if run.unended {
+        text.push_str("a further `recall run` goes on with the recalls that are open\n")?;
+    }
+    Ok(text)
+}
+
+/// Adds a site that stopped, and what is known of its file.
+fn push_stop(
+    alloc: Global,
+    text: &mut String,
+    sites: &Sites,
+    stop: &Stop,
+) -> Result<(), AllocError> {
+    let name = name_of(sites, stop.site);
+    let times = stop.times;
+    let cause = match stop.cause {
+        StopCause::Device => "Device",
+        StopCause::Store => "Store",
+    };
+    let line = if times == 1 {
+        format!(in alloc; "site {name} stopped once: {cause}\n")?
+    } else {
+        format!(in alloc; "site {name} stopped {times} times: {cause}\n")?
+    };
+    text.push_str(line.as_str())?;
+    text.push_str(stop.known.as_str())
+}
+
+/// Who knows an item that the site that was asked doesn't know.
+fn knowers_text(alloc: Global, sites: &Sites, knowers: &Knowers) -> Result<String, AllocError> {
+    let mut text = String::new(alloc);
+    let item = knowers.item.key(alloc)?;
+    let given = knowers.text.as_str();
+    for knower in &knowers.found {
+        let line = match knower {
+            Knower::Knows(site) => {
+                let name = name_of(sites, *site);
+                format!(in alloc; "note: {name} knows {item}\n")?
+            }
+            Knower::Has { site, item } => {
+                let name = name_of(sites, *site);
+                let key = item.key(alloc)?;
+                format!(in alloc; "note: {name} has {key}, which ends in `{given}`\n")?
+            }
+        };
+        text.push_str(line.as_str())?;
+    }
+    Ok(text)
+}
+
+/// Of a report, or of a trace to where an item went: for each listed address of a site that names a place outside in
+/// another spelling a line, with the first such place.
+pub(crate) fn places_text(
+    alloc: Global,
+    sites: &Sites,
+    outcome: &Outcome,
+) -> Result<String, AllocError> {
+    let mut text = String::new(alloc);
+    let outside = outside_of(outcome);
+    for number in 0..sites.len() {
+        if let Some(site) = SiteNo::of(number) {
+            push_places(alloc, &mut text, sites, outside, site)?;
+        }
+    }
+    Ok(text)
+}
+
+/// What left the traced sites.
+fn outside_of(outcome: &Outcome) -> &[OutsideShipment] {
+    match outcome {
+        Outcome::Reported {
+            recall: _,
+            report,
+            ways: _,
+            events: _,
+        } => report.outside.as_slice(),
+        Outcome::Traced {
+            trace,
+            ways: _,
+            events: _,
+        } => trace.outside.as_slice(),
+        _ => &[],
+    }
+}
+
+/// Adds the lines of the addresses of a site.
+fn push_places(
+    alloc: Global,
+    text: &mut String,
+    sites: &Sites,
+    outside: &[OutsideShipment],
+    site: SiteNo,
+) -> Result<(), AllocError> {
+    let name = name_of(sites, site);
+    for place in 0..MAX_ADDRESSES as u64 {
+        let Some(address) = sites.address(site, place) else {
+            return Ok(());
+        };
+        let found = outside
+            .iter()
+            .find(|s| are_one_place(address, s.destination.as_str()));
+        if let Some(shipment) = found {
+            let there = shipment.destination.as_str();
+            let line = format!(in alloc;
+                "note: the destination {there} may be {name}, whose address {address} names the same place\n"
+            )?;
+            text.push_str(line.as_str())?;
+        }
+    }
+    Ok(())
+}

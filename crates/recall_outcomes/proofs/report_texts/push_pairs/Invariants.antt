@@ -1,9 +1,0 @@
-use Rattle.std.proofs.Common.{◌≡◌, ◌++◌, string_bytes, take}
-use Rattle.std.specs.List.{flat_map, zip}
-use Rattle.recall_outcomes.specs.Texts.{quarantined_text}
-use Rattle.recall_outcomes.specs.Steps.{each_with}
-use Rattle.recall_outcomes.proofs.report_texts.push_pairs.Given as goal
-
--- the pairs so far
-abbrev pub invariant-loop-place : goal.invariant-loop-place
-invariant-loop-place l = string_bytes l.text ≡ string_bytes l.fn.text ++ flat_map (quarantined_text l.sites l.ways) (take l.place (zip l.pairs (each_with l.trails l.events)))
