@@ -17,14 +17,21 @@ use Rattle.site_core.specs.declared.inputs.SiteInput.TheVariants.{Capture, Start
 use Rattle.site_core.specs.declared.outcomes.Effects.{Effects}
 use Rattle.site_core.specs.declared.outcomes.Effects.TheVariants as told
 use Rattle.site_core.specs.declared.outcomes.Refusal.{Refusal}
-use Rattle.folder_commands.specs.Inputs.{PassesOver, ReadsAs, came_of}
+use Rattle.world_core.specs.Parts.{came_in}
+use Rattle.folder_commands.specs.Inputs.{AsksStep, PassesOver, ReadsAs, came_of}
 use Rattle.folder_commands.specs.Steps.{Steps}
 use Rattle.folder_commands.specs.Untraced.{with_untraced}
+use Rattle.folder_commands.specs.declared.inputs.Doing.{Doing}
 use Rattle.folder_commands.specs.declared.inputs.Doing.TheVariants as doings
 
 -- the input is a capture or a start
 abbrev pub IsTaken : SiteInput → Type 0
 IsTaken input = ((document : List ℕ) × (input ≡ Capture document)) ⊎ ((item : List ℕ) × (input ≡ Start item))
+
+-- a step that an input asks for delivers no frame
+pub asked_is_own : (doing : Doing) (bytes : List ℕ) (input : SiteInput) → AsksStep doing bytes input → came_in input ≡ None
+asked_is_own doings.Capture bytes input is = ap came_in is
+asked_is_own (doings.Start spelling) bytes input (item, reads, is) = ap came_in is
 
 -- their effects are of these kinds
 captures : (old : Record) (after : Option Record) (document : List ℕ) (effects : Effects) → Steps old (Capture document) after (Ok effects) → (came : InputOutcome) × (came_of effects ≡ Some came)

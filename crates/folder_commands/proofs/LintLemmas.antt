@@ -8,8 +8,8 @@ use Rattle.recall_outcomes.specs.declared.faults.Fault.TheVariants.{NoMemory, Wr
 use Rattle.recall_outcomes.specs.declared.outcomes.CommandRefusal.{CommandRefusal}
 use Rattle.recall_text.specs.declared.site_lists.SiteList.{SiteList}
 use Rattle.site_folders.specs.Faults.{OnlyAsks}
-use Rattle.site_folders.specs.FileCalls.{Calls, FileCall, Failed, Led, ReadFile}
-use Rattle.site_folders.proofs.CallsInTurn.{calls_then, led_then}
+use Rattle.site_folders.specs.FileCalls.{FileCall, Failed, Led, ReadFile}
+use Rattle.site_folders.proofs.CallsInTurn.{led_then}
 use Rattle.site_folders.proofs.VainLemmas.{asks_first, asks_then, is_first, none_asks}
 use Rattle.folder_commands.specs.Lints.{IsRefusedFor, LintFails, LintsAll, LintsEach, LintsOne, LintsWhere, Looking}
 use Rattle.folder_commands.specs.declared.lints.LintCame.{LintCame}

@@ -1,5 +1,5 @@
 -- the files that `init` looks for and makes, in turn
-use Rattle.std.proofs.Common.{◌≡◌, ◌⊎◌, ℕ, ◌+◌, ◌<◌, ◌≤◌, zero, suc, Bool, true, false, List, [], ◌∷◌, ◌++◌, codes, inl, inr, length, length-append, refl, sym, ap, ◌∙◌, subst, arith, append_assoc, append-nil}
+use Rattle.std.proofs.Common.{◌≡◌, ◌⊎◌, ℕ, ◌+◌, ◌<◌, ◌≤◌, zero, suc, Bool, true, false, List, [], ◌∷◌, ◌++◌, codes, inl, inr, length, refl, sym, ap, ◌∙◌, subst, arith, append_assoc, append-nil}
 use Rattle.std.specs.List.{AllZip}
 use Rattle.event_json.specs.Sites.{Site}
 use Rattle.recall_text.specs.SiteLists.{IsSiteList}
@@ -17,7 +17,7 @@ use Rattle.recall_outcomes.specs.declared.faults.Fault.{Fault}
 use Rattle.recall_outcomes.specs.declared.faults.Fault.TheVariants.{NoMemory}
 use Rattle.site_core.specs.Records.{Record}
 use Rattle.site_folders.specs.Faults.{EndsInVain, OnlyAsks}
-use Rattle.site_folders.proofs.VainLemmas.{asks_first, asks_then, none_asks, ran_out, vain_behind}
+use Rattle.site_folders.proofs.VainLemmas.{asks_first, none_asks, ran_out, vain_behind}
 use Rattle.std.specs.Prelude.{Option}
 use Rattle.site_folders.proofs.CallsInTurn.{calls_then}
 

@@ -1,13 +1,20 @@
 -- what the keepers show after a run
-use Rattle.std.proofs.Common.{◌≡◌, ◌≤◌, ◌∙◌, ℕ, suc, Option, None, IsSome, List, [], ◌∷◌, All, length, map, refl, sym, ap, subst, arith}
+use Rattle.std.proofs.Common.{◌≡◌, ◌≤◌, ◌∙◌, ◌⊎◌, ⊎_elim, inl, inr, ℕ, suc, Option, None, Some, IsSome, List, [], ◌∷◌, All, length, map, refl, sym, ap, subst, arith}
 use Rattle.std.proofs.lemmas.List.{length-map}
 use Rattle.std.proofs.lemmas.List.Elements.{All-cons, All-nil}
 use Rattle.std.specs.List.{AllZip}
+use Rattle.std.specs.Prelude.{Result, Ok, Err, IfErr}
+use Rattle.keeper_core.specs.declared.faults.Unopened.{Unopened}
+use Rattle.recall_outcomes.specs.declared.faults.Fault.{Fault}
+use Rattle.recall_outcomes.specs.declared.faults.Fault.TheVariants as faults
+use Rattle.event_json.specs.Sites.{Site}
 use Rattle.recall_outcomes.specs.declared.outcomes.Outcome.{Outcome}
+use Rattle.recall_outcomes.specs.declared.outcomes.Outcome.TheVariants as outcomes
 use Rattle.recall_outcomes.specs.declared.outcomes.StartedRecall.{StartedRecall}
 use Rattle.site_core.specs.Records.{Record}
 use Rattle.site_threads.proofs.NoJobs.{all_of_frames}
-use Rattle.site_threads.specs.Gathering.{Began, FitAfter, HasEnd, HasTurned, HindersRun, IsKept, KeepersFit, RanAsAWorld, StandTogether}
+use Rattle.site_threads.specs.Gathering.{Began, Explains, FitAfter, GivesListsBack, HasEnd, HasTurned, HindersRun, IsKept, KeepersFit, RanAsAWorld, StandTogether}
+use Rattle.site_threads.specs.declared.gathered.GatherFault.{GatherFault}
 use Rattle.site_threads.specs.declared.desks.DeskOut.{DeskOut}
 use Rattle.site_threads.specs.declared.gather.GatherCause.{GatherCause}
 use Rattle.site_threads.specs.declared.gather.GatherCause.TheVariants.{NotAWorld, NoMemory, SiteLost, GaveUp}
@@ -17,9 +24,10 @@ use Rattle.wire_core.proofs.Running.{up_records}
 use Rattle.world_core.specs.Keepers.{AllShow, StandsAs}
 use Rattle.world_core.specs.Worlds.{Up}
 use Rattle.world_core.specs.declared.faults.WorldFault.TheVariants as worlds
+use Rattle.site_folders.specs.FileCalls.{FileCall}
 use Rattle.site_folders.specs.Keepers.{AreShown}
 use Rattle.site_folders.proofs.CallsInTurn.{are_shown}
-use Rattle.folder_commands.specs.Runs.{AnswersRun, CameToItsEnd, TellsCause, TellsRecalls}
+use Rattle.folder_commands.specs.Runs.{AnswersRun, BreaksRun, CameToItsEnd, FailsRun, TellsCause, TellsRecalls, gather_fault}
 use Rattle.folder_commands.specs.Notes.{AreOfSites, EndsSo}
 use Rattle.folder_commands.specs.declared.notes.RunEnd.{RunEnd}
 
@@ -61,6 +69,22 @@ module _ {K : Type 0} (shown : K → Option Record) where
   }
 
   module _ (may : K → Record → Type 0) where
+    -- what sites did whose run has no answer
+    pub ran_if_any : (turns : ℕ) (old : List K) (ds : List DeskOut) (e : GatherFault K) → GivesListsBack shown may turns old ds e → (e.keepers.items ≡ old) ⊎ ((lists : List RunLog) × RanAsAWorld shown may old e.keepers.items lists)
+    ran_if_any turns old ds e (inl none) = inl none.1
+    ran_if_any turns old ds e (inr lists) = inr (e.lists.items, lists.run)
+
+    module _ {G : Type 0} (reopens : K → Result K (Unopened K) → Type 0) (gives_up : G → ℕ → ℕ → Type 0) (turns : ℕ) (old new : List K) where
+      -- the run is done, and memory ran out for what is told of it
+      pub run_untold : (lists : List RunLog) → KeepersFit shown may new → RanAsAWorld shown may old new lists → FailsRun shown may reopens gives_up turns old new faults.NoMemory
+      run_untold lists fit ran = record { cause = NoMemory; hinders = tt; fit = fit; explained = tt; fault_is = refl; ran = inr (lists, ran) }
+
+      -- the fault of a cause
+      pub run_failed_so : {R : Type 0} (cause : GatherCause) (r : Result R Fault) → HindersRun shown new cause → FitAfter shown may old cause new → Explains shown reopens gives_up turns new cause
+          → (new ≡ old) ⊎ ((lists : List RunLog) × RanAsAWorld shown may old new lists) → IfErr r (λ fault. gather_fault cause ≡ Some fault) → IfErr r (FailsRun shown may reopens gives_up turns old new)
+      run_failed_so cause (Ok ran) hinders fit explained did told = tt
+      run_failed_so cause (Err fault) hinders fit explained did told = record { cause = cause; hinders = hinders; fit = fit; explained = explained; fault_is = told; ran = did }
+
     all_up : (keepers : List K) (rs : List Record) → AllShow shown keepers rs → AllZip (λ k standing. StandsAs (shown k) (may k) standing) keepers (map (λ r. Up r) rs)
     all_up [] [] all = tt
     all_up (k ∷ keepers) (r ∷ rs) all = (all.0, all_up keepers rs all.1)
@@ -92,3 +116,28 @@ module _ {K : Type 0} (shown : K → Option Record) where
     misfit_told failed turns old new NoMemory outcome end hinders fit told none = absurd told
     misfit_told failed turns old new (SiteLost site) outcome end hinders fit told none = absurd told
     misfit_told failed turns old new (GaveUp site) outcome end hinders fit told none = absurd told
+
+-- a run has an outcome where it ran, or where nothing was done
+pub ran_or_not : {K : Type 0} (shown : K → Option Record) (failed : K → ℕ) (may : K → Record → Type 0) (turns : ℕ) (old new : List K) (outcome : Outcome) (end : Option RunEnd) → AnswersRun shown failed may turns old new outcome end
+    → (new ≡ old) ⊎ ((lists : List RunLog) × RanAsAWorld shown may old new lists)
+ran_or_not shown failed may turns old new (outcomes.Ran recalls) (Some end) answers = inr (answers.lists, answers.run)
+ran_or_not shown failed may turns old new (outcomes.Inconsistent misfit) end answers = inl answers.1
+ran_or_not shown failed may turns old new (outcomes.Ran recalls) None answers = absurd answers
+ran_or_not shown failed may turns old new outcomes.Created end answers = absurd answers
+ran_or_not shown failed may turns old new (outcomes.Stepped effects) end answers = absurd answers
+ran_or_not shown failed may turns old new (outcomes.Reported recall report ways events) end answers = absurd answers
+ran_or_not shown failed may turns old new (outcomes.Traced trace ways events) end answers = absurd answers
+ran_or_not shown failed may turns old new (outcomes.TracedBack trace ways events) end answers = absurd answers
+ran_or_not shown failed may turns old new (outcomes.Standing recalls coded) end answers = absurd answers
+ran_or_not shown failed may turns old new (outcomes.Waiting detail coded) end answers = absurd answers
+ran_or_not shown failed may turns old new (outcomes.Known site items) end answers = absurd answers
+ran_or_not shown failed may turns old new (outcomes.WouldStart plan ended) end answers = absurd answers
+ran_or_not shown failed may turns old new (outcomes.Audited recalls) end answers = absurd answers
+ran_or_not shown failed may turns old new (outcomes.Refused whys) end answers = absurd answers
+
+-- so it is of a run that broke off
+pub broke_or_not : {K G : Type 0} (shown : K → Option Record) (failed : K → ℕ) (may : K → Record → Type 0) (reopens : K → Result K (Unopened K) → Type 0) (gives_up : G → ℕ → ℕ → Type 0) (stored : K → Type 0) (folder : List ℕ) (turns : ℕ) (fault : Fault) (sites : List Site) (calls : List (FileCall K))
+    → (broke : BreaksRun shown failed may reopens gives_up stored folder turns fault sites calls) → (broke.after ≡ broke.keepers) ⊎ ((lists : List RunLog) × RanAsAWorld shown may broke.keepers broke.after lists)
+broke_or_not {K} {G} shown failed may reopens gives_up stored folder turns fault sites calls broke =
+    ⊎_elim (λ (f : FailsRun shown may reopens gives_up turns broke.keepers broke.after fault). f.ran)
+    (λ (m : (fault ≡ faults.NoMemory) × (outcome : Outcome) × (end : Option RunEnd) × AnswersRun shown failed may turns broke.keepers broke.after outcome end). ran_or_not shown failed may turns broke.keepers broke.after m.1 m.2 m.3) broke.came

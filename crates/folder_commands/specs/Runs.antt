@@ -88,13 +88,14 @@ gather_fault (gathering.GaveUp site) = Some faults.GaveUp
 
 -- The run has no outcome: the fault is that of a cause which prevents it, and a gate that is named gave up, a keeper that
 -- is named was refused. The keepers are as they were where they make no world, and else the sites stand together in
--- whichever records they are open, or may be opened.
+-- whichever records they are open, or may be opened. What they did, if anything, is a run of the world.
 pub record FailsRun {K G : Type 0} (shown : K → Option Record) (may : K → Record → Type 0) (reopens : K → Result K (Unopened K) → Type 0) (gives_up : G → ℕ → ℕ → Type 0) (turns : ℕ) (old new : List K) (fault : Fault) : Type 0 where
   pub cause : GatherCause
   pub hinders : HindersRun shown new cause
   pub fit : FitAfter shown may old cause new
   pub explained : Explains shown reopens gives_up turns new cause
   pub fault_is : gather_fault cause ≡ Some fault
+  pub ran : (new ≡ old) ⊎ ((lists : List RunLog) × RanAsAWorld shown may old new lists)
 
 module _ {K : Type 0} (knows : List ℕ → List ℕ → Type 0) (shown : K → Option Record) (failed : K → ℕ) (may : K → Record → Type 0) (stored : K → Type 0) (folder : List ℕ) where
   -- the files of all sites were opened, the sites ran for at most so many turns, and the files were closed, on each of

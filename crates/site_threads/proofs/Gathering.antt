@@ -3,19 +3,22 @@ use Rattle.std.proofs.Common.{◌≡◌, ◌⊎◌, ⊎_elim, inl, inr, ℕ, zer
 use Rattle.std.proofs.lemmas.List.Elements.{All-head, All-tail}
 use Rattle.std.proofs.lemmas.Option.{same_Some}
 use Rattle.std.specs.List.{AllZip, range_with_len}
-use mathlib.Core.Option.{some}
+use mathlib.Core.Option.{some, some-injective, some-ne-none}
 use lib.ListN.{get_elem?}
 use Rattle.trace_core.proofs.Members.{contains_cases, contains_none}
 use Rattle.frame_core.specs.declared.frames.Frame.{Frame}
 use Rattle.keeper_core.specs.Keeping.{IsAfter}
 use Rattle.site_core.specs.Records.{Record}
 use Rattle.site_core.specs.declared.inputs.SiteInput.{SiteInput}
+use Rattle.site_core.specs.declared.inputs.SiteInput.TheVariants.{Capture, Start, Deliver}
 use Rattle.site_recovery.specs.Fit.{Fits}
 use Rattle.site_recovery.specs.Laws.{AreInPlace}
 use Rattle.site_recovery.specs.Looks.{world_of}
 use Rattle.world_core.specs.Faults.{AreOneWorld, MakeAWorld}
 use Rattle.world_core.specs.Keepers.{StandsAs}
 use Rattle.world_core.specs.KeptSteps.{Handed, handed_to, StandsAfter}
+use Rattle.world_core.specs.Parts.{IsCarried, came_in}
+use Rattle.world_core.specs.Turns.{addressee}
 use Rattle.world_core.specs.Recalls.{AreExactOnceEnded, quarantined}
 use Rattle.world_core.specs.Worlds as world
 use Rattle.world_core.specs.Worlds.{Down, Standing, Up, WorldState, WorldFits, record_of, records}
@@ -28,11 +31,12 @@ use Rattle.wire_core.specs.Rule.{AreAnswered, last_records, frames}
 use Rattle.wire_core.specs.Seats.{Line, HoldsAll, AreAllLogs, Gathered}
 use Rattle.wire_core.proofs.Fitting.{one_step, fewer_fit}
 use Rattle.wire_core.proofs.Out.{runs_of_seats_come_out}
-use Rattle.wire_core.proofs.Running.{run_fits}
+use Rattle.wire_core.proofs.Lists.{Contains_at}
+use Rattle.wire_core.proofs.Running.{run_fits, run_has}
 use Rattle.site_threads.proofs.Changing.{entered_alone}
 use Rattle.site_threads.specs.declared.jobs.Entry.{Entry}
 use Rattle.site_threads.specs.declared.lists.RunLog.{RunLog}
-use Rattle.site_threads.specs.Gathering.{AreStepsOf, AreTheirSteps, EndedAreExact, KeepersFit, Lead, RanFrom}
+use Rattle.site_threads.specs.Gathering.{AreStepsOf, AreTheirSteps, EndedAreExact, AllStandThere, KeepersFit, Lead, RanFrom, StandsThere}
 use Rattle.site_threads.specs.Keepers.{shown_if, may_if}
 use Rattle.site_threads.specs.Parting.{HasKeeper, LeavesList}
 use Rattle.site_threads.specs.Runs.{IsFresh}
@@ -108,6 +112,14 @@ holds_from (suc k) a (suc n) (x ∷ xs) is h =
 holds_all : (count : ℕ) (ls : List Log) → map (λ (x : Log). x.site) ls ≡ range_with_len 0 count → HoldsAll count ls
 holds_all count ls is site h = subst (λ k. Holds k ls) (zero-add site) (holds_from site 0 count ls is h)
 
+-- a log in its place is that of the site of this number
+site_there : (a n : ℕ) (ls : List Log) (i : ℕ) (e : Log) → map (λ (x : Log). x.site) ls ≡ range_with_len a n → get_elem? ls i ≡ some e → e.site ≡ a + i
+site_there a n [] i e is at = absurd (some-ne-none e (sym at))
+site_there a zero (x ∷ xs) i e is at = let l = ap length is in absurd (omega arith)
+site_there a (suc n) (x ∷ xs) zero e is at =
+    ap (λ (z : Log). z.site) (sym (some-injective x e at)) ∙ ap (λ (l : List ℕ). get_or l 0 0) is ∙ (let z : a ≡ a + 0 = omega arith in z)
+site_there a (suc n) (x ∷ xs) (suc i) e is at = site_there (a + 1) n xs i e (ap (drop 1) is) at ∙ (let z : a + 1 + i ≡ a + suc i = omega arith in z)
+
 -- what is quarantined under ended recalls, where the sites are consistent
 same_records : (rs : List Record) → world.records (record { sites = map (λ r. Up r) rs; sent = [] }) ≡ rs
 same_records [] = refl
@@ -156,6 +168,24 @@ led (Some r) m start entries log h =
 led None m start entries log h =
     let alone = entered_alone start h.earlier (with_marks log.last log.inputs) h.steps in
     (alone.0, alone.1, record { earlier = h.earlier; stop = h.last; all = h.all; reply = h.reply; steps = alone.2; old_or_new = h.old_or_new })
+
+-- a step that may be marked delivers, if any, a frame that was sent to its site
+carried : (sent : List Frame) (site : ℕ) (log : Log) (input : SiteInput) → ((f : Frame) → Contains log.noted f → (addressee f ≡ site) × Contains sent f) → DeliversOneOf log.noted input → IsCarried site sent (came_in input)
+carried sent site log (Capture bytes) noted d = tt
+carried sent site log (Start root) noted d = tt
+carried sent site log (Deliver f) noted d = noted f (d f refl)
+
+stands_one : (sent : List Frame) (site : ℕ) (o : Option Record) (m : Record → Type 0) (start : WithMarks) (entries : List Entry) (log : Log) (standing : Standing) → ((f : Frame) → Contains log.noted f → (addressee f ≡ site) × Contains sent f)
+    → Holding o m start entries log → StandsAs o m standing → StandsThere sent site log.last standing
+stands_one sent site (Some x) m start entries log (Up r) noted h s = inl (ap Up (sym (same_Some x r s) ∙ h.marked))
+stands_one sent site (Some x) m start entries log (Down r) noted h s = absurd (let e : Some x ≡ None = s.0 in cc)
+stands_one sent site None m start entries log (Up r) noted h s = absurd (let e : None ≡ Some r = s in cc)
+stands_one sent site None m start entries log (Down r) noted h s =
+    inr (
+      h.last.input,
+      carried sent site log h.last.input noted h.noted,
+      ⊎_elim (λ (e : r ≡ log.last). inl (ap Down e)) (λ (a : IsAfter log.last h.last.input r). inr (r, a, refl)) (h.old_or_new r s.1),
+    )
 
 module _ {K G : Type 0} (shown : K → Option Record) (may : K → Record → Type 0) where
   any_fit : (sent : List Frame) (done : List Record) (runs : List (Running K G)) (ls : List Log) (rs : List Record) → RecordsFit (done ++ last_records ls) sent → ((e : Log) (f : Frame) → Contains ls e → Contains e.noted f → Contains sent f)
@@ -233,6 +263,21 @@ module _ {K G : Type 0} (shown : K → Option Record) (may : K → Record → Ty
   steps_from handed a [] [] [] (l ∷ lists) f z has left fresh = absurd left
   steps_from handed a (run ∷ runs) (log ∷ ls) (k ∷ ks) [] f z has left fresh = absurd left
 
+  stand_from : (sent : List Frame) (a : ℕ) (runs : List (Running K G)) (ls : List Log) (ks : List K) → ((i : ℕ) (e : Log) → get_elem? ls i ≡ some e → (f : Frame) → Contains e.noted f → (addressee f ≡ a + i) × Contains sent f)
+      → AllZip (IsEnd shown may) runs ls → AllZip HasKeeper runs ks → AllStandThere shown may sent a ks (last_records ls)
+  stand_from sent a [] [] [] noted z has = tt
+  stand_from sent a (run ∷ runs) (log ∷ ls) (k ∷ ks) noted z has = (
+    (λ standing stands.
+        stands_one sent a (shown_if shown run.keeper) (may_if may run.keeper) (start_of run) run.entries log standing
+        (subst (λ n. (f : Frame) → Contains log.noted f → (addressee f ≡ n) × Contains sent f) (let z : a + 0 ≡ a = omega arith in z) (noted 0 log refl)) z.0.holding
+        (subst (λ (x : Option K). StandsAs (shown_if shown x) (may_if may x) standing) (sym has.0) stands)),
+    stand_from sent (a + 1) runs ls ks (λ i e at. subst (λ n. (f : Frame) → Contains e.noted f → (addressee f ≡ n) × Contains sent f) (let z : a + suc i ≡ a + 1 + i = omega arith in z) (noted (suc i) e at)) z.1 has.1,
+  )
+  stand_from sent a [] (e ∷ ls) ks noted z has = absurd z
+  stand_from sent a (run ∷ runs) [] ks noted z has = absurd z
+  stand_from sent a [] [] (k ∷ ks) noted z has = absurd has
+  stand_from sent a (run ∷ runs) (log ∷ ls) [] noted z has = absurd has
+
   module _ (wire : Line) (runs : List (Running K G)) (logs : List Log) (all : All (IsSite shown may) runs) (joined : logs ≡ flat_map (λ (r : Running K G). r.seat.logs) runs)
       (order : map (λ (r : Running K G). r.me) runs ≡ range_with_len 0 wire.sites) where
     sites_are : map (λ (e : Log). e.site) logs ≡ range_with_len 0 wire.sites
@@ -255,9 +300,15 @@ module _ {K G : Type 0} (shown : K → Option Record) (may : K → Record → Ty
     keepers_ran everyone are gathered one fresh keepers lists have left =
         let e = ends_of runs all in
         let same = all_held wire.sites logs everyone sites_are are ∙ joined ∙ e.1 in
-        let run = (subst (Gathered wire.start) same gathered).run in
+        let all_of = subst (Gathered wire.start) same gathered in
+        let run = all_of.run in
+        let sites = in_order runs e.0 e.2 ∙ order in
         record {
           after = last_records e.0;
           leads = record { events = run.events; answers = run.answers; sent = run.sent; happened = run.happened; out = runs_of_seats_come_out wire.start e.0 run one };
           steps = steps_from (λ site. handed_to site run.sent run.events run.answers) 0 runs e.0 keepers lists (λ i x at. subst (λ n. AreAnswered (handed_to n run.sent run.events run.answers) x.inputs) (let z : i ≡ 0 + i = omega arith in z) (run.handed i x at)) e.2 have left fresh;
+          stand = stand_from run.sent 0 runs e.0 keepers
+              (λ i x at f noted.
+              let sent = all_of.noted x f (Contains_at e.0 i x at) noted in
+              (sent.0 ∙ site_there 0 wire.sites e.0 i x sites at, run_has wire.start e.0 run f sent.1)) e.2 have;
         }

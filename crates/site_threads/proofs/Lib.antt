@@ -26,7 +26,7 @@ mod Settling
 mod Slices
 mod Stamping
 mod Starting
-mod Steps
+pub mod Steps
 mod Stops
 mod Taking
 mod Telling

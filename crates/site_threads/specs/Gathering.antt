@@ -7,12 +7,14 @@ use Rattle.keeper_core.specs.Keeping.{MayBeOldOrNew}
 use Rattle.keeper_core.specs.declared.faults.Unopened.{Unopened}
 use Rattle.site_core.specs.Records.{Record}
 use Rattle.world_core.specs.Faults.{HindersKeepers, MakeAWorld}
-use Rattle.world_core.specs.Keepers.{AllShow, IsFirstClosed, MayBe, sites_of}
+use Rattle.world_core.specs.Keepers.{AllShow, IsFirstClosed, MayBe, StandsAs, sites_of}
 use Rattle.world_core.specs.Laws.{ComesOut}
 use Rattle.world_core.specs.Recalls.{AreExactOnceEnded, quarantined}
 use Rattle.world_core.specs.KeptSteps.{Handed, StandsAfter, handed_to}
+use Rattle.world_core.specs.Parts.{IsCarried, came_in}
 use Rattle.world_core.specs.Restarting.{MakeAWorldAgain}
-use Rattle.world_core.specs.Worlds.{WorldState, records}
+use Rattle.world_core.specs.Turns.{GoesDown}
+use Rattle.world_core.specs.Worlds.{Standing, Up, WorldState, records}
 use Rattle.world_core.specs.declared.events.Answer.{Answer}
 use Rattle.world_core.specs.declared.events.WorldEvent.{WorldEvent}
 use Rattle.site_core.specs.declared.inputs.SiteInput.{SiteInput}
@@ -64,7 +66,18 @@ abbrev pub Lead : Option Record → (Record → Type 0) → Record → List Entr
 Lead (Some r) may start entries changes last = (r ≡ last) × StandsAfter EntersMarked (with_marks start []) entries (with_marks last changes)
 Lead None may start entries changes last = LeadToAStop may start entries changes last
 
+-- A site stands where its steps lead; or it went down within one step more, of a frame, if of any, that is for it and was sent.
+abbrev pub StandsThere : List Frame → ℕ → Record → Standing → Type 0
+StandsThere sent site last standing = (standing ≡ Up last) ⊎ ((input : SiteInput) × IsCarried site sent (came_in input) × GoesDown last input standing)
+
 module _ {K : Type 0} (shown : K → Option Record) (may : K → Record → Type 0) where
+  -- the sites of these keepers, from this one on, stand so, whichever records the keepers show, or may be opened in
+  abbrev pub AllStandThere : List Frame → ℕ → List K → List Record → Type 0
+  AllStandThere sent site [] [] = ⊤
+  AllStandThere sent site (k ∷ ks) (r ∷ rs) =
+      ((standing : Standing) → StandsAs (shown k) (may k) standing → StandsThere sent site r standing) × AllStandThere sent (site + 1) ks rs
+  AllStandThere sent site ks rs = ⊥
+
   -- What was handed to the site are the inputs of those steps of its list in which its record changed, in order.
   pub record AreStepsOf (handed : List Handed) (k : K) (l : RunLog) (last : Record) : Type 0 where
     pub changes : List SiteInput
@@ -83,6 +96,7 @@ module _ {K : Type 0} (shown : K → Option Record) (may : K → Record → Type
     pub after : List Record
     pub leads : WorldLeadsTo before after
     pub steps : AreTheirSteps (λ site. handed_to site leads.sent leads.events leads.answers) 0 keepers lists after
+    pub stand : AllStandThere leads.sent 0 keepers after
 
   -- it leads from the records that the keepers showed
   pub record RanAsAWorld (old new : List K) (lists : List RunLog) : Type 0 where

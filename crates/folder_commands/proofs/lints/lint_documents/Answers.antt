@@ -1,4 +1,4 @@
-use Rattle.std.proofs.Common.{◌<◌, ◌≡◌, [], ◌∷◌, length, map, option_map, eqb-true, false-eqb, arith, refl, sym, subst, ap, ◌∙◌, inr}
+use Rattle.std.proofs.Common.{◌<◌, ◌≡◌, [], ◌∷◌, length, map, eqb-true, false-eqb, arith, refl, sym, subst, ◌∙◌, inr}
 use Rattle.std.proofs.lemmas.List.{nil_from_length}
 use Rattle.recall_text.specs.SiteLists.{IsSiteList}
 use Rattle.site_folders.specs.Faults.{OnlyAsks}

@@ -1,6 +1,5 @@
-use Rattle.std.proofs.Common.{ℕ, List, [], Bor, map, take, refl, sym, ap, ◌∙◌, subst}
+use Rattle.std.proofs.Common.{ℕ, List, [], Bor, map, take, refl, ap}
 use Rattle.std.proofs.lemmas.List.{map_more, take_all}
-use Rattle.document_lint.specs.Lines.{none_yet}
 use Rattle.site_folders.proofs.CallsInTurn.{handed_on, led_then}
 use Rattle.folder_commands.specs.Lints.{looking}
 use Rattle.folder_commands.proofs.LintLemmas.{each_asks, each_more, lint_behind}

@@ -1,4 +1,4 @@
-use Rattle.std.proofs.Common.{List, ℕ, [], ◌∷◌, rules, refl, subst, inl, inr}
+use Rattle.std.proofs.Common.{List, ℕ, [], ◌∷◌, rules, refl, subst, inl}
 use Rattle.recall_text.specs.SiteLists.{IsSiteList}
 use Rattle.site_folders.specs.FileCalls.{Failed, Led, ReadFile}
 use Rattle.site_folders.proofs.CallsInTurn.{handed_on, led_so}

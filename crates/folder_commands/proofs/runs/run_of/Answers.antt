@@ -1,13 +1,13 @@
-use Rattle.std.proofs.Common.{map, ap, refl, ◌∙◌}
+use Rattle.std.proofs.Common.{map, ap, refl, ◌∙◌, inl}
 use Rattle.site_threads.specs.declared.gather.GatherCause.TheVariants.{NotAWorld}
 use Rattle.world_core.specs.declared.faults.WorldFault.TheVariants as worlds
 use Rattle.site_folders.proofs.CallsInTurn.{ok_so}
-use Rattle.folder_commands.proofs.RunLemmas.{all_kept_open, came_to_its_end, misfit_told, of_sites}
+use Rattle.folder_commands.proofs.RunLemmas.{all_kept_open, came_to_its_end, misfit_told, of_sites, ran_if_any, run_failed_so, run_untold}
 use Rattle.folder_commands.proofs.runs.run_of.Goals as goal
 use Rattle.folder_commands.proofs.runs.run_of.Goals.{in-Ok-tell_run, in-Err-tell_run}
 
 pub returns-in_default-clause-failed : goal.returns-in_default-clause-failed
-returns-in_default-clause-failed g c = record { cause = NotAWorld worlds.NoMemory; hinders = tt; fit = refl; explained = tt; fault_is = refl }
+returns-in_default-clause-failed g c = record { cause = NotAWorld worlds.NoMemory; hinders = tt; fit = refl; explained = tt; fault_is = refl; ran = inl refl }
 
 pub tell_run-requires-clause-open : goal.tell_run-requires-clause-open
 tell_run-requires-clause-open g c = all_kept_open g.K.SiteKeeper.shown c.in-Ok-run_world.run'.keepers.items c.in-Ok-run_world.run'.lists.items c.in-Ok-run_world.ensures.ran.kept
@@ -44,3 +44,19 @@ returns-in-Ok-run_world-clause-stored g c = c.in-Ok-run_world.ensures.stored
 
 pub returns-clause-stored : goal.returns-clause-stored
 returns-clause-stored g c = c.in-Err.ensures.stored
+
+pub returns-in-Ok-run_world-clause-failed : goal.returns-in-Ok-run_world-clause-failed
+returns-in-Ok-run_world-clause-failed g c =
+    let run = c.in-Ok-run_world.run' in
+    let ran = c.in-Ok-run_world.ensures.ran in
+    elim c.match-tell_run.branch [
+      | in-Ok-tell_run w ↦ rw w.ran-is tt
+      | in-Err-tell_run w ↦ rw w.ran-is (run_untold g.K.SiteKeeper.shown g.K.SiteKeeper.may g.K.SiteKeeper.reopens g.G.Gate.gives_up c.args.turns c.args.keepers.items run.keepers.items run.lists.items ran.fit ran.run)
+    ]
+
+pub returns-clause-failed : goal.returns-clause-failed
+returns-clause-failed g c =
+    let left = c.in-Err.field-0 in
+    let h = c.in-Err.ensures.fault in
+    run_failed_so g.K.SiteKeeper.shown g.K.SiteKeeper.may g.K.SiteKeeper.reopens g.G.Gate.gives_up c.args.turns c.args.keepers.items left.keepers.items left.cause c.tell_cause.result h.err.0 h.err.1 h.why
+    (ran_if_any g.K.SiteKeeper.shown g.K.SiteKeeper.may c.args.turns c.args.keepers.items _ left h.left) c.tell_cause.ensures.failed

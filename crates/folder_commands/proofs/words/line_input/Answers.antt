@@ -1,8 +1,7 @@
 use Rattle.std.proofs.Common.{[], ◌∷◌, map, sym, ap, ◌∙◌}
 use Rattle.site_folders.proofs.CallsInTurn.{ok_so}
-use Rattle.folder_commands.specs.Inputs.{Input, input_of}
+use Rattle.folder_commands.specs.Inputs.{input_of}
 use Rattle.folder_commands.specs.Words.{is_blank}
-use Rattle.folder_commands.specs.declared.inputs.Doing.{Doing}
 use Rattle.folder_commands.proofs.WordLemmas.{blank_line, other_line}
 use Rattle.folder_commands.proofs.words.line_input.Goals as goal
 
