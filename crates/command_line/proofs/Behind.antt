@@ -14,7 +14,7 @@ use Rattle.site_folders.proofs.CallsInTurn.{calls_then}
 use Rattle.folder_questions.specs.Asked.{AsksItem}
 use Rattle.folder_questions.specs.Knowers.{AnswersKnowers, TellsNobody}
 use Rattle.folder_questions.specs.declared.knowers.KnowersOf.{KnowersOf}
-use Rattle.command_line.specs.UnknownItems.{AndWho, TellsBehind, TellsWho, is_unknown}
+use Rattle.command_line.specs.UnknownItems.{AndWho, TellsBehind, is_unknown}
 
 module _ {F K : Type 0} (does : F → FileCall K → F → Type 0) (shown : K → Option Record) (stored : K → Type 0) (folder : List ℕ) (question : KnowersOf) where
   -- the calls of the command, and those behind it

@@ -5,3 +5,12 @@ pub mod Numbers
 pub mod Several
 pub mod Starts
 pub mod Words
+pub mod Acts
+pub mod Lived
+pub mod LivedAnswers
+pub mod LivedCommands
+pub mod LivedFolders
+pub mod LivedRows
+pub mod LivedRuns
+pub mod RunParts
+pub mod LivedEnds

@@ -22,7 +22,7 @@ use Rattle.folder_commands.specs.declared.words.WordKind.TheVariants as kinds
 use Rattle.command_line.specs.declared.command_lines.FileCommand.{FileCommand}
 use Rattle.command_line.specs.declared.lint_commands.LintFiles.{LintFiles}
 use Rattle.command_line.specs.declared.command_lines.FileCommand.TheVariants.{Init, Capture, Start, Run, Report, Audit, Trace, Recalls, Recall, Items}
-use Rattle.command_line.specs.CommandLines.{recall, faults_of, named, AsksBatch, AsksDryBatch, AsksSim, AsksFiles, AsksHelp, AsksLinesAndEvents, AsksLint, AsksNamed, AsksOf, AsksTwo, AsksTwoForms, Contradicts, GivesDocuments, GivesEpcs, GivesFiles, GivesSpelling, GivesWords, IsBad, IsBatch, IsCapture, IsCommand, IsContradiction, IsLintCommand, IsMistake, IsSet, IsShown, IsStart, AsksFor, IsToldAs, IsUnset, epcs_kind, has_many, words_of}
+use Rattle.command_line.specs.CommandLines.{recall, faults_of, named, AsksBatch, AsksDryBatch, AsksFiles, AsksHelp, AsksLinesAndEvents, AsksLint, AsksNamed, AsksOf, AsksTwo, AsksTwoForms, Contradicts, GivesDocuments, GivesEpcs, GivesFiles, GivesSpelling, GivesWords, IsBad, IsBatch, IsCapture, IsCommand, IsContradiction, IsLintCommand, IsMistake, IsSet, IsShown, IsStart, AsksFor, IsToldAs, IsUnset, epcs_kind, has_many, words_of}
 use mathlib.Core.Logic.{◌⊎◌}
 
 -- `clap`'s contract says which errors the command gives

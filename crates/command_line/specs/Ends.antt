@@ -1,6 +1,6 @@
 -- How a command line ends: with which status, and what it leaves on the standard output. What it leaves on the error stream, and how texts
 -- are worded, is for tests on the program.
-use Rattle.std.specs.Prelude.{◌≡◌, ◌⊎◌, ◌==◌, ◌≤◌, ℕ, List, [], ◌∷◌, Option, Result, Ok, Err, IfErr, IfOk, IfSome, codes, map, option_map, if◌then◌else◌}
+use Rattle.std.specs.Prelude.{◌≡◌, ◌⊎◌, ◌==◌, ℕ, List, [], ◌∷◌, Option, Result, Ok, Err, IfErr, IfOk, IfSome, codes, map, option_map, if◌then◌else◌}
 use Rattle.std.specs.Global.{Global}
 use Rattle.std.specs.declared.string.String.{String}
 use Rattle.std.specs.Io.KnownBytes.{Keeps}
@@ -11,7 +11,6 @@ use Rattle.recall_text.specs.declared.faults.ScriptFault.{ScriptFault}
 use Rattle.site_core.specs.Records.{Record}
 use Rattle.document_lint.specs.Lines.{json_line as lint_line, lint_json, totals_json as lint_totals, totals_status as lint_status}
 use Rattle.document_lint.specs.declared.findings.Lint.{Lint}
-use Rattle.document_lint.specs.declared.totals.LintTotals.{LintTotals}
 use Rattle.event_json.specs.Sites.{Site}
 use Rattle.recall_outcomes.specs.Batches.{totals_status}
 use Rattle.recall_outcomes.specs.Statuses.{outcome_status}

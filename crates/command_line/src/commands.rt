@@ -2,6 +2,7 @@
 
 ghost use Rattle.std.specs.Prelude.{◌≡◌, ◌⊎◌, ◌==◌, if◌then◌else◌};
 ghost use Rattle.command_line.specs.Ends.{CommandEnds, Ends, OutcomeEnds, RunsScript, SimRuns, streams};
+ghost use Rattle.command_line.specs.Lives.{LeadByActs};
 
 use crate::batch_commands::take_batch;
 use crate::command_lines::{self, Asked};
@@ -32,6 +33,9 @@ use std::time::Clock;
 /// calls of `files` that lead to it; without such a command `files` isn't asked. In a run each site has a copy of the
 /// gate to its turns. The keys are those of the hash by which items are numbered, drawn at random, so that nobody can
 /// choose texts that collide.
+///
+/// Whatever it comes to, its calls are acts of the sites (clause `acts`), so that one command after another is a run of
+/// the world ([`crate::laws::folders_come_out`]).
 pub fn run_command<
     R: Threads + Wait + Clock + Sync,
     K: SiteKeeper + Send,
@@ -57,6 +61,7 @@ pub fn run_command<
     ensures sim { SimRuns W.contents files.old files.new
         (streams I.remaining input.old output.old) (streams I.remaining input.new output.new)
         result words.now }
+    ensures acts { LeadByActs K.shown K.may F.does files.old files.new }
 {
     match command_lines::read(alloc, words) {
         Ok(Asked::Sim) => sim(alloc, keys, input, output, errors),

@@ -7,6 +7,7 @@ mod commands;
 mod folder_tasks;
 mod grammar;
 mod helps;
+pub mod laws;
 mod lint_commands;
 mod sinks;
 mod statuses;

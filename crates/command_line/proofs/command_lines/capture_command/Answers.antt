@@ -2,7 +2,7 @@ use Rattle.std.proofs.Common.{◌≡◌, Some, codes, length, refl, sym, ap, ◌
 use Rattle.std.proofs.lemmas.List.{length-map}
 use Rattle.clap.specs.Words.{found_of, rows_of}
 use Rattle.clap.proofs.WalkLemmas.{raw_values-rows}
-use Rattle.command_line.proofs.Words.{are_several, gives_documents, lines_and_events, ok_there, one_text_alone, several_of, whole_files}
+use Rattle.command_line.proofs.Words.{are_several, gives_documents, ok_there, one_text_alone, several_of, whole_files}
 use Rattle.command_line.proofs.command_lines.capture_command.Goals as goal
 
 pub returns-then-is_one_input : goal.returns-then-is_one_input

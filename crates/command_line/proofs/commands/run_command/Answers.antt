@@ -1,6 +1,7 @@
 use Rattle.std.proofs.Common.{rules, refl}
 use Rattle.std.proofs.KnownBytes.{Keeps-refl}
 use Rattle.command_line.proofs.Endings.{ends_batch, ends_files, ends_lint, ends_mistaken}
+use Rattle.command_line.proofs.LivedEnds.{ends_acts, unasked}
 use Rattle.command_line.proofs.Words.{sim_is_no_batch, sim_is_no_help, sim_is_no_lint, sim_is_not_bad, sim_is_no_files}
 use Rattle.command_line.proofs.commands.run_command.Goals as goal
 
@@ -43,3 +44,41 @@ returns-in-Ok-Lint-clause-ends g c =
     ends_lint g.F.Files.does g.F.Files.waits g.F.Files.knows g.K.SiteKeeper.shown g.K.SiteKeeper.failed g.K.SiteKeeper.may g.K.SiteKeeper.reopens g.G.Gate.gives_up g.K.SiteKeeper.stored
     g.W.Write.contents
     c.args.words.now _ _ _ _ _ _ (rw c.in-Ok-Lint.field-0-is at c.in-Ok-Lint.ensures) (search rules) c.lint_files.ensures
+
+pub returns-in-Ok-Files-clause-acts : goal.returns-in-Ok-Files-clause-acts
+returns-in-Ok-Files-clause-acts g c =
+    ends_acts g.F.Files.does g.F.Files.waits g.F.Files.knows g.K.SiteKeeper.shown g.K.SiteKeeper.failed g.K.SiteKeeper.may g.K.SiteKeeper.reopens g.G.Gate.gives_up g.K.SiteKeeper.stored
+    g.W.Write.contents g.K.SiteKeeper.may_be_opened
+    c.args.words.now _ _ _ _ _ (returns-in-Ok-Files-clause-ends g c)
+
+pub returns-in-Ok-Batch-clause-acts : goal.returns-in-Ok-Batch-clause-acts
+returns-in-Ok-Batch-clause-acts g c =
+    ends_acts g.F.Files.does g.F.Files.waits g.F.Files.knows g.K.SiteKeeper.shown g.K.SiteKeeper.failed g.K.SiteKeeper.may g.K.SiteKeeper.reopens g.G.Gate.gives_up g.K.SiteKeeper.stored
+    g.W.Write.contents g.K.SiteKeeper.may_be_opened
+    c.args.words.now _ _ _ _ _ (returns-in-Ok-Batch-clause-ends g c)
+
+pub returns-in-Ok-Lint-clause-acts : goal.returns-in-Ok-Lint-clause-acts
+returns-in-Ok-Lint-clause-acts g c =
+    ends_acts g.F.Files.does g.F.Files.waits g.F.Files.knows g.K.SiteKeeper.shown g.K.SiteKeeper.failed g.K.SiteKeeper.may g.K.SiteKeeper.reopens g.G.Gate.gives_up g.K.SiteKeeper.stored
+    g.W.Write.contents g.K.SiteKeeper.may_be_opened
+    c.args.words.now _ _ _ _ _ (returns-in-Ok-Lint-clause-ends g c)
+
+pub returns-in-Ok-Mistake-clause-acts : goal.returns-in-Ok-Mistake-clause-acts
+returns-in-Ok-Mistake-clause-acts g c =
+    unasked g.F.Files.does g.F.Files.waits g.F.Files.knows g.K.SiteKeeper.shown g.K.SiteKeeper.failed g.K.SiteKeeper.may g.K.SiteKeeper.reopens g.G.Gate.gives_up g.K.SiteKeeper.stored
+    g.W.Write.contents g.K.SiteKeeper.may_be_opened _ _ refl
+
+pub returns-in-Ok-Sim-clause-acts : goal.returns-in-Ok-Sim-clause-acts
+returns-in-Ok-Sim-clause-acts g c =
+    unasked g.F.Files.does g.F.Files.waits g.F.Files.knows g.K.SiteKeeper.shown g.K.SiteKeeper.failed g.K.SiteKeeper.may g.K.SiteKeeper.reopens g.G.Gate.gives_up g.K.SiteKeeper.stored
+    g.W.Write.contents g.K.SiteKeeper.may_be_opened _ _ refl
+
+pub returns-in-Ok-Help-clause-acts : goal.returns-in-Ok-Help-clause-acts
+returns-in-Ok-Help-clause-acts g c =
+    unasked g.F.Files.does g.F.Files.waits g.F.Files.knows g.K.SiteKeeper.shown g.K.SiteKeeper.failed g.K.SiteKeeper.may g.K.SiteKeeper.reopens g.G.Gate.gives_up g.K.SiteKeeper.stored
+    g.W.Write.contents g.K.SiteKeeper.may_be_opened _ _ refl
+
+pub returns-in-Err-clause-acts : goal.returns-in-Err-clause-acts
+returns-in-Err-clause-acts g c =
+    unasked g.F.Files.does g.F.Files.waits g.F.Files.knows g.K.SiteKeeper.shown g.K.SiteKeeper.failed g.K.SiteKeeper.may g.K.SiteKeeper.reopens g.G.Gate.gives_up g.K.SiteKeeper.stored
+    g.W.Write.contents g.K.SiteKeeper.may_be_opened _ _ refl

@@ -1,0 +1,180 @@
+-- What the contract of a command line says of its calls is that they are acts of the sites.
+use Rattle.std.proofs.Common.{◌≡◌, ℕ, zero, suc, ◌+◌, Bool, true, false, Option, None, List, [], ◌∷◌, ◌++◌, Contains, length, sym, subst, inl, inr, ⊎_elim}
+use Rattle.std.specs.Prelude.{⊤, Result, Ok, Err, IfOk, IfErr}
+use Rattle.std.specs.Global.{Global}
+use Rattle.std.specs.declared.string.String.{String}
+use Rattle.std.specs.List.{AllByRecursion}
+use Rattle.trace_core.proofs.Members.{contains_cases, contains_none}
+use Rattle.event_json.specs.Sites.{Site}
+use Rattle.document_lint.specs.declared.findings.Lint.{Lint}
+use Rattle.keeper_core.specs.declared.faults.Unopened.{Unopened}
+use Rattle.recall_outcomes.specs.declared.faults.Fault.{Fault}
+use Rattle.recall_outcomes.specs.declared.outcomes.CommandRefusal.{CommandRefusal}
+use Rattle.recall_outcomes.specs.declared.outcomes.Outcome.{Outcome}
+use Rattle.recall_outcomes.specs.declared.outcomes.Output.{Output}
+use Rattle.site_core.specs.Records.{Record}
+use Rattle.site_folders.specs.Faults.{OnlyAsks}
+use Rattle.site_folders.specs.FileCalls.{FileCall, Blamed, ClosedSite, Failed, Led, LookedFor, MadeSite, OpenedSite, ReadFile, ReadLine, WroteFile}
+use Rattle.site_folders.specs.Paths.{list_path}
+use Rattle.site_folders.proofs.CallsInTurn.{led_so}
+use Rattle.site_folders.proofs.VainLemmas.{asks_first, none_asks}
+use Rattle.folder_commands.specs.Lints.{Lints, LintsWhere, here_of}
+use Rattle.folder_commands.specs.Making.{InitsAt, ListMakesThen, LooksForList, MakesSome, MakesWhere, looks_from, makes_from}
+use Rattle.folder_commands.specs.declared.batches.BatchOutput.{BatchOutput}
+use Rattle.folder_commands.specs.declared.lints.LintOutput.{LintOutput}
+use Rattle.folder_commands.proofs.LintLemmas.{each_asks}
+use Rattle.command_line.specs.CommandLines.{words_of}
+use Rattle.command_line.specs.Ends.{Ends, LintsFiles, Streams, TakesBatch}
+use Rattle.command_line.specs.Leads.{FailsBy, LeadsTo}
+use Rattle.command_line.specs.Lives.{AreActsOfSites, LeadByActs}
+use Rattle.command_line.specs.declared.command_lines.Batch.{Batch}
+use Rattle.command_line.specs.declared.command_lines.FileCommand.{FileCommand}
+use Rattle.command_line.specs.declared.command_lines.FileCommand.TheVariants.{Init, Capture, Start, Run, Report, Audit, Trace, Recalls, Recall as OneRecall, Items}
+use Rattle.command_line.specs.declared.lint_commands.LintFiles.{LintFiles}
+use Rattle.command_line.proofs.LivedAnswers.{after_asks, all_told, asks_behind, batch_failed, batch_taken, capture_failed, captured, has_run, refused_or, run_failed, site_told, start_failed, started}
+use Rattle.command_line.proofs.LivedCommands.{acted_unchanged, only_asked}
+
+-- ---- calls that close no site
+
+module _ {K : Type 0} where
+  IsNoClosing : FileCall K → Type 0
+  IsNoClosing (ClosedSite keeper) = ⊥
+  IsNoClosing (ReadFile path bytes) = ⊤
+  IsNoClosing (ReadLine path line) = ⊤
+  IsNoClosing (Failed path fault) = ⊤
+  IsNoClosing (LookedFor path found) = ⊤
+  IsNoClosing (MadeSite path r) = ⊤
+  IsNoClosing (OpenedSite path name keeper) = ⊤
+  IsNoClosing (WroteFile path bytes) = ⊤
+  IsNoClosing (Blamed path) = ⊤
+
+  abbrev CloseNone : List (FileCall K) → Type 0
+  CloseNone calls = AllByRecursion IsNoClosing calls
+
+  none_both : (xs ys : List (FileCall K)) → CloseNone xs → CloseNone ys → CloseNone (xs ++ ys)
+  none_both [] ys h k = k
+  none_both (x ∷ xs) ys h k = (h.0, none_both xs ys h.1 k)
+
+  none_closed : (calls : List (FileCall K)) (k : K) → CloseNone calls → Contains calls (ClosedSite k) → ⊥
+  unfolding IsNoClosing
+  none_closed [] k h c = contains_none (ClosedSite k) c
+  none_closed (x ∷ xs) k h c = ⊎_elim (λ (e : x ≡ ClosedSite k). subst IsNoClosing e h.0) (λ d. none_closed xs k h.1 d) (contains_cases x (ClosedSite k) xs c)
+
+looks_none : (K : Type 0) (folder : List ℕ) (sites : List Site) (site : ℕ) (found : List Bool) → CloseNone {K = K} (looks_from folder sites site found)
+unfolding IsNoClosing
+looks_none K folder sites site [] = tt
+looks_none K folder sites site (f ∷ found) = (tt, looks_none K folder sites (site + 1) found)
+
+makes_none : (K : Type 0) (folder : List ℕ) (sites : List Site) (site count : ℕ) → CloseNone {K = K} (makes_from folder sites site count)
+unfolding IsNoClosing
+makes_none K folder sites site zero = tt
+makes_none K folder sites site (suc count) = (tt, makes_none K folder sites (site + 1) count)
+
+module _ {K : Type 0} where
+  list_none : (folder : List ℕ) (before refused : List CommandRefusal) (calls : List (FileCall K)) → LooksForList folder before refused calls → CloseNone calls
+  unfolding IsNoClosing
+  list_none folder [] refused calls (found, are, is) = subst CloseNone (sym is) (tt, tt)
+  list_none folder (why ∷ whys) refused calls (are, is) = subst CloseNone (sym is) tt
+
+  where_none : (folder : List ℕ) (refused : List CommandRefusal) (sites : List Site) (text : List ℕ) (outcome : Outcome) (calls : List (FileCall K)) → MakesWhere folder refused sites text outcome calls → CloseNone calls
+  unfolding IsNoClosing
+  where_none folder [] sites text outcome calls (made, is) = subst CloseNone (sym is) (none_both (makes_from folder sites 0 (length sites)) (WroteFile (list_path folder) text ∷ []) (makes_none K folder sites 0 (length sites)) (tt, tt))
+  where_none folder (why ∷ whys) sites text outcome calls (refused, is) = subst CloseNone (sym is) tt
+
+  inits_none : (folder list : List ℕ) (output : Output) (calls : List (FileCall K)) → InitsAt folder list output calls → CloseNone calls
+  unfolding IsNoClosing
+  inits_none folder list output calls at =
+      let m = at.made in
+      let looked = none_both (looks_from folder at.listed.sites 0 m.found) m.looks (looks_none K folder at.listed.sites 0 m.found) (list_none folder _ m.refused m.looks m.last) in
+      let here = none_both (looks_from folder at.listed.sites 0 m.found ++ m.looks) m.makes looked (where_none folder m.refused at.listed.sites at.text output.outcome m.makes m.made) in
+      subst CloseNone (sym at.calls_are) (tt, subst CloseNone (sym m.calls_are) here)
+
+  some_none : (folder : List ℕ) (sites : List Site) (fault : Fault) (calls : List (FileCall K)) → MakesSome folder sites fault calls → CloseNone calls
+  unfolding IsNoClosing
+  some_none folder sites fault calls some =
+      subst CloseNone (sym some.calls_are) (none_both (makes_from folder sites 0 some.made) some.rest (makes_none K folder sites 0 some.made)
+      (⊎_elim (λ a. subst CloseNone (sym a.1) (tt, tt)) (λ b. ⊎_elim (λ a. subst CloseNone (sym a.1) (tt, tt)) (λ a. subst CloseNone (sym a.1) tt) b) some.came))
+
+  then_none : (folder list : List ℕ) (fault : Fault) (calls : List (FileCall K)) → ListMakesThen folder list fault calls → CloseNone calls
+  unfolding IsNoClosing
+  then_none folder list fault calls at =
+      let m = at.made in
+      let here = none_both (looks_from folder at.listed.sites 0 m.found) (LookedFor (list_path folder) false ∷ m.rest) (looks_none K folder at.listed.sites 0 m.found) (tt, some_none folder at.listed.sites fault m.rest m.made) in
+      subst CloseNone (sym at.calls_are) (tt, subst CloseNone (sym m.calls_are) here)
+
+module _ {K : Type 0} (shown : K → Option Record) (may : K → Record → Type 0) (opens : (k : K) → shown k ≡ None → (r : Record) × may k r) (stored : K → Type 0) where
+  none_acts : (calls : List (FileCall K)) → CloseNone calls → AreActsOfSites shown may calls
+  none_acts calls none sites old new many continued left =
+      acted_unchanged shown may opens stored [] sites old new many calls continued left (λ k site stood closed of at. absurd (none_closed calls k none closed))
+
+  asked_acts : (calls : List (FileCall K)) → OnlyAsks calls → AreActsOfSites shown may calls
+  asked_acts calls asks sites old new many continued left = only_asked shown may opens stored [] sites old new many calls continued left asks
+
+  module _ {G : Type 0} (knows : List ℕ → List ℕ → Type 0) (failed : K → ℕ) (reopens : K → Result K (Unopened K) → Type 0) (gives_up : G → ℕ → ℕ → Type 0) where
+    leads_acts : (command : FileCommand) (output : Output) (calls : List (FileCall K)) → LeadsTo knows shown failed may stored command output calls → AreActsOfSites shown may calls
+    leads_acts (Init f list) output calls leads = none_acts calls (inits_none f.now list.now output calls leads)
+    leads_acts (Capture f site file) output calls leads = λ sites old new many continued left. captured shown may opens stored f.now sites old new many calls continued left site.now file.now output leads
+    leads_acts (Start f site item false) output calls leads = λ sites old new many continued left. started shown may opens stored f.now sites old new many calls continued left _ site.now item output leads
+    leads_acts (Start f site item true) output calls leads =
+        asked_acts calls (asks_behind shown stored f.now _ _ (λ first its asks. after_asks shown stored f.now asks.0 (λ ss rest told. refused_or shown stored f.now told.1 (λ t. site_told shown stored f.now t.3))) output calls leads)
+    leads_acts (Run f turns) output calls leads = λ sites old new many continued left. has_run shown may opens stored f.now sites old new many calls continued left knows failed turns output leads
+    leads_acts (Report f recall ways events) output calls leads = asked_acts calls (after_asks shown stored f.now leads.0 (λ ss rest told. refused_or shown stored f.now told.1 (λ t. all_told shown stored f.now t.2)))
+    leads_acts (Audit f) output calls leads = asked_acts calls (after_asks shown stored f.now leads.0 (λ ss rest told. refused_or shown stored f.now told.1 (λ t. all_told shown stored f.now t.2)))
+    leads_acts (Trace f site item back ways events) output calls leads =
+        asked_acts calls (asks_behind shown stored f.now _ _ (λ first its asks. after_asks shown stored f.now asks.0 (λ ss rest told. refused_or shown stored f.now told.1 (λ t. all_told shown stored f.now t.2))) output calls leads)
+    leads_acts (Recalls f coded) output calls leads = asked_acts calls (after_asks shown stored f.now leads.0 (λ ss rest told. refused_or shown stored f.now told.1 (λ t. all_told shown stored f.now t.2)))
+    leads_acts (OneRecall f recall coded) output calls leads = asked_acts calls (after_asks shown stored f.now leads.0 (λ ss rest told. refused_or shown stored f.now told.1 (λ t. all_told shown stored f.now t.2)))
+    leads_acts (Items f site text) output calls leads = asked_acts calls (after_asks shown stored f.now leads.0 (λ ss rest told. refused_or shown stored f.now told.1 (λ t. site_told shown stored f.now t.3)))
+
+    fails_acts : (command : FileCommand) (fault : Fault) (calls : List (FileCall K)) → FailsBy shown failed may reopens gives_up stored command fault calls → AreActsOfSites shown may calls
+    fails_acts (Init f list) fault calls (inl vain) = asked_acts calls vain.harmless
+    fails_acts (Init f list) fault calls (inr made) = none_acts calls (then_none f.now list.now fault calls made)
+    fails_acts (Capture f site file) fault calls fails = λ sites old new many continued left. capture_failed shown may opens stored f.now sites old new many calls continued left failed site.now file.now fault fails
+    fails_acts (Start f site item false) fault calls fails = λ sites old new many continued left. start_failed shown may opens stored f.now sites old new many calls continued left failed site.now item fault fails
+    fails_acts (Start f site item true) fault calls fails = asked_acts calls fails.harmless
+    fails_acts (Run f turns) fault calls fails = λ sites old new many continued left. run_failed shown may opens stored f.now sites old new many calls continued left failed reopens gives_up turns fault fails
+    fails_acts (Report f recall ways events) fault calls fails = asked_acts calls fails.harmless
+    fails_acts (Audit f) fault calls fails = asked_acts calls fails.harmless
+    fails_acts (Trace f site item back ways events) fault calls fails = asked_acts calls fails.harmless
+    fails_acts (Recalls f coded) fault calls fails = asked_acts calls fails.harmless
+    fails_acts (OneRecall f recall coded) fault calls fails = asked_acts calls fails.harmless
+    fails_acts (Items f site text) fault calls fails = asked_acts calls fails.harmless
+
+  -- documents that are looked through
+  lints_ask : {S : Type 0} (takes : S → List ℕ → Lint → S → Type 0) (list : List ℕ) (site : Option (List ℕ)) (paths : List (List ℕ)) (heard hears : S) (output : LintOutput) (calls : List (FileCall K)) → Lints takes list site paths heard hears output calls → OnlyAsks calls
+  lints_ask takes list site paths heard hears output calls at =
+      subst (λ (cs : List (FileCall K)). OnlyAsks cs) (sym at.calls_are) (asks_first (ReadFile list at.text) at.rest tt (rest_asks at.whys at.done))
+    where
+      rest_asks : (whys : List CommandRefusal) → LintsWhere takes at.listed (here_of at.listed.sites site) whys paths heard hears output.came at.rest → OnlyAsks at.rest
+      rest_asks [] all = each_asks takes at.listed.sites (here_of at.listed.sites site) paths _ all.last at.rest all.each
+      rest_asks (why ∷ whys) (refused, same, none) = subst (λ (cs : List (FileCall K)). OnlyAsks cs) (sym none) none_asks
+
+module _ {F K G W : Type 0} (does : F → FileCall K → F → Type 0) (waits : F → ℕ → F → Type 0) (knows : F → List ℕ → List ℕ → Type 0) (shown : K → Option Record) (failed : K → ℕ) (may : K → Record → Type 0) (reopens : K → Result K (Unopened K) → Type 0) (gives_up : G → ℕ → ℕ → Type 0) (stored : K → Type 0) (contents : W → Option (List ℕ))
+    (opens : (k : K) → shown k ≡ None → (r : Record) × may k r) where
+  pub unasked : (old new : F) → new ≡ old → LeadByActs shown may does old new
+  unasked old new same = (old, record { calls = []; are = none_acts shown may opens stored [] tt; led = same })
+
+  files_acts : (command : FileCommand) (mid new : F) (came : Result Output Fault) → IfOk came (λ output. Led does mid new (LeadsTo (knows new) shown failed may stored command output)) → IfErr came (λ fault. Led does mid new (FailsBy shown failed may reopens gives_up stored command fault))
+      → Led does mid new (AreActsOfSites shown may)
+  files_acts command mid new (Ok output) led broke = led_so does mid new (λ calls leads. leads_acts shown may opens stored (knows new) failed reopens gives_up command output calls leads) led
+  files_acts command mid new (Err fault) led broke = led_so does mid new (λ calls fails. fails_acts shown may opens stored (knows new) failed reopens gives_up command fault calls fails) broke
+
+  batch_acts : (batch : Batch) (mid new : F) (before lines : W) (came : Result BatchOutput Fault) → TakesBatch does shown may stored contents batch mid new before lines came → Led does mid new (AreActsOfSites shown may)
+  batch_acts batch mid new before lines (Ok output) taken =
+      led_so does mid new (λ calls t sites old now many continued left. batch_taken shown may opens stored batch.folder.now sites old now many calls continued left _ batch.site.now batch.kind (words_of batch) before lines output t) taken
+  batch_acts batch mid new before lines (Err fault) taken =
+      led_so does mid new (λ calls t sites old now many continued left. batch_failed shown may opens stored batch.folder.now sites old now many calls continued left _ batch.site.now batch.kind (words_of batch) before lines fault t) taken
+
+  lint_acts : (files : LintFiles) (old new : F) (before lines : W) (came : Result LintOutput Fault) → LintsFiles does contents files old new before lines came → Led does old new (AreActsOfSites shown may)
+  lint_acts files old new before lines (Ok output) looked = led_so does old new (λ calls l. asked_acts shown may opens stored calls (lints_ask shown may opens stored _ _ _ _ before lines output calls l)) looked
+  lint_acts files old new before lines (Err fault) looked = led_so does old new (λ calls l. asked_acts shown may opens stored calls l.harmless) looked
+
+  -- however a command line ends
+  pub ends_acts : (words : List (String Global)) (old new : F) (before after : Streams W) (status : ℕ) → Ends does waits knows shown failed may reopens gives_up stored contents words old new before after status → LeadByActs shown may does old new
+  ends_acts words old new before after status (inl runs) = unasked old new runs.2
+  ends_acts words old new before after status (inr (inl d)) = (d.mid, files_acts d.command d.mid new d.came d.led d.broke)
+  ends_acts words old new before after status (inr (inr (inl (inl d)))) = (d.ends.mid, batch_acts d.batch d.ends.mid new before.output d.ends.lines d.ends.came d.ends.taken)
+  ends_acts words old new before after status (inr (inr (inl (inr d)))) = (old, lint_acts d.files old new before.output d.ends.lines d.ends.came d.ends.looked)
+  ends_acts words old new before after status (inr (inr (inr (inl helps)))) = unasked old new helps.1
+  ends_acts words old new before after status (inr (inr (inr (inr (inl bad))))) = unasked old new bad.1
+  ends_acts words old new before after status (inr (inr (inr (inr (inr lacks))))) = unasked old new lacks.0
