@@ -3,7 +3,8 @@
 # limits, and programs at once; and random scripts and folders beside a second program, tests/hostile/model.py, which was written
 # from the documents alone. A line a case, the counts at the end; a difference is made smaller before it is told.
 #
-#     tests/hostile.sh                     the whole, an hour or more
+#     tests/hostile.sh                     the whole, of which each case is run: several hours
+#     tests/hostile.sh --thin 8            an eighth of the long parts
 #     tests/hostile.sh --minute            a minute of it, which .ci/run runs
 #     tests/hostile.sh --only PART..       parts of it: tests/hostile/campaign.py lists them
 #
