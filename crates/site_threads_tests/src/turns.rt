@@ -8,7 +8,7 @@ ghost use Rattle.site_threads.specs.Running.{marks_in};
 ghost use Rattle.site_threads.specs.Starting.{IsLastMarked};
 ghost use Rattle.site_threads.specs.Ends.{IsDesk, IsOut};
 
-use crate::turns::fixtures::{both_ways, capture, fresh, start};
+use crate::turns::fixtures::{begun, both_ways, capture, fresh, start};
 use keeper_core::{MemoryKeeper, SiteKeeper};
 use site_core::SiteState;
 use site_recovery::{are_all_sites, check_world};
@@ -179,6 +179,34 @@ fn take_rounds<K: SiteKeeper, G: Gate>(
     quiet && begun && signalled && next && seen == 2 && again && ended && has_ended(one.view())
 }
 
+/// Whether the site has captured the document and started the recall, and nothing came of that: its message waits.
+fn is_begun(state: Option<&SiteState>) -> bool {
+    let Some(state) = state else {
+        return false;
+    };
+    let (events, waiting) = (state.captured().len(), state.outbox().len());
+    let (next_message, next_recall) = (state.next_message(), state.next_recall());
+    let untouched = state.seen().is_empty() && state.parents().is_empty();
+    let numbered = next_message == 2 && next_recall == 2;
+    events == 2 && waiting == 1 && numbered && untouched && !has_ended(Some(state))
+}
+
+/// Five turns of a site without a job, whose neighbour makes none. Whether its message is posted in the first, and no
+/// frame in another one, since the first still lies there; and whether the site makes no step.
+fn stands_beside<K: SiteKeeper, G: Gate>(one: RunningSite<'_, K, G>) -> bool
+    requires { marks_in one.seat.logs ≡ 0 }
+{
+    let mut one = one;
+    let first = turn_once(&mut one, None).posted == 1;
+    let second = turn_once(&mut one, None).posted == 0;
+    let third = turn_once(&mut one, None).posted == 0;
+    let fourth = turn_once(&mut one, None).posted == 0;
+    let fifth = turn_once(&mut one, None).posted == 0;
+    let (keeper, _, list) = one.finish();
+    let posts = first && second && third && fourth && fifth;
+    posts && list.turns == 5 && list.entries.is_empty() && is_begun(keeper.view())
+}
+
 /// Makes the turns over a wire of their own.
 fn by_turns(alloc: Global, first: SiteState, second: SiteState) -> Result<bool, Fail> {
     let b = second.me();
@@ -197,6 +225,24 @@ fn by_rounds(alloc: Global, first: SiteState, second: SiteState) -> Result<bool,
     let one = begin(alloc, &wire, mine, first)?;
     let two = begin(alloc, &wire, theirs, second)?;
     Ok(take_rounds(alloc, one, two))
+}
+
+/// Likewise, of the first site alone. The second one's seat is held.
+fn by_one(alloc: Global, first: SiteState, second: SiteState) -> Result<bool, Fail> {
+    let b = second.me();
+    let (wire, seat) = between(alloc, &first, &second)?;
+    let (mine, _theirs) = wire.split(seat, b);
+    let one = begin(alloc, &wire, mine, first)?;
+    Ok(stands_beside(one))
+}
+
+#[test]
+fn a_frame_that_nobody_takes_is_posted_once(rt: HostRuntime) -> Result<(), Fail> {
+    let keys = RandomState::new(&rt)?;
+    let first = begun(rt.alloc(), keys)?;
+    let second = fresh(rt.alloc(), keys, true)?;
+    assert!(rt; by_one(rt.alloc(), first, second)?);
+    Ok(())
 }
 
 #[test]

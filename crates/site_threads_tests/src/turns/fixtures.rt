@@ -2,7 +2,7 @@
 
 use epc_core::Epc;
 use event_json::{Sequence, Sites};
-use site_core::SiteState;
+use site_core::{SiteInput, SiteState};
 use site_threads::Job;
 use std::alloc::Global;
 use std::hash::RandomState;
@@ -26,6 +26,15 @@ pub fn fresh(alloc: Global, keys: RandomState, second: bool) -> Result<SiteState
     let a = sites.add("A", &["a"])?;
     let b = sites.add("B", &["b"])?;
     Ok(SiteState::new(alloc, keys, sites, if second { b } else { a }))
+}
+
+/// Site A, which has captured the document and started a recall of x. Its message to B waits.
+pub fn begun(alloc: Global, keys: RandomState) -> Result<SiteState, Fail> {
+    let mut state = fresh(alloc, keys, false)?;
+    let bytes = DOCUMENT.as_bytes().to_vec(alloc)?;
+    state.apply(&SiteInput::Capture(Sequence::from_vec(bytes)))?;
+    state.apply(&SiteInput::Start(Epc::read(alloc, "x")?))?;
+    Ok(state)
 }
 
 /// To capture the document. `None` where there is no memory for it.
