@@ -3,6 +3,7 @@
 ghost use Rattle.std.specs.Prelude.{IfOk};
 ghost use Rattle.site_store.specs.Leavings.{KeepsOwn};
 ghost use Rattle.site_store.specs.Opened.{IsFound};
+ghost use Rattle.recall_cli.specs.HostCalls.{WasOpened};
 
 use crate::causes::{Trouble, failure_of};
 use crate::line_files::LineFile;
@@ -217,7 +218,8 @@ impl<'a> HostFiles<'a> {
 
     /// Opens the file of a site of this name, on which a crash leaves the record that is shown.
     fn open(&self, alloc: Global, path: &str, name: &str) -> Result<FileSite, Trouble>
-        ensures { IfOk result (λ site. KeepsOwn site) }
+        ensures own { IfOk result (λ site. KeepsOwn site) }
+        ensures opened { IfOk result (λ site. WasOpened name.now site) }
     {
         // Connecting would make a file.
         if !self.finds(path)? {
@@ -233,7 +235,8 @@ impl<'a> HostFiles<'a> {
 
     /// Opens the file of a site of this name, and keeps its path.
     fn keep_open(&mut self, alloc: Global, path: &str, name: &str) -> Result<FileSite, Trouble>
-        ensures { IfOk result (λ site. KeepsOwn site) }
+        ensures own { IfOk result (λ site. KeepsOwn site) }
+        ensures opened { IfOk result (λ site. WasOpened name.now site) }
     {
         let Ok(kept) = String::from_str(alloc, path) else {
             return Err(Trouble::bare(Fault::NoMemory));
@@ -253,9 +256,10 @@ impl<'a> HostFiles<'a> {
 
 impl Files<FileSite> for HostFiles<'_> {
     ghost use Rattle.std.specs.Prelude.{⊤};
+    ghost use Rattle.recall_cli.specs.HostCalls.{Knows};
 
     // What stands behind a path no contract can say.
-    ghost does = { λ _ _ _. ⊤ };
+    ghost does = { λ _ call _. Knows call };
 
     ghost knows = { λ _ _ _. ⊤ };
 
