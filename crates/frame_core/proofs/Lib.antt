@@ -8,6 +8,7 @@ pub mod Lookups
 pub mod Maps
 pub mod Noting
 pub mod Numbering
+pub mod Placing
 pub mod Sameness
 pub mod Sums
 pub mod Undoing

@@ -4,6 +4,7 @@ pub mod Messages
 pub mod Numbers
 pub mod Orders
 pub mod Outboxes
+pub mod Places
 pub mod Rows
 pub mod Counts
 pub mod Tables

@@ -1,13 +1,15 @@
-//! Rows by number, with each recall's count of them beside, so that a deficit is looked up.
+//! Rows by number, with each recall's count of them and the place of each beside, so that a deficit and the next row
+//! for a site are looked up.
 ghost use Rattle.std.specs.Prelude.{◌≡◌, ◌⊎◌, ◌+◌, ◌-◌, ◌<◌, ◌≤◌, ◌^◌, ◌↔◌, length, option_map, IfOk, OnOk, OnErr, IfSome, IsSome, IsTrue, None};
 ghost use Rattle.std.specs.Ordering.{nat_cmp};
 ghost use Rattle.std.specs.FinMap as finite;
 ghost use Rattle.frame_core.specs.Counts.{count_in, KeepsCounts, IsRaised, IsLowered, CanUndo, undone, without_rows};
 ghost use Rattle.frame_core.specs.Identifiers.{recall_cmp};
-ghost use Rattle.frame_core.specs.Outboxes.{rows_of, row_for, numbered};
+ghost use Rattle.frame_core.specs.Outboxes.{rows_of, row_for, numbered, IsNextTo};
 ghost use Rattle.frame_core.specs.Tables.{as_map, set_back, AreBelow};
 
 use crate::identifiers::RecallId;
+use crate::places::{Place, Places};
 use crate::rows::Row;
 use crate::tables;
 use epc_core::Epc;
@@ -16,19 +18,21 @@ use std::alloc::{AllocError, Global};
 use std::collections::BTreeMap;
 use std::marker::Model;
 
-/// Rows by number, and how many rows each recall has.
+/// Rows by number, how many rows each recall has, and which numbers are for which destination.
 ///
 /// A recall that ever had a row keeps its count, 0 too, so that to put a row back does not allocate.
 #[derive(Debug, Drop)]
 pub(crate) struct CountedRows {
     rows: BTreeMap<u64, Row>,
     counts: BTreeMap<RecallId, u64>,
+    places: Places,
 }
 
 impl Model for CountedRows {
     ghost use Rattle.std.specs.Ordering.{nat_cmp};
     ghost use Rattle.frame_core.specs.Counts.{Counted, coded_counted, AreCounted};
     ghost use Rattle.frame_core.specs.Identifiers.{recall_cmp};
+    ghost use Rattle.frame_core.specs.Places.{AreListedIn};
     ghost use Rattle.frame_core.specs.Tables.{as_map};
 
     ghost Value = { Counted };
@@ -40,7 +44,8 @@ impl Model for CountedRows {
       counts = as_map recall_cmp c.counts;
     } };
 
-    ghost invariant = { λ c. AreCounted (as_map nat_cmp c.rows) (as_map recall_cmp c.counts) };
+    ghost invariant = { λ c. AreCounted (as_map nat_cmp c.rows) (as_map recall_cmp c.counts)
+        × AreListedIn (as_map nat_cmp c.rows) c.places };
 }
 
 impl CountedRows {
@@ -51,6 +56,7 @@ impl CountedRows {
         CountedRows {
             rows: BTreeMap::new(alloc),
             counts: BTreeMap::new(alloc),
+            places: Places::new(alloc),
         }
     }
 
@@ -62,7 +68,12 @@ impl CountedRows {
         for (_, row) in &rows {
             raise(&mut counts, row.recall)?;
         }
-        Ok(CountedRows { rows, counts })
+        let places = Places::of(alloc, &rows);
+        Ok(CountedRows {
+            rows,
+            counts,
+            places,
+        })
     }
 
     /// Puts a row under a number, and returns the one that stood there. Only a number without a row or a
@@ -79,6 +90,7 @@ impl CountedRows {
             IfSome old (λ before. IsSome (finite.get self.new.counts before.recall))) }
     {
         let recall = row.recall;
+        let dest = row.dest;
         // The length bounds the counts.
         let _length = self.rows.len();
         raise(&mut self.counts, recall)?;
@@ -91,7 +103,12 @@ impl CountedRows {
         };
         if let Some(old) = &before {
             lower(&mut self.counts, old.recall);
+            self.places.unlist(Place {
+                dest: old.dest,
+                number,
+            });
         }
+        self.places.list(Place { dest, number });
         Ok(before)
     }
 
@@ -104,6 +121,10 @@ impl CountedRows {
         let before = tables::take(&mut self.rows, number);
         if let Some(row) = &before {
             lower(&mut self.counts, row.recall);
+            self.places.unlist(Place {
+                dest: row.dest,
+                number,
+            });
         }
         before
     }
@@ -217,6 +238,13 @@ impl CountedRows {
         ensures { option_map (λ row. row.now) result ≡ finite.get self.now.rows number }
     {
         tables::get(&self.rows, number)
+    }
+
+    /// The number of the first row for a destination, from a number on. Does not allocate.
+    pub(crate) fn first_to(&self, dest: SiteNo, from: u64) -> Option<u64>
+        ensures { IsNextTo self.now.rows dest from result }
+    {
+        self.places.first(&self.rows, dest, from)
     }
 
     /// The rows by number.

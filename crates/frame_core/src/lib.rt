@@ -10,6 +10,7 @@ mod frames;
 mod identifiers;
 pub mod laws;
 mod outboxes;
+mod places;
 mod rows;
 mod seen_messages;
 pub mod tables;

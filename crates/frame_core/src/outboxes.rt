@@ -5,7 +5,7 @@ ghost use Rattle.std.specs.FinMap as map;
 ghost use Rattle.frame_core.specs.Numbers.{Recall};
 ghost use Rattle.frame_core.specs.Rows.{row_of};
 ghost use Rattle.frame_core.specs.declared.rows.Row.{Row as Told};
-ghost use Rattle.frame_core.specs.Outboxes.{numbered, rows_of, has_rows};
+ghost use Rattle.frame_core.specs.Outboxes.{numbered, rows_of, has_rows, IsNextTo};
 ghost use Rattle.frame_core.specs.Tables.{as_map, AreBelow};
 ghost use Rattle.frame_core.specs.Unsignalled.{IsNextNumber};
 
@@ -169,6 +169,13 @@ impl Outbox {
             Some(row) => Some(row.view()),
             None => None,
         }
+    }
+
+    /// The number of the first row for a destination, from a number on, looked up. Does not allocate.
+    pub fn first_to(&self, dest: SiteNo, from: u64) -> Option<u64>
+        ensures { IsNextTo self.now.rows dest from result }
+    {
+        self.rows.first_to(dest, from)
     }
 
     /// Removes the row of a number, and returns whether it was there. Does not allocate.

@@ -4,7 +4,7 @@ ghost use Rattle.std.specs.Ordering.{nat_cmp};
 ghost use Rattle.std.specs.FinMap as map;
 ghost use Rattle.frame_core.specs.Identifiers.{recall_cmp, message_cmp};
 ghost use Rattle.frame_core.specs.Numbers.{Recall};
-ghost use Rattle.frame_core.specs.Outboxes.{numbered, rows_of, has_rows};
+ghost use Rattle.frame_core.specs.Outboxes.{numbered, rows_of, has_rows, IsNextTo};
 ghost use Rattle.frame_core.specs.Rows.{row_of};
 ghost use Rattle.frame_core.specs.Tables.{as_map};
 ghost use Rattle.frame_core.specs.Unsignalled.{IsNextNumber};
@@ -418,6 +418,13 @@ impl Diffusion {
         ensures { option_map row_of result ≡ map.get self.now.outbox number }
     {
         self.outbox.row(number)
+    }
+
+    /// The number of the first message for a site that it has not signalled, from a number on. Does not allocate.
+    pub fn first_to(&self, dest: SiteNo, from: u64) -> Option<u64>
+        ensures { IsNextTo self.now.outbox dest from result }
+    {
+        self.outbox.first_to(dest, from)
     }
 
     /// The messages seen, each with the recall that it was seen under.

@@ -3,6 +3,7 @@ ghost use Rattle.std.specs.Prelude.{◌≡◌, ◌<◌, length, option_map, IfOk
 ghost use Rattle.std.specs.Ordering.{nat_cmp};
 ghost use Rattle.std.specs.FinMap as map;
 ghost use Rattle.frame_core.specs.Identifiers.{recall_cmp, message_cmp};
+ghost use Rattle.frame_core.specs.Outboxes.{IsNextTo};
 ghost use Rattle.frame_core.specs.Rows.{row_of};
 ghost use Rattle.frame_core.specs.Tables.{as_map};
 ghost use Rattle.frame_core.specs.Unsignalled.{IsNextNumber};
@@ -168,6 +169,13 @@ impl SiteState {
         ensures { option_map row_of result ≡ map.get self.now.engagement.outbox number }
     {
         self.diffusion.row(number)
+    }
+
+    /// The number of the first message for a site that it has not signalled, from a number on. Does not allocate.
+    pub fn first_to(&self, dest: SiteNo, from: u64) -> Option<u64>
+        ensures { IsNextTo self.now.engagement.outbox dest from result }
+    {
+        self.diffusion.first_to(dest, from)
     }
 
     /// The recall that a message was seen under.
