@@ -96,7 +96,7 @@ module _ (s : SiteEvents) (q : Quarantine) (e : Content) (i : List ℕ) (r : Rec
     told_blocks_not none = blocks_not targets exact (sym as_told ∙ none)
 
 -- Where the event leads an item to its own outputs alone.
-gives_made : (q : Quarantine) (b : Body) (r : Recall) (j : List ℕ) → holds_outputs q b r ≡ true → GivesOut j b → IsTrue (held q r j)
+pub gives_made : (q : Quarantine) (b : Body) (r : Recall) (j : List ℕ) → holds_outputs q b r ≡ true → GivesOut j b → IsTrue (held q r j)
 gives_made q (Note items) r j all gives = absurd gives
 gives_made q (Pack action parent children) r j all gives = absurd gives
 gives_made q (Ship items sites outside) r j all gives = absurd gives
@@ -141,7 +141,7 @@ stays_inside s q e b i found recalls is making joins cover all r there blocked =
 outs_decide : (events : List Content) (j : List ℕ) (b : Body) → Decides (outs_of events j b) (GivesOut j b ⊎ Any (λ f. HaveOneId (make_id b) (make_id f.body) × GivesOut j f.body) events)
 outs_decide events j b = Decides-or _ _ (gives_decides j b) (any_decides _ _ (λ f. Decides-and _ _ (same_id_decides (make_id b) (make_id f.body)) (gives_decides j f.body)) events)
 
-outputs_of_parts : (s : SiteEvents) (e : Content) (i : List ℕ) → IsMaking e.body → (p : Pair) → IsNewTarget s e i p → (p.site ≡ s.me) × (outs_of s.events p.item e.body ≡ true)
+pub outputs_of_parts : (s : SiteEvents) (e : Content) (i : List ℕ) → IsMaking e.body → (p : Pair) → IsNewTarget s e i p → (p.site ≡ s.me) × (outs_of s.events p.item e.body ≡ true)
 outputs_of_parts s e i making p (related, new) = ⊎_elim
     (λ before. absurd (new before))
     (λ added. ⊎_elim

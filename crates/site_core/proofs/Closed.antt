@@ -35,7 +35,7 @@ use Rattle.site_core.proofs.HeldLaws.{held_several}
 use Rattle.site_core.proofs.Newly.{newly, kept_new}
 use Rattle.site_core.proofs.Transformations.{gives_held, goes_into_later}
 
-held_or_not : (q : Quarantine) (r : Recall) (i : List ℕ) → IsTrue (held q r i) ⊎ (IsTrue (held q r i) → ⊥)
+pub held_or_not : (q : Quarantine) (r : Recall) (i : List ℕ) → IsTrue (held q r i) ⊎ (IsTrue (held q r i) → ⊥)
 held_or_not q r i = elim (held q r i) as (λ b. (b ≡ true) ⊎ (b ≡ true → ⊥)) [
   | true ↦ inl refl
   | false ↦ inr (λ h. false≢true h)

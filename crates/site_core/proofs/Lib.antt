@@ -22,6 +22,7 @@ pub mod Holders
 pub mod InputOutcomes
 pub mod ItemOrder
 pub mod ItemSets
+pub mod JoinedParts
 pub mod NamedFrames
 pub mod Newly
 pub mod OneAfterAnother

@@ -11,7 +11,6 @@ use Rattle.std.proofs.lemmas.Cmp.{nat_list_cmp_total}
 use Rattle.std.proofs.lemmas.List.{take_all}
 use Rattle.std.proofs.lemmas.List.Elements.{Contains-append_left}
 use Rattle.std.proofs.lemmas.Map.Lookups.{exact_bytes}
-use Rattle.std.proofs.lemmas.Map.Views.{btree_set_contains_iff}
 use Rattle.std.proofs.lemmas.Option.{slice_get-get_or}
 use Rattle.event_json.specs.Events.{Content}
 use Rattle.event_json.specs.declared.bodies.Body.{Body}
@@ -32,7 +31,8 @@ use Rattle.trace_core.proofs.SetMembers.{found-insert, contains_more}
 use Rattle.site_core.specs.HeldIndex.{Index, IsIndex}
 use Rattle.site_core.specs.Quarantines.{Quarantine, held, item_cmp}
 use Rattle.site_core.specs.Blocks.{IsMaking}
-use Rattle.site_core.specs.Sources.{FindsAlso, FindsInputsAt, FindsParts, FindsIfInput, FindsHeldInputs, FindsJoined, FindsGiving, has_outputs}
+use Rattle.site_core.specs.Joined.{JoinedAreCovered}
+use Rattle.site_core.specs.Sources.{FindsAlso, FindsInputsAt, FindsParts, FindsIfInput, FindsHeldInputs, FindsJoined, FindsUncovered, FindsGiving, has_outputs}
 use Rattle.site_core.proofs.HeldIndex.{held_entry}
 
 pub taken_in : (i : List ℕ) (b : Body) → TakesIn i b → Contains (ins_in b) i
@@ -174,11 +174,17 @@ gives_some (Make id ins (k ∷ ks)) j h = ⊎_elim
     (cases_Bool (length (k ∷ ks) == 0))
 
 module _ (events : List Content) (q : Quarantine) (b : Body) (old new : BTreeSet (List ℕ)) where
-  pub giving_joined : FindsJoined events q b old new → FindsGiving events q b old new
-  giving_joined joined = record { stay = joined.stay; all = λ id i j r named gives h takes. joined.all id i r named h takes }
+  pub uncovered_joined : FindsJoined events q b old new → FindsUncovered events q b old new
+  uncovered_joined joined = record { stay = joined.stay; all = λ id i r named h takes free. joined.all id i r named h takes }
+
+  pub giving_joined : FindsUncovered events q b old new → FindsGiving events q b old new
+  giving_joined joined = record { stay = joined.stay; all = λ id i j r named gives h takes free. joined.all id i r named h takes free }
 
   pub giving_nothing : has_outputs b ≡ false → FindsGiving events q b old old
-  giving_nothing none = record { stay = λ i h. h; all = λ id i j r named gives h takes. absurd (false≢true (sym none ∙ gives_some b j gives)) }
+  giving_nothing none = record { stay = λ i h. h; all = λ id i j r named gives h takes free. absurd (false≢true (sym none ∙ gives_some b j gives)) }
+
+pub covered_uncovered : (s : SiteEvents) (q : Quarantine) (b : Body) (old : BTreeSet (List ℕ)) → JoinedAreCovered s q b → FindsUncovered s.events q b old old
+covered_uncovered s q b old covered = record { stay = λ i h. h; all = λ id i r named h takes free. absurd (free (covered id i r named h takes)) }
 
 -- a part takes the item in, another gives out the pair's item
 module _ (s : SiteEvents) (id i : List ℕ) (q : Pair) where
@@ -199,13 +205,3 @@ new_pair_source s e i q making (related, new) = ⊎_elim
     inr (id, second, (k, f, lt, at, (first, takes)), gives))
     added)
     (related_with s e i q related)
-
--- the list has each quarantined source of a new pair
-pub sources_listed : (s : SiteEvents) (q : Quarantine) (e : Content) (b b' : Body) (first own all : BTreeSet (List ℕ)) (items : List (List ℕ)) → b ≡ e.body → b' ≡ e.body → FindsAlso first own (ins_in b)
-    → FindsGiving s.events q b' own all → items ≡ all.keys → (i : List ℕ) (r : Recall) (p : Pair) → IsMaking e.body → IsTrue (held q r i) → IsNewTarget s e i p → Contains items i
-sources_listed s q e b b' first own all items is is' also joined keys i r p making h new =
-    let found : IsFound item_cmp all i = ⊎_elim
-    (λ takes. joined.stay i (also.all i (subst (λ c. Contains (ins_in c) i) (sym is) takes)))
-    (λ (id, named, takes, gives). joined.all id i p.item r (ap make_id is' ∙ named) (subst (λ (c : Body). GivesOut p.item c) (sym is') gives) h takes)
-    (new_pair_source s e i p making new) in
-    subst (λ xs. Contains xs i) (sym keys) ((btree_set_contains_iff nat_list_cmp_total exact_bytes all i).0 found)

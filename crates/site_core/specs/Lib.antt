@@ -6,6 +6,7 @@ pub mod Emitting
 pub mod HeldIndex
 pub mod Holding
 pub mod ItemSets
+pub mod Joined
 pub mod Laws
 pub mod Looks
 pub mod Naming

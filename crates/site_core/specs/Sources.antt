@@ -1,5 +1,5 @@
 -- Where a pair that one more event adds can begin.
-use Rattle.std.specs.Prelude.{◌≡◌, ◌==◌, ℕ, Bool, false, not, length, List, [], Option, Some, None, Contains, IsTrue}
+use Rattle.std.specs.Prelude.{◌≡◌, ◌==◌, ℕ, Bool, true, false, not, length, List, [], Option, Some, None, Contains, IsTrue}
 use Rattle.std.specs.BTreeSet.{BTreeSet}
 use Rattle.event_json.specs.Events.{Content}
 use Rattle.event_json.specs.declared.bodies.Body.{Body}
@@ -9,6 +9,7 @@ use Rattle.trace_core.specs.Pairs.{GivesOut, HaveOneId, make_id}
 use Rattle.trace_core.specs.Parts.{TakesInAsPart}
 use Rattle.trace_core.specs.Searches.{IsFound}
 use Rattle.trace_core.specs.Spreads.{ins_in}
+use Rattle.site_core.specs.Blocks.{holds_outputs}
 use Rattle.site_core.specs.Quarantines.{Quarantine, held, item_cmp}
 
 -- what was found is found, and so are these
@@ -48,7 +49,12 @@ has_outputs (Ship items sites outside) = false
 has_outputs (Make id ins outs) = not (length outs == 0)
 has_outputs (Pack action parent children) = false
 
--- what was found is found, and so are the quarantined inputs of the body's transformation, if the body gives something out
+-- what was found is found, and so are the quarantined inputs of the body's transformation, but for those under recalls that hold all outputs of the body
+pub record FindsUncovered (events : List Content) (q : Quarantine) (b : Body) (old new : BTreeSet (List ℕ)) : Type 0 where
+  pub stay : (i : List ℕ) → IsFound item_cmp old i → IsFound item_cmp new i
+  pub all : (id i : List ℕ) (r : Recall) → make_id b ≡ Some id → IsTrue (held q r i) → TakesInAsPart events id i → (holds_outputs q b r ≡ true → ⊥) → IsFound item_cmp new i
+
+-- the same, if the body gives something out
 pub record FindsGiving (events : List Content) (q : Quarantine) (b : Body) (old new : BTreeSet (List ℕ)) : Type 0 where
   pub stay : (i : List ℕ) → IsFound item_cmp old i → IsFound item_cmp new i
-  pub all : (id i j : List ℕ) (r : Recall) → make_id b ≡ Some id → GivesOut j b → IsTrue (held q r i) → TakesInAsPart events id i → IsFound item_cmp new i
+  pub all : (id i j : List ℕ) (r : Recall) → make_id b ≡ Some id → GivesOut j b → IsTrue (held q r i) → TakesInAsPart events id i → (holds_outputs q b r ≡ true → ⊥) → IsFound item_cmp new i

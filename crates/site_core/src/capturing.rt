@@ -1,7 +1,8 @@
 //! What capturing events makes of a site with a quarantine, and when an event is refused.
-ghost use Rattle.std.specs.Prelude.{◌≡◌, ◌↔◌, length, take, IfOk, IfErr, OnErr, IsTrue};
+ghost use Rattle.std.specs.Prelude.{◌≡◌, ◌↔◌, true, length, take, IfOk, IfErr, OnErr, IsTrue};
 ghost use Rattle.site_core.specs.Capturing.{IsCaptured, TellsRefusal};
 ghost use Rattle.site_core.specs.Blocks.{IsMaking, Passes, Refuses};
+ghost use Rattle.site_core.specs.Shortcuts.{IsClosedInside};
 ghost use Rattle.trace_core.specs.Adding.{standing_among, with_fresh};
 ghost use Rattle.trace_core.specs.declared.adding.Standing.TheVariants.{Fresh};
 
@@ -58,8 +59,28 @@ pub fn capture_all(
     ensures unchanged { OnErr result (captured.new ≡ captured.old) }
     ensures same_site { captured.new.me ≡ captured.old.me }
 {
+    capture_knowing(alloc, captured, quarantine, false, given)
+}
+
+/// The same, where it may be known that what is quarantined is closed inside the site: what is made there of a
+/// quarantined item is quarantined under the same recall.
+pub(crate) fn capture_knowing(
+    alloc: Global,
+    captured: &mut Captured,
+    quarantine: &Quarantine,
+    closed: bool,
+    given: Vec<Event>,
+) -> Result<Added, CaptureFault>
+    requires closed { closed ≡ true → IsClosedInside captured.old quarantine.now }
+    ensures ok { IfOk result (λ added. IsCaptured captured.old quarantine.now given.items
+        (record { events = captured.new.events; fresh = added.fresh; known = added.known })) }
+    ensures fault { IfErr result (λ fault.
+        TellsRefusal captured.old quarantine.now given.items fault) }
+    ensures unchanged { OnErr result (captured.new ≡ captured.old) }
+    ensures same_site { captured.new.me ≡ captured.old.me }
+{
     let before = captured.len();
-    match capture_each(alloc, captured, quarantine, given) {
+    match capture_each(alloc, captured, quarantine, closed, given) {
         Ok(added) => Ok(added),
         Err(fault) => {
             captured.truncate(before);
@@ -73,8 +94,10 @@ fn capture_each(
     alloc: Global,
     captured: &mut Captured,
     quarantine: &Quarantine,
+    closed: bool,
     given: Vec<Event>,
 ) -> Result<Added, CaptureFault>
+    requires closed { closed ≡ true → IsClosedInside captured.old quarantine.now }
     ensures front { take (length captured.old.events) captured.new.events ≡ captured.old.events }
     ensures same_site { captured.new.me ≡ captured.old.me }
     ensures ok { IfOk result (λ added. IsCaptured captured.old quarantine.now given.items
@@ -85,7 +108,7 @@ fn capture_each(
     let mut added = Added { fresh: 0, known: 0 };
     for event in given {
         let number = added.fresh + added.known + 1;
-        match capture_event(alloc, captured, quarantine, event, number)? {
+        match capture_event(alloc, captured, quarantine, closed, event, number)? {
             Standing::Fresh => added.fresh += 1,
             _ => added.known += 1,
         }
@@ -98,9 +121,11 @@ fn capture_event(
     alloc: Global,
     captured: &mut Captured,
     quarantine: &Quarantine,
+    closed: bool,
     event: Event,
     number: u64,
 ) -> Result<Standing, CaptureFault>
+    requires closed { closed ≡ true → IsClosedInside captured.old quarantine.now }
     ensures passed { IfOk result (λ standing. Passes captured.old quarantine.now event standing) }
     ensures ok { IfOk result (λ standing. captured.new
         ≡ record captured.old { events = with_fresh captured.old.events event standing }) }
@@ -111,7 +136,7 @@ fn capture_event(
     match captured.standing(&event) {
         Standing::Known => Ok(Standing::Known),
         Standing::Taken => Err(CaptureFault::IdTaken { event: number }),
-        Standing::Fresh => capture_fresh(alloc, captured, quarantine, event, number),
+        Standing::Fresh => capture_fresh(alloc, captured, quarantine, closed, event, number),
     }
 }
 
@@ -120,10 +145,12 @@ fn capture_fresh(
     alloc: Global,
     captured: &mut Captured,
     quarantine: &Quarantine,
+    closed: bool,
     event: Event,
     number: u64,
 ) -> Result<Standing, CaptureFault>
-    requires { standing_among captured.old.events event ≡ Fresh }
+    requires closed { closed ≡ true → IsClosedInside captured.old quarantine.now }
+    requires fresh { standing_among captured.old.events event ≡ Fresh }
     ensures passed { IfOk result (λ standing. Passes captured.old quarantine.now event standing) }
     ensures ok { IfOk result (λ standing. captured.new
         ≡ record captured.old { events = with_fresh captured.old.events event standing }) }
@@ -132,7 +159,7 @@ fn capture_fresh(
     ensures unchanged { OnErr result (captured.new ≡ captured.old) }
 {
     if is_making(event.body()) {
-        capture_made(alloc, captured, quarantine, event, number)
+        capture_made(alloc, captured, quarantine, closed, event, number)
     } else {
         capture_sent(alloc, captured, quarantine, event, number)
     }
@@ -150,9 +177,11 @@ fn capture_made(
     alloc: Global,
     captured: &mut Captured,
     quarantine: &Quarantine,
+    closed: bool,
     event: Event,
     number: u64,
 ) -> Result<Standing, CaptureFault>
+    requires closed { closed ≡ true → IsClosedInside captured.old quarantine.now }
     requires fresh { standing_among captured.old.events event ≡ Fresh }
     requires making { IsMaking event.body }
     ensures passed { IfOk result (λ standing. Passes captured.old quarantine.now event standing) }
@@ -162,7 +191,7 @@ fn capture_made(
         Refuses captured.old quarantine.now event number fault) }
     ensures unchanged { OnErr result (captured.new ≡ captured.old) }
 {
-    match first_block(alloc, captured, quarantine, &event) {
+    match first_block(alloc, captured, quarantine, closed, &event) {
         Err(_) => Err(CaptureFault::NoMemory),
         Ok(Some((recall, item))) => Err(CaptureFault::Blocked {
             recall,

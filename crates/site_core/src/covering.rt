@@ -1,13 +1,16 @@
 //! The recalls under which all outputs of a transformation are quarantined, found once for each event.
-ghost use Rattle.std.specs.Prelude.{◌≡◌, IfOk, OnOk, Some, slice_get};
+ghost use Rattle.std.specs.Prelude.{◌≡◌, IfOk, OnOk, Some, slice_get, true};
 ghost use Rattle.std.specs.BTreeSet.{contains};
 ghost use Rattle.std.specs.List.{list_all};
 ghost use Rattle.frame_core.specs.Identifiers.{recall_cmp};
 ghost use Rattle.trace_core.specs.Pairs.{make_id};
 ghost use Rattle.site_core.specs.Blocks.{holds_at, holds_outputs, is_covered, CoverOutputs, CoverParts, Covers, HasAllParts};
+ghost use Rattle.site_core.specs.Joined.{AreParts};
 ghost use Rattle.site_core.specs.Quarantines.{held};
+ghost use Rattle.site_core.specs.Shortcuts.{IsClosedInside};
 
 use crate::holding::holders;
+use crate::joined::{first_output, holds_parts};
 use crate::quarantines::Quarantine;
 use crate::sources::part_id;
 use epc_core::Epc;
@@ -28,18 +31,22 @@ pub struct Covering {
 }
 
 impl Covering {
-    /// The recalls of an event that leads from these items on, and maybe others of them.
+    /// The recalls of an event that leads from these items on, and maybe others of them, with those of its own
+    /// outputs.
     pub fn of(
         alloc: Global,
         captured: &Captured,
         quarantine: &Quarantine,
+        closed: bool,
+        own: BTreeSet<RecallId>,
         event: &Event,
         items: &[Epc],
     ) -> Result<Covering, AllocError>
+        requires closed { closed ≡ true → IsClosedInside captured.now quarantine.now }
+        requires own { CoverOutputs quarantine.now event.now.body own }
         ensures { IfOk result (Covers captured.now.events quarantine.now event.now.body) }
     {
-        let own = covering_recalls(alloc, quarantine, event)?;
-        let all = covering_all(alloc, captured, quarantine, event, items)?;
+        let all = covering_all(alloc, captured, quarantine, closed, event, items)?;
         Ok(Covering { own, all })
     }
 
@@ -52,7 +59,7 @@ impl Covering {
 }
 
 /// Recalls under which all outputs of a transformation are quarantined: all such recalls, where it has outputs.
-fn covering_recalls(
+pub fn covering_recalls(
     alloc: Global,
     quarantine: &Quarantine,
     event: &Event,
@@ -101,30 +108,24 @@ fn add_if_covering(
     Ok(())
 }
 
-/// The first output of a transformation.
-fn first_output(body: &Body) -> Option<&Epc> {
-    match body {
-        Body::Make { outs, .. } => outs.as_slice().first(),
-        _ => None,
-    }
-}
-
 /// Recalls under which all outputs of all parts of a transformation are quarantined: of those that hold an item which
 /// no captured part takes in.
 fn covering_all(
     alloc: Global,
     captured: &Captured,
     quarantine: &Quarantine,
+    closed: bool,
     event: &Event,
     items: &[Epc],
 ) -> Result<BTreeSet<RecallId>, AllocError>
+    requires closed { closed ≡ true → IsClosedInside captured.now quarantine.now }
     ensures { IfOk result (CoverParts captured.now.events quarantine.now event.now.body) }
 {
     let body = event.body();
     match part_id(body) {
         Some(id) => {
             let recalls = new_holders(alloc, captured, quarantine, id, items)?;
-            covering_parts(alloc, captured, quarantine, id, body, &recalls)
+            covering_parts(alloc, captured, quarantine, closed, id, body, &recalls)
         }
         None => Ok(BTreeSet::new(alloc)),
     }
@@ -179,11 +180,13 @@ fn covering_parts(
     alloc: Global,
     captured: &Captured,
     quarantine: &Quarantine,
+    closed: bool,
     id: &PlainText,
     body: &Body,
     recalls: &BTreeSet<RecallId>,
 ) -> Result<BTreeSet<RecallId>, AllocError>
-    requires { make_id body.now ≡ Some id.now }
+    requires closed { closed ≡ true → IsClosedInside captured.now quarantine.now }
+    requires named { make_id body.now ≡ Some id.now }
     ensures { IfOk result (CoverParts captured.now.events quarantine.now body.now) }
 {
     let mut found = BTreeSet::new(alloc);
@@ -192,7 +195,9 @@ fn covering_parts(
     }
     let places = captured.parts_of(id)?;
     for recall in recalls {
-        add_if_held_at(captured, quarantine, *recall, body, &places, &mut found)?;
+        add_if_held_at(
+            captured, quarantine, closed, *recall, body, &places, &mut found,
+        )?;
     }
     Ok(found)
 }
@@ -201,17 +206,20 @@ fn covering_parts(
 fn add_if_held_at(
     captured: &Captured,
     quarantine: &Quarantine,
+    closed: bool,
     recall: RecallId,
     body: &Body,
     places: &[usize],
     found: &mut BTreeSet<RecallId>,
 ) -> Result<(), AllocError>
+    requires closed { closed ≡ true → IsClosedInside captured.now quarantine.now }
     ensures { OnOk result (HasAllParts captured.now.events body.now places.now
+        → AreParts captured.now.events places.now
         → CoverParts captured.now.events quarantine.now body.now found.old
         → CoverParts captured.now.events quarantine.now body.now found.new) }
 {
     if holds_outputs(quarantine, recall, body) {
-        if holds_at_each(captured, quarantine, recall, places) {
+        if holds_parts(captured, quarantine, closed, recall, places) {
             found.insert(recall)?;
         }
     }
@@ -219,7 +227,7 @@ fn add_if_held_at(
 }
 
 /// Whether all outputs of the events at the places are quarantined under a recall.
-fn holds_at_each(
+pub fn holds_at_each(
     captured: &Captured,
     quarantine: &Quarantine,
     recall: RecallId,

@@ -11,6 +11,7 @@ mod held_index;
 mod holding;
 mod inputs;
 mod item_sets;
+mod joined;
 pub mod laws;
 mod looks;
 mod made_blocks;

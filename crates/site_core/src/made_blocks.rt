@@ -1,12 +1,13 @@
 //! By what a transformation is blocked, which is found before it is added.
-ghost use Rattle.std.specs.Prelude.{◌≡◌, ◌==◌, ◌&&◌, not, IfOk, IsTrue, Contains};
+ghost use Rattle.std.specs.Prelude.{◌≡◌, ◌==◌, ◌&&◌, not, true, IfOk, IsTrue, Contains};
 ghost use Rattle.std.specs.List.{list_any};
 ghost use Rattle.frame_core.specs.Numbers.{Recall};
 ghost use Rattle.site_core.specs.Blocks.{IsMaking, IsLeastBlock, IsBlockFrom, IsFirstBlockOf, IsOldInput, JoinsAsPart, Covers};
 ghost use Rattle.site_core.specs.Capturing.{IsBlockedBy};
 ghost use Rattle.site_core.specs.Quarantines.{held};
+ghost use Rattle.site_core.specs.Shortcuts.{IsClosedInside};
 
-use crate::covering::{Covering, each_is_covered};
+use crate::covering::{Covering, covering_recalls, each_is_covered};
 use crate::holding::holders;
 use crate::quarantines::Quarantine;
 use crate::sources::{part_id, sources};
@@ -17,21 +18,25 @@ use std::alloc::{AllocError, Global};
 use trace_core::{Captured, Pair};
 
 /// The least item, and then the least recall, by which a transformation is blocked: it would lead from the item,
-/// which is quarantined under the recall, to a pair that isn't at this site and quarantined under it.
+/// which is quarantined under the recall, to a pair that isn't at this site and quarantined under it. `closed` tells
+/// whether what is quarantined is known to be closed inside the site.
 pub fn first_block(
     alloc: Global,
     captured: &Captured,
     quarantine: &Quarantine,
+    closed: bool,
     event: &Event,
 ) -> Result<Option<(RecallId, Epc)>, AllocError>
-    requires { IsMaking event.now.body }
+    requires making { IsMaking event.now.body }
+    requires closed { closed ≡ true → IsClosedInside captured.now quarantine.now }
     ensures { IfOk result (λ block. IsFirstBlockOf captured.now quarantine.now event.now block) }
 {
     if quarantine.is_empty() {
         return Ok(None);
     }
-    let items = sources(alloc, captured, quarantine, event)?;
-    let covering = Covering::of(alloc, captured, quarantine, event, &items)?;
+    let own = covering_recalls(alloc, quarantine, event)?;
+    let items = sources(alloc, captured, quarantine, closed, &own, event)?;
+    let covering = Covering::of(alloc, captured, quarantine, closed, own, event, &items)?;
     for item in items {
         match block_from(alloc, captured, quarantine, event, &covering, item)? {
             Some(block) => return Ok(Some(block)),

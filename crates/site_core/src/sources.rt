@@ -1,38 +1,52 @@
 //! The items from which a transformation that comes would give new pairs.
-ghost use Rattle.std.specs.Prelude.{◌≡◌, ◌↔◌, IfOk, OnOk, ℕ, List, Some, Contains, IsTrue, option_map, slice_get};
+ghost use Rattle.std.specs.Prelude.{◌≡◌, IfOk, OnOk, ℕ, List, Some, Contains, true, option_map, slice_get};
 ghost use Rattle.frame_core.specs.Numbers.{Recall};
-ghost use Rattle.trace_core.specs.declared.pairs.Pair.{Pair};
 ghost use Rattle.trace_core.specs.Pairs.{make_id};
-ghost use Rattle.trace_core.specs.Spreads.{AreAscendingItems, IsNewTarget, ins_in};
-ghost use Rattle.site_core.specs.Quarantines.{held};
-ghost use Rattle.site_core.specs.Blocks.{IsMaking};
-ghost use Rattle.site_core.specs.Sources.{FindsAlso, FindsInputsAt, FindsParts, FindsIfInput, FindsHeldInputs, FindsJoined, FindsGiving, has_outputs};
+ghost use Rattle.trace_core.specs.Spreads.{AreAscendingItems, ins_in};
+ghost use Rattle.site_core.specs.Blocks.{CoverOutputs, IsMaking};
+ghost use Rattle.site_core.specs.Capturing.{IsBlockedBy};
+ghost use Rattle.site_core.specs.Shortcuts.{IsClosedInside};
+ghost use Rattle.site_core.specs.Sources.{FindsAlso, FindsInputsAt, FindsParts, FindsIfInput, FindsHeldInputs, FindsJoined, FindsUncovered, FindsGiving, has_outputs};
 
+use crate::joined::are_joined_covered;
 use crate::quarantines::Quarantine;
 use epc_core::Epc;
 use event_json::{Body, Event, PlainText};
+use frame_core::RecallId;
 use std::alloc::{AllocError, Global};
 use std::collections::BTreeSet;
 use trace_core::{Captured, keys_in_order};
 
-/// All quarantined items from which a transformation would give new pairs, and maybe others, ascending. Of a part of
-/// a transformation with an id that has outputs they are looked for among what is quarantined, or among the inputs of
-/// the captured parts of the transformation, whichever are fewer.
+/// All quarantined items by which a transformation is blocked, and maybe others, ascending. Of a part of a
+/// transformation with an id that has outputs they are looked for among what is quarantined, or among the inputs of the
+/// captured parts of the transformation, whichever are fewer; but not where these are known to lead to what is
+/// quarantined alone. `own` are recalls under which all outputs of the event are quarantined.
 pub fn sources(
     alloc: Global,
     captured: &Captured,
     quarantine: &Quarantine,
+    closed: bool,
+    own: &BTreeSet<RecallId>,
     event: &Event,
 ) -> Result<Vec<Epc>, AllocError>
-    requires { IsMaking event.now.body }
+    requires making { IsMaking event.now.body }
+    requires closed { closed ≡ true → IsClosedInside captured.now quarantine.now }
+    requires own { CoverOutputs quarantine.now event.now.body own.now }
     ensures ascending { IfOk result (λ items. AreAscendingItems items.items) }
-    ensures all { IfOk result (λ items. (i : List ℕ) (r : Recall) (q : Pair)
-        → IsTrue (held quarantine.now r i) → IsNewTarget captured.now event.now i q
-        → Contains items.items i) }
+    ensures all { IfOk result (λ items. (i : List ℕ) (r : Recall)
+        → IsBlockedBy captured.now quarantine.now event.now i r → Contains items.items i) }
 {
     let mut found = BTreeSet::new(alloc);
     add_inputs(alloc, event.body(), &mut found)?;
-    add_if_giving(alloc, captured, quarantine, event.body(), &mut found)?;
+    add_if_giving(
+        alloc,
+        captured,
+        quarantine,
+        closed,
+        own,
+        event.body(),
+        &mut found,
+    )?;
     keys_in_order(alloc, found)
 }
 
@@ -42,17 +56,43 @@ fn add_if_giving(
     alloc: Global,
     captured: &Captured,
     quarantine: &Quarantine,
+    closed: bool,
+    own: &BTreeSet<RecallId>,
     body: &Body,
     found: &mut BTreeSet<Epc>,
 ) -> Result<(), AllocError>
+    requires closed { closed ≡ true → IsClosedInside captured.now quarantine.now }
+    requires own { CoverOutputs quarantine.now body.now own.now }
     ensures { OnOk result (FindsGiving captured.now.events quarantine.now body.now found.old
         found.new) }
 {
     if has_outputs(body) {
-        add_joined(alloc, captured, quarantine, body, found)
+        add_uncovered(alloc, captured, quarantine, closed, own, body, found)
     } else {
         Ok(())
     }
+}
+
+/// Adds the quarantined inputs of the captured parts of the body's transformation, and maybe others of them, unless
+/// each is quarantined under recalls that hold all outputs of the body, too.
+fn add_uncovered(
+    alloc: Global,
+    captured: &Captured,
+    quarantine: &Quarantine,
+    closed: bool,
+    own: &BTreeSet<RecallId>,
+    body: &Body,
+    found: &mut BTreeSet<Epc>,
+) -> Result<(), AllocError>
+    requires closed { closed ≡ true → IsClosedInside captured.now quarantine.now }
+    requires own { CoverOutputs quarantine.now body.now own.now }
+    ensures { OnOk result (FindsUncovered captured.now.events quarantine.now body.now found.old
+        found.new) }
+{
+    if are_joined_covered(alloc, captured, quarantine, closed, own, body)? {
+        return Ok(());
+    }
+    add_joined(alloc, captured, quarantine, body, found)
 }
 
 /// Whether a transformation has outputs.

@@ -5,7 +5,7 @@ ghost use Rattle.site_core.specs.Steps.{Does, Refuses, TakesMemory, CopiesRecord
 ghost use Rattle.site_core.specs.Stepping.{IsStepped, stepped_to};
 ghost use Rattle.site_core.specs.Undoing.{NewlyHeldBy};
 
-use crate::capturing::capture_all;
+use crate::capturing::capture_knowing;
 use crate::inputs::SiteInput;
 use crate::looks::look;
 use crate::outcomes::{Effects, Refusal};
@@ -123,7 +123,13 @@ impl SiteState {
         let doc = read_document(self.alloc, bytes, &self.sites)?;
         let skipped = doc.skipped;
         let events = doc.events.into_vec();
-        let added = capture_all(self.alloc, &mut self.captured, &self.quarantine, events)?;
+        let added = capture_knowing(
+            self.alloc,
+            &mut self.captured,
+            &self.quarantine,
+            self.shortcuts.is_closed(),
+            events,
+        )?;
         Ok(Effects::Captured {
             fresh: added.fresh,
             known: added.known,

@@ -5,6 +5,7 @@ use Rattle.trace_core.specs.Adding.{with_fresh}
 use Rattle.site_core.specs.Blocks.{Passes}
 use Rattle.site_core.specs.Capturing.{TellsRefusal}
 use Rattle.site_core.proofs.Captures.{SoFar, begun, all_captured, kept_next, other_next, told_refusal, handed_on}
+use Rattle.site_core.proofs.JoinedParts.{closed_passed}
 use Rattle.site_core.proofs.capturing.capture_each.Goals as goal
 
 pub loop-event-init : goal.loop-event-init
@@ -16,6 +17,7 @@ loop-event-init c =
       so_far = subst (λ xs. SoFar c.args.captured.now c.args.quarantine.now c.args.given.items c.args.captured.now 0 0 xs) (sym gives) (begun c.args.captured.now c.args.quarantine.now c.args.given.items);
       counted = omega (arith, ap length gives);
       small = search rules;
+      closed = c.requires.closed;
     }
 
 pub returns-in_err-capture_event-clause-fault : goal.returns-in_err-capture_event-clause-fault
@@ -36,6 +38,7 @@ loop-event-preserved-in-Fresh c =
           c.in-Some.event (into_iter_items c.next.new.self) next c.capture_event.new.captured new passed.0 passed.1;
       counted = omega (arith, ap length next, c.loop-event.invariant.counted);
       small = c.loop-event.invariant.small;
+      closed = λ told. closed_passed c.loop-event.captured c.args.quarantine.now c.in-Some.event (c.loop-event.invariant.closed told) c.in_ok-capture_event.field-0 c.capture_event.new.captured c.in_ok-capture_event.ensures.passed c.in_ok-capture_event.ensures.ok;
     }
 
 pub loop-event-preserved : goal.loop-event-preserved
@@ -48,6 +51,7 @@ loop-event-preserved c =
           c.in-Some.event (into_iter_items c.next.new.self) next c.capture_event.new.captured c.in_ok-capture_event.field-0 c.in_ok-capture_event.ensures.passed c.in_default.not-Fresh c.in_ok-capture_event.ensures.ok;
       counted = omega (arith, ap length next, c.loop-event.invariant.counted);
       small = c.loop-event.invariant.small;
+      closed = λ told. closed_passed c.loop-event.captured c.args.quarantine.now c.in-Some.event (c.loop-event.invariant.closed told) c.in_ok-capture_event.field-0 c.capture_event.new.captured c.in_ok-capture_event.ensures.passed c.in_ok-capture_event.ensures.ok;
     }
 
 pub returns-clause-ok : goal.returns-clause-ok

@@ -21,7 +21,7 @@ loop-item-init c =
       can = tt;
       finite = tt;
       ascend = subst (IsStrictlySortedBy item_cmp) (sym gives) c.in_ok-items.ensures.ascending;
-      left = λ i r b. subst (λ xs. Contains xs i) (sym gives) (c.in_ok-items.ensures.all i r b.target b.source b.new);
+      left = λ i r b. subst (λ xs. Contains xs i) (sym gives) (c.in_ok-items.ensures.all i r b);
     }
 
 pub returns-in-Some-2 : goal.returns-in-Some-2

@@ -13,17 +13,17 @@ use Rattle.site_core.proofs.states.SiteState.capture.Goals as goal
 pub invariant_of-self-2 : goal.invariant_of-self-2
 invariant_of-self-2 c =
     let s : Record = record { sites = c.self.inside.sites; captured = c.self.inside.captured; quarantine = c.self.inside.quarantine; engagement = c.self.inside.diffusion } in (
-      captures_sound s c.args.bytes.now c.in_ok-added.added.fresh c.in_ok-added.added.known c.in_ok-doc.doc.skipped (record s { captured = c.capture_all.new.captured }) c.self.invariant.0 (captured s c.args.bytes.now c.in_ok-doc.doc c.into_vec-events.result.items c.capture_all.new.captured c.in_ok-added.added.fresh c.in_ok-added.added.known
-          (read_as s.sites c.args.bytes.now (Ok c.in_ok-doc.doc) c.in_ok-doc.ensures.text c.in_ok-doc.ensures.bytes) c.into_vec-events.ensures c.in_ok-added.ensures.ok c.capture_all.ensures.same_site),
-      shortcuts_captured s.captured s.quarantine c.self.inside.shortcuts c.self.invariant.1 c.into_vec-events.result.items (record { events = c.capture_all.new.captured.events; fresh = c.in_ok-added.added.fresh; known = c.in_ok-added.added.known }) c.capture_all.new.captured
-          (ap (λ (n : ℕ). record { me = n; events = c.capture_all.new.captured.events }) c.capture_all.ensures.same_site) c.in_ok-added.ensures.ok,
+      captures_sound s c.args.bytes.now c.in_ok-added.added.fresh c.in_ok-added.added.known c.in_ok-doc.doc.skipped (record s { captured = c.capture_knowing.new.captured }) c.self.invariant.0 (captured s c.args.bytes.now c.in_ok-doc.doc c.into_vec-events.result.items c.capture_knowing.new.captured c.in_ok-added.added.fresh c.in_ok-added.added.known
+          (read_as s.sites c.args.bytes.now (Ok c.in_ok-doc.doc) c.in_ok-doc.ensures.text c.in_ok-doc.ensures.bytes) c.into_vec-events.ensures c.in_ok-added.ensures.ok c.capture_knowing.ensures.same_site),
+      shortcuts_captured s.captured s.quarantine c.self.inside.shortcuts c.self.invariant.1 c.into_vec-events.result.items (record { events = c.capture_knowing.new.captured.events; fresh = c.in_ok-added.added.fresh; known = c.in_ok-added.added.known }) c.capture_knowing.new.captured
+          (ap (λ (n : ℕ). record { me = n; events = c.capture_knowing.new.captured.events }) c.capture_knowing.ensures.same_site) c.in_ok-added.ensures.ok,
     )
 
 pub returns-clause-done : goal.returns-clause-done
 returns-clause-done c =
     let s : Record = record { sites = c.self.inside.sites; captured = c.self.inside.captured; quarantine = c.self.inside.quarantine; engagement = c.self.inside.diffusion } in
-    subst (λ s. Captures s c.args.bytes.now c.in_ok-added.added.fresh c.in_ok-added.added.known c.in_ok-doc.doc.skipped (record { sites = c.self.inside.sites; captured = c.capture_all.new.captured; quarantine = c.self.inside.quarantine; engagement = c.self.inside.diffusion })) c.self.view_is (captured s c.args.bytes.now c.in_ok-doc.doc c.into_vec-events.result.items c.capture_all.new.captured c.in_ok-added.added.fresh c.in_ok-added.added.known
-    (read_as s.sites c.args.bytes.now (Ok c.in_ok-doc.doc) c.in_ok-doc.ensures.text c.in_ok-doc.ensures.bytes) c.into_vec-events.ensures c.in_ok-added.ensures.ok c.capture_all.ensures.same_site)
+    subst (λ s. Captures s c.args.bytes.now c.in_ok-added.added.fresh c.in_ok-added.added.known c.in_ok-doc.doc.skipped (record { sites = c.self.inside.sites; captured = c.capture_knowing.new.captured; quarantine = c.self.inside.quarantine; engagement = c.self.inside.diffusion })) c.self.view_is (captured s c.args.bytes.now c.in_ok-doc.doc c.into_vec-events.result.items c.capture_knowing.new.captured c.in_ok-added.added.fresh c.in_ok-added.added.known
+    (read_as s.sites c.args.bytes.now (Ok c.in_ok-doc.doc) c.in_ok-doc.ensures.text c.in_ok-doc.ensures.bytes) c.into_vec-events.ensures c.in_ok-added.ensures.ok c.capture_knowing.ensures.same_site)
 
 pub returns-in_err-doc-clause-refused : goal.returns-in_err-doc-clause-refused
 returns-in_err-doc-clause-refused c =
