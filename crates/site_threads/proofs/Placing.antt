@@ -1,6 +1,7 @@
 -- The next message for a site: what is found of the messages that wait, and how the place stays with the record.
 use Rattle.std.proofs.Common.{◌≡◌, ℕ, zero, suc, ◌≤◌, ◌⊎◌, inl, inr, ⊎_elim, Bool, true, false, not, cond, is_some, min, max, nat_cmp, nat_le, ◌==◌, Option, Some, None, List, [], ◌∷◌, filter, fold, map, refl, sym, ap, ◌∙◌, subst, arith, true≢false}
 use Rattle.std.specs.Prelude.{T, Contains, unwrap_or}
+use Rattle.std.proofs.lemmas.Bool.{cases_lt}
 use Rattle.std.specs.Cmp.{nat_cmp_total}
 use Rattle.std.specs.FinMap.{entries, get, is_sorted, nat_cmp-IsAntisymmetric}
 use Rattle.std.specs.FinMap.Entries.{below_all}
@@ -10,7 +11,7 @@ use Rattle.std.specs.Ordering.{is_lt}
 use Rattle.frame_core.specs.declared.frames.Frame.TheVariants as frames
 use Rattle.frame_core.specs.declared.rows.Row.{Row}
 use Rattle.frame_core.specs.Numbers.{Message}
-use Rattle.frame_core.proofs.Ascending.{first, second}
+use Rattle.frame_core.specs.Outboxes.{IsNextTo, IsRowTo}
 use Rattle.keeper_core.specs.Keeping.{IsAfter}
 use Rattle.scholten_core.specs.Engagement.{Engagement}
 use Rattle.scholten_core.specs.declared.outcomes.Signalled.{Signalled}
@@ -96,59 +97,30 @@ least_low (x ∷ xs) n at = (
   ],
 )
 
--- of numbers of which none is less than the first, it is the first
-fold_first : (x : ℕ) (xs : List ℕ) → AllByRecursion (λ n. x ≤ n) xs → fold min x xs ≡ x
-fold_first x [] all = refl
-fold_first x (y ∷ ys) all =
-    let low : min x y ≡ x = let h = all.0 in omega (arith, h) in
-    ap (λ z. fold min z ys) low ∙ fold_first x ys all.1
+-- it is one of them
+fold_among : (x : ℕ) (xs : List ℕ) → Contains (x ∷ xs) (fold min x xs)
+fold_among x [] = contains_here x []
+fold_among x (y ∷ ys) = elim (contains_cases (min x y) (fold min (min x y) ys) ys (fold_among (min x y) ys)) as (λ _. Contains (x ∷ y ∷ ys) (fold min (min x y) ys)) [
+  | inl same ↦ elim (one_of x y) as (λ _. Contains (x ∷ y ∷ ys) (fold min (min x y) ys)) [
+    | inl is ↦ subst (Contains (x ∷ y ∷ ys)) (sym is ∙ same) (contains_here x (y ∷ ys))
+    | inr is ↦ contains_there x _ (y ∷ ys) (subst (Contains (y ∷ ys)) (sym is ∙ same) (contains_here y ys))
+  ]
+  | inr later ↦ contains_there x _ (y ∷ ys) (contains_there y _ ys later)
+]
+  where
+    one_of : (a b : ℕ) → (min a b ≡ a) ⊎ (min a b ≡ b)
+    one_of a b = ⊎_elim (λ lt. inl (omega (arith, lt))) (λ le. inr (omega (arith, le))) (cases_lt a b)
 
--- The first of the entries that pass, by number.
+least_among : (xs : List ℕ) (k : ℕ) → least xs ≡ Some k → Contains xs k
+least_among [] k is = cc
+least_among (x ∷ xs) k is = let same : fold min x xs ≡ k = cc in subst (Contains (x ∷ xs)) same (fold_among x xs)
+
+least_none : (xs : List ℕ) → ((n : ℕ) → Contains xs n → ⊥) → None ≡ least xs
+least_none [] none = refl
+least_none (x ∷ xs) none = absurd (none x (contains_here x xs))
 
 abbrev pub to_site : ℕ → ℕ × Row → Bool
 to_site to row = row.1.dest == to
-
-abbrev pub from_there : ℕ → ℕ × Row → Bool
-from_there low row = nat_le low row.0
-
-abbrev pub first_number : List (ℕ × Row) → Option ℕ
-first_number [] = None
-first_number (row ∷ rows) = Some row.0
-
--- the numbers of entries that are above one aren't less
-above : (k low to : ℕ) (rows : List (ℕ × Row)) → T (below_all nat_cmp k rows) → AllByRecursion (λ n. k ≤ n) (from_on low (map (λ row. row.0) (filter (to_site to) rows)))
-above k low to [] up = tt
-above k low to (row ∷ rows) up =
-    let rest = above k low to rows (second _ _ up) in
-    let here : k ≤ row.0 = less k row.0 (first _ _ up) in
-    elim (to_site to row) as (λ b. AllByRecursion (λ n. k ≤ n) (from_on low (map (λ row. row.0) (cond b (row ∷ filter (to_site to) rows) (filter (to_site to) rows))))) [
-      | true ↦ elim (nat_le low row.0) as (λ b. AllByRecursion (λ n. k ≤ n) (cond b (row.0 ∷ from_on low (map (λ row. row.0) (filter (to_site to) rows))) (from_on low (map (λ row. row.0) (filter (to_site to) rows))))) [
-        | true ↦ (here, rest)
-        | false ↦ rest
-      ]
-      | false ↦ rest
-    ]
-  where
-    less : (a b : ℕ) → T (is_lt (nat_cmp a b)) → a ≤ b
-    less a b h = grind arith
-
-pub first_is_least : (low to : ℕ) (rows : List (ℕ × Row)) → T (is_sorted nat_cmp rows)
-    → first_number (filter (to_site to) (filter (from_there low) rows)) ≡ least (from_on low (map (λ row. row.0) (filter (to_site to) rows)))
-first_is_least low to [] up = refl
-first_is_least low to (row ∷ rows) up =
-    let later = first_is_least low to rows (second _ _ up) in
-    let numbers = from_on low (map (λ row. row.0) (filter (to_site to) rows)) in
-    let rest = filter (from_there low) rows in
-    elim (to_site to row) as (λ b. to_site to row ≡ b → first_number (filter (to_site to) (cond (nat_le low row.0) (row ∷ rest) rest)) ≡ least (from_on low (map (λ row. row.0) (cond b (row ∷ filter (to_site to) rows) (filter (to_site to) rows))))) [
-      | true ↦ λ is. elim (nat_le low row.0) as (λ b. first_number (filter (to_site to) (cond b (row ∷ rest) rest)) ≡ least (cond b (row.0 ∷ numbers) numbers)) [
-        | true ↦ ap (λ b. first_number (cond b (row ∷ filter (to_site to) rest) (filter (to_site to) rest))) is ∙ ap (λ n. Some n) (sym (fold_first row.0 numbers (above row.0 low to rows (first _ _ up))))
-        | false ↦ later
-      ]
-      | false ↦ λ is. elim (nat_le low row.0) as (λ b. first_number (filter (to_site to) (cond b (row ∷ rest) rest)) ≡ least numbers) [
-        | true ↦ ap (λ b. first_number (cond b (row ∷ filter (to_site to) rest) (filter (to_site to) rest))) is ∙ later
-        | false ↦ later
-      ]
-    ] refl
 
 -- The place for one site.
 
@@ -164,11 +136,39 @@ module _ (e : Engagement) (to : ℕ) where
   waits_there n row is mine =
       contains-map (λ (x : ℕ × Row). x.0) (filter (to_site to) (entries e.outbox)) (n, row) (passed (to_site to) (entries e.outbox) (n, row) (entry_there nat_cmp_total nat_cmp-IsAntisymmetric e.outbox n row is) mine)
 
+  is_dest : (a : ℕ) → (a == to) ≡ true → a ≡ to
+  is_dest a h = grind (arith, h)
+
+  same_dest : (a : ℕ) → a ≡ to → (a == to) ≡ true
+  same_dest a h = grind (arith, h)
+
   le_true : (a b : ℕ) → a ≤ b → nat_le a b ≡ true
   le_true a b h = grind (arith, h)
 
   true_le : (a b : ℕ) → nat_le a b ≡ true → a ≤ b
   true_le a b h = grind (arith, h)
+
+  -- what is looked up from a number on is the least one that waits
+  among : (from n : ℕ) → Contains (from_on from (waiting e to)) n → IsRowTo e.outbox to n × (from ≤ n)
+  among from n at =
+      let (there, up) = passing (λ x. nat_le from x) (waiting e to) n at in
+      let (row, is, mine) = waits n there in
+      ((row, is, is_dest row.dest mine), true_le from n up)
+
+  pub next_is_least : (from : ℕ) (found : Option ℕ) → IsNextTo e.outbox to from found → found ≡ least (from_on from (waiting e to))
+  next_is_least from None next = least_none (from_on from (waiting e to)) (λ n at.
+      let (row, up) = among from n at in
+      let (k, is, low) = next.least n row up in
+      cc)
+  next_is_least from (Some n) next =
+      let ((row, is, mine), up) = next.there in
+      let at = passed (λ x. nat_le from x) (waiting e to) n (waits_there n row is (same_dest row.dest mine)) (le_true from n up) in
+      let (k, least_is, low) = least_low (from_on from (waiting e to)) n at in
+      let (there, above) = among from k (least_among (from_on from (waiting e to)) k least_is) in
+      let (m, same, lowest) = next.least k there above in
+      let one : n ≡ m = cc in
+      let all : n ≡ k = omega (arith, one, low, lowest) in
+      ap Some all ∙ sym least_is
 
   agree : (a b n : ℕ) → a ≤ b → (a ≤ n → b ≤ n) → nat_le a n ≡ nat_le b n
   agree a b n low high = elim (nat_le a n) as (λ t. nat_le a n ≡ t → t ≡ nat_le b n) [

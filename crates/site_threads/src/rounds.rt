@@ -7,8 +7,9 @@ use site_core::SiteState;
 
 /// How far a site has posted its messages for another: they go by number, round after round.
 ///
-/// What was looked through once isn't looked through again in the same round, and a message that comes has a higher
-/// number than all before it. So a site that has nothing for another looks at each of its messages once.
+/// The next one is looked up among those for the other site, so that messages for others cost it nothing. What was
+/// looked through isn't looked through again in the same round, since a message that comes has a higher number than all
+/// before it.
 #[derive(Clone, Copy, Debug)]
 pub struct Round {
     /// The number behind that of the message posted last; 0 before the first.
@@ -78,10 +79,5 @@ fn ahead(from: u64, found: Option<u64>, end: u64) -> u64
 fn first_from(state: &SiteState, to: SiteNo, from: u64) -> Option<u64>
     ensures { result ≡ least (from_on from (waiting state.now.engagement to)) }
 {
-    for (number, row) in state.outbox().range(from..) {
-        if row.dest == to {
-            return Some(*number);
-        }
-    }
-    None
+    state.first_to(to, from)
 }
