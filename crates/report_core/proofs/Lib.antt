@@ -7,6 +7,7 @@ pub mod ItemsOfSites
 pub mod EventsInTurn
 pub mod FirstFound
 pub mod KnownItems
+pub mod LiesInItems
 pub mod OriginsFound
 pub mod Outgoing
 pub mod Parting

@@ -1,5 +1,5 @@
 -- What all sites' events ship out of the traced sites.
-use Rattle.std.proofs.Common.{◌≡◌, ◌↔◌, inl, inr, Some, None, ℕ, ◌<◌, List, [], length, get_or, sym, ap, ◌∙◌, subst, Bor, Contains}
+use Rattle.std.proofs.Common.{◌≡◌, ◌↔◌, inl, inr, Some, None, is_some, true, ℕ, ◌<◌, List, [], length, get_or, slice_get, refl, sym, ap, ◌∙◌, subst, Bor, Contains}
 use mathlib.Core.Bool.{false≢true}
 use Rattle.std.specs.FinMap.{get-empty}
 use Rattle.std.specs.FinMap as finite
@@ -7,66 +7,110 @@ use Rattle.std.specs.List.Sorted.{IsStrictlySortedBy}
 use Rattle.std.specs.Prelude.{IsTrue}
 use Rattle.std.proofs.lemmas.List.{get_or_past, get_or_default}
 use Rattle.std.proofs.lemmas.Map.Views.{btree_set_contains_iff}
+use Rattle.std.proofs.lemmas.Option.{slice_get-get_or, slice_get_within, get_or_from_slice_get}
 use Rattle.event_json.specs.Events.{Content}
 use Rattle.event_json.specs.declared.bodies.Body.{Body}
 use Rattle.event_json.specs.declared.bodies.Body.TheVariants.{Note, Ship, Make, Pack}
 use Rattle.frame_core.specs.Identifiers.{recall_cmp}
 use Rattle.frame_core.specs.Numbers.{Recall}
-use Rattle.site_core.specs.ItemSets.{Items}
+use Rattle.site_core.specs.ItemSets.{Items, item_cmp}
 use Rattle.site_core.specs.ItemSets as set
 use Rattle.site_core.specs.Quarantines.{Quarantine, held, items_under, or_none}
 use Rattle.site_core.specs.Records.{Record, fresh}
+use Rattle.site_core.proofs.Entries.{entry_found, entry_there}
 use Rattle.site_core.proofs.Held.{none_held}
+use Rattle.site_core.proofs.ItemOrder.{item_total, item_exact}
 use Rattle.site_recovery.specs.Checking.{records_at}
 use Rattle.site_recovery.specs.Laws.{AreInPlace}
 use Rattle.site_recovery.specs.Looks.{World, world_of, Held}
 use Rattle.site_recovery.proofs.Exact.{within_or_past}
-use Rattle.trace_core.specs.Pairs.{Carries, IsCarriedWith}
-use Rattle.trace_core.specs.Relations.{ReachedFrom}
+use Rattle.trace_core.specs.Pairs.{IsCarriedWith}
+use Rattle.trace_core.specs.Sites.{SiteEvents}
 use Rattle.trace_core.specs.declared.pairs.Pair.{Pair}
 use Rattle.trace_core.proofs.Members.{contains-map, contains_none}
+use Rattle.trace_core.proofs.NumberLists.{none_is, some_is}
 use Rattle.trace_core.proofs.SetMembers.{contains-from_map}
 use Rattle.report_core.specs.Destinations.{outside_cmp}
-use Rattle.report_core.specs.Gathering.{Found, FirstTell, IsAmong, IsIn, ItemGoes, OneTells, BodyTells, RecordTells, ShipmentTells, SiteTells}
+use Rattle.report_core.specs.Gathering.{Adds, BodyTells, CarrierTells, Found, FirstTell, IsAmong, IsIn, ItemTells, OneTells, PlaceTells, RecordTells, SiteTells, WentOutBy}
 use Rattle.report_core.specs.Outside.{ShipsOut, WentOut, IsOutsideOf, AreOutsideOf}
+use Rattle.report_core.specs.Sources.{AreSitePlaces, Index, ShipsItself}
+use Rattle.report_core.specs.declared.makers.EventPlace.{EventPlace}
+use Rattle.report_core.specs.declared.makers.Noting.TheVariants.{Sent}
 use Rattle.report_core.specs.declared.outside.OutsideShipment.{OutsideShipment}
-use Rattle.report_core.proofs.Adding.{outside_total, outside_exact}
+use Rattle.report_core.proofs.Adding.{added_alike, outside_total, outside_exact}
 
--- what an event says, part by part
-pub body_told : (events : List Content) (site : ℕ) (items : Items) (body : Body) (x : OutsideShipment)
-    → BodyTells events site items body x ↔ ((x.site ≡ site) × IsTrue (set.contains items x.item) × ((carrier : List ℕ) × ShipsOut carrier x.destination body × IsCarriedWith events carrier x.item))
-body_told events site items (Note xs) x = (λ h. absurd h, λ h. absurd h.2.1)
-body_told events site items (Make id ins outs) x = (λ h. absurd h, λ h. absurd h.2.1)
-body_told events site items (Pack action parent children) x = (λ h. absurd h, λ h. absurd h.2.1)
-body_told events site items (Ship xs sites outside) x = (
-  λ (item, (carrier, among, carries), (has, (d, there, goes))).
-      let same : item ≡ x.item = ap (λ y. y.item) goes in (
-        ap (λ y. y.site) (sym goes),
-        subst (λ i. IsTrue (set.contains items i)) same has,
-        (carrier, (among, subst (Contains outside) (ap (λ y. y.destination) goes) there), subst (IsCarriedWith events carrier) same carries),
-      ),
-  λ (at, has, (carrier, (among, there), carries)).
-      (x.item, (carrier, among, carries), (has, (x.destination, there, (λ i. record { site = sym at i; item = x.item; destination = x.destination })))),
+-- what an event says of the item with which it ships this one
+told_by : (site : ℕ) (item carrier : List ℕ) (x : OutsideShipment) (b : Body) → ShipsItself carrier b → BodyTells site item b x → (x.site ≡ site) × (x.item ≡ item) × ShipsOut carrier x.destination b
+told_by site item carrier x (Note xs) ships tells = absurd ships
+told_by site item carrier x (Make id ins outs) ships tells = absurd ships
+told_by site item carrier x (Pack action parent children) ships tells = absurd ships
+told_by site item carrier x (Ship xs sites outside) ships (d, there, goes) =
+    (ap (λ y. y.site) (sym goes), ap (λ y. y.item) (sym goes), (ships, subst (Contains outside) (ap (λ y. y.destination) goes) there))
+
+tells_out : (carrier : List ℕ) (x : OutsideShipment) (b : Body) → ShipsOut carrier x.destination b → ShipsItself carrier b × BodyTells x.site x.item b x
+tells_out carrier x (Note xs) out = absurd out
+tells_out carrier x (Make id ins outs) out = absurd out
+tells_out carrier x (Pack action parent children) out = absurd out
+tells_out carrier x (Ship xs sites outside) (ships, there) = (ships, (x.destination, there, (λ i. x)))
+
+-- what the event at a place says
+pub place_told : (events : List Content) (site : ℕ) (item : List ℕ) (place : EventPlace) (e : Content) (body : Body) (old new : Found) → slice_get events place.event ≡ Some e → body ≡ e.body
+    → Adds old new (BodyTells site item body) → Adds old new (PlaceTells events site item place)
+place_told events site item place e body old new stands is = added_alike old new (BodyTells site item body) (PlaceTells events site item place)
+    (λ x. (
+      λ tells. (e, stands, subst (λ b. BodyTells site item b x) is tells),
+      λ (f, stands', tells). subst (λ b. BodyTells site item b x) (sym is) (subst (λ (c : Content). BodyTells site item c.body x) (some_is f e (sym stands' ∙ stands)) tells),
+    ))
+
+pub none_at : (events : List Content) (site : ℕ) (item : List ℕ) (place : EventPlace) → slice_get events place.event ≡ None → (x : OutsideShipment) → PlaceTells events site item place x → ⊥
+none_at events site item place none x (e, stands, tells) = none_is e (sym none ∙ stands)
+
+-- the shipments of all that carries an item, as they stand under it
+pub item_told : (s : SiteEvents) (number site : ℕ) (item : List ℕ) (shipments : Index) (carriers : List Pair) → AreSitePlaces Sent s number shipments
+    → ((p : Pair) → Contains carriers p ↔ ((p.site ≡ s.me) × IsCarriedWith s.events p.item item)) → (x : OutsideShipment)
+    → OneTells carriers (CarrierTells s.events shipments site item) x ↔ ItemTells s.events site item x
+item_told s number site item shipments carriers are exact x = (
+  λ (p, there, (place, kept, (e, stands, tells))).
+      let (here, (f, stands', ships)) = (are (p.item, place)).0 kept in
+      let one : f ≡ e = some_is f e (sym stands' ∙ stands) in
+      let (at, is, out) = told_by site item p.item x e.body (subst (λ (c : Content). ShipsItself p.item c.body) one ships) tells in
+      (at, is, (p.item, (e, (place.event, slice_get_within s.events place.event e stands, get_or_from_slice_get s.events place.event e e stands), out), ((exact p).0 there).1)),
+  λ (at, is, (carrier, (e, (k, below, found), out), carries)).
+      let stands : slice_get s.events k ≡ Some e = slice_get-get_or s.events k e below ∙ ap Some found in
+      let place : EventPlace = record { site = number; event = k } in
+      let p : Pair = record { site = s.me; item = carrier } in
+      let (ships, tells) = tells_out carrier x e.body out in
+      (p, (exact p).1 (refl, carries), (place, (are (carrier, place)).1 (refl, (e, stands, ships)), (e, stands, subst (λ i. BodyTells site i e.body x) is (subst (λ n. BodyTells n x.item e.body x) at tells)))),
 )
 
--- what is carried with the items of a shipment, by the list of it
-pub carried_tells : (events : List Content) (site : ℕ) (items : Items) (shipped destinations carried lent : List (List ℕ)) → lent ≡ carried
-    → ((j : List ℕ) → Contains carried j ↔ ReachedFrom (Carries events) shipped j) → (x : OutsideShipment)
-    → OneTells lent (ItemGoes site items destinations) x ↔ ShipmentTells events site items shipped destinations x
-carried_tells events site items shipped destinations carried lent is exact x = (
-  λ (i, there, goes). (i, (exact i).0 (subst (λ is. Contains is i) is there), goes),
-  λ (i, reached, goes). (i, subst (λ is. Contains is i) (sym is) ((exact i).1 reached), goes),
-)
+-- an item is in a set where it is one of the set's items
+listed : (items : Items) (i : List ℕ) → IsTrue (set.contains items i) → Contains (set.items items) i
+listed items i h = elim (finite.get items i) as (λ found. finite.get items i ≡ found → is_some found ≡ true → Contains (set.items items) i) [
+  | None ↦ λ _ some. absurd (false≢true some)
+  | Some u ↦ λ is _. contains-map (λ e. e.0) (finite.entries items) (i, u) (entry_there item_total item_exact items i u is)
+] refl h
 
--- one of the site's events tells it where the site has the shipment's number, the item is in the set, and it went out
+in_set : (items : Items) (i : List ℕ) → Contains (set.items items) i → IsTrue (set.contains items i)
+in_set items i at =
+    let (e, among, same) = contains-from_map (λ e. e.0) (finite.entries items) i at in
+    subst (λ j. IsTrue (set.contains items j)) same (ap is_some (entry_found item_total items e.0 e.1 among))
+
+-- of each of the items of a set
 pub site_told : (items : Items) (r : Record) (x : OutsideShipment) → SiteTells items r x ↔ ((x.site ≡ r.engagement.me) × IsTrue (set.contains items x.item) × WentOut (λ _. r) x.site x.item x.destination)
-site_told items r x = (
-  λ (e, among, tells).
-      let here = (body_told r.captured.events r.engagement.me items e.body x).0 tells in
-      let (carrier, ships, carries) = here.2 in
-      (here.0, here.1, (carrier, (e, among, ships), carries)),
-  λ (at, has, (carrier, (e, among, ships), carries)). (e, among, (body_told r.captured.events r.engagement.me items e.body x).1 (at, has, (carrier, ships, carries))),
+site_told items r x = (λ h. h, λ h. h)
+
+pub items_told : (items : Items) (keys : List (List ℕ)) (r : Record) (events : List Content) (me : ℕ) → keys ≡ set.items items → events ≡ r.captured.events → me ≡ r.engagement.me → (x : OutsideShipment)
+    → OneTells keys (ItemTells events me) x ↔ SiteTells items r x
+items_told items keys r events me same here own x = (
+  λ (i, there, (at, is, out)).
+      (at ∙ own, subst (λ j. IsTrue (set.contains items j)) (sym is) (in_set items i (subst (λ ks. Contains ks i) same there)), subst (λ es. WentOutBy es x.item x.destination) here (subst (λ j. WentOutBy events j x.destination) (sym is) out)),
+  λ (at, has, out). (x.item, subst (λ ks. Contains ks x.item) (sym same) (listed items x.item has), (at ∙ sym own, refl, subst (λ es. WentOutBy es x.item x.destination) (sym here) out)),
 )
+
+-- no item, none of them
+pub nothing_told : (items : Items) (r : Record) → items ≡ set.empty → (x : OutsideShipment) → SiteTells items r x → ⊥
+nothing_told items r none x (at, has, out) =
+    false≢true (sym (ap is_some (get-empty item_cmp x.item)) ∙ subst (λ (s : Items). IsTrue (set.contains s x.item)) none has)
 
 -- what a set of shipments holds, in order
 pub all_outside : (W : World) (IsOne : Pair → Type 0) (found : Found) (out : List OutsideShipment) → out ≡ found.keys → IsStrictlySortedBy outside_cmp out
@@ -144,10 +188,9 @@ told_of_records recall refs x = (
       (s, there, subst (λ z. RecordTells recall z x) (sym same) tells),
 )
 
--- no event says anything where nothing is held under the recall
+-- nothing is told where nothing is held under the recall
 pub none_told : (recall : Recall) (r : Record) (q : Quarantine) → q ≡ r.quarantine → None ≡ finite.get q recall → (x : OutsideShipment) → RecordTells recall r x → ⊥
-none_told recall r q same none x (e, among, tells) =
-    let has = ((body_told r.captured.events r.engagement.me (items_under r.quarantine recall) e.body x).0 tells).1 in
+none_told recall r q same none x (at, has, out) =
     let nothing = none_held r.quarantine recall x.item (ap (λ z. finite.get z recall) (sym same) ∙ sym none) in
     false≢true (sym nothing ∙ has)
 

@@ -12,17 +12,19 @@ use Rattle.std.proofs.lemmas.Bool.{cases_lt}
 use Rattle.std.proofs.lemmas.Option.{slice_get_within}
 use Rattle.event_json.specs.Events.{Content}
 use Rattle.event_json.specs.declared.bodies.Body.{Body}
-use Rattle.event_json.specs.declared.bodies.Body.TheVariants.{Make, Ship}
+use Rattle.event_json.specs.declared.bodies.Action.TheVariants.{Add, Observe, Delete}
+use Rattle.event_json.specs.declared.bodies.Body.TheVariants.{Note, Make, Pack, Ship}
 use Rattle.frame_core.proofs.Lookups.{one_key}
 use Rattle.trace_core.specs.Pairs.{Carries, GivesOut, TakesIn}
 use Rattle.trace_core.specs.Relations.{ReachedFrom}
 use Rattle.trace_core.specs.Sites.{SiteEvents}
+use Rattle.trace_core.proofs.Carrying.{deletes, no_parent, observes}
 use Rattle.trace_core.proofs.Members.{contains_none}
 use Rattle.trace_core.proofs.NumberLists.{some_is}
 use Rattle.trace_core.proofs.SetMembers.{contains_pushed}
 use Rattle.site_core.specs.ItemSets.{item_cmp}
 use Rattle.site_core.proofs.ItemOrder.{item_total, item_exact}
-use Rattle.report_core.specs.Sources.{AddsTo, ArePlaces, ByOne, Index, IsNotedAt, Keeps, Notes, ShipsOff, SiteNotes, SitesNote, or_no_places}
+use Rattle.report_core.specs.Sources.{AddsTo, AreOwnPlaces, ArePlaces, AreSitePlaces, ByOne, Index, IsNotedAt, Keeps, Notes, PutsIn, ShipsItself, ShipsOff, SiteNotes, SitesNote, or_no_places, put_in}
 use Rattle.report_core.specs.declared.makers.EventPlace.{EventPlace}
 use Rattle.report_core.specs.declared.makers.Noting.{Noting}
 use Rattle.report_core.proofs.Additions.{adds_alike, adds_then}
@@ -104,6 +106,32 @@ carried_noted events old new body shipped sites outside given carried items plac
       λ (reached, at). each.1 ((exact m.0).1 (subst (λ xs. ReachedFrom (Carries events) xs m.0) (sym are) reached), at),
     )) adds)
 
+-- each of the items of a shipment
+pub sent_noted : (old new : Index) (body : Body) (shipped : List (List ℕ)) (sites : List ℕ) (outside items : List (List ℕ)) (place : EventPlace) → body ≡ Ship shipped sites outside → items ≡ shipped
+    → AddsTo (Keeps old) (Keeps new) (NotesEach items place) → AddsTo (Keeps old) (Keeps new) (λ m. ShipsItself m.0 body × (place ≡ m.1))
+sent_noted old new body shipped sites outside items place is are adds =
+    subst (λ (b : Body). AddsTo (Keeps old) (Keeps new) (λ m. ShipsItself m.0 b × (place ≡ m.1))) (sym is)
+    (adds_alike (Keeps old) (Keeps new) (NotesEach items place) (λ m. Contains shipped m.0 × (place ≡ m.1)) (each_noted items shipped place are) adds)
+
+-- what an event puts into something
+puts_in : (body : Body) (i : List ℕ) → Contains (put_in body) i ↔ PutsIn i body
+puts_in (Note items) i = (λ h. absurd (contains_none i h), λ h. absurd h.1)
+puts_in (Ship items sites outside) i = (λ h. absurd (contains_none i h), λ h. absurd h.1)
+puts_in (Make id ins outs) i = (λ h. absurd (contains_none i h), λ h. absurd h.1)
+puts_in (Pack Add None children) i = (λ h. absurd (contains_none i h), λ (x, (a, is, there)). absurd (no_parent x is))
+puts_in (Pack Add (Some parent) children) i = (λ h. (parent, (refl, refl, h)), λ (x, (a, is, there)). there)
+puts_in (Pack Observe parent children) i = (λ h. absurd (contains_none i h), λ (x, (a, is, there)). absurd (observes a))
+puts_in (Pack Delete parent children) i = (λ h. absurd (contains_none i h), λ (x, (a, is, there)). absurd (deletes a))
+
+-- each of the items that an event puts into something
+pub put_noted : (old new : Index) (body : Body) (items : List (List ℕ)) (place : EventPlace) → items ≡ put_in body
+    → AddsTo (Keeps old) (Keeps new) (NotesEach items place) → AddsTo (Keeps old) (Keeps new) (λ m. PutsIn m.0 body × (place ≡ m.1))
+put_noted old new body items place are = adds_alike (Keeps old) (Keeps new) (NotesEach items place) (λ m. PutsIn m.0 body × (place ≡ m.1))
+    (λ m. let each = each_noted items (put_in body) place are m in (
+      λ h. let (there, at) = each.0 h in ((puts_in body m.0).0 there, at),
+      λ (puts, at). each.1 ((puts_in body m.0).1 puts, at),
+    ))
+
 module _ (noting : Noting) (s : SiteEvents) (number : ℕ) where
   -- those of the events before the place
   abbrev pub NotesBefore : ℕ → List ℕ × EventPlace → Type 0
@@ -172,3 +200,18 @@ module _ (noting : Noting) (sites : List SiteEvents) where
     λ h. absurd (contains_none m.1 (subst (λ (es : List (List ℕ × List EventPlace)). Contains (or_no_places (lookup (is_at (item_cmp m.0)) es)) m.1) nothing h)),
     λ (below, makes). absurd (omega (arith, below)),
   )
+
+-- the places of one site alone
+pub of_one_site : (noting : Noting) (s : SiteEvents) (index : Index) → ArePlaces noting index (s ∷ []) → AreSitePlaces noting s 0 index
+of_one_site noting s index are m = (
+  λ kept.
+      let (t, stands, noted) = (are m).0 kept in
+      let below = slice_get_within (s ∷ []) m.1.site t stands in
+      let first : 0 ≡ m.1.site = omega (arith, below) in
+      let one : t ≡ s = some_is t s (sym stands ∙ ap (slice_get (s ∷ [])) (sym first)) in
+      (first, subst (λ (u : SiteEvents). IsNotedAt noting u.events m.0 m.1.event) one noted),
+  λ (first, noted). (are m).1 (s, ap (slice_get (s ∷ [])) (sym first), noted),
+)
+
+pub site_own : (noting : Noting) (s : SiteEvents) (number : ℕ) (index : Index) → AreSitePlaces noting s number index → AreOwnPlaces noting s.events number index
+site_own noting s number index are item p here = (λ kept. ((are (item, p)).0 kept).1, λ noted. (are (item, p)).1 (here, noted))

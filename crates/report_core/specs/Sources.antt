@@ -3,10 +3,11 @@ use Rattle.std.specs.Prelude.{◌≡◌, ◌↔◌, ◌⊎◌, ℕ, List, [], Op
 use Rattle.std.specs.BTreeMap.{BTreeMap, get}
 use Rattle.std.specs.BTreeSet.{BTreeSet}
 use Rattle.event_json.specs.Events.{Content}
+use Rattle.event_json.specs.declared.bodies.Action.TheVariants.{Add, Observe, Delete}
 use Rattle.event_json.specs.declared.bodies.Body.{Body}
 use Rattle.event_json.specs.declared.bodies.Body.TheVariants.{Note, Ship, Make, Pack}
 use Rattle.trace_core.specs.Groups.{IsSeen}
-use Rattle.trace_core.specs.Pairs.{TakesIn, GivesOut, AreOneMake, Carries, IsShipped}
+use Rattle.trace_core.specs.Pairs.{TakesIn, GivesOut, AreOneMake, Carries, IsShipped, Packs}
 use Rattle.trace_core.specs.Relations.{ReachedFrom}
 use Rattle.trace_core.specs.Sites.{SiteEvents}
 use Rattle.trace_core.specs.declared.groups.Group.{Group}
@@ -14,7 +15,7 @@ use Rattle.trace_core.specs.declared.pairs.Pair.{Pair}
 use Rattle.site_core.specs.ItemSets.{item_cmp}
 use Rattle.report_core.specs.declared.makers.EventPlace.{EventPlace}
 use Rattle.report_core.specs.declared.makers.Noting.{Noting}
-use Rattle.report_core.specs.declared.makers.Noting.TheVariants.{TakenIn, GivenOut, Shipped}
+use Rattle.report_core.specs.declared.makers.Noting.TheVariants.{TakenIn, GivenOut, Shipped, Sent, PutIn}
 
 -- just those of P are added
 abbrev pub AddsTo : {X : Type 0} → (X → Type 0) → (X → Type 0) → (X → Type 0) → Type 0
@@ -48,11 +49,34 @@ ShipsOff events item (Ship items sites outside) = ReachedFrom (Carries events) i
 ShipsOff events item (Make id ins outs) = ⊥
 ShipsOff events item (Pack action parent children) = ⊥
 
+-- a shipment of the item itself, to wherever
+abbrev pub ShipsItself : List ℕ → Body → Type 0
+ShipsItself item (Note items) = ⊥
+ShipsItself item (Ship items sites outside) = Contains items item
+ShipsItself item (Make id ins outs) = ⊥
+ShipsItself item (Pack action parent children) = ⊥
+
+-- a packing that puts the item into something
+abbrev pub PutsIn : List ℕ → Body → Type 0
+PutsIn item body = (parent : List ℕ) × Packs parent item body
+
+-- the items that an event puts into something
+abbrev pub put_in : Body → List (List ℕ)
+put_in (Note items) = []
+put_in (Ship items sites outside) = []
+put_in (Make id ins outs) = []
+put_in (Pack Add None children) = []
+put_in (Pack Add (Some parent) children) = children
+put_in (Pack Observe parent children) = []
+put_in (Pack Delete parent children) = []
+
 -- an event is noted under the item
 abbrev pub Notes : Noting → List Content → List ℕ → Body → Type 0
 Notes TakenIn events item body = TakesIn item body
 Notes GivenOut events item body = GivesOut item body
 Notes Shipped events item body = ShipsOff events item body
+Notes Sent events item body = ShipsItself item body
+Notes PutIn events item body = PutsIn item body
 
 -- at the place stands such an event
 abbrev pub IsNotedAt : Noting → List Content → List ℕ → ℕ → Type 0
@@ -69,6 +93,14 @@ SitesNote noting sites m = (s : SiteEvents) × (slice_get sites m.1.site ≡ Som
 -- under each item stand the places of the events that are noted under it, no more and no fewer
 abbrev pub ArePlaces : Noting → Index → List SiteEvents → Type 0
 ArePlaces noting index sites = (m : List ℕ × EventPlace) → Keeps index m ↔ SitesNote noting sites m
+
+-- so for one site alone, which stands at this place among all
+abbrev pub AreSitePlaces : Noting → SiteEvents → ℕ → Index → Type 0
+AreSitePlaces noting s number index = (m : List ℕ × EventPlace) → Keeps index m ↔ SiteNotes noting s number m
+
+-- so as to the places of that site
+abbrev pub AreOwnPlaces : Noting → List Content → ℕ → Index → Type 0
+AreOwnPlaces noting events number index = (item : List ℕ) (p : EventPlace) → number ≡ p.site → Keeps index (item, p) ↔ IsNotedAt noting events item p.event
 
 -- those of the transformations that give it out
 abbrev pub AreMakers : Index → List SiteEvents → Type 0

@@ -4,6 +4,7 @@
 
 mod audits;
 mod back_trails;
+mod containers;
 mod destinations;
 mod differences;
 mod event_times;

@@ -1,12 +1,14 @@
 //! Under which items events are noted: in which transformations each was made or taken in, and by which shipments it
 //! left.
 ghost use Rattle.std.specs.Prelude.{◌≡◌, ◌++◌, ◌∷◌, [], ℕ, List, IfOk, OnOk};
+ghost use Rattle.site_core.specs.ItemSets.{item_cmp};
+ghost use Rattle.std.specs.BTreeMap.{get};
 ghost use Rattle.trace_core.specs.Chains.{sites_at};
 ghost use Rattle.trace_core.specs.Pairs.{GivesOut, TakesIn};
-ghost use Rattle.report_core.specs.Sources.{AddsTo, AreMakers, ArePlaces, ByOne, Keeps, Notes, ShipsOff, SiteNotes};
+ghost use Rattle.report_core.specs.Sources.{AddsTo, AreMakers, ArePlaces, ByOne, Keeps, Notes, PutsIn, ShipsItself, ShipsOff, SiteNotes, or_no_places, put_in};
 
 use epc_core::Epc;
-use event_json::Body;
+use event_json::{Action, Body};
 use std::alloc::{AllocError, Global};
 use std::collections::BTreeMap;
 use std::marker::Model;
@@ -30,6 +32,10 @@ pub enum Noting {
     GivenOut,
     /// The shipments of it, or of what it lies in.
     Shipped,
+    /// The shipments of the item itself.
+    Sent,
+    /// The packings that put it into something.
+    PutIn,
 }
 
 /// Places of events, in the order in which they were added.
@@ -70,6 +76,16 @@ impl EventPlaces {
         ensures { result.now ≡ self.now }
     {
         self.places.as_slice()
+    }
+}
+
+/// The places that stand under an item, none where there are none.
+pub fn places_under<'a>(index: &'a BTreeMap<Epc, EventPlaces>, item: &Epc) -> &'a [EventPlace]
+    ensures { result.now ≡ or_no_places (get item_cmp index.now item.now) }
+{
+    match index.get(item) {
+        Some(places) => places.as_slice(),
+        None => &[],
     }
 }
 
@@ -138,6 +154,8 @@ fn note_body(
         Noting::TakenIn => note_taken(alloc, body, place, index),
         Noting::GivenOut => note_given(alloc, body, place, index),
         Noting::Shipped => note_shipped(alloc, site, body, place, index),
+        Noting::Sent => note_sent(alloc, body, place, index),
+        Noting::PutIn => note_put(alloc, body, place, index),
     }
 }
 
@@ -190,6 +208,49 @@ fn note_shipped(
             note_items(alloc, carried.as_slice(), place, index)
         }
         Body::Note { .. } | Body::Make { .. } | Body::Pack { .. } => Ok(()),
+    }
+}
+
+/// Notes a shipment's place under each of its items.
+fn note_sent(
+    alloc: Global,
+    body: &Body,
+    place: EventPlace,
+    index: &mut BTreeMap<Epc, EventPlaces>,
+) -> Result<(), AllocError>
+    ensures { OnOk result (AddsTo (Keeps index.old) (Keeps index.new)
+        (λ m. ShipsItself m.0 body.now × (place ≡ m.1))) }
+{
+    match body {
+        Body::Ship { items, .. } => note_items(alloc, items.as_slice(), place, index),
+        Body::Note { .. } | Body::Make { .. } | Body::Pack { .. } => Ok(()),
+    }
+}
+
+/// Notes a packing's place under each item that it puts into something.
+fn note_put(
+    alloc: Global,
+    body: &Body,
+    place: EventPlace,
+    index: &mut BTreeMap<Epc, EventPlaces>,
+) -> Result<(), AllocError>
+    ensures { OnOk result (AddsTo (Keeps index.old) (Keeps index.new)
+        (λ m. PutsIn m.0 body.now × (place ≡ m.1))) }
+{
+    note_items(alloc, put_in(body), place, index)
+}
+
+/// The items that an event puts into something.
+fn put_in(body: &Body) -> &[Epc]
+    ensures { result.now ≡ put_in body.now }
+{
+    match body {
+        Body::Pack {
+            action: Action::Add,
+            parent: Some(_),
+            children,
+        } => children.as_slice(),
+        _ => &[],
     }
 }
 

@@ -1,15 +1,23 @@
-use Rattle.std.proofs.Common.{◌≡◌, ◌∙◌, subst}
-use Rattle.report_core.specs.Gathering.{Adds, Goes}
-use Rattle.report_core.specs.declared.outside.OutsideShipment.{OutsideShipment}
-use Rattle.report_core.proofs.Adding.{one_added, one_more, all_added}
+use Rattle.std.proofs.Common.{◌≡◌, ◌↔◌, List, subst, sym}
+use Rattle.std.specs.List.{Contains}
+use Rattle.trace_core.specs.Pairs.{IsCarriedWith}
+use Rattle.trace_core.specs.declared.pairs.Pair.{Pair}
+use Rattle.report_core.specs.Gathering.{Adds, CarrierTells, OneTells, PlaceTells}
+use Rattle.report_core.proofs.Adding.{added_alike, one_more, all_added}
+use Rattle.report_core.proofs.Outgoing.{item_told}
 use Rattle.report_core.proofs.gathering.add_of_item.Goals as goal
 
-pub loop-text-preserved : goal.loop-text-preserved
-loop-text-preserved c =
-    let added : OutsideShipment = record { site = c.args.site; item = c.in_ok-copy.field-0; destination = c.of.result } in
-    let is : added ≡ record { site = c.args.site; item = c.args.item.now; destination = c.text-item.result } = (λ i. record { site = c.args.site; item = c.in_ok-copy.ensures i; destination = (c.of.ensures ∙ c.in_ok-copy-2.ensures) i }) in
-    one_more (Goes c.args.site c.args.item.now) c.args.destinations.now c.loop-text.text-index c.text-item.result c.args.found.now c.loop-text.found c.insert-in-loop-text.new.self c.loop-text-test.true c.text-item.is c.loop-text.invariant
-    (subst (λ z. Adds c.loop-text.found c.insert-in-loop-text.new.self (λ y. z ≡ y)) is (one_added c.loop-text.found c.insert-in-loop-text.new.self added c.in_ok-insert.ensures.updates))
+pub loop-carrier-preserved : goal.loop-carrier-preserved
+loop-carrier-preserved c =
+    let tells = CarrierTells c.args.containers.now.site.now.events c.args.shipments.now c.args.site c.args.item.now in
+    one_more tells c.as_slice-carrier-items.result.now c.loop-carrier.carrier-index c.carrier-item.result c.args.found.now c.loop-carrier.found c.add_of_places.new.found c.loop-carrier-test.true c.carrier-item.is c.loop-carrier.invariant
+    (subst (λ ps. Adds c.loop-carrier.found c.add_of_places.new.found (OneTells ps (PlaceTells c.args.containers.now.site.now.events c.args.site c.args.item.now))) c.places_under-places.ensures c.in_ok-add_of_places.ensures)
 
 pub returns : goal.returns
-returns c = all_added (Goes c.args.site c.args.item.now) c.args.destinations.now c.loop-text.text-index c.args.found.now c.loop-text.found c.loop-text-test.false c.loop-text.invariant
+returns c =
+    let s = c.args.containers.now.site.now in
+    let carriers = c.as_slice-carrier-items.result.now in
+    let tells = CarrierTells s.events c.args.shipments.now c.args.site c.args.item.now in
+    let exact = subst (λ (ps : List Pair). (p : Pair) → Contains ps p ↔ ((p.site ≡ s.me) × IsCarriedWith s.events p.item c.args.item.now)) (sym c.as_slice-carrier-items.ensures) c.in_ok-carriers.ensures in
+    added_alike c.args.found.now c.loop-carrier.found _ _ (item_told s c.args.containers.now.number c.args.site c.args.item.now c.args.shipments.now carriers c.requires.shipments exact)
+    (all_added tells carriers c.loop-carrier.carrier-index c.args.found.now c.loop-carrier.found c.loop-carrier-test.false c.loop-carrier.invariant)

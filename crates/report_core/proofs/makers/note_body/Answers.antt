@@ -8,3 +8,9 @@ returns-in-GivenOut c = rw c.in-GivenOut.is c.note_given.ensures
 
 pub returns-in-Shipped : goal.returns-in-Shipped
 returns-in-Shipped c = rw c.in-Shipped.is c.note_shipped.ensures
+
+pub returns-in-Sent : goal.returns-in-Sent
+returns-in-Sent c = rw c.in-Sent.is c.note_sent.ensures
+
+pub returns-in-PutIn : goal.returns-in-PutIn
+returns-in-PutIn c = rw c.in-PutIn.is c.note_put.ensures
